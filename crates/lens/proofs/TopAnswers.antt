@@ -22,7 +22,7 @@ use Rattle.tte_reports.{proofs.Reports.report_one, specs.Reports.IsOneFor}
 -- what is answered for the form is answered for the words
 pub words_as : (words : List (List ℕ)) {f form : Option Form} → f ≡ form → (first second : Option (List ℕ)) (status : Status) (old new : Shown)
     → AnswersWords words f first second status old new → AnswersWords words form first second status old new
-words_as words {f} {form} same first second status old new a = subst (λ (x : Option Form). AnswersWords words x first second status old new) same a
+words_as words {f} {form} same first second status old new a = subst (λ x. AnswersWords words x first second status old new) same a
 
 -- the events of a storm have one answer
 events_answer_one : (seed cycles : ℕ) (network : Network) → cycles ≤ 100000 → KeepsRules network → (a b : Answer) → IsEventsAnswer seed cycles network a
@@ -70,7 +70,8 @@ answer_one one words (Some Plan) range octets messages a b p q =
     (λ network accepted. plan_one_for messages octets network (rules_give_trees network (shape_rules network accepted.rules))) a b p q
 answer_one one words (Some (Report question)) range octets report a b p q =
     report_one one report_limit (IsQuestionAnswer words question) (question_one words question) report a b p q
-answer_one one words (Some (DrawNamed part name)) range octets report a b p q = named_one one words part name octets report a b p q
+answer_one one words (Some (DrawNamed part name)) range octets report a b p q =
+    named_one one words part name report a b p q
 answer_one one words (Some (Events seed cycles)) range octets report a b p q = events_one one seed cycles range.1 octets a b p q
 
 pub one_answer : RefusalIsOne → AnswerIsOne

@@ -17,7 +17,7 @@ use Rattle.run_law.specs.declared.note.NoteBody.TheVariants as notes
 module _ {X Y : Type 0} (h : X → Option Y) (all listed : List X) (same : listed ≡ all) (i : ℕ) (d : X) (within : i < length listed) where
   one_more : filter_map h (take (i + 1) all) ≡ filter_map h (take i all) ++ cons_option (h (get_or listed i d)) []
   one_more =
-      let inside = subst (λ (xs : List X). i < length xs) same within in
+      let inside = subst (λ xs. i < length xs) same within in
       ap (filter_map h) (take_more all i d inside) ∙ filter_map-append h (take i all) (get_or all i d ∷ [])
       ∙ ap (λ (xs : List X). filter_map h (take i all) ++ cons_option (h (get_or xs i d)) []) (sym same)
 
@@ -39,28 +39,30 @@ struck_other (events.On d) link vl e = cc
 struck_other (events.Send l o) link vl e = cc
 struck_other events.End link vl e = cc
 
-taken_there : (network : Network) (body : NoteBody) (link : LinkId) (vl : VlId) → IsBodyOf network body → look_of body ≡ Taken link vl
-    → HasDevice network (scene_of network body)
-taken_there network (notes.Accepted d l cause v cycle) link vl of look = of.0
-taken_there network (notes.Delivered d l cause v cycle) link vl of look = of.0
-taken_there network (notes.Event line what) link vl of look = absurd (struck_other what link vl look)
-taken_there network body link vl of look = absurd cc
+module _ (network : Network) where
+  taken_there : (body : NoteBody) (link : LinkId) (vl : VlId) → IsBodyOf network body → look_of body ≡ Taken link vl
+      → HasDevice network (scene_of network body)
+  taken_there (notes.Accepted d l cause v cycle) link vl of look = of.0
+  taken_there (notes.Delivered d l cause v cycle) link vl of look = of.0
+  taken_there (notes.Event line what) link vl of look = absurd (struck_other what link vl look)
+  taken_there body link vl of look = absurd cc
 
-askable : (network : Network) (mark : Mark) (note : Note) → IsMarkOf network mark note → IsTimely network note → IsAskable network mark
-askable network mark note is timely link vl look =
-    let device = taken_there network note.body link vl timely.of_network (sym is.look ∙ look) in
-    let soon = timely.soon in (
-      subst (HasDevice network) (sym is.device) device,
-      subst (λ (t : ℕ). t ≤ 2 ^ 60) (sym is.time) soon,
-    )
+  askable : {mark : Mark} {note : Note} → IsMarkOf network mark note → IsTimely network note → IsAskable network mark
+  askable {note} is timely link vl look =
+      let device = taken_there note.body link vl timely.of_network (sym is.look ∙ look) in
+      let soon = timely.soon in (
+        subst (HasDevice network) (sym is.device) device,
+        subst (λ t. t ≤ 2 ^ 60) (sym is.time) soon,
+      )
 
-all_askable : (network : Network) (marks : List Mark) (ns : List Note) → AreMarksOf network marks ns → ((n : Note) → IsIn n ns → IsTimely network n)
-    → All (IsAskable network) marks
-all_askable network [] [] are timely = All-nil (IsAskable network)
-all_askable network [] (n ∷ ns) are timely = absurd are
-all_askable network (m ∷ ms) [] are timely = absurd are
-all_askable network (m ∷ ms) (n ∷ ns) are timely =
-    All-cons (IsAskable network) m ms (askable network m n are.0 (timely n (inl refl))) (all_askable network ms ns are.1 (λ k i. timely k (inr i)))
+  all_askable : (marks : List Mark) (ns : List Note) → AreMarksOf network marks ns
+      → ((n : Note) → IsIn n ns → IsTimely network n) → All (IsAskable network) marks
+  all_askable [] [] are timely = All-nil (IsAskable network)
+  all_askable [] (n ∷ ns) are timely = absurd are
+  all_askable (m ∷ ms) [] are timely = absurd are
+  all_askable (m ∷ ms) (n ∷ ns) are timely =
+      All-cons (IsAskable network) m ms (askable are.0 (timely n (inl refl)))
+      (all_askable ms ns are.1 (λ k i. timely k (inr i)))
 
 pub in_shown : (view : View) (ns : List Note) (n : Note) → IsIn n (shown view ns) → IsIn n ns
 in_shown view [] n i = absurd i
@@ -71,8 +73,8 @@ in_shown view (m ∷ ns) n i = by (in_shown view ns n) (is_drawn view m) i
     by rest true (inr there) = inr (rest there)
     by rest false there = inr (rest there)
 
-pub report_askable : (network : Network) (view : View) (octets : List ℕ) (ns : List Note) (end : Units) → IsReportOf network octets ns end
-    → All (IsAskable network) (plan_of network view ns).marks
-report_askable network view octets ns end of =
+pub report_askable : {network : Network} (view : View) {octets : List ℕ} {ns : List Note} {end : Units}
+    → IsReportOf network octets ns end → All (IsAskable network) (plan_of network view ns).marks
+report_askable {network} view {octets} {ns} {end} of =
     all_askable network (plan_of network view ns).marks (shown view ns) (pictures_show_runs network view octets ns end of).marks
     (λ n i. timely_in of n (in_shown view ns n i))

@@ -146,23 +146,24 @@ after_clock h x own (inl less) most = absurd (omega (arith, less, most))
 after_clock h x own (inr (same, inl less)) most = omega (arith, own, less)
 after_clock h x own (inr (same, inr (equal, rest))) most = omega (arith, own, equal)
 
--- it changes no state and no adjustment
-still : (s : Scenario) (d : DeviceId) (cycle : ℕ) (state : State) (adjustment : Units) (body : NoteBody) → 14 ≤ rank body
-    → (state_with d state body ≡ state) × (adjustment_with s d cycle adjustment body ≡ adjustment)
-still s d cycle state adjustment (notes.Clock e r a z) last = (refl, refl)
-still s d cycle state adjustment (notes.Event a b) last = absurd (omega (arith, last))
-still s d cycle state adjustment (notes.Arrived a b c e) last = absurd (omega (arith, last))
-still s d cycle state adjustment (notes.Permanent a b c e f) last = absurd (omega (arith, last))
-still s d cycle state adjustment (notes.Compressed a b c e f g) last = absurd (omega (arith, last))
-still s d cycle state adjustment (notes.Sent a b) last = absurd (omega (arith, last))
-still s d cycle state adjustment (notes.Corrected a b c e) last = absurd (omega (arith, last))
-still s d cycle state adjustment (notes.State a b c e) last = absurd (omega (arith, last))
-still s d cycle state adjustment (notes.Left a b c e) last = absurd (omega (arith, last))
-still s d cycle state adjustment (notes.Lost a b c) last = absurd (omega (arith, last))
-still s d cycle state adjustment (notes.TtSent a b c e f) last = absurd (omega (arith, last))
-still s d cycle state adjustment (notes.Accepted a b c e f) last = absurd (omega (arith, last))
-still s d cycle state adjustment (notes.Delivered a b c e f) last = absurd (omega (arith, last))
-still s d cycle state adjustment (notes.Dropped a b c e) last = absurd (omega (arith, last))
+module _ (s : Scenario) (d : DeviceId) (cycle : ℕ) (state : State) (adjustment : Units) where
+  -- it changes no state and no adjustment
+  still : (body : NoteBody) → 14 ≤ rank body → (state_with d state body ≡ state)
+      × (adjustment_with s d cycle adjustment body ≡ adjustment)
+  still (notes.Clock e r a z) last = (refl, refl)
+  still (notes.Event a b) last = absurd (omega (arith, last))
+  still (notes.Arrived a b c e) last = absurd (omega (arith, last))
+  still (notes.Permanent a b c e f) last = absurd (omega (arith, last))
+  still (notes.Compressed a b c e f g) last = absurd (omega (arith, last))
+  still (notes.Sent a b) last = absurd (omega (arith, last))
+  still (notes.Corrected a b c e) last = absurd (omega (arith, last))
+  still (notes.State a b c e) last = absurd (omega (arith, last))
+  still (notes.Left a b c e) last = absurd (omega (arith, last))
+  still (notes.Lost a b c) last = absurd (omega (arith, last))
+  still (notes.TtSent a b c e f) last = absurd (omega (arith, last))
+  still (notes.Accepted a b c e f) last = absurd (omega (arith, last))
+  still (notes.Delivered a b c e f) last = absurd (omega (arith, last))
+  still (notes.Dropped a b c e) last = absurd (omega (arith, last))
 
 le_from : (a b : ℕ) → nat_le a b ≡ true → a ≤ b
 le_from a b e = grind (arith, nat_tests, e)
@@ -198,13 +199,13 @@ module _ (s : Scenario) (d : DeviceId) (t : ℕ) where
 
   same_state : (ps ys : List Happening) → AreLast t ys → state_after s (up_to t (ps ++ ys)) d ≡ state_after s (up_to t ps) d
   same_state ps ys last =
-      ap (λ (xs : List Happening). state_after s xs d) (filter-append (λ h. nat_le (time_of h) t) ps ys)
+      ap (λ xs. state_after s xs d) (filter-append (λ h. nat_le (time_of h) t) ps ys)
       ∙ fold-append next_state (state_after s [] d) (up_to t ps) (up_to t ys)
       ∙ state_still ys (state_after s (up_to t ps) d) last
 
   same_adjustment : (ps ys : List Happening) → AreLast t ys → adjustment_after s (up_to t (ps ++ ys)) d ≡ adjustment_after s (up_to t ps) d
   same_adjustment ps ys last =
-      ap (λ (xs : List Happening). adjustment_after s xs d) (filter-append (λ h. nat_le (time_of h) t) ps ys)
+      ap (λ xs. adjustment_after s xs d) (filter-append (λ h. nat_le (time_of h) t) ps ys)
       ∙ fold-append next_adjustment (adjustment_after s [] d) (up_to t ps) (up_to t ys)
       ∙ adjustment_still ys (adjustment_after s (up_to t ps) d) last
 
@@ -277,23 +278,23 @@ module _ (network : Network) (octets : List ℕ) (ns : List Note) (end : Units) 
   shows_by t h ps qs whole body correct =
       let due = (of.run.founded ps qs h whole).1 in
       let clock : IsClockRecord scene ps t.device h.note.time t.reading t.adjustment Synchronised =
-      subst (λ (b : NoteBody). IsCaused scene ps h.note.time b) body due.cause in
+      subst (λ b. IsCaused scene ps h.note.time b) body due.cause in
       let at : h.note.time ≡ end = (only_end network ns end of.events.right of.events.ends h.note.time).1 clock.ends in
       let time : time_of h ≡ amount end = ap amount at in
       let last : AreLast (time_of h) (h ∷ qs) = last_after ps qs h whole (ap rank body) in
       let state : state_after scene (up_to (time_of h) hs) t.device ≡ Synchronised =
-      ap (λ (xs : List Happening). state_after scene (up_to (time_of h) xs) t.device) whole
+      ap (λ xs. state_after scene (up_to (time_of h) xs) t.device) whole
       ∙ same_state scene t.device (time_of h) ps (h ∷ qs) last ∙ sym clock.in_state in
       let adjustment : adjustment_after scene (up_to (time_of h) hs) t.device ≡ t.adjustment =
-      ap (λ (xs : List Happening). adjustment_after scene (up_to (time_of h) xs) t.device) whole
+      ap (λ xs. adjustment_after scene (up_to (time_of h) xs) t.device) whole
       ∙ same_adjustment scene t.device (time_of h) ps (h ∷ qs) last ∙ sym clock.adjusted in
       let shown : local_of t ≡ local scene hs t.device (time_of h) = ap (λ (u : Units). u.0 +ℤ t.adjustment.0) clock.reads
       ∙ ap (λ (u : Units). pos (scene.reading t.device (time_of h)) +ℤ u.0) (sym adjustment) in record {
         in_step = record {
           correct = correct_all span ns no_clocks t.device (amount end) correct;
-          synchronised = ap (λ (n : ℕ). state_after scene (up_to n hs) t.device) (sym time) ∙ state;
+          synchronised = ap (λ n. state_after scene (up_to n hs) t.device) (sym time) ∙ state;
         };
-        shows = shown ∙ ap (λ (n : ℕ). local scene hs t.device n) time;
+        shows = shown ∙ ap (λ n. local scene hs t.device n) time;
       }
 
   shows_told : (t : Told) → IsShown told_here t → ShowsClock scene hs (amount end) t
@@ -302,7 +303,7 @@ module _ (network : Network) (octets : List ℕ) (ns : List Note) (end : Units) 
       elim (told_from span ns no_clocks t is.0) [
         | inl none ↦ absurd none
         | inr by ↦
-            let there = has_happening hs by.0 (subst (λ (ms : List Note). IsIn by.0 ms) (sym (same_notes network ns)) by.1) in
+            let there = has_happening hs by.0 (subst (λ ms. IsIn by.0 ms) (sym (same_notes network ns)) by.1) in
             let parts = parted there.0 hs there.1 in
             shows_by t there.0 parts.0 parts.1 parts.2 (ap (λ (n : Note). n.body) there.2 ∙ is_clock by.0.body t by.2) is.1
       ]

@@ -29,7 +29,7 @@ record IsShownBy (network : Network) (ns : List Note) (mark : Mark) : Type 0 whe
 shown_by : (network : Network) (marks : List Mark) (ns : List Note) (mark : Mark) → AreMarksOf network marks ns → IsIn mark marks → IsShownBy network ns mark
 shown_by network [] ns mark are i = absurd i
 shown_by network (m ∷ ms) [] mark are i = absurd are
-shown_by network (m ∷ ms) (n ∷ ns) mark are (inl same) = record { note = n; there = inl refl; is = subst (λ (x : Mark). IsMarkOf network x n) (sym same) are.0 }
+shown_by network (m ∷ ms) (n ∷ ns) mark are (inl same) = record { note = n; there = inl refl; is = subst (λ x. IsMarkOf network x n) (sym same) are.0 }
 shown_by network (m ∷ ms) (n ∷ ns) mark are (inr i) =
     let h = shown_by network ms ns mark are.1 i in record { note = h.note; there = inr h.there; is = h.is }
 
@@ -70,33 +70,40 @@ record HasCome (network : Network) (link : LinkId) (vl : VlId) (clock : ℤ) : T
   pub not_before : (window_of network entry).from.0 ≤ℤ offset_in_cycle network clock
   pub not_behind : offset_in_cycle network clock ≤ℤ (window_of network entry).to.0
 
-found : (s : Scenario) (ps : List Happening) (device : DeviceId) (t : ℕ) (link : LinkId) (cause : ℕ) (vl : VlId) (cycle : ℕ) (signal : Signal)
-    → TakesIn (arrival_of s ps device t link cause signal) vl cycle → HasCome s.network link vl (clock_of (standpoint s ps device t))
-found s ps device t link cause vl cycle (control frame) takes = absurd (never_control s.network device link (standpoint s ps device t) frame vl cycle takes)
-found s ps device t link cause vl cycle (timed octets) takes =
-    let finds = finds_none s.network device link (standpoint s ps device t) octets (last_taken ps device t link cause) vl cycle takes in record {
-      place = finds.enters.place;
-      entry = finds.entry;
-      row = finds.enters.row;
-      by = finds.enters.by;
-      of_vl = finds.of_vl;
-      not_before = finds.fits.not_before;
-      not_behind = finds.fits.not_behind;
-    }
+module _ (s : Scenario) (ps : List Happening) (device : DeviceId) (t : ℕ) (link : LinkId) (cause : ℕ) (vl : VlId)
+    (cycle : ℕ) where
+  found : (signal : Signal) → TakesIn (arrival_of s ps device t link cause signal) vl cycle
+      → HasCome s.network link vl (clock_of (standpoint s ps device t))
+  found (control frame) takes =
+      absurd (never_control s.network device link (standpoint s ps device t) frame vl cycle takes)
+  found (timed octets) takes =
+      let finds = finds_none s.network device link (standpoint s ps device t) octets
+      (last_taken ps device t link cause) vl cycle takes in record {
+        place = finds.enters.place;
+        entry = finds.entry;
+        row = finds.enters.row;
+        by = finds.enters.by;
+        of_vl = finds.of_vl;
+        not_before = finds.fits.not_before;
+        not_behind = finds.fits.not_behind;
+      }
 
-come_as : (s : Scenario) (ps : List Happening) (device : DeviceId) (t : ℕ) (link : LinkId) (cause : ℕ) (vl : VlId) (cycle : ℕ) (a : Arrival)
-    → TakesIn a vl cycle → ArrivesAs s ps device t link cause a → HasCome s.network link vl (clock_of (standpoint s ps device t))
-come_as s ps device t link cause vl cycle a takes comes =
-    found s ps device t link cause vl cycle comes.signal (subst (λ (x : Arrival). TakesIn x vl cycle) comes.becomes takes)
+  come_as : {a : Arrival} → TakesIn a vl cycle → ArrivesAs s ps device t link cause a
+      → HasCome s.network link vl (clock_of (standpoint s ps device t))
+  come_as takes comes =
+      found comes.signal (subst (λ x. TakesIn x vl cycle) comes.becomes takes)
 
-come_by : (s : Scenario) (ps : List Happening) (time : Units) (body : NoteBody) (device : DeviceId) (link : LinkId) (vl : VlId)
-    → IsTakenBy body device link vl → IsCaused s ps time body → HasCome s.network link vl (clock_of (standpoint s ps device (amount time)))
-come_by s ps time body device link vl h caused = by h.says
+come_by : (s : Scenario) (ps : List Happening) (time : Units) {body : NoteBody} {device : DeviceId} {link : LinkId}
+    {vl : VlId} → IsTakenBy body device link vl → IsCaused s ps time body
+    → HasCome s.network link vl (clock_of (standpoint s ps device (amount time)))
+come_by s ps time {body} {device} {link} {vl} h caused = by h.says
   where
     by : (body ≡ notes.Accepted device link h.cause vl h.cycle) ⊎ (body ≡ notes.Delivered device link h.cause vl h.cycle)
         → HasCome s.network link vl (clock_of (standpoint s ps device (amount time)))
-    by (inl e) = come_as s ps device (amount time) link h.cause vl h.cycle (arrivals.Accepted vl h.cycle) (inl refl) (subst (IsCaused s ps time) e caused)
-    by (inr e) = come_as s ps device (amount time) link h.cause vl h.cycle (arrivals.Delivered vl h.cycle) (inr refl) (subst (IsCaused s ps time) e caused)
+    by (inl e) =
+        come_as s ps device (amount time) link h.cause vl h.cycle (inl refl) (subst (IsCaused s ps time) e caused)
+    by (inr e) =
+        come_as s ps device (amount time) link h.cause vl h.cycle (inr refl) (subst (IsCaused s ps time) e caused)
 
 -- ---- the records before a time
 
@@ -122,14 +129,15 @@ tick_is window at some least most =
     let whole = unsigned_abs (window.to.0 -ℤ window.from.0) in
     let is = share_is 24 part whole some (within window.from.0 window.to.0 at least most) in
     let test : tick_in window at ≡ share 24 part whole = ap (λ (b : Bool). if b then 0 else share 24 part whole) (not_below at window.from.0 least) in
-    (test ∙ is.0, subst (λ (n : ℕ). n ≤ 24) (sym test) is.1)
+    (test ∙ is.0, subst (λ n. n ≤ 24) (sym test) is.1)
   where
     within : (from to x : ℤ) → from ≤ℤ x → x ≤ℤ to → unsigned_abs (x -ℤ from) ≤ unsigned_abs (to -ℤ from)
     within from to x low high = omega (arith, ints, low, high)
 
 -- a window has some length
-some_length : (network : Network) (entry : Entry) → IsInRange network → 0 < unsigned_abs ((window_of network entry).to.0 -ℤ (window_of network entry).from.0)
-some_length network entry range =
+some_length : {network : Network} (entry : Entry) → IsInRange network
+    → 0 < unsigned_abs ((window_of network entry).to.0 -ℤ (window_of network entry).from.0)
+some_length {network} entry range =
     let least = range.precision.least in
     long (arrival_place entry) (amount entry.link.jitter) (tolerance network) (omega (arith, ints, least))
   where
@@ -158,18 +166,18 @@ module _ (network : Network) (octets : List ℕ) (ns : List Note) (end : Units) 
   same_clock ps qs h device whole =
       let earlier_all : earlier (time_of h) ps ≡ earlier (time_of h) hs =
       sym (ap (earlier (time_of h)) whole ∙ same_earlier (time_of h) ps (h ∷ qs) (late ps qs h whole)) in
-      ap (λ (xs : List Happening). pos (scene.reading device (time_of h)) +ℤ (adjustment_after scene xs device).0) earlier_all
+      ap (λ xs. pos (scene.reading device (time_of h)) +ℤ (adjustment_after scene xs device).0) earlier_all
 
   come : (device : DeviceId) (link : LinkId) (vl : VlId) (note : Note) → IsIn note ns → IsTakenBy note.body device link vl
       → HasCome network link vl (clocks_of network ns device (moment note))
   come device link vl note there taken =
-      let at = has_happening hs note (subst (λ (ms : List Note). IsIn note ms) (sym (same_notes network ns)) there) in
+      let at = has_happening hs note (subst (λ ms. IsIn note ms) (sym (same_notes network ns)) there) in
       let h = at.0 in
       let parts = parted h hs at.1 in
       let due = (of.run.founded parts.0 parts.1 h parts.2).1 in
       let own : IsTakenBy h.note.body device link vl = subst (λ (n : Note). IsTakenBy n.body device link vl) (sym at.2) taken in
-      let has = come_by scene parts.0 h.note.time h.note.body device link vl own due.cause in
-      subst (λ (n : Note). HasCome network link vl (clocks_of network ns device (moment n))) at.2
+      let has = come_by scene parts.0 h.note.time own due.cause in
+      subst (λ n. HasCome network link vl (clocks_of network ns device (moment n))) at.2
       (subst (HasCome network link vl) (same_clock parts.0 parts.1 h device parts.2) has)
 
   drawn : (mark : Mark) (link : LinkId) (vl : VlId) (clock : ℤ) → mark.look ≡ Taken link vl → HasCome network link vl clock
@@ -177,10 +185,10 @@ module _ (network : Network) (octets : List ℕ) (ns : List Note) (end : Units) 
   drawn mark link vl clock look h =
       let window = window_of network h.entry in
       let row : row_of network vl link ≡ Some h.place =
-      ap (λ (v : VlId). row_of network v link) (sym h.of_vl) ∙ ap (λ (l : LinkId). row_of network h.entry.row.vl l) (sym h.by)
+      ap (λ v. row_of network v link) (sym h.of_vl) ∙ ap (λ l. row_of network h.entry.row.vl l) (sym h.by)
       ∙ row_is_one network h.place h.entry rules h.row in
       let is : window_by network vl link ≡ Some window = ap (option_and_then (window_at network)) row ∙ window_is network h.place h.entry h.row in
-      let tick = tick_is window (offset_in_cycle network clock) (some_length network h.entry of.range) h.not_before h.not_behind in record {
+      let tick = tick_is window (offset_in_cycle network clock) (some_length h.entry of.range) h.not_before h.not_behind in record {
         window = window;
         is = is;
         not_before = h.not_before;
@@ -198,8 +206,8 @@ module _ (network : Network) (octets : List ℕ) (ns : List Note) (end : Units) 
       let taken = taken_by network by.note.body link vl (sym by.is.look ∙ look) in
       let has = come (scene_of network by.note.body) link vl by.note (in_shown view ns by.note by.there) taken in
       drawn mark link vl (clocks_of network ns mark.device mark.time) look
-      (subst (λ (d : DeviceId). HasCome network link vl (clocks_of network ns d mark.time)) (sym by.is.device)
-      (subst (λ (t : ℕ). HasCome network link vl (clocks_of network ns (scene_of network by.note.body) t)) (sym by.is.time) has))
+      (subst (λ d. HasCome network link vl (clocks_of network ns d mark.time)) (sym by.is.device)
+      (subst (λ t. HasCome network link vl (clocks_of network ns (scene_of network by.note.body) t)) (sym by.is.time) has))
 
 pub pictures_show_windows : PicturesShowWindows
 pictures_show_windows network view octets ns end rules of mark link vl there look = shows_window network octets ns end rules of view mark link vl there look

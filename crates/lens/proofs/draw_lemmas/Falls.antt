@@ -30,7 +30,8 @@ module _ (s : Scenario) (all : List Happening) (founded : IsFounded place_of (Is
         (inr (x, in_right x front (x ∷ []) (inl refl), refl)),
   )
 
-pub never_fall : (network : Network) (octets : List ℕ) (notes : List Note) (end : Units) → IsReportOf network octets notes end → NeverFall 0 notes
-never_fall network octets notes end of =
+pub never_fall : {network : Network} {octets : List ℕ} {notes : List Note} {end : Units}
+    → IsReportOf network octets notes end → NeverFall 0 notes
+never_fall {network} {notes} of =
     subst (NeverFall 0) (same_notes network notes)
     (falls_from (scenario_of network notes) (happenings network notes) of.run.founded [] (happenings network notes) 0 refl (inl refl))

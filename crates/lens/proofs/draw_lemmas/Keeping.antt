@@ -49,7 +49,7 @@ module _ (hs : List Happening) (vl : VlId) where
   has_by h g not there has =
       let by = by_cause h has.first has.back.causes not has.back.chain has.back.begins has.sends in
       let same : by.0 ≡ g = some_same by.0 g (numbered hs (cause_of h.note.body)) by.1 there in
-      subst (λ (x : Happening). HasSending hs x vl) same by.2
+      subst (λ x. HasSending hs x vl) same by.2
 
   has_back : (h g : Happening) → numbered hs (cause_of h.note.body) ≡ Some g → HasSending hs g vl → HasSending hs h vl
   has_back h g there has = record {
@@ -87,7 +87,7 @@ module _ (network : Network) (hs earlier gs : List Happening) (h : Happening) (f
   cause = cause_of h.note.body
 
   given_there : (g : Happening) → numbered earlier cause ≡ Some g → numbered hs cause ≡ Some g
-  given_there g there = subst (λ (xs : List Happening). numbered xs cause ≡ Some g) (sym whole) (numbered_front earlier (h ∷ gs) cause g there)
+  given_there g there = subst (λ xs. numbered xs cause ≡ Some g) (sym whole) (numbered_front earlier (h ∷ gs) cause g there)
 
   next_sent : (vl : VlId) → HasCause earlier h
       → ((n : ℕ) (g : Happening) → numbered earlier n ≡ Some g → Tells (flag_at flags n) (HasSending hs g vl)) → (b : Bool)
@@ -128,10 +128,11 @@ numbered_none (suc n) h e = cc
 pub own_none : (network : Network) (subject : Subject) (ns : List Note) (flags : List Bool) → flags ≡ [] → AreOwn network subject ns [] flags
 own_none network subject ns flags none = record { count = ap length none; each = λ n h there. absurd (numbered_none n h there) }
 
-pub own_more : (network : Network) (subject : Subject) (octets : List ℕ) (ns before : List Note) (note : Note) (flags : List Bool) → IsNamed network
-    → IsNextOf network octets ns before note → AreOwn network subject ns before flags
-    → AreOwn network subject ns (before ++ note ∷ []) (flags ++ own_flag network subject flags note.body ∷ [])
-own_more network subject octets ns before note flags named next so =
+pub own_more : {network : Network} {subject : Subject} {octets : List ℕ} {ns before : List Note} {note : Note}
+    {flags : List Bool} → IsNamed network → IsNextOf network octets ns before note
+    → AreOwn network subject ns before flags → AreOwn network subject ns (before ++ note ∷ [])
+    (flags ++ own_flag network subject flags note.body ∷ [])
+own_more {network} {subject} {octets} {ns} {before} {note} {flags} named next so =
     let hs = happenings network ns in
     let earlier = happenings network before in
     let h = happening network earlier note in
@@ -145,7 +146,7 @@ own_more network subject octets ns before note flags named next so =
     let longer = length-append before (note ∷ []) in
     record {
       count = omega (arith, so_many, count, longer);
-      each = subst (λ (xs : List Happening). (n : ℕ) (g : Happening) → numbered xs n ≡ Some g
+      each = subst (λ xs. (n : ℕ) (g : Happening) → numbered xs n ≡ Some g
           → Tells (flag_at (flags ++ flag ∷ []) n) (IsOf network subject hs g)) (sym (one_more network before note))
           (flag_more (λ g b. Tells b (IsOf network subject hs g)) earlier flags h flag (omega (arith, many, so_many)) so.each tells);
     }
@@ -199,7 +200,7 @@ set_still flags (suc i) (suc j) set = by (j == i) refl
     by true e =
         let same : j ≡ i = eqb-true j i e in
         subst (λ (n : ℕ). unwrap_or (slice_get (with_at flags i true) n) false ≡ true) (sym same)
-        (with_same flags i (subst (λ (n : ℕ). n < length flags) same (short flags j set)))
+        (with_same flags i (subst (λ n. n < length flags) same (short flags j set)))
     by false e = with_other flags i j (λ same. let test = eq-eqb j i same in absurd cc) ∙ set
 
 -- and no others
@@ -247,9 +248,9 @@ last_more : (h g : Happening) (causes : List Happening) → g ≡ last_from h (c
 last_more h g [] = refl
 last_more h g (c ∷ causes) = last_more c g causes
 
-kept_back : (network : Network) (subject : Subject) (hs : List Happening) (h g : Happening) → IsKept network subject hs h
-    → numbered hs (cause_of h.note.body) ≡ Some g → IsKept network subject hs g
-kept_back network subject hs h g kept there =
+kept_back : {network : Network} {subject : Subject} {hs : List Happening} {h : Happening} (g : Happening)
+    → IsKept network subject hs h → numbered hs (cause_of h.note.body) ≡ Some g → IsKept network subject hs g
+kept_back {hs} g kept there =
     let at : numbered hs (cause_of (last_from kept.later kept.back.causes).note.body) ≡ Some g =
     subst (λ (x : Happening). numbered hs (cause_of x.note.body) ≡ Some g) kept.back.begins there in record {
       later = kept.later;
@@ -308,7 +309,7 @@ module _ (network : Network) (subject : Subject) (octets : List ℕ) (ns : List 
           by : (flag_at flags n ≡ true) ⊎ (n ≡ its_cause) → IsKept network subject hs k
           by (inl was) = h.kept n k there was
           by (inr same) =
-              kept_back network subject hs giving k (h.kept number giving at set) (subst (λ (m : ℕ). numbered hs m ≡ Some k) same there)
+              kept_back k (h.kept number giving at set) (subst (λ m. numbered hs m ≡ Some k) same there)
 
       closed_more : (n : ℕ) (k g : Happening) → number - 1 < n → numbered hs n ≡ Some k → flag_at more n ≡ true
           → numbered hs (cause_of k.note.body) ≡ Some g → flag_at more (cause_of k.note.body) ≡ true
@@ -326,7 +327,7 @@ module _ (network : Network) (subject : Subject) (octets : List ℕ) (ns : List 
           here m found same =
               let within = numbered_within hs m g found in
               let many = h.count in
-              subst (λ (i : ℕ). flag_at more i ≡ true) (sym same) (set_here flags its_cause (positive its_cause (subst (λ (i : ℕ). numbered hs i ≡ Some g) same found))
+              subst (λ i. flag_at more i ≡ true) (sym same) (set_here flags its_cause (positive its_cause (subst (λ i. numbered hs i ≡ Some g) same found))
               (omega (arith, within, many, same)))
             where
               positive : (i : ℕ) → numbered hs i ≡ Some g → 1 ≤ i
@@ -336,7 +337,7 @@ module _ (network : Network) (subject : Subject) (octets : List ℕ) (ns : List 
           by : (b : Bool) → (n == number) ≡ b → flag_at more (cause_of k.note.body) ≡ true
           by true e =
               let same : n ≡ number = eqb-true n number e in
-              let one : k ≡ giving = some_same k giving (numbered hs number) (subst (λ (m : ℕ). numbered hs m ≡ Some k) same there) at in
+              let one : k ≡ giving = some_same k giving (numbered hs number) (subst (λ m. numbered hs m ≡ Some k) same there) at in
               here (cause_of k.note.body) given (ap (λ (x : Happening). cause_of x.note.body) one)
           by false e = behind (grind (arith, nat_tests, e, past, some)) (set_only flags its_cause n now)
             where
@@ -362,7 +363,7 @@ module _ (network : Network) (subject : Subject) (octets : List ℕ) (ns : List 
         let cause : cause_at ns number ≡ cause_of at.0.note.body =
         ap (λ (o : Option Note). option_map_or (λ (note : Note). cause_of note.body) o 0)
         (sym (note_numbered network ns number) ∙ ap (option_map (λ (k : Happening). k.note)) at.1) in
-        subst (λ (n : ℕ). IsSpread network subject ns (number - 1) (with_flag flags n)) (sym cause) (spread_set e at.0 at.1)
+        subst (λ n. IsSpread network subject ns (number - 1) (with_flag flags n)) (sym cause) (spread_set e at.0 at.1)
 
     pub spread_next : IsSpread network subject ns (number - 1) (passed_on ns number flags)
     spread_next = spread_by (flag_at flags number) refl

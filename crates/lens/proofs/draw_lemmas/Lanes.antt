@@ -55,7 +55,7 @@ module _ (network : Network) (span : Span) (records : List Bool) where
       where
         by : IsIn has.0 before ⊎ IsIn has.0 (note ∷ []) → HasOne before place
         by (inl there) = (has.0, there, has.2)
-        by (inr (inl same)) = absurd (not (subst (λ (n : Note). StandsIn network span records n place) same has.2))
+        by (inr (inl same)) = absurd (not (subst (λ n. StandsIn network span records n place) same has.2))
         by (inr (inr none)) = absurd none
 
     -- what the flag of a lane tells, it tells with a record more that does not stand there
@@ -98,7 +98,7 @@ module _ (network : Network) (span : Span) (records : List Bool) where
         by place inside true e =
             let same : place ≡ at = eqb-true place at e in
             subst (λ (p : ℕ). Tells (flag_in lanes p) (HasOne (before ++ note ∷ []) p)) (sym same)
-            (here (subst (λ (p : ℕ). p < length network.device) same inside))
+            (here (subst (λ p. p < length network.device) same inside))
         by place inside false e =
             let apart : place ≡ at → ⊥ = λ same. false≢true (sym e ∙ eq-eqb place at same) in
             still place (unwrap_or (slice_get lanes place) false) (flag_in lanes place) (with_other lanes at place apart)

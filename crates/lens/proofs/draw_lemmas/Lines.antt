@@ -66,7 +66,7 @@ module _ (network : Network) (view : View) (notes : List Note) where
       let first : place ≡ 0 + place = omega arith in
       has_line network lines (on_lane layer network plan place) (λ a i. in_layer (layers.Lanes layer) n there a
       (in_places (λ p. some_line network (on_lane layer network plan p)) 0 (length network.device) place a within
-      (subst (λ (k : ℕ). IsIn a (some_line network (on_lane layer network plan k))) first i)))
+      (subst (λ k. IsIn a (some_line network (on_lane layer network plan k))) first i)))
 
   lane_line : (layer : LaneLayer) (place : ℕ) → place < length network.device → HasLineOf network lines (on_lane layer network plan place)
   lane_line Grounds = lane_at Grounds 10 refl
@@ -130,4 +130,4 @@ pub marks_stand : MarksStandWhereTheirsDo
 marks_stand network view notes =
     let taken = taken_all network (begun network view) notes in
     mark_lines_of network view (plan_of network view notes).marks notes
-    (subst (λ (ms : List Mark). AreMarksOf network ms (shown view notes)) (sym taken.whole) taken.marks)
+    (subst (λ ms. AreMarksOf network ms (shown view notes)) (sym taken.whole) taken.marks)

@@ -14,9 +14,9 @@ use Rattle.{tte_forms.specs.{Putting.{PutFails, PutsLines, Shown}, networks.Acce
 
 -- ---- what is left grows less
 
-pub left_less : (network : Network) (old new : Records) (note : Note) (rest : List Note) → AreLeft network old (note ∷ rest) → AreLeft network new rest
-    → length new.rest.now < length old.rest.now
-left_less network old new note rest a b =
+pub left_less : {network : Network} (old new : Records) (note : Note) {rest : List Note}
+    → AreLeft network old (note ∷ rest) → AreLeft network new rest → length new.rest.now < length old.rest.now
+left_less {network} old new note {rest} a b =
     let text = note_text network note in
     let line : length (note_line network note) ≡ length text + 1 = length-append text (codes "\n") in
     let whole : length old.rest.now ≡ length (note_line network note) + length (concat (report_of network rest)) =
@@ -32,14 +32,16 @@ plan_more network plan [] note = refl
 plan_more network plan (n ∷ before) note = plan_more network (took network plan n) before note
 
 -- what is taken of one more record
-pub drafted_more : (network : Network) (begin : Plan) (before : List Note) (old new : Draft) (note : Note) → IsDraftOf network begin before old
-    → new.sketch ≡ took network old.sketch note → new.clocks ≡ clocks_with new.sketch.view.span old.clocks note → IsDraftOf network begin (before ++ note ∷ []) new
-drafted_more network begin before old new note so sketch clocks =
-    let plan = sketch ∙ ap (λ (p : Plan). took network p note) so.sketch ∙ sym (plan_more network begin before note) in
+pub drafted_more : {network : Network} {begin : Plan} {before : List Note} {old : Draft} (new : Draft) (note : Note)
+    → IsDraftOf network begin before old → new.sketch ≡ took network old.sketch note
+    → new.clocks ≡ clocks_with new.sketch.view.span old.clocks note
+    → IsDraftOf network begin (before ++ note ∷ []) new
+drafted_more {network} {begin} {before} {old} new note so sketch clocks =
+    let plan = sketch ∙ ap (λ p. took network p note) so.sketch ∙ sym (plan_more network begin before note) in
     let span = ap (λ (p : Plan). p.view.span) plan ∙ ap (λ (v : View). v.span) (view_behind network begin (before ++ note ∷ [])) in
     record {
       sketch = plan;
-      clocks = clocks ∙ ap (λ (s : Span). clocks_with s old.clocks note) span ∙ ap (λ (k : Clocks). clocks_with begin.view.span k note) so.clocks
+      clocks = clocks ∙ ap (λ s. clocks_with s old.clocks note) span ∙ ap (λ k. clocks_with begin.view.span k note) so.clocks
           ∙ sym (fold_push (clocks_with begin.view.span) no_clocks before note);
     }
 
@@ -54,16 +56,17 @@ pub record IsMarked (network : Network) (view : View) (all : List Mark) (notes :
   pub puts : PutsLines done old now
   pub whole : mark_lines network view all notes ≡ done ++ mark_lines network view marks rest
 
-pub marked_first : (network : Network) (view : View) (all : List Mark) (notes : List Note) (records : Records) (s : Shown) → AreLeft network records notes
-    → IsMarked network view all notes records all s s
-marked_first network view all notes records s left = record { rest = notes; left = left; done = []; puts = PutsLines-none s; whole = refl }
+pub marked_first : {network : Network} (view : View) (all : List Mark) {notes : List Note} (records : Records)
+    (s : Shown) → AreLeft network records notes → IsMarked network view all notes records all s s
+marked_first view all {notes} records s left =
+    record { rest = notes; left = left; done = []; puts = PutsLines-none s; whole = refl }
 
 module _ (network : Network) (view : View) (all : List Mark) (notes : List Note) (records : Records) (marks : List Mark) (old now : Shown)
     (h : IsMarked network view all notes records marks old now) where
   -- the lines that are to come begin with those of the next record
   next_lines : (note : Note) (rest : List Note) → h.rest ≡ note ∷ rest
       → mark_lines network view all notes ≡ h.done ++ (marks_of network view marks note ++ mark_lines network view (marks_behind view marks note) rest)
-  next_lines note rest next = h.whole ∙ ap (λ (ns : List Note). h.done ++ mark_lines network view marks ns) next
+  next_lines note rest next = h.whole ∙ ap (λ ns. h.done ++ mark_lines network view marks ns) next
 
   pub marked_more : (after : Records) (note : Note) (rest : List Note) (behind : List Mark) (new : Shown) → h.rest ≡ note ∷ rest → AreLeft network after rest
       → behind ≡ marks_behind view marks note → PutsLines (marks_of network view marks note) now new
@@ -75,7 +78,7 @@ module _ (network : Network) (view : View) (all : List Mark) (notes : List Note)
         done = h.done ++ own;
         puts = PutsLines-append h.done own old now new h.puts puts;
         whole = next_lines note rest next
-            ∙ ap (λ (ms : List Mark). h.done ++ (own ++ mark_lines network view ms rest)) (sym moves)
+            ∙ ap (λ ms. h.done ++ (own ++ mark_lines network view ms rest)) (sym moves)
             ∙ sym (append_assoc h.done own (mark_lines network view behind rest));
       }
 
@@ -88,30 +91,31 @@ module _ (network : Network) (view : View) (all : List Mark) (notes : List Note)
       ap (λ (ls : List (List ℕ)). ls ++ close_line ∷ []) (next_lines note rest next) in
       inr (inl (
         refl,
-        inl (subst (λ (ls : List (List ℕ)). PutFails ls old new) (sym lines)
-            (fails_before (h.done ++ (own ++ others)) (close_line ∷ []) old new (fails_between h.done own others old now new h.puts fails))),
+        inl (subst (λ ls. PutFails ls old new) (sym lines)
+            (fails_before (close_line ∷ []) (fails_between others h.puts fails))),
       ))
 
   pub marked_all : (status : Status) (new : Shown) → h.rest ≡ [] → Gives (line_answer Done close_line) status now new
       → Gives (back_answer network view all notes) status old new
   marked_all status new none gives =
       let lines : back_lines network view all notes ≡ h.done ++ close_line ∷ [] = ap (λ (ls : List (List ℕ)). ls ++ close_line ∷ [])
-      (h.whole ∙ ap (λ (ns : List Note). h.done ++ mark_lines network view marks ns) none ∙ append-nil h.done) in
+      (h.whole ∙ ap (λ ns. h.done ++ mark_lines network view marks ns) none ∙ append-nil h.done) in
       subst (λ (ls : List (List ℕ)). Gives (record { status = Done; lines = ls }) status old new) (sym lines)
       (Gives-behind h.done (line_answer Done close_line) status old now new h.puts gives)
 
 -- ---- the next record
 
--- a record that is to come is of the network, and its numbers lie in their ranges
-pub next_of : (network : Network) (records : Records) (note : Note) (notes rest : List Note) → AreLeft network records notes → notes ≡ note ∷ rest
-    → IsNoteOf network note
-next_of network records note notes rest left next =
-    All-head (IsNoteOf network) note rest (subst (λ (ns : List Note). All (IsNoteOf network) ns) next left.of_network.of_network)
+module _ {network : Network} (records : Records) (note : Note) {notes : List Note} (rest : List Note)
+    (left : AreLeft network records notes) (next : notes ≡ note ∷ rest) where
+  -- a record that is to come is of the network, and its numbers lie in their ranges
+  pub next_of : IsNoteOf network note
+  next_of =
+      All-head (IsNoteOf network) note rest (subst (λ (ns : List Note). All (IsNoteOf network) ns) next
+      left.of_network.of_network)
 
-pub next_in_range : (network : Network) (records : Records) (note : Note) (notes rest : List Note) → AreLeft network records notes → notes ≡ note ∷ rest
-    → IsNoteInRange note
-next_in_range network records note notes rest left next =
-    All-head IsNoteInRange note rest (subst (λ (ns : List Note). All IsNoteInRange ns) next left.of_network.in_range)
+  pub next_in_range : IsNoteInRange note
+  next_in_range =
+      All-head IsNoteInRange note rest (subst (λ (ns : List Note). All IsNoteInRange ns) next left.of_network.in_range)
 
 -- ---- the answer
 
@@ -121,33 +125,38 @@ pub wide_answer : (network : Network) (view : View) (notes : List Note) (plan : 
 wide_answer network view notes plan status old new same wide ends =
     let answer : draw_answer network view notes ≡ too_long_answer =
     ap (λ (b : Bool). if b then record { status = Done; lines = picture_lines network view notes } else too_long_answer) (ap fits (sym same) ∙ wide) in
-    subst (λ (a : Answer). Gives a status old new) (sym answer) (Ends-gives [] TooLong status old old new (PutsLines-none old) ends)
+    subst (λ a. Gives a status old new) (sym answer) (Ends-gives [] TooLong status old old new (PutsLines-none old) ends)
 
-pub fit_answer : (network : Network) (view : View) (notes : List Note) (plan : Plan) (windows : List Came) (clocks : Clocks) (status : Status) (old new : Shown)
-    → plan ≡ plan_of network view notes → windows ≡ windows_of network view notes → clocks ≡ clocks_in view.span notes → fits plan ≡ true
-    → Gives (fitting_answer network plan windows clocks notes) status old new → Gives (draw_answer network view notes) status old new
-fit_answer network view notes plan windows clocks status old new same came told fit gives =
+pub fit_answer : (network : Network) (view : View) (notes : List Note) (plan : Plan) (windows : List Came)
+    (clocks : Clocks) (status : Status) {old new : Shown} → plan ≡ plan_of network view notes
+    → windows ≡ windows_of network view notes → clocks ≡ clocks_in view.span notes → fits plan ≡ true
+    → Gives (fitting_answer network plan windows clocks notes) status old new
+    → Gives (draw_answer network view notes) status old new
+fit_answer network view notes plan windows clocks status {old} {new} same came told fit gives =
     let of_view : plan.view ≡ view = ap (λ (p : Plan). p.view) same ∙ view_behind network (begun network view) notes in
     let whole = plan_of network view notes in
     let lines : front_lines network plan windows clocks ++ back_lines network plan.view plan.marks notes ≡ picture_lines network view notes =
-    ap (λ (v : View). front_lines network plan windows clocks ++ back_lines network v plan.marks notes) of_view
+    ap (λ v. front_lines network plan windows clocks ++ back_lines network v plan.marks notes) of_view
     ∙ ap (λ (p : Plan). front_lines network p windows clocks ++ back_lines network view p.marks notes) same
-    ∙ ap (λ (w : List Came). front_lines network whole w clocks ++ back_lines network view whole.marks notes) came
-    ∙ ap (λ (c : Clocks). front_lines network whole (windows_of network view notes) c ++ back_lines network view whole.marks notes) told in
+    ∙ ap (λ w. front_lines network whole w clocks ++ back_lines network view whole.marks notes) came
+    ∙ ap (λ c. front_lines network whole (windows_of network view notes) c ++ back_lines network view whole.marks notes) told in
     let answer : draw_answer network view notes ≡ fitting_answer network plan windows clocks notes =
     ap (λ (b : Bool). if b then record { status = Done; lines = picture_lines network view notes } else too_long_answer) (ap fits (sym same) ∙ fit)
     ∙ ap (λ (ls : List (List ℕ)). let a : Answer = record { status = Done; lines = ls } in a) (sym lines) in
-    subst (λ (a : Answer). Gives a status old new) (sym answer) gives
+    subst (λ a. Gives a status old new) (sym answer) gives
 
--- the put of a line below the marks failed
-pub front_fails : (network : Network) (plan : Plan) (windows : List Came) (clocks : Clocks) (notes : List Note) (old new : Shown)
-    → PutFails (front_lines network plan windows clocks) old new → Gives (fitting_answer network plan windows clocks notes) WriteFault old new
-front_fails network plan windows clocks notes old new fails =
-    inr (inl (refl, inl (fails_before (front_lines network plan windows clocks) (back_lines network plan.view plan.marks notes) old new fails)))
+module _ (network : Network) (plan : Plan) (windows : List Came) (clocks : Clocks) (notes : List Note) where
+  -- the put of a line below the marks failed
+  pub front_fails : {old new : Shown} → PutFails (front_lines network plan windows clocks) old new
+      → Gives (fitting_answer network plan windows clocks notes) WriteFault old new
+  front_fails fails =
+      inr (inl (refl, inl (fails_before (back_lines network plan.view plan.marks notes) fails)))
 
--- the lines below the marks were put, and then those from the marks on
-pub front_given : (network : Network) (plan : Plan) (windows : List Came) (clocks : Clocks) (notes : List Note) (status : Status) (old now new : Shown)
-    → PutsLines (front_lines network plan windows clocks) old now → Gives (back_answer network plan.view plan.marks notes) status now new
-    → Gives (fitting_answer network plan windows clocks notes) status old new
-front_given network plan windows clocks notes status old now new puts gives =
-    Gives-behind (front_lines network plan windows clocks) (back_answer network plan.view plan.marks notes) status old now new puts gives
+  -- the lines below the marks were put, and then those from the marks on
+  pub front_given : (status : Status) {old now new : Shown}
+      → PutsLines (front_lines network plan windows clocks) old now
+      → Gives (back_answer network plan.view plan.marks notes) status now new
+      → Gives (fitting_answer network plan windows clocks notes) status old new
+  front_given status {old} {now} {new} puts gives =
+      Gives-behind (front_lines network plan windows clocks) (back_answer network plan.view plan.marks notes) status
+      old now new puts gives

@@ -12,8 +12,8 @@ draws_one line (Ok done) old new all front counted = PutsLines-more [] line old 
 draws_one line (Err cause) old new all front counted = PutsLines-fails [] line [] old old new (PutsLines-none old) front counted
 
 -- a put that failed failed among more lines
-pub fails_before : (xs ys : List (List ℕ)) (a b : Shown) → PutFails xs a b → PutFails (xs ++ ys) a b
-fails_before xs ys a b p = record {
+pub fails_before : {xs : List (List ℕ)} (ys : List (List ℕ)) {a b : Shown} → PutFails xs a b → PutFails (xs ++ ys) a b
+fails_before ys p = record {
   done = p.done;
   line = p.line;
   left = p.left ++ ys;
@@ -25,8 +25,9 @@ fails_before xs ys a b p = record {
 }
 
 -- a put failed behind lines that were put, and others were to come
-pub fails_between : (xs ys zs : List (List ℕ)) (a b c : Shown) → PutsLines xs a b → PutFails ys b c → PutFails (xs ++ (ys ++ zs)) a c
-fails_between xs ys zs a b c p q = PutFails-behind xs (ys ++ zs) a b c p (fails_before ys zs b c q)
+pub fails_between : {xs ys : List (List ℕ)} (zs : List (List ℕ)) {a b c : Shown} → PutsLines xs a b → PutFails ys b c
+    → PutFails (xs ++ (ys ++ zs)) a c
+fails_between {xs} {ys} zs {a} {b} {c} p q = PutFails-behind xs (ys ++ zs) a b c p (fails_before zs q)
 
 -- ---- lists
 
@@ -53,7 +54,7 @@ module _ {X : Type 0} (f : X → List (List ℕ)) (all : List X) (n : ℕ) where
       let lines : flat_map f (take (n + 1) all) ≡ flat_map f (take n all) ++ f x =
       ap (λ (xs : List X). flat_map f xs) (take_more all n d within) ∙ flat_map-append f (take n all) (x ∷ [])
       ∙ ap (λ (ls : List (List ℕ)). flat_map f (take n all) ++ ls) (append-nil (f x)) in
-      subst (λ (ls : List (List ℕ)). PutsLines ls a c) (sym lines) (PutsLines-append (flat_map f (take n all)) (f x) a b c p q)
+      subst (λ ls. PutsLines ls a c) (sym lines) (PutsLines-append (flat_map f (take n all)) (f x) a b c p q)
 
   pub flat_fails : (d : X) (a b c : Shown) → n < length all → PutsLines (flat_map f (take n all)) a b → PutFails (f (get_or all n d)) b c
       → PutFails (flat_map f all) a c
@@ -63,7 +64,7 @@ module _ {X : Type 0} (f : X → List (List ℕ)) (all : List X) (n : ℕ) where
       let split : all ≡ take n all ++ x ∷ rest = sym (take-append-drop n all) ∙ ap (λ (xs : List X). take n all ++ xs) (drop_next all n d within) in
       let lines : flat_map f all ≡ flat_map f (take n all) ++ (f x ++ flat_map f rest) =
       ap (λ (xs : List X). flat_map f xs) split ∙ flat_map-append f (take n all) (x ∷ rest) in
-      subst (λ (ls : List (List ℕ)). PutFails ls a c) (sym lines) (fails_between (flat_map f (take n all)) (f x) (flat_map f rest) a b c p q)
+      subst (λ ls. PutFails ls a c) (sym lines) (fails_between (flat_map f rest) p q)
 
   pub flat_all : (a b : Shown) → length all ≤ n → PutsLines (flat_map f (take n all)) a b → PutsLines (flat_map f all) a b
   flat_all a b end p = subst (λ (xs : List X). PutsLines (flat_map f xs) a b) (take_all n all end) p
@@ -73,11 +74,11 @@ module _ {X : Type 0} (f : X → List (List ℕ)) (all listed : List X) (same : 
   pub listed_more : (d : X) (a b c : Shown) → PutsLines (flat_map f (take n all)) a b → PutsLines (f (get_or listed n d)) b c
       → PutsLines (flat_map f (take (n + 1) all)) a c
   listed_more d a b c p q =
-      flat_more f all n d a b c (subst (λ (xs : List X). n < length xs) same within) p (subst (λ (xs : List X). PutsLines (f (get_or xs n d)) b c) same q)
+      flat_more f all n d a b c (subst (λ xs. n < length xs) same within) p (subst (λ (xs : List X). PutsLines (f (get_or xs n d)) b c) same q)
 
   pub listed_fails : (d : X) (a b c : Shown) → PutsLines (flat_map f (take n all)) a b → PutFails (f (get_or listed n d)) b c → PutFails (flat_map f all) a c
   listed_fails d a b c p q =
-      flat_fails f all n d a b c (subst (λ (xs : List X). n < length xs) same within) p (subst (λ (xs : List X). PutFails (f (get_or xs n d)) b c) same q)
+      flat_fails f all n d a b c (subst (λ xs. n < length xs) same within) p (subst (λ (xs : List X). PutFails (f (get_or xs n d)) b c) same q)
 
 -- ---- something of each place
 
@@ -85,32 +86,32 @@ pub lines_split : (f : ℕ → List (List ℕ)) (i n m : ℕ) → lines_from f i
 lines_split f i zero m =
     let none : 0 + m ≡ m = omega arith in
     let here : i ≡ i + 0 = omega arith in
-    ap (λ (k : ℕ). lines_from f i k) none ∙ ap (λ (k : ℕ). lines_from f k m) here
+    ap (λ k. lines_from f i k) none ∙ ap (λ k. lines_from f k m) here
 lines_split f i (suc n) m =
     let more : suc n + m ≡ suc (n + m) = omega arith in
     let here : i + 1 + n ≡ i + suc n = omega arith in
-    ap (λ (k : ℕ). lines_from f i k) more ∙ ap (λ (ls : List (List ℕ)). f i ++ ls) (lines_split f (i + 1) n m)
+    ap (λ k. lines_from f i k) more ∙ ap (λ (ls : List (List ℕ)). f i ++ ls) (lines_split f (i + 1) n m)
     ∙ sym (append_assoc (f i) (lines_from f (i + 1) n) (lines_from f (i + 1 + n) m))
-    ∙ ap (λ (k : ℕ). lines_from f i (suc n) ++ lines_from f k m) here
+    ∙ ap (λ k. lines_from f i (suc n) ++ lines_from f k m) here
 
 -- from the first place on
 places_split : (f : ℕ → List (List ℕ)) (n m : ℕ) → lines_from f 0 (n + m) ≡ lines_from f 0 n ++ lines_from f n m
 places_split f n m =
     let here : 0 + n ≡ n = omega arith in
-    lines_split f 0 n m ∙ ap (λ (k : ℕ). lines_from f 0 n ++ lines_from f k m) here
+    lines_split f 0 n m ∙ ap (λ k. lines_from f 0 n ++ lines_from f k m) here
 
-pub places_more : (f : ℕ → List (List ℕ)) (n : ℕ) (a b c : Shown) → PutsLines (lines_from f 0 n) a b → PutsLines (f n) b c
-    → PutsLines (lines_from f 0 (n + 1)) a c
-places_more f n a b c p q =
+pub places_more : (f : ℕ → List (List ℕ)) (n : ℕ) {a b c : Shown} → PutsLines (lines_from f 0 n) a b
+    → PutsLines (f n) b c → PutsLines (lines_from f 0 (n + 1)) a c
+places_more f n {a} {b} {c} p q =
     let lines : lines_from f 0 (n + 1) ≡ lines_from f 0 n ++ f n =
     places_split f n 1 ∙ ap (λ (ls : List (List ℕ)). lines_from f 0 n ++ ls) (append-nil (f n)) in
-    subst (λ (ls : List (List ℕ)). PutsLines ls a c) (sym lines) (PutsLines-append (lines_from f 0 n) (f n) a b c p q)
+    subst (λ ls. PutsLines ls a c) (sym lines) (PutsLines-append (lines_from f 0 n) (f n) a b c p q)
 
-pub places_fail : (f : ℕ → List (List ℕ)) (n count : ℕ) (a b c : Shown) → n < count → PutsLines (lines_from f 0 n) a b → PutFails (f n) b c
-    → PutFails (lines_from f 0 count) a c
-places_fail f n count a b c within p q =
+pub places_fail : (f : ℕ → List (List ℕ)) (n count : ℕ) {a b c : Shown} → n < count
+    → PutsLines (lines_from f 0 n) a b → PutFails (f n) b c → PutFails (lines_from f 0 count) a c
+places_fail f n count {a} {c} within p q =
     let more : count ≡ n + suc (count - (n + 1)) = omega (arith, within) in
     let lines : lines_from f 0 count ≡ lines_from f 0 n ++ (f n ++ lines_from f (n + 1) (count - (n + 1))) =
-    ap (λ (k : ℕ). lines_from f 0 k) more ∙ places_split f n (suc (count - (n + 1))) in
-    subst (λ (ls : List (List ℕ)). PutFails ls a c) (sym lines)
-    (fails_between (lines_from f 0 n) (f n) (lines_from f (n + 1) (count - (n + 1))) a b c p q)
+    ap (λ k. lines_from f 0 k) more ∙ places_split f n (suc (count - (n + 1))) in
+    subst (λ ls. PutFails ls a c) (sym lines)
+    (fails_between (lines_from f (n + 1) (count - (n + 1))) p q)

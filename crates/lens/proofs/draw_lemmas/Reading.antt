@@ -73,28 +73,32 @@ no_heading : (title : List ℕ) → is_mark (heading_line title) ≡ false
 unfolding heading_line
 no_heading title = refl
 
-none_layer : (network : Network) (plan : Plan) (windows : List Came) (clocks : Clocks) (layer : Layer)
-    → NoneMarks (layer_lines network plan windows clocks layer)
-none_layer network plan windows clocks layers.Opening = (no_element network (opening_of network plan), tt)
-none_layer network plan windows clocks layers.Title = (no_title plan.view.title, tt)
-none_layer network plan windows clocks (layers.Shared sign) = (no_sign sign, tt)
-none_layer network plan windows clocks layers.Heading = (no_heading plan.view.title, tt)
-none_layer network plan windows clocks layers.Caption = (no_element network (Caption plan.view.span (length plan.marks)), tt)
-none_layer network plan windows clocks (layers.Lanes layer) =
-    none_places (λ place. some_line network (on_lane layer network plan place)) (λ place. none_some network (on_lane layer network plan place)) 0
-    (length network.device)
-none_layer network plan windows clocks (layers.Marks layer) =
-    none_flat (λ mark. some_line network (on_mark layer network plan mark)) (λ mark. none_some network (on_mark layer network plan mark)) plan.marks
-none_layer network plan windows clocks layers.Windows = none_flat (λ came. some_line network (box_of came)) (λ came. none_some network (box_of came)) windows
-none_layer network plan windows clocks layers.Gauges =
-    none_flat (λ told. some_line network (gauge_of network plan clocks told)) (λ told. none_some network (gauge_of network plan clocks told))
-    clocks.told
-none_layer network plan windows clocks layers.Spread = none_some network (spread_of network plan clocks)
-none_layer network plan windows clocks layers.Lack = none_some network (lack_of plan)
+module _ (network : Network) (plan : Plan) (windows : List Came) (clocks : Clocks) where
+  none_layer : (layer : Layer) → NoneMarks (layer_lines network plan windows clocks layer)
+  none_layer layers.Opening = (no_element network (opening_of network plan), tt)
+  none_layer layers.Title = (no_title plan.view.title, tt)
+  none_layer (layers.Shared sign) = (no_sign sign, tt)
+  none_layer layers.Heading = (no_heading plan.view.title, tt)
+  none_layer layers.Caption = (no_element network (Caption plan.view.span (length plan.marks)), tt)
+  none_layer (layers.Lanes layer) =
+      none_places (λ place. some_line network (on_lane layer network plan place))
+      (λ place. none_some network (on_lane layer network plan place)) 0
+      (length network.device)
+  none_layer (layers.Marks layer) =
+      none_flat (λ mark. some_line network (on_mark layer network plan mark))
+      (λ mark. none_some network (on_mark layer network plan mark)) plan.marks
+  none_layer layers.Windows =
+      none_flat (λ came. some_line network (box_of came)) (λ came. none_some network (box_of came)) windows
+  none_layer layers.Gauges =
+      none_flat (λ told. some_line network (gauge_of network plan clocks told))
+      (λ told. none_some network (gauge_of network plan clocks told))
+      clocks.told
+  none_layer layers.Spread = none_some network (spread_of network plan clocks)
+  none_layer layers.Lack = none_some network (lack_of plan)
 
-none_front : (network : Network) (plan : Plan) (windows : List Came) (clocks : Clocks) → NoneMarks (front_lines network plan windows clocks)
-none_front network plan windows clocks = none_flat (λ layer. layer_lines network plan windows clocks layer) (λ layer.
-    none_layer network plan windows clocks layer) pictures.layers
+  none_front : NoneMarks (front_lines network plan windows clocks)
+  none_front = none_flat (λ layer. layer_lines network plan windows clocks layer) (λ layer.
+      none_layer layer) pictures.layers
 
 -- those that do, of a list
 
@@ -164,50 +168,58 @@ abbrev AreWritten : Network → List Note → Type 0
 AreWritten network [] = Unit {0}
 AreWritten network (note ∷ notes) = (NonePasses (λ c. c == 34) (decimal note.number) × IsPlain (note_text network note)) × AreWritten network notes
 
-written : (network : Network) (note : Note) → IsInRange network → IsNoteOf network note → IsNoteInRange note
-    → NonePasses (λ c. c == 34) (decimal note.number) × IsPlain (note_text network note)
-written network note range of h = (no_quote (decimal note.number) ((decimal_is_IsNumeral note.number h.number).0).1, note_plain network note range of h)
+module _ (network : Network) where
+  written : {note : Note} → IsInRange network → IsNoteOf network note → IsNoteInRange note
+      → NonePasses (λ c. c == 34) (decimal note.number) × IsPlain (note_text network note)
+  written {note} range of h =
+      (no_quote (decimal note.number) ((decimal_is_IsNumeral note.number h.number).0).1, note_plain network note range of h)
 
-all_written : (network : Network) (view : View) (notes : List Note) → IsInRange network → All (IsNoteOf network) notes → All IsNoteInRange notes
-    → AreWritten network (shown view notes)
-all_written network view [] range of h = tt
-all_written network view (note ∷ notes) range of h =
-    by (all_written network view notes range (All-tail (IsNoteOf network) note notes of) (All-tail IsNoteInRange note notes h)) (is_drawn view note)
-  where
-    by : AreWritten network (shown view notes) → (b : Bool) → AreWritten network (if b then note ∷ shown view notes else shown view notes)
-    by rest true = (written network note range (All-head (IsNoteOf network) note notes of) (All-head IsNoteInRange note notes h), rest)
-    by rest false = rest
+  all_written : (view : View) (notes : List Note) → IsInRange network → All (IsNoteOf network) notes
+      → All IsNoteInRange notes → AreWritten network (shown view notes)
+  all_written view [] range of h = tt
+  all_written view (note ∷ notes) range of h =
+      by (all_written view notes range (All-tail (IsNoteOf network) note notes of)
+      (All-tail IsNoteInRange note notes h)) (is_drawn view note)
+    where
+      by : AreWritten network (shown view notes) → (b : Bool) → AreWritten network
+          (if b then note ∷ shown view notes else shown view notes)
+      by rest true =
+          (written range (All-head (IsNoteOf network) note notes of) (All-head IsNoteInRange note notes h), rest)
+      by rest false = rest
 
-report_written : (network : Network) (view : View) (octets : List ℕ) (notes : List Note) (end : Units) → IsReportOf network octets notes end
-    → AreWritten network (shown view notes)
-report_written network view octets notes end of =
-    let records = of.events.text.records in
-    all_written network view notes of.range records.of_network records.in_range
+  report_written : (view : View) {octets : List ℕ} {notes : List Note} {end : Units}
+      → IsReportOf network octets notes end → AreWritten network (shown view notes)
+  report_written view {notes} of =
+      let records = of.events.text.records in
+      all_written view notes of.range records.of_network records.in_range
 
-same_titles : (network other : Network) (lines : List (List ℕ)) (notes more : List Note) → HaveTitles network lines notes → HaveTitles other lines more
-    → AreWritten network notes → AreWritten other more → map (note_text network) notes ≡ map (note_text other) more
-same_titles network other [] [] [] p q a b = refl
-same_titles network other [] (n ∷ notes) more p q a b = absurd p
-same_titles network other [] [] (m ∷ more) p q a b = absurd q
-same_titles network other (line ∷ lines) [] more p q a b = absurd p
-same_titles network other (line ∷ lines) (n ∷ notes) [] p q a b = absurd q
-same_titles network other (line ∷ lines) (n ∷ notes) (m ∷ more) p q a b =
-    let same = sym (head_is network n p.0.0) ∙ sym p.0.1 ∙ q.0.1 ∙ head_is other m q.0.0 in
-    let title = same_title (decimal n.number) (decimal m.number) (note_text network n) (note_text other m) p.0.0 q.0.0 a.0.0 b.0.0 a.0.1 b.0.1 same in
-    ap (λ (t : List ℕ). t ∷ map (note_text network) notes) title
-    ∙ ap (λ (ts : List (List ℕ)). note_text other m ∷ ts) (same_titles network other lines notes more p.1 q.1 a.1 b.1)
+  same_titles : (other : Network) (lines : List (List ℕ)) (notes more : List Note) → HaveTitles network lines notes
+      → HaveTitles other lines more → AreWritten network notes → AreWritten other more
+      → map (note_text network) notes ≡ map (note_text other) more
+  same_titles other [] [] [] p q a b = refl
+  same_titles other [] (n ∷ notes) more p q a b = absurd p
+  same_titles other [] [] (m ∷ more) p q a b = absurd q
+  same_titles other (line ∷ lines) [] more p q a b = absurd p
+  same_titles other (line ∷ lines) (n ∷ notes) [] p q a b = absurd q
+  same_titles other (line ∷ lines) (n ∷ notes) (m ∷ more) p q a b =
+      let same = sym (head_is network n p.0.0) ∙ sym p.0.1 ∙ q.0.1 ∙ head_is other m q.0.0 in
+      let title = same_title (decimal n.number) (decimal m.number) (note_text network n) (note_text other m) p.0.0
+      q.0.0 a.0.0 b.0.0 a.0.1 b.0.1 same in
+      ap (λ (t : List ℕ). t ∷ map (note_text network) notes) title
+      ∙ ap (λ (ts : List (List ℕ)). note_text other m ∷ ts) (same_titles other lines notes more p.1 q.1 a.1 b.1)
 
 pub pictures_are_one : PicturesAreOne
 pictures_are_one network other view part octets report notes more end last of by same =
     let marks : mark_lines network view (plan_of network view notes).marks notes ≡ mark_lines other part (plan_of other part more).marks more =
     sym (marks_of_picture network view notes) ∙ ap (filter is_mark) same ∙ marks_of_picture other part more in
     same_titles network other (mark_lines other part (plan_of other part more).marks more) (shown view notes) (shown part more)
-    (subst (λ (ls : List (List ℕ)). HaveTitles network ls (shown view notes)) marks (titles_are network view notes))
-    (titles_are other part more) (report_written network view octets notes end of) (report_written other part report more last by)
+    (subst (λ ls. HaveTitles network ls (shown view notes)) marks (titles_are network view notes))
+    (titles_are other part more) (report_written network view of) (report_written other part by)
 
 all_plain : (network : Network) (notes : List Note) → AreWritten network notes → All (λ note. IsPlain (note_text network note)) notes
 all_plain network [] a = All-nil (λ note. IsPlain (note_text network note))
 all_plain network (n ∷ notes) a = All-cons (λ note. IsPlain (note_text network note)) n notes a.0.1 (all_plain network notes a.1)
 
 pub titles_are_plain : TitlesArePlain
-titles_are_plain network view octets notes end of = all_plain network (shown view notes) (report_written network view octets notes end of)
+titles_are_plain network view octets notes end of =
+    all_plain network (shown view notes) (report_written network view of)

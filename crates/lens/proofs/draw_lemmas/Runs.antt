@@ -13,7 +13,7 @@ numbers_from notes front [] whole numbered = tt
 numbers_from notes front (note ∷ rest) whole numbered =
     let next = length-append front (note ∷ []) in (
       numbered front rest note whole,
-      subst (λ (n : ℕ). NumbersFollow (n + 1) rest) next
+      subst (λ n. NumbersFollow (n + 1) rest) next
           (numbers_from notes (front ++ note ∷ []) rest (whole ∙ sym (append_assoc front (note ∷ []) rest)) numbered),
     )
 
@@ -22,13 +22,13 @@ module _ (network : Network) (octets : List ℕ) (notes : List Note) (end : Unit
   numbers = numbers_from notes [] notes refl of.events.text.numbers
 
   falls : NeverFall 0 notes
-  falls = never_fall network octets notes end of
+  falls = never_fall of
 
   lanes : (view : View) (front rest : List Note) (note : Note) → notes ≡ front ++ note ∷ rest → is_drawn view note ≡ true
       → fold painted_with (plan_of network view notes).grounds (take (length (shown view (front ++ note ∷ []))) (plan_of network view notes).marks)
       ≡ grounds_after network (told view (front ++ note ∷ []))
   lanes view front rest note whole held =
-      subst (λ (ns : List Note). fold painted_with (plan_of network view ns).grounds
+      subst (λ ns. fold painted_with (plan_of network view ns).grounds
       (take (length (shown view (front ++ note ∷ []))) (plan_of network view ns).marks) ≡ grounds_after network (told view (front ++ note ∷ []))) (sym whole)
       (lanes_are_states network view front rest note (subst (NeverFall 0) whole falls) held)
 

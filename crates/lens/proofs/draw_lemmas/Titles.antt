@@ -24,4 +24,4 @@ pub titles_are : (network : Network) (view : View) (notes : List Note)
 titles_are network view notes =
     let taken = taken_all network (begun network view) notes in
     titles_of network view (plan_of network view notes).marks notes
-    (subst (λ (ms : List Mark). AreMarksOf network ms (shown view notes)) (sym taken.whole) taken.marks)
+    (subst (λ ms. AreMarksOf network ms (shown view notes)) (sym taken.whole) taken.marks)

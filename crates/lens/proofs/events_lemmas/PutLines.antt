@@ -19,9 +19,9 @@ pub record HasPutEvents (network : Network) (seed cycles : ℕ) (it : StormEvent
   pub given : IsStormTo network seed cycles events it
   pub puts : PutsLines (event_lines network events) old now
 
-pub puts_none : (network : Network) (seed cycles : ℕ) (it : StormEvents) (s : Shown) → IsStormTo network seed cycles [] it
-    → HasPutEvents network seed cycles it s s
-puts_none network seed cycles it s given = record { events = []; given = given; puts = PutsLines-none s }
+pub puts_none : {network : Network} {seed cycles : ℕ} {it : StormEvents} (s : Shown)
+    → IsStormTo network seed cycles [] it → HasPutEvents network seed cycles it s s
+puts_none s given = record { events = []; given = given; puts = PutsLines-none s }
 
 module _ (network : Network) (seed cycles : ℕ) (it : StormEvents) (old now : Shown) (h : HasPutEvents network seed cycles it old now) where
   -- one more
@@ -31,7 +31,7 @@ module _ (network : Network) (seed cycles : ℕ) (it : StormEvents) (old now : S
     events = h.events ++ event ∷ [];
     given = given;
     puts =
-        subst (λ (ls : List (List ℕ)). PutsLines ls old new) (sym (lines_of_both network h.events (event ∷ [])))
+        subst (λ ls. PutsLines ls old new) (sym (lines_of_both network h.events (event ∷ [])))
         (PutsLines-more (event_lines network h.events) (event_line network event) old now new h.puts whole counted);
   }
 

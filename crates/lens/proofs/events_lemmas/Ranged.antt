@@ -15,8 +15,9 @@ pub record IsRanged (network : Network) (what : What) : Type 0 where
   pub of_network : IsOfNetwork network what
   pub range : IsWhatInRange what
 
-ranged_as : (network : Network) (what other : What) → what ≡ other → IsRanged network other → IsRanged network what
-ranged_as network what other same ranged = subst (IsRanged network) (sym same) ranged
+ranged_as : {network : Network} (what : What) {other : What} → what ≡ other → IsRanged network other
+    → IsRanged network what
+ranged_as {network} what same ranged = subst (IsRanged network) (sym same) ranged
 
 -- ---- what a draw chooses
 
@@ -56,15 +57,15 @@ module _ (network : Network) (range : IsInRange network) (rules : KeepsRules net
       some_link_by : (o : Option Link) → link_at network (link_of network draw) ≡ o → IsSomeAnd o (λ l. what ≡ f l) → IsRanged network what
       some_link_by None at none = absurd none
       some_link_by (Some l) at same =
-          ranged_as network what (f l) same (each l (in_all (IsLinkInRange network) network.link (link_of network draw).0 l range.links at))
+          ranged_as what same (each l (in_all (IsLinkInRange network) network.link (link_of network draw).0 l range.links at))
 
   struck : (before : List Event) (time : Units) (what : What) → Strikes network before time draw what → IsRanged network what
   struck before time what (inl breaks) =
-      ranged_as network what (kinds.Break breaks.master) breaks.breaks
+      ranged_as {network = network} what {other = kinds.Break breaks.master} breaks.breaks
       (record { of_network = master_within network breaks.master breaks.last.master; range = tt })
   struck before time what (inr (device, broken, sends)) =
       let size = sends.spells.size in
-      ranged_as network what (kinds.Send sends.link sends.octets) sends.sends (record {
+      ranged_as {network = network} what {other = kinds.Send sends.link sends.octets} sends.sends (record {
         of_network = uplink_within network device sends.link (channel_of draw) sends.uplink;
         range = record { bytes = sends.bytes; least = omega (arith, size); most = omega (arith, size) };
       })
@@ -72,17 +73,17 @@ module _ (network : Network) (range : IsInRange network) (rules : KeepsRules net
   -- by the rest of the first word
   chosen_by : (before : List Event) (time : Units) (rest : ℕ) (what : What) → rest < 8 → IsChosen network before time draw (choice_of rest) what
       → IsRanged network what
-  chosen_by before time zero what less is = ranged_as network what _ is (record { of_network = device_there; range = rate_ranged })
-  chosen_by before time (suc zero) what less is = ranged_as network what _ is (record { of_network = device_there; range = rate_ranged })
+  chosen_by before time zero what less is = ranged_as {network = network} what is (record { of_network = device_there; range = rate_ranged })
+  chosen_by before time (suc zero) what less is = ranged_as {network = network} what is (record { of_network = device_there; range = rate_ranged })
   chosen_by before time (suc (suc zero)) what less is =
       of_link (λ l. kinds.Wire (link_of network draw) (way_of draw) (wire_of l draw)) what
       (λ l of_range. record { of_network = link_there; range = wire_ranged l of_range }) is
   chosen_by before time (suc (suc (suc zero))) what less is =
       of_link (λ l. kinds.Hold (link_of network draw) (way_of draw) (hold_of l draw)) what
       (λ l of_range. record { of_network = link_there; range = hold_ranged l of_range }) is
-  chosen_by before time (suc (suc (suc (suc zero)))) what less is = ranged_as network what _ is (record { of_network = link_there; range = tt })
-  chosen_by before time (suc (suc (suc (suc (suc zero))))) what less is = ranged_as network what _ is (record { of_network = link_there; range = tt })
-  chosen_by before time (suc (suc (suc (suc (suc (suc zero)))))) what less is = ranged_as network what _ is (record { of_network = device_there; range = tt })
+  chosen_by before time (suc (suc (suc (suc zero)))) what less is = ranged_as {network = network} what is (record { of_network = link_there; range = tt })
+  chosen_by before time (suc (suc (suc (suc (suc zero))))) what less is = ranged_as {network = network} what is (record { of_network = link_there; range = tt })
+  chosen_by before time (suc (suc (suc (suc (suc (suc zero)))))) what less is = ranged_as {network = network} what is (record { of_network = device_there; range = tt })
   chosen_by before time (suc (suc (suc (suc (suc (suc (suc zero))))))) what less is = struck before time what is
   chosen_by before time (suc (suc (suc (suc (suc (suc (suc (suc n)))))))) what less is = absurd (omega (arith, less))
 

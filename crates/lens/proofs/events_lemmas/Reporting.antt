@@ -23,7 +23,7 @@ module _ (network : Network) (range : IsInRange network) (rules : KeepsRules net
       → (first_line (event_line network event ++ rest) ≡ event_text network event) × (behind_line (event_line network event ++ rest) ≡ rest)
   first_text event rest before each =
       let own = storm_ranged network range rules seed cycles before (length before) event few (each before [] event refl) in
-      let unbroken = event_unbroken network event range own.0 own.1 in
+      let unbroken = event_unbroken range own.0 own.1 in
       let text = event_text network event in
       let moved = append_assoc text (lf ∷ []) rest in (
         ap first_line moved ∙ first_line-append text (lf ∷ rest) unbroken ∙ append-nil text,
@@ -63,7 +63,7 @@ module _ (network : Network) (range : IsInRange network) (rules : KeepsRules net
       let whole = subst (AreStormEvents network seed cycles) order each in
       let octets = behind_lines (length before) (text_of network events) in
       let rest : octets ≡ event_line network event ++ text_of network behind =
-      ap (λ (es : List Event). behind_lines (length before) (text_of network es)) order ∙ behind_from [] before (event ∷ behind) whole in
+      ap (λ es. behind_lines (length before) (text_of network es)) order ∙ behind_from [] before (event ∷ behind) whole in
       let is = whole before behind event refl in
       let number = storm_number network seed cycles before (length before) event is in
       let own = storm_ranged network range rules seed cycles before (length before) event few is in
@@ -79,7 +79,7 @@ module _ (network : Network) (range : IsInRange network) (rules : KeepsRules net
             number = omega (arith, number, few);
             unended = none_ended network seed cycles before front number;
           };
-          short = subst (λ (t : List ℕ). length t ≤ line_limit) (sym first) short;
+          short = subst (λ t. length t ≤ line_limit) (sym first) short;
           read = ap (event_read network) first ∙ reads_back network event range (rules DevicesDiffer) (rules LinksDiffer) own.0 own.1;
         };
         within = storms_within network seed cycles events few each before behind event order;
@@ -92,7 +92,7 @@ module _ (network : Network) (range : IsInRange network) (rules : KeepsRules net
       let ended : HaveEnded events = all_ended network seed cycles events storm.each storm.whole in
       let same = append-nil events in
       let none : behind_lines (length events) (text_of network events) ≡ [] =
-      ap (λ (es : List Event). behind_lines (length events) (text_of network es)) (sym same)
+      ap (λ es. behind_lines (length events) (text_of network es)) (sym same)
       ∙ behind_from [] events [] (subst (AreStormEvents network seed cycles) (sym same) storm.each) in
       record {
         events = events;
@@ -105,7 +105,7 @@ storm_report seed cycles network trace report summary few range rules e r s =
     let events : s.events ≡ e.events = one_storm network seed cycles s.events e.events rules few s.storm e.storm in
     let text : concat trace.lines ≡ text_of network s.events = ap (λ (a : Answer). concat a.lines) e.answer ∙ ap (text_of network) (sym events) in
     let run = run_of_text network range rules seed cycles few s.events s.notes s.storm s.records in
-    let asked : IsRunAnswer (text_of network s.events) network report = subst (λ (octets : List ℕ). IsRunAnswer octets network report) text r in
+    let asked : IsRunAnswer (text_of network s.events) network report = subst (λ octets. IsRunAnswer octets network report) text r in
     record {
       events = s.events;
       storm = s.storm;

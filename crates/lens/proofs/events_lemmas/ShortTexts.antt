@@ -13,4 +13,4 @@ event_short network event range of_network in_range =
     let short = what_short network event.what range of_network in_range.what in
     let first = time_short event.time in_range.time in
     let joined = joined_short (time ∷ words) in
-    subst (λ (t : List ℕ). length t ≤ line_limit) (sym (text_joined network event)) (omega (arith, short, first, joined))
+    subst (λ t. length t ≤ line_limit) (sym (text_joined network event)) (omega (arith, short, first, joined))

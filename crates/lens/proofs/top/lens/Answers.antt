@@ -83,16 +83,16 @@ returns-in-Some-Report-clause-general g c =
 -- what is said of the form is said of the words
 faults_as : {f form : Option Form} → f ≡ form → (status : Status) (A B U R P : Type 0) → HasCause status (FailsToRead f A B U R) P
     → HasCause status (FailsToRead form A B U R) P
-faults_as {f} {form} same status A B U R P h = subst (λ (x : Option Form). HasCause status (FailsToRead x A B U R) P) same h
+faults_as {f} {form} same status A B U R P h = subst (λ x. HasCause status (FailsToRead x A B U R) P) same h
 
 takes_as : {f form : Option Form} → f ≡ form → (first after : Option (List ℕ)) (U R M : Type 0) → TakesFirst f first after → TakesSecond f first U R M
     → TakesFirst form first after × TakesSecond form first U R M
 takes_as {f} {form} same first after U R M one two =
-    subst (λ (x : Option Form). TakesFirst x first after × TakesSecond x first U R M) same (one, two)
+    subst (λ x. TakesFirst x first after × TakesSecond x first U R M) same (one, two)
 
 reports_as : (words : List (List ℕ)) {f form : Option Form} → f ≡ form → (first second : Option (List ℕ)) (S K : Type 0) (status : Status)
     → AnswersReports words f first second S K status → AnswersReports words form first second S K status
-reports_as words {f} {form} same first second S K status h = subst (λ (x : Option Form). AnswersReports words x first second S K status) same h
+reports_as words {f} {form} same first second S K status h = subst (λ x. AnswersReports words x first second S K status) same h
 
 pub returns-in-Some-DrawNamed-clause-general : goal.returns-in-Some-DrawNamed-clause-general
 returns-in-Some-DrawNamed-clause-general g c =
@@ -109,7 +109,7 @@ returns-in-Some-DrawNamed-clause-safe g c =
     let first = g.A.Source.left c.args.first.now in
     let second = g.B.Source.left c.args.second.now in
     let shown = shown_by g.K.Sink in
-    subst (λ (f : Option Form). AnswersSafely f first second c.draw_named.result) form
+    subst (λ f. AnswersSafely f first second c.draw_named.result) form
     (named_safely c.args.words.now c.in-Some-DrawNamed.part c.text.result.now first second c.draw_named.result (shown c.args.out.now) (shown c.draw_named.new.out)
     c.draw_named.ensures.general)
 

@@ -6,5 +6,5 @@ pub returns-clause-gives : goal.returns-clause-gives
 returns-clause-gives g c =
     let shown = shown_by g.K.Sink in
     let text : c.as_bytes.result.now ≡ usage_line = c.as_bytes.ensures.value in
-    subst (λ (bytes : List ℕ). Gives (line_answer Usage bytes) c.put_last.result (shown c.args.out.now) (shown c.put_last.new.out)) text
+    subst (λ bytes. Gives (line_answer Usage bytes) c.put_last.result (shown c.args.out.now) (shown c.put_last.new.out)) text
     c.put_last.ensures.gives

@@ -6,4 +6,4 @@ take_records-requires-clause-none c notes end r = record { sketch = refl; clocks
 
 pub returns : goal.returns
 returns c notes end r =
-    subst (λ (p : Plan). IsDraftOf c.args.network.now p notes c.take_records.new.taker) c.in-Ok.ensures (c.in_ok-take_records.ensures notes end r)
+    subst (λ p. IsDraftOf c.args.network.now p notes c.take_records.new.taker) c.in-Ok.ensures (c.in_ok-take_records.ensures notes end r)

@@ -16,7 +16,7 @@ windows_of-requires-clause-askable g c =
     let r = c.requires.read.some in
     let view : View = record { span = c.args.span; kept = c.args.kept; title = c.args.title } in
     let draft = c.in-Ok.ensures r.0 r.1 r.2 in
-    subst (λ (p : Plan). All (IsAskable network) p.marks) (sym draft.sketch) (report_askable network view c.args.report.now.octets r.0 r.1 r.2)
+    subst (λ (p : Plan). All (IsAskable network) p.marks) (sym draft.sketch) (report_askable view r.2)
 
 pub put_sketch-requires-clause-left : goal.put_sketch-requires-clause-left
 put_sketch-requires-clause-left g c = let r = c.requires.read.some in (r.0, c.records.ensures c.args.network.now r.0 r.1 r.2)

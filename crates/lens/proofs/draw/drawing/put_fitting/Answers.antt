@@ -3,11 +3,10 @@ use Rattle.lens.proofs.draw.drawing.put_fitting.Goals as goal
 
 pub returns-in-Err-clause-gives : goal.returns-in-Err-clause-gives
 returns-in-Err-clause-gives g c notes left =
-    front_fails c.args.network.now c.args.sketch.now c.args.windows.now c.args.clocks.now notes (shown_by g.K.Sink c.args.out.now)
-    (shown_by g.K.Sink c.put_front.new.out) c.in-Err.ensures.draws
+    front_fails c.args.network.now c.args.sketch.now c.args.windows.now c.args.clocks.now notes c.in-Err.ensures.draws
 
 pub returns-clause-gives : goal.returns-clause-gives
 returns-clause-gives g c notes left =
     let shown = shown_by g.K.Sink in
-    front_given c.args.network.now c.args.sketch.now c.args.windows.now c.args.clocks.now notes c.put_back.result (shown c.args.out.now)
-    (shown c.put_front.new.out) (shown c.put_back.new.out) c.in-Ok.ensures.draws (c.put_back.ensures.gives notes left)
+    front_given c.args.network.now c.args.sketch.now c.args.windows.now c.args.clocks.now notes c.put_back.result
+    c.in-Ok.ensures.draws (c.put_back.ensures.gives notes left)

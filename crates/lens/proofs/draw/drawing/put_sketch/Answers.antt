@@ -4,8 +4,8 @@ use Rattle.lens.proofs.draw.drawing.put_sketch.Goals as goal
 pub returns-then-fits-clause-gives : goal.returns-then-fits-clause-gives
 returns-then-fits-clause-gives g c notes view left same came told =
     let shown = shown_by g.K.Sink in
-    fit_answer c.args.network.now view notes c.args.sketch.now c.args.windows.now c.args.clocks.now c.put_fitting.result (shown c.args.out.now)
-    (shown c.put_fitting.new.out) same came told
+    fit_answer c.args.network.now view notes c.args.sketch.now c.args.windows.now c.args.clocks.now
+    c.put_fitting.result same came told
     (sym c.if-fits.ensures) (c.put_fitting.ensures.gives notes left)
 
 pub returns-else-fits-clause-gives : goal.returns-else-fits-clause-gives

@@ -7,7 +7,7 @@ pub returns-then-flag_at : goal.returns-then-flag_at
 returns-then-flag_at c notes end r =
     let flags = c.args.flags.now.items in
     let number = c.args.number in
-    let test : flag_at flags number ≡ true = ap (λ (fs : List Bool). flag_at fs number) (sym c.as_slice.ensures.value) ∙ sym c.if-flag_at.ensures in
+    let test : flag_at flags number ≡ true = ap (λ fs. flag_at fs number) (sym c.as_slice.ensures.value) ∙ sym c.if-flag_at.ensures in
     c.set_flag.ensures
     ∙ ap (with_flag flags) (c.cause_at-cause.ensures notes end r)
     ∙ sym (ap (λ (b : Bool). if b then with_flag flags (cause_at notes number) else flags) test)

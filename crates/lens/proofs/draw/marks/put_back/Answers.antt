@@ -6,7 +6,7 @@ use Rattle.lens.proofs.draw.marks.put_back.Goals as goal
 
 pub records-init : goal.records-init
 records-init g c = record {
-  marked = λ notes left. subst (λ (ms : List Mark). IsMarked c.args.network.now c.args.sketch.now.view c.args.sketch.now.marks notes c.args.first ms
+  marked = λ notes left. subst (λ ms. IsMarked c.args.network.now c.args.sketch.now.view c.args.sketch.now.marks notes c.args.first ms
       (shown_by g.K.Sink c.args.out.now) (shown_by g.K.Sink c.args.out.now)) (sym c.marks-marks.ensures)
       (marked_first c.args.network.now c.args.sketch.now.view c.args.sketch.now.marks notes c.args.first (shown_by g.K.Sink c.args.out.now) left);
   quiet = refl;
@@ -19,13 +19,13 @@ pub put_mark-requires-clause-of_network : goal.put_mark-requires-clause-of_netwo
 put_mark-requires-clause-of_network g c =
     let h = c.records.invariant.marked c.requires.left.0 c.requires.left.1 in
     let next = c.in-Some.ensures h.rest h.left in
-    next_of c.args.network.now c.records.records c.in-Some.note h.rest next.0 h.left next.1
+    next_of c.records.records c.in-Some.note next.0 h.left next.1
 
 pub put_mark-requires-clause-in_range : goal.put_mark-requires-clause-in_range
 put_mark-requires-clause-in_range g c =
     let h = c.records.invariant.marked c.requires.left.0 c.requires.left.1 in
     let next = c.in-Some.ensures h.rest h.left in
-    next_in_range c.args.network.now c.records.records c.in-Some.note h.rest next.0 h.left next.1
+    next_in_range c.records.records c.in-Some.note next.0 h.left next.1
 
 pub records-smaller : goal.records-smaller
 records-smaller g c =
@@ -33,7 +33,7 @@ records-smaller g c =
     let h = c.records.invariant.marked c.requires.left.0 c.requires.left.1 in
     let next = c.in-Some.ensures h.rest h.left in
     left_less network c.records.records c.next.new.self c.in-Some.note next.0
-    (subst (λ (ns : List Note). AreLeft network c.records.records ns) next.1 h.left) next.2
+    (subst (λ ns. AreLeft network c.records.records ns) next.1 h.left) next.2
 
 pub records-preserved : goal.records-preserved
 records-preserved g c =
@@ -63,5 +63,5 @@ returns-in-None-clause-gives g c notes left =
     let last : c.as_bytes.result.now ≡ close_line = c.as_bytes.ensures.value in
     marked_all c.args.network.now c.args.sketch.now.view c.args.sketch.now.marks notes c.records.records c.records.marks.now (shown c.args.out.now) (shown c.records.out) h c.put_last.result
     (shown c.put_last.new.out) (c.in-None.ensures h.rest h.left)
-    (subst (λ (bytes : List ℕ). Gives (line_answer Done bytes) c.put_last.result (shown c.records.out) (shown c.put_last.new.out)) last
+    (subst (λ bytes. Gives (line_answer Done bytes) c.put_last.result (shown c.records.out) (shown c.put_last.new.out)) last
     c.put_last.ensures.gives)

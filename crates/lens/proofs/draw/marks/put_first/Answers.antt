@@ -9,7 +9,7 @@ first_is : (network : Network) (marks : List Mark) (mark : Mark) (note : Note) �
 first_is network [] mark note there = absurd cc
 first_is network (m ∷ marks) mark note there =
     let same : m ≡ mark = cc in
-    ap (λ (x : Mark). mark_line network x note ∷ []) same
+    ap (λ x. mark_line network x note ∷ []) same
 
 pub returns-in-Some-clause-draws : goal.returns-in-Some-clause-draws
 returns-in-Some-clause-draws g c =
@@ -18,6 +18,6 @@ returns-in-Some-clause-draws g c =
     let own = mark_line c.args.network.now c.in-Some.mark.now c.args.note.now in
     let marks = first_is c.args.network.now c.args.marks.now c.in-Some.mark.now c.args.note.now (sym c.in-Some.ensures.value) in
     let line : c.as_slice.result.now ≡ own = c.as_slice.ensures ∙ c.make_mark_line.ensures in
-    subst (λ (ls : List (List ℕ)). Draws ls c.put.result old new) (sym marks)
+    subst (λ ls. Draws ls c.put.result old new) (sym marks)
     (subst (λ (bytes : List ℕ). Draws (bytes ∷ []) c.put.result old new) line
     (draws_one c.as_slice.result.now c.put.result old new c.put.ensures.all c.put.ensures.front c.put.ensures.counted))

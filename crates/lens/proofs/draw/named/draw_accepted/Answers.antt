@@ -12,13 +12,14 @@ returns-in-Some-clause-gives g c =
     let shown = shown_by g.K.Sink in
     named_given c.args.words.now c.args.part c.args.name.now c.args.accepted.now c.in-Some.subject (g.B.Source.left c.args.second.now) c.answer_accepted.result
     (shown c.args.out.now) (shown c.answer_accepted.new.out)
-    (subst (λ (n : Network). Names n c.args.name.now c.in-Some.subject) c.network.ensures.value c.in-Some.ensures.some) c.answer_accepted.ensures.gives
+    (subst (λ n. Names n c.args.name.now c.in-Some.subject) c.network.ensures.value c.in-Some.ensures.some) c.answer_accepted.ensures.gives
 
 pub returns-in-None-clause-gives : goal.returns-in-None-clause-gives
 returns-in-None-clause-gives g c =
     let shown = shown_by g.K.Sink in
-    unknown_given c.args.words.now c.args.part c.args.name.now c.args.accepted.now (g.B.Source.left c.args.second.now) c.put_unknown.result (shown c.args.out.now)
-    (shown c.put_unknown.new.out) (subst (λ (n : Network). IsUnknown n c.args.name.now) c.network.ensures.value c.in-None.ensures.none)
+    unknown_given c.args.words.now c.args.part c.args.name.now c.args.accepted.now
+    (g.B.Source.left c.args.second.now) c.put_unknown.result
+    (subst (λ n. IsUnknown n c.args.name.now) c.network.ensures.value c.in-None.ensures.none)
     c.put_unknown.ensures.gives
 
 pub returns-in-Some-clause-statuses : goal.returns-in-Some-clause-statuses
@@ -27,7 +28,7 @@ returns-in-Some-clause-statuses g c = named_audits c.answer_accepted.result c.an
 pub returns-in-Some-clause-unread : goal.returns-in-Some-clause-unread
 returns-in-Some-clause-unread g c unknown =
     absurd (not_unknown c.args.accepted.now c.args.name.now c.in-Some.subject
-    (subst (λ (n : Network). Names n c.args.name.now c.in-Some.subject) c.network.ensures.value c.in-Some.ensures.some) unknown)
+    (subst (λ n. Names n c.args.name.now c.in-Some.subject) c.network.ensures.value c.in-Some.ensures.some) unknown)
 
 pub returns-in-None-clause-unread : goal.returns-in-None-clause-unread
 returns-in-None-clause-unread g c unknown = refl

@@ -24,8 +24,8 @@ returns-clause-gives g c notes end of =
       records = records;
       lanes = lanes;
       are_kept = c.in-Ok.ensures notes end of;
-      are_lanes = subst (λ (s : Span). AreLanes network s records notes lanes) c.span_of-span.ensures both.1;
-      is = subst (λ (s : Span). IsViewAnswer (view_of words s records lanes) network notes end a) c.span_of-span.ensures
-          (subst (λ (rs : List Bool). IsViewAnswer (view_of words span rs lanes) network notes end a) both.0
+      are_lanes = subst (λ s. AreLanes network s records notes lanes) c.span_of-span.ensures both.1;
+      is = subst (λ s. IsViewAnswer (view_of words s records lanes) network notes end a) c.span_of-span.ensures
+          (subst (λ rs. IsViewAnswer (view_of words span rs lanes) network notes end a) both.0
           (subst (λ (t : List ℕ). IsViewAnswer (record { span = span; kept = Some kept; title = t }) network notes end a) c.of-title.ensures is));
     }) (c.draw_known.ensures.gives notes end of)

@@ -12,7 +12,7 @@ clocks-preserved g c =
       puts =
           listed_more (λ told. some_line network (gauge_of network plan clocks told)) clocks.told c.told-told.result.now c.told-told.ensures
           c.clocks.clock-index c.clocks-test.true _ (shown c.args.out.now) (shown c.clocks.out) (shown c.put_some.new.out) c.clocks.invariant.puts
-          (subst (λ (e : Option Element). PutsLines (some_line network e) (shown c.clocks.out) (shown c.put_some.new.out)) c.gauge_of-element.ensures.value
+          (subst (λ e. PutsLines (some_line network e) (shown c.clocks.out) (shown c.put_some.new.out)) c.gauge_of-element.ensures.value
           c.in-Ok.ensures.draws);
       quiet = c.in-Ok.ensures.faults ∙ c.clocks.invariant.quiet;
     }
@@ -25,5 +25,5 @@ returns-in-Err-clause-draws g c =
     let clocks = c.args.clocks.now in
     listed_fails (λ told. some_line network (gauge_of network plan clocks told)) clocks.told c.told-told.result.now c.told-told.ensures
     c.clocks.clock-index c.clocks-test.true _ (shown c.args.out.now) (shown c.clocks.out) (shown c.put_some.new.out) c.clocks.invariant.puts
-    (subst (λ (e : Option Element). PutFails (some_line network e) (shown c.clocks.out) (shown c.put_some.new.out)) c.gauge_of-element.ensures.value
+    (subst (λ e. PutFails (some_line network e) (shown c.clocks.out) (shown c.put_some.new.out)) c.gauge_of-element.ensures.value
     c.in-Err.ensures.draws)

@@ -11,9 +11,9 @@ lanes-preserved g c =
     let layer = c.args.layer in
     record {
       puts =
-          places_more (λ place. some_line network (on_lane layer network plan place)) c.lanes.place (shown c.args.out.now) (shown c.lanes.out)
-          (shown c.put_some.new.out) c.lanes.invariant.puts
-          (subst (λ (e : Option Element). PutsLines (some_line network e) (shown c.lanes.out) (shown c.put_some.new.out)) c.on_lane-element.ensures.value
+          places_more (λ place. some_line network (on_lane layer network plan place)) c.lanes.place
+          c.lanes.invariant.puts
+          (subst (λ e. PutsLines (some_line network e) (shown c.lanes.out) (shown c.put_some.new.out)) c.on_lane-element.ensures.value
           c.in-Ok.ensures.draws);
       quiet = c.in-Ok.ensures.faults ∙ c.lanes.invariant.quiet;
     }
@@ -24,8 +24,7 @@ returns-in-Err-clause-draws g c =
     let network = c.args.network.now in
     let plan = c.args.sketch.now in
     let layer = c.args.layer in
-    places_fail (λ place. some_line network (on_lane layer network plan place)) c.lanes.place (length network.device) (shown c.args.out.now)
-    (shown c.lanes.out) (shown c.put_some.new.out)
-    (subst (λ (ds : List Device). c.lanes.place < length ds) c.as_slice-place-end.ensures c.lanes-test.true) c.lanes.invariant.puts
-    (subst (λ (e : Option Element). PutFails (some_line network e) (shown c.lanes.out) (shown c.put_some.new.out)) c.on_lane-element.ensures.value
+    places_fail (λ place. some_line network (on_lane layer network plan place)) c.lanes.place (length network.device)
+    (subst (λ ds. c.lanes.place < length ds) c.as_slice-place-end.ensures c.lanes-test.true) c.lanes.invariant.puts
+    (subst (λ e. PutFails (some_line network e) (shown c.lanes.out) (shown c.put_some.new.out)) c.on_lane-element.ensures.value
     c.in-Err.ensures.draws)

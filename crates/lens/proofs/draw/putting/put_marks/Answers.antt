@@ -12,7 +12,7 @@ drawn-preserved g c =
       puts =
           listed_more (λ mark. some_line network (on_mark layer network plan mark)) plan.marks c.marks-marks.result.now c.marks-marks.ensures
           c.drawn.mark-index c.drawn-test.true _ (shown c.args.out.now) (shown c.drawn.out) (shown c.put_some.new.out) c.drawn.invariant.puts
-          (subst (λ (e : Option Element). PutsLines (some_line network e) (shown c.drawn.out) (shown c.put_some.new.out)) c.on_mark-element.ensures.value
+          (subst (λ e. PutsLines (some_line network e) (shown c.drawn.out) (shown c.put_some.new.out)) c.on_mark-element.ensures.value
           c.in-Ok.ensures.draws);
       quiet = c.in-Ok.ensures.faults ∙ c.drawn.invariant.quiet;
     }
@@ -25,5 +25,5 @@ returns-in-Err-clause-draws g c =
     let layer = c.args.layer in
     listed_fails (λ mark. some_line network (on_mark layer network plan mark)) plan.marks c.marks-marks.result.now c.marks-marks.ensures
     c.drawn.mark-index c.drawn-test.true _ (shown c.args.out.now) (shown c.drawn.out) (shown c.put_some.new.out) c.drawn.invariant.puts
-    (subst (λ (e : Option Element). PutFails (some_line network e) (shown c.drawn.out) (shown c.put_some.new.out)) c.on_mark-element.ensures.value
+    (subst (λ e. PutFails (some_line network e) (shown c.drawn.out) (shown c.put_some.new.out)) c.on_mark-element.ensures.value
     c.in-Err.ensures.draws)

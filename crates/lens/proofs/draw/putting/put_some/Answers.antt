@@ -9,6 +9,6 @@ returns-in-Some-clause-draws g c =
     let new = shown_by g.K.Sink c.put.new.self in
     let network = c.args.network.now in
     let line : c.as_slice.result.now ≡ element_line network c.in-Some.element = c.as_slice.ensures ∙ c.make_element_line.ensures in
-    subst (λ (e : Option Element). Draws (some_line network e) c.put.result old new) (sym c.in-Some.is)
+    subst (λ e. Draws (some_line network e) c.put.result old new) (sym c.in-Some.is)
     (subst (λ (bytes : List ℕ). Draws (bytes ∷ []) c.put.result old new) line
     (draws_one c.as_slice.result.now c.put.result old new c.put.ensures.all c.put.ensures.front c.put.ensures.counted))

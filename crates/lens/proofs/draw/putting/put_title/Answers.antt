@@ -7,6 +7,6 @@ returns-clause-draws g c =
     let old = shown_by g.K.Sink c.args.out.now in
     let new = shown_by g.K.Sink c.put.new.self in
     let line : c.as_slice.result.now ≡ title_line c.args.sketch.now.view.title =
-    c.as_slice.ensures ∙ c.make_title_line.ensures ∙ ap (λ (t : List ℕ). title_line t) c.title.ensures in
+    c.as_slice.ensures ∙ c.make_title_line.ensures ∙ ap (λ t. title_line t) c.title.ensures in
     subst (λ (bytes : List ℕ). Draws (bytes ∷ []) c.put.result old new) line
     (draws_one c.as_slice.result.now c.put.result old new c.put.ensures.all c.put.ensures.front c.put.ensures.counted)

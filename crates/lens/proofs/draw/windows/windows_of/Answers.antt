@@ -36,4 +36,4 @@ returns c befallen hs index =
     c.frames.invariant befallen hs index
     ∙ ap (windows_in network clock)
     (take_all c.frames.mark-index c.args.sketch.now.marks
-    (subst (λ (ms : List Mark). length ms ≤ c.frames.mark-index) c.marks-marks.ensures c.frames-test.false))
+    (subst (λ ms. length ms ≤ c.frames.mark-index) c.marks-marks.ensures c.frames-test.false))

@@ -6,7 +6,7 @@ use Rattle.lens.proofs.events.putting.put_events.Goals as goal
 
 pub events-init : goal.events-init
 events-init g c = record {
-  puts = puts_none c.args.accepted.now c.args.seed c.args.cycles c.new-storm.result (shown_by g.K.Sink c.args.out.now) c.new-storm.ensures;
+  puts = puts_none (shown_by g.K.Sink c.args.out.now) c.new-storm.ensures;
   quiet = refl;
 }
 
@@ -14,7 +14,7 @@ pub print-requires-clause-of_network : goal.print-requires-clause-of_network
 print-requires-clause-of_network g c =
     let h = c.events.invariant.puts in
     let gives = c.in-Some.ensures c.args.accepted.now c.args.seed c.args.cycles h.events h.given in
-    subst (λ (n : Network). IsOfNetwork n c.in-Some.event.what) (sym c.network-network.ensures.value) gives.0.of_network
+    subst (λ n. IsOfNetwork n c.in-Some.event.what) (sym c.network-network.ensures.value) gives.0.of_network
 
 pub events-smaller : goal.events-smaller
 events-smaller g c =
@@ -29,7 +29,7 @@ events-preserved g c =
     let h = c.events.invariant.puts in
     let event = c.in-Some.event in
     let gives = c.in-Some.ensures network c.args.seed c.args.cycles h.events h.given in
-    let whole = subst (λ (n : Network). Appends (g.K.Sink.written c.events.out) (g.K.Sink.written c.print.new.out) (event_line n event))
+    let whole = subst (λ n. Appends (g.K.Sink.written c.events.out) (g.K.Sink.written c.print.new.out) (event_line n event))
     c.network-network.ensures.value c.in-Ok.ensures.all in
     record {
       puts = puts_more network c.args.seed c.args.cycles c.events.storm (shown c.args.out.now) (shown c.events.out) h event c.next.new.self
@@ -44,7 +44,7 @@ returns-in-Err-clause-gives g c =
     let h = c.events.invariant.puts in
     let event = c.in-Some.event in
     let gives = c.in-Some.ensures network c.args.seed c.args.cycles h.events h.given in
-    let front = subst (λ (n : Network). AppendsFront (g.K.Sink.written c.events.out) (g.K.Sink.written c.print.new.out) (event_line n event))
+    let front = subst (λ n. AppendsFront (g.K.Sink.written c.events.out) (g.K.Sink.written c.print.new.out) (event_line n event))
     c.network-network.ensures.value c.in-Err.ensures.front in
     let stormy : IsStormy network c.args.cycles = record {
       few = c.requires.most;

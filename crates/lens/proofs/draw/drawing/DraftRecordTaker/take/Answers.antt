@@ -3,5 +3,5 @@ use Rattle.lens.proofs.draw.drawing.DraftRecordTaker.take.Goals as goal
 
 pub returns : goal.returns
 returns c octets notes before begun next holds =
-    drafted_more c.args.network.now begun.sketch before c.args.self.now (record { sketch = c.take.new.self; clocks = c.take-2.new.self }) c.args.note.now
-    holds c.in_ok-take.ensures (c.in_ok-take-2.ensures ∙ ap (λ (s : Span). clocks_with s c.args.self.now.clocks c.args.note.now) c.span.ensures)
+    drafted_more (record { sketch = c.take.new.self; clocks = c.take-2.new.self }) c.args.note.now
+    holds c.in_ok-take.ensures (c.in_ok-take-2.ensures ∙ ap (λ s. clocks_with s c.args.self.now.clocks c.args.note.now) c.span.ensures)

@@ -9,11 +9,11 @@ returns c octets notes before begun next so =
     let note = c.args.note.now in
     let flags = c.args.self.now.flags.items in
     let flag : c.own_flag-flag.result ≡ own_flag network begun.subject flags note.body =
-    c.own_flag-flag.ensures ∙ ap (λ (fs : List Bool). own_flag network c.args.self.now.subject fs note.body) c.as_slice.ensures.value
-    ∙ ap (λ (s : Subject). own_flag network s flags note.body) so.0 in
+    c.own_flag-flag.ensures ∙ ap (λ fs. own_flag network c.args.self.now.subject fs note.body) c.as_slice.ensures.value
+    ∙ ap (λ s. own_flag network s flags note.body) so.0 in
     let more : c.push_flag.new.flags.items ≡ flags ++ own_flag network begun.subject flags note.body ∷ [] =
     c.in_ok-push_flag.ensures ∙ ap (λ (b : Bool). flags ++ b ∷ []) flag in (
       so.0,
-      subst (λ (fs : List Bool). AreOwn network begun.subject notes (before ++ note ∷ []) fs) (sym more)
-          (own_more network begun.subject octets notes before note flags c.requires.named next so.1),
+      subst (λ fs. AreOwn network begun.subject notes (before ++ note ∷ []) fs) (sym more)
+          (own_more c.requires.named next so.1),
     )

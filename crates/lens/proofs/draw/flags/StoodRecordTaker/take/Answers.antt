@@ -14,12 +14,12 @@ returns c octets notes before begun next so =
     let records = begun.records.items in
     let drawn : c.is_drawn-drawn.result ≡ (holds begun.span (moment note) && flag_at records note.number) =
     c.is_drawn-drawn.ensures
-    ∙ ap (λ (rs : List Bool). holds span (moment note) && flag_at rs note.number) (c.as_slice.ensures.value ∙ so.1)
-    ∙ ap (λ (s : Span). holds s (moment note) && flag_at records note.number) so.0 in
+    ∙ ap (λ rs. holds span (moment note) && flag_at rs note.number) (c.as_slice.ensures.value ∙ so.1)
+    ∙ ap (λ s. holds s (moment note) && flag_at records note.number) so.0 in
     let set = c.set_lane.ensures
     ∙ ap (λ (d : DeviceId). if c.is_drawn-drawn.result then with_at lanes d.0 true else lanes) c.scene_of.ensures in (
       so.0,
       so.1,
-      subst (λ (ls : List Bool). AreLanes network begun.span records (before ++ note ∷ []) ls) (sym set)
+      subst (λ ls. AreLanes network begun.span records (before ++ note ∷ []) ls) (sym set)
           (lanes_with network begun.span records before note lanes c.is_drawn-drawn.result drawn so.2),
     )
