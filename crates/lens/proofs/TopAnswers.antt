@@ -67,7 +67,8 @@ answer_one one words (Some Schedule) range octets report a b p q =
     a b p q
 answer_one one words (Some Plan) range octets messages a b p q =
     network_answer_one one (IsPlanFor messages octets) octets
-    (λ network accepted. plan_one_for messages octets network (rules_give_trees network (shape_rules network accepted.rules))) a b p q
+    (λ network accepted. plan_one_for {text = messages} octets
+    (rules_give_trees network (shape_rules network accepted.rules))) a b p q
 answer_one one words (Some (Report question)) range octets report a b p q =
     report_one one report_limit (IsQuestionAnswer words question) (question_one words question) report a b p q
 answer_one one words (Some (DrawNamed part name)) range octets report a b p q =

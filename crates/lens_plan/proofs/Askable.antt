@@ -26,14 +26,13 @@ record IsThen {A B : Type 0} (first : Reader A) (next : A → Reader B) (ws : Wo
   pub one : first ws ≡ Ok (x, mid)
   pub two : next x mid ≡ Ok (y, left)
 
-then_by : {A B : Type 0} (first : Reader A) (next : A → Reader B) (ws : Words) (y : B) (left : Words) (r : Read (A × Words)) → first ws ≡ r
-    → and_then r next ≡ Ok (y, left) → IsThen first next ws y left
-then_by first next ws y left (Ok (x, mid)) is read = record { x = x; mid = mid; one = is; two = read }
-then_by first next ws y left (Err fault) is read = absurd cc
+module _ {A B : Type 0} (first : Reader A) (next : A → Reader B) (ws : Words) (y : B) (left : Words) where
+  then_by : (r : Read (A × Words)) → first ws ≡ r → and_then r next ≡ Ok (y, left) → IsThen first next ws y left
+  then_by (Ok (x, mid)) is read = record { x = x; mid = mid; one = is; two = read }
+  then_by (Err fault) is read = absurd cc
 
-then_of : {A B : Type 0} (first : Reader A) (next : A → Reader B) (ws : Words) (y : B) (left : Words) → (first >>= next) ws ≡ Ok (y, left)
-    → IsThen first next ws y left
-then_of first next ws y left read = then_by first next ws y left (first ws) refl read
+  then_of : (first >>= next) ws ≡ Ok (y, left) → IsThen first next ws y left
+  then_of read = then_by (first ws) refl read
 
 abbrev ok_or_else : {A : Type 0} → A → Read A → A
 ok_or_else d (Ok x) = x
@@ -61,18 +60,19 @@ some_by (Some y) fault x read = ap (λ z. Some z) (ap (ok_or_else y) read)
 record IsOptional {A : Type 0} (read : Reader A) (P : A → Type 0) : Type 0 where
   pub each : (ws : Words) (x : A) (left : Words) → read ws ≡ Ok (x, left) → P x
 
-optional_by : {A : Type 0} (read : Reader A) (P : A → Type 0) (key : List ℕ) (ws : Words) (b : Bool) (o : Option A) (left : Words) → IsOptional read P
-    → cond b (some_read (read (behind_key key ws))) (Ok (None, ws)) ≡ Ok (o, left) → IfSome o P
-optional_by read P key ws false o left of is = subst (λ (x : Option _). IfSome x P) (ap (value_or None) is) tt
-optional_by {A} read P key ws true o left of is = by (read (behind_key key ws)) refl is
+optional_by : {A : Type 0} {read : Reader A} (P : A → Type 0) (key : List ℕ) (ws : Words) (b : Bool) (o : Option A)
+    (left : Words) → IsOptional read P → cond b (some_read (read (behind_key key ws))) (Ok (None, ws)) ≡ Ok (o, left)
+    → IfSome o P
+optional_by P key ws false o left of is = subst (λ (x : Option _). IfSome x P) (ap (value_or None) is) tt
+optional_by {A} {read} P key ws true o left of is = by (read (behind_key key ws)) refl is
   where
     by : (r : Read (A × Words)) → read (behind_key key ws) ≡ r → some_read r ≡ Ok (o, left) → IfSome o P
     by (Ok (x, rest)) at is = subst (λ (y : Option A). IfSome y P) (ap (value_or None) is) (of.each (behind_key key ws) x rest at)
     by (Err fault) at is = absurd cc
 
-optional_of : {A : Type 0} (read : Reader A) (P : A → Type 0) (key : List ℕ) (ws : Words) (o : Option A) (left : Words) → IsOptional read P
-    → optional key read ws ≡ Ok (o, left) → IfSome o P
-optional_of read P key ws o left of is = optional_by read P key ws (begins_with key ws) o left of is
+optional_of : {A : Type 0} {read : Reader A} (P : A → Type 0) (key : List ℕ) (ws : Words) (o : Option A)
+    (left : Words) → IsOptional read P → optional key read ws ≡ Ok (o, left) → IfSome o P
+optional_of P key ws o left of is = optional_by P key ws (begins_with key ws) o left of is
 
 -- ---- numbers
 
@@ -236,7 +236,8 @@ head_of network earlier ws h left read =
     record {
       name = subst (λ (x : Head). name_is_taken network earlier x.name ≡ false) same (name_of network earlier ws one.x one.mid one.one);
       id = subst (λ (x : Head). IfSome x.id (λ n. id_is_taken network earlier n ≡ false)) same
-          (optional_of (id network earlier) (λ n. id_is_taken network earlier n ≡ false) (codes "id") one.mid two.x two.mid
+          (optional_of {read = id network earlier} (λ n. id_is_taken network earlier n ≡ false) (codes "id") one.mid
+          two.x two.mid
           (record { each = λ us x rest at. id_of network earlier us x rest at }) two.one);
     }
 
@@ -286,7 +287,7 @@ timing_of ws t left read =
     record {
       period = subst (λ (x : Timing). Contains periods x.period) same among;
       phase = subst (λ (x : Timing). IfSome x.phase (λ n. n < x.period)) same
-          (optional_of (number 0 (two.x - 1)) (λ n. n < two.x) (codes "phase") two.mid three.x three.mid
+          (optional_of {read = number 0 (two.x - 1)} (λ n. n < two.x) (codes "phase") two.mid three.x three.mid
           (record { each = λ us n rest at. (let bounds = number_of 0 (two.x - 1) us n rest at in let most = bounds.1 in omega (arith, most, some)) }) three.one);
     }
 
@@ -345,7 +346,7 @@ new_device network from earlier word (Some e) d is read = by (e.0 == from.0 || l
 
 others_more : (network : Network) (from : DeviceId) (earlier : List DeviceId) (d : DeviceId) → AreOthers network from earlier
     → IsEndSystem network d × (d ≡ from → ⊥) → AreOthers network from (earlier ++ d ∷ [])
-others_more network from [] d all one r (zero, within, is) = subst (λ (x : DeviceId). IsEndSystem network x × (x ≡ from → ⊥)) is one
+others_more network from [] d all one r (zero, within, is) = subst (λ x. IsEndSystem network x × (x ≡ from → ⊥)) is one
 others_more network from [] d all one r (suc k, within, is) = absurd (omega (arith, within))
 others_more network from (e ∷ earlier) d all one r (zero, within, is) = all r (0, omega arith, is)
 others_more network from (e ∷ earlier) d all one r (suc k, within, is) =
@@ -469,7 +470,7 @@ module _ (network : Network) (earlier : List Message) where
       let three = then_of (sender network) (behind_sender one.x two.x) two.mid m left two.two in
       let four = then_of (some_receivers network three.x) (λ to. give (with_receivers one.x two.x three.x to)) three.mid m left three.two in
       let same : with_receivers one.x two.x three.x four.x ≡ m = ap (value_or m) four.two in
-      subst (λ (x : Message). IsAskable network x × IsOther earlier x) same
+      subst (λ x. IsAskable network x × IsOther earlier x) same
       (made one.x two.x three.x four.x (head_of network earlier ws one.x one.mid one.one) (timing_of one.mid two.x two.mid two.one)
       (sender_of network two.mid three.x three.mid three.one) (some_of network three.x three.mid four.x four.mid four.one))
 
@@ -498,9 +499,9 @@ none_askable network = record {
   ids = λ i j m n x y less at there gives too. absurd (grind (arith, at));
 }
 
-one_more : (network : Network) (ms : List Message) (m : Message) → AreAskable network ms → IsAskable network m × IsOther ms m
-    → AreAskable network (ms ++ m ∷ [])
-one_more network ms m all own = record {
+one_more : {network : Network} {ms : List Message} {m : Message} → AreAskable network ms
+    → IsAskable network m × IsOther ms m → AreAskable network (ms ++ m ∷ [])
+one_more {network} {ms} {m} all own = record {
   each = λ j n at. elim (pushed ms m n j at) [
     | inl old ↦ all.each j n old
     | inr last ↦ subst (IsAskable network) last.1 own.0
@@ -551,7 +552,7 @@ module _ (network : Network) where
   all_from number earlier (line ∷ lines) ms all read =
       by_length (nat_lt line_limit (length line)) read
       (λ more. all_from (number + 1) earlier lines ms all more)
-      (λ m own more. all_from (number + 1) (earlier ++ m ∷ []) lines ms (one_more network earlier m all own) more)
+      (λ m own more. all_from (number + 1) (earlier ++ m ∷ []) lines ms (one_more all own) more)
     where
       by_message : (r : Read Message) → message_read network earlier line ≡ r
           → with_message number earlier r (λ ns. messages_from network (number + 1) ns lines) ≡ Ok ms

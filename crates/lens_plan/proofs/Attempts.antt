@@ -43,11 +43,11 @@ itself : (a : Attempt) → ComesFirst a a
 unfolding Less
 itself a = inr (less_same a.score.short a.score.latest, omega arith)
 
-pub first_best : (trial : Trial) (a : Attempt) → IsAttempt trial 0 a → IsBestBelow trial 1 a
-first_best trial a is = record {
+pub first_best : {trial : Trial} {a : Attempt} → IsAttempt trial 0 a → IsBestBelow trial 1 a
+first_best {trial} {a} is = record {
   within = let phase = is.phase_is in omega (arith, phase);
-  own = subst (λ (n : ℕ). IsAttempt trial n a) (sym is.phase_is) is;
-  best = λ phase below. (a, subst (λ (n : ℕ). IsAttempt trial n a) (let e : 0 ≡ phase = omega (arith, below) in e) is, itself a);
+  own = subst (λ n. IsAttempt trial n a) (sym is.phase_is) is;
+  best = λ phase below. (a, subst (λ n. IsAttempt trial n a) (let e : 0 ≡ phase = omega (arith, below) in e) is, itself a);
 }
 
 -- the new one is better
@@ -58,33 +58,33 @@ better_first a b c better (inl first) =
 better_first a b c better (inr (not, early)) =
     inl (less_not a.score.short a.score.latest b.score.short b.score.latest c.score.short c.score.latest better not)
 
-pub best_new : (trial : Trial) (n : ℕ) (best other : Attempt) → IsBestBelow trial n best → IsAttempt trial n other → IsBetter other best
-    → IsBestBelow trial (n + 1) other
-best_new trial n best other before is better = record {
-  within = let phase = is.phase_is in omega (arith, phase);
-  own = subst (λ (k : ℕ). IsAttempt trial k other) (sym is.phase_is) is;
-  best = λ phase below.
-      elim (cases_lt phase n) [
-        | inl lt ↦
-            let found = before.best phase lt in
-            (found.0, found.1, better_first other best found.0 better found.2)
-        | inr ge ↦ (other, subst (λ (k : ℕ). IsAttempt trial k other) (let e : n ≡ phase = omega (arith, below, ge) in e) is, itself other)
-      ];
-}
+module _ {trial : Trial} {n : ℕ} {best other : Attempt} (before : IsBestBelow trial n best)
+    (is : IsAttempt trial n other) where
+  pub best_new : IsBetter other best → IsBestBelow trial (n + 1) other
+  best_new better = record {
+    within = let phase = is.phase_is in omega (arith, phase);
+    own = subst (λ k. IsAttempt trial k other) (sym is.phase_is) is;
+    best = λ phase below.
+        elim (cases_lt phase n) [
+          | inl lt ↦
+              let found = before.best phase lt in
+              (found.0, found.1, better_first other best found.0 better found.2)
+          | inr ge ↦ (other, subst (λ k. IsAttempt trial k other) (let e : n ≡ phase = omega (arith, below, ge) in e) is, itself other)
+        ];
+  }
 
--- it is not
-pub best_old : (trial : Trial) (n : ℕ) (best other : Attempt) → IsBestBelow trial n best → IsAttempt trial n other → (IsBetter other best → ⊥)
-    → IsBestBelow trial (n + 1) best
-best_old trial n best other before is not = record {
-  within = let within = before.within in omega (arith, within);
-  own = before.own;
-  best = λ phase below.
-      elim (cases_lt phase n) [
-        | inl lt ↦ before.best phase lt
-        | inr ge ↦ (
-          other,
-          subst (λ (k : ℕ). IsAttempt trial k other) (let e : n ≡ phase = omega (arith, below, ge) in e) is,
-          inr (not, (let within = before.within in let phase = is.phase_is in omega (arith, within, phase))),
-        )
-      ];
-}
+  -- it is not
+  pub best_old : (IsBetter other best → ⊥) → IsBestBelow trial (n + 1) best
+  best_old not = record {
+    within = let within = before.within in omega (arith, within);
+    own = before.own;
+    best = λ phase below.
+        elim (cases_lt phase n) [
+          | inl lt ↦ before.best phase lt
+          | inr ge ↦ (
+            other,
+            subst (λ k. IsAttempt trial k other) (let e : n ≡ phase = omega (arith, below, ge) in e) is,
+            inr (not, (let within = before.within in let phase = is.phase_is in omega (arith, within, phase))),
+          )
+        ];
+  }

@@ -116,7 +116,7 @@ module _ {H R : Type 0} (test : H → Bool) (passes : R → Bool) (key : R → �
       ap (count_by test) (sym more) ∙ parts in
       let before = count_below n in
       let one = one_of n (found n) refl in
-      subst (λ (k : ℕ). count_by test (filter_map found (range_with_len 0 k)) ≤ count_by (below k) rs) (let e : n + 1 ≡ suc n = omega arith in e)
+      subst (λ k. count_by test (filter_map found (range_with_len 0 k)) ≤ count_by (below k) rs) (let e : n + 1 ≡ suc n = omega arith in e)
       (omega (arith, whole, before, one))
 
   pub count_found : (n : ℕ) → count_by test (filter_map found (range_with_len 0 n)) ≤ count_by passes rs

@@ -63,7 +63,7 @@ pub record HasTrees (network : Network) : Type 0 where
   pub one_cm : (channel : Channel) (cm other : DeviceId) → IsCmOf network channel cm → IsCmOf network channel other → cm ≡ other
 
 cm_no_end : (r : Role) → r ≡ Cm → is_end_system r ≡ true → ⊥
-cm_no_end r e h = false≢true (subst (λ (x : Role). is_end_system x ≡ true) e h)
+cm_no_end r e h = false≢true (subst (λ x. is_end_system x ≡ true) e h)
 
 module _ (network : Network) (trees : HasTrees network) (channel : Channel) where
   -- a path is that of one device
@@ -109,7 +109,7 @@ module _ (network : Network) (trees : HasTrees network) (channel : Channel) wher
           link = o.0;
           at = o.1;
           on = o.2.1;
-          target = subst (λ (x : DeviceId). IsPath network channel x (link ∷ rest)) (sym o.2.0) own;
+          target = subst (λ x. IsPath network channel x (link ∷ rest)) (sym o.2.0) own;
           earlier = rest;
           source = o.2.2;
           way = way_down network channel trees.tree from link rest off;
@@ -128,7 +128,7 @@ module _ (network : Network) (trees : HasTrees network) (channel : Channel) wher
           on = o.2.1;
           target = o.2.2;
           earlier = link ∷ to;
-          source = subst (λ (x : DeviceId). IsPath network channel x (link ∷ to)) (sym o.2.0) own.1;
+          source = subst (λ x. IsPath network channel x (link ∷ to)) (sym o.2.0) own.1;
           way = way_up network channel trees.tree sender own.0 from link to path own.1 on;
           kind = inl (refl, on, refl);
         }
@@ -146,7 +146,7 @@ module _ (network : Network) (trees : HasTrees network) (channel : Channel) wher
       where
         on_it : (before : List LinkId) (link : LinkId) (rest : List LinkId) → from ≡ before ++ link ∷ rest → is_on from link ≡ true
         on_it before link rest whole =
-            ap (λ (ls : List LinkId). is_on ls link) whole ∙ on_behind before link (link ∷ rest) (on_first link rest)
+            ap (λ ls. is_on ls link) whole ∙ on_behind before link (link ∷ rest) (on_first link rest)
 
     -- the way to a device is none, or that to another and a step
     pub step_to : (d : DeviceId) (to : List LinkId) → IsPath network channel d to → (to ≡ from) ⊎ IsStep to
@@ -204,9 +204,9 @@ module _ (network : Network) (trees : HasTrees network) (channel : Channel) wher
                 ⊎ ((before.hop.way ≡ Down) × (is_on from before.hop.link ≡ false) × (s.earlier ≡ before.hop.link ∷ before.earlier))
                 → IsSwitchOf network channel (source_by s.hop.way s.link)
             by (inr (down, off, rest)) other =
-                subst (λ (w : Way). IsSwitchOf network channel (source_by w s.link)) (sym down) s.on
+                subst (λ w. IsSwitchOf network channel (source_by w s.link)) (sym down) s.on
             by (inl (up, on, rest)) (inl (too, also, more)) =
-                subst (IsSwitchOf network channel) there (subst (λ (w : Way). IsSwitchOf network channel (target_by w before.link)) (sym too) before.on)
+                subst (IsSwitchOf network channel) there (subst (λ w. IsSwitchOf network channel (target_by w before.link)) (sym too) before.on)
             by (inl (up, on, rest)) (inr (down, off, more)) =
                 let same = first_one s.hop.link before.hop.link to before.earlier (sym rest ∙ more) in
                 absurd (false≢true (sym off ∙ (ap (is_on from) (sym same) ∙ on)))
@@ -218,11 +218,11 @@ module _ (network : Network) (trees : HasTrees network) (channel : Channel) wher
             let late = at.offset.not_before in
             elim (step_to (source_by s.hop.way s.link) s.earlier s.source) [
               | inl same ↦
-                  let none : qs ≡ [] = subst (λ (hs : List Hop). IsPlacedWay trial start hs qs) (ap way_to same ∙ none_to_self) placed in
+                  let none : qs ≡ [] = subst (λ hs. IsPlacedWay trial start hs qs) (ap way_to same ∙ none_to_self) placed in
                   let sends = one_of_path (source_by s.hop.way s.link) sender from (subst (IsPath network channel (source_by s.hop.way s.link)) same s.source) path in
-                  inl (source ∙ sends, subst (λ (rs : List Placed). after start rs ≤ p.offset) none late, none)
+                  inl (source ∙ sends, subst (λ rs. after start rs ≤ p.offset) none late, none)
               | inr before ↦
-                  let it = placed_split trial start (way_to before.earlier) before.hop qs (subst (λ (hs : List Hop). IsPlacedWay trial start hs qs) before.way placed) in
+                  let it = placed_split trial start (way_to before.earlier) before.hop qs (subst (λ hs. IsPlacedWay trial start hs qs) before.way placed) in
                   let q = it.1 in
                   let hop = it.4.is in
                   let there = one_of_path (target_by before.hop.way before.link) (source_by s.hop.way s.link) s.earlier before.target s.source in
@@ -259,8 +259,8 @@ module _ (network : Network) (trees : HasTrees network) (channel : Channel) wher
             before = qs;
             placed = placed;
             behind = behind_of to s qs p before at;
-            clear = subst (λ (h : Hop). StandsClear (gamma_of trial.network.now) (slot_of trial h) p.offset trial.rows.now) (sym at.is) at.offset.clear;
-            end = at.end ∙ ap (λ (h : Hop). end_of trial h p.offset) (sym at.is);
+            clear = subst (λ h. StandsClear (gamma_of trial.network.now) (slot_of trial h) p.offset trial.rows.now) (sym at.is) at.offset.clear;
+            end = at.end ∙ ap (λ h. end_of trial h p.offset) (sym at.is);
             kind = kind_of to s p at.is;
           },
           refl,
@@ -283,10 +283,10 @@ module _ (network : Network) (trees : HasTrees network) (channel : Channel) wher
         courses (suc n) d to ps long own placed =
             elim (step_to d to own) [
               | inl same ↦
-                  let none : ps ≡ [] = subst (λ (hs : List Hop). IsPlacedWay trial start hs ps) (ap way_to same ∙ none_to_self) placed in
+                  let none : ps ≡ [] = subst (λ hs. IsPlacedWay trial start hs ps) (ap way_to same ∙ none_to_self) placed in
                   subst (λ (xs : List Placed). All (IsCourseIn xs) xs) (sym none) (All-nil (IsCourseIn []))
               | inr s ↦
-                  let it = placed_split trial start (way_to s.earlier) s.hop ps (subst (λ (hs : List Hop). IsPlacedWay trial start hs ps) s.way placed) in
+                  let it = placed_split trial start (way_to s.earlier) s.hop ps (subst (λ hs. IsPlacedWay trial start hs ps) s.way placed) in
                   let longer = ap length s.way in
                   let parts = length-append (way_to s.earlier) (s.hop ∷ []) in
                   let earlier = courses n (source_by s.hop.way s.link) s.earlier it.0 (omega (arith, long, longer, parts)) s.source it.3 in
@@ -326,10 +326,10 @@ module _ (network : Network) (trees : HasTrees network) (channel : Channel) wher
         targets (suc n) d to ps long own placed =
             elim (step_to d to own) [
               | inl same ↦
-                  let none : ps ≡ [] = subst (λ (hs : List Hop). IsPlacedWay trial start hs ps) (ap way_to same ∙ none_to_self) placed in
+                  let none : ps ≡ [] = subst (λ hs. IsPlacedWay trial start hs ps) (ap way_to same ∙ none_to_self) placed in
                   subst (All (EntersIt d)) (sym none) (All-nil (EntersIt d))
               | inr s ↦
-                  let it = placed_split trial start (way_to s.earlier) s.hop ps (subst (λ (hs : List Hop). IsPlacedWay trial start hs ps) s.way placed) in
+                  let it = placed_split trial start (way_to s.earlier) s.hop ps (subst (λ hs. IsPlacedWay trial start hs ps) s.way placed) in
                   let longer = ap length s.way in
                   let parts = length-append (way_to s.earlier) (s.hop ∷ []) in
                   let source = source_by s.hop.way s.link in
@@ -358,9 +358,9 @@ module _ (network : Network) (trees : HasTrees network) (channel : Channel) wher
             → target_by p.hop.way one.link ≡ target_by q.hop.way other.link → p ≡ q
         one_target p q one other same =
             let to = paths_are_unique network channel (target_by q.hop.way other.link) one.to other.to trees.tree
-            (subst (λ (d : DeviceId). IsPath network channel d one.to) same one.target) other.target in
-            let rows = way_rows_one trial trial start start (way_to other.to) (one.before ++ p ∷ []) (other.before ++ q ∷ []) alike refl
-            (subst (λ (ls : List LinkId). IsPlacedWay trial start (way_to ls) (one.before ++ p ∷ [])) to one.placed) other.placed in
+            (subst (λ d. IsPath network channel d one.to) same one.target) other.target in
+            let rows = way_rows_one start start (way_to other.to) (one.before ++ p ∷ []) (other.before ++ q ∷ []) alike refl
+            (subst (λ ls. IsPlacedWay trial start (way_to ls) (one.before ++ p ∷ [])) to one.placed) other.placed in
             (ends_one one.before other.before p q rows).1
 
         ways_one : (p q : Placed) → IsCourse p → IsCourse q → p.hop.link ≡ q.hop.link → p.hop.way ≡ q.hop.way
@@ -380,20 +380,20 @@ module _ (network : Network) (trees : HasTrees network) (channel : Channel) wher
         one_link p q one other link =
             let ways = ways_one p q one other link in
             let links = some_same one.link other.link (link_at network p.hop.link) one.at
-            (subst (λ (l : LinkId). link_at network l ≡ Some other.link) (sym link) other.at) in
-            one_target p q one other (ap (λ (w : Way). target_by w one.link) ways ∙ ap (λ (l : Link). target_by q.hop.way l) links)
+            (subst (λ l. link_at network l ≡ Some other.link) (sym link) other.at) in
+            one_target p q one other (ap (λ w. target_by w one.link) ways ∙ ap (λ l. target_by q.hop.way l) links)
 
         -- no row enters the sender
         pub not_to_sender : (p : Placed) (c : IsCourse p) → target_by p.hop.way c.link ≡ sender → ⊥
         not_to_sender p c same =
             elim c.kind [
-              | inl up ↦ end_no_switch (subst (IsSwitchOf network channel) (sym (ap (λ (w : Way). target_by w c.link) up.0) ∙ same) c.on)
+              | inl up ↦ end_no_switch (subst (IsSwitchOf network channel) (sym (ap (λ w. target_by w c.link) up.0) ∙ same) c.on)
               | inr down ↦
-                  let child : c.link.child ≡ sender = sym (ap (λ (w : Way). target_by w c.link) down.0) ∙ same in
+                  let child : c.link.child ≡ sender = sym (ap (λ w. target_by w c.link) down.0) ∙ same in
                   let P = λ (l : Link). (l.child ≡ sender) × IsSwitchOf network channel l.parent in
                   let up = closed P (link_at network p.hop.link) c.link c.at (child, c.on) in
                   let it = followed network channel sender p.hop.link c.link from trees.tree up c.at path in
-                  let on : is_on from p.hop.link ≡ true = ap (λ (ls : List LinkId). is_on ls p.hop.link) it.1 ∙ on_first p.hop.link it.0 in
+                  let on : is_on from p.hop.link ≡ true = ap (λ ls. is_on ls p.hop.link) it.1 ∙ on_first p.hop.link it.0 in
                   false≢true (sym down.1 ∙ on)
             ]
 
@@ -413,7 +413,7 @@ module _ (network : Network) (trees : HasTrees network) (channel : Channel) wher
             elim (step_to d to own) [
               | inl same ↦ absurd (other (one_of_path d sender from (subst (IsPath network channel d) same own) path))
               | inr s ↦
-                  let it = placed_split trial start (way_to s.earlier) s.hop ps (subst (λ (hs : List Hop). IsPlacedWay trial start hs ps) s.way placed) in
+                  let it = placed_split trial start (way_to s.earlier) s.hop ps (subst (λ hs. IsPlacedWay trial start hs ps) s.way placed) in
                   let there = one_of_path (target_by s.hop.way s.link) d to s.target own in
                   record {
                     front = it.0;
@@ -452,7 +452,7 @@ module _ (network : Network) (trees : HasTrees network) (channel : Channel) wher
             elim (step_to d to own) [
               | inl same ↦ absurd (other (one_of_path d sender from (subst (IsPath network channel d) same own) path))
               | inr s ↦
-                  let it = placed_split trial start (way_to s.earlier) s.hop ps (subst (λ (hs : List Hop). IsPlacedWay trial start hs ps) s.way placed) in
+                  let it = placed_split trial start (way_to s.earlier) s.hop ps (subst (λ hs. IsPlacedWay trial start hs ps) s.way placed) in
                   let more = ap length s.way in
                   let parts = length-append (way_to s.earlier) (s.hop ∷ []) in
                   let p = it.1 in

@@ -58,7 +58,7 @@ module _ (test : Hop → Bool) (network planned : Network) (added : List Row) (m
         → All HasRow hops
     way_rows channel receiver hops reached way =
         let to = lead_to network m planned vl of_vl s channel receiver reached in
-        let one = way_one network m.sender receiver channel to.hops hops s.tree to.way way in
+        let one = way_one s.tree to.way way in
         subst (All HasRow) one (zip_all (IsRowBy planned vl) to.hops to.lead.ps to.lead.rows)
 
     ways_rows : (receivers : List DeviceId) (hops : List Hop) → AreWays network m.sender receivers hops → All (IsReached planned vl) receivers
@@ -94,7 +94,7 @@ module _ (test : Hop → Bool) (network planned : Network) (added : List Row) (m
         let at = row_added row.place row.entry row.is row.own in
         let r = row.entry.row in
         let hop : hop_of r ≡ h =
-        ap (λ (w : Way). hop_by w r.link) row.way ∙ ap (λ (l : LinkId). hop_by h.way l) row.link in
+        ap (λ w. hop_by w r.link) row.way ∙ ap (λ l. hop_by h.way l) row.link in
         let own : (r.vl.0 == vl.0) ≡ true = eq-eqb r.vl.0 vl.0 (ap (λ (v : VlId). v.0) row.own) in
         let key : h.link.0 ≡ k = eqb-true h.link.0 k (found_passes (λ hop. hop.link.0 == k) ways h found) in (
           at.0,
@@ -177,18 +177,18 @@ module _ (network planned : Network) (ms : List Message) (tree : IsTree network)
       ap (count_by (leaves network device)) extends.rows.1 ∙ count_append (leaves network device) network.row extends.rows.0 in
       omega (arith, some, limit, same, whole)
 
-pub excess_is_impossible : (network : Network) (ms : List Message) (excess : Excess) → IsTree network → IsExcess network ms excess
-    → NoneServesAll network ms
-excess_is_impossible network ms (VirtualLinks wants) tree (is, many) planned range in_range keeps extends served =
+pub excess_is_impossible : {network : Network} (ms : List Message) (excess : Excess) → IsTree network
+    → IsExcess network ms excess → NoneServesAll network ms
+excess_is_impossible ms (VirtualLinks wants) tree (is, many) planned range in_range keeps extends served =
     let limit = (keeps Limits 2).vls refl in
     let counted = served.counted in
     omega (arith, is, many, limit, counted)
-excess_is_impossible network ms (Rows wants) tree many planned range in_range keeps extends served =
+excess_is_impossible {network} ms (Rows wants) tree many planned range in_range keeps extends served =
     let fit = rows_fit network planned ms tree range in_range keeps extends served many.hops many.are in
     let is = many.wants_is in
     let more = many.more in
     omega (arith, fit, is, more)
-excess_is_impossible network ms (RowsOf device wants) tree many planned range in_range keeps extends served =
+excess_is_impossible {network} ms (RowsOf device wants) tree many planned range in_range keeps extends served =
     let fit = device_fits network planned ms tree range in_range keeps extends served many.hops device many.are in
     let is = many.crowded.wants_is in
     let more = many.crowded.more in

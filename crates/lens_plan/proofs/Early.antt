@@ -43,9 +43,9 @@ both_early : (P Q R : Placed → Type 0) → ((p : Placed) → P p → Q p → R
 both_early P Q R next ps one other k d within = next (get_or ps k d) (one k d within) (other k d within)
 
 -- the rows of a message that has a place behind others are early
-pub early_rows : (network : Network) (rows : List Taken) (m : Message) (a : Attempt) → IsInRange network → IsBestBehind network rows m a
-    → a.score.short ≡ 0 → All IsEarly a.placed.items
-early_rows network rows m a range best fits =
+pub early_rows : {network : Network} {rows : List Taken} {m : Message} {a : Attempt} → IsInRange network
+    → IsBestBehind network rows m a → a.score.short ≡ 0 → All IsEarly a.placed.items
+early_rows {a} range best fits =
     let trial = best.trial in
     let own = own_attempt trial trial.message.now.phase a best.best in
     let there = in_phase trial own.0 in

@@ -7,13 +7,14 @@ use Rattle.std.proofs.Common.{◌++◌, ◌+◌, ◌<◌, ◌∙◌, ◌∷◌, 
 use Rattle.std.proofs.lemmas.{List.{Elements.{All-head, All-tail}, get_or-take, get_or_default, length-take, take_more}, Option.{get_or_from_slice_get, none-some, slice_get_cases}}
 use Rattle.std.specs.List.{All}
 
-placed_more : (network : Network) (ms : List Message) (attempts : List Attempt) (rows now : List Taken) (order : List ℕ) (place : ℕ) (m : Message)
-    (a : Attempt) → ArePlaced network ms attempts rows order now → slice_get ms place ≡ Some m → slice_get attempts place ≡ Some a
+placed_more : {network : Network} (ms : List Message) (attempts : List Attempt) (rows : List Taken)
+    {now : List Taken} (order : List ℕ) (place : ℕ) {m : Message} {a : Attempt}
+    → ArePlaced network ms attempts rows order now → slice_get ms place ≡ Some m → slice_get attempts place ≡ Some a
     → HasPlace network now m a → ArePlaced network ms attempts rows (order ++ place ∷ []) (now ++ rows_of network m a)
-placed_more network ms attempts rows now [] place m a same there at has =
-    (m, a, there, at, subst (λ (ts : List Taken). HasPlace network ts m a) same has, ap (λ (ts : List Taken). ts ++ rows_of network m a) same)
-placed_more network ms attempts rows now (first ∷ order) place m a (n, b, is, by, its, rest) there at has =
-    (n, b, is, by, its, placed_more network ms attempts (rows ++ rows_of network n b) now order place m a rest there at has)
+placed_more {network} ms attempts rows [] place {m} {a} same there at has =
+    (m, a, there, at, subst (λ ts. HasPlace network ts m a) same has, ap (λ (ts : List Taken). ts ++ rows_of network m a) same)
+placed_more {network} ms attempts rows {now} (first ∷ order) place {m} {a} (n, b, is, by, its, rest) there at has =
+    (n, b, is, by, its, placed_more {network = network} ms attempts (rows ++ rows_of network n b) {now = now} order place {m = m} {a = a} rest there at has)
 
 -- other attempts do not matter
 placed_same : (network : Network) (ms : List Message) (old new : List Attempt) (rows now : List Taken) (order : List ℕ)
@@ -44,11 +45,14 @@ set_elsewhere (b ∷ attempts) (suc place) zero a not = refl
 set_elsewhere (b ∷ attempts) (suc place) (suc other) a not = set_elsewhere attempts place other a (λ same. not (ap suc same))
 
 -- the message of this turn is placed behind those of the turns before
-pub placed_next : (network : Network) (ms : List Message) (old new : List Attempt) (rows now taken : List Taken) (order : List ℕ) (turn place : ℕ)
-    (m : Message) (a : Attempt) → IsOrder (length ms) order → turn < length order → place ≡ get_or order turn place → place < length old
-    → ArePlaced network ms old rows (take turn order) now → slice_get ms place ≡ Some m → HasPlace network now m a → new ≡ set old place a
-    → taken ≡ now ++ rows_of network m a → ArePlaced network ms new rows (take (turn + 1) order) taken
-placed_next network ms old new rows now taken order turn place m a is within at here before there has made more =
+pub placed_next : {network : Network} (ms : List Message) (old new : List Attempt) (rows : List Taken)
+    {now : List Taken} (taken : List Taken) (order : List ℕ) (turn place : ℕ) {m : Message} {a : Attempt}
+    → IsOrder (length ms) order → turn < length order → place ≡ get_or order turn place → place < length old
+    → ArePlaced network ms old rows (take turn order) now → slice_get ms place ≡ Some m → HasPlace network now m a
+    → new ≡ set old place a → taken ≡ now ++ rows_of network m a
+    → ArePlaced network ms new rows (take (turn + 1) order) taken
+placed_next {network} ms old new rows {now} taken order turn place {m} {a} is within at here before there has made
+    more =
     let earlier : All (λ p. slice_get (set old place a) p ≡ slice_get old p) (take turn order) =
     (λ k d less.
     let short = length-take turn order in
@@ -57,10 +61,10 @@ placed_next network ms old new rows now taken order turn place m a is within at 
     (set_elsewhere old place (get_or order k d) a (λ same. apart (length ms) order is k turn d few within (same ∙ at ∙ get_or_default order turn place d within)))) in
     let next : take (turn + 1) order ≡ take turn order ++ place ∷ [] =
     take_more order turn place within ∙ ap (λ (p : ℕ). take turn order ++ p ∷ []) (sym at) in
-    subst (λ (bs : List Attempt). ArePlaced network ms bs rows (take (turn + 1) order) taken) (sym made)
-    (subst (λ (ts : List Taken). ArePlaced network ms (set old place a) rows (take (turn + 1) order) ts) (sym more)
-    (subst (λ (xs : List ℕ). ArePlaced network ms (set old place a) rows xs (now ++ rows_of network m a)) (sym next)
-    (placed_more network ms (set old place a) rows now (take turn order) place m a
+    subst (λ bs. ArePlaced network ms bs rows (take (turn + 1) order) taken) (sym made)
+    (subst (λ ts. ArePlaced network ms (set old place a) rows (take (turn + 1) order) ts) (sym more)
+    (subst (λ xs. ArePlaced network ms (set old place a) rows xs (now ++ rows_of network m a)) (sym next)
+    (placed_more ms (set old place a) rows (take turn order) place
     (placed_same network ms old (set old place a) rows now (take turn order) earlier before) there (set_here old place a here) has)))
 
 -- what is found in a list stands within it

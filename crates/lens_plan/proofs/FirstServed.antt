@@ -8,9 +8,10 @@ abbrev pub FirstAreServed : Network → Network → List Message → ℕ → Typ
 FirstAreServed network planned ms n =
     (k : ℕ) (m : Message) → k < n → slice_get ms k ≡ Some m → IsServedBy planned (record { 0 = length network.vl + k }) m
 
-pub served_next : (network planned : Network) (ms : List Message) (n : ℕ) (m : Message) → FirstAreServed network planned ms n → slice_get ms n ≡ Some m
+pub served_next : (network : Network) {planned : Network} (ms : List Message) (n : ℕ) {m : Message}
+    → FirstAreServed network planned ms n → slice_get ms n ≡ Some m
     → IsServedBy planned (record { 0 = length network.vl + n }) m → FirstAreServed network planned ms (n + 1)
-served_next network planned ms n m before there served k other lt is =
+served_next network {planned} ms n before there served k other lt is =
     elim (cases_lt k n) [
       | inl below ↦ before k other below is
       | inr ge ↦

@@ -28,17 +28,19 @@ not_told network ms (plans.Excess excess) a told done = no_plan (status_is a _ t
 not_told network ms (plans.Impossible place b) a told done = no_plan (status_is a _ told done)
 not_told network ms (plans.Unplaced place b) a told done = no_plan (status_is a _ told done)
 
-joined_done : (octets : List ℕ) (network : Network) (ms : List Message) (lines : List PlanLine) (a : Answer) → IsJoinedAnswer octets network ms lines a
-    → a.status ≡ Done → MeansPlanned (octets ++ concat a.lines) network ms
-joined_done octets network ms lines a (inl h) done = absurd (not_too_long (status_is a _ h.1 done))
-joined_done octets network ms lines a (inr (inl h)) done = absurd (not_refused (status_is a _ h.2 done))
-joined_done octets network ms lines a (inr (inr (means, same))) done =
-    subst (λ (ls : List (List ℕ)). MeansPlanned (octets ++ concat ls) network ms) (sym (ap (λ (x : Answer). x.lines) same)) means
+module _ (octets : List ℕ) (network : Network) (ms : List Message) where
+  joined_done : (lines : List PlanLine) (a : Answer) → IsJoinedAnswer octets network ms lines a → a.status ≡ Done
+      → MeansPlanned (octets ++ concat a.lines) network ms
+  joined_done lines a (inl h) done = absurd (not_too_long (status_is a _ h.1 done))
+  joined_done lines a (inr (inl h)) done = absurd (not_refused (status_is a _ h.2 done))
+  joined_done lines a (inr (inr (means, same))) done =
+      subst (λ (ls : List (List ℕ)). MeansPlanned (octets ++ concat ls) network ms)
+      (sym (ap (λ (x : Answer). x.lines) same)) means
 
-plan_done : (octets : List ℕ) (network : Network) (ms : List Message) (a : Answer) → IsPlanOf octets network ms a → a.status ≡ Done
-    → MeansPlanned (octets ++ concat a.lines) network ms
-plan_done octets network ms a (inl (cause, is, told)) done = absurd (not_told network ms cause a told done)
-plan_done octets network ms a (inr (lines, are, joined)) done = joined_done octets network ms lines a joined done
+  plan_done : (a : Answer) → IsPlanOf octets network ms a → a.status ≡ Done
+      → MeansPlanned (octets ++ concat a.lines) network ms
+  plan_done a (inl (cause, is, told)) done = absurd (not_told network ms cause a told done)
+  plan_done a (inr (lines, are, joined)) done = joined_done lines a joined done
 
 pub done_is_planned : DoneIsPlanned
 done_is_planned octets text a (inl h) done = absurd (not_too_long (status_is a _ h.1 done))

@@ -9,13 +9,13 @@ pub ids_more : (taken : List ℕ) (ms : List Message) (ids : List ℕ) (m : Mess
     → AreIds taken (ms ++ m ∷ []) (ids ++ id ∷ [])
 ids_more taken [] ids m id none is =
     let here : taken ++ ids ≡ taken = ap (λ (xs : List ℕ). taken ++ xs) none ∙ append-nil taken in
-    (id, [], subst (λ (xs : List ℕ). IsIdBy xs m.id id) here is, refl, ap (λ (xs : List ℕ). xs ++ id ∷ []) none)
+    (id, [], subst (λ xs. IsIdBy xs m.id id) here is, refl, ap (λ (xs : List ℕ). xs ++ id ∷ []) none)
 ids_more taken (first ∷ ms) ids m id (one, others, own, rest, same) is =
     let here : taken ++ ids ≡ (taken ++ one ∷ []) ++ others = ap (λ (xs : List ℕ). taken ++ xs) same ∙ sym (append_assoc taken (one ∷ []) others) in (
       one,
       others ++ id ∷ [],
       own,
-      ids_more (taken ++ one ∷ []) ms others m id rest (subst (λ (xs : List ℕ). IsIdBy xs m.id id) here is),
+      ids_more (taken ++ one ∷ []) ms others m id rest (subst (λ xs. IsIdBy xs m.id id) here is),
       ap (λ (xs : List ℕ). xs ++ id ∷ []) same,
     )
 
@@ -37,14 +37,15 @@ pub record AreFirstIds (taken : List ℕ) (ms : List Message) (n : ℕ) (ids now
   pub small : All (λ id. id < 65536 + n) now
   pub counted : length ids ≡ n
 
-pub ids_next : (taken : List ℕ) (ms : List Message) (n : ℕ) (ids more now new : List ℕ) (m : Message) (id : ℕ) {seen : List ℕ}
-    → AreFirstIds taken ms n ids now → n < length ms → m ≡ get_or ms n m → seen ≡ now → IsIdBy seen m.id id → id ≤ 65536 + n → new ≡ now ++ id ∷ []
+pub ids_next : {taken : List ℕ} {ms : List Message} {n : ℕ} {ids : List ℕ} (more : List ℕ) {now : List ℕ}
+    (new : List ℕ) (m : Message) (id : ℕ) {seen : List ℕ} → AreFirstIds taken ms n ids now → n < length ms
+    → m ≡ get_or ms n m → seen ≡ now → IsIdBy seen m.id id → id ≤ 65536 + n → new ≡ now ++ id ∷ []
     → more ≡ ids ++ id ∷ [] → AreFirstIds taken ms (n + 1) more new
-ids_next taken ms n ids more now new m id first within at same is bound longer other = record {
+ids_next {taken} {ms} {n} {ids} more {now} new m id first within at same is bound longer other = record {
   are =
       let next : take (n + 1) ms ≡ take n ms ++ m ∷ [] = take_more ms n m within ∙ ap (λ (k : Message). take n ms ++ k ∷ []) (sym at) in
-      let all = ids_more taken (take n ms) ids m id first.are (subst (λ (xs : List ℕ). IsIdBy xs m.id id) (same ∙ first.taken_now) is) in
-      subst (λ (xs : List ℕ). AreIds taken (take (n + 1) ms) xs) (sym other) (subst (λ (ks : List Message). AreIds taken ks (ids ++ id ∷ [])) (sym next) all);
+      let all = ids_more taken (take n ms) ids m id first.are (subst (λ xs. IsIdBy xs m.id id) (same ∙ first.taken_now) is) in
+      subst (λ xs. AreIds taken (take (n + 1) ms) xs) (sym other) (subst (λ ks. AreIds taken ks (ids ++ id ∷ [])) (sym next) all);
   taken_now =
       longer ∙ ap (λ (xs : List ℕ). xs ++ id ∷ []) first.taken_now ∙ append_assoc taken ids (id ∷ []) ∙ ap (λ (xs : List ℕ). taken ++ xs) (sym other);
   small =

@@ -27,10 +27,11 @@ no_line e = absurd cc
 not_done : Done ≡ PlanRefused → ⊥
 not_done e = absurd cc
 
-not_joined : (octets l : List ℕ) (network : Network) (ms : List Message) (lines : List _) → IsJoinedAnswer octets network ms lines (line_answer PlanRefused l) → ⊥
-not_joined octets l network ms lines (inl h) = not_too_long (status_is l _ h.1)
-not_joined octets l network ms lines (inr (inl h)) = not_refused (status_is l _ h.2)
-not_joined octets l network ms lines (inr (inr h)) = not_done (status_is l _ h.1)
+not_joined : (octets l : List ℕ) {network : Network} {ms : List Message} (lines : List _)
+    → IsJoinedAnswer octets network ms lines (line_answer PlanRefused l) → ⊥
+not_joined octets l lines (inl h) = not_too_long (status_is l _ h.1)
+not_joined octets l lines (inr (inl h)) = not_refused (status_is l _ h.2)
+not_joined octets l lines (inr (inr h)) = not_done (status_is l _ h.1)
 
 -- why there is no plan, for messages that were read
 record IsToldOf (octets text l : List ℕ) : Type 0 where
@@ -42,14 +43,17 @@ record IsToldOf (octets text l : List ℕ) : Type 0 where
   pub none : IsNoPlan network messages cause
   pub told : IsToldBy network messages cause (line_answer PlanRefused l)
 
-told_of : (octets text l : List ℕ) → IsPlanAnswer text octets (line_answer PlanRefused l) → IsToldOf octets text l
-told_of octets text l (inl h) = absurd (not_too_long (status_is l _ h.1))
-told_of octets text l (inr (inl (refusal, none, same))) = absurd (not_refused (status_is l _ same))
-told_of octets text l (inr (inr (inl (told, unfit, same)))) = absurd (not_refused (status_is l _ same))
-told_of octets text l (inr (inr (inr (network, accepted, inl h)))) = absurd (not_too_long (status_is l _ h.1))
-told_of octets text l (inr (inr (inr (network, accepted, inr (inl (line, none, same)))))) = absurd (no_line (status_is l _ same))
-told_of octets text l (inr (inr (inr (network, accepted, inr (inr (ms, read, inr (lines, are, joined))))))) = absurd (not_joined octets l network ms lines joined)
-told_of octets text l (inr (inr (inr (network, accepted, inr (inr (ms, read, inl (cause, is, told))))))) =
+told_of : {octets : List ℕ} (text l : List ℕ) → IsPlanAnswer text octets (line_answer PlanRefused l)
+    → IsToldOf octets text l
+told_of text l (inl h) = absurd (not_too_long (status_is l _ h.1))
+told_of text l (inr (inl (refusal, none, same))) = absurd (not_refused (status_is l _ same))
+told_of text l (inr (inr (inl (told, unfit, same)))) = absurd (not_refused (status_is l _ same))
+told_of text l (inr (inr (inr (network, accepted, inl h)))) = absurd (not_too_long (status_is l _ h.1))
+told_of text l (inr (inr (inr (network, accepted, inr (inl (line, none, same)))))) =
+    absurd (no_line (status_is l _ same))
+told_of {octets} text l (inr (inr (inr (network, accepted, inr (inr (ms, read, inr (lines, are, joined))))))) =
+    absurd (not_joined octets l lines joined)
+told_of text l (inr (inr (inr (network, accepted, inr (inr (ms, read, inl (cause, is, told))))))) =
     record { network = network; accepted = accepted; messages = ms; read = read; cause = cause; none = is; told = told }
 
 -- ---- the lines
@@ -65,26 +69,27 @@ first_line (line ∷ lines) = line
 line_is : (l k : List ℕ) → line_answer PlanRefused l ≡ line_answer PlanRefused k → l ≡ k
 line_is l k same = ap (λ (a : Answer). first_line a.lines) same
 
--- each line begins with its word
-not_impossible : (network : Network) (excess : Excess) (rest : List ℕ) → codes "impossible " ++ rest ≡ excess_line network excess → ⊥
-not_impossible network (VirtualLinks wants) rest same = let octet = ap first_octet same in omega (arith, octet)
-not_impossible network (Rows wants) rest same = let octet = ap first_octet same in omega (arith, octet)
-not_impossible network (RowsOf device wants) rest same = let octet = ap first_octet same in omega (arith, octet)
+module _ (network : Network) where
+  -- each line begins with its word
+  not_impossible : (excess : Excess) (rest : List ℕ) → codes "impossible " ++ rest ≡ excess_line network excess → ⊥
+  not_impossible (VirtualLinks wants) rest same = let octet = ap first_octet same in omega (arith, octet)
+  not_impossible (Rows wants) rest same = let octet = ap first_octet same in omega (arith, octet)
+  not_impossible (RowsOf device wants) rest same = let octet = ap first_octet same in omega (arith, octet)
 
-not_unplaced : (network : Network) (o : Option Message) (a : Attempt) (rest : List ℕ)
-    → codes "impossible " ++ rest ≡ option_map_or (λ m. short_line (codes "unplaced") network m a) o [] → ⊥
-not_unplaced network None a rest same = let octet = ap first_octet same in omega (arith, octet)
-not_unplaced network (Some m) a rest same = let octet = ap first_octet same in omega (arith, octet)
+  not_unplaced : (o : Option Message) (a : Attempt) (rest : List ℕ)
+      → codes "impossible " ++ rest ≡ option_map_or (λ m. short_line (codes "unplaced") network m a) o [] → ⊥
+  not_unplaced None a rest same = let octet = ap first_octet same in omega (arith, octet)
+  not_unplaced (Some m) a rest same = let octet = ap first_octet same in omega (arith, octet)
 
-not_rule : (network : Network) (o : Option Message) (a : Attempt) (rest : List ℕ)
-    → codes "rule " ++ rest ≡ option_map_or (λ m. short_line (codes "impossible") network m a) o [] → ⊥
-not_rule network None a rest same = let octet = ap first_octet same in omega (arith, octet)
-not_rule network (Some m) a rest same = let octet = ap first_octet same in omega (arith, octet)
+  not_rule : (o : Option Message) (a : Attempt) (rest : List ℕ)
+      → codes "rule " ++ rest ≡ option_map_or (λ m. short_line (codes "impossible") network m a) o [] → ⊥
+  not_rule None a rest same = let octet = ap first_octet same in omega (arith, octet)
+  not_rule (Some m) a rest same = let octet = ap first_octet same in omega (arith, octet)
 
-no_rule : (network : Network) (o : Option Message) (a : Attempt) (rest : List ℕ)
-    → codes "rule " ++ rest ≡ option_map_or (λ m. short_line (codes "unplaced") network m a) o [] → ⊥
-no_rule network None a rest same = let octet = ap first_octet same in omega (arith, octet)
-no_rule network (Some m) a rest same = let octet = ap first_octet same in omega (arith, octet)
+  no_rule : (o : Option Message) (a : Attempt) (rest : List ℕ)
+      → codes "rule " ++ rest ≡ option_map_or (λ m. short_line (codes "unplaced") network m a) o [] → ⊥
+  no_rule None a rest same = let octet = ap first_octet same in omega (arith, octet)
+  no_rule (Some m) a rest same = let octet = ap first_octet same in omega (arith, octet)
 
 -- what stands behind a word
 abbrev behind : List ℕ → List ℕ → List ℕ
@@ -131,7 +136,7 @@ module _ (octets text rest : List ℕ) (network : Network) (ms : List Message) (
         there = (place, slice_get_within ms place m unfit.there, get_or_from_slice_get ms place m m unfit.there);
         named = named network m a rest
             (line ∙ ap (λ (o : Option Message). option_map_or (λ x. short_line (codes "impossible") network x a) o []) unfit.there);
-        none = unfit_is_impossible network there ms place a (tree_kept network accepted.rules) are unfit;
+        none = unfit_is_impossible (tree_kept network accepted.rules) are unfit;
       }
 
   by_excess : (cause : NoPlan) → IsNoPlan network ms cause → IsToldBy network ms cause (line_answer PlanRefused (codes "rule " ++ rest))
@@ -142,7 +147,7 @@ module _ (octets text rest : List ℕ) (network : Network) (ms : List Message) (
     accepted = accepted;
     messages = ms;
     read = read;
-    none = excess_is_impossible network ms excess (tree_kept network accepted.rules) none;
+    none = excess_is_impossible ms excess (tree_kept network accepted.rules) none;
   }
   by_excess (plans.Unplaced place a) none told =
       absurd (no_rule network (slice_get ms place) a rest
@@ -153,10 +158,10 @@ module _ (octets text rest : List ℕ) (network : Network) (ms : List Message) (
 
 pub impossible_is_true : ImpossibleIsTrue
 impossible_is_true octets text rest is =
-    let t = told_of octets text (codes "impossible " ++ rest) is in
+    let t = told_of text (codes "impossible " ++ rest) is in
     by_impossible octets text rest t.network t.messages t.accepted t.read t.cause t.none t.told
 
 pub excess_is_true : ExcessIsTrue
 excess_is_true octets text rest is =
-    let t = told_of octets text (codes "rule " ++ rest) is in
+    let t = told_of text (codes "rule " ++ rest) is in
     by_excess octets text rest t.network t.messages t.accepted t.read t.cause t.none t.told

@@ -31,8 +31,9 @@ count_none test (x ∷ xs) none =
     omega (arith, one, rest, here)
 
 -- no row leaves a device that there is not
-none_leaves : (network : Network) (d : DeviceId) → IsInRange network → length network.device ≤ d.0 → (row : Row) → leaves network d row ≡ false
-none_leaves network d range past row =
+none_leaves : {network : Network} (d : DeviceId) → IsInRange network → length network.device ≤ d.0 → (row : Row)
+    → leaves network d row ≡ false
+none_leaves {network} d range past row =
     elim (some_or_none (link_at network row.link)) [
       | inr none ↦ ap (λ (o : Option Link). option_map_or (λ l. (source_by row.way l).0 == d.0) o false) none
       | inl (l, at) ↦
@@ -79,7 +80,7 @@ module _ (network : Network) (ms : List Message) (ids : List ℕ) (attempts : Li
             let few = limits.devices d within in
             (omega (arith, parts, counted, few))
         | inr past ↦
-            let none = count_none (leaves network d) (network.row ++ new_rows) (none_leaves network d s.range past) in
+            let none = count_none (leaves network d) (network.row ++ new_rows) (none_leaves d s.range past) in
             (omega (arith, none))
       ]
 

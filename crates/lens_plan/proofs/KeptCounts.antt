@@ -28,7 +28,7 @@ map_found {X} {Y} f h g same (k ∷ ks) =
 count_map : {X Y : Type 0} (f : X → Y) (test : Y → Bool) (xs : List X) → count_by test (map f xs) ≡ count_by (λ x. test (f x)) xs
 count_map f test [] = refl
 count_map {X} {Y} f test (x ∷ xs) =
-    sum_by-cons (λ (y : Y). cond (test y) 1 0) (f x) (map f xs) ∙ ap (λ (n : ℕ). cond (test (f x)) 1 0 + n) (count_map f test xs)
+    sum_by-cons (λ (y : Y). cond (test y) 1 0) (f x) (map f xs) ∙ ap (λ n. cond (test (f x)) 1 0 + n) (count_map f test xs)
     ∙ sym (sum_by-cons (λ (y : X). cond (test (f y)) 1 0) x xs)
 
 -- ---- the hops of rows
@@ -62,8 +62,8 @@ module _ (network : Network) (tree : IsTree network) where
   tried_ways t m rows phase [] ps hops none also = ap (map hop_at) none ∙ sym also
   tried_ways t m rows phase (r ∷ receivers) ps hops (a, b, others, on_a, on_b, rest, same) (c, d, more, at_a, at_b, also, too) =
       let tr = trial_by t network m rows phase in
-      let one : map hop_at a ≡ c = way_hops tr (start_of tr) on_a.hops a on_a.rows ∙ way_one network m.sender r A on_a.hops c tree on_a.way at_a in
-      let two : map hop_at b ≡ d = way_hops tr (start_of tr) on_b.hops b on_b.rows ∙ way_one network m.sender r B on_b.hops d tree on_b.way at_b in
+      let one : map hop_at a ≡ c = way_hops tr (start_of tr) on_a.hops a on_a.rows ∙ way_one tree on_a.way at_a in
+      let two : map hop_at b ≡ d = way_hops tr (start_of tr) on_b.hops b on_b.rows ∙ way_one tree on_b.way at_b in
       ap (map hop_at) same ∙ map-append hop_at a (b ++ others)
       ∙ ap (λ (hs : List Hop). hs ++ map hop_at (b ++ others)) one
       ∙ ap (λ (hs : List Hop). c ++ hs) (map-append hop_at b others ∙ ap (λ (hs : List Hop). hs ++ map hop_at others) two

@@ -26,8 +26,9 @@ switch_by : (o : Option Channel) (b : Bool) (c : Channel) → is_some o ≡ not 
 switch_by o b c same is = grind (arith, same, is)
 
 -- a switch of a channel is a switch
-switch_is : (network : Network) (c : Channel) (d : DeviceId) → IsInRange network → IsSwitchOf network c d → IsSwitch network d
-switch_is network c d range switch =
+switch_is : {network : Network} (c : Channel) (d : DeviceId) → IsInRange network → IsSwitchOf network c d
+    → IsSwitch network d
+switch_is {network} c d range switch =
     let o = opened (λ (x : Device). x.channel ≡ Some c) (device_at network d) switch in
     let ranged = in_all IsDeviceInRange network.device d.0 o.0 range.devices o.1 in
     closed (λ (x : Device). is_end_system x.role ≡ false) (device_at network d) o.0 o.1
@@ -135,7 +136,7 @@ module _ (network : Network) (ms : List Message) (ids : List ℕ) (attempts : Li
                   let numbers : row.vl.0 ≡ earlier.vl.0 = ap (λ (v : VlId). v.0) same in
                   let turns : q.j ≡ r.j = omega (arith, one, other, numbers) in
                   let mine : q.a ≡ r.a = some_same q.a r.a (slice_get attempts r.j) (subst (λ (j : ℕ). slice_get attempts j ≡ Some q.a) turns q.at_a) r.at_a in
-                  let at_q = subst (λ (a : Attempt). slice_get (in_order network a) q.i ≡ Some q.p) mine q.at_p in
+                  let at_q = subst (λ a. slice_get (in_order network a) q.i ≡ Some q.p) mine q.at_p in
                   let bases : base network attempts q.j ≡ base network attempts r.j = ap (base network attempts) turns in
                   let place_r = r.place in
                   let place_q = q.place in
@@ -154,10 +155,10 @@ module _ (network : Network) (ms : List Message) (ids : List ℕ) (attempts : Li
   child_on link l c at switch =
       let joins = s.keeps Joints link.0 l at in
       ⊎_elim
-      (λ (end : IsEndSystem network l.child). absurd (no_switch network c l.child s.range end switch))
+      (λ (end : IsEndSystem network l.child). absurd (no_switch c l.child s.range end switch))
       (λ (relay : IsRoleOf network Relay joins.0 l.child).
       let same = one_channel network joins.0 c l.child (relay_is network joins.0 l.child relay) switch in
-      subst (λ (x : Channel). IsSwitchOf network x l.parent) same joins.1)
+      subst (λ x. IsSwitchOf network x l.parent) same joins.1)
       joins.2
 
   -- and one with its parent in it has its child there, if it is a switch
@@ -169,7 +170,7 @@ module _ (network : Network) (ms : List Message) (ids : List ℕ) (attempts : Li
       (λ (end : IsEndSystem network l.child). absurd (no_end network l.child child end))
       (λ (relay : IsRoleOf network Relay joins.0 l.child).
       let same = one_channel network joins.0 c l.parent joins.1 switch in
-      subst (λ (x : Channel). IsSwitchOf network x l.child) same (relay_is network joins.0 l.child relay))
+      subst (λ x. IsSwitchOf network x l.child) same (relay_is network joins.0 l.child relay))
       joins.2
 
   -- each row of a message has an entry
@@ -207,19 +208,19 @@ module _ (network : Network) (ms : List Message) (ids : List ℕ) (attempts : Li
         by : (w : Way) → q.hop.way ≡ w → i.channel ≡ c
         by Up up =
             one_channel network i.channel c i.course.link.parent i.course.on
-            (subst (IsSwitchOf network c) (ap (λ (w : Way). target_by w i.course.link) up) switch)
+            (subst (IsSwitchOf network c) (ap (λ w. target_by w i.course.link) up) switch)
         by Down down =
             one_channel network i.channel c i.course.link.parent i.course.on
-            (child_on q.hop.link i.course.link c i.course.at (subst (IsSwitchOf network c) (ap (λ (w : Way). target_by w i.course.link) down) switch))
+            (child_on q.hop.link i.course.link c i.course.at (subst (IsSwitchOf network c) (ap (λ w. target_by w i.course.link) down) switch))
 
     -- the switch that it enters is of its channel
     switch_on : (q : Placed) (i : Its q) → IsSwitch network (target_by q.hop.way i.course.link) → IsSwitchOf network i.channel (target_by q.hop.way i.course.link)
     switch_on q i switch = by q.hop.way refl
       where
         by : (w : Way) → q.hop.way ≡ w → IsSwitchOf network i.channel (target_by q.hop.way i.course.link)
-        by Up up = subst (IsSwitchOf network i.channel) (sym (ap (λ (w : Way). target_by w i.course.link) up)) i.course.on
+        by Up up = subst (IsSwitchOf network i.channel) (sym (ap (λ w. target_by w i.course.link) up)) i.course.on
         by Down down =
-            let child = ap (λ (w : Way). target_by w i.course.link) down in
+            let child = ap (λ w. target_by w i.course.link) down in
             subst (IsSwitchOf network i.channel) (sym child)
             (parent_on q.hop.link i.course.link i.channel i.course.at i.course.on (subst (IsSwitch network) child switch))
 
@@ -293,7 +294,7 @@ module _ (network : Network) (ms : List Message) (ids : List ℕ) (attempts : Li
               ap (λ (r : Row). target_by r.way there.e.link) there.row ∙ ap (target_by b.q.hop.way) links ∙ b.target in
               let vl : there.e.row.vl ≡ e.row.vl = ap (λ (r : Row). r.vl) there.row ∙ sym (ap (λ (r : Row). r.vl) n.row) in
               inr (
-                switch_is network own_at.channel (source_of e) s.range b.switch,
+                switch_is own_at.channel (source_of e) s.range b.switch,
                 (there.k, not_same b there is, record { entry = there.e; is = there.is; same_vl = vl; target = target }),
               )
         ]
@@ -323,7 +324,7 @@ module _ (network : Network) (ms : List Message) (ids : List ℕ) (attempts : Li
       mine = some_same o.a n.a (slice_get attempts n.j) (subst (λ (j : ℕ). slice_get attempts j ≡ Some o.a) turns o.at_a) n.at_a
 
       at_order : slice_get (in_order network n.a) o.i ≡ Some o.p
-      at_order = subst (λ (x : Attempt). slice_get (in_order network x) o.i ≡ Some o.p) mine o.at_p
+      at_order = subst (λ x. slice_get (in_order network x) o.i ≡ Some o.p) mine o.at_p
 
       other_item : (l : ℕ) × (slice_get n.a.placed.items l ≡ Some o.p)
       other_item = of_items network n.a o.i o.p at_order
@@ -416,7 +417,7 @@ module _ (network : Network) (ms : List Message) (ids : List ℕ) (attempts : Li
             (omega (arith, late, begin, offset))
         | inr b ↦
             let sender = source ∙ sender_is network ms ids attempts s place e n in
-            absurd (no_switch network (own_at place e n).channel n.m.sender s.range (s.sender n.j n.m n.at_m)
+            absurd (no_switch (own_at place e n).channel n.m.sender s.range (s.sender n.j n.m n.at_m)
             (subst (IsSwitchOf network (own_at place e n).channel) sender b.switch))
       ]
     ];
@@ -548,7 +549,7 @@ module _ (network : Network) (ms : List Message) (ids : List ℕ) (attempts : Li
       let there : target_by n.p.hop.way own.enters.link ≡ d = ap (target_by n.p.hop.way) links ∙ sym (target_own k e n) ∙ target in
       elim own.enters.target [
         | inl same ↦ subst (Contains n.m.receivers) (sym same ∙ there) own.of_message
-        | inr switch ↦ absurd (no_switch network own.channel d s.range end (subst (IsSwitchOf network own.channel) there switch))
+        | inr switch ↦ absurd (no_switch own.channel d s.range end (subst (IsSwitchOf network own.channel) there switch))
       ]
 
   pub both_channels : (place : ℕ) → GoesByBothChannels p_net place

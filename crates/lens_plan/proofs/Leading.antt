@@ -52,8 +52,9 @@ no_channel : (c : Channel) (o : Option Channel) (b : Bool) → is_some o ≡ not
 no_channel c o b same end is = grind (arith, same, end, is)
 
 -- an end system is a switch of no channel
-pub no_switch : (network : Network) (c : Channel) (device : DeviceId) → IsInRange network → IsEndSystem network device → IsSwitchOf network c device → ⊥
-no_switch network c device range end switch =
+pub no_switch : {network : Network} (c : Channel) (device : DeviceId) → IsInRange network
+    → IsEndSystem network device → IsSwitchOf network c device → ⊥
+no_switch {network} c device range end switch =
     let o = opened (λ (x : Device). is_end_system x.role ≡ true) (device_at network device) end in
     let there : o.0.channel ≡ Some c = at_known (λ (x : Device). x.channel ≡ Some c) (device_at network device) o.0 o.1 switch in
     let ranged = in_all IsDeviceInRange network.device device.0 o.0 range.devices o.1 in
@@ -114,7 +115,7 @@ module _ (network : Network) (vl : VlId) (of_vl : VirtualLink) (start : ℕ) (go
       elim (cases_of place other) [
         | inl less ↦ once_by place other e f less is there own also link
         | inr (inl same) ↦
-            let one = one_entry network other e f (subst (λ (k : ℕ). IsEntry network k e) same is) there in
+            let one = one_entry network other e f (subst (λ k. IsEntry network k e) same is) there in
             ways (ap (λ (x : Entry). x.row.way) one)
         | inr (inr more) ↦ once_by other place f e more there is also own (sym link)
       ]
@@ -144,7 +145,7 @@ module _ (network : Network) (vl : VlId) (of_vl : VirtualLink) (start : ℕ) (go
       → Lead network vl start whole (window_end network e + 1)
   lead_more hops whole next place e way lead is own by late more =
       let p = placed_of e in
-      let at : hops ++ hop_by e.row.way e.row.link ∷ [] ≡ whole = ap (λ (w : Way). hops ++ hop_by w e.row.link ∷ []) by ∙ sym more in
+      let at : hops ++ hop_by e.row.way e.row.link ∷ [] ≡ whole = ap (λ w. hops ++ hop_by w e.row.link ∷ []) by ∙ sym more in
       let order = lead.next_is in
       record {
         ps = lead.ps ++ p ∷ [];
@@ -168,16 +169,16 @@ module _ (network : Network) (vl : VlId) (of_vl : VirtualLink) (start : ℕ) (go
 
   -- the ends of a row by its way
   from_child : (e : Entry) → e.row.way ≡ Up → source_of e ≡ e.link.child
-  from_child e up = ap (λ (w : Way). source_by w e.link) up
+  from_child e up = ap (λ w. source_by w e.link) up
 
   from_parent : (e : Entry) → e.row.way ≡ Down → source_of e ≡ e.link.parent
-  from_parent e down = ap (λ (w : Way). source_by w e.link) down
+  from_parent e down = ap (λ w. source_by w e.link) down
 
   to_parent : (e : Entry) → e.row.way ≡ Up → target_of e ≡ e.link.parent
-  to_parent e up = ap (λ (w : Way). target_by w e.link) up
+  to_parent e up = ap (λ w. target_by w e.link) up
 
   to_child : (e : Entry) → e.row.way ≡ Down → target_of e ≡ e.link.child
-  to_child e down = ap (λ (w : Way). target_by w e.link) down
+  to_child e down = ap (λ w. target_by w e.link) down
 
   module _ (channel : Channel) (from : List LinkId) (path : IsPath network channel of_vl.sender from) where
     -- the way from the sender to a device with this path
@@ -194,17 +195,17 @@ module _ (network : Network) (vl : VlId) (of_vl : VirtualLink) (start : ℕ) (go
         → IsPath network channel (target_of e) to → e.row.way ≡ way → source_of e ≡ of_vl.sender
         → Lead network vl start (way_to to) (window_end network e + 1)
     leads_first place e to Down is own on to_path by sender =
-        absurd (no_switch network channel of_vl.sender goes.range goes.sender
+        absurd (no_switch channel of_vl.sender goes.range goes.sender
         (subst (IsSwitchOf network channel) (sym (from_parent e by) ∙ sender) on))
     leads_first place e to Up is own on to_path by sender =
         let child = sym (from_child e by) ∙ sender in
-        let up = subst (λ (d : DeviceId). IsUplink network channel d e.row.link) child (uplink place e is on) in
+        let up = subst (λ d. IsUplink network channel d e.row.link) child (uplink place e is on) in
         let it = followed network channel of_vl.sender e.row.link e.link from goes.tree up is.link path in
-        let here = subst (λ (d : DeviceId). IsPath network channel d to) (to_parent e by) to_path in
+        let here = subst (λ d. IsPath network channel d to) (to_parent e by) to_path in
         let same = paths_are_unique network channel e.link.parent it.0 to goes.tree it.2 here in
         let whole : from ≡ e.row.link ∷ to = it.1 ∙ ap (λ (ls : List LinkId). e.row.link ∷ ls) same in
         let one = first_way network channel goes.tree of_vl.sender e.row.link to (subst (IsPath network channel of_vl.sender) whole path) in
-        let hops : way_to to ≡ hop_by Up e.row.link ∷ [] = ap (λ (fs : List LinkId). up_hops to fs ++ down_hops fs to) whole ∙ one in
+        let hops : way_to to ≡ hop_by Up e.row.link ∷ [] = ap (λ fs. up_hops to fs ++ down_hops fs to) whole ∙ one in
         let none : Lead network vl start [] start = record { ps = []; rows = tt; behind = tt; next_is = refl } in
         lead_more [] (way_to to) start place e Up none is own by (goes.begins place e is own sender) hops
 
@@ -236,28 +237,28 @@ module _ (network : Network) (vl : VlId) (of_vl : VirtualLink) (start : ℕ) (go
         → ((rest : List LinkId) → IsPath network channel (source_of e) rest → Lead network vl start (way_to rest) next) → next ≤ amount e.row.offset
         → Lead network vl start (way_to to) (window_end network e + 1)
     leads_behind place next e to Up is own on to_path by before late =
-        let here = subst (λ (d : DeviceId). IsPath network channel d to) (to_parent e by) to_path in
+        let here = subst (λ d. IsPath network channel d to) (to_parent e by) to_path in
         let child = closed (λ (x : Link). (x.child ≡ e.link.child) × IsSwitchOf network channel x.parent × IsPath network channel x.parent to)
         (link_at network e.row.link) e.link is.link (refl, on, here) in
         leads_up place next e to (is_on from e.row.link) is own on child by refl
-        (before (e.row.link ∷ to) (subst (λ (d : DeviceId). IsPath network channel d (e.row.link ∷ to)) (sym (from_child e by)) child)) late
+        (before (e.row.link ∷ to) (subst (λ d. IsPath network channel d (e.row.link ∷ to)) (sym (from_child e by)) child)) late
     leads_behind place next e to Down is own on to_path by before late =
-        let here = subst (λ (d : DeviceId). IsPath network channel d to) (to_child e by) to_path in
+        let here = subst (λ d. IsPath network channel d to) (to_child e by) to_path in
         let it = followed network channel e.link.child e.row.link e.link to goes.tree (uplink place e is on) is.link here in
         let child = subst (IsPath network channel e.link.child) it.1 here in
-        subst (λ (ls : List LinkId). Lead network vl start (way_to ls) (window_end network e + 1)) (sym it.1)
+        subst (λ ls. Lead network vl start (way_to ls) (window_end network e + 1)) (sym it.1)
         (leads_down place next e it.0 (is_on from e.row.link) is own on child by refl
-        (before it.0 (subst (λ (d : DeviceId). IsPath network channel d it.0) (sym (from_parent e by)) it.2)) late)
+        (before it.0 (subst (λ d. IsPath network channel d it.0) (sym (from_parent e by)) it.2)) late)
 
     -- a link with its child in a channel is one of it
     child_on : (place : ℕ) (e : Entry) → IsEntry network place e → IsSwitchOf network channel e.link.child → IsOnChannel network channel e
     child_on place e is switch =
         let joins = goes.keeps Joints e.row.link.0 e.link is.link in
         ⊎_elim
-        (λ (end : IsEndSystem network e.link.child). absurd (no_switch network channel e.link.child goes.range end switch))
+        (λ (end : IsEndSystem network e.link.child). absurd (no_switch channel e.link.child goes.range end switch))
         (λ (relay : IsRoleOf network Relay joins.0 e.link.child).
         let same = one_channel network joins.0 channel e.link.child (relay_is network joins.0 e.link.child relay) switch in
-        subst (λ (c : Channel). IsSwitchOf network c e.link.parent) same joins.1)
+        subst (λ c. IsSwitchOf network c e.link.parent) same joins.1)
         joins.2
 
     -- a row that enters a switch of the channel is on it
@@ -278,7 +279,7 @@ module _ (network : Network) (vl : VlId) (of_vl : VirtualLink) (start : ℕ) (go
         (λ (relay : IsRoleOf network Relay joins.0 e.link.child).
         let same = one_channel network joins.0 channel e.link.parent joins.1 on in
         subst (IsSwitchOf network channel) (sym (from_child e by))
-        (subst (λ (c : Channel). IsSwitchOf network c e.link.child) same (relay_is network joins.0 e.link.child relay)))
+        (subst (λ c. IsSwitchOf network c e.link.child) same (relay_is network joins.0 e.link.child relay)))
         joins.2
 
     -- the virtual link's rows lead to each device that they enter by the way of the tree
@@ -300,7 +301,7 @@ module _ (network : Network) (vl : VlId) (of_vl : VirtualLink) (start : ℕ) (go
                 let there = enters_on k f f.row.way enters.is refl (subst (IsSwitchOf network channel) (sym enters.target) source) in
                 leads_behind place (window_end network f + 1) e to e.row.way is own on to_path refl
                 (λ rest rest_path. leads bound k f rest enters.is (enters.same_vl ∙ own) there
-                (subst (λ (d : DeviceId). IsPath network channel d rest) (sym enters.target) rest_path) (omega (arith, behind, below)))
+                (subst (λ d. IsPath network channel d rest) (sym enters.target) rest_path) (omega (arith, behind, below)))
                 (omega (arith, behind))
           ]
         ]

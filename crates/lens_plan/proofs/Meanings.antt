@@ -13,13 +13,14 @@ no_both : (octets : List ℕ) (n : Network) (e : FileRefusal) → network_read o
 no_both octets n e p q = cc
 
 -- the octets mean one network at most
-pub planned_as : (octets : List ℕ) (network planned : Network) (ms : List Message) (b : Bool) → MeansAccepted octets planned
-    → (IsTrue b ↔ (Extends network planned × AreServed network planned ms)) → IsTrue b ↔ MeansPlanned octets network ms
-planned_as octets network planned ms b means is = (
+pub planned_as : {octets : List ℕ} (network : Network) {planned : Network} (ms : List Message) (b : Bool)
+    → MeansAccepted octets planned → (IsTrue b ↔ (Extends network planned × AreServed network planned ms))
+    → IsTrue b ↔ MeansPlanned octets network ms
+planned_as {octets} network {planned} ms b means is = (
   λ t. let both = is.0 t in record { planned = planned; accepted = means; extends = both.0; served = both.1 },
   λ m.
       let same = same_network octets m.planned planned m.accepted.read means.read in
-      is.1 (subst (Extends network) same m.extends, subst (λ (n : Network). AreServed network n ms) same m.served),
+      is.1 (subst (Extends network) same m.extends, subst (λ n. AreServed network n ms) same m.served),
 )
 
 module _ (octets : List ℕ) (network : Network) (ms : List Message) where
@@ -32,5 +33,5 @@ module _ (octets : List ℕ) (network : Network) (ms : List Message) where
   pub not_fit : (told : RuleBroken) → MeansUnfit octets told → MeansPlanned octets network ms → ⊥
   not_fit told unfit m =
       let same = same_network octets unfit.network m.planned unfit.read m.accepted.read in
-      let first = subst (λ (n : Network). TellsFirstBroken n told) same unfit.first in
+      let first = subst (λ n. TellsFirstBroken n told) same unfit.first in
       first.first.broken (m.accepted.rules first.rule told.index)

@@ -29,10 +29,11 @@ ids_one taken (m ∷ ms) xs ys (a, as_, is, rest, same) (b, bs, its, more, equal
 
 -- ---- lines
 
-blocks_one : (network : Network) (m : Message) (id : ℕ) (a b : Attempt) → IsSameAttempt a b → message_blocks network m id a ≡ message_blocks network m id b
-blocks_one network m id a b same =
-    ap (λ (f : ℕ). vl_block network m id f ++ flat_map (row_block network m) (rows_in_order network a.placed.items)) same.phase
-    ∙ ap (λ (ps : List Placed). vl_block network m id b.phase ++ flat_map (row_block network m) (rows_in_order network ps)) same.rows
+blocks_one : (network : Network) (m : Message) (id : ℕ) {a b : Attempt} → IsSameAttempt a b
+    → message_blocks network m id a ≡ message_blocks network m id b
+blocks_one network m id {a} {b} same =
+    ap (λ f. vl_block network m id f ++ flat_map (row_block network m) (rows_in_order network a.placed.items)) same.phase
+    ∙ ap (λ ps. vl_block network m id b.phase ++ flat_map (row_block network m) (rows_in_order network ps)) same.rows
 
 lines_one : (network : Network) (ms : List Message) (ids : List ℕ) (xs ys : List Attempt) → AllZip IsSameAttempt xs ys
     → plan_lines network ms ids xs ≡ plan_lines network ms ids ys
@@ -42,22 +43,26 @@ lines_one network (m ∷ ms) (id ∷ ids) [] [] same = refl
 lines_one network (m ∷ ms) (id ∷ ids) [] (y ∷ ys) same = absurd same
 lines_one network (m ∷ ms) (id ∷ ids) (x ∷ xs) [] same = absurd same
 lines_one network (m ∷ ms) (id ∷ ids) (x ∷ xs) (y ∷ ys) same =
-    ap (λ (ls : List PlanLine). ls ++ plan_lines network ms ids xs) (blocks_one network m id x y same.0)
+    ap (λ (ls : List PlanLine). ls ++ plan_lines network ms ids xs) (blocks_one network m id same.0)
     ∙ ap (λ (ls : List PlanLine). message_blocks network m id y ++ ls) (lines_one network ms ids xs ys same.1)
 
 -- ---- the octets with these lines
 
-joined_one : (octets : List ℕ) (network : Network) (ms : List Message) (lines : List PlanLine) (a b : Answer) → IsJoinedAnswer octets network ms lines a
-    → IsJoinedAnswer octets network ms lines b → a ≡ b
-joined_one octets network ms lines a b (inl p) (inl q) = p.1 ∙ sym q.1
-joined_one octets network ms lines a b (inl p) (inr (inl q)) = absurd (let long = p.0 in let fits = q.0 in omega (arith, long, fits))
-joined_one octets network ms lines a b (inl p) (inr (inr q)) = absurd (let long = p.0 in let fits = q.0.accepted.fits in omega (arith, long, fits))
-joined_one octets network ms lines a b (inr (inl p)) (inl q) = absurd (let long = q.0 in let fits = p.0 in omega (arith, long, fits))
-joined_one octets network ms lines a b (inr (inl p)) (inr (inl q)) = p.2 ∙ sym q.2
-joined_one octets network ms lines a b (inr (inl p)) (inr (inr q)) = absurd (p.1 q.0)
-joined_one octets network ms lines a b (inr (inr p)) (inl q) = absurd (let long = q.0 in let fits = p.0.accepted.fits in omega (arith, long, fits))
-joined_one octets network ms lines a b (inr (inr p)) (inr (inl q)) = absurd (q.1 p.0)
-joined_one octets network ms lines a b (inr (inr p)) (inr (inr q)) = p.1 ∙ sym q.1
+joined_one : (octets : List ℕ) {network : Network} {ms : List Message} (lines : List PlanLine) (a b : Answer)
+    → IsJoinedAnswer octets network ms lines a → IsJoinedAnswer octets network ms lines b → a ≡ b
+joined_one octets lines a b (inl p) (inl q) = p.1 ∙ sym q.1
+joined_one octets lines a b (inl p) (inr (inl q)) =
+    absurd (let long = p.0 in let fits = q.0 in omega (arith, long, fits))
+joined_one octets lines a b (inl p) (inr (inr q)) =
+    absurd (let long = p.0 in let fits = q.0.accepted.fits in omega (arith, long, fits))
+joined_one octets lines a b (inr (inl p)) (inl q) =
+    absurd (let long = q.0 in let fits = p.0 in omega (arith, long, fits))
+joined_one octets lines a b (inr (inl p)) (inr (inl q)) = p.2 ∙ sym q.2
+joined_one octets lines a b (inr (inl p)) (inr (inr q)) = absurd (p.1 q.0)
+joined_one octets lines a b (inr (inr p)) (inl q) =
+    absurd (let long = q.0 in let fits = p.0.accepted.fits in omega (arith, long, fits))
+joined_one octets lines a b (inr (inr p)) (inr (inl q)) = absurd (q.1 p.0)
+joined_one octets lines a b (inr (inr p)) (inr (inr q)) = p.1 ∙ sym q.1
 
 -- ---- messages
 
@@ -68,46 +73,55 @@ pub record CausesAreOne (network : Network) (ms : List Message) : Type 0 where
   pub never : (cause : NoPlan) (a : Answer) (attempts : List Attempt) → IsNoPlan network ms cause → IsToldBy network ms cause a
       → IsPlan network ms attempts → ⊥
 
-plan_of_one : (octets : List ℕ) (network : Network) (ms : List Message) → IsTree network → CausesAreOne network ms → (a b : Answer)
-    → IsPlanOf octets network ms a → IsPlanOf octets network ms b → a ≡ b
-plan_of_one octets network ms tree one a b (inl (cause, is, told)) (inl (other, its, says)) = one.same cause other a b is its told says
-plan_of_one octets network ms tree one a b (inl (cause, is, told)) (inr (lines, are, joined)) =
+plan_of_one : (octets : List ℕ) {network : Network} {ms : List Message} → IsTree network → CausesAreOne network ms
+    → (a b : Answer) → IsPlanOf octets network ms a → IsPlanOf octets network ms b → a ≡ b
+plan_of_one octets tree one a b (inl (cause, is, told)) (inl (other, its, says)) =
+    one.same cause other a b is its told says
+plan_of_one octets tree one a b (inl (cause, is, told)) (inr (lines, are, joined)) =
     absurd (one.never cause a are.attempts is told are.plan)
-plan_of_one octets network ms tree one a b (inr (lines, are, joined)) (inl (cause, is, told)) =
+plan_of_one octets tree one a b (inr (lines, are, joined)) (inl (cause, is, told)) =
     absurd (one.never cause b are.attempts is told are.plan)
-plan_of_one octets network ms tree one a b (inr (lines, are, p)) (inr (others, too, q)) =
+plan_of_one octets {network} {ms} tree one a b (inr (lines, are, p)) (inr (others, too, q)) =
     let ids = ids_one (taken_ids network ms) ms are.ids too.ids are.are_ids too.are_ids in
     let attempts = plan_one network ms are.attempts too.attempts tree are.plan too.plan in
     let same : lines ≡ others =
-    are.are ∙ ap (λ (k : List ℕ). plan_lines network ms k are.attempts) ids ∙ lines_one network ms too.ids are.attempts too.attempts attempts ∙ sym too.are in
-    joined_one octets network ms others a b (subst (λ (ls : List PlanLine). IsJoinedAnswer octets network ms ls a) same p) q
+    are.are ∙ ap (λ k. plan_lines network ms k are.attempts) ids ∙ lines_one network ms too.ids are.attempts too.attempts attempts ∙ sym too.are in
+    joined_one octets others a b (subst (λ ls. IsJoinedAnswer octets network ms ls a) same p) q
 
-no_both : (network : Network) (text : List ℕ) (line : RefusedLine) (ms : List Message) → messages_read network text ≡ Err line
-    → messages_read network text ≡ Ok ms → ⊥
-no_both network text line ms p q = cc
+module _ (network : Network) (text : List ℕ) where
+  no_both : (line : RefusedLine) (ms : List Message) → messages_read network text ≡ Err line
+      → messages_read network text ≡ Ok ms → ⊥
+  no_both line ms p q = cc
 
-same_line : (network : Network) (text : List ℕ) (line other : RefusedLine) → messages_read network text ≡ Err line
-    → messages_read network text ≡ Err other → line ≡ other
-same_line network text line other p q = cc
+  same_line : (line other : RefusedLine) → messages_read network text ≡ Err line
+      → messages_read network text ≡ Err other → line ≡ other
+  same_line line other p q = cc
 
-same_messages : (network : Network) (text : List ℕ) (ms others : List Message) → messages_read network text ≡ Ok ms
-    → messages_read network text ≡ Ok others → ms ≡ others
-same_messages network text ms others p q = cc
+  same_messages : (ms others : List Message) → messages_read network text ≡ Ok ms
+      → messages_read network text ≡ Ok others → ms ≡ others
+  same_messages ms others p q = cc
 
-plan_for_one : (text octets : List ℕ) (network : Network) → IsTree network → ((ms : List Message) → CausesAreOne network ms) → (a b : Answer)
-    → IsPlanFor text octets network a → IsPlanFor text octets network b → a ≡ b
-plan_for_one text octets network tree one a b (inl p) (inl q) = p.1 ∙ sym q.1
-plan_for_one text octets network tree one a b (inl p) (inr (inl q)) = absurd (let long = p.0 in let fits = q.1.fits in omega (arith, long, fits))
-plan_for_one text octets network tree one a b (inl p) (inr (inr q)) = absurd (let long = p.0 in let fits = q.1.fits in omega (arith, long, fits))
-plan_for_one text octets network tree one a b (inr (inl p)) (inl q) = absurd (let long = q.0 in let fits = p.1.fits in omega (arith, long, fits))
-plan_for_one text octets network tree one a b (inr (inl p)) (inr (inl q)) =
-    p.2 ∙ ap (λ (l : RefusedLine). line_answer MessagesRefused (line_refusal l)) (same_line network text p.0 q.0 p.1.read q.1.read) ∙ sym q.2
-plan_for_one text octets network tree one a b (inr (inl p)) (inr (inr q)) = absurd (no_both network text p.0 q.0 p.1.read q.1.read)
-plan_for_one text octets network tree one a b (inr (inr p)) (inl q) = absurd (let long = q.0 in let fits = p.1.fits in omega (arith, long, fits))
-plan_for_one text octets network tree one a b (inr (inr p)) (inr (inl q)) = absurd (no_both network text q.0 p.0 q.1.read p.1.read)
-plan_for_one text octets network tree one a b (inr (inr p)) (inr (inr q)) =
+plan_for_one : {text : List ℕ} (octets : List ℕ) {network : Network} → IsTree network
+    → ((ms : List Message) → CausesAreOne network ms) → (a b : Answer) → IsPlanFor text octets network a
+    → IsPlanFor text octets network b → a ≡ b
+plan_for_one octets tree one a b (inl p) (inl q) = p.1 ∙ sym q.1
+plan_for_one octets tree one a b (inl p) (inr (inl q)) =
+    absurd (let long = p.0 in let fits = q.1.fits in omega (arith, long, fits))
+plan_for_one octets tree one a b (inl p) (inr (inr q)) =
+    absurd (let long = p.0 in let fits = q.1.fits in omega (arith, long, fits))
+plan_for_one octets tree one a b (inr (inl p)) (inl q) =
+    absurd (let long = q.0 in let fits = p.1.fits in omega (arith, long, fits))
+plan_for_one {text} octets {network} tree one a b (inr (inl p)) (inr (inl q)) =
+    p.2 ∙ ap (λ l. line_answer MessagesRefused (line_refusal l)) (same_line network text p.0 q.0 p.1.read q.1.read) ∙ sym q.2
+plan_for_one {text} octets {network} tree one a b (inr (inl p)) (inr (inr q)) =
+    absurd (no_both network text p.0 q.0 p.1.read q.1.read)
+plan_for_one octets tree one a b (inr (inr p)) (inl q) =
+    absurd (let long = q.0 in let fits = p.1.fits in omega (arith, long, fits))
+plan_for_one {text} octets {network} tree one a b (inr (inr p)) (inr (inl q)) =
+    absurd (no_both network text q.0 p.0 q.1.read p.1.read)
+plan_for_one {text} octets {network} tree one a b (inr (inr p)) (inr (inr q)) =
     let same = same_messages network text q.0 p.0 q.1.read p.1.read in
-    plan_of_one octets network p.0 tree (one p.0) a b p.2 (subst (λ (ms : List Message). IsPlanOf octets network ms b) same q.2)
+    plan_of_one octets tree (one p.0) a b p.2 (subst (λ ms. IsPlanOf octets network ms b) same q.2)
 
 -- ---- why there is no plan
 
@@ -118,50 +132,56 @@ short_by word network m phase ps short =
     ++ option_map_or (short_row_text network m) (find (λ p. (p.end - row_limit network m p.hop) == short) (rows_in_order network ps)) []
     ++ codes " short " ++ decimal short ++ codes "\n"
 
-short_line_one : (word : List ℕ) (network : Network) (m : Message) (a b : Attempt) → IsSameAttempt a b
+short_line_one : (word : List ℕ) (network : Network) (m : Message) {a b : Attempt} → IsSameAttempt a b
     → short_line word network m a ≡ short_line word network m b
-short_line_one word network m a b same =
-    ap (λ (f : ℕ). short_by word network m f a.placed.items a.score.short) same.phase
-    ∙ ap (λ (ps : List Placed). short_by word network m b.phase ps a.score.short) same.rows
+short_line_one word network m {a} {b} same =
+    ap (λ f. short_by word network m f a.placed.items a.score.short) same.phase
+    ∙ ap (λ ps. short_by word network m b.phase ps a.score.short) same.rows
     ∙ ap (λ (s : Score). short_by word network m b.phase b.placed.items s.short) same.score
 
-line_at_one : (word : List ℕ) (network : Network) (ms : List Message) (place other : ℕ) (a b : Attempt) → place ≡ other → IsSameAttempt a b
-    → short_line_at word network ms place a ≡ short_line_at word network ms other b
-line_at_one word network ms place other a b here same =
-    ap (λ (k : ℕ). short_line_at word network ms k a) here ∙ by (slice_get ms other)
+line_at_one : (word : List ℕ) (network : Network) (ms : List Message) (place other : ℕ) {a b : Attempt}
+    → place ≡ other → IsSameAttempt a b → short_line_at word network ms place a
+    ≡ short_line_at word network ms other b
+line_at_one word network ms place other {a} {b} here same =
+    ap (λ k. short_line_at word network ms k a) here ∙ by (slice_get ms other)
   where
     by : (o : Option Message) → option_map_or (λ m. short_line word network m a) o [] ≡ option_map_or (λ m. short_line word network m b) o []
     by None = refl
-    by (Some m) = short_line_one word network m a b same
+    by (Some m) = short_line_one word network m same
 
-told_one : (network : Network) (ms : List Message) (one other : NoPlan) (a b : Answer) → IsSameNoPlan one other → IsToldBy network ms one a
-    → IsToldBy network ms other b → a ≡ b
-told_one network ms plans.OutOfMemory other a b same told says = absurd told
-told_one network ms (plans.Excess x) plans.OutOfMemory a b same told says = absurd says
-told_one network ms (plans.Impossible place x) plans.OutOfMemory a b same told says = absurd says
-told_one network ms (plans.Unplaced place x) plans.OutOfMemory a b same told says = absurd says
-told_one network ms (plans.Excess x) (plans.Excess y) a b same told says =
-    told ∙ ap (λ (e : Excess). line_answer PlanRefused (excess_line network e)) same ∙ sym says
-told_one network ms (plans.Excess x) (plans.Impossible other y) a b same told says = absurd same
-told_one network ms (plans.Excess x) (plans.Unplaced other y) a b same told says = absurd same
-told_one network ms (plans.Impossible place x) (plans.Excess y) a b same told says = absurd same
-told_one network ms (plans.Impossible place x) (plans.Impossible other y) a b same told says =
-    told ∙ ap (line_answer PlanRefused) (line_at_one (codes "impossible") network ms place other x y same.0 same.1) ∙ sym says
-told_one network ms (plans.Impossible place x) (plans.Unplaced other y) a b same told says = absurd same
-told_one network ms (plans.Unplaced place x) (plans.Excess y) a b same told says = absurd same
-told_one network ms (plans.Unplaced place x) (plans.Impossible other y) a b same told says = absurd same
-told_one network ms (plans.Unplaced place x) (plans.Unplaced other y) a b same told says =
-    told ∙ ap (line_answer PlanRefused) (line_at_one (codes "unplaced") network ms place other x y same.0 same.1) ∙ sym says
+module _ (network : Network) (ms : List Message) where
+  told_one : (one other : NoPlan) (a b : Answer) → IsSameNoPlan one other → IsToldBy network ms one a
+      → IsToldBy network ms other b → a ≡ b
+  told_one plans.OutOfMemory other a b same told says = absurd told
+  told_one (plans.Excess x) plans.OutOfMemory a b same told says = absurd says
+  told_one (plans.Impossible place x) plans.OutOfMemory a b same told says = absurd says
+  told_one (plans.Unplaced place x) plans.OutOfMemory a b same told says = absurd says
+  told_one (plans.Excess x) (plans.Excess y) a b same told says =
+      told ∙ ap (λ e. line_answer PlanRefused (excess_line network e)) same ∙ sym says
+  told_one (plans.Excess x) (plans.Impossible other y) a b same told says = absurd same
+  told_one (plans.Excess x) (plans.Unplaced other y) a b same told says = absurd same
+  told_one (plans.Impossible place x) (plans.Excess y) a b same told says = absurd same
+  told_one (plans.Impossible place x) (plans.Impossible other y) a b same told says =
+      told ∙ ap (line_answer PlanRefused) (line_at_one (codes "impossible") network ms place other same.0 same.1)
+      ∙ sym says
+  told_one (plans.Impossible place x) (plans.Unplaced other y) a b same told says = absurd same
+  told_one (plans.Unplaced place x) (plans.Excess y) a b same told says = absurd same
+  told_one (plans.Unplaced place x) (plans.Impossible other y) a b same told says = absurd same
+  told_one (plans.Unplaced place x) (plans.Unplaced other y) a b same told says =
+      told ∙ ap (line_answer PlanRefused) (line_at_one (codes "unplaced") network ms place other same.0 same.1) ∙ sym
+      says
 
-told_never : (network : Network) (ms : List Message) (cause : NoPlan) (a : Answer) → cause ≡ plans.OutOfMemory → IsToldBy network ms cause a → ⊥
-told_never network ms cause a same told = subst (λ (c : NoPlan). IsToldBy network ms c a) same told
+  told_never : (cause : NoPlan) (a : Answer) → cause ≡ plans.OutOfMemory → IsToldBy network ms cause a → ⊥
+  told_never cause a same told = subst (λ c. IsToldBy network ms c a) same told
 
-causes_one : (network : Network) (ms : List Message) → IsTree network → CausesAreOne network ms
-causes_one network ms tree = record {
-  same = λ one other a b is its told says. told_one network ms one other a b (none_one network ms one other tree is its) told says;
-  never = λ cause a attempts is told plan. told_never network ms cause a (plan_or_none network ms attempts cause tree plan is) told;
-}
+  causes_one : IsTree network → CausesAreOne network ms
+  causes_one tree = record {
+    same = λ one other a b is its told says. told_one one other a b (none_one network ms one other tree is its) told
+        says;
+    never = λ cause a attempts is told plan. told_never cause a (plan_or_none network ms attempts cause tree plan is)
+        told;
+  }
 
-pub plan_one_for : (text octets : List ℕ) (network : Network) → IsTree network → (a b : Answer) → IsPlanFor text octets network a
-    → IsPlanFor text octets network b → a ≡ b
-plan_one_for text octets network tree = plan_for_one text octets network tree (λ ms. causes_one network ms tree)
+pub plan_one_for : {text : List ℕ} (octets : List ℕ) {network : Network} → IsTree network → (a b : Answer)
+    → IsPlanFor text octets network a → IsPlanFor text octets network b → a ≡ b
+plan_one_for {text} octets {network} tree = plan_for_one {text = text} octets tree (λ ms. causes_one network ms tree)

@@ -33,8 +33,9 @@ there_of xs k d within = slice_get-get_or xs k d within
 
 -- ---- the rows that are there
 
-pub there_one : (network : Network) (one other : List Taken) → AreThere network one → AreThere network other → one ≡ other
-there_one network one other are too =
+pub there_one : {network : Network} {one other : List Taken} → AreThere network one → AreThere network other
+    → one ≡ other
+there_one {network} {one} {other} are too =
     same_lists one other (are.counted ∙ sym too.counted)
     (λ k row found.
     let mine = are.each k row found in
@@ -106,9 +107,10 @@ found_in [] k within = absurd (omega (arith, within))
 found_in (x ∷ xs) zero within = (x, refl)
 found_in (x ∷ xs) (suc k) within = found_in xs k (omega (arith, within))
 
-firsts_one : (network : Network) (there : List Taken) (ms : List Message) (count : ℕ) (ones others : List Attempt) → IsTree network
-    → HavePlaces network there ms count ones → HavePlaces network there ms count others → (k : ℕ) → k < count → AreSameAt ones others k
-firsts_one network there ms count ones others tree have also k within =
+firsts_one : {network : Network} {there : List Taken} {ms : List Message} {count : ℕ} {ones others : List Attempt}
+    → IsTree network → HavePlaces network there ms count ones → HavePlaces network there ms count others → (k : ℕ)
+    → k < count → AreSameAt ones others k
+firsts_one {network} {there} {ms} {ones} {others} tree have also k within =
     let size = have.counted in
     let long = also.counted in
     let one = found_in ones k (omega (arith, size, within)) in
@@ -122,7 +124,7 @@ firsts_one network there ms count ones others tree have also k within =
       here = one.1;
       there = other.1;
       same = behind_one network there mine.0 one.0 other.0 tree mine.2.best
-          (subst (λ (m : Message). IsBestBehind network there m other.0) message yours.2.best);
+          (subst (λ m. IsBestBehind network there m other.0) message yours.2.best);
     }
 
 rooms_by : (one other : Option Attempt) (a b : Attempt) → one ≡ Some a → other ≡ Some b → a.score ≡ b.score
@@ -148,9 +150,9 @@ before_same : (ones others : List Attempt) → ((place : ℕ) → room_of ones p
 before_same ones others same x y (inl less) = let a = same x in let b = same y in inl (omega (arith, less, a, b))
 before_same ones others same x y (inr both) = let a = same x in let b = same y in let e = both.0 in inr (omega (arith, e, a, b), both.1)
 
-order_one : (ones others : List Attempt) (count : ℕ) (xs ys : List ℕ) → length ones ≡ count → length others ≡ count
+order_one : {ones others : List Attempt} (count : ℕ) {xs ys : List ℕ} → length ones ≡ count → length others ≡ count
     → ((k : ℕ) → k < count → AreSameAt ones others k) → IsByRoom ones xs → IsByRoom others ys → xs ≡ ys
-order_one ones others count xs ys size long same one other =
+order_one {ones} {others} count {xs} {ys} size long same one other =
     let mine : IsPermutation (range_with_len 0 count) xs = subst (λ (n : ℕ). IsPermutation (range_with_len 0 n) xs) size one.all in
     let yours : IsPermutation (range_with_len 0 count) ys = subst (λ (n : ℕ). IsPermutation (range_with_len 0 n) ys) long other.all in
     let to = IsPermutation-trans xs (range_with_len 0 count) ys (IsPermutation-sym (range_with_len 0 count) xs mine) yours in
@@ -161,9 +163,10 @@ order_one ones others count xs ys size long same one other =
 
 -- ---- placing in an order
 
-rows_of_same : (network : Network) (m : Message) (a b : Attempt) → IsSameAttempt a b → rows_of network m a ≡ rows_of network m b
-rows_of_same network m a b same =
-    ap (λ (f : ℕ). map (taken_of network m f) a.placed.items) same.phase ∙ ap (λ (ps : List Placed). map (taken_of network m b.phase) ps) same.rows
+rows_of_same : (network : Network) (m : Message) {a b : Attempt} → IsSameAttempt a b
+    → rows_of network m a ≡ rows_of network m b
+rows_of_same network m {a} {b} same =
+    ap (λ f. map (taken_of network m f) a.placed.items) same.phase ∙ ap (λ (ps : List Placed). map (taken_of network m b.phase) ps) same.rows
 
 pub record PlacedAlike (ones others : List Attempt) (order : List ℕ) (taken other : List Taken) : Type 0 where
   pub taken_is : taken ≡ other
@@ -175,9 +178,9 @@ module _ (network : Network) (ms : List Message) (tree : IsTree network) where
   placed_one ones others rows [] taken other one two = record { taken_is = one ∙ sym two; each = All-nil (AreSameAt ones others) }
   placed_one ones others rows (place ∷ order) taken other (m, a, there, at, has, rest) (n, b, also, too, have, more) =
       let message : n ≡ m = some_one (slice_get ms place) n m also there in
-      let same = behind_one network rows m a b tree has.best (subst (λ (x : Message). IsBestBehind network rows x b) message have.best) in
+      let same = behind_one network rows m a b tree has.best (subst (λ x. IsBestBehind network rows x b) message have.best) in
       let taking : rows_of network n b ≡ rows_of network m a =
-      ap (λ (x : Message). rows_of network x b) message ∙ sym (rows_of_same network m a b same) in
+      ap (λ x. rows_of network x b) message ∙ sym (rows_of_same network m same) in
       let later = placed_one ones others (rows ++ rows_of network m a) order taken other rest
       (subst (λ (rs : List Taken). ArePlaced network ms others (rows ++ rs) order other) taking more) in
       record {
@@ -233,8 +236,8 @@ module _ (network : Network) (ms : List Message) (tree : IsTree network) where
       some_one (slice_get ms misfit.place) turn.message misfit.message
       (subst (λ (p : ℕ). slice_get ms p ≡ Some turn.message) place turn.there) misfit.there in
       let same = behind_one network misfit.taken misfit.message turn.attempt x.attempt tree
-      (subst (λ (m : Message). IsBestBehind network misfit.taken m turn.attempt) message
-      (subst (λ (ts : List Taken). IsBestBehind network ts turn.message turn.attempt) taken turn.has.best)) misfit.best in
+      (subst (λ m. IsBestBehind network misfit.taken m turn.attempt) message
+      (subst (λ ts. IsBestBehind network ts turn.message turn.attempt) taken turn.has.best)) misfit.best in
       let none = turn.has.fits in
       let some = misfit.short in
       let short : turn.attempt.score.short ≡ x.attempt.score.short = ap (λ (s : Score). s.short) same.score in
@@ -263,7 +266,7 @@ module _ (network : Network) (ms : List Message) (tree : IsTree network) where
       let within = within_found order x.turn misfit.place misfit.here in
       clash attempts rows order x
       (turn_of attempts rows order (length order) x.turn taken
-      (subst (λ (xs : List ℕ). ArePlaced network ms attempts rows xs taken) (sym (take-length order)) placed) within within) misfit
+      (subst (λ xs. ArePlaced network ms attempts rows xs taken) (sym (take-length order)) placed) within within) misfit
 
   -- ---- moves
 
@@ -273,12 +276,12 @@ module _ (network : Network) (ms : List Message) (tree : IsTree network) where
       let turn = turns_one rows order x y one other in
       let place : one.place ≡ other.place =
       some_one (slice_get order y.turn) one.place other.place (subst (λ (n : ℕ). slice_get order n ≡ Some one.place) turn one.here) other.here in
-      ap (λ (n : ℕ). with_first n one.place order) turn ∙ ap (λ (p : ℕ). with_first y.turn p order) place
+      ap (λ n. with_first n one.place order) turn ∙ ap (λ p. with_first y.turn p order) place
 
   firsts_moved : (rows : List Taken) (one other : List ℕ) (x y : Misfit) → one ≡ other → (mine : IsMisfit network ms rows one x)
       → (yours : IsMisfit network ms rows other y) → with_first x.turn mine.place one ≡ with_first y.turn yours.place other
   firsts_moved rows one other x y same =
-      subst (λ (os : List ℕ). (mine : IsMisfit network ms rows one x) → (yours : IsMisfit network ms rows os y) → with_first x.turn mine.place one ≡ with_first y.turn yours.place os) same
+      subst (λ os. (mine : IsMisfit network ms rows one x) → (yours : IsMisfit network ms rows os y) → with_first x.turn mine.place one ≡ with_first y.turn yours.place os) same
       (firsts_same rows one x y)
 
   pub moved_one : (rows : List Taken) (first : List ℕ) (moves : ℕ) (one other : List ℕ) → IsMoved network ms rows first moves one
@@ -297,8 +300,8 @@ module _ (network : Network) (ms : List Message) (tree : IsTree network) where
         | inr ge ↦
             let same : many ≡ few = omega (arith, less, ge) in (
               x,
-              subst (λ (os : List ℕ). IsMisfit network ms rows os x)
-                  (moved_one rows first few e one (subst (λ (n : ℕ). IsMoved network ms rows first n e) same before) is) unfit,
+              subst (λ os. IsMisfit network ms rows os x)
+                  (moved_one rows first few e one (subst (λ n. IsMoved network ms rows first n e) same before) is) unfit,
             )
       ]
 
@@ -315,13 +318,13 @@ module _ (network : Network) (ms : List Message) (tree : IsTree network) where
   firsts_of_reached : (there : List Taken) (n k : ℕ) (xs ys : List ℕ) (one : IsReached network ms there n xs) (other : IsReached network ms there k ys)
       → one.first ≡ other.first
   firsts_of_reached there n k xs ys one other =
-      order_one one.attempts other.attempts (length ms) one.first other.first one.have.counted other.have.counted
-      (firsts_one network there ms (length ms) one.attempts other.attempts tree one.have other.have) one.by_room other.by_room
+      order_one (length ms) one.have.counted other.have.counted
+      (firsts_one tree one.have other.have) one.by_room other.by_room
 
   pub moved_from : (there : List Taken) (n k : ℕ) (xs ys : List ℕ) (one : IsReached network ms there n xs) (other : IsReached network ms there k ys)
       → IsMoved network ms there one.first k ys
   moved_from there n k xs ys one other =
-      subst (λ (os : List ℕ). IsMoved network ms there os k ys) (sym (firsts_of_reached there n k xs ys one other)) other.moved
+      subst (λ os. IsMoved network ms there os k ys) (sym (firsts_of_reached there n k xs ys one other)) other.moved
 
   not_fewer : (there : List Taken) (ones others : List Attempt) (one : ArePlanned network ms there ones) (other : ArePlanned network ms there others)
       → one.moves < other.moves → ⊥
@@ -347,8 +350,8 @@ module _ (network : Network) (ms : List Message) (tree : IsTree network) where
   zip_at (a ∷ ones) [] long same = absurd (omega (arith, long))
   zip_at (a ∷ ones) (b ∷ others) long same =
       let head = same 0 (omega arith) in (
-        subst (λ (c : Attempt). IsSameAttempt c b) (some_one (Some a) head.one a head.here refl)
-            (subst (λ (c : Attempt). IsSameAttempt head.one c) (some_one (Some b) head.other b head.there refl) head.same),
+        subst (λ c. IsSameAttempt c b) (some_one (Some a) head.one a head.here refl)
+            (subst (λ c. IsSameAttempt head.one c) (some_one (Some b) head.other b head.there refl) head.same),
         zip_at ones others (omega (arith, long))
             (λ k within.
             let at = same (suc k) (omega (arith, within)) in
@@ -361,15 +364,15 @@ module _ (network : Network) (ms : List Message) (tree : IsTree network) where
       let moves = moves_one there ones others one other in
       let order : one.order ≡ other.order =
       moved_one there one.reached.first other.moves one.order other.order
-      (subst (λ (n : ℕ). IsMoved network ms there one.reached.first n one.order) moves one.reached.moved)
+      (subst (λ n. IsMoved network ms there one.reached.first n one.order) moves one.reached.moved)
       (moved_from there one.moves other.moves one.order other.order one.reached other.reached) in
       let alike = placed_one ones others there one.order one.taken other.taken one.placed
-      (subst (λ (os : List ℕ). ArePlaced network ms others there os other.taken) (sym order) other.placed) in
+      (subst (λ os. ArePlaced network ms others there os other.taken) (sym order) other.placed) in
       let counted = one.counted in
       let long = other.counted in
       let size = one.reached.have.counted in
       let all : IsOrder (length ms) one.order =
-      order_kept there one.reached.first one.moves (length ms) one.order (subst (λ (n : ℕ). IsOrder n one.reached.first) size one.reached.by_room.all)
+      order_kept there one.reached.first one.moves (length ms) one.order (subst (λ n. IsOrder n one.reached.first) size one.reached.by_room.all)
       one.reached.moved in
       let each = All-permutation (AreSameAt ones others) one.order (range_with_len 0 (length ms))
       (IsPermutation-sym (range_with_len 0 (length ms)) one.order all) alike.each in
@@ -385,4 +388,4 @@ pub plan_one : (network : Network) (ms : List Message) (ones others : List Attem
     → AllZip IsSameAttempt ones others
 plan_one network ms ones others tree (limits, (there, are, one)) (also, (seen, too, other)) =
     planned_one network ms tree there ones others one
-    (subst (λ (ts : List Taken). ArePlanned network ms ts others) (there_one network seen there too are) other)
+    (subst (λ ts. ArePlanned network ms ts others) (there_one too are) other)

@@ -8,32 +8,34 @@ use Rattle.lens_plan.specs.places.{Planning.{IsNoPlan, IsPlaceOf, no_order}, The
 use Rattle.net_plan.specs.declared.network.Network.{Network}
 use Rattle.std.{proofs.Common.{◌<◌, ◌≡◌, List, length, subst, sym, ℕ}, specs.List.All}
 
-pub none_by_order : (network : Network) (ms : List Message) (there : List Taken) (why : NoOrder) (result : NoPlan) → IsWithinLimits network ms
-    → AreThere network there → IsNoOrder network ms there why → result ≡ no_order why → IsNoPlan network ms result
-none_by_order network ms there (orders.Unplaced place a) result limits are none is =
-    subst (IsNoPlan network ms) (sym is) (limits, (there, are, none))
-none_by_order network ms there orders.OutOfMemory result limits are none is = subst (IsNoPlan network ms) (sym is) tt
+module _ (network : Network) where
+  pub none_by_order : {ms : List Message} {there : List Taken} (why : NoOrder) (result : NoPlan)
+      → IsWithinLimits network ms → AreThere network there → IsNoOrder network ms there why → result ≡ no_order why
+      → IsNoPlan network ms result
+  none_by_order {ms} {there} (orders.Unplaced place a) result limits are none is =
+      subst (IsNoPlan network ms) (sym is) (limits, (there, are, none))
+  none_by_order {ms} orders.OutOfMemory result limits are none is = subst (IsNoPlan network ms) (sym is) tt
 
--- the rows of a best attempt are ordered
-best_ordered : (network : Network) (rows : List Taken) (m : Message) (a : Attempt) → IsBestBehind network rows m a → All IsOrdered a.placed.items
-best_ordered network rows m a best = (own_attempt best.trial best.trial.message.now.phase a best.best).1.ordered
+  -- the rows of a best attempt are ordered
+  best_ordered : {rows : List Taken} {m : Message} {a : Attempt} → IsBestBehind network rows m a
+      → All IsOrdered a.placed.items
+  best_ordered {a} best = (own_attempt best.trial best.trial.message.now.phase a best.best).1.ordered
 
-unfit_place : (network : Network) (there : List Taken) (ms : List Message) (place : ℕ) (a : Attempt) → IsUnfit network there ms place a
-    → (place < length ms) × All IsOrdered a.placed.items
-unfit_place network there ms place a unfit =
-    (within_found ms place unfit.message unfit.there, best_ordered network there unfit.message a unfit.best)
+  unfit_place : {there : List Taken} {ms : List Message} {place : ℕ} {a : Attempt} → IsUnfit network there ms place a
+      → (place < length ms) × All IsOrdered a.placed.items
+  unfit_place {ms} {place} unfit =
+      (within_found ms place unfit.message unfit.there, best_ordered unfit.best)
 
-unplaced_place : (network : Network) (ms : List Message) (there : List Taken) (place : ℕ) (a : Attempt) → IsUnplaced network ms there place a
-    → (place < length ms) × All IsOrdered a.placed.items
-unplaced_place network ms there place a un =
-    let misfit = un.unfit in (
-      subst (λ (p : ℕ). p < length ms) (sym un.place_is) (within_found ms misfit.place misfit.message misfit.there),
-      subst (λ (b : Attempt). All IsOrdered b.placed.items) (sym un.attempt_is)
-          (best_ordered network misfit.taken misfit.message un.misfit.attempt misfit.best),
-    )
+  unplaced_place : {ms : List Message} {there : List Taken} {place : ℕ} {a : Attempt}
+      → IsUnplaced network ms there place a → (place < length ms) × All IsOrdered a.placed.items
+  unplaced_place {ms} un =
+      let misfit = un.unfit in (
+        subst (λ p. p < length ms) (sym un.place_is) (within_found ms misfit.place misfit.message misfit.there),
+        subst (λ (b : Attempt). All IsOrdered b.placed.items) (sym un.attempt_is) (best_ordered misfit.best),
+      )
 
-pub place_of : (network : Network) (ms : List Message) (why : NoPlan) → IsNoPlan network ms why → IsPlaceOf ms why
-place_of network ms (plans.Excess excess) none = tt
-place_of network ms (plans.Impossible place a) (limits, (there, are, unfit)) = unfit_place network there ms place a unfit
-place_of network ms (plans.Unplaced place a) (limits, (there, are, un)) = unplaced_place network ms there place a un
-place_of network ms plans.OutOfMemory none = tt
+  pub place_of : (ms : List Message) (why : NoPlan) → IsNoPlan network ms why → IsPlaceOf ms why
+  place_of ms (plans.Excess excess) none = tt
+  place_of ms (plans.Impossible place a) (limits, (there, are, unfit)) = unfit_place unfit
+  place_of ms (plans.Unplaced place a) (limits, (there, are, un)) = unplaced_place un
+  place_of ms plans.OutOfMemory none = tt

@@ -161,10 +161,10 @@ module _ (network : Network) (ms : List Message) (ids : List ℕ) (attempts : Li
     vl_no = ap (λ (r : Row). r.vl.0) n.row
 
     pub source_is : source_of e ≡ source_by n.p.hop.way e.link
-    source_is = ap (λ (w : Way). source_by w e.link) way_is
+    source_is = ap (λ w. source_by w e.link) way_is
 
     pub target_is : target_of e ≡ target_by n.p.hop.way e.link
-    target_is = ap (λ (w : Way). target_by w e.link) way_is
+    target_is = ap (λ w. target_by w e.link) way_is
 
     pub sender_is : e.vl.sender ≡ n.m.sender
     sender_is = ap (λ (v : VirtualLink). v.sender) n.vl

@@ -206,7 +206,7 @@ module _ (network : Network) where
               p = it.0;
               at_p = it.1;
               place = omega arith;
-              is = it.2 ∙ ap (λ (v : ℕ). row_of v it.0) (let e : vl ≡ vl + 0 = omega arith in e);
+              is = it.2 ∙ ap (λ v. row_of v it.0) (let e : vl ≡ vl + 0 = omega arith in e);
             }
         | inr (i, is, later) ↦
             let it = row_at (vl + 1) attempts i row later in
@@ -220,7 +220,7 @@ module _ (network : Network) where
               p = it.p;
               at_p = it.at_p;
               place = omega (arith, is, size, place);
-              is = it.is ∙ ap (λ (v : ℕ). row_of v it.p) (let e : vl + 1 + it.j ≡ vl + suc it.j = omega arith in e);
+              is = it.is ∙ ap (λ v. row_of v it.p) (let e : vl + 1 + it.j ≡ vl + suc it.j = omega arith in e);
             }
       ]
 
@@ -230,14 +230,14 @@ module _ (network : Network) where
   row_there vl (b ∷ attempts) zero a i p at_a at_p =
       let same : b ≡ a = same_Some _ _ at_a in
       let own : slice_get (own_rows network vl b) i ≡ Some (row_of vl p) =
-      map_at (row_of vl) (in_order network b) i p (subst (λ (x : Attempt). slice_get (in_order network x) i ≡ Some p) (sym same) at_p) in
+      map_at (row_of vl) (in_order network b) i p (subst (λ x. slice_get (in_order network x) i ≡ Some p) (sym same) at_p) in
       ap (slice_get (own_rows network vl b ++ rows_from network (vl + 1) attempts)) (let e : 0 + i ≡ i = omega arith in e)
       ∙ in_front (own_rows network vl b) (rows_from network (vl + 1) attempts) i (row_of vl p) own
-      ∙ ap (λ (v : ℕ). Some (row_of v p)) (let e : vl ≡ vl + 0 = omega arith in e)
+      ∙ ap (λ v. Some (row_of v p)) (let e : vl ≡ vl + 0 = omega arith in e)
   row_there vl (b ∷ attempts) (suc j) a i p at_a at_p =
       let size = length-map (in_order network b) (row_of vl) in
       let place : base (b ∷ attempts) (suc j) + i ≡ length (own_rows network vl b) + (base attempts j + i) = omega (arith, size) in
       ap (slice_get (own_rows network vl b ++ rows_from network (vl + 1) attempts)) place
       ∙ behind_at (own_rows network vl b) (rows_from network (vl + 1) attempts) (base attempts j + i)
       ∙ row_there (vl + 1) attempts j a i p at_a at_p
-      ∙ ap (λ (v : ℕ). Some (row_of v p)) (let e : vl + 1 + j ≡ vl + suc j = omega arith in e)
+      ∙ ap (λ v. Some (row_of v p)) (let e : vl + 1 + j ≡ vl + suc j = omega arith in e)

@@ -96,5 +96,6 @@ told_at word network ms place a m lt at =
     (slice_get-get_or ms place m lt ∙ ap (λ (k : Message). Some k) (sym at)))
 
 -- a line was put, that of the answer
-pub line_told : (a b : Answer) (status : Status) (old new : Shown) → a ≡ b → GivesAnswer (λ c. c ≡ a) status old new → GivesAnswer (λ c. c ≡ b) status old new
-line_told a b status old new same given = subst (λ (x : Answer). GivesAnswer (λ c. c ≡ x) status old new) same given
+pub line_told : (a b : Answer) (status : Status) {old new : Shown} → a ≡ b → GivesAnswer (λ c. c ≡ a) status old new
+    → GivesAnswer (λ c. c ≡ b) status old new
+line_told a b status {old} {new} same given = subst (λ (x : Answer). GivesAnswer (λ c. c ≡ x) status old new) same given

@@ -10,14 +10,14 @@ HoldsBelow network P n = (k : ℕ) (entry : Entry) → k < n → IsEntry network
 pub below_first : (network : Network) (P : Entry → Type 0) → HoldsBelow network P 0
 below_first network P k entry lt is = absurd (omega (arith, lt))
 
-pub below_next : (network : Network) (P : Entry → Type 0) (n : ℕ) (entry : Entry) → HoldsBelow network P n → IsEntry network n entry → P entry
-    → HoldsBelow network P (n + 1)
-below_next network P n entry before is holds k other lt its =
+pub below_next : {network : Network} (P : Entry → Type 0) {n : ℕ} {entry : Entry} → HoldsBelow network P n
+    → IsEntry network n entry → P entry → HoldsBelow network P (n + 1)
+below_next {network} P {n} {entry} before is holds k other lt its =
     elim (cases_lt k n) [
       | inl below ↦ before k other below its
       | inr ge ↦
           let here : k ≡ n = omega (arith, lt, ge) in
-          subst P (one_entry network n entry other is (subst (λ (j : ℕ). IsEntry network j other) here its)) holds
+          subst P (one_entry network n entry other is (subst (λ j. IsEntry network j other) here its)) holds
     ]
 
 pub below_all : (network : Network) (P : Entry → Type 0) (n : ℕ) → HoldsBelow network P n → length network.row ≤ n → (k : ℕ) (entry : Entry)

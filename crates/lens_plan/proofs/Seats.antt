@@ -34,8 +34,9 @@ phase_kept : (t : Trial) (given : Option ℕ) (a : Attempt) → IsBestBy t given
 phase_kept t None a best = best.within
 phase_kept t (Some phase) a is = is.phase_is
 
-pub seated : (network : Network) (rows : List Taken) (m : Message) (a : Attempt) → HasPlace network rows m a → IsSeated network rows m a
-seated network rows m a has =
+pub seated : {network : Network} {rows : List Taken} {m : Message} {a : Attempt} → HasPlace network rows m a
+    → IsSeated network rows m a
+seated {network} {rows} {m} {a} has =
     let t = has.best.trial in
     let of = has.best.of_message in
     let own = own_attempt t t.message.now.phase a has.best.best in
@@ -96,8 +97,8 @@ module _ (network : Network) (rows : List Taken) (m : Message) (a : Attempt) (se
   placed_to channel receiver ps placed =
       let way = placed.way in
       let from = paths_are_unique network channel m.sender way.from (g.from channel) g.trees.tree way.from_path (g.path channel) in
-      let hops = way.is ∙ ap (λ (fs : List LinkId). up_hops way.to fs ++ down_hops fs way.to) from in
-      (way.to, way.to_path, subst (λ (hs : List Hop). IsPlacedWay tr (start_of tr) hs ps) hops placed.rows)
+      let hops = way.is ∙ ap (λ fs. up_hops way.to fs ++ down_hops fs way.to) from in
+      (way.to, way.to_path, subst (λ hs. IsPlacedWay tr (start_of tr) hs ps) hops placed.rows)
 
   courses_to : (channel : Channel) (receiver : DeviceId) (ps : List Placed) → Contains m.receivers receiver → IsPlacedTo tr channel receiver ps
       → ((q : Placed) → Contains ps q → Contains a.placed.items q) → All ItsCourse ps
@@ -187,7 +188,7 @@ module _ (network : Network) (rows : List Taken) (m : Message) (a : Attempt) (se
   pub by_link : (p q : Placed) → ItsCourse p → ItsCourse q → p.hop.link ≡ q.hop.link → p ≡ q
   by_link p q one other link =
       let links = some_same one.course.link other.course.link (link_at network p.hop.link) one.course.at
-      (subst (λ (l : LinkId). link_at network l ≡ Some other.course.link) (sym link) other.course.at) in
+      (subst (λ l. link_at network l ≡ Some other.course.link) (sym link) other.course.at) in
       let channels = one_channel network other.channel one.channel other.course.link.parent other.course.on
       (subst (λ (l : Link). IsSwitchOf network one.channel l.parent) links one.course.on) in
       let moved = subst (λ (c : Channel). CourseOn c q) channels other.course in

@@ -59,12 +59,12 @@ module _ (network planned : Network) (extends : Extends network planned) where
   -- and its times
   pub gamma_same : gamma_of network ≡ gamma_of planned
   gamma_same =
-      ap (λ (r : ℕ). slip_of r (2 * amount network.cycle) + 4 * (amount network.grain - 1)) extends.clocks.rho
+      ap (λ r. slip_of r (2 * amount network.cycle) + 4 * (amount network.grain - 1)) extends.clocks.rho
       ∙ ap (λ (c : _). slip_of planned.rho (2 * amount c) + 4 * (amount network.grain - 1)) extends.clocks.cycle
-      ∙ ap (λ (g : _). slip_of planned.rho (2 * amount planned.cycle) + 4 * (amount g - 1)) extends.clocks.grain
+      ∙ ap (λ g. slip_of planned.rho (2 * amount planned.cycle) + 4 * (amount g - 1)) extends.clocks.grain
 
   pub tolerance_same : tolerance network ≡ tolerance planned
-  tolerance_same = ap (λ (p : _). amount p + gamma_of network) extends.clocks.precision ∙ ap (λ (g : ℕ). amount planned.precision + g) gamma_same
+  tolerance_same = ap (λ p. amount p + gamma_of network) extends.clocks.precision ∙ ap (λ g. amount planned.precision + g) gamma_same
 
 after_kept : (after : Option ℕ) (e : ℕ) → IfSome after (λ t. t ≤ e) → unwrap_or after 0 ≤ e
 after_kept None e asked = omega arith
@@ -104,28 +104,28 @@ module _ (network : Network) (m : Message) (planned : Network) (vl : VlId) (of_v
         let begun = (s.keeps Forwarding place).from_sender e is sender in
         let asked = (s.served.rows place e is own).after (source ∙ s.asked.sender) in
         max-le
-        (subst (λ (t : _). amount t ≤ amount e.row.offset) (sym s.extends.times.tt_start) begun)
+        (subst (λ t. amount t ≤ amount e.row.offset) (sym s.extends.times.tt_start) begun)
         (after_kept m.after (amount e.row.offset) asked);
   }
 
   -- what a row enters is an end system or a switch of the channel
   entered : (place : ℕ) (e : Entry) (channel : Channel) (way : Way) → IsEntry planned place e → IsOnChannel planned channel e → e.row.way ≡ way
       → IsEndSystem planned (target_of e) ⊎ IsSwitchOf planned channel (target_of e)
-  entered place e channel Up is on by = inr (subst (IsSwitchOf planned channel) (sym (ap (λ (w : Way). target_by w e.link) by)) on)
+  entered place e channel Up is on by = inr (subst (IsSwitchOf planned channel) (sym (ap (λ w. target_by w e.link) by)) on)
   entered place e channel Down is on by =
       let joins = s.keeps Joints e.row.link.0 e.link is.link in
-      let child = sym (ap (λ (w : Way). target_by w e.link) by) in
+      let child = sym (ap (λ w. target_by w e.link) by) in
       ⊎_elim
       (λ (end : IsEndSystem planned e.link.child). inl (subst (IsEndSystem planned) child end))
       (λ (relay : IsRoleOf planned Relay joins.0 e.link.child).
       let same = one_channel planned joins.0 channel e.link.parent joins.1 on in
       inr (subst (IsSwitchOf planned channel) child
-      (subst (λ (c : Channel). IsSwitchOf planned c e.link.child) same (relay_is planned joins.0 e.link.child relay))))
+      (subst (λ c. IsSwitchOf planned c e.link.child) same (relay_is planned joins.0 e.link.child relay))))
       joins.2
 
   entered_on : (channel : Channel) (device : DeviceId) → EntersOn planned vl channel device → IsEndSystem planned device ⊎ IsSwitchOf planned channel device
   entered_on channel device enters =
-      subst (λ (d : DeviceId). IsEndSystem planned d ⊎ IsSwitchOf planned channel d) enters.target
+      subst (λ d. IsEndSystem planned d ⊎ IsSwitchOf planned channel d) enters.target
       (entered enters.place enters.entry channel enters.entry.row.way enters.is enters.on_channel refl)
 
   -- what is reached on both channels is an end system
@@ -165,13 +165,13 @@ module _ (network : Network) (m : Message) (planned : Network) (vl : VlId) (of_v
         way = record {
           from = from.0;
           to = to.0;
-          from_path = subst (λ (d : DeviceId). IsPath network channel d from.0) s.asked.sender from.1;
+          from_path = subst (λ d. IsPath network channel d from.0) s.asked.sender from.1;
           to_path = to.1;
           is = refl;
         };
         next = window_end planned e + 1;
         lead = leads planned vl of_vl (start_by network m) goes channel from.0 (path_there network planned s.extends channel of_vl.sender from.0 from.1)
             (suc (amount e.row.offset)) enters.place e to.0 enters.is enters.same_vl enters.on_channel
-            (subst (λ (d : DeviceId). IsPath planned channel d to.0) (sym enters.target)
+            (subst (λ d. IsPath planned channel d to.0) (sym enters.target)
             (path_there network planned s.extends channel receiver to.0 to.1)) (omega arith);
       }

@@ -21,8 +21,9 @@ one_cm : (network : Network) → KeepsRules network → (channel : Channel) (cm 
 one_cm network keeps A cm other one two = let own = (keeps CompressionMasters 0).on_a refl in own.2 cm one ∙ sym (own.2 other two)
 one_cm network keeps B cm other one two = let own = (keeps CompressionMasters 1).on_b refl in own.2 cm one ∙ sym (own.2 other two)
 
-ground_of : (network : Network) (sender : DeviceId) → IsInRange network → KeepsRules network → IsEndSystem network sender → HasGround network sender
-ground_of network sender range keeps end =
+ground_of : {network : Network} (sender : DeviceId) → IsInRange network → KeepsRules network
+    → IsEndSystem network sender → HasGround network sender
+ground_of {network} sender range keeps end =
     let tree = tree_kept network keeps in
     let o = opened (λ (d : Device). is_end_system d.role ≡ true) (device_at network sender) end in
     let path = λ (channel : Channel). tree.reach channel sender
@@ -31,7 +32,7 @@ ground_of network sender range keeps end =
       trees = record { tree = tree; one_cm = one_cm network keeps };
       from = λ channel. (path channel).0;
       path = λ channel. (path channel).2;
-      no_switch = λ channel switch. no_switch network channel sender range end switch;
+      no_switch = λ channel switch. no_switch channel sender range end switch;
     }
 
 module _ (network : Network) (ms : List Message) (ids : List ℕ) (attempts : List Attempt) (range : IsInRange network) (keeps : KeepsRules network)
@@ -41,7 +42,7 @@ module _ (network : Network) (ms : List Message) (ids : List ℕ) (attempts : Li
   ordered =
       let reached = plan.reached in
       order_kept network ms (tree_kept network keeps) there reached.first plan.moves (length ms) plan.order
-      (subst (λ (n : ℕ). IsOrder n reached.first) reached.have.counted reached.by_room.all) reached.moved
+      (subst (λ n. IsOrder n reached.first) reached.have.counted reached.by_room.all) reached.moved
 
   in_turn : (j : ℕ) (m : Message) → slice_get ms j ≡ Some m → Contains plan.order j
   in_turn j m at =
@@ -63,9 +64,9 @@ module _ (network : Network) (ms : List Message) (ids : List ℕ) (attempts : Li
     ids_there = id_there network ms ids are given_new asked.ids;
     seat = λ j m a at_m at_a. (
       before j,
-      seated network (before j) m a (has_place network ms attempts there plan.order plan.taken plan.placed j (in_turn j m at_m) m a at_m at_a),
+      seated (has_place network ms attempts there plan.order plan.taken plan.placed j (in_turn j m at_m) m a at_m at_a),
     );
-    ground = λ j m at. ground_of network m.sender range keeps (asked.each j m at).sender;
+    ground = λ j m at. ground_of m.sender range keeps (asked.each j m at).sender;
     period = λ j m at. (asked.each j m at).period;
     phase = λ j m at. (asked.each j m at).phase;
     sender = λ j m at. (asked.each j m at).sender;
@@ -77,7 +78,7 @@ module _ (network : Network) (ms : List Message) (ids : List ℕ) (attempts : Li
     ids_new = ids_new network ms ids are given_new asked.ids;
     ids_apart = ids_apart network ms ids are given_new asked.ids;
     there_in = λ j m a at_m at_a k e is.
-        grows network ms attempts there plan.order plan.taken plan.placed j (taken_by e) (entry_among network there k e are_there is);
+        grows network ms attempts there plan.order plan.taken plan.placed j (taken_by e) (entry_among are_there is);
     apart = λ i j m n a b at_m at_n at_a at_b not.
         one_before network ms attempts there plan.order plan.taken plan.placed i j (in_turn i m at_m) (in_turn j n at_n) not m n a b at_m at_n at_a at_b;
   }

@@ -27,9 +27,9 @@ ends_before p q o r port delay more order one other = omega (arith, order, one, 
 next_before : (p q : Placed) → EndsBefore p q → p.end + 1 ≤ q.end + 1
 next_before p q before = let ends = before.1 in omega (arith, ends)
 
-at_before : (trial : Trial) (from later : ℕ) (hop : Hop) (p q : Placed) → from ≤ later → IsPlacedAt trial from hop p → IsSpacedAt trial later hop q
-    → EndsBefore p q
-at_before trial from later hop p q order placed spaced =
+at_before : {trial : Trial} {from later : ℕ} {hop : Hop} {p q : Placed} → from ≤ later → IsPlacedAt trial from hop p
+    → IsSpacedAt trial later hop q → EndsBefore p q
+at_before {trial} {hop} {p} {q} order placed spaced =
     let past = spaced.not_before in
     let least = placed.offset.least q.offset (omega (arith, order, past)) spaced.clear in
     let one = placed.end in
@@ -44,7 +44,7 @@ way_before : (trial : Trial) (from later : ℕ) (hops : List Hop) (ps qs : List 
 way_before trial from later [] ps qs order none also =
     subst (λ (xs : List Placed). AllZip EndsBefore xs qs) (sym none) (subst (λ (xs : List Placed). AllZip EndsBefore [] xs) (sym also) tt)
 way_before trial from later (hop ∷ hops) ps qs order (p, rest, placed, way, same) (q, others, spaced, also, too) =
-    let first = at_before trial from later hop p q order placed spaced in
+    let first = at_before order placed spaced in
     subst (λ (xs : List Placed). AllZip EndsBefore xs qs) (sym same)
     (subst (λ (xs : List Placed). AllZip EndsBefore (p ∷ rest) xs) (sym too)
     (first, way_before trial (p.end + 1) (q.end + 1) hops rest others (next_before p q first) way also))
@@ -52,20 +52,22 @@ way_before trial from later (hop ∷ hops) ps qs order (p, rest, placed, way, sa
 -- ---- to a receiver, and to all
 
 -- a way is one
-pub way_one : (network : Network) (sender receiver : DeviceId) (channel : Channel) (hops others : List Hop) → IsTree network
-    → IsWay network sender receiver channel hops → IsWay network sender receiver channel others → hops ≡ others
-way_one network sender receiver channel hops others tree one other =
+pub way_one : {network : Network} {sender receiver : DeviceId} {channel : Channel} {hops others : List Hop}
+    → IsTree network → IsWay network sender receiver channel hops → IsWay network sender receiver channel others
+    → hops ≡ others
+way_one {network} {sender} {receiver} {channel} tree one other =
     let from = paths_are_unique network channel sender one.from other.from tree one.from_path other.from_path in
     let to = paths_are_unique network channel receiver one.to other.to tree one.to_path other.to_path in
-    one.is ∙ ap (λ (fs : List LinkId). up_hops one.to fs ++ down_hops fs one.to) from
-    ∙ ap (λ (ts : List LinkId). up_hops ts other.from ++ down_hops other.from ts) to ∙ sym other.is
+    one.is ∙ ap (λ fs. up_hops one.to fs ++ down_hops fs one.to) from
+    ∙ ap (λ ts. up_hops ts other.from ++ down_hops other.from ts) to ∙ sym other.is
 
-to_before : (trial : Trial) (channel : Channel) (receiver : DeviceId) (ps qs : List Placed) → IsTree trial.network.now
-    → IsPlacedTo trial channel receiver ps → IsSpacedTo trial channel receiver qs → AllZip EndsBefore ps qs
-to_before trial channel receiver ps qs tree placed spaced =
+to_before : {trial : Trial} {channel : Channel} {receiver : DeviceId} {ps qs : List Placed}
+    → IsTree trial.network.now → IsPlacedTo trial channel receiver ps → IsSpacedTo trial channel receiver qs
+    → AllZip EndsBefore ps qs
+to_before {trial} {ps} {qs} tree placed spaced =
     way_before trial (start_of trial) (start_of trial) spaced.hops ps qs (omega arith)
-    (subst (λ (hops : List Hop). IsPlacedWay trial (start_of trial) hops ps)
-    (way_one trial.network.now trial.message.now.sender receiver channel placed.hops spaced.hops tree placed.way spaced.way) placed.rows) spaced.rows
+    (subst (λ hops. IsPlacedWay trial (start_of trial) hops ps)
+    (way_one tree placed.way spaced.way) placed.rows) spaced.rows
 
 all_before : (trial : Trial) (receivers : List DeviceId) (ps qs : List Placed) → IsTree trial.network.now → AreTried trial receivers ps
     → AreSpaced trial receivers qs → AllZip EndsBefore ps qs
@@ -74,8 +76,8 @@ all_before trial [] ps qs tree none also =
 all_before trial (receiver ∷ receivers) ps qs tree (a, b, rest, on_a, on_b, tried, same) (c, d, others, at_a, at_b, spaced, also) =
     subst (λ (xs : List Placed). AllZip EndsBefore xs qs) (sym same)
     (subst (λ (xs : List Placed). AllZip EndsBefore (a ++ (b ++ rest)) xs) (sym also)
-    (zip_append a c (b ++ rest) (d ++ others) (to_before trial A receiver a c tree on_a at_a)
-    (zip_append b d rest others (to_before trial B receiver b d tree on_b at_b) (all_before trial receivers rest others tree tried spaced))))
+    (zip_append a c (b ++ rest) (d ++ others) (to_before tree on_a at_a)
+    (zip_append b d rest others (to_before tree on_b at_b) (all_before trial receivers rest others tree tried spaced))))
 
 -- ---- the scores
 
@@ -97,8 +99,8 @@ row_below : (trial : Trial) (s t : Score) (p q : Placed) → NoMore s t → Ends
 row_below trial s t p q before ends =
     let later = ends.1 in (
       max_below s.short t.short (p.end - limit_of trial p.hop) (q.end - limit_of trial q.hop) before.0
-          (subst (λ (h : Hop). p.end - limit_of trial p.hop ≤ q.end - limit_of trial h) ends.0 (omega (arith, later))),
-      subst (λ (h : Hop). (with_row trial s p).latest ≤ cond (is_last trial.network.now h) (max t.latest q.end) t.latest) ends.0
+          (subst (λ h. p.end - limit_of trial p.hop ≤ q.end - limit_of trial h) ends.0 (omega (arith, later))),
+      subst (λ h. (with_row trial s p).latest ≤ cond (is_last trial.network.now h) (max t.latest q.end) t.latest) ends.0
           (latest_below (is_last trial.network.now p.hop) s.latest t.latest p.end q.end before.1 later),
     )
 
@@ -144,7 +146,7 @@ beaten trial a None phase best within =
     let found = best.best phase within in
     record { other = found.0; own = found.1; no_worse = no_worse a found.0 found.2 }
 beaten trial a (Some given) phase is same =
-    record { other = a; own = subst (λ (n : ℕ). IsAttempt trial n a) (sym same) is; no_worse = inr (refl, omega arith) }
+    record { other = a; own = subst (λ n. IsAttempt trial n a) (sym same) is; no_worse = inr (refl, omega arith) }
 
 joined : (s l t m u n : ℕ) → NoWorse s l t m → t ≤ u → m ≤ n → NoWorse s l u n
 joined s l t m u n (inl less) short latest = inl (omega (arith, less, short))

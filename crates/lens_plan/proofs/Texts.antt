@@ -36,8 +36,8 @@ blocks_more network [] ids tried n m id d a lt le less at is own = absurd (omega
 blocks_more network (x ∷ ms) [] tried n m id d a lt le less at is own = absurd (omega (arith, le))
 blocks_more network (x ∷ ms) (y ∷ ids) [] n m id d a lt le less at is own = absurd (omega (arith, less))
 blocks_more network (x ∷ ms) (y ∷ ids) (z ∷ tried) zero m id d a lt le less at is own =
-    append-nil (message_blocks network x y z) ∙ ap (λ (k : Message). message_blocks network k y z) (sym at)
-    ∙ ap (λ (i : ℕ). message_blocks network m i z) (sym is) ∙ ap (λ (b : Attempt). message_blocks network m id b) (sym own)
+    append-nil (message_blocks network x y z) ∙ ap (λ k. message_blocks network k y z) (sym at)
+    ∙ ap (λ i. message_blocks network m i z) (sym is) ∙ ap (λ b. message_blocks network m id b) (sym own)
 blocks_more network (x ∷ ms) (y ∷ ids) (z ∷ tried) (suc n) m id d a lt le less at is own =
     let next : suc n + 1 ≡ suc (n + 1) = omega arith in
     ap (λ (k : ℕ). plan_lines network (take k (x ∷ ms)) (take k (y ∷ ids)) (take k (z ∷ tried))) next

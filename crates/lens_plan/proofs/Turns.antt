@@ -13,8 +13,9 @@ pub contains_found : {X : Type 0} (xs : List X) (k : ℕ) (x : X) → slice_get 
 contains_found xs k x at = (k, slice_get_within xs k x at, get_or_from_slice_get xs k x x at)
 
 -- a row that is there is among those that are
-pub entry_among : (network : Network) (there : List Taken) (k : ℕ) (e : Entry) → AreThere network there → IsEntry network k e → Contains there (taken_by e)
-entry_among network there k e are is =
+pub entry_among : {network : Network} {there : List Taken} {k : ℕ} {e : Entry} → AreThere network there
+    → IsEntry network k e → Contains there (taken_by e)
+entry_among {network} {there} {k} {e} are is =
     let within = slice_get_within network.row k e.row is.row in
     let size = are.counted in
     let at = slice_get-get_or there k (taken_by e) (omega (arith, within, size)) in
@@ -56,7 +57,7 @@ module _ (network : Network) (ms : List Message) (attempts : List Attempt) where
           let same = eqb-true place j test in
           let message = some_same n m (slice_get ms j) (subst (λ (k : ℕ). slice_get ms k ≡ Some n) same there) at_m in
           let attempt = some_same b a (slice_get attempts j) (subst (λ (k : ℕ). slice_get attempts k ≡ Some b) same at) at_a in
-          subst (λ (x : Message). HasPlace network rows x a) message (subst (HasPlace network rows n) attempt has)
+          subst (λ x. HasPlace network rows x a) message (subst (HasPlace network rows n) attempt has)
       by false test more =
           more (elim (in_rest place order j among) [ inl same ↦ absurd (not_in place j test same) | inr later ↦ later ])
 
@@ -72,7 +73,7 @@ module _ (network : Network) (ms : List Message) (attempts : List Attempt) where
       let own = contains_found (rows_of network n b) l (taken_of network n b.phase q) (map_at (taken_of network n b.phase) b.placed.items l q at_b) in
       let here = grows (rows ++ rows_of network n b) order taken placed j (taken_of network n b.phase q)
       (Contains-append_right rows (rows_of network n b) (taken_of network n b.phase q) own) in
-      subst (λ (x : Message). Contains (taken_before (rows ++ rows_of network n b) order taken placed j) (taken_of network x a.phase q)) message
+      subst (λ x. Contains (taken_before (rows ++ rows_of network n b) order taken placed j) (taken_of network x a.phase q)) message
       (subst (λ (x : Attempt). Contains (taken_before (rows ++ rows_of network n b) order taken placed j) (taken_of network n x.phase q)) attempt here)
 
   pub one_before : (rows : List Taken) (order : List ℕ) (taken : List Taken) (placed : ArePlaced network ms attempts rows order taken) (i j : ℕ)

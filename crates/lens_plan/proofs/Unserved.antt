@@ -60,12 +60,12 @@ module _ (trial : Trial) (are : AreThere trial.network.now trial.rows.now) (plan
 
   module _ (hop : Hop) (p : Placed) (row : IsRowBy planned vl hop p) where
     link_is : link_at network hop.link ≡ Some row.entry.link
-    link_is = subst (λ (l : LinkId). link_at network l ≡ Some row.entry.link) row.link (link_back network planned s.extends row.entry.row.link row.entry.link row.is.link)
+    link_is = subst (λ l. link_at network l ≡ Some row.entry.link) row.link (link_back network planned s.extends row.entry.row.link row.entry.link row.is.link)
 
     port_is : port_on network m.length hop.link ≡ port_time row.entry
     port_is =
         ap (λ (o : Option Link). option_map_or (λ l. (m.length + 24) * octet_time l.speed) o 0) link_is
-        ∙ ap (λ (n : ℕ). (n + 24) * octet_time row.entry.link.speed)
+        ∙ ap (λ n. (n + 24) * octet_time row.entry.link.speed)
         (sym s.asked.length ∙ sym (ap (λ (v : VirtualLink). v.length) (vl_is network m planned vl of_vl s row.place row.entry row.is row.own)))
 
     delay_is : delay_on network hop.link ≡ amount row.entry.link.wire + amount row.entry.link.jitter
@@ -106,7 +106,7 @@ module _ (trial : Trial) (are : AreThere trial.network.now trial.rows.now) (plan
         let own = vl_is network m planned vl of_vl s row.place row.entry row.is row.own in
         let by_asked : (of_vl.phase % min of_vl.period e.vl.period) ≡ (e.vl.phase % min of_vl.period e.vl.period) =
         subst (λ (n : ℕ). of_vl.phase % min n e.vl.period ≡ e.vl.phase % min n e.vl.period) (sym s.asked.period) hits.meets.phase in
-        let together : Coincide row.entry.vl e.vl = subst (λ (v : VirtualLink). Coincide v e.vl) (sym own) by_asked in
+        let together : Coincide row.entry.vl e.vl = subst (λ v. Coincide v e.vl) (sym own) by_asked in
         let apart = s.keeps Spacing row.place k e row.entry (omega (arith, within, new)) (entry_there network planned s.extends k e old.1) row.is
         (row.link ∙ hits.meets.link) (row.way ∙ hits.meets.way) together in
         let gamma = gamma_same network planned s.extends in
@@ -128,23 +128,23 @@ module _ (trial : Trial) (are : AreThere trial.network.now trial.rows.now) (plan
     -- the end system that it enters, where it enters one
     enters_end : (way : Way) → row.entry.row.way ≡ way → is_last network p.hop ≡ true → IsEndSystem planned (target_of row.entry)
     enters_end way by last =
-        let here : is_last network hop ≡ true = subst (λ (h : Hop). is_last network h ≡ true) row.hop_is last in
+        let here : is_last network hop ≡ true = subst (λ h. is_last network h ≡ true) row.hop_is last in
         let at : (is_down hop.way && is_end network row.entry.link.child) ≡ true =
         sym (ap (λ (o : Option Link). is_down hop.way && option_map_or (λ l. is_end network l.child) o false) link_is) ∙ here in
-        by_way way by (subst (λ (w : Way). (is_down w && is_end network row.entry.link.child) ≡ true) (sym row.way ∙ by) at)
+        by_way way by (subst (λ w. (is_down w && is_end network row.entry.link.child) ≡ true) (sym row.way ∙ by) at)
       where
         by_way : (w : Way) → row.entry.row.way ≡ w → (is_down w && is_end network row.entry.link.child) ≡ true → IsEndSystem planned (target_of row.entry)
         by_way Up is at = absurd (false≢true at)
         by_way Down is at =
-            subst (IsEndSystem planned) (sym (ap (λ (w : Way). target_by w row.entry.link) is))
+            subst (IsEndSystem planned) (sym (ap (λ w. target_by w row.entry.link) is))
             (device_there network planned s.extends (λ d. is_end_system d.role ≡ true) row.entry.link.child (system_is network row.entry.link.child at))
 
     in_time : p.end ≤ limit_of so p.hop
     in_time =
         let end = row.end in
         let cycle = s.keeps WindowEnds row.place row.entry row.is in
-        let cycles : amount network.cycle ≡ amount planned.cycle = ap (λ (c : _). amount c) s.extends.clocks.cycle in
-        let room : amount network.precision ≡ amount planned.precision = ap (λ (c : _). amount c) s.extends.clocks.precision in
+        let cycles : amount network.cycle ≡ amount planned.cycle = ap (λ c. amount c) s.extends.clocks.cycle in
+        let room : amount network.precision ≡ amount planned.precision = ap (λ c. amount c) s.extends.clocks.precision in
         let whole : p.end ≤ schedule_end network = omega (arith, end, cycle, cycles, room) in
         limit_kept (is_last network p.hop) p.end (unwrap_or m.by (schedule_end network)) (schedule_end network)
         (λ last. by_kept m.by p.end (schedule_end network)
@@ -196,7 +196,7 @@ module _ (trial : Trial) (are : AreThere trial.network.now trial.rows.now) (plan
       )
 
   phase_by : (phase : Option ℕ) → IfSome phase (λ n. of_vl.phase ≡ n) → IsPhaseBy m.period phase of_vl.phase
-  phase_by None asked = let has = s.keeps Periods vl.0 of_vl s.there in subst (λ (n : ℕ). of_vl.phase < n) s.asked.period has.1
+  phase_by None asked = let has = s.keeps Periods vl.0 of_vl s.there in subst (λ n. of_vl.phase < n) s.asked.period has.1
   phase_by (Some n) asked = asked
 
   -- so the best attempt is short by nothing
@@ -210,22 +210,23 @@ module _ (trial : Trial) (are : AreThere trial.network.now trial.rows.now) (plan
         | inr same ↦ let is = same.0 in omega (arith, is, none, short)
       ]
 
-pub unfit_is_impossible : (network : Network) (there : List Taken) (ms : List Message) (place : ℕ) (a : Attempt) → IsTree network → AreThere network there
-    → (unfit : IsUnfit network there ms place a) → NoneServes network unfit.message
-unfit_is_impossible network there ms place a tree are unfit planned vl range keeps extends new served =
+pub unfit_is_impossible : {network : Network} {there : List Taken} {ms : List Message} {place : ℕ} {a : Attempt}
+    → IsTree network → AreThere network there → (unfit : IsUnfit network there ms place a)
+    → NoneServes network unfit.message
+unfit_is_impossible {network} {there} {a} tree are unfit planned vl range keeps extends new served =
     let best = unfit.best in
     let of = best.of_message in
     let trial = best.trial in
     let o = opened (IsAskedFor unfit.message) (slice_get planned.vl vl.0) served.asked in
-    let rows = subst (λ (n : Network). AreThere n trial.rows.now) (sym of.network_is) (subst (AreThere network) (sym of.rows_are) are) in
+    let rows = subst (λ n. AreThere n trial.rows.now) (sym of.network_is) (subst (AreThere network) (sym of.rows_are) are) in
     let serves : Serves trial.network.now trial.message.now planned vl o.0 = record {
       tree = subst IsTree (sym of.network_is) tree;
       range = range;
       keeps = keeps;
-      extends = subst (λ (n : Network). Extends n planned) (sym of.network_is) extends;
+      extends = subst (λ n. Extends n planned) (sym of.network_is) extends;
       new = subst (λ (n : Network). length n.vl ≤ vl.0) (sym of.network_is) new;
       served = subst (IsServedBy planned vl) (sym of.message_is) served;
       there = o.1;
-      asked = subst (λ (x : Message). IsAskedFor x o.0) (sym of.message_is) o.2;
+      asked = subst (λ x. IsAskedFor x o.0) (sym of.message_is) o.2;
     } in
     not_short trial rows planned vl o.0 serves a best.best unfit.short

@@ -5,29 +5,31 @@ use Rattle.std.proofs.{Common.{◌++◌, ◌+◌, ◌<◌, ◌∙◌, ◌∷◌,
 use Rattle.std.specs.{List.{cons_option, filter_map, range_with_len}, Option.option_to_list}
 use Rattle.tte_units.specs.declared.frames.channel.Channel.TheVariants.{A, B}
 
-ways_more : (network : Network) (sender : DeviceId) (receivers : List DeviceId) (receiver : DeviceId) (hs a b : List Hop)
-    → AreWays network sender receivers hs → IsWay network sender receiver A a → IsWay network sender receiver B b
-    → AreWays network sender (receivers ++ receiver ∷ []) (hs ++ (a ++ b))
-ways_more network sender [] receiver hs a b none on_a on_b =
+ways_more : {network : Network} {sender : DeviceId} (receivers : List DeviceId) {receiver : DeviceId} (hs : List Hop)
+    {a b : List Hop} → AreWays network sender receivers hs → IsWay network sender receiver A a
+    → IsWay network sender receiver B b → AreWays network sender (receivers ++ receiver ∷ []) (hs ++ (a ++ b))
+ways_more [] hs {a} {b} none on_a on_b =
     (a, b, [], on_a, on_b, refl, ap (λ (is : List Hop). is ++ (a ++ b)) none ∙ ap (λ (is : List Hop). a ++ is) (sym (append-nil b)))
-ways_more network sender (r ∷ receivers) receiver hs a b (c, d, others, on_c, on_d, rest, same) on_a on_b = (
+ways_more (r ∷ receivers) hs {a} {b} (c, d, others, on_c, on_d, rest, same) on_a on_b = (
   c,
   d,
   others ++ (a ++ b),
   on_c,
   on_d,
-  ways_more network sender receivers receiver others a b rest on_a on_b,
+  ways_more receivers others rest on_a on_b,
   ap (λ (is : List Hop). is ++ (a ++ b)) same ∙ append_assoc c (d ++ others) (a ++ b) ∙ ap (λ (is : List Hop). c ++ is) (append_assoc d others (a ++ b)),
 )
 
-pub ways_next : (network : Network) (sender : DeviceId) (receivers : List DeviceId) (n : ℕ) (d : DeviceId) (now mid new a b : List Hop)
-    → n < length receivers → AreWays network sender (take n receivers) now → IsWay network sender (get_or receivers n d) A a → mid ≡ now ++ a
-    → IsWay network sender (get_or receivers n d) B b → new ≡ mid ++ b → AreWays network sender (take (n + 1) receivers) new
-ways_next network sender receivers n d now mid new a b within before on_a first on_b second =
+pub ways_next : {network : Network} {sender : DeviceId} (receivers : List DeviceId) (n : ℕ) (d : DeviceId)
+    (now mid new : List Hop) {a b : List Hop} → n < length receivers → AreWays network sender (take n receivers) now
+    → IsWay network sender (get_or receivers n d) A a → mid ≡ now ++ a
+    → IsWay network sender (get_or receivers n d) B b → new ≡ mid ++ b
+    → AreWays network sender (take (n + 1) receivers) new
+ways_next {network} {sender} receivers n d now mid new {a} {b} within before on_a first on_b second =
     let whole : new ≡ now ++ (a ++ b) = second ∙ ap (λ (is : List Hop). is ++ b) first ∙ append_assoc now a b in
     subst (AreWays network sender (take (n + 1) receivers)) (sym whole)
-    (subst (λ (rs : List DeviceId). AreWays network sender rs (now ++ (a ++ b))) (sym (take_more receivers n d within))
-    (ways_more network sender (take n receivers) (get_or receivers n d) now a b before on_a on_b))
+    (subst (λ rs. AreWays network sender rs (now ++ (a ++ b))) (sym (take_more receivers n d within))
+    (ways_more (take n receivers) now before on_a on_b))
 
 -- ---- links, one after another
 
@@ -61,5 +63,5 @@ pub hops_next : (network : Network) (ms : List Message) (n : ℕ) (d : Message) 
     → AreHops network (take (n + 1) ms) new
 hops_next network ms n d now new ways within before are more =
     subst (AreHops network (take (n + 1) ms)) (sym more)
-    (subst (λ (ns : List Message). AreHops network ns (now ++ once network ways)) (sym (take_more ms n d within))
+    (subst (λ ns. AreHops network ns (now ++ once network ways)) (sym (take_more ms n d within))
     (hops_more network (take n ms) (get_or ms n d) now ways before are))

@@ -96,7 +96,7 @@ module _ (network : Network) (channel : Channel) (tree : IsTree network) where
       let later = rest_of o.0.parent it.front link it.rest (subst (IsPath network channel o.0.parent) it.is o.2.2) in
       let child = child_of later.0 link it.rest o.0 o.1 later.1 in
       let one = paths_are_unique network channel device (link ∷ rest) (link ∷ it.rest) tree path
-      (subst (λ (d : DeviceId). IsPath network channel d (link ∷ it.rest)) (sym child ∙ o.2.0) later.1) in
+      (subst (λ d. IsPath network channel d (link ∷ it.rest)) (sym child ∙ o.2.0) later.1) in
       let long = ap length one in
       let parts = ap length it.is in
       let whole = length-append it.front (link ∷ it.rest) in
@@ -135,7 +135,7 @@ module _ (network : Network) (channel : Channel) (tree : IsTree network) where
       by true at own later =
           let same : link ≡ f = one_link f link at in
           let on : is_on (front ++ link ∷ rest) link ≡ true = on_behind front link (link ∷ rest) (on_first link rest) in
-          absurd (let a : is_on (front ++ link ∷ rest) f ≡ true = subst (λ (x : LinkId). is_on (front ++ link ∷ rest) x ≡ true) same on in cc)
+          absurd (let a : is_on (front ++ link ∷ rest) f ≡ true = subst (λ x. is_on (front ++ link ∷ rest) x ≡ true) same on in cc)
 
   pub cut : (sender device : DeviceId) (from : List LinkId) (link : LinkId) (rest : List LinkId) → IsPath network channel sender from
       → IsPath network channel device (link ∷ rest) → is_on from link ≡ true → IsCut from link rest
@@ -147,7 +147,7 @@ module _ (network : Network) (channel : Channel) (tree : IsTree network) where
       (link_at network link) other in
       let child = child_of later.0 link it.rest o.0 o.1 later.1 in
       let one = paths_are_unique network channel device (link ∷ it.rest) (link ∷ rest) tree
-      (subst (λ (d : DeviceId). IsPath network channel d (link ∷ it.rest)) (sym child ∙ o.2.0) later.1) other in
+      (subst (λ d. IsPath network channel d (link ∷ it.rest)) (sym child ∙ o.2.0) later.1) other in
       record {
         front = it.front;
         is = it.is ∙ ap (λ (ls : List LinkId). it.front ++ ls) one;
@@ -171,7 +171,7 @@ module _ (network : Network) (channel : Channel) (tree : IsTree network) where
 
   -- the links behind a cut are on the path
   cut_on : (from : List LinkId) (link : LinkId) (rest : List LinkId) → IsCut from link rest → AreOn from (link ∷ rest)
-  cut_on from link rest c l is = ap (λ (ls : List LinkId). is_on ls l) c.is ∙ on_behind c.front l (link ∷ rest) is
+  cut_on from link rest c l is = ap (λ ls. is_on ls l) c.is ∙ on_behind c.front l (link ∷ rest) is
 
   -- the way to a device from that to the child of its link, which is on the sender's path
   pub way_up : (sender device : DeviceId) (from : List LinkId) (link : LinkId) (rest : List LinkId) → IsPath network channel sender from

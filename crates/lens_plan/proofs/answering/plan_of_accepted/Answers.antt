@@ -7,7 +7,7 @@ use Rattle.lens_plan.proofs.answering.plan_of_accepted.Goals as goal
 
 pub plan_of_messages-requires : goal.plan_of_messages-requires
 plan_of_messages-requires g c =
-    subst (λ (n : Network). All (IsAsked n) c.as_slice.result.now) c.network.ensures.value
+    subst (λ n. All (IsAsked n) c.as_slice.result.now) c.network.ensures.value
     (subst (λ (ms : List Message). All (IsAsked c.network.result.now) ms) (sym c.as_slice.ensures.value) c.in-Ok.ensures.asked)
 
 pub returns-in-Ok-clause-gives : goal.returns-in-Ok-clause-gives
@@ -16,7 +16,7 @@ returns-in-Ok-clause-gives g c =
     let left = g.B.Source.left c.args.second.now in
     let read = subst (λ (n : Network). ForOctets left (λ text. MeansMessages n text c.in-Ok.messages.items)) c.network.ensures.value c.in-Ok.ensures.read in
     let given =
-    subst (λ (ms : List Message). GivesAnswer (IsPlanOf c.args.file.now.octets c.args.file.now.accepted ms) c.plan_of_messages.result (shown c.args.out.now)
+    subst (λ ms. GivesAnswer (IsPlanOf c.args.file.now.octets c.args.file.now.accepted ms) c.plan_of_messages.result (shown c.args.out.now)
     (shown c.plan_of_messages.new.out)) c.as_slice.ensures.value c.plan_of_messages.ensures.gives in
     messages_given c.args.file.now.octets c.args.file.now.accepted c.plan_of_messages.result (shown c.args.out.now) (shown c.plan_of_messages.new.out) left
     c.in-Ok.messages.items read given

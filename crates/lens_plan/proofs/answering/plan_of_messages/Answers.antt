@@ -12,9 +12,9 @@ pub returns-in-Ok-clause-gives : goal.returns-in-Ok-clause-gives
 returns-in-Ok-clause-gives g c =
     let shown = shown_by g.K.Sink in
     let file = c.args.file.now in
-    let are = subst (λ (n : Network). ArePlanLines n c.args.messages.now c.in-Ok.lines.items) c.network-network.ensures.value c.in-Ok.ensures.lines in
+    let are = subst (λ n. ArePlanLines n c.args.messages.now c.in-Ok.lines.items) c.network-network.ensures.value c.in-Ok.ensures.lines in
     let given =
-    subst (λ (ls : List PlanLine). GivesAnswer (IsJoinedAnswer file.octets file.accepted c.args.messages.now ls) c.put_joined.result (shown c.args.out.now)
+    subst (λ ls. GivesAnswer (IsJoinedAnswer file.octets file.accepted c.args.messages.now ls) c.put_joined.result (shown c.args.out.now)
     (shown c.put_joined.new.out)) c.as_slice.ensures.value c.put_joined.ensures.gives in
     lines_given file.octets file.accepted c.put_joined.result (shown c.args.out.now) (shown c.put_joined.new.out) c.args.messages.now c.in-Ok.lines.items are
     given
@@ -23,9 +23,9 @@ pub returns-in-Err-clause-gives : goal.returns-in-Err-clause-gives
 returns-in-Err-clause-gives g c =
     let shown = shown_by g.K.Sink in
     let file = c.args.file.now in
-    let is = subst (λ (n : Network). IsNoPlan n c.args.messages.now c.in-Err.cause) c.network-network.ensures.value c.in-Err.ensures.none in
+    let is = subst (λ n. IsNoPlan n c.args.messages.now c.in-Err.cause) c.network-network.ensures.value c.in-Err.ensures.none in
     let given =
-    subst (λ (n : Network). GivesAnswer (IsToldBy n c.args.messages.now c.in-Err.cause) c.put_no_plan.result (shown c.args.out.now)
+    subst (λ n. GivesAnswer (IsToldBy n c.args.messages.now c.in-Err.cause) c.put_no_plan.result (shown c.args.out.now)
     (shown c.put_no_plan.new.out)) c.network-network.ensures.value c.put_no_plan.ensures.gives in
     no_plan_given file.octets file.accepted c.put_no_plan.result (shown c.args.out.now) (shown c.put_no_plan.new.out) c.args.messages.now c.in-Err.cause is
     given

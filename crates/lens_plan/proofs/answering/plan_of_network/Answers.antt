@@ -20,5 +20,5 @@ pub returns-in-Ok-clause-takes : goal.returns-in-Ok-clause-takes
 returns-in-Ok-clause-takes g c =
     let file = c.in-Ok.file in
     let means = for_more (g.A.Source.left c.args.first.now) (λ (octets : List ℕ). file.octets ≡ octets) (λ octets. MeansAccepted octets file.accepted)
-    (λ octets same. subst (λ (o : List ℕ). MeansAccepted o file.accepted) same c.in-Ok.ensures.accepted) c.in-Ok.ensures.octets in
+    (λ octets same. subst (λ o. MeansAccepted o file.accepted) same c.in-Ok.ensures.accepted) c.in-Ok.ensures.octets in
     (c.in-Ok.ensures.taken, inr (file.accepted, means, c.plan_of_accepted.ensures.taken))

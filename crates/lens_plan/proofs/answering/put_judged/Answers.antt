@@ -5,7 +5,7 @@ use Rattle.lens_plan.proofs.answering.put_judged.Goals as goal
 
 pub returns-in-Ok-false-clause-gives : goal.returns-in-Ok-false-clause-gives
 returns-in-Ok-false-clause-gives g c =
-    let fits = subst (λ (o : List ℕ). length o ≤ file_limit) c.requires.joined c.requires.fits in
+    let fits = subst (λ o. length o ≤ file_limit) c.requires.joined c.requires.fits in
     let file = c.args.file.now in
     let not : ¬ MeansPlanned c.args.octets.now c.network.result.now c.args.messages.now = search rules in
     let never =

@@ -5,6 +5,6 @@ use Rattle.lens_plan.proofs.joining.joined.means_planned.Goals as goal
 
 pub returns-in-Ok : goal.returns-in-Ok
 returns-in-Ok c =
-    planned_as c.args.octets.now c.args.network.now c.in-Ok.accepted c.args.messages.now c.is_planned.result c.in-Ok.ensures.accepted
-    (subst (λ (n : Network). IsTrue c.is_planned.result ↔ (Extends c.args.network.now n × AreServed c.args.network.now n c.args.messages.now))
+    planned_as c.args.network.now c.args.messages.now c.is_planned.result c.in-Ok.ensures.accepted
+    (subst (λ n. IsTrue c.is_planned.result ↔ (Extends c.args.network.now n × AreServed c.args.network.now n c.args.messages.now))
     c.network.ensures.value c.is_planned.ensures)

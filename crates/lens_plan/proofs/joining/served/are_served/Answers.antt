@@ -8,8 +8,8 @@ messages-preserved c =
     let n = c.messages.place in
     let m = c.index-messages-place.result in
     let there = slice_get-get_or messages n m c.messages-test.true ∙ ap (λ (x : Message). Some x) (sym c.index-messages-place.is) in
-    let here : length c.as_slice-first.result.now + n ≡ length c.args.network.now.vl + n = ap (λ (k : ℕ). k + n) (ap length c.as_slice-first.ensures) in
-    served_next c.args.network.now c.args.planned.now messages n m c.messages.invariant there
+    let here : length c.as_slice-first.result.now + n ≡ length c.args.network.now.vl + n = ap (λ k. k + n) (ap length c.as_slice-first.ensures) in
+    served_next c.args.network.now messages n c.messages.invariant there
     (subst (λ (k : ℕ). IsServedBy c.args.planned.now (record { 0 = k }) m) here (c.if-not-is_served_by.ensures.0 refl))
 
 pub returns : goal.returns

@@ -7,7 +7,7 @@ pub rows-preserved : goal.rows-preserved
 rows-preserved c =
     let P = λ (entry : Entry). entry.row.vl ≡ c.args.vl → KeepsMessage c.args.network.now c.args.message.now entry in
     let keeps : P c.entry_of-entry.result = search rules in
-    below_next c.args.network.now P c.rows.number c.entry_of-entry.result c.rows.invariant c.entry_of-entry.ensures.is keeps
+    below_next P c.rows.invariant c.entry_of-entry.ensures.is keeps
 
 pub returns : goal.returns
 returns c =

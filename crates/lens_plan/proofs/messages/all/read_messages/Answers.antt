@@ -8,8 +8,8 @@ use Rattle.lens_plan.proofs.messages.all.read_messages.Goals as goal
 pub lines-init : goal.lines-init
 lines-init c = record {
   read =
-      ap (λ (ls : List (List ℕ)). messages_from c.args.network.now 1 [] ls) (sym c.of-lines.ensures)
-      ∙ ap (λ (ms : List Message). messages_from c.args.network.now 1 ms c.of-lines.result) (sym c.new-messages.ensures.items);
+      ap (λ ls. messages_from c.args.network.now 1 [] ls) (sym c.of-lines.ensures)
+      ∙ ap (λ ms. messages_from c.args.network.now 1 ms c.of-lines.result) (sym c.new-messages.ensures.items);
   asked = subst (All (IsAsked c.args.network.now)) (sym c.new-messages.ensures.items) (All-nil (IsAsked c.args.network.now));
   few = let few = few_lines c.args.text.now in omega (arith, few, ap length c.of-lines.ensures);
 }
@@ -42,7 +42,7 @@ returns-in-Err-clause-none c =
     fault_there (message_reader network c.as_slice.result.now (words line)) (messages_read network c.args.text.now) (c.lines.number + 1) c.in-Err.fault
     c.fault_at-in-Err.result c.fault_at-in-Err.ensures
     (λ f read.
-    let told = subst (λ (ms : List Message). message_reader network ms (words line) ≡ Err f) c.as_slice.ensures.value read in
+    let told = subst (λ ms. message_reader network ms (words line) ≡ Err f) c.as_slice.ensures.value read in
     c.lines.invariant.read ∙ ap (messages_from network (c.lines.number + 1) earlier) c.in-Some.ensures
     ∙ refused_there network (c.lines.number + 1) earlier line c.next_line.new.self f c.if-line-gt-LINE_LIMIT.false (sym c.if-is_passed.ensures)
     (read_fault network earlier line f told))
@@ -55,9 +55,9 @@ lines-preserved c = record {
       ∙ one_more c.args.network.now (c.lines.number + 1) c.lines.messages.items c.in-Some.line.now c.next_line.new.self c.in-Ok.message
       c.if-line-gt-LINE_LIMIT.false (sym c.if-is_passed.ensures)
       (read_message c.args.network.now c.lines.messages.items c.in-Some.line.now c.in-Ok.message c.in-Ok.ensures.read.0
-      (subst (λ (ms : List Message). message_reader c.args.network.now ms (words c.in-Some.line.now) ≡ Ok (c.in-Ok.message, c.in-Ok.ensures.read.0))
+      (subst (λ ms. message_reader c.args.network.now ms (words c.in-Some.line.now) ≡ Ok (c.in-Ok.message, c.in-Ok.ensures.read.0))
       c.as_slice.ensures.value c.in-Ok.ensures.read.1))
-      ∙ ap (λ (ms : List Message). messages_from c.args.network.now (c.lines.number + 1 + 1) ms c.next_line.new.self) (sym c.in-Ok-push.ensures.items);
+      ∙ ap (λ ms. messages_from c.args.network.now (c.lines.number + 1 + 1) ms c.next_line.new.self) (sym c.in-Ok-push.ensures.items);
   asked = subst (All (IsAsked c.args.network.now)) (sym c.in-Ok-push.ensures.items)
       (All-append (IsAsked c.args.network.now) c.lines.messages.items (c.in-Ok.message ∷ []) c.lines.invariant.asked
       (All-cons (IsAsked c.args.network.now) c.in-Ok.message [] c.in-Ok.ensures.asked (All-nil (IsAsked c.args.network.now))));

@@ -4,7 +4,7 @@ use Rattle.lens_plan.proofs.places.best.best_below.Goals.{else-is_better, then-i
 use Rattle.lens_plan.proofs.places.best.best_below.Goals as goal
 
 pub phases-init : goal.phases-init
-phases-init c = first_best c.args.trial.now c.in_ok-best.best c.in_ok-best.ensures
+phases-init c = first_best c.in_ok-best.ensures
 
 pub phases-preserved : goal.phases-preserved
 phases-preserved c =
@@ -12,13 +12,13 @@ phases-preserved c =
     elim c.if-is_better.branch [
       | then-is_better w ↦
           subst (IsBestBelow trial (c.phases.phase + 1)) (sym w.best-is)
-          (best_new trial c.phases.phase c.phases.best c.in-Ok.other c.phases.invariant c.in-Ok.ensures (w.if-is_better.ensures.0 refl))
+          (best_new c.phases.invariant c.in-Ok.ensures (w.if-is_better.ensures.0 refl))
       | else-is_better w ↦
           subst (IsBestBelow trial (c.phases.phase + 1)) (sym w.best-is)
-          (best_old trial c.phases.phase c.phases.best c.in-Ok.other c.phases.invariant c.in-Ok.ensures (λ b. false≢true (w.if-is_better.ensures.1 b)))
+          (best_old c.phases.invariant c.in-Ok.ensures (λ b. false≢true (w.if-is_better.ensures.1 b)))
     ]
 
 pub returns : goal.returns
 returns c =
     let whole : c.phases.phase ≡ c.args.phases = omega (arith, c.phases-test.false, c.phases.auto.phase-end, c.requires.some) in
-    subst (λ (n : ℕ). IsBestBelow c.args.trial.now n c.phases.best) whole c.phases.invariant
+    subst (λ n. IsBestBelow c.args.trial.now n c.phases.best) whole c.phases.invariant

@@ -17,7 +17,7 @@ returns-then-attempt-gt0-clause-is c = record {
   here = slice_get-get_or c.args.order.now c.turns.turn 0 c.turns-test.true;
   message = c.message_at-message.result.now;
   there = c.message_at-message.ensures;
-  best = subst (λ (ts : List Taken). IsBestBehind c.args.network.now ts c.message_at-message.result.now c.in-Ok-best_behind.attempt) c.as_slice.ensures.value c.in-Ok-best_behind.ensures;
+  best = subst (λ ts. IsBestBehind c.args.network.now ts c.message_at-message.result.now c.in-Ok-best_behind.attempt) c.as_slice.ensures.value c.in-Ok-best_behind.ensures;
   short = c.if-attempt-gt0.true;
 }
 
@@ -27,8 +27,8 @@ push_taken-requires-clause-asked c =
 
 pub push_taken-requires-clause-early : goal.push_taken-requires-clause-early
 push_taken-requires-clause-early c =
-    early_rows c.args.network.now c.turns.rows.items c.message_at-message.result.now c.in-Ok-best_behind.attempt c.requires.range
-    (subst (λ (ts : List Taken). IsBestBehind c.args.network.now ts c.message_at-message.result.now c.in-Ok-best_behind.attempt) c.as_slice.ensures.value c.in-Ok-best_behind.ensures)
+    early_rows c.requires.range
+    (subst (λ ts. IsBestBehind c.args.network.now ts c.message_at-message.result.now c.in-Ok-best_behind.attempt) c.as_slice.ensures.value c.in-Ok-best_behind.ensures)
     (omega (arith, c.if-attempt-gt0.false))
 
 pub index_mut-requires : goal.index_mut-requires
@@ -47,10 +47,12 @@ turns-preserved c =
     let below = turn_below (length c.args.messages.now) order turn c.requires.order c.turns-test.true in
     let counted = c.turns.invariant.counted in
     record {
-      placed = placed_next c.args.network.now c.args.messages.now old _ c.args.there.now c.turns.rows.items c.push_taken.new.rows.items order turn place
-          c.message_at-message.result.now attempt c.requires.order c.turns-test.true (get_or_default order turn 0 place c.turns-test.true)
+      placed = placed_next {network = c.args.network.now} c.args.messages.now old _
+          c.args.there.now {now = c.turns.rows.items} c.push_taken.new.rows.items order turn place
+          {m = c.message_at-message.result.now} {a = attempt} c.requires.order c.turns-test.true
+          (get_or_default order turn 0 place c.turns-test.true)
           (omega (arith, below, counted)) c.turns.invariant.placed c.message_at-message.ensures
-          (record { best = subst (λ (ts : List Taken). IsBestBehind c.args.network.now ts c.message_at-message.result.now c.in-Ok-best_behind.attempt) c.as_slice.ensures.value c.in-Ok-best_behind.ensures; fits = omega (arith, c.if-attempt-gt0.false) }) refl c.in-Ok-push_taken.ensures.added;
+          (record { best = subst (λ ts. IsBestBehind c.args.network.now ts c.message_at-message.result.now c.in-Ok-best_behind.attempt) c.as_slice.ensures.value c.in-Ok-best_behind.ensures; fits = omega (arith, c.if-attempt-gt0.false) }) refl c.in-Ok-push_taken.ensures.added;
       small = c.in-Ok-push_taken.ensures.small;
       counted = length-set old place attempt ∙ counted;
     }

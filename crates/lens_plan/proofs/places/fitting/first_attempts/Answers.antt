@@ -9,5 +9,5 @@ messages-preserved c =
     let m = c.index-messages-turn.result in
     let there : slice_get messages n ≡ Some m =
     slice_get-get_or messages n m c.messages-test.true ∙ ap (λ (x : Message). Some x) (sym c.index-messages-turn.is) in
-    places_more c.args.network.now c.args.rows.now messages n c.messages.attempts.items c.push.new.self.items m c.in-Ok.attempt c.messages.invariant there
+    places_more c.push.new.self.items {m = m} {a = c.in-Ok.attempt} c.messages.invariant there
     (record { best = c.in-Ok.ensures; fits = omega (arith, c.if-attempt-gt0.false) }) c.in-Ok-push.ensures.items

@@ -9,4 +9,4 @@ messages-preserved c =
     hops_next network c.args.messages.now c.messages.message-index c.message-item.result c.messages.hops.items c.push_once.new.hops.items ways
     c.messages-test.true c.messages.invariant
     (subst (λ (m : Message). AreWays network m.sender m.receivers ways) c.message-item.is c.in-Ok.ensures)
-    (c.in-Ok-push_once.ensures ∙ ap (λ (ws : List Hop). c.messages.hops.items ++ once network ws) c.as_slice.ensures.value)
+    (c.in-Ok-push_once.ensures ∙ ap (λ ws. c.messages.hops.items ++ once network ws) c.as_slice.ensures.value)

@@ -11,7 +11,7 @@ receivers-preserved c =
     let first = c.in-Ok.ensures.way in
     let second = c.in-Ok-push_way.ensures.way in
     let sender = ap (λ (m : Message). m.sender) c.message.view_is in
-    ways_next network c.args.message.now.sender c.receivers-receiver-items.result.now c.receivers.receiver-index (record { 0 = 0 }) c.receivers.hops.items
-    c.push_way.new.hops.items c.push_way-in-receivers.new.hops.items first.0 second.0 c.receivers-test.true c.receivers.invariant
-    (subst (λ (s : DeviceId). IsWay network s receiver A first.0) sender first.1) first.2
-    (subst (λ (s : DeviceId). IsWay network s receiver B second.0) sender second.1) second.2
+    ways_next c.receivers-receiver-items.result.now c.receivers.receiver-index (record { 0 = 0 }) c.receivers.hops.items
+    c.push_way.new.hops.items c.push_way-in-receivers.new.hops.items c.receivers-test.true c.receivers.invariant
+    (subst (λ s. IsWay network s receiver A first.0) sender first.1) first.2
+    (subst (λ s. IsWay network s receiver B second.0) sender second.1) second.2

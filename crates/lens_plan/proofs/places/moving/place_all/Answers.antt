@@ -7,9 +7,9 @@ pub index-requires : goal.index-requires
 index-requires c =
     let unfit = unfit_by c.args.network.now c.args.messages.now c.args.there.now _ c.moves.order.items _ c.in-Ok.found c.in-Some.misfit
     c.as_slice.ensures.value c.in-Some.is c.in-Ok.ensures.is in
-    let within = turn_within c.args.network.now c.args.messages.now c.args.there.now c.moves.order.items c.in-Some.misfit unfit in
+    let within = turn_within c.args.network.now c.args.messages.now c.args.there.now unfit in
     let long = c.as_slice.ensures.len in
-    let same = ap (λ (os : List ℕ). length os) c.as_slice.ensures.value in
+    let same = ap (λ os. length os) c.as_slice.ensures.value in
     omega (arith, within, long, same)
 
 pub returns-then-moves-eq-MOST_MOVES-clause-unplaced : goal.returns-then-moves-eq-MOST_MOVES-clause-unplaced
@@ -23,10 +23,10 @@ returns-then-moves-eq-MOST_MOVES-clause-unplaced c =
     let last : c.moves.moves ≡ 512 = c.if-moves-eq-MOST_MOVES.true in
     record {
       order = order;
-      reached = subst (λ (n : ℕ). IsReached network ms there n order) last c.moves.invariant.reached;
+      reached = subst (λ n. IsReached network ms there n order) last c.moves.invariant.reached;
       misfit = misfit;
       unfit = unfit;
-      place_is = c.index.ensures ∙ place_at_turn network ms there order misfit unfit c.index.result.now;
+      place_is = c.index.ensures ∙ place_at_turn network ms there unfit c.index.result.now;
       attempt_is = refl;
     }
 
@@ -34,7 +34,7 @@ pub move_to_front-requires : goal.move_to_front-requires
 move_to_front-requires c =
     let unfit = unfit_by c.args.network.now c.args.messages.now c.args.there.now _ c.moves.order.items _ c.in-Ok.found c.in-Some.misfit
     c.as_slice.ensures.value c.in-Some.is c.in-Ok.ensures.is in
-    turn_within c.args.network.now c.args.messages.now c.args.there.now c.moves.order.items c.in-Some.misfit unfit
+    turn_within c.args.network.now c.args.messages.now c.args.there.now unfit
 
 pub moves-preserved : goal.moves-preserved
 moves-preserved c =
@@ -47,8 +47,9 @@ moves-preserved c =
     let few = c.moves.invariant.few in
     let not_last = c.if-moves-eq-MOST_MOVES.false in
     record {
-      order = order_next network ms there order c.move_to_front.new.order.items misfit c.moves.invariant.order unfit c.in-Ok-move_to_front.ensures;
-      reached = reached_more network ms there c.moves.moves order c.move_to_front.new.order.items misfit c.moves.invariant.reached unfit
+      order = order_next network ms there c.move_to_front.new.order.items c.moves.invariant.order unfit
+          c.in-Ok-move_to_front.ensures;
+      reached = reached_more network ms there c.move_to_front.new.order.items c.moves.invariant.reached unfit
           c.in-Ok-move_to_front.ensures;
       counted = c.in-Ok.ensures.counted;
       few = omega (arith, few, not_last);

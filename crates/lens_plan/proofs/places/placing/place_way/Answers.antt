@@ -11,8 +11,9 @@ hops-preserved c =
     let bound = c.hops.invariant.bound in
     let end = c.placed_at-place.ensures.bound in
     record {
-      placed = placed_next c.args.trial.now c.args.start c.args.hops.now c.hops.hop-index c.hops.from c.args.placed.now.items c.hops.placed.items
-          c.push.new.self.items _ c.placed_at-place.result c.hops-test.true c.hops.invariant.placed c.placed_at-place.ensures.is c.in-Ok.ensures.items;
+      placed = placed_next c.args.hops.now c.hops.hop-index
+          c.push.new.self.items _ c.hops-test.true c.hops.invariant.placed c.placed_at-place.ensures.is
+          c.in-Ok.ensures.items;
       ordered = subst (All IsOrdered) (sym c.in-Ok.ensures.items)
           (All-append IsOrdered c.hops.placed.items (c.placed_at-place.result ∷ []) c.hops.invariant.ordered
           (All-cons IsOrdered c.placed_at-place.result [] c.placed_at-place.ensures.ordered (All-nil IsOrdered)));

@@ -6,7 +6,7 @@ pub rows-preserved : goal.rows-preserved
 rows-preserved c =
     let row = c.taken_by.result in
     record {
-      are = rows_more c.args.network.now c.rows.place c.rows.rows.items c.push.new.self.items c.entry_of-entry.result row c.rows.invariant.are
+      are = rows_more c.push.new.self.items row c.rows.invariant.are
           c.entry_of-entry.ensures.is c.taken_by.ensures.value c.in-Ok.ensures.items;
       small = subst (All AreSmall) (sym c.in-Ok.ensures.items)
           (All-append AreSmall c.rows.rows.items (row ∷ []) c.rows.invariant.small (All-cons AreSmall row [] c.taken_by.ensures.small (All-nil AreSmall)));

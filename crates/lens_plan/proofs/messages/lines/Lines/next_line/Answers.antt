@@ -8,7 +8,7 @@ returns-in-Some c =
     let place = c.in-Some.place in
     let parted : lines_of text ≡ take place text ∷ lines_of (drop (place + 1) text) = lines_parted text place (search rules) in
     let whole : c.args.self.now ≡ lines_of text = search rules in
-    whole ∙ parted ∙ ap (λ (rest : List ℕ). take place text ∷ lines_of rest) (sym (take_rest text (place + 1)))
+    whole ∙ parted ∙ ap (λ rest. take place text ∷ lines_of rest) (sym (take_rest text (place + 1)))
 
 pub returns-in-None : goal.returns-in-None
 returns-in-None c =
