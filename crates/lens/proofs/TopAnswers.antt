@@ -53,10 +53,12 @@ no_usage_for other h = h
 answer_one : RefusalIsOne → (words : List (List ℕ)) (form : Option Form) → IfSome form IsFormInRange → (octets report : List ℕ) (a b : Answer)
     → IsAnswerBy words form octets report a → IsAnswerBy words form octets report b → a ≡ b
 answer_one one words None range octets report a b p q = p ∙ sym q
-answer_one one words (Some Slack) range octets report a b p q = octets_one (IsSlackOf all_steps) (slack_one all_steps) octets a b p q
-answer_one one words (Some (SlackOf rule)) range octets report a b p q = octets_one (IsSlackOf (rule_steps rule)) (slack_one (rule_steps rule)) octets a b p q
+answer_one one words (Some Slack) range octets report a b p q =
+    octets_one (IsSlackOf all_steps) (slack_one all_steps) a b p q
+answer_one one words (Some (SlackOf rule)) range octets report a b p q =
+    octets_one (IsSlackOf (rule_steps rule)) (slack_one (rule_steps rule)) a b p q
 answer_one one words (Some Least) range octets report a b p q =
-    octets_one (λ network. IsLeastOf (with_late network)) (λ network. least_one (with_late network)) octets a b p q
+    octets_one (λ network. IsLeastOf (with_late network)) (λ network. least_one {n = with_late network}) a b p q
 answer_one one words (Some Sheet) range octets report a b p q =
     network_answer_one one IsSheetOf octets (λ network accepted. sheet_one network) a b p q
 answer_one one words (Some Latency) range octets report a b p q =

@@ -86,33 +86,34 @@ all_met network h measures.Windows = h.1.1.1.1.1.1.1.1.1.1.1.1.1.0
 all_met network h measures.Gaps = h.1.1.1.1.1.1.1.1.1.1.1.1.1.1.0
 all_met network h measures.Comings = h.1.1.1.1.1.1.1.1.1.1.1.1.1.1.1.0
 
--- by its kind
-each : (network : Network) → KeepsBelow 8 network → AllHold network all_steps → ((rule : Rule) → IsInequality rule → IsKept rule network) → (rule : Rule)
-    → IsKept rule network
-each network shape h met Limits = shape Limits (omega arith)
-each network shape h met DevicesDiffer = shape DevicesDiffer (omega arith)
-each network shape h met LinksDiffer = shape LinksDiffer (omega arith)
-each network shape h met CompressionMasters = shape CompressionMasters (omega arith)
-each network shape h met Joints = shape Joints (omega arith)
-each network shape h met Connections = shape Connections (omega arith)
-each network shape h met Masters = shape Masters (omega arith)
-each network shape h met Delays = met Delays tt
-each network shape h met Settling = met Settling tt
-each network shape h met Precision = met Precision tt
-each network shape h met Correction = met Correction tt
-each network shape h met ScheduleStart = met ScheduleStart tt
-each network shape h met WindowEnds = met WindowEnds tt
-each network shape h met VlNamesDiffer = h.1.1.1.1.1.1.0
-each network shape h met VlIdsDiffer = h.1.1.1.1.1.1.1.0
-each network shape h met Periods = h.1.1.1.1.1.1.1.1.0
-each network shape h met Senders = h.1.1.1.1.1.1.1.1.1.0
-each network shape h met LinksOnce = h.1.1.1.1.1.1.1.1.1.1.0
-each network shape h met Sources = h.1.1.1.1.1.1.1.1.1.1.1.0
-each network shape h met Targets = h.1.1.1.1.1.1.1.1.1.1.1.1.0
-each network shape h met Spacing = met Spacing tt
-each network shape h met BothChannels = h.1.1.1.1.1.1.1.1.1.1.1.1.1.1.1.1.0
-each network shape h met Forwarding = met Forwarding tt
-each network shape h met RowsOfDevice = h.1.1.1.1.1.1.1.1.1.1.1.1.1.1.1.1.1.0
+module _ (network : Network) (shape : KeepsBelow 8 network) (h : AllHold network all_steps)
+    (met : ((rule : Rule) → IsInequality rule → IsKept rule network)) where
+  -- by its kind
+  each : (rule : Rule) → IsKept rule network
+  each Limits = shape Limits (omega arith)
+  each DevicesDiffer = shape DevicesDiffer (omega arith)
+  each LinksDiffer = shape LinksDiffer (omega arith)
+  each CompressionMasters = shape CompressionMasters (omega arith)
+  each Joints = shape Joints (omega arith)
+  each Connections = shape Connections (omega arith)
+  each Masters = shape Masters (omega arith)
+  each Delays = met Delays tt
+  each Settling = met Settling tt
+  each Precision = met Precision tt
+  each Correction = met Correction tt
+  each ScheduleStart = met ScheduleStart tt
+  each WindowEnds = met WindowEnds tt
+  each VlNamesDiffer = h.1.1.1.1.1.1.0
+  each VlIdsDiffer = h.1.1.1.1.1.1.1.0
+  each Periods = h.1.1.1.1.1.1.1.1.0
+  each Senders = h.1.1.1.1.1.1.1.1.1.0
+  each LinksOnce = h.1.1.1.1.1.1.1.1.1.1.0
+  each Sources = h.1.1.1.1.1.1.1.1.1.1.1.0
+  each Targets = h.1.1.1.1.1.1.1.1.1.1.1.1.0
+  each Spacing = met Spacing tt
+  each BothChannels = h.1.1.1.1.1.1.1.1.1.1.1.1.1.1.1.1.0
+  each Forwarding = met Forwarding tt
+  each RowsOfDevice = h.1.1.1.1.1.1.1.1.1.1.1.1.1.1.1.1.1.0
 
 -- all rules are kept where those of the shape are, and all steps hold
 pub rules_kept : (network : Network) → KeepsBelow 8 network → AllHold network all_steps → KeepsRules network
@@ -198,7 +199,7 @@ accepts network a range is =
             absurd cc
         | inr found ↦
             let whole = done_whole is.findings is.ending (sym status ∙ done) in
-            let are = subst (λ (end : Ending). AreOf network all_steps is.findings end) whole.0 found.1 in
+            let are = subst (λ end. AreOf network all_steps is.findings end) whole.0 found.1 in
             rules_kept network found.0 (steps_hold network (tree_of rules_give_trees network found.0) all_steps is.findings are whole.1)
       ],
       λ keeps. elim is.are [

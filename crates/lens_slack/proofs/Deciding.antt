@@ -21,72 +21,81 @@ AreEnough network rule place = (spot : Spot) (n : ℕ) (f : Finding) → IsSpotA
 
 -- a bound of a spot that is this one
 moved : (network : Network) (n : ℕ) (f : Finding) (spot other : Spot) → spot ≡ other → IsBoundAt network spot n f → IsBoundAt network other n f
-moved network n f spot other same bound = subst (λ (s : Spot). IsBoundAt network s n f) same bound
+moved network n f spot other same bound = subst (λ s. IsBoundAt network s n f) same bound
 
 -- ---- the rules of times
 
-delays : (network : Network) (place : ℕ) → DelaysFit network place ↔ AreEnough network Delays place
-delays network place = (
-  λ kept spot n f at bound. let b = (moved network n f spot _ at.1 bound).1 in
-      enough_by f _ b.is (kept b.beta at.0 b.links b.is_beta b.member b.path),
-  λ all beta channel links is member path.
-      all (spots.Path (device_of place) channel) 0 (found (spots.Path (device_of place) channel) (amount network.dmax) (beta + delay_on network links))
-      (channel, refl) (refl, record { beta = beta; is_beta = is; links = links; member = member; path = path; is = refl }),
-)
+module _ (network : Network) (place : ℕ) where
+  delays : DelaysFit network place ↔ AreEnough network Delays place
+  delays = (
+    λ kept spot n f at bound. let b = (moved network n f spot _ at.1 bound).1 in
+        enough_by f _ b.is (kept b.beta at.0 b.links b.is_beta b.member b.path),
+    λ all beta channel links is member path.
+        all (spots.Path (device_of place) channel) 0 (found (spots.Path (device_of place) channel)
+        (amount network.dmax) (beta + delay_on network links))
+        (channel, refl) (refl, record { beta = beta; is_beta = is; links = links; member = member; path = path; is = refl }),
+  )
 
-settling : (network : Network) (place : ℕ) → ErrorsSettle network ↔ AreEnough network Settling place
-settling network place = (
-  λ kept spot n f at bound. let b = (moved network n f spot _ at bound).1 in enough_by f _ b.is (kept b.beta b.is_beta),
-  λ all beta is.
-      all spots.Settled 0 (found spots.Settled (amount network.settled) (8 * beta + 12 * gamma_of network + 40 * amount network.grain)) refl
-      (refl, record { beta = beta; is_beta = is; is = refl }),
-)
+  settling : ErrorsSettle network ↔ AreEnough network Settling place
+  settling = (
+    λ kept spot n f at bound. let b =
+        (moved network n f spot _ at bound).1 in enough_by f _ b.is (kept b.beta b.is_beta),
+    λ all beta is.
+        all spots.Settled 0 (found spots.Settled (amount network.settled)
+        (8 * beta + 12 * gamma_of network + 40 * amount network.grain)) refl
+        (refl, record { beta = beta; is_beta = is; is = refl }),
+  )
 
-precision : (network : Network) (place : ℕ) → PrecisionFits network ↔ AreEnough network Precision place
-precision network place = (
-  λ kept spot n f at bound. elim (moved network n f spot spots.Precision at bound) [
-    | inl errors ↦ let b = errors.1 in enough_by f _ b.is (kept.errors b.beta b.is_beta)
-    | inr calc ↦ enough_by f (calc_bound network) calc.1 kept.calc
-  ],
-  λ all. record {
-    errors = λ beta is.
-        all spots.Precision 0
-        (found spots.Precision (amount network.precision) (amount network.settled + 16 * beta + 24 * gamma_of network + 80 * amount network.grain))
-        refl (inl (refl, record { beta = beta; is_beta = is; is = refl }));
-    calc = all spots.Precision 1 (calc_bound network) refl (inr (refl, refl));
-  },
-)
+  precision : PrecisionFits network ↔ AreEnough network Precision place
+  precision = (
+    λ kept spot n f at bound. elim (moved network n f spot spots.Precision at bound) [
+      | inl errors ↦ let b = errors.1 in enough_by f _ b.is (kept.errors b.beta b.is_beta)
+      | inr calc ↦ enough_by f (calc_bound network) calc.1 kept.calc
+    ],
+    λ all. record {
+      errors = λ beta is.
+          all spots.Precision 0
+          (found spots.Precision (amount network.precision)
+          (amount network.settled + 16 * beta + 24 * gamma_of network + 80 * amount network.grain))
+          refl (inl (refl, record { beta = beta; is_beta = is; is = refl }));
+      calc = all spots.Precision 1 (calc_bound network) refl (inr (refl, refl));
+    },
+  )
 
-correction : (network : Network) (place : ℕ) → CorrectionFits network ↔ AreEnough network Correction place
-correction network place = (
-  λ kept spot n f at bound. enough_by f (correction_bound network) (moved network n f spot spots.Correction at bound).1 kept,
-  λ all. all spots.Correction 0 (correction_bound network) refl (refl, refl),
-)
+  correction : CorrectionFits network ↔ AreEnough network Correction place
+  correction = (
+    λ kept spot n f at bound. enough_by f (correction_bound network)
+        (moved network n f spot spots.Correction at bound).1 kept,
+    λ all. all spots.Correction 0 (correction_bound network) refl (refl, refl),
+  )
 
-start : (network : Network) (place : ℕ) → ScheduleFits network ↔ AreEnough network ScheduleStart place
-start network place =
-    let begins : Link → Type 0 = λ link.
-    amount network.correction + amount network.dmax + 4 * amount network.precision + pcf_port_time link ≤ amount network.tt_start in (
-      λ kept spot n f at bound. elim at [
-        | inl begin ↦
-            let b = moved network n f spot spots.Begin begin bound in
-            enough_by f (begin_bound network b.0) b.2 (each_of_all begins network.link kept.begins n b.0 b.1)
-        | inr end ↦ enough_by f (end_bound network) (moved network n f spot spots.End end bound).1 kept.ends
-      ],
-      λ all. record {
-        begins = all_of_each begins network.link (λ k link there. all spots.Begin k (begin_bound network link) (inl refl) (link, there, refl));
-        ends = all spots.End 0 (end_bound network) (inr refl) (refl, refl);
-      },
-    )
+  start : ScheduleFits network ↔ AreEnough network ScheduleStart place
+  start =
+      let begins : Link → Type 0 = λ link.
+      amount network.correction + amount network.dmax + 4 * amount network.precision + pcf_port_time link ≤ amount
+      network.tt_start in (
+        λ kept spot n f at bound. elim at [
+          | inl begin ↦
+              let b = moved network n f spot spots.Begin begin bound in
+              enough_by f (begin_bound network b.0) b.2 (each_of_all begins network.link kept.begins n b.0 b.1)
+          | inr end ↦ enough_by f (end_bound network) (moved network n f spot spots.End end bound).1 kept.ends
+        ],
+        λ all. record {
+          begins = all_of_each begins network.link (λ k link there. all spots.Begin k (begin_bound network link)
+              (inl refl) (link, there, refl));
+          ends = all spots.End 0 (end_bound network) (inr refl) (refl, refl);
+        },
+      )
 
-windows : (network : Network) (place : ℕ) → EndsInCycle network place ↔ AreEnough network WindowEnds place
-windows network place = (
-  λ kept spot n f at bound. let b = (moved network n f spot _ at bound).1 in enough_by f _ b.2 (kept b.0 b.1),
-  λ all entry is.
-      all (spots.Window (row_of place)) 0
-      (found (spots.Window (row_of place)) (amount network.cycle) (window_end network entry + 4 * amount network.precision)) refl
-      (refl, (entry, is, refl)),
-)
+  windows : EndsInCycle network place ↔ AreEnough network WindowEnds place
+  windows = (
+    λ kept spot n f at bound. let b = (moved network n f spot _ at bound).1 in enough_by f _ b.2 (kept b.0 b.1),
+    λ all entry is.
+        all (spots.Window (row_of place)) 0
+        (found (spots.Window (row_of place)) (amount network.cycle)
+        (window_end network entry + 4 * amount network.precision)) refl
+        (refl, (entry, is, refl)),
+  )
 
 -- ---- rows of one port
 
@@ -113,13 +122,14 @@ gap_behind : (network : Network) (row : RowId) (earlier entry : Entry) → amoun
     }
 gap_behind network row earlier entry most = rw (le-ltb (amount entry.row.offset) (amount earlier.row.offset) most) refl
 
-gap_kept : (network : Network) (row : RowId) (earlier entry : Entry) → IsClearBefore network earlier entry ⊎ IsClearBefore network entry earlier
-    → IsEnough (gap_bound network row earlier entry)
-gap_kept network row earlier entry clear = grind (arith, cases_lt, enough_by, gap_before, gap_behind, some_time)
+module _ (network : Network) (row : RowId) (earlier entry : Entry) where
+  gap_kept : IsClearBefore network earlier entry ⊎ IsClearBefore network entry earlier
+      → IsEnough (gap_bound network row earlier entry)
+  gap_kept clear = grind (arith, cases_lt, enough_by, gap_before, gap_behind, some_time)
 
-gap_clear : (network : Network) (row : RowId) (earlier entry : Entry) → IsEnough (gap_bound network row earlier entry)
-    → IsClearBefore network earlier entry ⊎ IsClearBefore network entry earlier
-gap_clear network row earlier entry enough = grind (arith, cases_lt, gap_before, gap_behind)
+  gap_clear : IsEnough (gap_bound network row earlier entry)
+      → IsClearBefore network earlier entry ⊎ IsClearBefore network entry earlier
+  gap_clear enough = grind (arith, cases_lt, gap_before, gap_behind)
 
 gaps : (network : Network) (place : ℕ) → StandsApart network place ↔ AreEnough network Spacing place
 gaps network place = (

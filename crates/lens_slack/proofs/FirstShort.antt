@@ -17,8 +17,9 @@ first_here : (f : Finding) (fs gs : List Finding) → f.has < f.wants → fs ≡
 first_here f fs gs short same = record { front = []; behind = gs; is = same; enough = All-nil IsEnough; short = short }
 
 -- behind findings that are enough
-first_behind : (found others fs : List Finding) (f : Finding) → All IsEnough found → IsFirstShort others f → fs ≡ found ++ others → IsFirstShort fs f
-first_behind found others fs f enough first same = record {
+first_behind : (found : List Finding) {others : List Finding} (fs : List Finding) {f : Finding} → All IsEnough found
+    → IsFirstShort others f → fs ≡ found ++ others → IsFirstShort fs f
+first_behind found fs {f} enough first same = record {
   front = found ++ first.front;
   behind = first.behind;
   is = same ∙ ap (λ (xs : List Finding). found ++ xs) first.is ∙ sym (append_assoc found first.front (f ∷ first.behind));
@@ -27,8 +28,9 @@ first_behind found others fs f enough first same = record {
 }
 
 -- before others
-first_within : (found others fs : List Finding) (f : Finding) → IsFirstShort found f → fs ≡ found ++ others → IsFirstShort fs f
-first_within found others fs f first same = grind (arith, append_assoc)
+first_within : {found : List Finding} (others fs : List Finding) {f : Finding} → IsFirstShort found f
+    → fs ≡ found ++ others → IsFirstShort fs f
+first_within others fs first same = grind (arith, append_assoc)
 
 -- the finding, if there is one, is short or enough
 pub met_or : (o : Option Finding) → ((f : Finding) × (o ≡ Some f) × (f.has < f.wants)) ⊎ IsMet o
@@ -62,7 +64,7 @@ Rises n (Listed measure ∷ steps) = ⊥
 at_least : (n : ℕ) (steps : List Step) (measure : Measure) → Rises n steps → IsIn measure steps → n ≤ number_of (rule_of measure)
 at_least n [] measure rises is = absurd is
 at_least n (Judged rule ∷ steps) measure rises is = at_least n steps measure rises.1 is
-at_least n (Measured other ∷ steps) measure rises (inl same) = subst (λ (m : Measure). n ≤ number_of (rule_of m)) (sym same) rises.0
+at_least n (Measured other ∷ steps) measure rises (inl same) = subst (λ m. n ≤ number_of (rule_of m)) (sym same) rises.0
 at_least n (Measured other ∷ steps) measure rises (inr is) = grind (arith, (at_least (number_of (rule_of other)) steps measure rises.1 is))
 at_least n (Listed other ∷ steps) measure rises is = absurd rises
 
@@ -80,10 +82,10 @@ module _ (network : Network) (tree : IsTree network) (others : KeepsOthers netwo
   later_measure measure steps o fs gs tightest met same short = record {
     measure = short.measure;
     f = short.f;
-    first = first_behind (some_found o) gs fs short.f (some_enough o met) short.first same;
+    first = first_behind (some_found o) fs (some_enough o met) short.first same;
     tightest = short.tightest;
     before = λ earlier is less g its. elim is [
-      | inl here ↦ measure_holds network tree measure o tightest met g (subst (λ (m : Measure). IsTightestOf network m (Some g)) here its)
+      | inl here ↦ measure_holds network tree measure o tightest met g (subst (λ m. IsTightestOf network m (Some g)) here its)
       | inr there ↦ short.before earlier there less g its
     ];
   }
@@ -94,12 +96,12 @@ module _ (network : Network) (tree : IsTree network) (others : KeepsOthers netwo
   this_measure n measure steps o f fs gs rises tightest is short same = record {
     measure = measure;
     f = f;
-    first = first_here f fs gs short (same ∙ ap (λ (x : Option Finding). some_found x ++ gs) is);
+    first = first_here f fs gs short (same ∙ ap (λ x. some_found x ++ gs) is);
     tightest = subst (IsTightestOf network measure) is tightest;
     before = λ earlier within less g its. elim within [
       | inl here ↦
           let self : number_of (rule_of measure) < number_of (rule_of measure) =
-          subst (λ (m : Measure). number_of (rule_of m) < number_of (rule_of measure)) here less in
+          subst (λ m. number_of (rule_of m) < number_of (rule_of measure)) here less in
           absurd (omega (arith, self))
       | inr there ↦
           let most = at_least (number_of (rule_of measure)) steps earlier rises.1 there in
@@ -197,7 +199,7 @@ module _ (network : Network) (tree : IsTree network) where
     | inl later ↦ met n g (omega (arith, later)) less its
     | inr most ↦
         let same : n ≡ first = omega (arith, least, most) in
-        here g (subst (λ (k : ℕ). IsTightestAt network (spot_at measure k) (Some g)) same its)
+        here g (subst (λ k. IsTightestAt network (spot_at measure k) (Some g)) same its)
   ]
 
   this_spot : (measure : Measure) (first : ℕ) (o : Option Finding) (f : Finding) (fs gs : List Finding)
@@ -205,7 +207,7 @@ module _ (network : Network) (tree : IsTree network) where
       → FoundShort (ShortSpot network measure first) fs
   this_spot measure first o f fs gs tightest is short same = record {
     f = f;
-    first = first_here f fs gs short (same ∙ ap (λ (x : Option Finding). some_found x ++ gs) is);
+    first = first_here f fs gs short (same ∙ ap (λ x. some_found x ++ gs) is);
     is = record {
       number = first;
       tightest = subst (IsTightestAt network (spot_at measure first)) is tightest;
@@ -225,7 +227,7 @@ module _ (network : Network) (tree : IsTree network) where
         elim (spot_or measure (first + 1) n gs rest) [
           | inl short ↦ inl (record {
             f = short.f;
-            first = first_behind (some_found o) gs fs short.f (some_enough o met) short.first same;
+            first = first_behind (some_found o) fs (some_enough o met) short.first same;
             is = record { number = short.is.number; tightest = short.is.tightest; before = more_met measure first short.is.number here short.is.before };
           })
           | inr (all, enough) ↦ inr (
@@ -257,19 +259,19 @@ module _ (network : Network) (tree : IsTree network) where
       elim (spot_or measure 0 (spots_of measure network) found are) [
         | inl short ↦ inl (record {
           f = short.f;
-          first = first_within found gs fs short.f short.first same;
+          first = first_within gs fs short.first same;
           is = record { measure = measure; listed = inl refl; spot = short.is };
         })
         | inr (all, enough) ↦ elim (listed_or steps gs end others none rest) [
           | inl short ↦ inl (record {
             f = short.f;
-            first = first_behind found gs fs short.f enough short.first same;
+            first = first_behind found fs enough short.first same;
             is = later_listed measure steps short.f short.is;
           })
           | inr met ↦ inr (λ m is. elim is [
             | inl here ↦
                 let whole : AreMet network measure 0 (spots_of measure network) = λ n g least less. all n g least (omega (arith, less)) in
-                subst (λ (k : Measure). AreMet network k 0 (spots_of k network)) (sym here) whole
+                subst (λ k. AreMet network k 0 (spots_of k network)) (sym here) whole
             | inr there ↦ met m there
           ])
         ]

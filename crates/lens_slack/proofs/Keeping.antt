@@ -82,8 +82,8 @@ module _ (Has : ℕ → Finding → Type 0) (i : ℕ) where
         λ k h below. elim (below_or_at Has i k h below) [
           | inl before ↦ first k h before
           | inr here ↦
-              subst (λ (j : ℕ). ComesFirst n f j h) (sym here.0)
-              (subst (λ (x : Finding). ComesFirst n f i x) (sym (at.1 h here.1)) (old_first n f g (omega (arith, less)) most))
+              subst (λ j. ComesFirst n f j h) (sym here.0)
+              (subst (λ x. ComesFirst n f i x) (sym (at.1 h here.1)) (old_first n f g (omega (arith, less)) most))
         ],
       )
 

@@ -18,13 +18,13 @@ module _ (network : Network) (row : RowId) (n : ℕ) (first entry : Entry) (is_f
   gap_at None before none = λ f bound.
       let same = one_entry network n bound.earlier first bound.is_earlier is_first in
       let its = one_entry network row.0 bound.entry entry bound.is_entry is_entry in
-      none (subst (λ (e : Entry). AreOfPort first e) its (subst (λ (e : Entry). AreOfPort e bound.entry) same bound.of_port))
+      none (subst (λ e. AreOfPort first e) its (subst (λ e. AreOfPort e bound.entry) same bound.of_port))
   gap_at (Some f) before (of_port, is) = (
     record { earlier = first; entry = entry; before = before; is_earlier = is_first; is_entry = is_entry; of_port = of_port; is = is },
     λ g bound.
         let same = one_entry network n bound.earlier first bound.is_earlier is_first in
         let its = one_entry network row.0 bound.entry entry bound.is_entry is_entry in
-        bound.is ∙ ap (λ (e : Entry). gap_bound network row e bound.entry) same ∙ ap (gap_bound network row first) its ∙ sym is,
+        bound.is ∙ ap (λ e. gap_bound network row e bound.entry) same ∙ ap (gap_bound network row first) its ∙ sym is,
   )
 
   -- a row that enters the source has one, another has none
@@ -34,13 +34,13 @@ module _ (network : Network) (row : RowId) (n : ℕ) (first entry : Entry) (is_f
   entering_at None no_sender none = λ f bound.
       let same = one_entry network n bound.entering first bound.is_entering is_first in
       let its = one_entry network row.0 bound.entry entry bound.is_entry is_entry in
-      none (subst (λ (e : Entry). EntersSource first e) its (subst (λ (e : Entry). EntersSource e bound.entry) same bound.enters))
+      none (subst (λ e. EntersSource first e) its (subst (λ e. EntersSource e bound.entry) same bound.enters))
   entering_at (Some f) no_sender (enters, is) = (
     record { entering = first; entry = entry; is_entering = is_first; is_entry = is_entry; no_sender = no_sender; enters = enters; is = is },
     λ g bound.
         let same = one_entry network n bound.entering first bound.is_entering is_first in
         let its = one_entry network row.0 bound.entry entry bound.is_entry is_entry in
-        bound.is ∙ ap (λ (e : Entry). entering_bound network row e bound.entry) same ∙ ap (entering_bound network row first) its ∙ sym is,
+        bound.is ∙ ap (λ e. entering_bound network row e bound.entry) same ∙ ap (entering_bound network row first) its ∙ sym is,
   )
 
 -- where the row does not leave its sender, its bounds are those of rows that enter its source

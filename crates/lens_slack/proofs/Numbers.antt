@@ -40,7 +40,7 @@ module _ (network : Network) where
     pub numbered : IsNumbered network measure number spot
 
   moved : (n : ℕ) (f : Finding) (spot other : Spot) → spot ≡ other → IsBoundAt network spot n f → IsBoundAt network other n f
-  moved n f spot other same bound = subst (λ (s : Spot). IsBoundAt network s n f) same bound
+  moved n f spot other same bound = subst (λ s. IsBoundAt network s n f) same bound
 
   moved_number : (rule : Rule) (spot other : Spot) → spot ≡ other → HasNumber rule other → HasNumber rule spot
   moved_number rule spot other same has = subst (HasNumber rule) (sym same) has
@@ -185,4 +185,4 @@ module _ (network : Network) (tree : IsTree network) where
   bounds_met measure met number spot numbered n g bound =
       spot_met spot
       (λ f tightest. measure_met measure met number f
-      (numbered.within, subst (λ (s : Spot). IsTightestAt network s (Some f)) (sym numbered.is) tightest)) n g bound
+      (numbered.within, subst (λ s. IsTightestAt network s (Some f)) (sym numbered.is) tightest)) n g bound

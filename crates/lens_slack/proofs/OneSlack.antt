@@ -14,12 +14,13 @@ AreSame fs gs end other = (fs ≡ gs) × (end ≡ other)
 
 -- ---- one place at which a rule breaks
 
-breaks_once : (network : Network) (rule : Rule) (place other : ℕ) → BreaksAt network rule place → BreaksAt network rule other → place ≡ other
-breaks_once network rule place other a b = grind (arith, cases_lt)
+breaks_once : {network : Network} {rule : Rule} {place other : ℕ} → BreaksAt network rule place
+    → BreaksAt network rule other → place ≡ other
+breaks_once a b = grind (arith, cases_lt)
 
-pub first_once : (network : Network) (rule other : Rule) (place there : ℕ) → IsFirstBroken network rule place → IsFirstBroken network other there
-    → Broken rule place ≡ Broken other there
-first_once network rule other place there a b =
+pub first_once : {network : Network} {rule other : Rule} {place there : ℕ} → IsFirstBroken network rule place
+    → IsFirstBroken network other there → Broken rule place ≡ Broken other there
+first_once {network} {rule} {other} {place} {there} a b =
     let told : RuleBroken = record { number = number_of rule; index = place } in
     let again : RuleBroken = record { number = number_of other; index = there } in
     let same : told ≡ again =
@@ -31,7 +32,7 @@ first_once network rule other place there a b =
 
 both_same : (f g : Option Finding) (fs gs hs ks : List Finding) → f ≡ g → fs ≡ gs → hs ≡ some_found f ++ fs → ks ≡ some_found g ++ gs → hs ≡ ks
 both_same f g fs gs hs ks first rest here there =
-    here ∙ ap (λ (o : Option Finding). some_found o ++ fs) first ∙ ap (λ (xs : List Finding). some_found g ++ xs) rest ∙ sym there
+    here ∙ ap (λ o. some_found o ++ fs) first ∙ ap (λ (xs : List Finding). some_found g ++ xs) rest ∙ sym there
 
 module _ (network : Network) (tree : IsTree network) where
   found_once : (measure : Measure) (first n : ℕ) (fs gs : List Finding) → AreFound network measure first n fs → AreFound network measure first n gs → fs ≡ gs
@@ -47,7 +48,7 @@ module _ (network : Network) (tree : IsTree network) where
   are_once (Judged rule ∷ steps) fs gs end other (inl (kept, rest)) (inr (place, breaks, none, broken)) = absurd (breaks.broken (kept place))
   are_once (Judged rule ∷ steps) fs gs end other (inr (place, breaks, none, broken)) (inl (kept, rest)) = absurd (breaks.broken (kept place))
   are_once (Judged rule ∷ steps) fs gs end other (inr (place, breaks, none, broken)) (inr (there, again, empty, ending)) =
-      let same = breaks_once network (plan_rule rule) place there breaks again in
+      let same = breaks_once breaks again in
       (none ∙ sym empty, broken ∙ ap (λ (k : ℕ). Broken (plan_rule rule) k) same ∙ sym ending)
   are_once (Measured measure ∷ steps) fs gs end other (f, others, is, rest, same) (g, more, its, left, there) =
       let later = are_once steps others more end other rest left in
@@ -62,7 +63,7 @@ module _ (network : Network) (tree : IsTree network) where
 found_in_once : (network : Network) (steps : List Step) (fs gs : List Finding) (end other : Ending) → IsFoundIn network steps fs end
     → IsFoundIn network steps gs other → AreSame fs gs end other
 found_in_once network steps fs gs end other (inl (rule, place, shape, first, none, broken)) (inl (one, there, early, again, empty, ending)) =
-    (none ∙ sym empty, broken ∙ first_once network rule one place there first again ∙ sym ending)
+    (none ∙ sym empty, broken ∙ first_once first again ∙ sym ending)
 found_in_once network steps fs gs end other (inl (rule, place, shape, first, none, broken)) (inr (keeps, are)) = absurd (first.broken (keeps rule shape place))
 found_in_once network steps fs gs end other (inr (keeps, are)) (inl (rule, place, shape, first, none, broken)) = absurd (first.broken (keeps rule shape place))
 found_in_once network steps fs gs end other (inr (keeps, are)) (inr (kept, again)) =
@@ -72,7 +73,7 @@ found_in_once network steps fs gs end other (inr (keeps, are)) (inr (kept, again
 pub slack_one : (steps : List Step) (network : Network) (a b : Answer) → IsSlackOf steps network a → IsSlackOf steps network b → a ≡ b
 slack_one steps network a b is its =
     let same = found_in_once network steps is.findings its.findings is.ending its.ending is.are its.are in
-    is.is ∙ ap (λ (fs : List Finding). found_answer network fs is.ending) same.0 ∙ ap (found_answer network its.findings) same.1 ∙ sym its.is
+    is.is ∙ ap (λ fs. found_answer network fs is.ending) same.0 ∙ ap (found_answer network its.findings) same.1 ∙ sym its.is
 
 -- ---- for the octets of a file
 
@@ -86,15 +87,20 @@ no_both : (octets : List ℕ) (n : Network) (e : FileRefusal) → network_read o
 no_both octets n e p q = cc
 
 -- the octets of a network file have one answer
-pub octets_one : (Is : Network → Answer → Type 0) → ((network : Network) (a b : Answer) → Is network a → Is network b → a ≡ b) → (octets : List ℕ)
-    (a b : Answer) → IsFileAnswer Is octets a → IsFileAnswer Is octets b → a ≡ b
-octets_one Is one octets a b (inl p) (inl q) = p.1 ∙ sym q.1
-octets_one Is one octets a b (inl p) (inr (inl q)) = let long = p.0 in let fits = q.1.fits in absurd (omega (arith, long, fits))
-octets_one Is one octets a b (inl p) (inr (inr q)) = let long = p.0 in let fits = q.1.fits in absurd (omega (arith, long, fits))
-octets_one Is one octets a b (inr (inl p)) (inl q) = let long = q.0 in let fits = p.1.fits in absurd (omega (arith, long, fits))
-octets_one Is one octets a b (inr (inl p)) (inr (inl q)) =
-    p.2 ∙ ap (λ (e : FileRefusal). refused_answer (file_reason e)) (same_refusal octets p.0 q.0 p.1.read q.1.read) ∙ sym q.2
-octets_one Is one octets a b (inr (inl p)) (inr (inr q)) = absurd (no_both octets q.0 p.0 q.1.read p.1.read)
-octets_one Is one octets a b (inr (inr p)) (inl q) = let long = q.0 in let fits = p.1.fits in absurd (omega (arith, long, fits))
-octets_one Is one octets a b (inr (inr p)) (inr (inl q)) = absurd (no_both octets p.0 q.0 p.1.read q.1.read)
-octets_one Is one octets a b (inr (inr p)) (inr (inr q)) = one q.0 a b (subst (λ (n : Network). Is n a) (same_network octets p.0 q.0 p.1.read q.1.read) p.2) q.2
+pub octets_one : (Is : Network → Answer → Type 0) → ((network : Network) (a b : Answer) → Is network a → Is network b
+    → a ≡ b) → {octets : List ℕ} (a b : Answer) → IsFileAnswer Is octets a → IsFileAnswer Is octets b → a ≡ b
+octets_one Is one a b (inl p) (inl q) = p.1 ∙ sym q.1
+octets_one Is one a b (inl p) (inr (inl q)) =
+    let long = p.0 in let fits = q.1.fits in absurd (omega (arith, long, fits))
+octets_one Is one a b (inl p) (inr (inr q)) =
+    let long = p.0 in let fits = q.1.fits in absurd (omega (arith, long, fits))
+octets_one Is one a b (inr (inl p)) (inl q) =
+    let long = q.0 in let fits = p.1.fits in absurd (omega (arith, long, fits))
+octets_one Is one {octets} a b (inr (inl p)) (inr (inl q)) =
+    p.2 ∙ ap (λ e. refused_answer (file_reason e)) (same_refusal octets p.0 q.0 p.1.read q.1.read) ∙ sym q.2
+octets_one Is one {octets} a b (inr (inl p)) (inr (inr q)) = absurd (no_both octets q.0 p.0 q.1.read p.1.read)
+octets_one Is one a b (inr (inr p)) (inl q) =
+    let long = q.0 in let fits = p.1.fits in absurd (omega (arith, long, fits))
+octets_one Is one {octets} a b (inr (inr p)) (inr (inl q)) = absurd (no_both octets p.0 q.0 p.1.read q.1.read)
+octets_one Is one {octets} a b (inr (inr p)) (inr (inr q)) =
+    one q.0 a b (subst (λ (n : Network). Is n a) (same_network octets p.0 q.0 p.1.read q.1.read) p.2) q.2

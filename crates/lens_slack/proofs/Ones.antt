@@ -35,9 +35,9 @@ pub some_below : (Has : ℕ → Finding → Type 0) → IsOneEach Has → (count
 some_below Has each zero deny = deny None (none_below Has)
 some_below Has each (suc n) deny = let next : n + 1 ≡ suc n = omega arith in some_below Has each n (λ o first.
     let none : IsAt Has n None = λ f has.
-    deny (tighter_of o (Some f)) (subst (λ (i : ℕ). IsFirstTightest (Below Has i) (tighter_of o (Some f))) next
+    deny (tighter_of o (Some f)) (subst (λ i. IsFirstTightest (Below Has i) (tighter_of o (Some f))) next
     (next_tightest Has n o (Some f) first (has, λ g other. each n g f other has))) in
-    deny (tighter_of o None) (subst (λ (i : ℕ). IsFirstTightest (Below Has i) (tighter_of o None)) next (next_tightest Has n o None first none)))
+    deny (tighter_of o None) (subst (λ i. IsFirstTightest (Below Has i) (tighter_of o None)) next (next_tightest Has n o None first none)))
 
 pub some_first : (Has : ℕ → Finding → Type 0) → IsOneEach Has → (count : ℕ) → ((n : ℕ) (f : Finding) → Has n f → n < count)
     → ((o : Option Finding) → IsFirstTightest Has o → ⊥) → ⊥
@@ -81,7 +81,7 @@ module _ (network : Network) (tree : IsTree network) where
   bound_one (spots.Gap row) n f g a b =
       let first = one_entry network n a.earlier b.earlier a.is_earlier b.is_earlier in
       let its = one_entry network row.0 a.entry b.entry a.is_entry b.is_entry in
-      a.is ∙ ap (λ (e : Entry). gap_bound network row e a.entry) first ∙ ap (gap_bound network row b.earlier) its ∙ sym b.is
+      a.is ∙ ap (λ e. gap_bound network row e a.entry) first ∙ ap (gap_bound network row b.earlier) its ∙ sym b.is
   bound_one (spots.Coming row) n f g (inl (at, a)) (inl (here, b)) =
       let by : Entry → Finding = λ e. found (spots.Coming row) (amount e.row.offset) (amount network.tt_start) in
       a.is ∙ ap by (one_entry network row.0 a.entry b.entry a.is_entry b.is_entry) ∙ sym b.is

@@ -52,21 +52,22 @@ inequality_high Spacing is = omega arith
 inequality_high Forwarding is = omega arith
 inequality_high other is = absurd is
 
--- the rule that is broken first, where the others are kept
-inequality_broken : (network : Network) (rule : Rule) (place : ℕ) → KeepsOthers network → IsFirstBroken network rule place → IsInequality rule
-inequality_broken network rule place others first = grind (arith, inequality_or)
+module _ (network : Network) (rule : Rule) (place : ℕ) where
+  -- the rule that is broken first, where the others are kept
+  inequality_broken : KeepsOthers network → IsFirstBroken network rule place → IsInequality rule
+  inequality_broken others first = grind (arith, inequality_or)
 
-tree_by : (network : Network) (rule : Rule) (place : ℕ) → IsFirstBroken network rule place → IsInequality rule → IsTree network
-tree_by network rule place first is =
-    let high = inequality_high rule is in
-    let shape : KeepsBelow 8 network = λ r less. first.rules r (omega (arith, less, high)) in
-    tree_of rules_give_trees network shape
+  tree_by : IsFirstBroken network rule place → IsInequality rule → IsTree network
+  tree_by first is =
+      let high = inequality_high rule is in
+      let shape : KeepsBelow 8 network = λ r less. first.rules r (omega (arith, less, high)) in
+      tree_of rules_give_trees network shape
 
--- so no rule of the shape is
-shape_kept : (network : Network) (rule : Rule) (place : ℕ) → KeepsOthers network → number_of rule < 8 → IsFirstBroken network rule place → ⊥
-shape_kept network rule place others low first =
-    let high = inequality_high rule (inequality_broken network rule place others first) in
-    omega (arith, low, high)
+  -- so no rule of the shape is
+  shape_kept : KeepsOthers network → number_of rule < 8 → IsFirstBroken network rule place → ⊥
+  shape_kept others low first =
+      let high = inequality_high rule (inequality_broken others first) in
+      omega (arith, low, high)
 
 -- what is found at a spot names it
 named : (network : Network) (measure : Measure) (n : ℕ) (f : Finding) → IsTightestAt network (spot_at measure n) (Some f) → f.spot ≡ spot_at measure n
@@ -83,41 +84,43 @@ spot_of_rule measures.Windows n = refl
 spot_of_rule measures.Gaps n = refl
 spot_of_rule measures.Comings n = refl
 
--- the measure that is short is of the rule that is broken first
-measure_told : (network : Network) (rule : Rule) (place : ℕ) (fs : List Finding) → KeepsOthers network → IsFirstBroken network rule place
-    → (short : ShortMeasure network all_steps fs) → rule_of short.measure ≡ rule
-measure_told network rule place fs others first short =
-    let is = inequality_broken network rule place others first in
-    let tree = tree_by network rule place first is in
-    let measure = short.measure in
-    elim (cases_lt (number_of (rule_of measure)) (number_of rule)) [
-      | inl less ↦
-          let enough = tightest_enough network measure short.f (first.rules (rule_of measure) less) short.tightest in
-          let wants = short.first.short in
-          absurd (omega (arith, enough, wants))
-      | inr most ↦ elim (cases_lt (number_of rule) (number_of (rule_of measure))) [
-        | inl more ↦
-            absurd (first.broken (met_kept network tree rule place is
-            (λ earlier same g tightest.
-            short.before earlier (all_in earlier) (subst (λ (r : Rule). number_of r < number_of (rule_of measure)) (sym same) more) g tightest)))
-        | inr least ↦ same_rule (rule_of measure) rule (omega (arith, most, least))
+module _ (network : Network) (rule : Rule) (place : ℕ) (fs : List Finding) where
+  -- the measure that is short is of the rule that is broken first
+  measure_told : KeepsOthers network → IsFirstBroken network rule place → (short : ShortMeasure network all_steps fs)
+      → rule_of short.measure ≡ rule
+  measure_told others first short =
+      let is = inequality_broken network rule place others first in
+      let tree = tree_by network rule place first is in
+      let measure = short.measure in
+      elim (cases_lt (number_of (rule_of measure)) (number_of rule)) [
+        | inl less ↦
+            let enough = tightest_enough network measure short.f (first.rules (rule_of measure) less) short.tightest in
+            let wants = short.first.short in
+            absurd (omega (arith, enough, wants))
+        | inr most ↦ elim (cases_lt (number_of rule) (number_of (rule_of measure))) [
+          | inl more ↦
+              absurd (first.broken (met_kept network tree rule place is
+              (λ earlier same g tightest.
+              short.before earlier (all_in earlier) (subst (λ r. number_of r < number_of (rule_of measure))
+              (sym same) more) g tightest)))
+          | inr least ↦ same_rule (rule_of measure) rule (omega (arith, most, least))
+        ]
       ]
-    ]
 
-refuses_rule : (network : Network) (rule : Rule) (place : ℕ) (fs : List Finding) (end : Ending) → KeepsOthers network → IsFirstBroken network rule place
-    → IsFoundIn network all_steps fs end → (f : Finding) × IsFirstShort fs f × (spot_rule f.spot ≡ rule)
-refuses_rule network rule place fs end others first (inl broken) = absurd (shape_kept network broken.0 broken.1 others broken.2 broken.3)
-refuses_rule network rule place fs end others first (inr (shape, are)) =
-    elim (short_or network (tree_of rules_give_trees network shape) others 0 all_steps fs end all_rise are) [
-      | inl short ↦
-          let at = short.tightest.0 in (
-            short.f,
-            short.first,
-            ap spot_rule (named network short.measure at short.f short.tightest.1.1) ∙ spot_of_rule short.measure at
-                ∙ measure_told network rule place fs others first short,
-          )
-      | inr hold ↦ absurd (first.broken (rules_kept network shape hold rule place))
-    ]
+  refuses_rule : (end : Ending) → KeepsOthers network → IsFirstBroken network rule place
+      → IsFoundIn network all_steps fs end → (f : Finding) × IsFirstShort fs f × (spot_rule f.spot ≡ rule)
+  refuses_rule end others first (inl broken) = absurd (shape_kept network broken.0 broken.1 others broken.2 broken.3)
+  refuses_rule end others first (inr (shape, are)) =
+      elim (short_or network (tree_of rules_give_trees network shape) others 0 all_steps fs end all_rise are) [
+        | inl short ↦
+            let at = short.tightest.0 in (
+              short.f,
+              short.first,
+              ap spot_rule (named network short.measure at short.f short.tightest.1.1) ∙ spot_of_rule short.measure at
+                  ∙ measure_told others first short,
+            )
+        | inr hold ↦ absurd (first.broken (rules_kept network shape hold rule place))
+      ]
 
 -- ---- the place
 
@@ -148,18 +151,20 @@ before measures.Windows place number spot more at = record { n = place; less = m
 before measures.Gaps place number spot more at = record { n = place; less = more; is = sym at }
 before measures.Comings place number spot more at = record { n = place; less = more; is = sym at }
 
-before_kept : (network : Network) (tree : IsTree network) (measure : Measure) (place number : ℕ) → place < spot_index (spot_at measure number)
-    → ((n : ℕ) (g : Finding) → n < number → IsTightestAt network (spot_at measure n) (Some g) → IsEnough g) → IsKeptAt (rule_of measure) network place
-before_kept network tree measure place number more enough =
+before_kept : {network : Network} (tree : IsTree network) (measure : Measure) (place number : ℕ)
+    → place < spot_index (spot_at measure number) → ((n : ℕ) (g : Finding) → n < number
+    → IsTightestAt network (spot_at measure n) (Some g) → IsEnough g) → IsKeptAt (rule_of measure) network place
+before_kept {network} tree measure place number more enough =
     (bounds_decide network (rule_of measure) place (rule_inequality measure)).1
     (λ spot n g at bound.
     let its = before measure place number spot more at in
     spot_met network tree spot
-    (λ f tightest. enough its.n f its.less (subst (λ (s : Spot). IsTightestAt network s (Some f)) (sym its.is) tightest)) n g bound)
+    (λ f tightest. enough its.n f its.less (subst (λ s. IsTightestAt network s (Some f)) (sym its.is) tightest)) n g bound)
 
-spot_told : (network : Network) (rule : Rule) (place : ℕ) (measure : Measure) (f : Finding) → KeepsOthers network → IsFirstBroken network rule place
-    → rule_of measure ≡ rule → f.has < f.wants → ShortSpot network measure 0 f → spot_index f.spot ≡ place
-spot_told network rule place measure f others first same wants short =
+spot_told : {network : Network} {rule : Rule} {place : ℕ} {measure : Measure} {f : Finding} → KeepsOthers network
+    → IsFirstBroken network rule place → rule_of measure ≡ rule → f.has < f.wants → ShortSpot network measure 0 f
+    → spot_index f.spot ≡ place
+spot_told {network} {rule} {place} {measure} {f} others first same wants short =
     let tree = tree_by network rule place first (inequality_broken network rule place others first) in
     let spot = spot_at measure short.number in
     let is : spot_index f.spot ≡ spot_index spot = ap spot_index (named network measure short.number f short.tightest) in
@@ -172,23 +177,25 @@ spot_told network rule place measure f others first same wants short =
       | inr most ↦ elim (cases_lt place (spot_index spot)) [
         | inl more ↦
             absurd (first.broken (subst (kept_at place) same
-            (before_kept network tree measure place short.number more (λ n g less its. short.before n g (omega arith) less its))))
+            (before_kept tree measure place short.number more
+            (λ n g less its. short.before n g (omega arith) less its))))
         | inr least ↦ omega (arith, is, most, least)
       ]
     ]
 
 -- a rule is kept where all spots of its measures are enough
-spots_kept : (network : Network) (tree : IsTree network) (rule : Rule) (place : ℕ) → IsInequality rule
-    → ((measure : Measure) → IsListedIn measure (rule_steps rule) → AreMet network measure 0 (spots_of measure network)) → IsKeptAt rule network place
-spots_kept network tree rule place is met =
+spots_kept : {network : Network} (tree : IsTree network) (rule : Rule) (place : ℕ) → IsInequality rule
+    → ((measure : Measure) → IsListedIn measure (rule_steps rule)
+    → AreMet network measure 0 (spots_of measure network)) → IsKeptAt rule network place
+spots_kept {network} tree rule place is met =
     (bounds_decide network rule place is).1
     (λ spot n g at bound.
     let has = has_number network rule place spot n g at bound in
-    let listed = subst (λ (r : Rule). IsListedIn has.measure (rule_steps r)) has.of_rule (lists_own has.measure) in
+    let listed = subst (λ r. IsListedIn has.measure (rule_steps r)) has.of_rule (lists_own has.measure) in
     spot_met network tree spot
     (λ f tightest.
     met has.measure listed has.number f (omega arith) has.numbered.within
-    (subst (λ (s : Spot). IsTightestAt network s (Some f)) (sym has.numbered.is) tightest)) n g bound)
+    (subst (λ s. IsTightestAt network s (Some f)) (sym has.numbered.is) tightest)) n g bound)
 
 refuses_place : (network : Network) (rule : Rule) (place : ℕ) (fs : List Finding) (end : Ending) → KeepsOthers network → IsFirstBroken network rule place
     → IsFoundIn network (rule_steps rule) fs end → (f : Finding) × IsFirstShort fs f × (spot_rule f.spot ≡ rule) × (spot_index f.spot ≡ place)
@@ -204,9 +211,9 @@ refuses_place network rule place fs end others first (inr (shape, are)) =
             short.f,
             short.first,
             ap spot_rule (named network measure spot.number short.f spot.tightest) ∙ spot_of_rule measure spot.number ∙ same,
-            spot_told network rule place measure short.f others first same short.first.short spot,
+            spot_told others first same short.first.short spot,
           )
-      | inr met ↦ absurd (first.broken (spots_kept network tree rule place is met))
+      | inr met ↦ absurd (first.broken (spots_kept tree rule place is met))
     ]
 
 pub refuses : SlackRefuses

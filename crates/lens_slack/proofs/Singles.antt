@@ -39,9 +39,9 @@ module _ (network : Network) (errors beta : ℕ) (is_beta : IsBeta network (pos 
 
 -- ---- the precision, which has two
 
-pub precision_first : (network : Network) (errors calc : Finding) → IsErrorsBound network errors → calc ≡ calc_bound network
-    → IsTightestAt network spots.Precision (tighter_of (Some errors) (Some calc))
-precision_first network errors calc is_errors is_calc =
+pub precision_first : {network : Network} {errors : Finding} (calc : Finding) → IsErrorsBound network errors
+    → calc ≡ calc_bound network → IsTightestAt network spots.Precision (tighter_of (Some errors) (Some calc))
+precision_first {network} {errors} calc is_errors is_calc =
     let Has = IsPrecisionBound network in
     let only : (g : Finding) → Has 0 g → g ≡ errors = λ g bound. elim bound [
       | inl first ↦
@@ -63,10 +63,10 @@ precision_first network errors calc is_errors is_calc =
 
 -- ---- a window
 
-pub window_first : (network : Network) (row : RowId) (entry : Entry) (f : Finding) → IsEntry network row.0 entry
+pub window_first : {network : Network} (row : RowId) {entry : Entry} (f : Finding) → IsEntry network row.0 entry
     → f ≡ found (spots.Window row) (amount network.cycle) (window_end network entry + 4 * amount network.precision)
     → IsTightestAt network (spots.Window row) (Some f)
-window_first network row entry f is_entry is = grind (arith, only_one, one_entry)
+window_first row f is_entry is = grind (arith, only_one, one_entry)
 
 -- ---- a path
 
@@ -90,6 +90,7 @@ module _ (network : Network) (tree : IsTree network) (device : DeviceId) (channe
 
 -- ---- a row that leaves its sender
 
-pub sender_first : (network : Network) (row : RowId) (entry : Entry) (f : Finding) → IsEntry network row.0 entry → source_of entry ≡ entry.vl.sender
-    → f ≡ found (spots.Coming row) (amount entry.row.offset) (amount network.tt_start) → IsTightestAt network (spots.Coming row) (Some f)
-sender_first network row entry f is_entry sender is = grind (arith, only_one, one_entry)
+pub sender_first : {network : Network} (row : RowId) {entry : Entry} (f : Finding) → IsEntry network row.0 entry
+    → source_of entry ≡ entry.vl.sender → f ≡ found (spots.Coming row) (amount entry.row.offset)
+    (amount network.tt_start) → IsTightestAt network (spots.Coming row) (Some f)
+sender_first row f is_entry sender is = grind (arith, only_one, one_entry)

@@ -30,7 +30,7 @@ module _ (network : Network) (range : IsInRange network) where
         → length links ≤ 8
     path_short channel device links member path =
         let short = tree.reach channel device member in
-        subst (λ (ls : List LinkId). length ls ≤ 8) (paths_are_unique network channel device short.0 links tree short.2 path) short.1
+        subst (λ ls. length ls ≤ 8) (paths_are_unique network channel device short.0 links tree short.2 path) short.1
 
     greatest_jitter : (m : ℕ) → IsGreatest (IsOfPath network (jitter_on network)) m → m ≤ 8 * 2 ^ 40
     greatest_jitter m g = elim g.reached [

@@ -10,30 +10,37 @@ use Rattle.std.specs.Prelude.{Option}
 abbrev pub StandBefore : Network → List Step → List Step → List Finding → Type 0
 StandBefore network steps left found = (others : List Finding) (end : Ending) → AreOf network left others end → AreOf network steps (found ++ others) end
 
-pub stand_first : (network : Network) (steps : List Step) → StandBefore network steps steps []
-stand_first network steps others end are = are
+module _ (network : Network) (steps : List Step) where
+  pub stand_first : StandBefore network steps steps []
+  stand_first others end are = are
 
--- a step that goes on
-pub stand_next : (network : Network) (steps : List Step) (step : Step) (left : List Step) (old new : List Finding)
-    → StandBefore network steps (step ∷ left) old → Takes network step old new Whole → StandBefore network steps left new
-stand_next network steps (Judged rule) left old new stand (kept, same) others end are =
-    subst (λ (fs : List Finding). AreOf network steps (fs ++ others) end) (sym same) (stand others end (inl (kept, are)))
-stand_next network steps (Measured measure) left old new stand (whole, (f, tightest, same)) others end are = grind (arith, append_assoc)
-stand_next network steps (Listed measure) left old new stand (whole, (found, are_found, same)) others end are = grind (arith, append_assoc)
+  -- a step that goes on
+  pub stand_next : (step : Step) (left : List Step) (old new : List Finding)
+      → StandBefore network steps (step ∷ left) old → Takes network step old new Whole
+      → StandBefore network steps left new
+  stand_next (Judged rule) left old new stand (kept, same) others end are =
+      subst (λ (fs : List Finding). AreOf network steps (fs ++ others) end) (sym same)
+      (stand others end (inl (kept, are)))
+  stand_next (Measured measure) left old new stand (whole, (f, tightest, same)) others end are =
+      grind (arith, append_assoc)
+  stand_next (Listed measure) left old new stand (whole, (found, are_found, same)) others end are =
+      grind (arith, append_assoc)
 
--- all steps were taken
-pub stand_all : (network : Network) (steps : List Step) (found : List Finding) → StandBefore network steps [] found → AreOf network steps found Whole
-stand_all network steps found stand = subst (λ (fs : List Finding). AreOf network steps fs Whole) (append-nil found) (stand [] Whole (refl, refl))
+  -- all steps were taken
+  pub stand_all : (found : List Finding) → StandBefore network steps [] found → AreOf network steps found Whole
+  stand_all found stand =
+      subst (λ fs. AreOf network steps fs Whole) (append-nil found) (stand [] Whole (refl, refl))
 
--- a rule is broken
-pub stand_broken : (network : Network) (steps : List Step) (step : Step) (left : List Step) (old new : List Finding) (told : Rule) (place : ℕ)
-    → StandBefore network steps (step ∷ left) old → Takes network step old new (Broken told place) → AreOf network steps new (Broken told place)
-stand_broken network steps (Judged rule) left old new told place stand (judged, same) =
-    let end : Broken told place ≡ Broken (plan_rule rule) place = ap (λ (r : Rule). Broken r place) judged.0 in
-    subst (λ (fs : List Finding). AreOf network steps fs (Broken told place)) (append-nil old ∙ sym same)
-    (stand [] (Broken told place) (inr (place, judged.1, refl, end)))
-stand_broken network steps (Measured measure) left old new told place stand (whole, found) = absurd cc
-stand_broken network steps (Listed measure) left old new told place stand (whole, found) = absurd cc
+  -- a rule is broken
+  pub stand_broken : (step : Step) (left : List Step) (old new : List Finding) (told : Rule) (place : ℕ)
+      → StandBefore network steps (step ∷ left) old → Takes network step old new (Broken told place)
+      → AreOf network steps new (Broken told place)
+  stand_broken (Judged rule) left old new told place stand (judged, same) =
+      let end : Broken told place ≡ Broken (plan_rule rule) place = ap (λ (r : Rule). Broken r place) judged.0 in
+      subst (λ fs. AreOf network steps fs (Broken told place)) (append-nil old ∙ sym same)
+      (stand [] (Broken told place) (inr (place, judged.1, refl, end)))
+  stand_broken (Measured measure) left old new told place stand (whole, found) = absurd cc
+  stand_broken (Listed measure) left old new told place stand (whole, found) = absurd cc
 
 -- ---- what is left of a list
 
@@ -59,7 +66,7 @@ found_more network measure first zero fs o none tightest =
     let here : first + 0 ≡ first = omega arith in (
       o,
       [],
-      subst (λ (k : ℕ). IsTightestAt network (spot_at measure k) o) here tightest,
+      subst (λ k. IsTightestAt network (spot_at measure k) o) here tightest,
       refl,
       ap (λ (xs : List Finding). xs ++ some_found o) none ∙ sym (append-nil (some_found o)),
     )
@@ -68,7 +75,7 @@ found_more network measure first (suc n) fs o (f, others, is, rest, same) tighte
       f,
       others ++ some_found o,
       is,
-      found_more network measure (first + 1) n others o rest (subst (λ (k : ℕ). IsTightestAt network (spot_at measure k) o) there tightest),
+      found_more network measure (first + 1) n others o rest (subst (λ k. IsTightestAt network (spot_at measure k) o) there tightest),
       ap (λ (xs : List Finding). xs ++ some_found o) same ∙ append_assoc (some_found f) others (some_found o),
     )
 
@@ -86,19 +93,20 @@ pushed_next network measure n old new newer o (found, are, same) tightest more =
     let next : suc n ≡ n + 1 = omega arith in
     let here : n ≡ 0 + n = omega arith in (
       found ++ some_found o,
-      subst (λ (k : ℕ). AreFound network measure 0 k (found ++ some_found o)) next
-          (found_more network measure 0 n found o are (subst (λ (k : ℕ). IsTightestAt network (spot_at measure k) o) here tightest)),
+      subst (λ k. AreFound network measure 0 k (found ++ some_found o)) next
+          (found_more network measure 0 n found o are (subst (λ k. IsTightestAt network (spot_at measure k) o) here tightest)),
       more ∙ ap (λ (xs : List Finding). xs ++ some_found o) same ∙ append_assoc old found (some_found o),
     )
 
 -- ---- the next step
 
-pub stand_step : (network : Network) (steps : List Step) (d : Step) (n : ℕ) (old new : List Finding) (end : Ending) → n < length steps
-    → StandBefore network steps (drop n steps) old → Takes network (get_or steps n d) old new end → end ≡ Whole
-    → StandBefore network steps (drop (n + 1) steps) new
-stand_step network steps d n old new end within stand takes whole = grind (arith, stand_next, get_or, drop, drop_next)
+module _ (network : Network) (steps : List Step) (d : Step) (n : ℕ) (old new : List Finding) (end : Ending) where
+  pub stand_step : n < length steps → StandBefore network steps (drop n steps) old
+      → Takes network (get_or steps n d) old new end → end ≡ Whole
+      → StandBefore network steps (drop (n + 1) steps) new
+  stand_step within stand takes whole = grind (arith, stand_next, get_or, drop, drop_next)
 
-pub stand_end : (network : Network) (steps : List Step) (d : Step) (n : ℕ) (old new : List Finding) (end : Ending) (told : Rule) (place : ℕ)
-    → n < length steps → StandBefore network steps (drop n steps) old → Takes network (get_or steps n d) old new end → end ≡ Broken told place
-    → AreOf network steps new (Broken told place)
-stand_end network steps d n old new end told place within stand takes broken = grind (arith, stand_broken, get_or, drop, drop_next)
+  pub stand_end : (told : Rule) (place : ℕ) → n < length steps → StandBefore network steps (drop n steps) old
+      → Takes network (get_or steps n d) old new end → end ≡ Broken told place
+      → AreOf network steps new (Broken told place)
+  stand_end told place within stand takes broken = grind (arith, stand_broken, get_or, drop, drop_next)

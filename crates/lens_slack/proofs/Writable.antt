@@ -10,8 +10,8 @@ use Rattle.lens_slack.specs.{Bounds.{IsBoundAt, calc_bound, clear_time}, Finds.{
 use Rattle.lens_slack.specs.declared.spot.Measure.TheVariants as measures
 use Rattle.lens_slack.specs.declared.spot.Spot.TheVariants as spots
 
-as_writable : (network : Network) (f g : Finding) → f ≡ g → IsWritable network g → IsWritable network f
-as_writable network f g same writable = subst (IsWritable network) (sym same) writable
+as_writable : {network : Network} (f : Finding) {g : Finding} → f ≡ g → IsWritable network g → IsWritable network f
+as_writable {network} f same writable = subst (IsWritable network) (sym same) writable
 
 -- a device of a channel is one of the network's
 pub device_by : (network : Network) (device : DeviceId) (P : Device → Type 0) (o : Option Device) → device_at network device ≡ o → IsSomeAnd o P
@@ -27,63 +27,82 @@ gap_by : (network : Network) (row : RowId) (earlier entry : Entry) (b : Bool) �
 gap_by network row earlier entry true within vl = record { spot = within; next = vl }
 gap_by network row earlier entry false within vl = record { spot = within; next = vl }
 
-pub bound_writable : (network : Network) (spot : Spot) (n : ℕ) (f : Finding) → IsSpotOf network spot → IsBoundAt network spot n f → IsWritable network f
-bound_writable network (spots.Path device channel) n f of_network bound = grind (arith, as_writable, device_by)
-bound_writable network spots.Settled n f of_network bound = as_writable network f _ bound.1.is (record { spot = tt; next = tt })
-bound_writable network spots.Precision n f of_network (inl first) = as_writable network f _ first.1.is (record { spot = tt; next = tt })
-bound_writable network spots.Precision n f of_network (inr second) = as_writable network f (calc_bound network) second.1 (record { spot = tt; next = tt })
-bound_writable network spots.Correction n f of_network bound = as_writable network f _ bound.1 (record { spot = tt; next = tt })
-bound_writable network spots.Begin n f of_network bound = as_writable network f _ bound.2 (record { spot = tt; next = tt })
-bound_writable network spots.End n f of_network bound = as_writable network f _ bound.1 (record { spot = tt; next = tt })
-bound_writable network (spots.Window row) n f of_network bound = as_writable network f _ bound.1.2 (record { spot = of_network; next = tt })
-bound_writable network (spots.Gap row) n f of_network bound = grind (arith, as_writable, gap_by, slice_get_within)
-bound_writable network (spots.Coming row) n f of_network (inl sender) = as_writable network f _ sender.1.is (record { spot = of_network; next = tt })
-bound_writable network (spots.Coming row) n f of_network (inr bound) = as_writable network f _ bound.is (record { spot = of_network; next = tt })
+module _ (network : Network) where
+  pub bound_writable : (spot : Spot) (n : ℕ) (f : Finding) → IsSpotOf network spot → IsBoundAt network spot n f
+      → IsWritable network f
+  bound_writable (spots.Path device channel) n f of_network bound = grind (arith, as_writable, device_by)
+  bound_writable spots.Settled n f of_network bound =
+      as_writable {network = network} f bound.1.is (record { spot = tt; next = tt })
+  bound_writable spots.Precision n f of_network (inl first) =
+      as_writable {network = network} f first.1.is (record { spot = tt; next = tt })
+  bound_writable spots.Precision n f of_network (inr second) =
+      as_writable {network = network} f {g = calc_bound network} second.1 (record { spot = tt; next = tt })
+  bound_writable spots.Correction n f of_network bound =
+      as_writable {network = network} f bound.1 (record { spot = tt; next = tt })
+  bound_writable spots.Begin n f of_network bound =
+      as_writable {network = network} f bound.2 (record { spot = tt; next = tt })
+  bound_writable spots.End n f of_network bound =
+      as_writable {network = network} f bound.1 (record { spot = tt; next = tt })
+  bound_writable (spots.Window row) n f of_network bound =
+      as_writable {network = network} f bound.1.2 (record { spot = of_network; next = tt })
+  bound_writable (spots.Gap row) n f of_network bound = grind (arith, as_writable, gap_by, slice_get_within)
+  bound_writable (spots.Coming row) n f of_network (inl sender) =
+      as_writable {network = network} f sender.1.is (record { spot = of_network; next = tt })
+  bound_writable (spots.Coming row) n f of_network (inr bound) =
+      as_writable {network = network} f bound.is (record { spot = of_network; next = tt })
 
--- ---- all that is found
+  -- ---- all that is found
 
-spot_within : (network : Network) (measure : Measure) (n : ℕ) → n < spots_of measure network → IsSpotOf network (spot_at measure n)
-spot_within network measures.Paths n within = tt
-spot_within network measures.Settled n within = tt
-spot_within network measures.Precision n within = tt
-spot_within network measures.Correction n within = tt
-spot_within network measures.Begin n within = tt
-spot_within network measures.End n within = tt
-spot_within network measures.Windows n within = within
-spot_within network measures.Gaps n within = within
-spot_within network measures.Comings n within = within
+  spot_within : (measure : Measure) (n : ℕ) → n < spots_of measure network → IsSpotOf network (spot_at measure n)
+  spot_within measures.Paths n within = tt
+  spot_within measures.Settled n within = tt
+  spot_within measures.Precision n within = tt
+  spot_within measures.Correction n within = tt
+  spot_within measures.Begin n within = tt
+  spot_within measures.End n within = tt
+  spot_within measures.Windows n within = within
+  spot_within measures.Gaps n within = within
+  spot_within measures.Comings n within = within
 
--- the tightest at a spot, where there is one
-some_at : (network : Network) (spot : Spot) (f : Option Finding) → IsSpotOf network spot → IsTightestAt network spot f → All (IsWritable network) (some_found f)
-some_at network spot None of_network tightest = All-nil (IsWritable network)
-some_at network spot (Some f) of_network (n, is, first) =
-    All-cons (IsWritable network) f [] (bound_writable network spot n f of_network is) (All-nil (IsWritable network))
+  -- the tightest at a spot, where there is one
+  some_at : (spot : Spot) (f : Option Finding) → IsSpotOf network spot → IsTightestAt network spot f
+      → All (IsWritable network) (some_found f)
+  some_at spot None of_network tightest = All-nil (IsWritable network)
+  some_at spot (Some f) of_network (n, is, first) =
+      All-cons (IsWritable network) f [] (bound_writable spot n f of_network is) (All-nil (IsWritable network))
 
--- the tightest of a measure
-some_of : (network : Network) (measure : Measure) (f : Option Finding) → IsTightestOf network measure f → All (IsWritable network) (some_found f)
-some_of network measure None tightest = All-nil (IsWritable network)
-some_of network measure (Some f) (n, (within, is), first) = some_at network (spot_at measure n) (Some f) (spot_within network measure n within) is
+  -- the tightest of a measure
+  some_of : (measure : Measure) (f : Option Finding) → IsTightestOf network measure f
+      → All (IsWritable network) (some_found f)
+  some_of measure None tightest = All-nil (IsWritable network)
+  some_of measure (Some f) (n, (within, is), first) =
+      some_at (spot_at measure n) (Some f) (spot_within measure n within) is
 
--- those of spots from a number on
-found_writable : (network : Network) (measure : Measure) (first count : ℕ) (fs : List Finding) → first + count ≤ spots_of measure network
-    → AreFound network measure first count fs → All (IsWritable network) fs
-found_writable network measure first zero fs within none = subst (All (IsWritable network)) (sym none) (All-nil (IsWritable network))
-found_writable network measure first (suc count) fs within (f, others, is, rest, same) =
-    subst (All (IsWritable network)) (sym same)
-    (All-append (IsWritable network) (some_found f) others
-    (some_at network (spot_at measure first) f (spot_within network measure first (omega (arith, within))) is)
-    (found_writable network measure (first + 1) count others (omega (arith, within)) rest))
+  -- those of spots from a number on
+  found_writable : (measure : Measure) (first count : ℕ) (fs : List Finding)
+      → first + count ≤ spots_of measure network → AreFound network measure first count fs
+      → All (IsWritable network) fs
+  found_writable measure first zero fs within none =
+      subst (All (IsWritable network)) (sym none) (All-nil (IsWritable network))
+  found_writable measure first (suc count) fs within (f, others, is, rest, same) =
+      subst (All (IsWritable network)) (sym same)
+      (All-append (IsWritable network) (some_found f) others
+      (some_at (spot_at measure first) f (spot_within measure first (omega (arith, within))) is)
+      (found_writable measure (first + 1) count others (omega (arith, within)) rest))
 
--- those of steps
-pub are_writable : (network : Network) (steps : List Step) (fs : List Finding) (end : Ending) → AreOf network steps fs end → All (IsWritable network) fs
-are_writable network [] fs end are = subst (All (IsWritable network)) (sym are.0) (All-nil (IsWritable network))
-are_writable network (Judged rule ∷ steps) fs end (inl goes_on) = are_writable network steps fs end goes_on.1
-are_writable network (Judged rule ∷ steps) fs end (inr (place, breaks, none, ending)) =
-    subst (All (IsWritable network)) (sym none) (All-nil (IsWritable network))
-are_writable network (Measured measure ∷ steps) fs end (f, others, is, rest, same) =
-    subst (All (IsWritable network)) (sym same)
-    (All-append (IsWritable network) (some_found f) others (some_of network measure f is) (are_writable network steps others end rest))
-are_writable network (Listed measure ∷ steps) fs end (found, others, is, rest, same) =
-    subst (All (IsWritable network)) (sym same)
-    (All-append (IsWritable network) found others (found_writable network measure 0 (spots_of measure network) found (omega arith) is)
-    (are_writable network steps others end rest))
+  -- those of steps
+  pub are_writable : (steps : List Step) (fs : List Finding) (end : Ending) → AreOf network steps fs end
+      → All (IsWritable network) fs
+  are_writable [] fs end are = subst (All (IsWritable network)) (sym are.0) (All-nil (IsWritable network))
+  are_writable (Judged rule ∷ steps) fs end (inl goes_on) = are_writable steps fs end goes_on.1
+  are_writable (Judged rule ∷ steps) fs end (inr (place, breaks, none, ending)) =
+      subst (All (IsWritable network)) (sym none) (All-nil (IsWritable network))
+  are_writable (Measured measure ∷ steps) fs end (f, others, is, rest, same) =
+      subst (All (IsWritable network)) (sym same)
+      (All-append (IsWritable network) (some_found f) others (some_of measure f is)
+      (are_writable steps others end rest))
+  are_writable (Listed measure ∷ steps) fs end (found, others, is, rest, same) =
+      subst (All (IsWritable network)) (sym same)
+      (All-append (IsWritable network) found others
+      (found_writable measure 0 (spots_of measure network) found (omega arith) is)
+      (are_writable steps others end rest))

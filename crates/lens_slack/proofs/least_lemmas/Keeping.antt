@@ -10,15 +10,16 @@ use Rattle.{schedule_tables.specs.declared.rule.Rule.TheVariants.ScheduleStart, 
 abbrev BeginsBehind : Network → Link → Type 0
 BeginsBehind m link = amount m.correction + amount m.dmax + 4 * amount m.precision + pcf_port_time link ≤ amount m.tt_start
 
-starts_by : (m : Network) → Suffices m → amount m.tt_start + 4 * amount m.precision ≤ amount m.cycle → ScheduleFits m
-starts_by m h room = record { begins = all_of_each (BeginsBehind m) m.link (λ k link there. h.begins k (begin_bound m link) (link, there, refl)); ends = room }
+starts_by : {m : Network} → Suffices m → amount m.tt_start + 4 * amount m.precision ≤ amount m.cycle → ScheduleFits m
+starts_by {m} h room =
+    record { begins = all_of_each (BeginsBehind m) m.link (λ k link there. h.begins k (begin_bound m link) (link, there, refl)); ends = room }
 
 pub rules_kept : (n : Network) (t : Times) → AreLeast n t → IsEnough (room_of n t) → KeepsBelow 13 (with_times n t)
 rules_kept n t least room rule less place = elim (cases_lt (number_of rule) 12) [
   | inl below ↦ least.suffice.rules rule below place
   | inr most ↦
       let same : rule ≡ ScheduleStart = same_rule rule ScheduleStart (omega (arith, less, most)) in
-      subst (λ (r : Rule). IsKeptAt r (with_times n t) place) (sym same) (starts_by (with_times n t) least.suffice room)
+      subst (λ r. IsKeptAt r (with_times n t) place) (sym same) (starts_by least.suffice room)
 ]
 
 -- a network that keeps rules 1 to 12 suffices

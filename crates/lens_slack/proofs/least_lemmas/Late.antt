@@ -4,14 +4,14 @@ use Rattle.net_plan.specs.declared.network.Network.{Network}
 use Rattle.std.{proofs.{Common.{arith}, lemmas.Int.ints}, specs.List.All}
 use Rattle.{schedule_checker.proofs.Selection.all_of_each, tte_units.proofs.general_lemmas.Lists.in_all}
 
-links : (n : Network) → IsInRange n → All (IsLinkInRange (with_late n)) n.link
-links n range =
+links : {n : Network} → IsInRange n → All (IsLinkInRange (with_late n)) n.link
+links {n} range =
     all_of_each (IsLinkInRange (with_late n)) n.link
     (λ k link at. let r = in_all (IsLinkInRange n) n.link k link range.links at in
     record { name = r.name; child = r.child; parent = r.parent; wire = r.wire; jitter = r.jitter; hold = r.hold })
 
-vls : (n : Network) → IsInRange n → All (IsVlInRange (with_late n)) n.vl
-vls n range =
+vls : {n : Network} → IsInRange n → All (IsVlInRange (with_late n)) n.vl
+vls {n} range =
     all_of_each (IsVlInRange (with_late n)) n.vl
     (λ k vl at. let r = in_all (IsVlInRange n) n.vl k vl range.vls at in
     record {
@@ -28,14 +28,14 @@ vls n range =
       phase = r.phase;
     })
 
-rows : (n : Network) → IsInRange n → All (IsRowInRange (with_late n)) n.row
-rows n range =
+rows : {n : Network} → IsInRange n → All (IsRowInRange (with_late n)) n.row
+rows {n} range =
     all_of_each (IsRowInRange (with_late n)) n.row
     (λ k row at. let r = in_all (IsRowInRange n) n.row k row range.rows at in
     record { vl = r.vl; link = r.link; offset = r.offset })
 
-pub late_in_range : (n : Network) → IsInRange n → IsInRange (with_late n)
-late_in_range n range = record {
+pub late_in_range : {n : Network} → IsInRange n → IsInRange (with_late n)
+late_in_range range = record {
   version = range.version;
   cycle = range.cycle;
   rho = range.rho;
@@ -54,7 +54,7 @@ late_in_range n range = record {
   few_vls = range.few_vls;
   few_rows = range.few_rows;
   devices = range.devices;
-  links = links n range;
-  vls = vls n range;
-  rows = rows n range;
+  links = links range;
+  vls = vls range;
+  rows = rows range;
 }

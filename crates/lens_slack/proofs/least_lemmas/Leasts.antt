@@ -111,9 +111,9 @@ module _ (n : Network) (steady path errors start port : ℕ) (t : Times) (made :
   pub at_most : AreAtMost t u
   at_most = record { dmax = dmax; settled = settled; precision = precision; correction = correction; tt_start = tt_start }
 
-pub are_least : (n : Network) (steady path errors start port : ℕ) (t : Times) → AreMade n steady path errors start port t → IsInRange n → KeepsBelow 8 n
-    → AreLeast n t
-are_least n steady path errors start port t made range shape = record {
+pub are_least : {n : Network} {steady path errors start port : ℕ} {t : Times}
+    → AreMade n steady path errors start port t → IsInRange n → KeepsBelow 8 n → AreLeast n t
+are_least {n} {steady} {path} {errors} {start} {port} {t} made range shape = record {
   suffice = suffices n steady path errors start port t made range shape;
   least = λ u h. at_most n steady path errors start port t made shape u h;
 }

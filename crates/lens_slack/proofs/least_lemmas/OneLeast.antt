@@ -9,15 +9,16 @@ made d s p c e = record { dmax = d; settled = s; precision = p; correction = c; 
 both_at_most : (d e : ℕ) → d ≤ e → e ≤ d → d ≡ e
 both_at_most d e most least = omega (arith, most, least)
 
-same_times : (t u : Times) → AreAtMost t u → AreAtMost u t → t ≡ u
-same_times t u a b = grind (arith, both_at_most)
+same_times : {t u : Times} → AreAtMost t u → AreAtMost u t → t ≡ u
+same_times a b = grind (arith, both_at_most)
 
-times_once : (n : Network) (t u : Times) → AreLeast n t → AreLeast n u → t ≡ u
-times_once n t u a b = same_times t u (a.least u b.suffice) (b.least t a.suffice)
+times_once : {n : Network} {t u : Times} → AreLeast n t → AreLeast n u → t ≡ u
+times_once {t} {u} a b = same_times (a.least u b.suffice) (b.least t a.suffice)
 
-pub least_one : (n : Network) (a b : Answer) → IsLeastOf n a → IsLeastOf n b → a ≡ b
-least_one n a b (inl (rule, place, shape, first, is)) (inl (other, there, less, again, its)) =
-    is ∙ ap (ending_answer n []) (first_once n rule other place there first again) ∙ sym its
-least_one n a b (inl (rule, place, shape, first, is)) (inr (keeps, rest)) = absurd (first.broken (keeps rule shape place))
-least_one n a b (inr (keeps, rest)) (inl (rule, place, shape, first, is)) = absurd (first.broken (keeps rule shape place))
-least_one n a b (inr (keeps, (t, least, is))) (inr (kept, (u, again, its))) = is ∙ ap (times_answer n) (times_once n t u least again) ∙ sym its
+pub least_one : {n : Network} (a b : Answer) → IsLeastOf n a → IsLeastOf n b → a ≡ b
+least_one {n} a b (inl (rule, place, shape, first, is)) (inl (other, there, less, again, its)) =
+    is ∙ ap (ending_answer n []) (first_once first again) ∙ sym its
+least_one a b (inl (rule, place, shape, first, is)) (inr (keeps, rest)) = absurd (first.broken (keeps rule shape place))
+least_one a b (inr (keeps, rest)) (inl (rule, place, shape, first, is)) = absurd (first.broken (keeps rule shape place))
+least_one {n} a b (inr (keeps, (t, least, is))) (inr (kept, (u, again, its))) =
+    is ∙ ap (times_answer n) (times_once least again) ∙ sym its

@@ -14,8 +14,8 @@ within low high n least most = record { least = omega (arith, ints, least); most
 some_round : (b jitter drift round : ℕ) → b ≡ jitter + drift + round → 1 ≤ round → 1 ≤ b
 some_round b jitter drift round value some = omega (arith, value, some)
 
-beta_some : (m : Network) → 1 ≤ amount m.grain → (b : ℕ) → IsBeta m (pos b) → 1 ≤ b
-beta_some m fine b is = grind (arith, ints, mul-le-mul_right, some_round)
+beta_some : {m : Network} → 1 ≤ amount m.grain → (b : ℕ) → IsBeta m (pos b) → 1 ≤ b
+beta_some fine b is = grind (arith, ints, mul-le-mul_right, some_round)
 
 -- the beta of a network of trees, as a whole number
 abbrev HasBeta : Network → Type 0
@@ -64,7 +64,7 @@ module _ (n : Network) (t : Times) (range : IsInRange n) (h : Suffices (with_tim
       let beta = some_beta m shape in
       let path = some_path m shape (delay_on m) in
       let fine = (amount_within 1 1048576 n.grain range.grain).1 in
-      let some = beta_some m fine beta.0 beta.1 in
+      let some = beta_some fine beta.0 beta.1 in
       let way = path.1.1 in
       let all : beta.0 + delay_on n way.0 ≤ t.dmax = h.rules Delays (omega arith) path.1.0.0 beta.0 path.0 way.0 beta.1 way.1 way.2 in
       omega (arith, some, all)

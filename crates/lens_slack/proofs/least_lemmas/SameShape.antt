@@ -82,29 +82,31 @@ module _ (n : Network) (t : Times) (range : IsInRange n) (most : (k : ℕ) → I
   shape_with shape Forwarding less = absurd (omega (arith, less))
   shape_with shape RowsOfDevice less = absurd (omega (arith, less))
 
--- each rule below 12, where those below 8 are kept and the four of times
-pub rules_below : (m : Network) → KeepsBelow 8 m → IsKept Delays m → IsKept Settling m → IsKept Precision m → IsKept Correction m → KeepsBelow 12 m
-rules_below m shape delays settling precision correction Limits less = shape Limits (omega arith)
-rules_below m shape delays settling precision correction DevicesDiffer less = shape DevicesDiffer (omega arith)
-rules_below m shape delays settling precision correction LinksDiffer less = shape LinksDiffer (omega arith)
-rules_below m shape delays settling precision correction CompressionMasters less = shape CompressionMasters (omega arith)
-rules_below m shape delays settling precision correction Joints less = shape Joints (omega arith)
-rules_below m shape delays settling precision correction Connections less = shape Connections (omega arith)
-rules_below m shape delays settling precision correction Masters less = shape Masters (omega arith)
-rules_below m shape delays settling precision correction Delays less = delays
-rules_below m shape delays settling precision correction Settling less = settling
-rules_below m shape delays settling precision correction Precision less = precision
-rules_below m shape delays settling precision correction Correction less = correction
-rules_below m shape delays settling precision correction ScheduleStart less = absurd (omega (arith, less))
-rules_below m shape delays settling precision correction WindowEnds less = absurd (omega (arith, less))
-rules_below m shape delays settling precision correction VlNamesDiffer less = absurd (omega (arith, less))
-rules_below m shape delays settling precision correction VlIdsDiffer less = absurd (omega (arith, less))
-rules_below m shape delays settling precision correction Periods less = absurd (omega (arith, less))
-rules_below m shape delays settling precision correction Senders less = absurd (omega (arith, less))
-rules_below m shape delays settling precision correction LinksOnce less = absurd (omega (arith, less))
-rules_below m shape delays settling precision correction Sources less = absurd (omega (arith, less))
-rules_below m shape delays settling precision correction Targets less = absurd (omega (arith, less))
-rules_below m shape delays settling precision correction Spacing less = absurd (omega (arith, less))
-rules_below m shape delays settling precision correction BothChannels less = absurd (omega (arith, less))
-rules_below m shape delays settling precision correction Forwarding less = absurd (omega (arith, less))
-rules_below m shape delays settling precision correction RowsOfDevice less = absurd (omega (arith, less))
+module _ (m : Network) (shape : KeepsBelow 8 m) (delays : IsKept Delays m) (settling : IsKept Settling m)
+    (precision : IsKept Precision m) (correction : IsKept Correction m) where
+  -- each rule below 12, where those below 8 are kept and the four of times
+  pub rules_below : KeepsBelow 12 m
+  rules_below Limits less = shape Limits (omega arith)
+  rules_below DevicesDiffer less = shape DevicesDiffer (omega arith)
+  rules_below LinksDiffer less = shape LinksDiffer (omega arith)
+  rules_below CompressionMasters less = shape CompressionMasters (omega arith)
+  rules_below Joints less = shape Joints (omega arith)
+  rules_below Connections less = shape Connections (omega arith)
+  rules_below Masters less = shape Masters (omega arith)
+  rules_below Delays less = delays
+  rules_below Settling less = settling
+  rules_below Precision less = precision
+  rules_below Correction less = correction
+  rules_below ScheduleStart less = absurd (omega (arith, less))
+  rules_below WindowEnds less = absurd (omega (arith, less))
+  rules_below VlNamesDiffer less = absurd (omega (arith, less))
+  rules_below VlIdsDiffer less = absurd (omega (arith, less))
+  rules_below Periods less = absurd (omega (arith, less))
+  rules_below Senders less = absurd (omega (arith, less))
+  rules_below LinksOnce less = absurd (omega (arith, less))
+  rules_below Sources less = absurd (omega (arith, less))
+  rules_below Targets less = absurd (omega (arith, less))
+  rules_below Spacing less = absurd (omega (arith, less))
+  rules_below BothChannels less = absurd (omega (arith, less))
+  rules_below Forwarding less = absurd (omega (arith, less))
+  rules_below RowsOfDevice less = absurd (omega (arith, less))

@@ -42,7 +42,7 @@ module _ (n : Network) (steady path errors start port : ℕ) (t : Times) (made :
 
   -- the errors at the beta
   errors_at : (beta : ℕ) → beta ≡ b → errors ≡ errors_of n beta
-  errors_at beta same = subst (λ (x : ℕ). errors ≡ errors_of n x) (sym same) made.is_errors
+  errors_at beta same = subst (λ x. errors ≡ errors_of n x) (sym same) made.is_errors
 
   settled_for : (beta : ℕ) → beta ≡ b → 8 * beta + 12 * gamma_of n + 40 * amount n.grain ≤ t.settled
   settled_for beta same = let all = errors_at beta same in let max = made.settled in omega (arith, all, max)

@@ -18,7 +18,7 @@ links-preserved c =
     ∙ ap (λ (l : Link). Some l) (sym c.link-item.is) in
     let at = begin_at network n link c.begin_with.result there c.begin_with.ensures.value in
     record {
-      so_far = subst (λ (o : Option Finding). IsFirstTightest (Below (IsBeginBound network) (n + 1)) o) (sym c.tighter_of-best.ensures.value)
+      so_far = subst (λ o. IsFirstTightest (Below (IsBeginBound network) (n + 1)) o) (sym c.tighter_of-best.ensures.value)
           (next_tightest (IsBeginBound network) n c.links.best (Some c.begin_with.result) c.links.invariant.so_far at);
       small = c.tighter_of-best.ensures.small;
     }

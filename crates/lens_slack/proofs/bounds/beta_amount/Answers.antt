@@ -7,4 +7,4 @@ returns-clause-value c = sym c.amount.ensures.whole
 pub returns-clause-bound : goal.returns-clause-bound
 returns-clause-bound c =
     beta_small c.args.network.now c.requires.range c.requires.tree c.amount.result
-    (subst (λ (z : ℤ). IsBeta c.args.network.now z) c.amount.ensures.whole c.requires.beta)
+    (subst (λ z. IsBeta c.args.network.now z) c.amount.ensures.whole c.requires.beta)

@@ -14,7 +14,7 @@ rows-preserved c =
     let at = entering_at network row n c.entry_of.result c.args.entry.now c.entry_of.ensures.is c.requires.entry c.entering_with.result c.requires.no_sender
     c.entering_with.ensures.is in
     record {
-      so_far = subst (λ (o : Option Finding). IsFirstTightest (Below (IsEnteringBound network row) (n + 1)) o) (sym c.tighter_of-best.ensures.value)
+      so_far = subst (λ o. IsFirstTightest (Below (IsEnteringBound network row) (n + 1)) o) (sym c.tighter_of-best.ensures.value)
           (next_tightest (IsEnteringBound network row) n c.rows.best c.entering_with.result c.rows.invariant.so_far at);
       small = c.tighter_of-best.ensures.small;
     }

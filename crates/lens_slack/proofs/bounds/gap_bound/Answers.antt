@@ -13,7 +13,7 @@ earlier-preserved c =
     let at = gap_at network row n c.entry_of.result c.entry_of-entry.result c.entry_of.ensures.is c.entry_of-entry.ensures.is c.gap_with.result
     c.earlier-test.true c.gap_with.ensures.is in
     record {
-      so_far = subst (λ (o : Option Finding). IsFirstTightest (Below (IsGapBound network row) (n + 1)) o) (sym c.tighter_of-best.ensures.value)
+      so_far = subst (λ o. IsFirstTightest (Below (IsGapBound network row) (n + 1)) o) (sym c.tighter_of-best.ensures.value)
           (next_tightest (IsGapBound network row) n c.earlier.best c.gap_with.result c.earlier.invariant.so_far at);
       small = c.tighter_of-best.ensures.small;
     }

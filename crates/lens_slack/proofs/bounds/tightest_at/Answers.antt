@@ -5,7 +5,7 @@ use Rattle.lens_slack.specs.declared.spot.Spot.TheVariants as spots
 use Rattle.lens_slack.proofs.bounds.tightest_at.Goals as goal
 
 at_spot : (network : Network) (spot other : Spot) (o : Option Finding) → spot ≡ other → IsTightestAt network other o → IsTightestAt network spot o
-at_spot network spot other o same tightest = subst (λ (s : Spot). IsTightestAt network s o) (sym same) tightest
+at_spot network spot other o same tightest = subst (λ s. IsTightestAt network s o) (sym same) tightest
 
 pub returns-in-Path-clause-tightest : goal.returns-in-Path-clause-tightest
 returns-in-Path-clause-tightest c =
@@ -20,8 +20,8 @@ pub returns-in-Precision-clause-tightest : goal.returns-in-Precision-clause-tigh
 returns-in-Precision-clause-tightest c =
     let network = c.args.plan.now.network.now in
     at_spot network c.args.spot spots.Precision c.tighter_of.result c.in-Precision.is
-    (subst (λ (o : Option Finding). IsTightestAt network spots.Precision o) (sym c.tighter_of.ensures.value)
-    (precision_first network c.errors_bound.result c.calc_bound.result c.errors_bound.ensures.is c.calc_bound.ensures.value))
+    (subst (λ o. IsTightestAt network spots.Precision o) (sym c.tighter_of.ensures.value)
+    (precision_first c.calc_bound.result c.errors_bound.ensures.is c.calc_bound.ensures.value))
 
 pub returns-in-Correction-clause-tightest : goal.returns-in-Correction-clause-tightest
 returns-in-Correction-clause-tightest c =

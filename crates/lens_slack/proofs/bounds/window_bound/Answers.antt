@@ -4,7 +4,7 @@ use Rattle.lens_slack.{proofs.{Singles.window_first, SmallBeta.window_small}, sp
 use Rattle.lens_slack.proofs.bounds.window_bound.Goals as goal
 
 pub returns-clause-tightest : goal.returns-clause-tightest
-returns-clause-tightest c = window_first c.args.network.now c.args.row c.entry_of.result c.found.result c.entry_of.ensures.is (search rules)
+returns-clause-tightest c = window_first c.args.row c.found.result c.entry_of.ensures.is (search rules)
 
 pub returns-clause-small : goal.returns-clause-small
 returns-clause-small c =

@@ -10,7 +10,7 @@ spots-preserved c =
     let network = c.args.plan.now.network.now in
     let measure = c.args.measure in
     let n = c.spots.number in
-    let tightest = subst (λ (s : Spot). IsTightestAt network s c.tightest_at.result) c.spot_at.ensures.value c.tightest_at.ensures.tightest in
+    let tightest = subst (λ s. IsTightestAt network s c.tightest_at.result) c.spot_at.ensures.value c.tightest_at.ensures.tightest in
     pushed_next network measure n c.args.findings.now.items c.spots.findings.items c.push_some.new.findings.items c.tightest_at.result c.spots.invariant
     tightest c.in-Ok.ensures
 
@@ -19,4 +19,4 @@ returns c =
     let network = c.args.plan.now.network.now in
     let measure = c.args.measure in
     let all : c.spots.number ≡ spots_of measure network = omega (arith, c.spots-test.false, c.spots.auto.number-end, c.spots_of-number-end.ensures) in
-    subst (λ (k : ℕ). ArePushed network measure k c.args.findings.now.items c.spots.findings.items) all c.spots.invariant
+    subst (λ k. ArePushed network measure k c.args.findings.now.items c.spots.findings.items) all c.spots.invariant

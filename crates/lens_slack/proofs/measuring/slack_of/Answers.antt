@@ -12,7 +12,7 @@ take_steps-requires c = record {
   range = c.requires;
   tree = tree_of c.rules_give_trees.ensures c.args.network.now c.in-Ok.ensures.kept;
   entries = rw c.deref-2.ensures.value c.in-Ok-entries_of.ensures;
-  groups = subst (λ (es : List Entry). AreGroups es c.in-Ok-groups_of.groups) (c.deref.ensures.value ∙ sym c.deref-2.ensures.value)
+  groups = subst (λ es. AreGroups es c.in-Ok-groups_of.groups) (c.deref.ensures.value ∙ sym c.deref-2.ensures.value)
       c.in-Ok-groups_of.ensures;
   beta = c.beta.ensures;
 }

@@ -6,7 +6,7 @@ pub steps-init : goal.steps-init
 steps-init c =
     let network = c.args.plan.now.network.now in
     let steps = c.args.steps.now in
-    subst (λ (fs : List Finding). StandBefore network steps steps fs) (sym c.new-findings.ensures.items) (stand_first network steps)
+    subst (λ fs. StandBefore network steps steps fs) (sym c.new-findings.ensures.items) (stand_first network steps)
 
 pub steps-preserved : goal.steps-preserved
 steps-preserved c =
@@ -28,4 +28,4 @@ returns-clause-are c =
     let steps = c.args.steps.now in
     let none = drop_all steps c.steps.step-index (omega (arith, c.steps-test.false)) in
     stand_all network steps c.steps.findings.items
-    (subst (λ (left : List Step). StandBefore network steps left c.steps.findings.items) none c.steps.invariant)
+    (subst (λ left. StandBefore network steps left c.steps.findings.items) none c.steps.invariant)

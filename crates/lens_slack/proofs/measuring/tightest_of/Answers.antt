@@ -12,10 +12,10 @@ spots-preserved c =
     let measure = c.args.measure in
     let n = c.spots.number in
     let within : n < spots_of measure network = omega (arith, c.spots-test.true, c.spots.auto.number-end, c.spots_of-number-end.ensures) in
-    let tightest = subst (λ (s : Spot). IsTightestAt network s c.tightest_at.result) c.spot_at.ensures.value c.tightest_at.ensures.tightest in
+    let tightest = subst (λ s. IsTightestAt network s c.tightest_at.result) c.spot_at.ensures.value c.tightest_at.ensures.tightest in
     let at = found_at network c.requires.tree measure n c.tightest_at.result within tightest in
     record {
-      so_far = subst (λ (o : Option Finding). IsFirstTightest (Below (IsFoundAt network measure) (n + 1)) o) (sym c.tighter_of-best.ensures.value)
+      so_far = subst (λ o. IsFirstTightest (Below (IsFoundAt network measure) (n + 1)) o) (sym c.tighter_of-best.ensures.value)
           (next_tightest (IsFoundAt network measure) n c.spots.best c.tightest_at.result c.spots.invariant.so_far at);
       small = c.tighter_of-best.ensures.small;
     }

@@ -18,7 +18,7 @@ returns-clause-gives g c =
     let whole = subst (λ (bytes : List ℕ). Appends (g.K.Sink.written c.args.out.now) (g.K.Sink.written c.put.new.self) bytes) line c.in-Ok.ensures.all in
     let puts = PutsLines-more [] first old old now (PutsLines-none old) whole c.put.ensures.counted in
     let last : c.as_slice-2.result.now ≡ place_line network rule place = c.as_slice-2.ensures ∙ c.make_place_line.ensures in
-    let gives = subst (λ (bytes : List ℕ). Gives (line_answer NetworkRefused bytes) c.put_last.result now new) last c.put_last.ensures.gives in
+    let gives = subst (λ bytes. Gives (line_answer NetworkRefused bytes) c.put_last.result now new) last c.put_last.ensures.gives in
     Gives-behind (first ∷ []) (line_answer NetworkRefused (place_line network rule place)) c.put_last.result old now new puts gives
 
 pub returns-in-Err-clause-gives : goal.returns-in-Err-clause-gives
@@ -32,6 +32,6 @@ returns-in-Err-clause-gives g c =
     let now = shown c.put.new.self in
     let line : c.as_slice.result.now ≡ first = c.as_slice.ensures ∙ c.make_broken_line.ensures in
     let front =
-    subst (λ (bytes : List ℕ). AppendsFront (g.K.Sink.written c.args.out.now) (g.K.Sink.written c.put.new.self) bytes) line c.in-Err.ensures.front in
+    subst (λ bytes. AppendsFront (g.K.Sink.written c.args.out.now) (g.K.Sink.written c.put.new.self) bytes) line c.in-Err.ensures.front in
     let fails = PutsLines-fails [] first (place_line network rule place ∷ []) old old now (PutsLines-none old) front c.put.ensures.counted in
     inr (inl (refl, inl fails))

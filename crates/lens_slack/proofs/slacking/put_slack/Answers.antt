@@ -19,7 +19,7 @@ findings-preserved g c =
     let whole = subst (λ (bytes : List ℕ). Appends (g.K.Sink.written c.findings.out) (g.K.Sink.written c.put.new.self) bytes) line c.in-Ok.ensures.all in
     record {
       puts =
-          subst (λ (ls : List (List ℕ)). PutsLines ls (shown c.args.out.now) (shown c.put.new.self)) (sym lines)
+          subst (λ ls. PutsLines ls (shown c.args.out.now) (shown c.put.new.self)) (sym lines)
           (PutsLines-more (map (finding_line network) (take n all)) (finding_line network f) (shown c.args.out.now) (shown c.findings.out)
           (shown c.put.new.self) c.findings.invariant.puts whole c.put.ensures.counted);
       quiet = c.in-Ok.ensures.ok_unchanged ∙ c.findings.invariant.quiet;
@@ -62,8 +62,8 @@ returns-in-Err-clause-gives g c =
     ∙ append_assoc first (finding_line network f ∷ map (finding_line network) rest) ends in
     let line = next.line in
     let front =
-    subst (λ (bytes : List ℕ). AppendsFront (g.K.Sink.written c.findings.out) (g.K.Sink.written c.put.new.self) bytes) line c.in-Err.ensures.front in
+    subst (λ bytes. AppendsFront (g.K.Sink.written c.findings.out) (g.K.Sink.written c.put.new.self) bytes) line c.in-Err.ensures.front in
     let fails =
     PutsLines-fails first (finding_line network f) others (shown c.args.out.now) (shown c.findings.out) (shown c.put.new.self) c.findings.invariant.puts
     front c.put.ensures.counted in
-    inr (inl (refl, inl (subst (λ (ls : List (List ℕ)). PutFails ls (shown c.args.out.now) (shown c.put.new.self)) (sym lines) fails)))
+    inr (inl (refl, inl (subst (λ ls. PutFails ls (shown c.args.out.now) (shown c.put.new.self)) (sym lines) fails)))

@@ -12,10 +12,10 @@ returns-then-room-clause-gives g c =
     let status = c.put_both.result in
     let first : c.as_slice.result.now ≡ least_line t = c.as_slice.ensures ∙ c.make_least_line.ensures in
     let behind : c.as_slice-then-room.result.now ≡ keys_text t = c.as_slice-then-room.ensures ∙ c.make_keys.ensures in
-    let told = subst (λ (l : List ℕ). Gives (with_line l (line_answer Done c.as_slice-then-room.result.now)) status old new) first c.put_both.ensures.gives in
-    let both = subst (λ (l : List ℕ). Gives (with_line (least_line t) (line_answer Done l)) status old new) behind told in
+    let told = subst (λ l. Gives (with_line l (line_answer Done c.as_slice-then-room.result.now)) status old new) first c.put_both.ensures.gives in
+    let both = subst (λ l. Gives (with_line (least_line t) (line_answer Done l)) status old new) behind told in
     let is = roomy n t c.room_of-room.result c.room_of-room.ensures (omega (arith, c.if-room.true)) in
-    subst (λ (a : Answer). Gives a status old new) (sym is) both
+    subst (λ a. Gives a status old new) (sym is) both
 
 pub returns-else-room-clause-gives : goal.returns-else-room-clause-gives
 returns-else-room-clause-gives g c =
@@ -27,8 +27,8 @@ returns-else-room-clause-gives g c =
     let first : c.as_slice-else-room.result.now ≡ least_line t = c.as_slice-else-room.ensures ∙ c.make_least_line.ensures in
     let behind : c.as_slice-else-room-2.result.now ≡ finding_line n (room_of n t) =
     c.as_slice-else-room-2.ensures ∙ c.make_finding_line.ensures ∙ ap (finding_line n) c.room_of-room.ensures in
-    let told = subst (λ (l : List ℕ). Gives (with_line l (line_answer NetworkRefused c.as_slice-else-room-2.result.now)) status old new) first
+    let told = subst (λ l. Gives (with_line l (line_answer NetworkRefused c.as_slice-else-room-2.result.now)) status old new) first
     c.put_both-else-room.ensures.gives in
-    let both = subst (λ (l : List ℕ). Gives (with_line (least_line t) (line_answer NetworkRefused l)) status old new) behind told in
+    let both = subst (λ l. Gives (with_line (least_line t) (line_answer NetworkRefused l)) status old new) behind told in
     let is = short n t c.room_of-room.result c.room_of-room.ensures (omega (arith, c.if-room.false)) in
-    subst (λ (a : Answer). Gives a status old new) (sym is) both
+    subst (λ a. Gives a status old new) (sym is) both

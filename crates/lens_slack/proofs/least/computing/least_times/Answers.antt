@@ -23,13 +23,13 @@ returns-clause-least c =
     let settled = c.greater-settled.result in
     let precision = c.greater-precision.result in
     let correction = 2 * dmax + c.amount-2.result + 10 * precision in
-    are_least n steady path errors start port (record {
+    are_least {steady = steady} {path = path} {errors = errors} {start = start} {port = port} {t = record {
       dmax = dmax;
       settled = settled;
       precision = precision;
       correction = correction;
       tt_start = correction + dmax + 4 * precision + port;
-    }) (record {
+    }} (record {
       is_steady = c.steady_beta.ensures.steady;
       is_longest = c.longest_delay-path.ensures.longest;
       is_start = c.greatest_start.ensures.greatest;
@@ -39,6 +39,6 @@ returns-clause-least c =
       is_errors = c.errors_at-errors.ensures.value ∙ ap (errors_of n) (left_of_path dmax path steady (drift_over n dmax) c.least_dmax-dmax.ensures.fixed);
       settled = c.greater-settled.ensures;
       precision = c.greater-precision.ensures ∙ ap (λ (calc : ℕ). max (settled + 2 * errors) calc) c.amount.ensures.value;
-      correction = ap (λ (calc : ℕ). 2 * dmax + calc + 10 * precision) c.amount-2.ensures.value;
+      correction = ap (λ calc. 2 * dmax + calc + 10 * precision) c.amount-2.ensures.value;
       tt_start = refl;
     }) c.requires.range c.requires.shape

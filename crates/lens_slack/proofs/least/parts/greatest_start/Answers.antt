@@ -33,7 +33,7 @@ devices-preserved c =
     let max = c.greater-greatest.ensures in
     record {
       greatest =
-          subst (λ (m : ℕ). IsGreatest (IsAmongFirst Begins n.device (k + 1)) m) (sym max)
+          subst (λ m. IsGreatest (IsAmongFirst Begins n.device (k + 1)) m) (sym max)
           (one_more Begins n.device k device c.devices.greatest c.start_of.result there so_far.greatest this.greatest);
       bound = omega (arith, max, so_far.bound, this.bound);
     }

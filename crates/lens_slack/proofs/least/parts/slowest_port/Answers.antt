@@ -24,7 +24,7 @@ links-preserved c =
     let one = greatest_of_one (Occupies link) c.pcf_port_time.result (sym this.value) (λ m is. sym is ∙ sym this.value) in
     record {
       greatest =
-          subst (λ (m : ℕ). IsGreatest (IsAmongFirst Occupies n.link (k + 1)) m) (sym max)
+          subst (λ m. IsGreatest (IsAmongFirst Occupies n.link (k + 1)) m) (sym max)
           (one_more Occupies n.link k link c.links.slowest c.pcf_port_time.result there so_far.greatest one);
       bound = omega (arith, max, so_far.bound, this.bound);
     }
