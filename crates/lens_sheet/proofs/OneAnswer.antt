@@ -13,16 +13,16 @@ use Rattle.tte_forms.specs.Answering.{Answer}
 abbrev made : ℕ → ℕ → ℕ → ℕ → ℕ → Weights
 made jitter links delay start control = record { jitter = jitter; links = links; delay = delay; start = start; control = control }
 
-weights_once : (n : Network) (w v : Weights) → AreWeights n w → AreWeights n v → w ≡ v
-weights_once n w v p q =
+weights_once : {n : Network} {w v : Weights} → AreWeights n w → AreWeights n v → w ≡ v
+weights_once {n} {w} {v} p q =
     let jitter = greatest_is_unique (IsOfPath n (jitter_on n)) w.jitter v.jitter p.jitter q.jitter in
     let links = greatest_is_unique (IsOfPath n (length {A = LinkId})) w.links v.links p.links q.links in
     let delay = greatest_is_unique (IsOfPath n (delay_on n)) w.delay v.delay p.delay q.delay in
     let start = greatest_is_unique (IsStartOf n) w.start v.start p.start q.start in
     let control = greatest_is_unique (IsPortTimeOf n) w.control v.control p.control q.control in
-    ap (λ (k : ℕ). made k w.links w.delay w.start w.control) jitter ∙ ap (λ (k : ℕ). made v.jitter k w.delay w.start w.control) links
-    ∙ ap (λ (k : ℕ). made v.jitter v.links k w.start w.control) delay ∙ ap (λ (k : ℕ). made v.jitter v.links v.delay k w.control) start
-    ∙ ap (λ (k : ℕ). made v.jitter v.links v.delay v.start k) control
+    ap (λ k. made k w.links w.delay w.start w.control) jitter ∙ ap (λ k. made v.jitter k w.delay w.start w.control) links
+    ∙ ap (λ k. made v.jitter v.links k w.start w.control) delay ∙ ap (λ k. made v.jitter v.links v.delay k w.control) start
+    ∙ ap (λ k. made v.jitter v.links v.delay v.start k) control
 
 vl_once : (n : Network) (vl : ℕ) (ls ks : List SheetLine) → AreLinesOf n vl ls → AreLinesOf n vl ks → ls ≡ ks
 vl_once n vl ls ks p q =
@@ -31,9 +31,9 @@ vl_once n vl ls ks p q =
     p.is ∙ ap (λ (k : ℕ). lines.Vl (record { 0 = vl }) k ∷ map (λ (c : Coming). lines.Coming c) p.comings) hops
     ∙ ap (λ (cs : List Coming). lines.Vl (record { 0 = vl }) q.hops ∷ map (λ (c : Coming). lines.Coming c) cs) comings ∙ sym q.is
 
-sheet_lines_once : (n : Network) (ls ks : List SheetLine) → IsSheet n ls → IsSheet n ks → ls ≡ ks
-sheet_lines_once n ls ks p q =
-    let loads = loads_once n p.loads q.loads p.loaded q.loaded in
+sheet_lines_once : {n : Network} {ls ks : List SheetLine} → IsSheet n ls → IsSheet n ks → ls ≡ ks
+sheet_lines_once {n} p q =
+    let loads = loads_once p.loaded q.loaded in
     let vls = parts_once (AreLinesOf n) (vl_once n) 0 (length n.vl) p.vls q.vls p.linked q.linked in
     p.is ∙ ap (λ (xs : List Load). map (λ (k : Number). lines.Number k) numbers ++ (map (λ (l : Load). lines.Load l) xs ++ p.vls)) loads
     ∙ ap (λ (xs : List SheetLine). map (λ (k : Number). lines.Number k) numbers ++ (map (λ (l : Load). lines.Load l) q.loads ++ xs)) vls ∙ sym q.is
@@ -41,5 +41,5 @@ sheet_lines_once n ls ks p q =
 -- so there is one answer
 pub sheet_one : (network : Network) (a b : Answer) → IsSheetOf network a → IsSheetOf network b → a ≡ b
 sheet_one network a b p q =
-    p.is ∙ ap (λ (w : Weights). sheet_answer network w p.lines) (weights_once network p.weights q.weights p.weigh q.weigh)
-    ∙ ap (sheet_answer network q.weights) (sheet_lines_once network p.lines q.lines p.sheet q.sheet) ∙ sym q.is
+    p.is ∙ ap (λ w. sheet_answer network w p.lines) (weights_once p.weigh q.weigh)
+    ∙ ap (sheet_answer network q.weights) (sheet_lines_once p.sheet q.sheet) ∙ sym q.is

@@ -9,8 +9,8 @@ octet_small : (speed : Speed) → octet_time speed ≤ 2 ^ 23
 octet_small speeds.Mbit100 = omega arith
 octet_small speeds.Gbit1 = omega arith
 
-pub share_small : (entry : Entry) → HasFrame entry → share_of entry ≤ 2 ^ 40
-share_small entry has =
+pub share_small : {entry : Entry} → HasFrame entry → share_of entry ≤ 2 ^ 40
+share_small {entry} has =
     let most = has.length in
     let octets : entry.vl.length + 24 ≤ 1538 = omega (arith, most) in
     let time : port_time entry ≤ 1538 * octet_time entry.link.speed = mul-le-mul_right (octet_time entry.link.speed) octets in

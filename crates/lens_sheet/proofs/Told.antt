@@ -9,15 +9,17 @@ use Rattle.std.{proofs.lemmas.List.{Elements.{All-append, All-cons, All-map}, ta
 
 -- ---- names
 
-vl_names : (n : Network) (vl : ℕ) (ls : List SheetLine) → vl < length n.vl → AreLinesOf n vl ls → All (IsWritable n) ls
-vl_names n vl ls few are =
+vl_names : {n : Network} {vl : ℕ} {ls : List SheetLine} → vl < length n.vl → AreLinesOf n vl ls
+    → All (IsWritable n) ls
+vl_names {n} {vl} few are =
     let comings = All-map (IsWritable n) (λ (c : Coming). lines.Coming c) are.comings (part_names n vl are.comings few are.come) in
     subst (All (IsWritable n)) (sym are.is)
     (All-cons (IsWritable n) (lines.Vl (record { 0 = vl }) are.hops) (map (λ (c : Coming). lines.Coming c) are.comings) few comings)
 
 vls_names : (n : Network) (ls : List SheetLine) → AreVlLines n ls → All (IsWritable n) ls
 vls_names n ls are =
-    all_in_parts (AreLinesOf n) (IsWritable n) 0 (length n.vl) ls (λ vl ys few part. vl_names n vl ys (omega (arith, few)) part) are
+    all_in_parts (AreLinesOf n) (IsWritable n) 0 (length n.vl) ls
+    (λ vl ys few part. vl_names (omega (arith, few)) part) are
 
 pub sheet_names : (n : Network) (loads : List Load) (vls : List SheetLine) → All (HasLink n) loads → AreVlLines n vls
     → All (IsWritable n) (map (λ (k : Number). lines.Number k) numbers ++ (map (λ (l : Load). lines.Load l) loads ++ vls))

@@ -19,20 +19,23 @@ abbrev IsBetaAt : Network → ℕ → ℕ → ℕ → Type 0
 IsBetaAt n beta jitter links = pos beta ≡ pos (beta_at n jitter links)
 
 -- what beta has beside the drift and the roundings is the greatest sum of jitters
-pub jitter_left : (n : Network) (links beta rest jitter : ℕ) → IsBeta n (pos beta) → IsGreatest (IsOfPath n (length {A = LinkId})) links
-    → rest ≡ 4 * n.rho * amount n.dmax / 10 ^ 9 + 8 * amount n.grain * (links + 2) → jitter ≡ beta - rest → IsGreatest (IsOfPath n (jitter_on n)) jitter
-jitter_left n links beta rest jitter is greatest sum left =
+pub jitter_left : {n : Network} {links : ℕ} (beta rest jitter : ℕ) → IsBeta n (pos beta)
+    → IsGreatest (IsOfPath n (length {A = LinkId})) links
+    → rest ≡ 4 * n.rho * amount n.dmax / 10 ^ 9 + 8 * amount n.grain * (links + 2) → jitter ≡ beta - rest
+    → IsGreatest (IsOfPath n (jitter_on n)) jitter
+jitter_left {n} {links} beta rest jitter is greatest sum left =
     let same = greatest_is_unique (IsOfPath n (length {A = LinkId})) is.links links is.links_greatest greatest in
     let value = is.value in
-    let told : IsBetaAt n beta is.jitter links = subst (λ (k : ℕ). IsBetaAt n beta is.jitter k) same value in
+    let told : IsBetaAt n beta is.jitter links = subst (λ k. IsBetaAt n beta is.jitter k) same value in
     let here : is.jitter ≡ jitter = omega (arith, ints, told, sum, left) in
     subst (IsGreatest (IsOfPath n (jitter_on n))) here is.jitter_greatest
 
-pub rest_most : (n : Network) (links beta rest : ℕ) → IsBeta n (pos beta) → IsGreatest (IsOfPath n (length {A = LinkId})) links
+pub rest_most : {n : Network} {links : ℕ} (beta rest : ℕ) → IsBeta n (pos beta)
+    → IsGreatest (IsOfPath n (length {A = LinkId})) links
     → rest ≡ 4 * n.rho * amount n.dmax / 10 ^ 9 + 8 * amount n.grain * (links + 2) → rest ≤ beta
-rest_most n links beta rest is greatest sum =
+rest_most {n} {links} beta rest is greatest sum =
     let same = greatest_is_unique (IsOfPath n (length {A = LinkId})) is.links links is.links_greatest greatest in
-    let told : IsBetaAt n beta is.jitter links = subst (λ (k : ℕ). IsBetaAt n beta is.jitter k) same is.value in
+    let told : IsBetaAt n beta is.jitter links = subst (λ k. IsBetaAt n beta is.jitter k) same is.value in
     omega (arith, ints, told, sum)
 
 start_known : (o : Option Units) (units settled : Units) → o ≡ Some units → IfSome o (λ s. s.0 ≤ℤ settled.0) → units.0 ≤ℤ settled.0

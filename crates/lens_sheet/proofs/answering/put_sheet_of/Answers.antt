@@ -12,6 +12,6 @@ returns-in-Ok-clause-gives g c =
     let n = c.network-network.result.now in
     let w = c.weights_of.result in
     let sheet = c.in-Ok.sheet.items in
-    let gives = subst (λ (ls : List SheetLine). Gives (sheet_answer n w ls) status old new) c.as_slice.ensures.value c.put_sheet.ensures.gives in
-    subst (λ (m : Network). GivesAnswer (IsSheetOf m) status old new) c.network-network.ensures.value
+    let gives = subst (λ ls. Gives (sheet_answer n w ls) status old new) c.as_slice.ensures.value c.put_sheet.ensures.gives in
+    subst (λ m. GivesAnswer (IsSheetOf m) status old new) c.network-network.ensures.value
     (inl (sheet_answer n w sheet, record { weights = w; weigh = c.weights_of.ensures.weigh; lines = sheet; sheet = c.in-Ok.ensures.sheet; is = refl }, gives))

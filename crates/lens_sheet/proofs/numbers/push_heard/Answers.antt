@@ -11,7 +11,7 @@ returns-clause-text c =
     let p1 : c.push_part.new.line ≡ line ++ part_text (codes " dmax ") (2 * amount n.dmax) =
     c.push_part.ensures.text ∙ ap (λ (k : ℕ). line ++ part_text (codes " dmax ") (2 * k)) c.amount.ensures.value in
     let p2 : c.push_part-2.new.line ≡ c.push_part.new.line ++ part_text (codes " calc ") (amount n.calc) =
-    c.push_part-2.ensures.text ∙ ap (λ (k : ℕ). c.push_part.new.line ++ part_text (codes " calc ") k) c.amount-2.ensures.value in
+    c.push_part-2.ensures.text ∙ ap (λ k. c.push_part.new.line ++ part_text (codes " calc ") k) c.amount-2.ensures.value in
     let p3 : c.push_part-3.new.line ≡ c.push_part-2.new.line ++ part_text (codes " precision ") (10 * amount n.precision) =
     c.push_part-3.ensures.text ∙ ap (λ (k : ℕ). c.push_part-2.new.line ++ part_text (codes " precision ") (10 * k)) c.amount-3.ensures.value in
     three line (part_text (codes " dmax ") (2 * amount n.dmax)) (part_text (codes " calc ") (amount n.calc))

@@ -9,9 +9,9 @@ returns-clause-text c =
     let line = c.args.line.now in
     let n = c.args.network.now in
     let p1 : c.push_part.new.line ≡ line ++ part_text (codes " correction ") (amount n.correction) =
-    c.push_part.ensures.text ∙ ap (λ (k : ℕ). line ++ part_text (codes " correction ") k) c.amount.ensures.value in
+    c.push_part.ensures.text ∙ ap (λ k. line ++ part_text (codes " correction ") k) c.amount.ensures.value in
     let p2 : c.push_part-2.new.line ≡ c.push_part.new.line ++ part_text (codes " dmax ") (amount n.dmax) =
-    c.push_part-2.ensures.text ∙ ap (λ (k : ℕ). c.push_part.new.line ++ part_text (codes " dmax ") k) c.amount-2.ensures.value in
+    c.push_part-2.ensures.text ∙ ap (λ k. c.push_part.new.line ++ part_text (codes " dmax ") k) c.amount-2.ensures.value in
     let p3 : c.push_part-3.new.line ≡ c.push_part-2.new.line ++ part_text (codes " precision ") (4 * amount n.precision) =
     c.push_part-3.ensures.text ∙ ap (λ (k : ℕ). c.push_part-2.new.line ++ part_text (codes " precision ") (4 * k)) c.amount-3.ensures.value in
     four line (part_text (codes " correction ") (amount n.correction)) (part_text (codes " dmax ") (amount n.dmax))

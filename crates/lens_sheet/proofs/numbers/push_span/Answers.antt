@@ -9,7 +9,7 @@ returns-clause-text c =
     let line = c.args.line.now in
     let n = c.args.network.now in
     let p1 : c.push_time.new.line ≡ line ++ time_text (codes "schedule from") (amount n.tt_start) =
-    c.push_time.ensures.text ∙ ap (λ (k : ℕ). line ++ time_text (codes "schedule from") k) c.amount.ensures.value in
+    c.push_time.ensures.text ∙ ap (λ k. line ++ time_text (codes "schedule from") k) c.amount.ensures.value in
     let p2 : c.push_time-2.new.line ≡ c.push_time.new.line ++ time_text (codes " to") (schedule_end n) =
-    c.push_time-2.ensures.text ∙ ap (λ (k : ℕ). c.push_time.new.line ++ time_text (codes " to") k) c.schedule_end.ensures.value in
+    c.push_time-2.ensures.text ∙ ap (λ k. c.push_time.new.line ++ time_text (codes " to") k) c.schedule_end.ensures.value in
     two line (time_text (codes "schedule from") (amount n.tt_start)) (time_text (codes " to") (schedule_end n)) c.push_time.new.line c.push_time-2.new.line p1 p2

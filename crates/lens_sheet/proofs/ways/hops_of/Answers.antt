@@ -8,9 +8,10 @@ rows-init c = hops_none c.args.network.now c.args.vl
 pub rows-preserved : goal.rows-preserved
 rows-preserved c =
     let n = c.args.network.now in
-    subst (λ (m : ℕ). IsGreatest (ComesBelow n c.args.vl (c.rows.number + 1)) m) (sym c.greater-hops.ensures)
-    (hops_more n c.args.vl c.rows.number c.rows.hops c.rows_by.result c.rows.invariant c.rows_by.ensures)
+    subst (λ m. IsGreatest (ComesBelow n c.args.vl (c.rows.number + 1)) m) (sym c.greater-hops.ensures)
+    (hops_more n c.args.vl c.rows.number c.rows.invariant c.rows_by.ensures)
 
 pub returns : goal.returns
 returns c =
-    hops_all c.args.network.now c.args.vl c.rows.number c.rows.hops (omega (arith, c.rows-test.false, ap length c.as_slice.ensures)) c.rows.invariant
+    hops_all c.args.network.now c.args.vl c.rows.number
+    (omega (arith, c.rows-test.false, ap length c.as_slice.ensures)) c.rows.invariant

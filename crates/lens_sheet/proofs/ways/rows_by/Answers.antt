@@ -10,5 +10,4 @@ returns-then-is_last c =
 
 pub returns-else-is_last : goal.returns-else-is_last
 returns-else-is_last c =
-    comes_not c.args.network.now c.args.vl c.args.row.0 c.entry_of-entry.result c.entry_of-entry.ensures.is
-    (λ own end. false≢true (c.if-is_last.ensures.1 (own, end)))
+    comes_not c.args.vl c.entry_of-entry.ensures.is (λ own end. false≢true (c.if-is_last.ensures.1 (own, end)))

@@ -28,7 +28,7 @@ rows-preserved c =
       way = λ rest way.
           let own = is.enters.own in
           let more = so_far.way (before ∷ rest)
-          (is.row.0, is.row.1, own, is.enters.target, subst (λ (v : VlId). IsWay n v (source_of before) rest) own way) in
+          (is.row.0, is.row.1, own, is.enters.target, subst (λ v. IsWay n v (source_of before) rest) own way) in
           let count = more.2 in
           (more.0, more.1, omega (arith, count));
       bound = omega (arith, bound, earlier);

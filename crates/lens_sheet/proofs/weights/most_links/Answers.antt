@@ -5,6 +5,6 @@ use Rattle.lens_sheet.proofs.weights.most_links.Goals as goal
 pub returns-clause-greatest : goal.returns-clause-greatest
 returns-clause-greatest c =
     let n = c.args.network.now in
-    subst (λ (k : ℕ). IsGreatest (IsOfPath n (length {A = LinkId})) k) (sym c.greater.ensures)
+    subst (λ k. IsGreatest (IsOfPath n (length {A = LinkId})) k) (sym c.greater.ensures)
     (greatest_of_channels n (length {A = LinkId}) c.most_links_on.result c.most_links_on-2.result c.most_links_on.ensures.greatest
     c.most_links_on-2.ensures.greatest)

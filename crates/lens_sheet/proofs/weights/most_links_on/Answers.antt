@@ -10,7 +10,7 @@ devices-preserved c =
     let max = c.greater-most.ensures in
     record {
       greatest =
-          subst (λ (k : ℕ). IsGreatest (IsOfPathBelow n c.args.channel (c.devices.place + 1) (length {A = LinkId})) k) (sym max)
+          subst (λ k. IsGreatest (IsOfPathBelow n c.args.channel (c.devices.place + 1) (length {A = LinkId})) k) (sym max)
           (greatest_below_more n c.args.channel (length {A = LinkId}) c.devices.place c.devices.most c.links_from.result so_far.greatest this.greatest);
       bound = omega (arith, max, so_far.bound, this.bound);
     }
@@ -18,7 +18,7 @@ devices-preserved c =
 pub returns-clause-greatest : goal.returns-clause-greatest
 returns-clause-greatest c =
     let n = c.args.network.now in
-    let same : length c.as_slice-place-end.result.now ≡ length n.device = ap (λ (xs : _). length {A = Device} xs) c.as_slice-place-end.ensures in
+    let same : length c.as_slice-place-end.result.now ≡ length n.device = ap (λ xs. length {A = Device} xs) c.as_slice-place-end.ensures in
     let all : c.devices.place ≡ length n.device = omega (arith, same, c.devices.auto.place-end, c.devices-test.false) in
     greatest_below_all n c.args.channel (length {A = LinkId}) c.devices.most
-    (subst (λ (k : ℕ). IsGreatest (IsOfPathBelow n c.args.channel k (length {A = LinkId})) c.devices.most) all c.devices.invariant.greatest)
+    (subst (λ k. IsGreatest (IsOfPathBelow n c.args.channel k (length {A = LinkId})) c.devices.most) all c.devices.invariant.greatest)
