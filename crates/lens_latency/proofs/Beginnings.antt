@@ -46,11 +46,12 @@ pub record BeginsOn (v : View) (h : Happening) (vl : VlId) (cycle : ℕ) (channe
   pub on_channel : IsOnChannel v.scenario.network channel entry
 
 -- each dispatch of the virtual link on the channel does, by its time
-begins_below : (channel : Channel) (bound : ℕ) (v : View) (h : Happening) (device : DeviceId) (link : LinkId) (cause : ℕ) (vl : VlId) (cycle : ℕ) → IsView v
-    → FieldsFit v.scenario.network → IsGood v device → HasGoodSources v vl → (d : IsRowDispatch v h device link cause vl cycle)
+begins_below : (channel : Channel) (bound : ℕ) {v : View} {h : Happening} {device : DeviceId} {link : LinkId}
+    {cause : ℕ} {vl : VlId} {cycle : ℕ} → IsView v → FieldsFit v.scenario.network → IsGood v device
+    → HasGoodSources v vl → (d : IsRowDispatch v h device link cause vl cycle)
     → IsOnChannel v.scenario.network channel d.entry → time_of h < bound → BeginsOn v h vl cycle channel
-begins_below channel zero v h device link cause vl cycle is fit good sources d on lt = absurd (omega (arith, lt))
-begins_below channel (suc bound) v h device link cause vl cycle is fit good sources d on lt =
+begins_below channel zero is fit good sources d on lt = absurd (omega (arith, lt))
+begins_below channel (suc bound) {v} {h} {device} {link} {cause} {vl} {cycle} is fit good sources d on lt =
     let n = v.scenario.network in
     elim (octets_come_so v h device link cause vl cycle is d) [
       | inl made ↦
@@ -63,7 +64,7 @@ begins_below channel (suc bound) v h device link cause vl cycle is fit good sour
             departs = subst IsDeparture (sym d.is) made.first;
             early = omega arith;
             entry = d.entry;
-            dispatched = subst (λ (x : DeviceId). IsDispatchOn n vl cycle h x d.entry) (sym made.sender) dispatched;
+            dispatched = subst (λ x. IsDispatchOn n vl cycle h x d.entry) (sym made.sender) dispatched;
             leaves = d.leaves ∙ sym made.sender;
             on_channel = on;
           }
@@ -74,13 +75,13 @@ begins_below channel (suc bound) v h device link cause vl cycle is fit good sour
           let comes = takings_come_by_rows brings.blocks brings.senders v passed.taken device passed.link passed.from vl cycle is fit good taking fine in
           let range = is.lawful.range in
           let rules = is.lawful.rules in
-          let no_end = subst (λ (x : DeviceId). is_end n x ≡ false) (sym d.leaves) passed.switch in
+          let no_end = subst (λ x. is_end n x ≡ false) (sym d.leaves) passed.switch in
           let switch = source_on n d.place d.entry channel range rules d.row no_end on in
           let entering = subst (IsSwitchOf n channel) (d.leaves ∙ sym row.enters) switch in
           let on_row = target_on n row.place row.entry channel range rules row.row entering in
-          let rest = begins_below channel bound v taking.putting (source_of row.entry) passed.link comes.from vl cycle is fit fine sources comes.dispatch
+          let rest = begins_below channel bound is fit fine sources comes.dispatch
           (subst (IsOnChannel n channel) (sym comes.same) on_row) (omega (arith, taking.at, passed.earlier, lt)) in
-          let first_cause : numbered v.records (cause_of h.note.body) ≡ Some passed.taken = ap (λ (b : NoteBody). numbered v.records (cause_of b)) d.is
+          let first_cause : numbered v.records (cause_of h.note.body) ≡ Some passed.taken = ap (λ b. numbered v.records (cause_of b)) d.is
           ∙ passed.number in
           record {
             first = rest.first;
@@ -99,8 +100,9 @@ begins_below channel (suc bound) v h device link cause vl cycle is fit good sour
           }
     ]
 
-pub begins_on : (channel : Channel) (v : View) (h : Happening) (device : DeviceId) (link : LinkId) (cause : ℕ) (vl : VlId) (cycle : ℕ) → IsView v
-    → FieldsFit v.scenario.network → IsGood v device → HasGoodSources v vl → (d : IsRowDispatch v h device link cause vl cycle)
-    → IsOnChannel v.scenario.network channel d.entry → BeginsOn v h vl cycle channel
-begins_on channel v h device link cause vl cycle is fit good sources d on =
-    begins_below channel (time_of h + 1) v h device link cause vl cycle is fit good sources d on (omega arith)
+pub begins_on : (channel : Channel) {v : View} {h : Happening} {device : DeviceId} {link : LinkId} {cause : ℕ}
+    {vl : VlId} {cycle : ℕ} → IsView v → FieldsFit v.scenario.network → IsGood v device → HasGoodSources v vl
+    → (d : IsRowDispatch v h device link cause vl cycle) → IsOnChannel v.scenario.network channel d.entry
+    → BeginsOn v h vl cycle channel
+begins_on channel {h} is fit good sources d on =
+    begins_below channel (time_of h + 1) is fit good sources d on (omega arith)

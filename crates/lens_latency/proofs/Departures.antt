@@ -55,7 +55,7 @@ module _ (hs : List Happening) where
   departs_by h g None not there none = λ t has.
       let by = by_cause h has.first has.back.causes t not has.back.chain has.back.begins has.departs has.at in
       let same : by.0 ≡ g = some_same by.0 g (numbered hs (cause_of h.note.body)) by.1 there in
-      none t (subst (λ (x : Happening). HasDeparted hs x t) same by.2)
+      none t (subst (λ x. HasDeparted hs x t) same by.2)
   departs_by h g (Some t) not there has = record {
     first = has.first;
     back = record { causes = g ∷ has.back.causes; chain = (there, has.back.chain); begins = has.back.begins };
@@ -74,8 +74,8 @@ module _ (hs : List Happening) where
       absurd (none_at_zero hs (cause_of h.note.body) x (no_cause h.note.body (subst (λ (z : Happening). IsDeparture z.note.body) ends its)) c.0)
   one_chain h first last (x ∷ xs) (y ∷ ys) c d begins ends is its =
       let same : y ≡ x = some_same y x (numbered hs (cause_of h.note.body)) d.0 c.0 in
-      one_chain x first last xs ys c.1 (subst (λ (z : Happening). IsChain hs z ys) same d.1) begins
-      (ends ∙ ap (λ (z : Happening). last_from z ys) same) is its
+      one_chain x first last xs ys c.1 (subst (λ z. IsChain hs z ys) same d.1) begins
+      (ends ∙ ap (λ z. last_from z ys) same) is its
 
   pub departed_once : (h : Happening) (t u : ℕ) → HasDeparted hs h t → HasDeparted hs h u → t ≡ u
   departed_once h t u a b =
@@ -109,6 +109,6 @@ module _ (hs : List Happening) where
   arrival_once h (Some a) (Some b) is its =
       let names = same_names a b is.link its.link is.cause its.cause is.cycle its.cycle (sym is.is ∙ its.is) in
       let left = departed_once h is.left its.left is.departed its.departed in
-      let time : a.time ≡ b.time = is.time ∙ ap (λ (t : ℕ). time_of h - t) left ∙ sym its.time in
-      ap (λ (x : Arrival). Some x) (ap (λ (v : VlId). made v a.device a.time) names.0 ∙ ap (λ (d : DeviceId). made b.vl d a.time) names.1
-      ∙ ap (λ (t : ℕ). made b.vl b.device t) time)
+      let time : a.time ≡ b.time = is.time ∙ ap (λ t. time_of h - t) left ∙ sym its.time in
+      ap (λ (x : Arrival). Some x) (ap (λ v. made v a.device a.time) names.0 ∙ ap (λ d. made b.vl d a.time) names.1
+      ∙ ap (λ t. made b.vl b.device t) time)

@@ -10,14 +10,14 @@ NoneBelow network Has n = (k : ℕ) (entry : Entry) → k < n → IsEntry networ
 pub none_first : (network : Network) (Has : Entry → Type 0) → NoneBelow network Has 0
 none_first network Has k entry lt is has = absurd (omega (arith, lt))
 
-pub none_next : (network : Network) (Has : Entry → Type 0) (n : ℕ) (entry : Entry) → NoneBelow network Has n → IsEntry network n entry → (Has entry → ⊥)
-    → NoneBelow network Has (n + 1)
-none_next network Has n entry none is not k other lt its has =
+pub none_next : {network : Network} (Has : Entry → Type 0) {n : ℕ} {entry : Entry} → NoneBelow network Has n
+    → IsEntry network n entry → (Has entry → ⊥) → NoneBelow network Has (n + 1)
+none_next {network} Has {n} {entry} none is not k other lt its has =
     elim (cases_lt k n) [
       | inl below ↦ none k other below its has
       | inr ge ↦
           let here : k ≡ n = omega (arith, lt, ge) in
-          let same = one_entry network n entry other is (subst (λ (j : ℕ). IsEntry network j other) here its) in
+          let same = one_entry network n entry other is (subst (λ j. IsEntry network j other) here its) in
           not (subst Has (sym same) has)
     ]
 
@@ -38,6 +38,6 @@ first_once network Has (Some e) (Some f) (place, is, has, before) (other, its, h
         | inl lt ↦ absurd (before other f lt its have)
         | inr le ↦
             let here : other ≡ place = omega (arith, ge, le) in
-            ap (λ (x : Entry). Some x) (one_entry network place e f is (subst (λ (j : ℕ). IsEntry network j f) here its))
+            ap (λ (x : Entry). Some x) (one_entry network place e f is (subst (λ j. IsEntry network j f) here its))
       ]
     ]

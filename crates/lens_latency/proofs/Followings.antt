@@ -13,9 +13,9 @@ use Rattle.tte_reports.specs.{Folding.IsNextOf, Reports.IsReportOf}
 use Rattle.tte_units.specs.{Amount.amount, declared.units.Units.Units}
 
 -- the records of a report are linked
-pub report_linked : (network : Network) (octets : List ℕ) (ns : List Note) (end : Units) → IsNamed network → IsReportOf network octets ns end
-    → AreLinked (happenings network ns)
-report_linked network octets ns end named r =
+pub report_linked : {network : Network} {octets : List ℕ} {ns : List Note} {end : Units} → IsNamed network
+    → IsReportOf network octets ns end → AreLinked (happenings network ns)
+report_linked {network} {ns} {end} named r =
     let s = scenario_of network ns in
     let hs = happenings network ns in
     let run = audit_run ns end named r.events.right r.run in
@@ -73,11 +73,11 @@ module _ (network : Network) (ns before : List Note) where
           let causes : cause_of h.note.body ≡ cause_of note.body = ap cause_of (sym body) in
           elim cause [
             | inl none ↦
-                subst (λ (n : ℕ). IsDepartureOf hs h (departure_at kept n)) (sym none ∙ causes) (departs_never hs h not none)
+                subst (λ n. IsDepartureOf hs h (departure_at kept n)) (sym none ∙ causes) (departs_never hs h not none)
             | inr given ↦
-                let there = subst (λ (xs : List Happening). numbered xs (cause_of h.note.body) ≡ Some given.0) (sym parts)
+                let there = subst (λ xs. numbered xs (cause_of h.note.body) ≡ Some given.0) (sym parts)
                 (numbered_front earlier (h ∷ gs) (cause_of h.note.body) given.0 given.1) in
-                subst (λ (n : ℕ). IsDepartureOf hs h (departure_at kept n)) causes
+                subst (λ n. IsDepartureOf hs h (departure_at kept n)) causes
                 (departs_by hs h given.0 (departure_at kept (cause_of h.note.body)) not there (all (cause_of h.note.body) given.0 given.1))
           ]
 
@@ -89,7 +89,7 @@ module _ (network : Network) (ns before : List Note) where
       let h = happening network earlier note in
       let departure = departure_by kept (amount note.time) note.body in
       let whole = happening_there network ns before next.rest note next.parts in
-      let linked = report_linked network octets ns next.end named next.report earlier whole.0 h whole.1 in
+      let linked = report_linked named next.report earlier whole.0 h whole.1 in
       let is = next_departure note kept whole.0 whole.1 linked so.departures in
       let more = sym (one_more network before note) in
       let many = as_many network before in
@@ -99,10 +99,10 @@ module _ (network : Network) (ns before : List Note) where
       record {
         count = omega (arith, before_count, count, longer);
         departures =
-            subst (λ (xs : List Happening). (n : ℕ) (g : Happening) → numbered xs n ≡ Some g → IsDepartureOf hs g (departure_at (kept ++ departure ∷ []) n))
+            subst (λ xs. (n : ℕ) (g : Happening) → numbered xs n ≡ Some g → IsDepartureOf hs g (departure_at (kept ++ departure ∷ []) n))
             more (numbered_more (IsDepartureOf hs) earlier kept h departure (omega (arith, many, before_count)) so.departures is);
         told =
-            subst (λ (xs : List Happening). AreGiven (IsArrivalBy hs) xs (arrivals ++ cons_option (arrival_by departure (amount note.time) note.body) []))
+            subst (λ xs. AreGiven (IsArrivalBy hs) xs (arrivals ++ cons_option (arrival_by departure (amount note.time) note.body) []))
             more
             (given_more (IsArrivalBy hs) earlier arrivals h (arrival_by departure (amount note.time) note.body) so.told
             (arrival_is hs h departure note.body refl is));

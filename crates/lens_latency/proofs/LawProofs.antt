@@ -59,16 +59,18 @@ record IsIn (network : Network) (trip : Trip) (offset : ℤ) : Type 0 where
   pub least : pos trip.from ≤ℤ offset
   pub most : offset ≤ℤ pos trip.to
 
-in_trip : (network : Network) (vl : VlId) (device : DeviceId) (channel : Channel) (trip : Trip) (place : ℕ) (entry : Entry) (offset : ℤ)
-    → IsInRange network → KeepsRules network → IsEndSystem network device → IsTrip network vl device channel (Some trip)
-    → IsEntry network place entry → entry.row.vl ≡ vl → IsOnChannel network channel entry → target_of entry ≡ device
-    → (pos (arrival_of entry) -ℤ pos (tolerance network)) ≤ℤ offset → offset ≤ℤ pos (window_end network entry) → tolerance network ≤ arrival_of entry
-    → IsIn network trip offset
-in_trip network vl device channel trip place entry offset range keeps end (first, last, is, its, same) row own on target from to begun =
+in_trip : {network : Network} (vl : VlId) (device : DeviceId) (channel : Channel) (trip : Trip) {place : ℕ}
+    {entry : Entry} (offset : ℤ) → IsInRange network → KeepsRules network → IsEndSystem network device
+    → IsTrip network vl device channel (Some trip) → IsEntry network place entry → entry.row.vl ≡ vl
+    → IsOnChannel network channel entry → target_of entry ≡ device
+    → (pos (arrival_of entry) -ℤ pos (tolerance network)) ≤ℤ offset → offset ≤ℤ pos (window_end network entry)
+    → tolerance network ≤ arrival_of entry → IsIn network trip offset
+in_trip {network} vl device channel trip {place} {entry} offset range keeps end (first, last, is, its, same) row own
+    on target from to begun =
     let one : last ≡ entry =
     one_last network range keeps vl channel device its.0 place last entry end its.1 row its.2.own own its.2.on_channel on its.2.joins target in
     let begin : trip.from ≡ arrival_of entry - tolerance network =
-    ap (λ (t : Trip). t.from) same ∙ ap (λ (e : Entry). arrival_of e - tolerance network) one in
+    ap (λ (t : Trip). t.from) same ∙ ap (λ e. arrival_of e - tolerance network) one in
     let ending : trip.to ≡ window_end network entry = ap (λ (t : Trip). t.to) same ∙ ap (window_end network) one in
     record { least = omega (arith, ints, begin, from, begun); most = omega (arith, ints, ending, to) }
 
@@ -95,9 +97,10 @@ module _ (c : Coming) (offset : ℤ) where
       (omega (arith, ints, low, least), omega (arith, ints, high, most))
 
 -- a row that enters an end system leaves a switch
-leaves_switch : (network : Network) (channel : Channel) (entry : Entry) (device : DeviceId) → IsInRange network → IsOnChannel network channel entry
-    → target_of entry ≡ device → IsEndSystem network device → IsSwitchOf network channel (source_of entry)
-leaves_switch network channel entry device range on target end = by entry.row.way target
+leaves_switch : {network : Network} (channel : Channel) (entry : Entry) (device : DeviceId) → IsInRange network
+    → IsOnChannel network channel entry → target_of entry ≡ device → IsEndSystem network device
+    → IsSwitchOf network channel (source_of entry)
+leaves_switch {network} channel entry device range on target end = by entry.row.way target
   where
     by : (way : Way) → target_by way entry.link ≡ device → IsSwitchOf network channel (source_by way entry.link)
     by Up e =
@@ -123,7 +126,7 @@ comes_at_its_place s mark ns until cs run are vl of_vl cycle device owed =
     let c = f.coming in
     let offset = offset_in_cycle n (local_before s hs device (time_of d.delivery)) in
     let begun = begins_in_cycle n range keeps joint.0 w.row.place entry w.row.is
-    (leaves_switch n joint.0 entry device range joint.1 w.row.enters owed.end_system) in
+    (leaves_switch joint.0 entry device range joint.1 w.row.enters owed.end_system) in
     let within : (channel : Channel) → IsOnChannel n channel entry → IsInLine c offset = λ channel. by n c offset channel vl device w.row.place entry
     range keeps f.is w.row.is w.row.of_vl w.row.enters w.not_before w.not_behind begun in
     let both = within joint.0 joint.1 in
@@ -134,9 +137,9 @@ comes_at_its_place s mark ns until cs run are vl of_vl cycle device owed =
         → (pos (arrival_of entry) -ℤ pos (tolerance n)) ≤ℤ offset → offset ≤ℤ pos (window_end n entry) → tolerance n ≤ arrival_of entry
         → IsOnChannel n channel entry → IsInLine c offset
     by n c offset A vl device place entry range keeps is row own target from to begun on =
-        in_line_a c offset n (in_trip n vl device A c.a place entry offset range keeps is.0 is.1 row own on target from to begun)
+        in_line_a c offset n (in_trip vl device A c.a offset range keeps is.0 is.1 row own on target from to begun)
     by n c offset B vl device place entry range keeps is row own target from to begun on =
-        in_line_b c offset n (in_trip n vl device B c.b place entry offset range keeps is.0 is.2 row own on target from to begun)
+        in_line_b c offset n (in_trip vl device B c.b offset range keeps is.0 is.2 row own on target from to begun)
 
 -- what a list of one has is that one
 only : (c d : Coming) → Contains (c ∷ []) d → c ≡ d
@@ -146,7 +149,7 @@ only c d (suc k, within, is) = absurd (omega (arith, within))
 itself : (network : Network) (vl : VlId) (device : DeviceId) (c : Coming) → IsComing network vl device (Some c)
     → IsComing network c.vl c.device (Some c)
 itself network vl device c is =
-    subst (λ (e : DeviceId). IsComing network c.vl e (Some c)) (sym is.4) (subst (λ (v : VlId). IsComing network v device (Some c)) (sym is.3) is)
+    subst (λ e. IsComing network c.vl e (Some c)) (sym is.4) (subst (λ v. IsComing network v device (Some c)) (sym is.3) is)
 
 -- the coming of these is that of its virtual link and device
 of_its : (network : Network) (cs : List Coming) (c : Coming) → AreComings network cs → Contains cs c → IsComing network c.vl c.device (Some c)
@@ -193,7 +196,7 @@ comes_in_its_time s mark ns until cs c cycle channel f z up are has le d =
     let takes = times_are_taken s mark ns until value up is_beta c.vl cycle f z d.first.vl.sender c.device d.first d.last d.sent d.came d.in_order le
     d.dispatched d.delivered correct d.sender in
     let same : trip_by channel c ≡ trip_of n d.first d.last =
-    trip.4 ∙ ap (λ (e : Entry). trip_of n e trip.1) one ∙ ap (λ (e : Entry). trip_of n d.first e) other in
+    trip.4 ∙ ap (λ e. trip_of n e trip.1) one ∙ ap (λ e. trip_of n d.first e) other in
     let least = ap (λ (t : Trip). t.least) same in
     let most = ap (λ (t : Trip). t.most) same in
     let order = d.in_order in

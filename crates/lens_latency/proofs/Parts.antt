@@ -35,14 +35,14 @@ module _ {X : Type 0} (IsPart : ℕ → List X → Type 0) where
       let next : suc n ≡ n + 1 = omega arith in
       let here : n ≡ 0 + n = omega arith in (
         found ++ part,
-        subst (λ (k : ℕ). InParts IsPart 0 k (found ++ part)) next (part_more 0 n found part are (subst (λ (k : ℕ). IsPart k part) here is)),
+        subst (λ k. InParts IsPart 0 k (found ++ part)) next (part_more 0 n found part are (subst (λ (k : ℕ). IsPart k part) here is)),
         more ∙ ap (λ (xs : List X). xs ++ part) same ∙ append_assoc old found part,
       )
 
   -- all parts were added to no elements
   pub pushed_all : (n count : ℕ) (new : List X) → ArePushed n [] new → n ≡ count → InParts IsPart 0 count new
   pushed_all n count new (found, are, same) whole =
-      subst (λ (xs : List X). InParts IsPart 0 count xs) (sym same) (subst (λ (k : ℕ). InParts IsPart 0 k found) whole are)
+      subst (λ xs. InParts IsPart 0 count xs) (sym same) (subst (λ k. InParts IsPart 0 k found) whole are)
 
   -- what holds of each part's elements holds of all
   pub all_in_parts : (P : X → Type 0) (first n : ℕ) (xs : List X) → ((k : ℕ) (ys : List X) → k < first + n → IsPart k ys → All P ys)

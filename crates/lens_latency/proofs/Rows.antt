@@ -50,7 +50,7 @@ module _ (n : Network) (range : IsInRange n) (keeps : KeepsRules n) where
               (target ∙ sym into))
           | inr le ↦
               let here : other ≡ place = omega (arith, ge, le) in
-              one_entry n place entry second row (subst (λ (j : ℕ). IsEntry n j second) here also)
+              one_entry n place entry second row (subst (λ j. IsEntry n j second) here also)
         ]
       ]
 
@@ -60,7 +60,7 @@ module _ (n : Network) (range : IsInRange n) (keeps : KeepsRules n) where
   begins_in_cycle channel place entry row switch =
       let not : source_of entry ≡ entry.vl.sender → ⊥ = λ e.
       both_ways _ (switch_no_end n channel (source_of entry) range switch)
-      (subst (λ (d : DeviceId). is_end n d ≡ true) (sym e) (end_test n entry.vl.sender (keeps Senders entry.row.vl.0 entry.vl row.vl))) in
+      (subst (λ d. is_end n d ≡ true) (sym e) (end_test n entry.vl.sender (keeps Senders entry.row.vl.0 entry.vl row.vl))) in
       elim (keeps Sources place entry row) [
         | inl sender ↦ absurd (not sender)
         | inr other ↦

@@ -18,7 +18,7 @@ module _ (s : Scenario) (hs front : List Happening) (all : IsFounded place_of (I
   numbered_too : (n : ℕ) (g : Happening) → numbered front n ≡ Some g → numbered hs n ≡ Some g
   numbered_too n g there =
       let number = number_is s front n g some there in
-      subst (λ (m : ℕ). numbered hs m ≡ Some g) number (by_number s hs g all (inside g (numbered_in front n g there)))
+      subst (λ m. numbered hs m ≡ Some g) number (by_number s hs g all (inside g (numbered_in front n g there)))
 
   chain_too : (h : Happening) (gs : List Happening) → IsChain front h gs → IsChain hs h gs
   chain_too h [] chain = tt
@@ -28,10 +28,11 @@ module _ (s : Scenario) (hs front : List Happening) (all : IsFounded place_of (I
   back_too h first back = record { causes = back.causes; chain = chain_too h back.causes back.chain; begins = back.begins }
 
 -- what departed so long before is seen
-seen_within : (hs : List Happening) (c : Coming) (channel : Channel) (h : Happening) (link : LinkId) (cause cycle left : ℕ)
-    → h.note.body ≡ notes.Delivered c.device link cause c.vl cycle → HasDeparted hs h left
-    → (left + (trip_by channel c).least ≤ time_of h) × (time_of h ≤ left + (trip_by channel c).most) → IsSeenWithin hs c channel h
-seen_within hs c channel h link cause cycle left is departed within =
+seen_within : {hs : List Happening} (c : Coming) (channel : Channel) {h : Happening} (link : LinkId)
+    (cause cycle : ℕ) {left : ℕ} → h.note.body ≡ notes.Delivered c.device link cause c.vl cycle
+    → HasDeparted hs h left → (left + (trip_by channel c).least ≤ time_of h)
+    × (time_of h ≤ left + (trip_by channel c).most) → IsSeenWithin hs c channel h
+seen_within c channel {h} link cause cycle {left} is departed within =
     let least = within.0 in
     let most = within.1 in
     record {
@@ -62,11 +63,11 @@ deliveries_are_seen s mark ns until cs c channel h link cause cycle up are has i
     let fit = fields_fit n up.lawful.range in
     let comes = takings_come_by_rows brings.blocks brings.senders v h c.device link cause c.vl cycle at.is fit taking.correct taking fine in
     let of = opened (λ (l : Link). IsSwitchOf n channel l.parent) (link_at n link) on in
-    let linked : link_at n link ≡ Some row.entry.link = subst (λ (x : LinkId). link_at n x ≡ Some row.entry.link) row.by row.row.link in
+    let linked : link_at n link ≡ Some row.entry.link = subst (λ x. link_at n x ≡ Some row.entry.link) row.by row.row.link in
     let links : of.0 ≡ row.entry.link = some_same of.0 row.entry.link (link_at n link) of.1 linked in
     let on_row : IsOnChannel n channel row.entry = subst (λ (l : Link). IsSwitchOf n channel l.parent) links of.2 in
     let put = taking.putting in
-    let begins = begins_on channel v put (source_of row.entry) link comes.from c.vl cycle at.is fit fine sources comes.dispatch
+    let begins = begins_on channel at.is fit fine sources comes.dispatch
     (subst (IsOnChannel n channel) (sym comes.same) on_row) in
     let first = begins.first in
     let before : time_of put ≤ time_of h = omega (arith, taking.at) in
@@ -95,5 +96,5 @@ deliveries_are_seen s mark ns until cs c channel h link cause cycle up are has i
       by_last = on_row;
       sender = sender;
     } in
-    seen_within hs c channel h link cause cycle (time_of first) is departed
+    seen_within c channel link cause cycle is departed
     (comes_in_its_time s mark ns until cs c cycle channel first h up are has le goes)

@@ -29,12 +29,12 @@ seen_more times None time none =
 seen_more times (Some seen) time is = record {
   count = (let grown = length-append times (time ∷ []) in let count = is.count in omega (arith, grown, count));
   least = elim (min_is seen.least time) [
-    | inl old ↦ subst (λ (t : ℕ). IsIn t (times ++ time ∷ [])) (sym old) (in_left seen.least times (time ∷ []) is.least)
-    | inr new ↦ subst (λ (t : ℕ). IsIn t (times ++ time ∷ [])) (sym new) (last_there times time)
+    | inl old ↦ subst (λ t. IsIn t (times ++ time ∷ [])) (sym old) (in_left seen.least times (time ∷ []) is.least)
+    | inr new ↦ subst (λ t. IsIn t (times ++ time ∷ [])) (sym new) (last_there times time)
   ];
   most = elim (max_is seen.most time) [
-    | inl old ↦ subst (λ (t : ℕ). IsIn t (times ++ time ∷ [])) (sym old) (in_left seen.most times (time ∷ []) is.most)
-    | inr new ↦ subst (λ (t : ℕ). IsIn t (times ++ time ∷ [])) (sym new) (last_there times time)
+    | inl old ↦ subst (λ t. IsIn t (times ++ time ∷ [])) (sym old) (in_left seen.most times (time ∷ []) is.most)
+    | inr new ↦ subst (λ t. IsIn t (times ++ time ∷ [])) (sym new) (last_there times time)
   ];
   each = λ t i.
       let low = min-le_left seen.least time in
@@ -77,8 +77,8 @@ seen_once times (Some a) (Some b) is its =
     let higher = (its.each a.most is.most).1 in
     let least : a.least ≡ b.least = omega (arith, low, lower) in
     let most : a.most ≡ b.most = omega (arith, high, higher) in
-    ap (λ (x : Seen). Some x) (ap (λ (n : ℕ). made n a.least a.most) count ∙ ap (λ (n : ℕ). made b.count n a.most) least
-    ∙ ap (λ (n : ℕ). made b.count b.least n) most)
+    ap (λ (x : Seen). Some x) (ap (λ n. made n a.least a.most) count ∙ ap (λ n. made b.count n a.most) least
+    ∙ ap (λ n. made b.count b.least n) most)
 
 -- ---- few
 
@@ -90,8 +90,9 @@ few_kept {X} p (x ∷ xs) = by (p x) (few_kept p xs)
     by true le = omega (arith, le)
     by false le = omega (arith, le)
 
-pub few_seen : (c : Coming) (arrivals : List Arrival) (seen : Seen) → IsSeen (times_of c arrivals) seen → seen.count ≤ length arrivals
-few_seen c arrivals seen is =
+pub few_seen : (c : Coming) (arrivals : List Arrival) {seen : Seen} → IsSeen (times_of c arrivals) seen
+    → seen.count ≤ length arrivals
+few_seen c arrivals is =
     let kept = filter (is_of c) arrivals in
     let few = few_kept (is_of c) arrivals in
     let many = length-map kept (λ (x : Arrival). x.time) in
@@ -107,39 +108,43 @@ pub few_taken : (c : Coming) (arrivals : List Arrival) (n : ℕ) (seen : Option 
     → IfSome seen (λ s. s.count ≤ length arrivals)
 few_taken c arrivals n None is = tt
 few_taken c arrivals n (Some seen) is =
-    let few = few_seen c (take n arrivals) seen is in
+    let few = few_seen c (take n arrivals) is in
     let short = taken_short n arrivals in
     omega (arith, few, short)
 
 -- ---- the next of the arrivals
 
-pub seen_on : (c : Coming) (arrivals : List Arrival) (n : ℕ) (d : Arrival) (old new : Option Seen) → n < length arrivals
-    → is_of c (get_or arrivals n d) ≡ true → new ≡ with_time old (get_or arrivals n d).time → AreSeen (times_of c (take n arrivals)) old
-    → AreSeen (times_of c (take (n + 1) arrivals)) new
-seen_on c arrivals n d old new within is more seen =
-    let arrival = get_or arrivals n d in
-    let times = ap (times_of c) (take_more arrivals n d within) ∙ times_on c (take n arrivals) arrival is in
-    subst (λ (ts : List ℕ). AreSeen ts new) (sym times)
-    (subst (AreSeen (times_of c (take n arrivals) ++ arrival.time ∷ [])) (sym more) (seen_more (times_of c (take n arrivals)) old arrival.time seen))
+module _ (c : Coming) (arrivals : List Arrival) (n : ℕ) (d : Arrival) (old new : Option Seen)
+    (within : n < length arrivals) where
+  pub seen_on : is_of c (get_or arrivals n d) ≡ true → new ≡ with_time old (get_or arrivals n d).time
+      → AreSeen (times_of c (take n arrivals)) old → AreSeen (times_of c (take (n + 1) arrivals)) new
+  seen_on is more seen =
+      let arrival = get_or arrivals n d in
+      let times = ap (times_of c) (take_more arrivals n d within) ∙ times_on c (take n arrivals) arrival is in
+      subst (λ ts. AreSeen ts new) (sym times)
+      (subst (AreSeen (times_of c (take n arrivals) ++ arrival.time ∷ [])) (sym more)
+      (seen_more (times_of c (take n arrivals)) old arrival.time seen))
 
-pub seen_off : (c : Coming) (arrivals : List Arrival) (n : ℕ) (d : Arrival) (old new : Option Seen) → n < length arrivals
-    → is_of c (get_or arrivals n d) ≡ false → new ≡ old → AreSeen (times_of c (take n arrivals)) old → AreSeen (times_of c (take (n + 1) arrivals)) new
-seen_off c arrivals n d old new within is same seen =
-    let times = ap (times_of c) (take_more arrivals n d within) ∙ times_off c (take n arrivals) (get_or arrivals n d) is in
-    subst (λ (ts : List ℕ). AreSeen ts new) (sym times) (subst (AreSeen (times_of c (take n arrivals))) (sym same) seen)
+  pub seen_off : is_of c (get_or arrivals n d) ≡ false → new ≡ old → AreSeen (times_of c (take n arrivals)) old
+      → AreSeen (times_of c (take (n + 1) arrivals)) new
+  seen_off is same seen =
+      let times = ap (times_of c) (take_more arrivals n d within) ∙ times_off c (take n arrivals)
+      (get_or arrivals n d) is in
+      subst (λ ts. AreSeen ts new) (sym times)
+      (subst (AreSeen (times_of c (take n arrivals))) (sym same) seen)
 
 -- ---- what is told of lines
 
 pub none_told : (arrivals : List Arrival) (told : List Told) → told ≡ [] → AreTold arrivals [] told
 none_told arrivals told none = subst (AreTold arrivals []) (sym none) (record { of = refl; each = All-nil (IsTold arrivals) })
 
-pub told_more : (arrivals : List Arrival) (comings : List Coming) (n : ℕ) (d : Coming) (told new : List Told) (one : Told) → n < length comings
-    → one.coming ≡ get_or comings n d → IsTold arrivals one → new ≡ told ++ one ∷ [] → AreTold arrivals (take n comings) told
-    → AreTold arrivals (take (n + 1) comings) new
-told_more arrivals comings n d told new one within of is grown are =
+pub told_more : {arrivals : List Arrival} (comings : List Coming) (n : ℕ) (d : Coming) {told : List Told}
+    (new : List Told) (one : Told) → n < length comings → one.coming ≡ get_or comings n d → IsTold arrivals one
+    → new ≡ told ++ one ∷ [] → AreTold arrivals (take n comings) told → AreTold arrivals (take (n + 1) comings) new
+told_more {arrivals} comings n d {told} new one within of is grown are =
     let front : take (n + 1) comings ≡ take n comings ++ one.coming ∷ [] =
     take_more comings n d within ∙ ap (λ (c : Coming). take n comings ++ c ∷ []) (sym of) in
-    subst (λ (cs : List Coming). AreTold arrivals cs new) (sym front) (subst (AreTold arrivals (take n comings ++ one.coming ∷ [])) (sym grown) (record {
+    subst (λ cs. AreTold arrivals cs new) (sym front) (subst (AreTold arrivals (take n comings ++ one.coming ∷ [])) (sym grown) (record {
       of = map-append (λ (t : Told). t.coming) told (one ∷ []) ∙ ap (λ (cs : List Coming). cs ++ one.coming ∷ []) are.of;
       each = All-append (IsTold arrivals) told (one ∷ []) are.each (All-cons (IsTold arrivals) one [] is (All-nil (IsTold arrivals)));
     }))

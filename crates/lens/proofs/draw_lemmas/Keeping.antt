@@ -138,7 +138,7 @@ own_more {network} {subject} {octets} {ns} {before} {note} {flags} named next so
     let h = happening network earlier note in
     let flag = own_flag network subject flags note.body in
     let whole = happening_there network ns before next.rest note next.parts in
-    let linked = report_linked network octets ns next.end named next.report earlier whole.0 h whole.1 in
+    let linked = report_linked named next.report earlier whole.0 h whole.1 in
     let tells = next_own network hs earlier whole.0 h flags whole.1 subject linked so.each in
     let many = as_many network before in
     let so_many = so.count in

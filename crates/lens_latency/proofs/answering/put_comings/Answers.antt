@@ -18,7 +18,7 @@ comings-preserved g c =
     c.in-Ok.ensures.all in
     record {
       puts =
-          subst (λ (ls : List (List ℕ)). PutsLines ls (shown c.args.out.now) (shown c.put.new.self)) (sym lines)
+          subst (λ ls. PutsLines ls (shown c.args.out.now) (shown c.put.new.self)) (sym lines)
           (PutsLines-more (map (latency_line network) (take n all)) (latency_line network f) (shown c.args.out.now) (shown c.comings.out)
           (shown c.put.new.self) c.comings.invariant.puts whole c.put.ensures.counted);
       quiet = c.in-Ok.ensures.ok_unchanged ∙ c.comings.invariant.quiet;
@@ -38,9 +38,9 @@ returns-in-Err-clause-gives g c =
     let split : all ≡ take n all ++ f ∷ rest = sym (take-append-drop n all) ∙ ap (λ (fs : List Coming). take n all ++ fs) next.rest in
     let lines : map (latency_line network) all ≡ first ++ latency_line network f ∷ others =
     ap (λ (fs : List Coming). map (latency_line network) fs) split ∙ map-append (latency_line network) (take n all) (f ∷ rest) in
-    let front = subst (λ (bytes : List ℕ). AppendsFront (g.K.Sink.written c.comings.out) (g.K.Sink.written c.put.new.self) bytes) next.line
+    let front = subst (λ bytes. AppendsFront (g.K.Sink.written c.comings.out) (g.K.Sink.written c.put.new.self) bytes) next.line
     c.in-Err.ensures.front in
     let fails =
     PutsLines-fails first (latency_line network f) others (shown c.args.out.now) (shown c.comings.out) (shown c.put.new.self) c.comings.invariant.puts
     front c.put.ensures.counted in
-    inr (inl (refl, inl (subst (λ (ls : List (List ℕ)). PutFails ls (shown c.args.out.now) (shown c.put.new.self)) (sym lines) fails)))
+    inr (inl (refl, inl (subst (λ ls. PutFails ls (shown c.args.out.now) (shown c.put.new.self)) (sym lines) fails)))

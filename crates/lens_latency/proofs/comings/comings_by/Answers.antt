@@ -6,11 +6,11 @@ pub returns-clause-are : goal.returns-clause-are
 returns-clause-are c =
     let pushed = c.in_ok-push_comings.ensures in
     let same = pushed.2 ∙ ap (λ (xs : List Coming). xs ++ pushed.0) c.new-comings.ensures.items in
-    subst (λ (xs : List Coming). IsPartOf c.args.network.now c.args.vl.0 xs) (sym same) pushed.1
+    subst (λ xs. IsPartOf c.args.network.now c.args.vl.0 xs) (sym same) pushed.1
 
 pub returns-clause-names : goal.returns-clause-names
 returns-clause-names c =
     let pushed = c.in_ok-push_comings.ensures in
     let same = pushed.2 ∙ ap (λ (xs : List Coming). xs ++ pushed.0) c.new-comings.ensures.items in
-    let are = subst (λ (xs : List Coming). IsPartOf c.args.network.now c.args.vl.0 xs) (sym same) pushed.1 in
+    let are = subst (λ xs. IsPartOf c.args.network.now c.args.vl.0 xs) (sym same) pushed.1 in
     part_names c.args.network.now c.args.vl.0 c.push_comings.new.comings.items c.requires.vl are

@@ -5,12 +5,12 @@ use Rattle.lens_latency.proofs.seeing.told_by.Goals as goal
 pub returns-clause-names : goal.returns-clause-names
 returns-clause-names c =
     let network = c.args.network.now in
-    let comings = subst (λ (cs : List Coming). AreTold c.as_slice-2.result.now cs c.in_ok-told.told.items) c.as_slice.ensures.value c.in_ok-told.ensures in
+    let comings = subst (λ cs. AreTold c.as_slice-2.result.now cs c.in_ok-told.told.items) c.as_slice.ensures.value c.in_ok-told.ensures in
     told_names (HasNames network) c.in_ok-told.told.items (subst (All (HasNames network)) (sym comings.of) c.in_ok-comings.ensures.names)
 
 pub returns-clause-answer : goal.returns-clause-answer
 returns-clause-answer c notes end r =
-    let comings = subst (λ (cs : List Coming). AreTold c.as_slice-2.result.now cs c.in_ok-told.told.items) c.as_slice.ensures.value c.in_ok-told.ensures in
+    let comings = subst (λ cs. AreTold c.as_slice-2.result.now cs c.in_ok-told.told.items) c.as_slice.ensures.value c.in_ok-told.ensures in
     record {
       comings = c.in_ok-comings.comings.items;
       are = c.in_ok-comings.ensures.are;
@@ -18,6 +18,6 @@ returns-clause-answer c notes end r =
       arrive = c.in_ok-arrivals.ensures notes end r;
       told = c.in_ok-told.told.items;
       tell =
-          subst (λ (xs : List Arrival). AreTold xs c.in_ok-comings.comings.items c.in_ok-told.told.items) c.as_slice-2.ensures.value comings;
+          subst (λ xs. AreTold xs c.in_ok-comings.comings.items c.in_ok-told.told.items) c.as_slice-2.ensures.value comings;
       is = refl;
     }

@@ -7,7 +7,7 @@ rows-init c = none_first c.args.network.now (IsHop c.args.network.now c.args.vl 
 
 pub rows-preserved : goal.rows-preserved
 rows-preserved c =
-    none_next c.args.network.now (IsHop c.args.network.now c.args.vl c.args.channel c.args.hop) c.rows.number c.entry_of-entry.result c.rows.invariant
+    none_next (IsHop c.args.network.now c.args.vl c.args.channel c.args.hop) c.rows.invariant
     c.entry_of-entry.ensures.is (λ has. false≢true (c.if-is_hop.ensures.1 has))
 
 pub returns-clause-first : goal.returns-clause-first

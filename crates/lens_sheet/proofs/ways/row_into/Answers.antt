@@ -7,7 +7,7 @@ rows-init c = none_first c.args.network.now (Enters c.args.vl c.args.device)
 
 pub rows-preserved : goal.rows-preserved
 rows-preserved c =
-    none_next c.args.network.now (Enters c.args.vl c.args.device) c.rows.number c.entry_of-entry.result c.rows.invariant c.entry_of-entry.ensures.is
+    none_next (Enters c.args.vl c.args.device) c.rows.invariant c.entry_of-entry.ensures.is
     (λ has. false≢true (c.if-enters.ensures.1 has))
 
 pub returns-clause-first : goal.returns-clause-first
