@@ -32,38 +32,45 @@ sync_not other not = refl
 
 -- ---- what is told of a device
 
--- what is shown before the next unit of time is so after this one
-pub told_state : (s : Scenario) (hs : List Happening) (device : DeviceId) (t : ℕ) (shown : Shown) → Shows s (earlier (t + 1) hs) device shown
-    → shown.state ≡ state_after s (up_to t hs) device
-told_state s hs device t shown shows = shows.state ∙ ap (λ (xs : List Happening). state_after s xs device) (sym (up_to_is t hs))
+module _ {s : Scenario} (hs : List Happening) {device : DeviceId} (t : ℕ) {shown : Shown}
+    (shows : Shows s (earlier (t + 1) hs) device shown) where
+  -- what is shown before the next unit of time is so after this one
+  pub told_state : shown.state ≡ state_after s (up_to t hs) device
+  told_state = shows.state ∙ ap (λ xs. state_after s xs device) (sym (up_to_is t hs))
 
-pub told_adjustment : (s : Scenario) (hs : List Happening) (device : DeviceId) (t : ℕ) (shown : Shown) → Shows s (earlier (t + 1) hs) device shown
-    → shown.adjustment ≡ (adjustment_after s (up_to t hs) device).0
-told_adjustment s hs device t shown shows =
-    shows.adjustment ∙ ap (λ (xs : List Happening). (adjustment_after s xs device).0) (sym (up_to_is t hs))
+  pub told_adjustment : shown.adjustment ≡ (adjustment_after s (up_to t hs) device).0
+  told_adjustment =
+      shows.adjustment ∙ ap (λ xs. (adjustment_after s xs device).0) (sym (up_to_is t hs))
 
-pub told_broken : (s : Scenario) (hs : List Happening) (t : ℕ) (device : DeviceId) → is_broken s device t ≡ true → None ≡ clock_of s hs t device
-told_broken s hs t device broken =
-    sym (ap (λ (b : Bool). told_where b (is_synchronised (state_after s (up_to t hs) device)) (own_clock s hs t device)) broken)
+module _ (s : Scenario) (hs : List Happening) (t : ℕ) (device : DeviceId) where
+  pub told_broken : is_broken s device t ≡ true → None ≡ clock_of s hs t device
+  told_broken broken =
+      sym (ap (λ b. told_where b (is_synchronised (state_after s (up_to t hs) device))
+      (own_clock s hs t device)) broken)
 
-pub told_not : (s : Scenario) (hs : List Happening) (t : ℕ) (device : DeviceId) → is_broken s device t ≡ false
-    → (state_after s (up_to t hs) device ≡ Synchronised → ⊥) → None ≡ clock_of s hs t device
-told_not s hs t device correct not =
-    sym (ap (λ (b : Bool). told_where b (is_synchronised (state_after s (up_to t hs) device)) (own_clock s hs t device)) correct
-    ∙ ap (λ (b : Bool). told_where false b (own_clock s hs t device)) (sync_not (state_after s (up_to t hs) device) not))
+  pub told_not : is_broken s device t ≡ false → (state_after s (up_to t hs) device ≡ Synchronised → ⊥)
+      → None ≡ clock_of s hs t device
+  told_not correct not =
+      sym (ap (λ b. told_where b (is_synchronised (state_after s (up_to t hs) device))
+      (own_clock s hs t device)) correct
+      ∙ ap (λ b. told_where false b (own_clock s hs t device))
+      (sync_not (state_after s (up_to t hs) device) not))
 
-pub told_own : (s : Scenario) (hs : List Happening) (t : ℕ) (device : DeviceId) (v : ℤ) → is_broken s device t ≡ false
-    → state_after s (up_to t hs) device ≡ Synchronised → v ≡ local s hs device t → Some (record { device = device; local = v }) ≡ clock_of s hs t device
-told_own s hs t device v correct synchronised shows =
-    ap (λ (z : ℤ). Some (record { device = device; local = z })) shows
-    ∙ sym (ap (λ (b : Bool). told_where b (is_synchronised (state_after s (up_to t hs) device)) (own_clock s hs t device)) correct
-    ∙ ap (λ (state : State). told_where false (is_synchronised state) (own_clock s hs t device)) synchronised)
+  pub told_own : (v : ℤ) → is_broken s device t ≡ false → state_after s (up_to t hs) device ≡ Synchronised
+      → v ≡ local s hs device t → Some (record { device = device; local = v }) ≡ clock_of s hs t device
+  told_own v correct synchronised shows =
+      ap (λ (z : ℤ). Some (record { device = device; local = z })) shows
+      ∙ sym (ap (λ b. told_where b (is_synchronised (state_after s (up_to t hs) device))
+      (own_clock s hs t device)) correct
+      ∙ ap (λ state. told_where false (is_synchronised state) (own_clock s hs t device)) synchronised)
 
-told_is : (s : Scenario) (hs : List Happening) (t : ℕ) (device : DeviceId) (c : Clock) → clock_of s hs t device ≡ Some c
-    → (is_broken s device t ≡ false) × (state_after s (up_to t hs) device ≡ Synchronised) × (own_clock s hs t device ≡ c)
-told_is s hs t device c e =
-    let w = where_of (is_broken s device t) (is_synchronised (state_after s (up_to t hs) device)) (own_clock s hs t device) c e in
-    (w.0, is_in (state_after s (up_to t hs) device) w.1, w.2)
+  told_is : (c : Clock) → clock_of s hs t device ≡ Some c
+      → (is_broken s device t ≡ false) × (state_after s (up_to t hs) device ≡ Synchronised)
+      × (own_clock s hs t device ≡ c)
+  told_is c e =
+      let w = where_of (is_broken s device t) (is_synchronised (state_after s (up_to t hs) device))
+      (own_clock s hs t device) c e in
+      (w.0, is_in (state_after s (up_to t hs) device) w.1, w.2)
 
 -- ---- among all
 
@@ -86,7 +93,7 @@ of_one s hs t (suc n) c i =
           let is = only (clock_of s hs t (record { 0 = n })) c last in
           let own = ap (λ (x : Clock). x.device) (told_is s hs t (record { 0 = n }) c is).2 in
           let number : n ≡ c.device.0 = ap (λ (d : DeviceId). d.0) own in
-          (omega (arith, number), subst (λ (d : DeviceId). clock_of s hs t d ≡ Some c) own is)
+          (omega (arith, number), subst (λ d. clock_of s hs t d ≡ Some c) own is)
     ]
 
 of_all : (s : Scenario) (hs : List Happening) (t n : ℕ) (c : Clock) → c.device.0 < n → clock_of s hs t c.device ≡ Some c → IsIn c (clocks_of s hs t n)

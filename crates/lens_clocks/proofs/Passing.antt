@@ -20,7 +20,7 @@ module _ (s : Scenario) (hs : List Happening) where
       elim (cases_lt m n) [
         | inl same ↦
             let all : suc m ≡ n = omega (arith, same, le) in
-            ([], ap (λ (k : ℕ). lines_to s hs k) all ∙ sym (append-nil (lines_to s hs n)))
+            ([], ap (λ k. lines_to s hs k) all ∙ sym (append-nil (lines_to s hs n)))
         | inr less ↦
             let h = front n m less in
             let last = cycle_lines s hs (suc m) in
@@ -31,17 +31,17 @@ module _ (s : Scenario) (hs : List Happening) where
       → PutsLines (lines_to s hs (n + 1)) a c
   cycles_more n a b c p q =
       let next : n + 1 ≡ suc n = omega arith in
-      subst (λ (k : ℕ). PutsLines (lines_to s hs k) a c) (sym next)
-      (PutsLines-append (lines_to s hs n) (cycle_lines s hs (suc n)) a b c p (subst (λ (k : ℕ). PutsLines (cycle_lines s hs k) b c) next q))
+      subst (λ k. PutsLines (lines_to s hs k) a c) (sym next)
+      (PutsLines-append (lines_to s hs n) (cycle_lines s hs (suc n)) a b c p (subst (λ k. PutsLines (cycle_lines s hs k) b c) next q))
 
   pub cycles_fail : (n count : ℕ) (a b c : Shown) → n < count → PutsLines (lines_to s hs n) a b → PutFails (cycle_lines s hs (n + 1)) b c
       → PutFails (lines_to s hs count) a c
   cycles_fail n count a b c lt p q =
       let next : n + 1 ≡ suc n = omega arith in
       let h = front (suc n) count (omega (arith, lt)) in
-      subst (λ (ls : List (List ℕ)). PutFails ls a c) (sym h.1)
+      subst (λ ls. PutFails ls a c) (sym h.1)
       (PutFails-more (lines_to s hs (suc n)) h.0 a c
-      (PutFails-behind (lines_to s hs n) (cycle_lines s hs (suc n)) a b c p (subst (λ (k : ℕ). PutFails (cycle_lines s hs k) b c) next q)))
+      (PutFails-behind (lines_to s hs n) (cycle_lines s hs (suc n)) a b c p (subst (λ k. PutFails (cycle_lines s hs k) b c) next q)))
 
   pub cycles_some : (n count : ℕ) (a b : Shown) → n < count → PutsLines (lines_to s hs n) a b → PutsSome (lines_to s hs count) a b
   cycles_some n count a b lt p = let h = front n count (omega (arith, lt)) in record { done = lines_to s hs n; left = h.0; order = h.1; puts = p }

@@ -13,7 +13,7 @@ returns-in-Err-clause-gives g c befallen hs known =
     inr (inr (
       inr refl,
       cycles_some s hs c.cycles.before (cycles_by s c.args.until) (shown_by g.K.Sink c.args.out.now) (shown_by g.K.Sink c.cycles.out)
-          (subst (λ (n : ℕ). c.cycles.before < n) count c.cycles-test.true) (c.cycles.invariant.puts befallen hs known),
+          (subst (λ n. c.cycles.before < n) count c.cycles-test.true) (c.cycles.invariant.puts befallen hs known),
     ))
 
 pub returns-in-Err-put_told-clause-gives : goal.returns-in-Err-put_told-clause-gives
@@ -28,8 +28,8 @@ returns-in-Err-put_told-clause-gives g c befallen hs known =
     inr (inl (
       refl,
       inl (cycles_fail s hs n (cycles_by s c.args.until) (shown_by g.K.Sink c.args.out.now) now new
-          (subst (λ (k : ℕ). n < k) count c.cycles-test.true) (c.cycles.invariant.puts befallen hs known)
-          (subst (λ (cs : List Clock). PutFails (told_lines c.args.network.now (n + 1) cs) now new) clocks c.in-Err-put_told.ensures.puts)),
+          (subst (λ k. n < k) count c.cycles-test.true) (c.cycles.invariant.puts befallen hs known)
+          (subst (λ cs. PutFails (told_lines c.args.network.now (n + 1) cs) now new) clocks c.in-Err-put_told.ensures.puts)),
     ))
 
 pub cycles-preserved : goal.cycles-preserved
@@ -44,7 +44,7 @@ cycles-preserved g c =
           let clocks : c.as_slice.result.now ≡ clocks_at s hs ((n + 1) * _) =
           c.as_slice.ensures.value ∙ c.in-Ok.ensures.are befallen hs known ∙ ap (λ (k : ℕ). clocks_at s hs ((n + 1) * k)) c.amount-cycle.ensures.value in
           cycles_more s hs n (shown_by g.K.Sink c.args.out.now) now new (c.cycles.invariant.puts befallen hs known)
-          (subst (λ (cs : List Clock). PutsLines (told_lines c.args.network.now (n + 1) cs) now new) clocks c.in-Ok-put_told.ensures.puts);
+          (subst (λ cs. PutsLines (told_lines c.args.network.now (n + 1) cs) now new) clocks c.in-Ok-put_told.ensures.puts);
       quiet = c.in-Ok-put_told.ensures.faults ∙ c.cycles.invariant.quiet;
     }
 
@@ -56,4 +56,4 @@ returns-clause-gives g c befallen hs known =
     let all : c.cycles.before ≡ c.args.until / c.amount-cycle.result = omega (arith, c.cycles-test.false, c.cycles.auto.before-end) in
     let count : c.cycles.before ≡ cycles_by s c.args.until = all ∙ ap (λ (n : ℕ). c.args.until / n) c.amount-cycle.ensures.value in
     Ends-gives (lines_to s hs (cycles_by s c.args.until)) Done c.end_with.result old now (shown_by g.K.Sink c.end_with.new.out)
-    (subst (λ (n : ℕ). PutsLines (lines_to s hs n) old now) count (c.cycles.invariant.puts befallen hs known)) c.end_with.ensures.ends
+    (subst (λ n. PutsLines (lines_to s hs n) old now) count (c.cycles.invariant.puts befallen hs known)) c.end_with.ensures.ends

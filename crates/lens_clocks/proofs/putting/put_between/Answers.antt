@@ -20,4 +20,4 @@ returns-clause-puts g c =
     let lines = λ (least : ℤ). map (clock_line c.args.network.now c.args.number least) c.args.clocks.now in
     let put = subst (λ (z : ℤ). PutsLines (lines z) old now) (to_z-of_z w128 c.args.ends.least (search rules)) c.in-Ok.ensures.puts in
     subst (λ (line : List ℕ). Puts (lines c.args.ends.least ++ line ∷ []) c.put.result old new) (c.as_slice.ensures ∙ c.make_spread_line.ensures)
-    (puts_last (lines c.args.ends.least) c.as_slice.result.now c.put.result old now new put c.put.ensures.all c.put.ensures.front c.put.ensures.counted)
+    (puts_last c.as_slice.result.now c.put.result new put c.put.ensures.all c.put.ensures.front c.put.ensures.counted)

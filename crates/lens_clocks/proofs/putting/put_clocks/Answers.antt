@@ -19,7 +19,7 @@ returns-in-Err-clause-puts g c =
     let old = shown_by g.K.Sink c.args.out.now in
     let new = shown_by g.K.Sink c.put.new.self in
     let line_of = clock_line c.args.network.now c.args.number in
-    subst (λ (least : ℤ). PutFails (map (line_of least) c.args.clocks.now) old new) (to_z-of_z w128 c.args.least (search rules))
+    subst (λ least. PutFails (map (line_of least) c.args.clocks.now) old new) (to_z-of_z w128 c.args.least (search rules))
     (lines_fail (line_of (to_z w128 (of_z w128 c.args.least))) c.args.clocks.now c.clocks.clock-index _ c.as_slice.result.now c.clocks-test.true
     (c.as_slice.ensures ∙ c.make_clock_line.ensures) old (shown_by g.K.Sink c.clocks.out) new c.clocks.invariant.puts c.in-Err.ensures.front
     c.put.ensures.counted)

@@ -16,7 +16,8 @@ returns-in-None-clause-puts g c =
     let shown = shown_by g.K.Sink in
     let old = shown c.args.out.now in
     let new = shown c.put.new.self in
-    subst (λ (ends : Option Ends). Puts (lines_between c.args.network.now c.args.number ends c.args.clocks.now) c.put.result old new)
+    subst (λ ends. Puts (lines_between c.args.network.now c.args.number ends c.args.clocks.now) c.put.result old new)
     (sym c.in-None.is ∙ c.ends_of.ensures)
     (subst (λ (line : List ℕ). Puts (line ∷ []) c.put.result old new) (c.as_slice.ensures ∙ c.make_spread_line.ensures)
-    (puts_last [] c.as_slice.result.now c.put.result old old new (PutsLines-none old) c.put.ensures.all c.put.ensures.front c.put.ensures.counted))
+    (puts_last c.as_slice.result.now c.put.result new (PutsLines-none old) c.put.ensures.all c.put.ensures.front
+    c.put.ensures.counted))

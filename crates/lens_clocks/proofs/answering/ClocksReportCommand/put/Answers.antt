@@ -20,7 +20,7 @@ put_cycles-requires-clause-limit g c =
     let some = c.requires.read.some in
     let soon = end_soon network octets some.0 some.1 some.2 in
     let until = c.unsigned_abs-until.ensures.value ∙ ap (λ (z : ℤ). unsigned_abs z) (to_z-of_z w64 c.args.report.now.index.end.0 (search rules))
-    ∙ ap (λ (u : Units). amount u)
+    ∙ ap (λ u. amount u)
     (sym (end_same network octets some.0 some.1 some.2 (c.requires.read.index some.0 some.1 some.2))) in
     omega (arith, until, soon)
 
@@ -32,10 +32,10 @@ returns-clause-gives g c notes end r =
     let s = scenario_of network notes in
     let hs = happenings network notes in
     let until = c.unsigned_abs-until.ensures.value ∙ ap (λ (z : ℤ). unsigned_abs z) (to_z-of_z w64 c.args.report.now.index.end.0 (search rules))
-    ∙ ap (λ (u : Units). amount u) (sym (end_same network c.args.report.now.octets notes end r shows)) in
+    ∙ ap (λ u. amount u) (sym (end_same network c.args.report.now.octets notes end r shows)) in
     inl (
       clocks_answer s hs (amount end),
       refl,
-      subst (λ (n : ℕ). Gives (clocks_answer s hs n) c.put_cycles.result (shown c.args.out.now) (shown c.put_cycles.new.out)) until
+      subst (λ n. Gives (clocks_answer s hs n) c.put_cycles.result (shown c.args.out.now) (shown c.put_cycles.new.out)) until
           (c.put_cycles.ensures.gives (events_of notes) hs shows),
     )
