@@ -65,7 +65,8 @@ answer_one one words (Some Latency) range octets report a b p q =
     network_answer_one one IsLatencyOf octets (λ network accepted. latency_one network) a b p q
 answer_one one words (Some Schedule) range octets report a b p q =
     network_answer_one one (IsScheduleOf words) octets
-    (λ network accepted x y. schedule_one words network x y one_entry (rules_give_trees network (shape_rules network accepted.rules)))
+    (λ network accepted x y. schedule_one {words = words} {a = x} {b = y} one_entry
+    (rules_give_trees network (shape_rules network accepted.rules)))
     a b p q
 answer_one one words (Some Plan) range octets messages a b p q =
     network_answer_one one (IsPlanFor messages octets) octets

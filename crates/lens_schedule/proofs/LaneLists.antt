@@ -14,20 +14,20 @@ none_at : (lane : Lane) (has : Bool) (old : List Lane) → has ≡ false → old
 none_at lane false old is = nothing_more old
 none_at lane true old is = absurd (false≢true (sym is))
 
--- a port by which no row leaves has none
-pub no_lane : (network : Network) (entries : List Entry) (n : ℕ) (old : List Lane) → list_any (leaves_by n) entries ≡ false
-    → old ≡ old ++ lane_at network entries n
-no_lane network entries n old is = none_at (lane_of network entries n) (list_any (leaves_by n) entries) old is
+module _ (network : Network) (entries : List Entry) where
+  -- a port by which no row leaves has none
+  pub no_lane : (n : ℕ) (old : List Lane) → list_any (leaves_by n) entries ≡ false
+      → old ≡ old ++ lane_at network entries n
+  no_lane n old is = none_at (lane_of network entries n) (list_any (leaves_by n) entries) old is
 
-at_most_one : (network : Network) (entries : List Entry) (n : ℕ) (has : Bool) → list_any (leaves_by n) entries ≡ has
-    → length (lane_at network entries n) ≤ 1
-at_most_one network entries n true is = rw is (omega arith)
-at_most_one network entries n false is = rw is (omega arith)
+  at_most_one : (n : ℕ) (has : Bool) → list_any (leaves_by n) entries ≡ has → length (lane_at network entries n) ≤ 1
+  at_most_one n true is = rw is (omega arith)
+  at_most_one n false is = rw is (omega arith)
 
--- each has a lane or none
-pub few_lanes : (network : Network) (entries : List Entry) (n : ℕ) → length (lanes_below network entries n) ≤ n
-few_lanes network entries zero = omega arith
-few_lanes network entries (suc n) =
-    let before = few_lanes network entries n in
-    let here = at_most_one network entries n (list_any (leaves_by n) entries) refl in
-    omega (arith, before, here, length-append (lanes_below network entries n) (lane_at network entries n))
+  -- each has a lane or none
+  pub few_lanes : (n : ℕ) → length (lanes_below network entries n) ≤ n
+  few_lanes zero = omega arith
+  few_lanes (suc n) =
+      let before = few_lanes n in
+      let here = at_most_one n (list_any (leaves_by n) entries) refl in
+      omega (arith, before, here, length-append (lanes_below network entries n) (lane_at network entries n))

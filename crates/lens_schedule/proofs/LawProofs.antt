@@ -28,10 +28,10 @@ turned e f same =
     ap (λ (m : ℕ). f.vl.phase % m) (sym turn) ∙ sym same ∙ ap (λ (m : ℕ). e.vl.phase % m) turn
 
 -- two rows of one port, of which the first stands first in the file
-in_order : (network : Network) (j k : ℕ) (first second : Entry) → KeepsRules network → IsEntry network j first → IsEntry network k second → j < k
-    → first.row.link ≡ second.row.link → first.row.way ≡ second.row.way → Coincide first.vl second.vl
-    → IsClearBefore network first second ⊎ IsClearBefore network second first
-in_order network j k first second keeps is its lt link way meet =
+in_order : {network : Network} {j k : ℕ} {first second : Entry} → KeepsRules network → IsEntry network j first
+    → IsEntry network k second → j < k → first.row.link ≡ second.row.link → first.row.way ≡ second.row.way
+    → Coincide first.vl second.vl → IsClearBefore network first second ⊎ IsClearBefore network second first
+in_order {j} {k} {first} {second} keeps is its lt link way meet =
     keeps Spacing k j first second lt is its (sym link) (sym way) (turned first second meet)
 
 clear : (network : Network) (scale : Scale) (at : Point) (first second : Entry) → IsClearBefore network first second
@@ -54,16 +54,17 @@ turn (inr q) = inl q
 pub boxes_apart : BoxesStandApart
 boxes_apart network scale at j k first second keeps is its not link way meet =
     elim (cases_lt j k) [
-      | inl lt ↦ either network scale at first second (in_order network j k first second keeps is its lt link way meet)
+      | inl lt ↦ either network scale at first second (in_order keeps is its lt link way meet)
       | inr ge ↦
           let lt : k < j = omega (arith, ge, not) in
-          either network scale at first second (turn (in_order network k j second first keeps its is lt (sym link) (sym way)
+          either network scale at first second (turn (in_order keeps its is lt (sym link) (sym way)
           (turned first second meet)))
     ]
 
 -- a frame arrives so late that its window begins in the cycle
-begun : (network : Network) (k : ℕ) (entry : Entry) → KeepsRules network → IsEntry network k entry → tolerance network ≤ arrival_of entry
-begun network k entry keeps is =
+begun : {network : Network} {k : ℕ} {entry : Entry} → KeepsRules network → IsEntry network k entry
+    → tolerance network ≤ arrival_of entry
+begun {network} {k} {entry} keeps is =
     let some = (beta_exists network (rules_give_trees network (shape_rules network keeps))).1 in
     let beta = beta_at network some.jitter some.links in
     let fits = (keeps Precision 0).errors beta (subst (IsBeta network) some.value some) in
@@ -75,5 +76,5 @@ begun network k entry keeps is =
 -- the window that is drawn is that of the receiver
 pub windows_those : WindowsAreThose
 windows_those network scale at k entry range keeps is =
-    let late = begun network k entry keeps is in
+    let late = begun keeps is in
     (omega (arith, ints, late), refl)

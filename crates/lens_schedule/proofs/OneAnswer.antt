@@ -9,10 +9,11 @@ use Rattle.std.{proofs.lemmas.{List.ext_get_or, Option.slice_get-get_or}}
 use Rattle.tte_units.specs.declared.frames.channel.Channel.TheVariants.{A, B}
 
 -- the rows have one list of entries
-pub entries_once : (network : Network) (es fs : List Entry) → EntryIsOne → AreEntries network es → AreEntries network fs → es ≡ fs
-entries_once network [] [] one p q = refl
-entries_once network [] (f ∷ fs) one p q = absurd (omega (arith, p.count, q.count))
-entries_once network (e ∷ es) fs one p q =
+pub entries_once : {network : Network} (es fs : List Entry) → EntryIsOne → AreEntries network es
+    → AreEntries network fs → es ≡ fs
+entries_once [] [] one p q = refl
+entries_once [] (f ∷ fs) one p q = absurd (omega (arith, p.count, q.count))
+entries_once {network} (e ∷ es) fs one p q =
     let long : length (e ∷ es) ≡ length fs = p.count ∙ sym q.count in
     ext_get_or e (e ∷ es) fs long
     (λ i lt.
@@ -20,15 +21,16 @@ entries_once network (e ∷ es) fs one p q =
     (q.each i (get_or fs i e) (slice_get-get_or fs i e (omega (arith, lt, long)))))
 
 -- and one picture
-picture_once : (network : Network) (entries : List Entry) (ps qs : List Part) → IsTree network → IsPicture network entries ps
-    → IsPicture network entries qs → ps ≡ qs
-picture_once network entries ps qs tree p q =
+picture_once : {network : Network} {entries : List Entry} {ps qs : List Part} → IsTree network
+    → IsPicture network entries ps → IsPicture network entries qs → ps ≡ qs
+picture_once {network} {entries} tree p q =
     let a = twigs_once network A (length network.device) p.a q.a paths_are_unique tree p.of_a q.of_a in
     let b = twigs_once network B (length network.device) p.b q.b paths_are_unique tree p.of_b q.of_b in
-    p.is ∙ ap (λ (ts : List Twig). picture_of network entries ts p.b) a ∙ ap (λ (ts : List Twig). picture_of network entries q.a ts) b ∙ sym q.is
+    p.is ∙ ap (λ ts. picture_of network entries ts p.b) a ∙ ap (λ ts. picture_of network entries q.a ts) b ∙ sym q.is
 
-pub schedule_one : (words : List (List ℕ)) (network : Network) (a b : Answer) → EntryIsOne → IsTree network → IsScheduleOf words network a → IsScheduleOf words network b → a ≡ b
-schedule_one words network a b one tree p q =
-    let rows = entries_once network p.entries q.entries one p.rows q.rows in
-    let first : IsPicture network q.entries p.parts = subst (λ (es : List Entry). IsPicture network es p.parts) rows p.picture in
-    p.is ∙ ap (picture_answer network (title_of words)) (picture_once network q.entries p.parts q.parts tree first q.picture) ∙ sym q.is
+pub schedule_one : {words : List (List ℕ)} {network : Network} {a b : Answer} → EntryIsOne → IsTree network
+    → IsScheduleOf words network a → IsScheduleOf words network b → a ≡ b
+schedule_one {words} {network} one tree p q =
+    let rows = entries_once p.entries q.entries one p.rows q.rows in
+    let first : IsPicture network q.entries p.parts = subst (λ es. IsPicture network es p.parts) rows p.picture in
+    p.is ∙ ap (picture_answer network (title_of words)) (picture_once tree first q.picture) ∙ sym q.is

@@ -16,9 +16,9 @@ map_in : {X Y : Type 0} (f : X → Y) (xs : List X) (x : X) → Contains xs x �
 map_in f xs x at = (at.0, omega (arith, at.1, length-map xs f), get_or-map f xs at.0 x ∙ ap f at.2)
 
 -- the row stands among the entries
-in_entries : (network : Network) (entries : List Entry) (k : ℕ) (entry : Entry) → AreEntries network entries → IsEntry network k entry
-    → Contains entries entry
-in_entries network entries k entry are is =
+in_entries : {network : Network} {entries : List Entry} {k : ℕ} {entry : Entry} → AreEntries network entries
+    → IsEntry network k entry → Contains entries entry
+in_entries {network} {entries} {k} {entry} are is =
     let within = slice_get_within network.row k entry.row is.row in
     let lt : k < length entries = omega (arith, within, are.count) in
     let same =
@@ -55,7 +55,7 @@ in_lanes network entries port (suc n) any lt =
           let same : port ≡ n = omega (arith, lt, ge) in
           let here : Contains (lane_at network entries port) lane = with_lane lane (list_any (leaves_by port) entries) any in
           Contains-append_right (lanes_below network entries n) (lane_at network entries n) lane
-          (subst (λ (m : ℕ). Contains (lane_at network entries m) lane) same here)
+          (subst (λ m. Contains (lane_at network entries m) lane) same here)
     ]
 
 of_two : (b : Bool) (ps qs : List Part) (part : Part) → b ≡ false → Contains qs part → Contains (if b then ps else qs) part
@@ -83,9 +83,10 @@ in_picture network entries a b part at =
     Contains-append_left (before ++ cycle) (Close ∷ []) part (Contains-append_right before cycle part at)
 
 -- a part of the picture has its line
-in_lines : (words : List (List ℕ)) (network : Network) (a : Answer) (of : IsScheduleOf words network a) (part : Part)
-    → Contains (picture_of network of.entries of.picture.a of.picture.b) part → Contains a.lines (part_line network (title_of words) part)
-in_lines words network a of part at =
+in_lines : {words : List (List ℕ)} {network : Network} {a : Answer} (of : IsScheduleOf words network a) (part : Part)
+    → Contains (picture_of network of.entries of.picture.a of.picture.b) part
+    → Contains a.lines (part_line network (title_of words) part)
+in_lines {words} {network} {a} of part at =
     let whole = picture_of network of.entries of.picture.a of.picture.b in
     let lines : a.lines ≡ map (part_line network (title_of words)) whole =
     ap (λ (x : Answer). x.lines) of.is ∙ ap (λ (ps : List Part). map (part_line network (title_of words)) ps) of.picture.is in
@@ -97,7 +98,7 @@ rows_shown words network a of k entry is =
     let lanes = lanes_of network entries in
     let sheet = sheet_of network lanes of.picture.a of.picture.b in
     let scale = scale_of network entries in
-    let here = in_entries network entries k entry of.rows is in
+    let here = in_entries of.rows is in
     let port = port_number entry.row.link entry.row.way in
     let lane = lane_of network entries port in
     let box = frame_part network scale lanes sheet.top entry in
@@ -113,12 +114,12 @@ rows_shown words network a of k entry is =
     Contains-append_left (zones ++ rails) boxes (lane_part lanes sheet.top lane)
     (Contains-append_right zones rails (lane_part lanes sheet.top lane) (map_in (lane_part lanes sheet.top) lanes lane with)) in
     let show : (part : Part) → Contains (full_parts network scale entries lanes sheet) part → Contains a.lines (part_line network (title_of words) part) =
-    λ part at. in_lines words network a of part
+    λ part at. in_lines of part
     (in_picture network entries of.picture.a of.picture.b part (in_cycle network entries lanes sheet entry part here at)) in
     let same : lane_place lanes sheet.top lane.column (port_number lane.link lane.way)
     ≡ lane_place lanes sheet.top (column_by network entry.row.link) port =
-    ap (λ (l : LinkId). lane_place lanes sheet.top (column_by network l) (port_number l lane.way)) (link_back entry.row.link entry.row.way)
-    ∙ ap (λ (w : Way). lane_place lanes sheet.top (column_by network entry.row.link) (port_number entry.row.link w))
+    ap (λ l. lane_place lanes sheet.top (column_by network l) (port_number l lane.way)) (link_back entry.row.link entry.row.way)
+    ∙ ap (λ w. lane_place lanes sheet.top (column_by network entry.row.link) (port_number entry.row.link w))
     (way_back entry.row.link entry.row.way) in
     record {
       at = lane_place lanes sheet.top (column_by network entry.row.link) port;
@@ -126,5 +127,5 @@ rows_shown words network a of k entry is =
       lane = lane;
       link = link_back entry.row.link entry.row.way;
       way = way_back entry.row.link entry.row.way;
-      of_port = subst (λ (p : Point). Contains a.lines (lane_line network lane p)) same (show (lane_part lanes sheet.top lane) railed);
+      of_port = subst (λ p. Contains a.lines (lane_line network lane p)) same (show (lane_part lanes sheet.top lane) railed);
     }

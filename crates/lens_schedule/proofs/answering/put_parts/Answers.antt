@@ -19,7 +19,7 @@ parts-preserved g c =
     c.in-Ok.ensures.all in
     record {
       puts =
-          subst (λ (ls : List (List ℕ)). PutsLines ls (shown c.args.out.now) (shown c.put.new.self)) (sym lines)
+          subst (λ ls. PutsLines ls (shown c.args.out.now) (shown c.put.new.self)) (sym lines)
           (PutsLines-more (map (part_line network title) (take n all)) (part_line network title f) (shown c.args.out.now) (shown c.parts.out)
           (shown c.put.new.self) c.parts.invariant.puts whole c.put.ensures.counted);
       quiet = c.in-Ok.ensures.ok_unchanged ∙ c.parts.invariant.quiet;
@@ -40,9 +40,9 @@ returns-in-Err-clause-gives g c =
     let split : all ≡ take n all ++ f ∷ rest = sym (take-append-drop n all) ∙ ap (λ (fs : List Part). take n all ++ fs) next.rest in
     let lines : map (part_line network title) all ≡ first ++ part_line network title f ∷ others =
     ap (λ (fs : List Part). map (part_line network title) fs) split ∙ map-append (part_line network title) (take n all) (f ∷ rest) in
-    let front = subst (λ (bytes : List ℕ). AppendsFront (g.K.Sink.written c.parts.out) (g.K.Sink.written c.put.new.self) bytes) next.line
+    let front = subst (λ bytes. AppendsFront (g.K.Sink.written c.parts.out) (g.K.Sink.written c.put.new.self) bytes) next.line
     c.in-Err.ensures.front in
     let fails =
     PutsLines-fails first (part_line network title f) others (shown c.args.out.now) (shown c.parts.out) (shown c.put.new.self) c.parts.invariant.puts
     front c.put.ensures.counted in
-    inr (inl (refl, inl (subst (λ (ls : List (List ℕ)). PutFails ls (shown c.args.out.now) (shown c.put.new.self)) (sym lines) fails)))
+    inr (inl (refl, inl (subst (λ ls. PutFails ls (shown c.args.out.now) (shown c.put.new.self)) (sym lines) fails)))

@@ -13,14 +13,13 @@ picture_of-requires-clause-links g c =
 pub picture_of-requires-clause-few : goal.picture_of-requires-clause-few
 picture_of-requires-clause-few g c =
     let keeps = subst KeepsRules (sym c.network-network.ensures.value) c.network-network.ensures.rules in
-    subst (λ (es : List Entry). length es ≤ 1024) (sym c.as_slice.ensures.value)
-    (most_rows c.network-network.result.now c.in-Ok.entries.items keeps c.in-Ok.ensures)
+    subst (λ es. length es ≤ 1024) (sym c.as_slice.ensures.value) (most_rows keeps c.in-Ok.ensures)
 
 pub picture_of-requires-clause-rows : goal.picture_of-requires-clause-rows
 picture_of-requires-clause-rows g c =
     let range = subst IsInRange (sym c.network-network.ensures.value) c.network-network.ensures.range in
     subst (All (IsEntryInRange c.network-network.result.now)) (sym c.as_slice.ensures.value)
-    (all_in_range c.network-network.result.now c.in-Ok.entries.items c.entries_law.ensures.range range c.in-Ok.ensures)
+    (all_in_range c.entries_law.ensures.range range c.in-Ok.ensures)
 
 pub returns-in-Ok-picture_of-clause-gives : goal.returns-in-Ok-picture_of-clause-gives
 returns-in-Ok-picture_of-clause-gives g c =
@@ -31,10 +30,10 @@ returns-in-Ok-picture_of-clause-gives g c =
     let entries = c.in-Ok.entries.items in
     let parts = c.in-Ok-picture_of.parts.items in
     let title = title_of c.args.words.now in
-    let picture = subst (λ (es : List Entry). IsPicture n es parts) c.as_slice.ensures.value c.in-Ok-picture_of.ensures in
+    let picture = subst (λ es. IsPicture n es parts) c.as_slice.ensures.value c.in-Ok-picture_of.ensures in
     let gives =
-    subst (λ (t : List ℕ). Gives (picture_answer n t parts) status old new) c.of-title.ensures
-    (subst (λ (ps : List Part). Gives (picture_answer n c.of-title.result ps) status old new) c.as_slice-in-Ok-picture_of.ensures.value
+    subst (λ t. Gives (picture_answer n t parts) status old new) c.of-title.ensures
+    (subst (λ ps. Gives (picture_answer n c.of-title.result ps) status old new) c.as_slice-in-Ok-picture_of.ensures.value
     c.put_parts.ensures.gives) in
-    subst (λ (m : Network). GivesAnswer (IsScheduleOf c.args.words.now m) status old new) c.network-network.ensures.value
+    subst (λ m. GivesAnswer (IsScheduleOf c.args.words.now m) status old new) c.network-network.ensures.value
     (inl (picture_answer n title parts, record { entries = entries; rows = c.in-Ok.ensures; parts = parts; picture = picture; is = refl }, gives))

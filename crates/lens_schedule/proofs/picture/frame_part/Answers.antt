@@ -8,6 +8,6 @@ returns c =
     let lanes = c.args.lanes.now in
     let entry = c.args.entry.now in
     let at = c.lane_place-at.ensures
-    ∙ ap (λ (x : ℕ). lane_place lanes c.args.top x c.port_number-port.result) c.column_by.ensures
-    ∙ ap (λ (n : ℕ). lane_place lanes c.args.top (column_by network entry.row.link) n) c.port_number-port.ensures.value in
-    ap Frame (c.frame_of.ensures ∙ ap (λ (p : Point). frame_of network c.args.scale p entry) at)
+    ∙ ap (λ x. lane_place lanes c.args.top x c.port_number-port.result) c.column_by.ensures
+    ∙ ap (λ n. lane_place lanes c.args.top (column_by network entry.row.link) n) c.port_number-port.ensures.value in
+    ap Frame (c.frame_of.ensures ∙ ap (λ p. frame_of network c.args.scale p entry) at)
