@@ -5,9 +5,10 @@ use Rattle.tte_forms.specs.{Answering.{Answer, Gives, with_line}, Putting.Shown,
 use Rattle.tte_io.specs.{Faults.next_count, Told.AppendsFront}
 
 -- it was put, and then the others
-pub gives_then : (line : List ℕ) (a : Answer) (status : Status) (old now new : Shown) → Appends old.written now.written line
-    → now.puts ≡ next_count old.puts → Gives a status now new → Gives (with_line line a) status old new
-gives_then line a status old now new whole counted gives =
+pub gives_then : (line : List ℕ) (a : Answer) (status : Status) (old : Shown) {now new : Shown}
+    → Appends old.written now.written line → now.puts ≡ next_count old.puts → Gives a status now new
+    → Gives (with_line line a) status old new
+gives_then line a status old {now} {new} whole counted gives =
     Gives-behind (line ∷ []) a status old now new (PutsLines-more [] line old old now (PutsLines-none old) whole counted) gives
 
 -- it was not

@@ -25,9 +25,10 @@ first_words number time body rest = simp append_assoc refl
 empty_low : IsNoWord []
 empty_low c rest same = absurd (omega (arith, ap length same))
 
-report_low : (network : Network) (notes : List Note) → AreOfNetwork network notes → IsNoWord (concat (report_of network notes))
-report_low network [] records = empty_low
-report_low network (n ∷ notes) records =
+report_low : {network : Network} (notes : List Note) → AreOfNetwork network notes
+    → IsNoWord (concat (report_of network notes))
+report_low [] records = empty_low
+report_low {network} (n ∷ notes) records =
     let time = signed_decimal n.time.0 in
     let body = body_text network n.body in
     let behind = concat (report_of network notes) in
@@ -43,14 +44,15 @@ between first last one two other second same =
     append_cancel_right (one ++ two) (other ++ second) end
     (append_assoc one two end ∙ append_cancel_left first (one ++ (two ++ end)) (other ++ (second ++ end)) same ∙ sym (append_assoc other second end))
 
-pub same_pages : (first last : List ℕ) (network other : Network) (notes others : List Note) → IsInRange network → IsInRange other
-    → AreOfNetwork network notes → AreOfNetwork other others
+pub same_pages : (first last : List ℕ) {network other : Network} {notes others : List Note} → IsInRange network
+    → IsInRange other → AreOfNetwork network notes → AreOfNetwork other others
     → concat (first ∷ network_text network ∷ concat (report_of network notes) ∷ last ∷ [])
     ≡ concat (first ∷ network_text other ∷ concat (report_of other others) ∷ last ∷ [])
-    → AreSame (network_lines network) (network_lines other) (concat (report_of network notes)) (concat (report_of other others))
-same_pages first last network other notes others range range' records records' same =
+    → AreSame (network_lines network) (network_lines other) (concat (report_of network notes))
+    (concat (report_of other others))
+same_pages first last {network} {other} {notes} {others} range range' records records' same =
     let report = concat (report_of network notes) in
     let second = concat (report_of other others) in
-    same_told (network_lines network) (network_lines other) report second (network_told network range) (network_told other range')
-    (report_low network notes records) (report_low other others records')
+    same_told (network_lines network) (network_lines other) report second (network_told range) (network_told range')
+    (report_low notes records) (report_low others records')
     (between first last (network_text network) report (network_text other) second same)

@@ -21,16 +21,17 @@ pub record AreSame (lines others : List (List ℕ)) (text other : List ℕ) : Ty
   pub fronts : lines ≡ others
   pub backs : text ≡ other
 
-not_first : (line : List ℕ) (lines : List (List ℕ)) (text other : List ℕ) → IsTold line → IsNoWord other → concat (line ∷ lines) ++ text ≡ other → ⊥
-not_first line lines text other told low same =
+not_first : {line : List ℕ} (lines : List (List ℕ)) (text other : List ℕ) → IsTold line → IsNoWord other
+    → concat (line ∷ lines) ++ text ≡ other → ⊥
+not_first lines text other told low same =
     let begins : other ≡ told.first ∷ (((told.rest ++ lf ∷ []) ++ concat lines) ++ text) =
     sym same ∙ ap (λ (l : List ℕ). (l ++ concat lines) ++ text) told.is in
     omega (arith, low told.first (((told.rest ++ lf ∷ []) ++ concat lines) ++ text) begins, told.letter)
 
 -- a line, and what stands behind it
-split_line : (line : List ℕ) (lines : List (List ℕ)) (text : List ℕ) (told : IsTold line)
+split_line : {line : List ℕ} (lines : List (List ℕ)) (text : List ℕ) (told : IsTold line)
     → concat (line ∷ lines) ++ text ≡ (told.first ∷ told.rest) ++ lf ∷ (concat lines ++ text)
-split_line line lines text told =
+split_line lines text told =
     let words = told.first ∷ told.rest in
     ap (λ (l : List ℕ). (l ++ concat lines) ++ text) told.is
     ∙ append_assoc (words ++ lf ∷ []) (concat lines) text
@@ -41,13 +42,13 @@ pub same_told : (lines others : List (List ℕ)) (text other : List ℕ) → All
     → concat lines ++ text ≡ concat others ++ other → AreSame lines others text other
 same_told [] [] text other told told' low low' same = record { fronts = refl; backs = same }
 same_told [] (o ∷ others) text other told told' low low' same =
-    absurd (not_first o others other text (All-head IsTold o others told') low (sym same))
+    absurd (not_first others other text (All-head IsTold o others told') low (sym same))
 same_told (l ∷ lines) [] text other told told' low low' same =
-    absurd (not_first l lines text other (All-head IsTold l lines told) low' same)
+    absurd (not_first lines text other (All-head IsTold l lines told) low' same)
 same_told (l ∷ lines) (o ∷ others) text other told told' low low' same =
     let one = All-head IsTold l lines told in
     let two = All-head IsTold o others told' in
-    let moved = sym (split_line l lines text one) ∙ same ∙ split_line o others other two in
+    let moved = sym (split_line lines text one) ∙ same ∙ split_line others other two in
     let parts = split_once is_lf lf (one.first ∷ one.rest) (concat lines ++ text) (two.first ∷ two.rest) (concat others ++ other) refl one.unbroken
     two.unbroken moved in
     let rest = same_told lines others text other (All-tail IsTold l lines told) (All-tail IsTold o others told') low low' parts.backs in

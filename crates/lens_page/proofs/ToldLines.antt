@@ -13,8 +13,9 @@ use Rattle.tte_units.specs.{Amount.amount, declared.{frames.channel.Channel.{Cha
 
 -- ---- words
 
-named_visible : (network : Network) (d : DeviceId) → IsInRange network → HasDevice network d → IsVisible (device_name network d)
-named_visible network d range has =
+named_visible : {network : Network} (d : DeviceId) → IsInRange network → HasDevice network d
+    → IsVisible (device_name network d)
+named_visible {network} d range has =
     let at = some_at network.device d.0 has in
     rw at.1 (name_visible at.0.name (in_list IsDeviceInRange network.device d.0 at.0 at.1 range.devices).name)
 
@@ -84,8 +85,8 @@ link_told network link range own =
       (
         name_visible link.name own.name,
         (
-          named_visible network link.child range own.child,
-          (named_visible network link.parent range own.parent, channel_visible (channel_of network link)),
+          named_visible link.child range own.child,
+          (named_visible link.parent range own.parent, channel_visible (channel_of network link)),
         ),
       ),
     ) (link_text link.name child parent (channel_of network link))
@@ -96,7 +97,7 @@ vl_told network vl range own =
     let sender = device_name network vl.sender in
     told_by 118 (codes "l") (vl.name ∷ sender ∷ []) (vl_line network vl) (omega arith) (
       visible_from_test (codes "vl") refl,
-      (name_visible vl.name own.name, (named_visible network vl.sender range own.sender, tt)),
+      (name_visible vl.name own.name, (named_visible vl.sender range own.sender, tt)),
     ) (vl_text vl.name sender)
 
 -- ---- all lines
@@ -106,8 +107,8 @@ all_told line P told [] all = All-nil IsTold
 all_told line P told (x ∷ xs) all =
     All-cons IsTold (line x) (map line xs) (told x (All-head P x xs all)) (all_told line P told xs (All-tail P x xs all))
 
-pub network_told : (network : Network) → IsInRange network → All IsTold (network_lines network)
-network_told network range =
+pub network_told : {network : Network} → IsInRange network → All IsTold (network_lines network)
+network_told {network} range =
     let devices = all_told device_line IsDeviceInRange device_told network.device range.devices in
     let links = all_told (link_line network) (IsLinkInRange network) (λ link own. link_told network link range own) network.link range.links in
     let vls = all_told (vl_line network) (IsVlInRange network) (λ vl own. vl_told network vl range own) network.vl range.vls in

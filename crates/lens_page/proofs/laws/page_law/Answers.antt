@@ -8,7 +8,7 @@ returns c network other report second page same p q text =
     let one = p.is_report.events.text in
     let two = q.is_report.events.text in
     let lines = λ (a : Answer). concat a.lines in
-    let told = same_pages page_opening page_closing network other p.notes q.notes p.is_report.range q.is_report.range one.records two.records
+    let told = same_pages page_opening page_closing p.is_report.range q.is_report.range one.records two.records
     (sym (ap lines p.is) ∙ text ∙ ap lines q.is) in
     let first = one.text ∙ append-nil (concat (report_of network p.notes)) in
     let last = two.text ∙ append-nil (concat (report_of other q.notes)) in

@@ -10,13 +10,13 @@ returns-in-Ok-clause-gives g c =
     let whole = subst (λ (text : List ℕ). Appends (written c.args.out.now) (written c.put.new.self) text)
     (c.as_bytes.ensures.value ∙ c.page_opening.ensures) c.in-Ok.ensures.all in
     gives_then page_opening (with_line c.args.text.now (with_line c.args.report.now (line_answer Done page_closing))) c.put_text.result
-    (shown c.args.out.now) (shown c.put.new.self) (shown c.put_text.new.out) whole c.put.ensures.counted c.put_text.ensures.gives
+    (shown c.args.out.now) whole c.put.ensures.counted c.put_text.ensures.gives
 
 pub returns-in-Err-clause-gives : goal.returns-in-Err-clause-gives
 returns-in-Err-clause-gives g c =
     let shown = shown_by g.K.Sink in
     let written = g.K.Sink.written in
-    let front = subst (λ (text : List ℕ). AppendsFront (written c.args.out.now) (written c.put.new.self) text)
+    let front = subst (λ text. AppendsFront (written c.args.out.now) (written c.put.new.self) text)
     (c.as_bytes.ensures.value ∙ c.page_opening.ensures) c.in-Err.ensures.front in
     gives_no_more page_opening (with_line c.args.text.now (with_line c.args.report.now (line_answer Done page_closing))) (shown c.args.out.now)
     (shown c.put.new.self) front c.put.ensures.counted

@@ -7,8 +7,9 @@ returns-in-Ok-clause-gives g c =
     let shown = shown_by g.K.Sink in
     let now = shown c.put.new.self in
     let new = shown c.put_last.new.out in
-    gives_then c.args.report.now (line_answer Done page_closing) c.put_last.result (shown c.args.out.now) now new c.in-Ok.ensures.all c.put.ensures.counted
-    (subst (λ (text : List ℕ). Gives (line_answer Done text) c.put_last.result now new) (c.as_bytes.ensures.value ∙ c.page_closing.ensures)
+    gives_then c.args.report.now (line_answer Done page_closing) c.put_last.result (shown c.args.out.now)
+    c.in-Ok.ensures.all c.put.ensures.counted
+    (subst (λ text. Gives (line_answer Done text) c.put_last.result now new) (c.as_bytes.ensures.value ∙ c.page_closing.ensures)
     c.put_last.ensures.gives)
 
 pub returns-in-Err-clause-gives : goal.returns-in-Err-clause-gives

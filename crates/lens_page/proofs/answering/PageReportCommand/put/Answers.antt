@@ -13,6 +13,6 @@ returns-in-Ok-clause-gives g c notes end r =
     let status = c.put_page.result in
     let text : c.as_slice.result.now ≡ network_text network = c.as_slice.ensures.value ∙ c.in-Ok.ensures in
     let octets : c.as_slice-in-Ok.result.now ≡ report = c.as_slice-in-Ok.ensures ∙ r.events.text.text ∙ append-nil report in
-    let told = subst (λ (t : List ℕ). Gives (page_with t c.as_slice-in-Ok.result.now) status old new) text c.put_page.ensures.gives in
-    let whole = subst (λ (o : List ℕ). Gives (page_with (network_text network) o) status old new) octets told in
+    let told = subst (λ t. Gives (page_with t c.as_slice-in-Ok.result.now) status old new) text c.put_page.ensures.gives in
+    let whole = subst (λ o. Gives (page_with (network_text network) o) status old new) octets told in
     inl (page_with (network_text network) report, refl, whole)
