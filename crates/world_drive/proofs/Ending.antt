@@ -9,21 +9,21 @@ use Rattle.world_drive.specs.{Observing.{Grows, PutsFurther, start_by}, Seeing.{
 
 -- ---- what a source gave
 
-pub given_one : {B S K E : Type 0} (gave ended : Gave B E) (stopped : Stopped B S K E) (left : E
-    → ℕ) (network : Network) (first : B) (origin : E) (events : List Event)
-    (more : Bool) (event : Event) (from : B) (old new : E) (before after : K) → more ≡ true
-    → GivesNext gave ended stopped left network first origin events (given_in (Ok more) event) from old new before after
-    → MayGive network events event × (left new < left old) × gave network first origin (events ++ event ∷ []) from new
-given_one gave ended stopped left network first origin events more event from old new before after is p =
-    subst (λ (q : Bool). GivesNext gave ended stopped left network first origin events (given_in (Ok q) event) from old new before after) is p
+module _ {B S K E : Type 0} (gave ended : Gave B E) (stopped : Stopped B S K E) (left : E → ℕ) (network : Network)
+    (first : B) (origin : E) (events : List Event) (more : Bool) (event : Event) (from : B) (old new : E) where
+  pub given_one : (before after : K) → more ≡ true → GivesNext gave ended stopped left network first origin events
+      (given_in (Ok more) event) from old new before after → MayGive network events event × (left new < left old)
+      × gave network first origin (events ++ event ∷ []) from new
+  given_one before after is p =
+      subst (λ (q : Bool). GivesNext gave ended stopped left network first origin events (given_in (Ok q) event) from
+      old new before after) is p
 
-pub given_end : {B S K E : Type 0} (gave ended : Gave B E) (stopped : Stopped B S K E) (left : E
-    → ℕ) (network : Network) (first : B) (origin : E) (events : List Event)
-    (more : Bool) (event : Event) (from : B) (old new : E) (before after : K) → more ≡ false
-    → GivesNext gave ended stopped left network first origin events (given_in (Ok more) event) from old new before after
-    → HaveEnded events × ended network first origin events from new
-given_end gave ended stopped left network first origin events more event from old new before after is p =
-    subst (λ (q : Bool). GivesNext gave ended stopped left network first origin events (given_in (Ok q) event) from old new before after) is p
+  pub given_end : (before after : K) → more ≡ false → GivesNext gave ended stopped left network first origin events
+      (given_in (Ok more) event) from old new before after
+      → HaveEnded events × ended network first origin events from new
+  given_end before after is p =
+      subst (λ (q : Bool). GivesNext gave ended stopped left network first origin events (given_in (Ok q) event) from
+      old new before after) is p
 
 -- ---- a drive goes on
 
@@ -42,11 +42,13 @@ pub record IsDriving {B K E O : Type 0} (sink : Ghosts K) (give : Gave B E) (see
   pub number : line ≡ length events
   pub puts : PutsSoFar sink old now
 
-pub driving_first : {B K E O : Type 0} (sink : Ghosts K) (give : Gave B E) (see : Sees O) (network : Network) (from : B) (source : E) (world : ExactWorld)
-    (observer : O) (time : Units) (line : ℕ) (out : K) → StandsExact network world [] [] → (world.now ≡ 0) × (world.early ≡ true)
-    → give network from source [] from source → see network [] [] None (start_by sink out observer) (told_by sink out) observer → time ≡ units_of 0 → line ≡ 0
+pub driving_first : {B K E O : Type 0} (sink : Ghosts K) (give : Gave B E) (see : Sees O) {network : Network}
+    (from : B) (source : E) {world : ExactWorld} (observer : O) (time : Units) (line : ℕ) (out : K)
+    → StandsExact network world [] [] → (world.now ≡ 0) × (world.early ≡ true)
+    → give network from source [] from source → see network [] [] None (start_by sink out observer)
+    (told_by sink out) observer → time ≡ units_of 0 → line ≡ 0
     → IsDriving sink give see network from source observer from source world observer time line out out
-driving_first sink give see network from source world observer time line out stands fresh gave sees zero none = record {
+driving_first sink give see {network} from source observer time line out stands fresh gave sees zero none = record {
   events = [];
   notes = [];
   gave = gave;
@@ -104,7 +106,7 @@ module _ {B K E O : Type 0} (sink : Ghosts K) (give : Gave B E) (see : Sees O) (
     }
 
     grew_then : Grows (told_by sink old) (told_by sink then_)
-    grew_then = subst (λ (t : Told). Grows (told_by sink old) t) (sym told) d.puts.grew
+    grew_then = subst (λ t. Grows (told_by sink old) t) (sym told) d.puts.grew
 
     -- the observer has seen all before it
     pub seen_then : HasSeen see network world observer (told_by sink then_)
@@ -129,7 +131,7 @@ module _ {B K E O : Type 0} (sink : Ghosts K) (give : Gave B E) (see : Sees O) (
           notes = d.notes;
           old = start_by sink old begun_by;
           next = comes_next;
-          number = one ∙ ap (λ (m : ℕ). m + 1) d.number;
+          number = one ∙ ap (λ m. m + 1) d.number;
           sees = sees_then;
         }
 
@@ -184,7 +186,7 @@ module _ {B K E O : Type 0} (sink : Ghosts K) (give : Gave B E) (see : Sees O) (
             }
 
         until_is : amount until ≡ amount (last_time d.events) + 1
-        until_is = amount_after time until begun after ∙ ap (λ (t : Units). amount t + 1) d.last
+        until_is = amount_after time until begun after ∙ ap (λ t. amount t + 1) d.last
 
         all_records : (notes : List Note) → AreRecordsBefore network d.events (amount until ∷ []) notes → AreAllRecords network d.events notes
         all_records notes run =
@@ -224,7 +226,7 @@ module _ {B K E O : Type 0} (sink : Ghosts K) (give : Gave B E) (see : Sees O) (
             have,
             refl,
             up_to_end network d.events d.notes k.more d.so_far
-                (subst (λ (n : ℕ). AreEarlier network d.events d.notes k.more n) until_is k.earlier),
+                (subst (λ n. AreEarlier network d.events d.notes k.more n) until_is k.earlier),
           );
           stops = k.stops;
           cause = fails_on sink cut old then_ new quiet_then puts.cause;

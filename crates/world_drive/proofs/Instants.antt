@@ -10,17 +10,17 @@ use Rattle.world_drive.proofs.Words.{fresh_segment, happenings, inl, inr, ints, 
 
 -- a record stays among those that follow
 pub in_more : (network : Network) (notes more : List Note) (h : Happening) → IsIn h (happenings network notes) → IsIn h (happenings network (notes ++ more))
-in_more network notes [] h i = subst (λ (ns : List Note). IsIn h (happenings network ns)) (sym (append-nil notes)) i
+in_more network notes [] h i = subst (λ ns. IsIn h (happenings network ns)) (sym (append-nil notes)) i
 in_more network notes (m ∷ more) h i =
-    subst (λ (ns : List Note). IsIn h (happenings network ns)) (append_assoc notes (m ∷ []) more)
+    subst (λ ns. IsIn h (happenings network ns)) (append_assoc notes (m ∷ []) more)
     (in_more network (notes ++ m ∷ []) more h
     (subst (IsIn h) (sym (one_more network notes m)) (in_left h (happenings network notes) (last_of network notes m ∷ []) i)))
 
 -- the instant of a record that is behind those of events is underway
-pub underway_now : (network : Network) (world : ExactWorld) (events : List Event) (notes : List Note) (note : Note)
-    → StandsExact network world events (notes ++ note ∷ []) → note.time ≡ units_of world.now → 2 < rank note.body → (world.ended ≡ false → world.now < 2 ^ 60)
-    → IsUnderwayAt network world events (notes ++ note ∷ []) note.time
-underway_now network world events notes note stands at behind limit =
+pub underway_now : {network : Network} {world : ExactWorld} {events : List Event} (notes : List Note) (note : Note)
+    → StandsExact network world events (notes ++ note ∷ []) → note.time ≡ units_of world.now → 2 < rank note.body
+    → (world.ended ≡ false → world.now < 2 ^ 60) → IsUnderwayAt network world events (notes ++ note ∷ []) note.time
+underway_now {network} {world} notes note stands at behind limit =
     let y = last_of network notes note in
     let now : amount note.time ≡ world.now = ap amount at in
     record {
@@ -36,47 +36,52 @@ underway_now network world events notes note stands at behind limit =
 pub amount_now : (world : ExactWorld) (time : Units) → time.0 ≡ pos world.now → amount time ≡ world.now
 amount_now world time now = ap unsigned_abs now
 
--- past it the world shows the clocks of its time
-pub complete_past : (network : Network) (events : List Event) (notes more : List Note) (time : Units) (world next : ExactWorld)
-    → IsUnderwayAt network world events notes time → StandsExact network next events (notes ++ more) → IsPast world next
-    → AreRecordsBefore network events ((amount time + 1) ∷ []) (notes ++ more) → IsCompleteExact network next (amount time) events (notes ++ more)
-complete_past network events notes more time world next at stands gone all =
-    let same = amount_now world time at.now in
-    subst (λ (t : ℕ). IsCompleteExact network next t events (notes ++ more)) (sym same) (record {
-      is = stands;
-      past = λ e i. let there = index_of e events i in at.stands.is.befallen.past there.0 e there.1;
-      all = subst (λ (t : ℕ). AreRecordsBefore network events ((t + 1) ∷ []) (notes ++ more)) same all;
-      come = elim gone [
-        | inl on ↦ let now = on.0 in inl (omega (arith, now), on.1)
-        | inr here ↦ inr (here.1, (at.given, in_more network notes more at.given at.there, at.behind))
-      ];
-    })
+module _ (network : Network) (events : List Event) (notes : List Note) where
+  -- past it the world shows the clocks of its time
+  pub complete_past : (more : List Note) {time : Units} {world next : ExactWorld}
+      → IsUnderwayAt network world events notes time → StandsExact network next events (notes ++ more)
+      → IsPast world next → AreRecordsBefore network events ((amount time + 1) ∷ []) (notes ++ more)
+      → IsCompleteExact network next (amount time) events (notes ++ more)
+  complete_past more {time} {world} {next} at stands gone all =
+      let same = amount_now world time at.now in
+      subst (λ t. IsCompleteExact network next t events (notes ++ more)) (sym same) (record {
+        is = stands;
+        past = λ e i. let there = index_of e events i in at.stands.is.befallen.past there.0 e there.1;
+        all = subst (λ t. AreRecordsBefore network events ((t + 1) ∷ []) (notes ++ more)) same all;
+        come = elim gone [
+          | inl on ↦ let now = on.0 in inl (omega (arith, now), on.1)
+          | inr here ↦ inr (here.1, (at.given, in_more network notes more at.given at.there, at.behind))
+        ];
+      })
 
--- ---- the record that a world gave
+  -- ---- the record that a world gave
 
-pub given_before : (network : Network) (events : List Event) (notes : List Note) (note : Note) (until : Units) (next : ExactWorld) (given : Bool)
-    → given ≡ true → StandsExact network next events (notes ++ option_to_list (option_given given note))
-    → (given ≡ true → (note.time ≡ units_of next.now) × (note.time.0 <ℤ until.0)) → IsGiven network next None events notes note
-given_before network events notes note until next given is stands before = record {
-  stands = given_some network events notes next given note is stands;
-  at = (before is).0;
-  here = tt {0};
-}
+  pub given_before : (note : Note) (until : Units) {next : ExactWorld} (given : Bool) → given ≡ true
+      → StandsExact network next events (notes ++ option_to_list (option_given given note))
+      → (given ≡ true → (note.time ≡ units_of next.now) × (note.time.0 <ℤ until.0))
+      → IsGiven network next None events notes note
+  given_before note until {next} given is stands before = record {
+    stands = given_some network events notes next given note is stands;
+    at = (before is).0;
+    here = tt {0};
+  }
 
--- within an instant it is of the same time
-pub given_in : (network : Network) (events : List Event) (notes : List Note) (note : Note) (time until : Units) (from world next : ExactWorld)
-    (given : Bool) → given ≡ true → StandsExact network world events notes → StandsExact network next events (notes ++ option_to_list (option_given given note))
-    → (given ≡ true → (note.time ≡ units_of next.now) × (note.time.0 <ℤ until.0)) → time.0 ≡ pos from.now → world.now ≡ from.now
-    → until.0 ≡ time.0 +ℤ pos 1 → IsGiven network next (Some (amount time)) events notes note
-given_in network events notes note time until from world next given is a stands before now same after =
-    let b = given_some network events notes next given note is stands in
-    let at = before is in
-    record {
-      stands = b;
-      at = at.0;
-      here = stays_now network events notes note world next until a b at.0 (is_before note next.now until.0 at) (omega (arith, ints, now, same, after)) ∙ same
-          ∙ sym (amount_now from time now);
-    }
+  -- within an instant it is of the same time
+  pub given_in : (note : Note) (time until : Units) (from : ExactWorld) {world next : ExactWorld} (given : Bool)
+      → given ≡ true → StandsExact network world events notes
+      → StandsExact network next events (notes ++ option_to_list (option_given given note))
+      → (given ≡ true → (note.time ≡ units_of next.now) × (note.time.0 <ℤ until.0)) → time.0 ≡ pos from.now
+      → world.now ≡ from.now → until.0 ≡ time.0 +ℤ pos 1 → IsGiven network next (Some (amount time)) events notes note
+  given_in note time until from {next} given is a stands before now same after =
+      let b = given_some network events notes next given note is stands in
+      let at = before is in
+      record {
+        stands = b;
+        at = at.0;
+        here = stays_now network events notes note until a b at.0 (is_before note next.now until.0 at)
+            (omega (arith, ints, now, same, after)) ∙ same
+            ∙ sym (amount_now from time now);
+      }
 
 -- ---- where no more is given
 
@@ -90,23 +95,27 @@ past_from : (from world next : ExactWorld) → world.now ≡ from.now → IsPast
 past_from from world next same (inl on) = let now = on.0 in inl (omega (arith, same, now), on.1)
 past_from from world next same (inr here) = inr (here.0, here.1 ∙ same)
 
-pub instant_over : (network : Network) (events : List Event) (notes more : List Note) (time until : Units) (from world next : ExactWorld) (given : Bool)
-    (note : Note) → given ≡ false → IsUnderwayAt network from events notes time → StandsExact network world events (notes ++ more) → world.now ≡ from.now
-    → until.0 ≡ time.0 +ℤ pos 1 → StandsExact network next events ((notes ++ more) ++ option_to_list (option_given given note))
-    → (pos world.now <ℤ until.0 → given ≡ false → IsSafeFront fresh_segment stepped_segment segment_reading network events (amount until) (notes ++ more))
-    → IfNone (option_given given note) (Reaches world next until) → InstantOver network events (notes ++ more) time from next
-instant_over network events notes more time until from world next given note is at a same after b complete reached =
+pub instant_over : {network : Network} {events : List Event} {notes : List Note} (more : List Note) {time : Units}
+    (until : Units) {from world next : ExactWorld} (given : Bool) (note : Note) → given ≡ false
+    → IsUnderwayAt network from events notes time → StandsExact network world events (notes ++ more)
+    → world.now ≡ from.now → until.0 ≡ time.0 +ℤ pos 1 → StandsExact network next events
+    ((notes ++ more) ++ option_to_list (option_given given note)) →
+    (pos world.now <ℤ until.0 → given ≡ false
+    → IsSafeFront fresh_segment stepped_segment segment_reading network events (amount until) (notes ++ more))
+    → IfNone (option_given given note) (Reaches world next until)
+    → InstantOver network events (notes ++ more) time from next
+instant_over {network} {events} {notes} more {time} until {from} {world} {next} given note is at a same after b
+    complete reached =
     let now = at.now in
     let own = subst (StandsExact network next events) (append-nil (notes ++ more)) (given_none network events (notes ++ more) next given note is b) in
     let limit : world.ended ≡ false → world.now < 2 ^ 60 = λ open_.
-    (let early = at.limit (unended_before network events notes (notes ++ more) from world at.stands a open_) in omega (arith, early, same)) in
+    (let early = at.limit (unended_before at.stands a open_) in omega (arith, early, same)) in
     let behind : until.0 ≡ pos world.now +ℤ pos 1 = omega (arith, ints, now, same, after) in
     let all = complete (omega (arith, ints, behind)) is in
     record {
       stands = own;
       past = past_from from world next same
-          (past_is network until world next events (notes ++ more) (notes
-          ++ more) a own behind limit (if_none given note (Reaches world next until) is reached));
+          (past_is network until world a own behind limit (if_none given note (Reaches world next until) is reached));
       all =
           subst (λ (n : ℕ). AreRecordsBefore network events (n ∷ []) (notes ++ more))
           (amount_after time until (omega (arith, ints, now)) after) all.run;

@@ -20,7 +20,7 @@ module _ (network : Network) (world : ExactWorld) (events : List Event) (notes :
   -- the records before its time may be asked for
   pub asked_for : IsAsked world event.time
   asked_for = record {
-    order = let now = n.reached.now in let order = in_order network events event n.may in omega (arith, ints, now, order);
+    order = let now = n.reached.now in let order = in_order n.may in omega (arith, ints, now, order);
     ended = λ is. absurd (let open_ = unended_now in cc);
     unended = λ open_. n.may.limit;
   }
@@ -32,7 +32,7 @@ module _ (network : Network) (world : ExactWorld) (events : List Event) (notes :
   cut_before stop cut old put k = record {
     befallen = events;
     more = k.more;
-    whether = inl (refl, on_the_way network events notes k.more event n.may begun_last n.so_far k.earlier);
+    whether = inl (refl, on_the_way network events notes k.more n.may begun_last n.so_far k.earlier);
     stops = k.stops;
   }
 
@@ -43,7 +43,7 @@ module _ (network : Network) (world : ExactWorld) (events : List Event) (notes :
     cut_at stop cut stops = record {
       befallen = events;
       more = s.more;
-      whether = inl (refl, on_the_way network events notes s.more event n.may begun_last n.so_far s.earlier);
+      whether = inl (refl, on_the_way network events notes s.more n.may begun_last n.so_far s.earlier);
       stops = stops;
     }
 
@@ -60,19 +60,19 @@ module _ (network : Network) (world : ExactWorld) (events : List Event) (notes :
       open_now = record {
         time = sym reached_now.time;
         early = reached_now.early (inr n.reached.early);
-        unended = (go_on network world next events notes (notes ++ s.more) n.stands s.stands).unended unended_now;
+        unended = (go_on n.stands s.stands).unended unended_now;
       }
 
       pub line_next : (line : ℕ) → line ≡ length events + 1 → line ≡ next.lines + 1
-      line_next line number = number ∙ ap (λ (m : ℕ). m + 1) (sym s.stands.is.lines)
+      line_next line number = number ∙ ap (λ m. m + 1) (sym s.stands.is.lines)
 
       pub may_befall : MayBefall fresh_segment stepped_segment segment_reading StandsAsDevice next event
       may_befall = record {
         events = events;
         notes = notes ++ s.more;
-        is = subst (λ (m : Network). StandsExact m next events (notes ++ s.more)) (sym s.stands.is.same) s.stands;
-        of_network = subst (λ (m : Network). IsOfNetwork m event.what) (sym s.stands.is.same) n.may.of_network;
-        within = subst (λ (m : Network). IsWithinHypothesis m events event) (sym s.stands.is.same) n.may.within;
+        is = subst (λ m. StandsExact m next events (notes ++ s.more)) (sym s.stands.is.same) s.stands;
+        of_network = subst (λ m. IsOfNetwork m event.what) (sym s.stands.is.same) n.may.of_network;
+        within = subst (λ m. IsWithinHypothesis m events event) (sym s.stands.is.same) n.may.within;
       }
 
       -- ---- it has befallen it
@@ -83,7 +83,7 @@ module _ (network : Network) (world : ExactWorld) (events : List Event) (notes :
           (is : note ≡ event_note (next.given + 1) line event) (still : (after.now ≡ next.now) × (after.early ≡ next.early)) where
         so_far : AreRecordsSoFar network (events ++ event ∷ []) ((notes ++ s.more) ++ note ∷ [])
         so_far =
-            subst (λ (t : ℕ). AreRecordsBefore network (events ++ event ∷ []) (behind_events t) ((notes ++ s.more) ++ note ∷ []))
+            subst (λ t. AreRecordsBefore network (events ++ event ∷ []) (behind_events t) ((notes ++ s.more) ++ note ∷ []))
             (now_is ∙ ap amount (sym (last_is events event))) run
 
         pub come_after : IsReached after event.time
@@ -95,7 +95,7 @@ module _ (network : Network) (world : ExactWorld) (events : List Event) (notes :
           stands = stands;
           so_far = so_far;
           reached = come_after;
-          is = is ∙ ap (λ (m : ℕ). event_note (m + 1) line event) s.stands.is.given ∙ ap (λ (m : ℕ). event_note (length (notes ++ s.more) + 1) m event) number;
+          is = is ∙ ap (λ m. event_note (m + 1) line event) s.stands.is.given ∙ ap (λ m. event_note (length (notes ++ s.more) + 1) m event) number;
         }
 
         joined : (notes ++ s.more) ++ note ∷ [] ≡ notes ++ (s.more ++ note ∷ [])
@@ -105,8 +105,8 @@ module _ (network : Network) (world : ExactWorld) (events : List Event) (notes :
             → SeesEvent see network events notes event after later old new
         seen_event later new sees = record {
           more = s.more ++ note ∷ [];
-          stands = subst (λ (ns : List Note). StandsExact network after (events ++ event ∷ []) ns) joined stands;
-          so_far = subst (λ (ns : List Note). AreRecordsSoFar network (events ++ event ∷ []) ns) joined so_far;
+          stands = subst (λ ns. StandsExact network after (events ++ event ∷ []) ns) joined stands;
+          so_far = subst (λ ns. AreRecordsSoFar network (events ++ event ∷ []) ns) joined so_far;
           sees = subst (λ (ns : List Note). see network (events ++ event ∷ []) ns None old new later) joined sees;
         }
 
@@ -116,11 +116,12 @@ module _ (network : Network) (world : ExactWorld) (events : List Event) (notes :
         cut_event stop cut new stops = record {
           befallen = events ++ event ∷ [];
           more = s.more ++ note ∷ [];
-          whether = inr (refl, subst (λ (ns : List Note). AreRecordsSoFar network (events ++ event ∷ []) ns) joined so_far);
+          whether = inr (refl, subst (λ ns. AreRecordsSoFar network (events ++ event ∷ []) ns) joined so_far);
           stops = subst (λ (ns : List Note). stop network (events ++ event ∷ []) ns cut old new) joined stops;
         }
 
 -- the line of the next event, whichever events and records leave the world where it stands
-pub same_number : (network : Network) (world : ExactWorld) (events others : List Event) (notes more : List Note) (line : ℕ)
-    → StandsExact network world events notes → StandsExact network world others more → line ≡ length events + 1 → line ≡ length others + 1
-same_number network world events others notes more line a b number = number ∙ ap (λ (m : ℕ). m + 1) (sym a.is.lines ∙ b.is.lines)
+pub same_number : {network : Network} {world : ExactWorld} {events others : List Event} {notes more : List Note}
+    (line : ℕ) → StandsExact network world events notes → StandsExact network world others more
+    → line ≡ length events + 1 → line ≡ length others + 1
+same_number line a b number = number ∙ ap (λ m. m + 1) (sym a.is.lines ∙ b.is.lines)

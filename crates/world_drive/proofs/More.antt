@@ -19,45 +19,49 @@ puts_none sink out = record { grew = ([], Appends-nil (sink.written out)); quiet
 pub grows_on : (old now new : Told) → Grows old now → Grows now new → Grows old new
 grows_on old now new a b = (a.0 ++ b.0, Appends-trans old.written now.written new.written a.0 b.0 a.1 b.1)
 
-pub puts_more : {K T : Type 0} (sink : Ghosts K) (x : T) (old now new : K) → PutsSoFar sink old now → PutsFurther {T = T} sink (Ok x) now new
-    → PutsSoFar sink old new
-puts_more sink x old now new a b = record { grew = grows_on (told_by sink old) (told_by sink now) (told_by sink new) a.grew b.grew; quiet = b.quiet ∙ a.quiet }
+pub puts_more : {K T : Type 0} {sink : Ghosts K} (x : T) {old now new : K} → PutsSoFar sink old now
+    → PutsFurther {T = T} sink (Ok x) now new → PutsSoFar sink old new
+puts_more {sink} x {old} {now} {new} a b =
+    record { grew = grows_on (told_by sink old) (told_by sink now) (told_by sink new) a.grew b.grew; quiet = b.quiet ∙ a.quiet }
 
 pub fails_on : {K : Type 0} (sink : Ghosts K) (e : Cut) (old now new : K) → sink.faults now ≡ sink.faults old → FailsBy sink now new e → FailsBy sink old new e
-fails_on sink WriteFault old now new still f = subst (λ (n : ℕ). Rose n (sink.faults new)) still f
+fails_on sink WriteFault old now new still f = subst (λ n. Rose n (sink.faults new)) still f
 fails_on sink OutOfMemory old now new still f = f ∙ still
 
-pub puts_on : {K T : Type 0} (sink : Ghosts K) (r : Result T Cut) (old now new : K) → PutsSoFar sink old now → PutsFurther sink r now new
-    → PutsFurther sink r old new
-puts_on sink (Ok x) old now new a b = record {
+pub puts_on : {K T : Type 0} {sink : Ghosts K} (r : Result T Cut) {old now new : K} → PutsSoFar sink old now
+    → PutsFurther sink r now new → PutsFurther sink r old new
+puts_on {sink} (Ok x) {old} {now} {new} a b = record {
   grew = grows_on (told_by sink old) (told_by sink now) (told_by sink new) a.grew b.grew;
   quiet = b.quiet ∙ a.quiet;
   cause = tt {0};
 }
-puts_on sink (Err e) old now new a b = record {
+puts_on {sink} (Err e) {old} {now} {new} a b = record {
   grew = grows_on (told_by sink old) (told_by sink now) (told_by sink new) a.grew b.grew;
   quiet = tt {0};
   cause = fails_on sink e old now new a.quiet b.cause;
 }
 
 -- where it went well, or where no call of the sink was the cause
-pub puts_well : {K T : Type 0} (sink : Ghosts K) (x : T) (old new : K) → PutsSoFar sink old new → PutsFurther {T = T} sink (Ok x) old new
-puts_well sink x old new a = record { grew = a.grew; quiet = a.quiet; cause = tt {0} }
+pub puts_well : {K T : Type 0} {sink : Ghosts K} (x : T) {old new : K} → PutsSoFar sink old new
+    → PutsFurther {T = T} sink (Ok x) old new
+puts_well x a = record { grew = a.grew; quiet = a.quiet; cause = tt {0} }
 
-pub puts_cut : {K T U : Type 0} (sink : Ghosts K) (e : Cut) (old now new : K) → PutsSoFar sink old now → PutsFurther {T = T} sink (Err e) now new
-    → PutsFurther {T = U} sink (Err e) old new
-puts_cut sink e old now new a b = record {
+pub puts_cut : {K T U : Type 0} {sink : Ghosts K} (e : Cut) {old now new : K} → PutsSoFar sink old now
+    → PutsFurther {T = T} sink (Err e) now new → PutsFurther {T = U} sink (Err e) old new
+puts_cut {sink} e {old} {now} {new} a b = record {
   grew = grows_on (told_by sink old) (told_by sink now) (told_by sink new) a.grew b.grew;
   quiet = tt {0};
   cause = fails_on sink e old now new a.quiet b.cause;
 }
 
-pub puts_so_far : {K T : Type 0} (sink : Ghosts K) (x : T) (old new : K) → PutsFurther {T = T} sink (Ok x) old new → PutsSoFar sink old new
-puts_so_far sink x old new a = record { grew = a.grew; quiet = a.quiet }
+pub puts_so_far : {K T : Type 0} {sink : Ghosts K} (x : T) {old new : K} → PutsFurther {T = T} sink (Ok x) old new
+    → PutsSoFar sink old new
+puts_so_far x a = record { grew = a.grew; quiet = a.quiet }
 
 -- memory ran out, and no call of the sink was the cause
-pub puts_memory : {K T : Type 0} (sink : Ghosts K) (old new : K) → PutsSoFar sink old new → PutsFurther {T = T} sink (Err OutOfMemory) old new
-puts_memory sink old new a = record { grew = a.grew; quiet = tt {0}; cause = a.quiet }
+pub puts_memory : {K T : Type 0} {sink : Ghosts K} {old new : K} → PutsSoFar sink old new
+    → PutsFurther {T = T} sink (Err OutOfMemory) old new
+puts_memory a = record { grew = a.grew; quiet = tt {0}; cause = a.quiet }
 
 -- ---- one record after another
 
@@ -69,12 +73,13 @@ pub record HasSeenMore {O : Type 0} (see : Sees O) (network : Network) (events :
   pub sees : see network events (notes ++ more) instant old put observer
   pub earlier : AreEarlier network events notes more until
 
-pub seen_none : {O : Type 0} (see : Sees O) (network : Network) (events : List Event) (notes : List Note) (instant : Option ℕ) (until : ℕ)
-    (world : ExactWorld) (observer : O) (old : Start O) (put : Told) → StandsExact network world events notes
-    → see network events notes instant old put observer → HasSeenMore see network events notes instant until world observer old put
-seen_none see network events notes instant until world observer old put a b = record {
+pub seen_none : {O : Type 0} (see : Sees O) {network : Network} {events : List Event} {notes : List Note}
+    (instant : Option ℕ) (until : ℕ) {world : ExactWorld} (observer : O) (old : Start O) (put : Told)
+    → StandsExact network world events notes → see network events notes instant old put observer
+    → HasSeenMore see network events notes instant until world observer old put
+seen_none see {network} {events} {notes} instant until {world} observer old put a b = record {
   more = [];
-  stands = subst (λ (ns : List Note). StandsExact network world events ns) (sym (append-nil notes)) a;
+  stands = subst (λ ns. StandsExact network world events ns) (sym (append-nil notes)) a;
   sees = subst (λ (ns : List Note). see network events ns instant old put observer) (sym (append-nil notes)) b;
   earlier = inl refl;
 }
@@ -87,7 +92,7 @@ module _ {O : Type 0} (see : Sees O) (network : Network) (events : List Event) (
     joined = append_assoc notes h.more (note ∷ [])
 
     stands_joined : StandsExact network next events (notes ++ (h.more ++ note ∷ []))
-    stands_joined = subst (λ (ns : List Note). StandsExact network next events ns) joined stands
+    stands_joined = subst (λ ns. StandsExact network next events ns) joined stands
 
     pub seen_one : (later : O) (put : Told) → see network events ((notes ++ h.more) ++ note ∷ []) instant old put later
         → HasSeenMore see network events notes instant until next later old put
@@ -95,14 +100,14 @@ module _ {O : Type 0} (see : Sees O) (network : Network) (events : List Event) (
       more = h.more ++ note ∷ [];
       stands = stands_joined;
       sees = subst (λ (ns : List Note). see network events ns instant old put later) joined sees;
-      earlier = earlier_at network events notes (h.more ++ note ∷ []) until next lt stands_joined;
+      earlier = earlier_at network events notes (h.more ++ note ∷ []) until lt stands_joined;
     }
 
     pub cut_one : (stop : Stops O) (cut : Cut) (put : Told) → stop network events ((notes ++ h.more) ++ note ∷ []) cut old put
         → CutsBefore stop network events notes until cut old put
     cut_one stop cut put stops = record {
       more = h.more ++ note ∷ [];
-      earlier = earlier_at network events notes (h.more ++ note ∷ []) until next lt stands_joined;
+      earlier = earlier_at network events notes (h.more ++ note ∷ []) until lt stands_joined;
       stops = subst (λ (ns : List Note). stop network events ns cut old put) joined stops;
     }
 
@@ -115,7 +120,7 @@ module _ {O : Type 0} (see : Sees O) (network : Network) (events : List Event) (
         → HasSeenMore see network events notes None until past later old put
     seen_instant time past later put le s = record {
       more = (h.more ++ note ∷ []) ++ s.more;
-      stands = subst (λ (ns : List Note). StandsExact network past events ns) (further s.more) s.stands;
+      stands = subst (λ ns. StandsExact network past events ns) (further s.more) s.stands;
       sees = subst (λ (ns : List Note). see network events ns None old put later) (further s.more) s.sees;
       earlier =
           inr (
@@ -131,8 +136,8 @@ module _ {O : Type 0} (see : Sees O) (network : Network) (events : List Event) (
     cut_in_instant stop cut from put le k = record {
       more = (h.more ++ note ∷ []) ++ k.more;
       earlier =
-          earlier_joined network events notes (h.more ++ note ∷ []) k.more from until next le lt stands_joined
-          (subst (λ (ns : List Note). AreEarlier network events ns k.more from) joined k.earlier);
+          earlier_joined network events notes (h.more ++ note ∷ []) k.more from until le lt stands_joined
+          (subst (λ ns. AreEarlier network events ns k.more from) joined k.earlier);
       stops = subst (λ (ns : List Note). stop network events ns cut old put) (further k.more) k.stops;
     }
 
@@ -142,14 +147,15 @@ module _ {O : Type 0} (see : Sees O) (network : Network) (events : List Event) (
   cut_here stop cut stops = record { more = h.more; earlier = h.earlier; stops = stops }
 
 -- all were seen
-pub seen_until : {O : Type 0} (see : Sees O) (network : Network) (events : List Event) (notes : List Note) (until : Units) (from world next : ExactWorld)
-    (observer : O) (old : Start O) (now : Told) → (h : HasSeenMore see network events notes None (amount until) world observer old now)
+pub seen_until : {O : Type 0} {see : Sees O} {network : Network} {events : List Event} {notes : List Note}
+    (until : Units) (from : ExactWorld) {world next : ExactWorld} {observer : O} {old : Start O} {now : Told}
+    (h : HasSeenMore see network events notes None (amount until) world observer old now)
     → StandsExact network next events ((notes ++ h.more) ++ [])
-    → (from.ended ≡ true → pos from.now <ℤ until.0 → AreRecordsBefore network events (amount until ∷ []) (notes ++ h.more))
-    → SeesUntil see network events notes until from next observer old now
-seen_until see network events notes until from world next observer old now h stands all = record {
+    → (from.ended ≡ true → pos from.now <ℤ until.0 → AreRecordsBefore network events (amount until ∷ []) (notes
+    ++ h.more)) → SeesUntil see network events notes until from next observer old now
+seen_until {network} {events} {notes} until from {next} h stands all = record {
   more = h.more;
-  stands = subst (λ (ns : List Note). StandsExact network next events ns) (append-nil (notes ++ h.more)) stands;
+  stands = subst (λ ns. StandsExact network next events ns) (append-nil (notes ++ h.more)) stands;
   sees = h.sees;
   earlier = h.earlier;
   all = all;

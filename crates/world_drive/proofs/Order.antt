@@ -29,15 +29,16 @@ no_earlier events event not = elim (last_or_none events) [
 
 order_of : (events : List Event) (event : Event) → (ComesTooEarly events event → ⊥) → pos 0 ≤ℤ event.time.0 → (last_time events).0 ≤ℤ event.time.0
 order_of events event not begun = elim (no_earlier events event not) [
-  | inl none ↦ subst (λ (es : List Event). (last_time es).0 ≤ℤ event.time.0) (sym none) begun
+  | inl none ↦ subst (λ es. (last_time es).0 ≤ℤ event.time.0) (sym none) begun
   | inr some ↦
-      subst (λ (es : List Event). (last_time es).0 ≤ℤ event.time.0) (sym some.2)
+      subst (λ es. (last_time es).0 ≤ℤ event.time.0) (sym some.2)
       (subst (λ (t : Units). t.0 ≤ℤ event.time.0) (sym (last_is some.0 some.1)) some.3)
 ]
 
 -- the event that is given is no earlier than the last
-pub in_order : (network : Network) (events : List Event) (event : Event) → MayGive network events event → (last_time events).0 ≤ℤ event.time.0
-in_order network events event may = order_of events event (may.within conditions.Order) may.begun
+pub in_order : {network : Network} {events : List Event} {event : Event} → MayGive network events event
+    → (last_time events).0 ≤ℤ event.time.0
+in_order {events} {event} may = order_of events event (may.within conditions.Order) may.begun
 
 -- events that end at a time have an end
 pub have_ended : (events : List Event) (time : Units) → EndsAt events time → HaveEnded events

@@ -70,7 +70,7 @@ module _ (network : Network) (events : List Event) (notes : List Note) (note : N
   past_on t here past none next further more h i c = elim (in_parts h hs (y ∷ []) (subst (λ l. IsIn h l) joined i)) [
     | inl old ↦
         let lt = past h old c in
-        let from = given_from network events (notes ++ note ∷ []) further world next stands more in
+        let from = given_from network events (notes ++ note ∷ []) further stands more in
         omega (arith, lt, here, from, at)
     | inr (inl same) ↦ absurd (none (subst IsCorrection same c))
     | inr (inr bad) ↦ absurd bad
@@ -221,7 +221,7 @@ seen_settled network events notes t world at old put seen new complete is spread
             (record { 0 = new.spread }) at o.one o.of_now o.there o.correction
             (subst (λ l. IsSpreadAt s l t at) o.is spread) o.widest first second either),
         λ next note more h i c.
-            let behind_it = given_behind network events notes note next (t + 1) complete.all more in
+            let behind_it = given_behind network events notes note (t + 1) complete.all more in
             elim (in_parts h fs o.tail (subst (λ l. IsIn h l) o.is i)) [
               | inl old_one ↦ let lt = o.past h old_one c in omega (arith, lt, behind_it)
               | inr new_one ↦ let now = o.of_now h new_one in omega (arith, now, behind_it)

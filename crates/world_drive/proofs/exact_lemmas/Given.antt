@@ -10,30 +10,32 @@ if_some {X} o x P e m = let R : Option X → Type 0 = λ p. IfSome p P in subst 
 
 -- what holds where no record was given
 pub if_none : (given : Bool) (note : Note) (P : Type 0) → given ≡ false → IfNone (option_given given note) P → P
-if_none given note P e m = subst (λ (b : Bool). IfNone (option_given b note) P) e m
+if_none given note P e m = subst (λ b. IfNone (option_given b note) P) e m
 
--- a record was given
-pub given_some : (network : Network) (events : List Event) (notes : List Note) (world : ExactWorld) (given : Bool) (note : Note) → given ≡ true
-    → StandsExact network world events (notes ++ option_to_list (option_given given note)) → StandsExact network world events (notes ++ note ∷ [])
-given_some network events notes world given note is stands =
-    subst (λ (b : Bool). StandsExact network world events (notes ++ option_to_list (option_given b note))) is stands
+module _ (network : Network) (events : List Event) (notes : List Note) (world : ExactWorld) (given : Bool)
+    (note : Note) where
+  -- a record was given
+  pub given_some : given ≡ true → StandsExact network world events
+      (notes ++ option_to_list (option_given given note)) → StandsExact network world events (notes ++ note ∷ [])
+  given_some is stands =
+      subst (λ b. StandsExact network world events (notes ++ option_to_list (option_given b note))) is stands
 
--- or none was
-pub given_none : (network : Network) (events : List Event) (notes : List Note) (world : ExactWorld) (given : Bool) (note : Note) → given ≡ false
-    → StandsExact network world events (notes ++ option_to_list (option_given given note)) → StandsExact network world events (notes ++ [])
-given_none network events notes world given note is stands =
-    subst (λ (b : Bool). StandsExact network world events (notes ++ option_to_list (option_given b note))) is stands
+  -- or none was
+  pub given_none : given ≡ false → StandsExact network world events
+      (notes ++ option_to_list (option_given given note)) → StandsExact network world events (notes ++ [])
+  given_none is stands =
+      subst (λ b. StandsExact network world events (notes ++ option_to_list (option_given b note))) is stands
 
 -- it is of a time that is not reached
 pub is_before : (note : Note) (now : ℕ) (until : ℤ) → (note.time ≡ units_of now) × (note.time.0 <ℤ until) → pos now <ℤ until
 is_before note now until before = subst (λ (t : Units). t.0 <ℤ until) before.0 before.1
 
 -- after the end the time stays
-pub still_ended : (network : Network) (until : Units) (world next : ExactWorld) (events : List Event) (notes others : List Note)
-    → StandsExact network world events notes → StandsExact network next events others → (world.ended ≡ true → until.0 ≤ℤ pos (world.now + 1))
-    → next.ended ≡ true → until.0 ≤ℤ pos (next.now + 1)
-still_ended network until world next events notes others a b was ended =
-    let back = (go_on network world next events notes others a b).ended ended in
+pub still_ended : {network : Network} (until : Units) {world next : ExactWorld} {events : List Event}
+    {notes others : List Note} → StandsExact network world events notes → StandsExact network next events others
+    → (world.ended ≡ true → until.0 ≤ℤ pos (world.now + 1)) → next.ended ≡ true → until.0 ≤ℤ pos (next.now + 1)
+still_ended until a b was ended =
+    let back = (go_on a b).ended ended in
     let le = was back.0 in
     omega (arith, ints, le, back.1)
 

@@ -15,9 +15,9 @@ pub record GoOn (world next : ExactWorld) : Type 0 where
   pub unended : world.ended ≡ false → next.ended ≡ false
   pub ended : next.ended ≡ true → (world.ended ≡ true) × (pos next.now ≡ pos world.now)
 
-pub go_on : (network : Network) (world next : ExactWorld) (events : List Event) (notes others : List Note) → StandsExact network world events notes
-    → StandsExact network next events others → GoOn world next
-go_on network world next events notes others a b =
+pub go_on : {network : Network} {world next : ExactWorld} {events : List Event} {notes others : List Note}
+    → StandsExact network world events notes → StandsExact network next events others → GoOn world next
+go_on {world} {next} a b =
     let back : next.ended ≡ true → (world.ended ≡ true) × (pos next.now ≡ pos world.now) =
     λ ended. (a.is.ended (units_of next.now)).0 ((b.is.ended (units_of next.now)).1 (ended, refl)) in
     record {

@@ -18,5 +18,5 @@ begun_pushed network machines last count len is each device machine h =
     ⊎_elim
     (λ (g : slice_get machines device.0 ≡ Some machine). each device machine g)
     (λ (g : (device.0 ≡ length machines) × (last ≡ machine)).
-    subst (λ (place : ℕ). HasBegun network place machine) (sym (g.0 ∙ len)) (subst (λ (x : DeviceMachine). HasBegun network count x) g.1 is))
+    subst (λ place. HasBegun network place machine) (sym (g.0 ∙ len)) (subst (λ x. HasBegun network count x) g.1 is))
     (pushed machines last machine device.0 h)

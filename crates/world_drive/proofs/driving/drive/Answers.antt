@@ -5,7 +5,7 @@ use Rattle.world_drive.proofs.driving.drive.Goals as goal
 
 pub events-init : goal.events-init
 events-init g c =
-    driving_first g.K.Sink g.E.Events.gave g.O.Observer.sees c.args.network.now c.args.from.now c.args.source.now c.args.world.now c.args.observer.now _ _
+    driving_first g.K.Sink g.E.Events.gave g.O.Observer.sees c.args.from.now c.args.source.now c.args.observer.now _ _
     c.args.out.now c.requires.world c.requires.fresh c.requires.source c.requires.observer refl refl
 
 pub overflow_add-line : goal.overflow_add-line
@@ -64,7 +64,7 @@ events-preserved g c =
     c.events.observer c.events.time c.events.line c.args.out.now c.events.out c.events.invariant
     c.next_event.new.out c.next_event.ensures.nothing_put))
     c.in-Ok.ensures.reached
-    (puts_more g.K.Sink (tt {0}) c.args.out.now c.next_event.new.out c.see_event.new.out
+    (puts_more (tt {0})
     (puts_then g.K.Sink g.E.Events.gave g.O.Observer.sees c.args.network.now c.args.from.now c.args.source.now c.args.observer.now c.events.from
     c.events.source c.events.world
     c.events.observer c.events.time c.events.line c.args.out.now c.events.out c.events.invariant

@@ -75,8 +75,7 @@ returns-in-Ok-befall-clause-sees g c events notes old n b =
     let s = c.in-Ok.ensures.sees events notes old n.stands b in
     let ns = notes ++ s.more in
     let reached = c.in-Ok.ensures.reached in
-    let number = same_number network world c.requires.may.events events c.requires.may.notes notes line c.requires.may.next.stands n.stands
-    c.requires.may.number in
+    let number = same_number line c.requires.may.next.stands n.stands c.requires.may.number in
     let stands = c.in-Ok-befall.ensures.stands network events ns s.stands n.may.within in
     let run = c.in-Ok-befall.ensures.run network events ns s.stands n.may.within in
     let is = c.in-Ok-befall.ensures.note in
@@ -103,9 +102,7 @@ returns-in-Ok-befall-clause-reached g c =
 
 pub returns-in-Ok-befall-clause-puts : goal.returns-in-Ok-befall-clause-puts
 returns-in-Ok-befall-clause-puts g c =
-    puts_on g.K.Sink c.event.result c.args.out.now c.see_until.new.out c.event.new.out
-    (puts_so_far g.K.Sink (tt {0}) c.args.out.now c.see_until.new.out c.in-Ok.ensures.puts)
-    c.event.ensures.puts
+    puts_on c.event.result (puts_so_far (tt {0}) c.in-Ok.ensures.puts) c.event.ensures.puts
 
 pub returns-in-Err-befall-clause-sees : goal.returns-in-Err-befall-clause-sees
 returns-in-Err-befall-clause-sees g c events notes old n b =
@@ -116,5 +113,4 @@ returns-in-Err-befall-clause-sees g c events notes old n b =
     g.O.Observer.stops _ (g.met.O.Observer.cut network events (notes ++ s.more) None old put c.see_until.new.observer s.sees)
 
 pub returns-in-Err-befall-clause-puts : goal.returns-in-Err-befall-clause-puts
-returns-in-Err-befall-clause-puts g c = puts_memory g.K.Sink c.args.out.now c.see_until.new.out
-    (puts_so_far g.K.Sink (tt {0}) c.args.out.now c.see_until.new.out c.in-Ok.ensures.puts)
+returns-in-Err-befall-clause-puts g c = puts_memory (puts_so_far (tt {0}) c.in-Ok.ensures.puts)

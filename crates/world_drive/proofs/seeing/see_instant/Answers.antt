@@ -6,7 +6,7 @@ use Rattle.world_drive.proofs.seeing.see_instant.Goals as goal
 pub notes-init : goal.notes-init
 notes-init g c = record {
   sees = λ events notes old a b.
-      seen_none g.O.Observer.sees c.args.network.now events notes (Some (amount c.args.time)) (amount c.args.time + 1) c.args.world.now c.args.observer.now old
+      seen_none g.O.Observer.sees (Some (amount c.args.time)) (amount c.args.time + 1) c.args.observer.now old
       (told_by g.K.Sink c.args.out.now) a.stands b;
   now = refl;
   puts = puts_none g.K.Sink c.args.out.now;
@@ -61,21 +61,23 @@ notes-preserved g c =
     let sink = g.K.Sink in
     let u = c.requires.seen in
     let own = c.notes.invariant.sees u.events u.notes u.old u.at u.sees in
-    let first = given_in network u.events (u.notes ++ own.more) c.next_given.new.note time c.next_unit.result c.args.world.now c.notes.world next
+    let first = given_in network u.events (u.notes ++ own.more) c.next_given.new.note time c.next_unit.result
+    c.args.world.now
     c.in-Ok-true.field-0 c.in-Ok-true.field-0-test own.stands (c.in-Ok-true.ensures.stands network u.events (u.notes ++ own.more) own.stands)
     c.in-Ok-true.ensures.before u.at.now c.notes.invariant.now c.next_unit.ensures in
     let here = first.here in
     record {
       sees = λ events notes old a b.
           let h = c.notes.invariant.sees events notes old a b in
-          let given = given_in network events (notes ++ h.more) c.next_given.new.note time c.next_unit.result c.args.world.now c.notes.world next
+          let given = given_in network events (notes ++ h.more) c.next_given.new.note time c.next_unit.result
+          c.args.world.now
           c.in-Ok-true.field-0 c.in-Ok-true.field-0-test h.stands (c.in-Ok-true.ensures.stands network events (notes ++ h.more) h.stands)
           c.in-Ok-true.ensures.before a.now c.notes.invariant.now c.next_unit.ensures in
           seen_one g.O.Observer.sees network events notes (Some (amount time)) (amount time + 1) c.notes.world c.notes.observer old (told_by sink c.notes.out) h
           c.next_given.new.note next (omega (arith, here)) given.stands c.record.new.self (told_by sink c.record.new.out)
           (c.in-Ok.ensures.goes events (notes ++ h.more) (Some (amount time)) old given h.sees);
       now = here ∙ amount_now c.args.world.now time u.at.now;
-      puts = puts_more sink c.in-Ok.field-0 c.args.out.now c.notes.out c.record.new.out c.notes.invariant.puts c.in-Ok.ensures.puts;
+      puts = puts_more c.in-Ok.field-0 c.notes.invariant.puts c.in-Ok.ensures.puts;
     }
 
 pub returns-in-Err-record-clause-sees : goal.returns-in-Err-record-clause-sees
@@ -85,7 +87,7 @@ returns-in-Err-record-clause-sees g c events notes old a b =
     let next = c.next_given.new.self in
     let sink = g.K.Sink in
     let h = c.notes.invariant.sees events notes old a b in
-    let given = given_in network events (notes ++ h.more) c.next_given.new.note time c.next_unit.result c.args.world.now c.notes.world next
+    let given = given_in network events (notes ++ h.more) c.next_given.new.note time c.next_unit.result c.args.world.now
     c.in-Ok-true.field-0 c.in-Ok-true.field-0-test h.stands (c.in-Ok-true.ensures.stands network events (notes ++ h.more) h.stands)
     c.in-Ok-true.ensures.before a.now c.notes.invariant.now c.next_unit.ensures in
     let here = given.here in
@@ -95,7 +97,7 @@ returns-in-Err-record-clause-sees g c events notes old a b =
 
 pub returns-in-Err-record-clause-puts : goal.returns-in-Err-record-clause-puts
 returns-in-Err-record-clause-puts g c =
-    puts_cut g.K.Sink c.in-Err-record.cut c.args.out.now c.notes.out c.record.new.out c.notes.invariant.puts c.in-Err-record.ensures.puts
+    puts_cut c.in-Err-record.cut c.notes.invariant.puts c.in-Err-record.ensures.puts
 
 pub instant-requires-clause-may : goal.instant-requires-clause-may
 instant-requires-clause-may g c =
@@ -104,7 +106,7 @@ instant-requires-clause-may g c =
     let now = u.at.now in
     let limit = u.at.stands.is.limit in
     let h = c.notes.invariant.sees u.events u.notes u.old u.at u.sees in
-    let over = instant_over network u.events u.notes h.more c.args.time c.next_unit.result c.args.world.now c.notes.world c.next_given.new.self
+    let over = instant_over h.more c.next_unit.result
     c.in-Ok-false.field-0 c.next_given.new.note c.in-Ok-false.field-0-test u.at h.stands c.notes.invariant.now c.next_unit.ensures
     (c.in-Ok-false.ensures.stands network u.events (u.notes ++ h.more) h.stands)
     (c.in-Ok-false.ensures.complete network u.events (u.notes ++ h.more) h.stands) c.in-Ok-false.ensures.reached in
@@ -114,7 +116,7 @@ instant-requires-clause-may g c =
       events = u.events;
       notes = u.notes ++ h.more;
       old = u.old;
-      complete = complete_past network u.events u.notes h.more c.args.time c.args.world.now c.next_given.new.self u.at over.stands over.past over.all;
+      complete = complete_past network u.events u.notes h.more u.at over.stands over.past over.all;
       sees = h.sees;
     }
 
@@ -128,7 +130,7 @@ returns-in-Ok-false-clause-sees g c events notes old a b =
     let stop = g.O.Observer.stops in
     let h = c.notes.invariant.sees events notes old a b in
     let ns = notes ++ h.more in
-    let over = instant_over network events notes h.more time c.next_unit.result c.args.world.now c.notes.world next
+    let over = instant_over h.more c.next_unit.result
     c.in-Ok-false.field-0 c.next_given.new.note c.in-Ok-false.field-0-test a h.stands c.notes.invariant.now c.next_unit.ensures
     (c.in-Ok-false.ensures.stands network events ns h.stands) (c.in-Ok-false.ensures.complete network events ns h.stands) c.in-Ok-false.ensures.reached in
     match_on c.instant.result (λ _. see network events ns None old put c.instant.new.self)
@@ -136,22 +138,22 @@ returns-in-Ok-false-clause-sees g c events notes old a b =
     (λ cut. stop network events ns cut old put) (λ cut. CutsBefore stop network events notes (amount time + 1) cut old put)
     (λ _ sees. record { more = h.more; stands = over.stands; sees = sees; all = over.all })
     (λ cut stops. record { more = h.more; earlier = inr ((amount time + 1) ∷ [], λ p before. before, over.all); stops = stops })
-    (c.instant.ensures.goes events ns old (complete_past network events notes h.more time c.args.world.now next a over.stands over.past over.all) h.sees)
+    (c.instant.ensures.goes events ns old (complete_past network events notes h.more a over.stands over.past
+    over.all) h.sees)
 
 pub returns-in-Ok-false-clause-past : goal.returns-in-Ok-false-clause-past
 returns-in-Ok-false-clause-past g c =
     let network = c.args.network.now in
     let u = c.requires.seen in
     let h = c.notes.invariant.sees u.events u.notes u.old u.at u.sees in
-    let over = instant_over network u.events u.notes h.more c.args.time c.next_unit.result c.args.world.now c.notes.world c.next_given.new.self
+    let over = instant_over h.more c.next_unit.result
     c.in-Ok-false.field-0 c.next_given.new.note c.in-Ok-false.field-0-test u.at h.stands c.notes.invariant.now c.next_unit.ensures
     (c.in-Ok-false.ensures.stands network u.events (u.notes ++ h.more) h.stands)
     (c.in-Ok-false.ensures.complete network u.events (u.notes ++ h.more) h.stands) c.in-Ok-false.ensures.reached in
     on_ok c.instant.result (IsPast c.args.world.now c.next_given.new.self) over.past
 
 pub returns-in-Ok-false-clause-puts : goal.returns-in-Ok-false-clause-puts
-returns-in-Ok-false-clause-puts g c = puts_on g.K.Sink c.instant.result c.args.out.now c.notes.out c.instant.new.out c.notes.invariant.puts
-    c.instant.ensures.puts
+returns-in-Ok-false-clause-puts g c = puts_on c.instant.result c.notes.invariant.puts c.instant.ensures.puts
 
 pub returns-in-Err-clause-sees : goal.returns-in-Err-clause-sees
 returns-in-Err-clause-sees g c events notes old a b =

@@ -8,7 +8,7 @@ use Rattle.world_drive.proofs.seeing.see_until.Goals as goal
 pub notes-init : goal.notes-init
 notes-init g c = record {
   sees = λ events notes old a b.
-      seen_none g.O.Observer.sees c.args.network.now events notes None (amount c.args.until) c.args.world.now c.args.observer.now old
+      seen_none g.O.Observer.sees None (amount c.args.until) c.args.observer.now old
       (told_by g.K.Sink c.args.out.now) a b;
   asked = c.requires.asked;
   way = λ open_. inl refl;
@@ -20,7 +20,7 @@ next_given-requires-clause-limit g c =
     let network = c.args.network.now in
     let u = c.requires.seen in
     let h = c.notes.invariant.sees u.events u.notes u.old u.stands u.sees in
-    asked_limit network c.args.until c.notes.world u.events (u.notes ++ h.more) h.stands c.notes.invariant.asked
+    asked_limit network c.args.until c.notes.world h.stands c.notes.invariant.asked
 
 pub next_given-requires-clause-ended : goal.next_given-requires-clause-ended
 next_given-requires-clause-ended g c = c.notes.invariant.asked.ended
@@ -55,20 +55,21 @@ see_instant-requires-clause-seen g c =
     let before = is_before note next.now until.0 (c.in-Ok-true.ensures.before c.in-Ok-true.field-0-test) in
     let u = c.requires.seen in
     let h = c.notes.invariant.sees u.events u.notes u.old u.stands u.sees in
-    let given = given_before network u.events (u.notes ++ h.more) note until next c.in-Ok-true.field-0 c.in-Ok-true.field-0-test
+    let given = given_before network u.events (u.notes ++ h.more) note until c.in-Ok-true.field-0
+    c.in-Ok-true.field-0-test
     (c.in-Ok-true.ensures.stands network u.events (u.notes ++ h.more) h.stands) c.in-Ok-true.ensures.before in
-    let room = room_now network until world next u.events (u.notes ++ h.more) ((u.notes ++ h.more) ++ note ∷ []) h.stands given.stands before
-    c.notes.invariant.asked in
+    let room = room_now network until world h.stands given.stands before c.notes.invariant.asked in
     record {
       events = u.events;
       notes = (u.notes ++ h.more) ++ note ∷ [];
       old = u.old;
-      at = subst (λ (u_ : Units). IsUnderwayAt network next u.events ((u.notes ++ h.more) ++ note ∷ []) u_) (sym time_is)
-          (underway_now network next u.events (u.notes ++ h.more) note given.stands given.at (c.in-Ok-true-record.ensures.asks c.in-Ok-true-record.field-0-test)
+      at = subst (λ u_. IsUnderwayAt network next u.events ((u.notes ++ h.more) ++ note ∷ []) u_) (sym time_is)
+          (underway_now (u.notes ++ h.more) note given.stands given.at
+          (c.in-Ok-true-record.ensures.asks c.in-Ok-true-record.field-0-test)
           room);
-      sees = subst (λ (u_ : Units). see network u.events ((u.notes ++ h.more) ++ note ∷ []) (Some (amount u_)) u.old (told_by sink c.record.new.out)
+      sees = subst (λ u_. see network u.events ((u.notes ++ h.more) ++ note ∷ []) (Some (amount u_)) u.old (told_by sink c.record.new.out)
           c.record.new.self) (sym time_is)
-          (subst (λ (asks : Bool). see network u.events ((u.notes ++ h.more) ++ note ∷ []) (instant_of None asks note.time) u.old
+          (subst (λ asks. see network u.events ((u.notes ++ h.more) ++ note ∷ []) (instant_of None asks note.time) u.old
           (told_by sink c.record.new.out) c.record.new.self) c.in-Ok-true-record.field-0-test
           (c.in-Ok-true-record.ensures.goes u.events (u.notes ++ h.more) None u.old given h.sees));
     }
@@ -89,21 +90,22 @@ notes-preserved g c =
     let u = c.requires.seen in
     let own = c.notes.invariant.sees u.events u.notes u.old u.stands u.sees in
     let ns = u.notes ++ own.more in
-    let first = given_before network u.events ns note until next c.in-Ok-true.field-0 c.in-Ok-true.field-0-test
+    let first = given_before network u.events ns note until c.in-Ok-true.field-0 c.in-Ok-true.field-0-test
     (c.in-Ok-true.ensures.stands network u.events ns own.stands) c.in-Ok-true.ensures.before in
     record {
       sees = λ events notes old a b.
           let h = c.notes.invariant.sees events notes old a b in
-          let given = given_before network events (notes ++ h.more) note until next c.in-Ok-true.field-0 c.in-Ok-true.field-0-test
+          let given = given_before network events (notes ++ h.more) note until c.in-Ok-true.field-0
+          c.in-Ok-true.field-0-test
           (c.in-Ok-true.ensures.stands network events (notes ++ h.more) h.stands) c.in-Ok-true.ensures.before in
-          let saw = subst (λ (asks : Bool). see network events ((notes ++ h.more) ++ note ∷ []) (instant_of None asks note.time) old
+          let saw = subst (λ asks. see network events ((notes ++ h.more) ++ note ∷ []) (instant_of None asks note.time) old
           (told_by sink c.record.new.out) c.record.new.self) c.in-Ok-false-record.field-0-test
           (c.in-Ok-false-record.ensures.goes events (notes ++ h.more) None old given h.sees) in
           seen_one see network events notes None (amount until) world c.notes.observer old (told_by sink c.notes.out) h note next
           (below_amount next.now until.0 before) given.stands c.record.new.self (told_by sink c.record.new.out) saw;
-      asked = asked_still network until world next u.events ns (ns ++ note ∷ []) own.stands first.stands (omega (arith, ints, before)) c.notes.invariant.asked;
+      asked = asked_still own.stands first.stands (omega (arith, ints, before)) c.notes.invariant.asked;
       way = λ open_. inr (inl before);
-      puts = puts_more sink c.in-Ok-false-record.field-0 c.args.out.now c.notes.out c.record.new.out c.notes.invariant.puts c.in-Ok-false-record.ensures.puts;
+      puts = puts_more c.in-Ok-false-record.field-0 c.notes.invariant.puts c.in-Ok-false-record.ensures.puts;
     }
 
 pub notes-smaller-in-Ok : goal.notes-smaller-in-Ok
@@ -124,18 +126,18 @@ notes-smaller-in-Ok g c =
     let a = c.requires.seen.stands in
     let b = c.requires.seen.sees in
     let h = c.notes.invariant.sees events notes old a b in
-    let given = given_before network events (notes ++ h.more) note until next c.in-Ok-true.field-0 c.in-Ok-true.field-0-test
+    let given = given_before network events (notes ++ h.more) note until c.in-Ok-true.field-0 c.in-Ok-true.field-0-test
     (c.in-Ok-true.ensures.stands network events (notes ++ h.more) h.stands) c.in-Ok-true.ensures.before in
-    let room = room_now network until world next events (notes ++ h.more) ((notes ++ h.more) ++ note ∷ []) h.stands given.stands before
-    c.notes.invariant.asked in
-    let at = subst (λ (u : Units). IsUnderwayAt network next events ((notes ++ h.more) ++ note ∷ []) u) (sym time_is)
-    (underway_now network next events (notes ++ h.more) note given.stands given.at (c.in-Ok-true-record.ensures.asks c.in-Ok-true-record.field-0-test) room) in
-    let saw = subst (λ (u : Units). see network events ((notes ++ h.more) ++ note ∷ []) (Some (amount u)) old (told_by sink c.record.new.out) c.record.new.self)
-    (sym time_is) (subst (λ (asks : Bool). see network events ((notes ++ h.more) ++ note ∷ []) (instant_of None asks note.time) old
+    let room = room_now network until world h.stands given.stands before c.notes.invariant.asked in
+    let at = subst (λ u. IsUnderwayAt network next events ((notes ++ h.more) ++ note ∷ []) u) (sym time_is)
+    (underway_now (notes ++ h.more) note given.stands given.at
+    (c.in-Ok-true-record.ensures.asks c.in-Ok-true-record.field-0-test) room) in
+    let saw = subst (λ u. see network events ((notes ++ h.more) ++ note ∷ []) (Some (amount u)) old (told_by sink c.record.new.out) c.record.new.self)
+    (sym time_is) (subst (λ asks. see network events ((notes ++ h.more) ++ note ∷ []) (instant_of None asks note.time) old
     (told_by sink c.record.new.out) c.record.new.self) c.in-Ok-true-record.field-0-test
     (c.in-Ok-true-record.ensures.goes events (notes ++ h.more) None old given h.sees)) in
     let s = c.in-Ok.ensures.sees events ((notes ++ h.more) ++ note ∷ []) old at saw in
-    fewer network events events (notes ++ h.more) s.more note world c.see_instant.new.world h.stands s.stands
+    fewer s.more note h.stands s.stands
 
 pub notes-preserved-in-Ok : goal.notes-preserved-in-Ok
 notes-preserved-in-Ok g c =
@@ -152,21 +154,21 @@ notes-preserved-in-Ok g c =
     let u = c.requires.seen in
     let own = c.notes.invariant.sees u.events u.notes u.old u.stands u.sees in
     let ns = u.notes ++ own.more in
-    let first = given_before network u.events ns note until next c.in-Ok-true.field-0 c.in-Ok-true.field-0-test
+    let first = given_before network u.events ns note until c.in-Ok-true.field-0 c.in-Ok-true.field-0-test
     (c.in-Ok-true.ensures.stands network u.events ns own.stands) c.in-Ok-true.ensures.before in
     let past = c.see_instant.new.world in
     let on = c.in-Ok.ensures.past in
     let others : (ms : List NoteValue) × StandsExact network past u.events ms =
     (let events = u.events in let notes = u.notes in let old = u.old in let a = u.stands in let b = u.sees in
     let h = c.notes.invariant.sees events notes old a b in
-    let given = given_before network events (notes ++ h.more) note until next c.in-Ok-true.field-0 c.in-Ok-true.field-0-test
+    let given = given_before network events (notes ++ h.more) note until c.in-Ok-true.field-0 c.in-Ok-true.field-0-test
     (c.in-Ok-true.ensures.stands network events (notes ++ h.more) h.stands) c.in-Ok-true.ensures.before in
-    let room = room_now network until world next events (notes ++ h.more) ((notes ++ h.more) ++ note ∷ []) h.stands given.stands before
-    c.notes.invariant.asked in
-    let at = subst (λ (u : Units). IsUnderwayAt network next events ((notes ++ h.more) ++ note ∷ []) u) (sym time_is)
-    (underway_now network next events (notes ++ h.more) note given.stands given.at (c.in-Ok-true-record.ensures.asks c.in-Ok-true-record.field-0-test) room) in
-    let saw = subst (λ (u : Units). see network events ((notes ++ h.more) ++ note ∷ []) (Some (amount u)) old (told_by sink c.record.new.out) c.record.new.self)
-    (sym time_is) (subst (λ (asks : Bool). see network events ((notes ++ h.more) ++ note ∷ []) (instant_of None asks note.time) old
+    let room = room_now network until world h.stands given.stands before c.notes.invariant.asked in
+    let at = subst (λ u. IsUnderwayAt network next events ((notes ++ h.more) ++ note ∷ []) u) (sym time_is)
+    (underway_now (notes ++ h.more) note given.stands given.at
+    (c.in-Ok-true-record.ensures.asks c.in-Ok-true-record.field-0-test) room) in
+    let saw = subst (λ u. see network events ((notes ++ h.more) ++ note ∷ []) (Some (amount u)) old (told_by sink c.record.new.out) c.record.new.self)
+    (sym time_is) (subst (λ asks. see network events ((notes ++ h.more) ++ note ∷ []) (instant_of None asks note.time) old
     (told_by sink c.record.new.out) c.record.new.self) c.in-Ok-true-record.field-0-test
     (c.in-Ok-true-record.ensures.goes events (notes ++ h.more) None old given h.sees)) in
     let s = c.in-Ok.ensures.sees events ((notes ++ h.more) ++ note ∷ []) old at saw in
@@ -174,16 +176,17 @@ notes-preserved-in-Ok g c =
     record {
       sees = λ events notes old a b.
           let h = c.notes.invariant.sees events notes old a b in
-          let given = given_before network events (notes ++ h.more) note until next c.in-Ok-true.field-0 c.in-Ok-true.field-0-test
+          let given = given_before network events (notes ++ h.more) note until c.in-Ok-true.field-0
+          c.in-Ok-true.field-0-test
           (c.in-Ok-true.ensures.stands network events (notes ++ h.more) h.stands) c.in-Ok-true.ensures.before in
-          let room = room_now network until world next events (notes ++ h.more) ((notes ++ h.more) ++ note ∷ []) h.stands given.stands before
-          c.notes.invariant.asked in
-          let at = subst (λ (u : Units). IsUnderwayAt network next events ((notes ++ h.more) ++ note ∷ []) u) (sym time_is)
-          (underway_now network next events (notes ++ h.more) note given.stands given.at (c.in-Ok-true-record.ensures.asks c.in-Ok-true-record.field-0-test)
+          let room = room_now network until world h.stands given.stands before c.notes.invariant.asked in
+          let at = subst (λ u. IsUnderwayAt network next events ((notes ++ h.more) ++ note ∷ []) u) (sym time_is)
+          (underway_now (notes ++ h.more) note given.stands given.at
+          (c.in-Ok-true-record.ensures.asks c.in-Ok-true-record.field-0-test)
           room) in
-          let saw = subst (λ (u : Units). see network events ((notes ++ h.more) ++ note
+          let saw = subst (λ u. see network events ((notes ++ h.more) ++ note
           ∷ []) (Some (amount u)) old (told_by sink c.record.new.out) c.record.new.self)
-          (sym time_is) (subst (λ (asks : Bool). see network events ((notes ++ h.more) ++ note ∷ []) (instant_of None asks note.time) old
+          (sym time_is) (subst (λ asks. see network events ((notes ++ h.more) ++ note ∷ []) (instant_of None asks note.time) old
           (told_by sink c.record.new.out) c.record.new.self) c.in-Ok-true-record.field-0-test
           (c.in-Ok-true-record.ensures.goes events (notes ++ h.more) None old given h.sees)) in
           let s = c.in-Ok.ensures.sees events ((notes ++ h.more) ++ note ∷ []) old at saw in
@@ -191,12 +194,11 @@ notes-preserved-in-Ok g c =
           let below = below_amount next.now until.0 before in
           seen_instant see network events notes None (amount until) world c.notes.observer old (told_by sink c.notes.out) h note next
           below given.stands time past c.see_instant.new.observer (told_by sink c.see_instant.new.out) (omega (arith, same, below)) s;
-      asked = asked_still network until world past u.events ns others.0 own.stands others.1 (past_order next past until before on) c.notes.invariant.asked;
+      asked = asked_still own.stands others.1 (past_order next past until before on) c.notes.invariant.asked;
       way = λ open_.
-          past_near c.args.world.now next past until before
-          ((go_on network c.args.world.now past u.events u.notes others.0 u.stands others.1).unended open_) on;
-      puts = puts_more sink (tt {0}) c.args.out.now c.record.new.out c.see_instant.new.out
-          (puts_more sink c.in-Ok-true-record.field-0 c.args.out.now c.notes.out c.record.new.out c.notes.invariant.puts c.in-Ok-true-record.ensures.puts)
+          past_near c.args.world.now next past until before ((go_on u.stands others.1).unended open_) on;
+      puts = puts_more (tt {0})
+          (puts_more c.in-Ok-true-record.field-0 c.notes.invariant.puts c.in-Ok-true-record.ensures.puts)
           c.in-Ok.ensures.puts;
     }
 
@@ -213,14 +215,14 @@ returns-in-Err-see_instant-clause-sees g c events notes old a b =
     let time_is : time ≡ note.time = ap (λ (n : NoteValue). n.time) c.note.view_is in
     let before = is_before note next.now until.0 (c.in-Ok-true.ensures.before c.in-Ok-true.field-0-test) in
     let h = c.notes.invariant.sees events notes old a b in
-    let given = given_before network events (notes ++ h.more) note until next c.in-Ok-true.field-0 c.in-Ok-true.field-0-test
+    let given = given_before network events (notes ++ h.more) note until c.in-Ok-true.field-0 c.in-Ok-true.field-0-test
     (c.in-Ok-true.ensures.stands network events (notes ++ h.more) h.stands) c.in-Ok-true.ensures.before in
-    let room = room_now network until world next events (notes ++ h.more) ((notes ++ h.more) ++ note ∷ []) h.stands given.stands before
-    c.notes.invariant.asked in
-    let at = subst (λ (u : Units). IsUnderwayAt network next events ((notes ++ h.more) ++ note ∷ []) u) (sym time_is)
-    (underway_now network next events (notes ++ h.more) note given.stands given.at (c.in-Ok-true-record.ensures.asks c.in-Ok-true-record.field-0-test) room) in
-    let saw = subst (λ (u : Units). see network events ((notes ++ h.more) ++ note ∷ []) (Some (amount u)) old (told_by sink c.record.new.out) c.record.new.self)
-    (sym time_is) (subst (λ (asks : Bool). see network events ((notes ++ h.more) ++ note ∷ []) (instant_of None asks note.time) old
+    let room = room_now network until world h.stands given.stands before c.notes.invariant.asked in
+    let at = subst (λ u. IsUnderwayAt network next events ((notes ++ h.more) ++ note ∷ []) u) (sym time_is)
+    (underway_now (notes ++ h.more) note given.stands given.at
+    (c.in-Ok-true-record.ensures.asks c.in-Ok-true-record.field-0-test) room) in
+    let saw = subst (λ u. see network events ((notes ++ h.more) ++ note ∷ []) (Some (amount u)) old (told_by sink c.record.new.out) c.record.new.self)
+    (sym time_is) (subst (λ asks. see network events ((notes ++ h.more) ++ note ∷ []) (instant_of None asks note.time) old
     (told_by sink c.record.new.out) c.record.new.self) c.in-Ok-true-record.field-0-test
     (c.in-Ok-true-record.ensures.goes events (notes ++ h.more) None old given h.sees)) in
     let k = c.in-Err-see_instant.ensures.sees events ((notes ++ h.more) ++ note ∷ []) old at saw in
@@ -232,8 +234,8 @@ returns-in-Err-see_instant-clause-sees g c events notes old a b =
 pub returns-in-Err-see_instant-clause-puts : goal.returns-in-Err-see_instant-clause-puts
 returns-in-Err-see_instant-clause-puts g c =
     let sink = g.K.Sink in
-    puts_cut sink c.in-Err-see_instant.cut c.args.out.now c.record.new.out c.see_instant.new.out
-    (puts_more sink c.in-Ok-true-record.field-0 c.args.out.now c.notes.out c.record.new.out c.notes.invariant.puts c.in-Ok-true-record.ensures.puts)
+    puts_cut c.in-Err-see_instant.cut
+    (puts_more c.in-Ok-true-record.field-0 c.notes.invariant.puts c.in-Ok-true-record.ensures.puts)
     c.in-Err-see_instant.ensures.puts
 
 pub returns-in-Err-record-clause-sees : goal.returns-in-Err-record-clause-sees
@@ -247,7 +249,7 @@ returns-in-Err-record-clause-sees g c events notes old a b =
     let next = c.next_given.new.self in
     let before = is_before note next.now until.0 (c.in-Ok-true.ensures.before c.in-Ok-true.field-0-test) in
     let h = c.notes.invariant.sees events notes old a b in
-    let given = given_before network events (notes ++ h.more) note until next c.in-Ok-true.field-0 c.in-Ok-true.field-0-test
+    let given = given_before network events (notes ++ h.more) note until c.in-Ok-true.field-0 c.in-Ok-true.field-0-test
     (c.in-Ok-true.ensures.stands network events (notes ++ h.more) h.stands) c.in-Ok-true.ensures.before in
     cut_one see network events notes None (amount until) world c.notes.observer old (told_by sink c.notes.out) h note next
     (below_amount next.now until.0 before) given.stands g.O.Observer.stops c.in-Err-record.cut (told_by sink c.record.new.out)
@@ -255,7 +257,7 @@ returns-in-Err-record-clause-sees g c events notes old a b =
 
 pub returns-in-Err-record-clause-puts : goal.returns-in-Err-record-clause-puts
 returns-in-Err-record-clause-puts g c =
-    puts_cut g.K.Sink c.in-Err-record.cut c.args.out.now c.notes.out c.record.new.out c.notes.invariant.puts c.in-Err-record.ensures.puts
+    puts_cut c.in-Err-record.cut c.notes.invariant.puts c.in-Err-record.ensures.puts
 
 pub returns-in-Ok-false-clause-sees : goal.returns-in-Ok-false-clause-sees
 returns-in-Ok-false-clause-sees g c events notes old a b =
@@ -264,11 +266,11 @@ returns-in-Ok-false-clause-sees g c events notes old a b =
     let next = c.next_given.new.self in
     let h = c.notes.invariant.sees events notes old a b in
     let ns = notes ++ h.more in
-    seen_until g.O.Observer.sees network events notes until c.args.world.now c.notes.world next c.notes.observer old (told_by g.K.Sink c.notes.out) h
+    seen_until until c.args.world.now h
     (given_none network events ns next c.in-Ok-false.field-0 c.next_given.new.note c.in-Ok-false.field-0-test
     (c.in-Ok-false.ensures.stands network events ns h.stands))
     (λ ended lt.
-    let same = (end_stays network c.args.world.now c.notes.world events notes ns a h.stands ended).1 in
+    let same = (end_stays a h.stands ended).1 in
     (c.in-Ok-false.ensures.complete network events ns h.stands (omega (arith, ints, same, lt)) c.in-Ok-false.field-0-test).run)
 
 pub returns-in-Ok-false-clause-reached : goal.returns-in-Ok-false-clause-reached
@@ -277,11 +279,11 @@ returns-in-Ok-false-clause-reached g c =
     let next = c.next_given.new.self in
     let u = c.requires.seen in
     let h = c.notes.invariant.sees u.events u.notes u.old u.stands u.sees in
-    way_reached network c.args.until c.args.world.now c.notes.world next u.events u.notes (u.notes ++ h.more) u.stands h.stands c.notes.invariant.way
+    way_reached c.args.until next u.stands h.stands c.notes.invariant.way
     (if_none c.in-Ok-false.field-0 c.next_given.new.note (Reaches c.notes.world next c.args.until) c.in-Ok-false.field-0-test c.in-Ok-false.ensures.reached)
 
 pub returns-in-Ok-false-clause-puts : goal.returns-in-Ok-false-clause-puts
-returns-in-Ok-false-clause-puts g c = puts_well g.K.Sink (tt {0}) c.args.out.now c.notes.out c.notes.invariant.puts
+returns-in-Ok-false-clause-puts g c = puts_well (tt {0}) c.notes.invariant.puts
 
 pub returns-in-Err-clause-sees : goal.returns-in-Err-clause-sees
 returns-in-Err-clause-sees g c events notes old a b =

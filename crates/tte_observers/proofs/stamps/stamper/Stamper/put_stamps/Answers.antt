@@ -16,7 +16,7 @@ devices-preserved g c = record {
       one_more_device g.K.Sink c.args.network.now (line_at c.args.network.now before event notes) c.devices.place c.args.self.now.granule
       c.devices.self.granule c.args.out.now c.devices.out c.put_stamp.new.out c.devices.invariant.granule
       (c.devices.invariant.stamps before event notes at) (c.in-Ok.ensures.stamps before event notes at);
-  puts = puts_more g.K.Sink (tt {0}) c.args.out.now c.devices.out c.put_stamp.new.out c.devices.invariant.puts c.in-Ok.ensures.further;
+  puts = puts_more (tt {0}) c.devices.invariant.puts c.in-Ok.ensures.further;
   granule = c.put_stamp.ensures.granule ∙ c.devices.invariant.granule;
 }
 
@@ -30,7 +30,7 @@ returns-in-Err-clause-stamps g c = λ before event notes at.
 
 pub returns-in-Err-clause-further : goal.returns-in-Err-clause-further
 returns-in-Err-clause-further g c =
-    puts_cut g.K.Sink c.in-Err.cut c.args.out.now c.devices.out c.put_stamp.new.out c.devices.invariant.puts c.in-Err.ensures.further
+    puts_cut c.in-Err.cut c.devices.invariant.puts c.in-Err.ensures.further
 
 pub returns-clause-stamps : goal.returns-clause-stamps
 returns-clause-stamps g c = λ before event notes at.
@@ -43,7 +43,7 @@ returns-clause-stamps g c = λ before event notes at.
     (c.devices.invariant.stamps before event notes at)
 
 pub returns-clause-further : goal.returns-clause-further
-returns-clause-further g c = puts_well g.K.Sink (tt {0}) c.args.out.now c.devices.out c.devices.invariant.puts
+returns-clause-further g c = puts_well (tt {0}) c.devices.invariant.puts
 
 pub returns-clause-granule : goal.returns-clause-granule
 returns-clause-granule g c = c.devices.invariant.granule
