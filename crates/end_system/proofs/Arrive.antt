@@ -13,28 +13,33 @@ use Rattle.tte_units.proofs.general_lemmas.{Bools.takes_by, Integers.whole, Natu
 
 -- ---- a device that takes no part
 
-off_signal : (network : Network) (device : DeviceId) (node : Node) (moment : Moment) (link : LinkId) (signal : Signal) → is_off node.standing.state ≡ true
-    → Dropped Off ≡ arrival_at network device node moment link signal
-off_signal network device node moment link (control (Ok frame)) off = grind (arith, not, amount)
-off_signal network device node moment link (control (Err refusal)) off = grind (arith, not, amount)
-off_signal network device node moment link (timed octets) off = grind (arith, not, amount)
+module _ (network : Network) (device : DeviceId) where
+  off_signal : (node : Node) (moment : Moment) (link : LinkId) (signal : Signal) → is_off node.standing.state ≡ true
+      → Dropped Off ≡ arrival_at network device node moment link signal
+  off_signal node moment link (control (Ok frame)) off = grind (arith, not, amount)
+  off_signal node moment link (control (Err refusal)) off = grind (arith, not, amount)
+  off_signal node moment link (timed octets) off = grind (arith, not, amount)
 
-pub off_arrival : (network : Network) (device : DeviceId) (node : Node) (e : EndSystem) (moment : Moment) (link : LinkId) (signal : Signal)
-    → StandsAsEnd e network device node → is_off e.sync.state ≡ true → Dropped Off ≡ arrival_at network device node moment link signal
-off_arrival network device node e moment link signal stands off =
-    off_signal network device node moment link signal (subst (λ (s : Standing). is_off s.state ≡ true) (sym stands.standing) off)
+  pub off_arrival : {node : Node} {e : EndSystem} (moment : Moment) (link : LinkId) (signal : Signal)
+      → StandsAsEnd e network device node → is_off e.sync.state ≡ true
+      → Dropped Off ≡ arrival_at network device node moment link signal
+  off_arrival {node} moment link signal stands off =
+      off_signal node moment link signal (subst (λ (s : Standing). is_off s.state ≡ true) (sym stands.standing) off)
 
--- ---- a device that takes part
+  -- ---- a device that takes part
 
-member_in : (network : Network) (device : DeviceId) (frame : Pcf) (o : Option Link) → option_map_or (λ (l : Link). l.parent.0 == device.0) o false ≡ false
-    → option_map_or (λ (l : Link). l.parent.0 == device.0 && is_end network l.child && are_others (member_of network l.child) frame.members) o false ≡ false
-member_in network device frame None up = refl
-member_in network device frame (Some l) up = ap (λ (b : Bool). b && is_end network l.child && are_others (member_of network l.child) frame.members) up
+  member_in : (frame : Pcf) (o : Option Link) → option_map_or (λ (l : Link). l.parent.0 == device.0) o false ≡ false
+      → option_map_or
+      (λ (l : Link). l.parent.0 == device.0 && is_end network l.child && are_others (member_of network l.child)
+      frame.members) o false ≡ false
+  member_in frame None up = refl
+  member_in frame (Some l) up =
+      ap (λ (b : Bool). b && is_end network l.child && are_others (member_of network l.child) frame.members) up
 
--- no frame comes to an end system from below
-no_other_member : (network : Network) (device : DeviceId) (link : LinkId) (frame : Pcf) → is_parent_of network device link ≡ false
-    → is_of_other_member network device link frame.members ≡ false
-no_other_member network device link frame up = member_in network device frame (link_at network link) up
+  -- no frame comes to an end system from below
+  no_other_member : (link : LinkId) (frame : Pcf) → is_parent_of network device link ≡ false
+      → is_of_other_member network device link frame.members ≡ false
+  no_other_member link frame up = member_in frame (link_at network link) up
 
 gate_in : (b c d : Bool) → b ≡ false → (b && c && d) ≡ false
 gate_in b c d e = ap (λ (x : Bool). x && c && d) e
@@ -63,35 +68,42 @@ taken_waits : (network : Network) (device : DeviceId) (link : LinkId) (frame : P
 taken_waits network device link frame point e = waits_in (is_relay network device) _ (Waits frame point) e
 
 -- the same tests, with what the network says in place of what the device knows
-same_parts : (network : Network) (device : DeviceId) (own : Own) (link : LinkId) (at : Standpoint) (reading : Units) (frame : Pcf) → IsOwnOf network device own
-    → IsLinkOf network device own link → reading.0 ≡ pos at.reading → frame_arrival_of own reading link frame
-    ≡ (if is_cold_start frame.kind then Dropped ColdStart
-    else (if is_of_other_domain network frame then Dropped Domain
-    else (if nat_lt (amount network.dmax) (clock_on_arrival network link frame) then Dropped Old else frame_or_fault network device link at frame None)))
-same_parts network device own link at reading frame is of read = grind (arith, not, amount, nat_lt, taken_waits)
+same_parts : {network : Network} {device : DeviceId} {own : Own} {link : LinkId} (at : Standpoint) (reading : Units)
+    (frame : Pcf) → IsOwnOf network device own → IsLinkOf network device own link → reading.0 ≡ pos at.reading
+    → frame_arrival_of own reading link frame ≡
+    (if is_cold_start frame.kind then Dropped ColdStart else (if is_of_other_domain network frame then Dropped Domain
+    else (if nat_lt (amount network.dmax) (clock_on_arrival network link frame) then Dropped Old else frame_or_fault
+    network device link at frame None)))
+same_parts at reading frame is of read = grind (arith, not, amount, nat_lt, taken_waits)
 
 -- a control frame is judged as an end system judges it
-pub judged : (network : Network) (device : DeviceId) (own : Own) (link : LinkId) (at : Standpoint) (reading : Units) (frame : Pcf) → IsOwnOf network device own
-    → IsLinkOf network device own link → at.takes_part ≡ true → reading.0 ≡ pos at.reading
-    → frame_arrival_of own reading link frame ≡ control_arrival network device link at (Ok frame)
-judged network device own link at reading frame is of takes read = grind (arith, same_parts, by_faults, nat_lt, amount, no_other_member, no_gate)
+pub judged : {network : Network} {device : DeviceId} {own : Own} {link : LinkId} (at : Standpoint) (reading : Units)
+    (frame : Pcf) → IsOwnOf network device own → IsLinkOf network device own link → at.takes_part ≡ true
+    → reading.0 ≡ pos at.reading → frame_arrival_of own reading link frame
+    ≡ control_arrival network device link at (Ok frame)
+judged at reading frame is of takes read =
+    grind (arith, same_parts, by_faults, nat_lt, amount, no_other_member, no_gate)
 
 -- what a refusal comes to
 refused_at : (at : Standpoint) (refusal : PcfRefusal) → at.takes_part ≡ true
     → Dropped (refused refusal) ≡ Dropped (if at.takes_part then refused refusal else Off)
 refused_at at refusal takes = ap (λ (b : Bool). Dropped (if b then refused refusal else Off)) (sym takes)
 
-pub control_judged : (network : Network) (device : DeviceId) (own : Own) (link : LinkId) (at : Standpoint) (reading : Units) (decoded : Result Pcf PcfRefusal)
-    → IsOwnOf network device own → IsLinkOf network device own link → at.takes_part ≡ true → reading.0 ≡ pos at.reading
+pub control_judged : {network : Network} {device : DeviceId} {own : Own} {link : LinkId} (at : Standpoint)
+    (reading : Units) (decoded : Result Pcf PcfRefusal) → IsOwnOf network device own
+    → IsLinkOf network device own link → at.takes_part ≡ true → reading.0 ≡ pos at.reading
     → arrival_of own reading link decoded ≡ control_arrival network device link at decoded
-control_judged network device own link at reading (Ok frame) is of takes read = judged network device own link at reading frame is of takes read
-control_judged network device own link at reading (Err refusal) is of takes read = refused_at at refusal takes
+control_judged {network} {device} {own} {link} at reading (Ok frame) is of takes read =
+    judged {network = network} {device = device} {own = own} {link = link} at reading frame is of takes read
+control_judged at reading (Err refusal) is of takes read = refused_at at refusal takes
 
-pub control_at : (network : Network) (device : DeviceId) (node : Node) (e : EndSystem) (moment : Moment) (link : LinkId) (octets : List ℕ)
-    → StandsAsEnd e network device node → IsLinkOf network device e.own link → is_off node.standing.state ≡ false → pos 0 ≤ℤ moment.reading.0
-    → arrival_of e.own moment.reading link (decoded octets) ≡ arrival_at network device node moment link (control (decoded octets))
-control_at network device node e moment link octets stands of on begun =
-    control_judged network device e.own link (standpoint_at node moment) moment.reading (decoded octets) stands.own of
+pub control_at : {network : Network} {device : DeviceId} {node : Node} {e : EndSystem} (moment : Moment)
+    {link : LinkId} (octets : List ℕ) → StandsAsEnd e network device node → IsLinkOf network device e.own link
+    → is_off node.standing.state ≡ false → pos 0 ≤ℤ moment.reading.0
+    → arrival_of e.own moment.reading link (decoded octets)
+    ≡ arrival_at network device node moment link (control (decoded octets))
+control_at {node} moment octets stands of on begun =
+    control_judged (standpoint_at node moment) moment.reading (decoded octets) stands.own of
     (takes_by (is_off node.standing.state) node.broken on stands.sound) (whole moment.reading.0 begun)
 
 -- a control frame that arrives changes nothing yet

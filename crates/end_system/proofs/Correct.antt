@@ -26,33 +26,34 @@ some_number : (network : Network) (s : Standing) (heard : Summary) (reading : �
     → IfSome o (HasNumber network s heard reading) → HasNumber network s heard reading cycle
 some_number network s heard reading o cycle e h = subst (λ (x : Option ℕ). IfSome x (HasNumber network s heard reading)) e h
 
-pub at_point : (network : Network) (device : DeviceId) (node : Node) (e : EndSystem) (next : Appointment) → StandsAsEnd e network device node
-    → IsCorrection network node.standing node.changed node.done (Some next) → IsAtPoint network e.sync e.heard node.last.reading.0 next.cycle
-at_point network device node e next stands here = grind (arith, some_number, next_point)
+pub at_point : {network : Network} {device : DeviceId} {node : Node} {e : EndSystem} (next : Appointment)
+    → StandsAsEnd e network device node → IsCorrection network node.standing node.changed node.done (Some next)
+    → IsAtPoint network e.sync e.heard node.last.reading.0 next.cycle
+at_point next stands here = grind (arith, some_number, next_point)
 
 some_point : (o : Option ℕ) (n : ℕ) → o ≡ Some n → n ≤ 2 ^ 20 + 2 ^ 17 + 2 → IsSomeAnd o (λ k. k ≤ 2 ^ 21 + 2 ^ 18)
 some_point o n e h = subst (λ (x : Option ℕ). IsSomeAnd x (λ k. k ≤ 2 ^ 21 + 2 ^ 18)) (sym e) (omega arith)
 
-pub number_fits : (network : Network) (s : Standing) (heard : Summary) (reading : ℤ) (cycle : ℕ) → IsAtPoint network s heard reading cycle
-    → IsSomeAnd (next_point s) (λ n. n ≤ 2 ^ 21 + 2 ^ 18)
-number_fits network s heard reading cycle h = some_point (next_point s) cycle h.point h.number.bound
+pub number_fits : {network : Network} {s : Standing} {heard : Summary} {reading : ℤ} {cycle : ℕ}
+    → IsAtPoint network s heard reading cycle → IsSomeAnd (next_point s) (λ n. n ≤ 2 ^ 21 + 2 ^ 18)
+number_fits {s} {cycle} h = some_point (next_point s) cycle h.point h.number.bound
 
 same_bound : (m n : ℕ) → m ≡ n → n ≤ 2 ^ 20 + 2 ^ 17 + 2 → m ≤ 2 ^ 20 + 2 ^ 17 + 2
 same_bound m n e h = omega arith
 
-pub number_bound : (network : Network) (s : Standing) (heard : Summary) (reading : ℤ) (cycle : ℕ) → IsAtPoint network s heard reading cycle
-    → s.number ≤ 2 ^ 20 + 2 ^ 17 + 2
-number_bound network s heard reading cycle h = same_bound s.number cycle (point_is s.state s.number cycle h.point) h.number.bound
+pub number_bound : {network : Network} {s : Standing} {heard : Summary} {reading : ℤ} {cycle : ℕ}
+    → IsAtPoint network s heard reading cycle → s.number ≤ 2 ^ 20 + 2 ^ 17 + 2
+number_bound {s} {cycle} h = same_bound s.number cycle (point_is s.state s.number cycle h.point) h.number.bound
 
-pub near_a : (network : Network) (device : DeviceId) (own : Own) (s : Standing) (heard : Summary) (reading : ℤ) (cycle : ℕ) → IsOwnOf network device own
-    → IsAtPoint network s heard reading cycle → IfSome heard.best_a (IsNear s)
-near_a network device own s heard reading cycle is h =
-    best_near network device own s heard.best_a is h.plan (number_bound network s heard reading cycle h) h.near.a
+module _ {network : Network} {device : DeviceId} {own : Own} {s : Standing} {heard : Summary} {reading : ℤ}
+    {cycle : ℕ} (is : IsOwnOf network device own) (h : IsAtPoint network s heard reading cycle) where
+  pub near_a : IfSome heard.best_a (IsNear s)
+  near_a =
+      best_near network device own s heard.best_a is h.plan (number_bound h) h.near.a
 
-pub near_b : (network : Network) (device : DeviceId) (own : Own) (s : Standing) (heard : Summary) (reading : ℤ) (cycle : ℕ) → IsOwnOf network device own
-    → IsAtPoint network s heard reading cycle → IfSome heard.best_b (IsNear s)
-near_b network device own s heard reading cycle is h =
-    best_near network device own s heard.best_b is h.plan (number_bound network s heard reading cycle h) h.near.b
+  pub near_b : IfSome heard.best_b (IsNear s)
+  near_b =
+      best_near network device own s heard.best_b is h.plan (number_bound h) h.near.b
 
 -- ---- what the new agenda may rely on
 
@@ -98,18 +99,19 @@ joining_yet state j e = cc
 no_point : (n : ℕ) → None ≡ Some n → ⊥
 no_point n e = cc
 
-empty_agenda : (network : Network) (device : DeviceId) (s : Standing) (changed : ℤ) (done : List ClockTask) (agenda : Agenda) → s.state ≡ Integrating
-    → IsEmpty agenda → IsAgenda network device s changed done agenda
-empty_agenda network device s changed done agenda lost empty = grind (arith, no_longer, no_point)
+empty_agenda : (network : Network) (device : DeviceId) (s : Standing) (changed : ℤ) (done : List ClockTask)
+    {agenda : Agenda} → s.state ≡ Integrating → IsEmpty agenda → IsAgenda network device s changed done agenda
+empty_agenda network device s changed done lost empty = grind (arith, no_longer, no_point)
 
 -- the number after a correction
-corrected_number : (network : Network) (device : DeviceId) (own : Own) (s new : Standing) (heard silent : Summary) (by : Units) (before reading : ℤ)
-    (next : Appointment) → IsOwnOf network device own → IsAtPoint network s heard before next.cycle → HasVerdict s heard (Corrected by)
+corrected_number : {network : Network} {device : DeviceId} {own : Own} {s : Standing} (new : Standing)
+    {heard : Summary} (silent : Summary) (by : Units) {before : ℤ} (reading : ℤ) (next : Appointment)
+    → IsOwnOf network device own → IsAtPoint network s heard before next.cycle → HasVerdict s heard (Corrected by)
     → next.at.0 ≡ (correction_value network next.cycle -ℤ s.adjustment.0) → next.at.0 ≤ℤ reading → silent ≡ silence
     → new ≡ after s (reached_point heard (Corrected by)) → HasNumber network new silent reading (s.number + 1)
-corrected_number network device own s new heard silent by before reading next is at verdict on due none value =
+corrected_number {network} {s} new {heard} silent by reading next is at verdict on due none value =
     let number = point_is s.state s.number next.cycle at.point in
-    subst (λ (x : Standing). HasNumber network x silent reading (s.number + 1)) (sym value)
+    subst (λ x. HasNumber network x silent reading (s.number + 1)) (sym value)
     (record {
       bound =
           not_at_end s.number next.cycle number at.number.bound (λ e. let end = at.number.at_end e in none_qualifies s heard by end.none_a end.none_b verdict);
@@ -117,11 +119,11 @@ corrected_number network device own s new heard silent by before reading next is
         none_a = ap (λ (h : Summary). h.best_a) none;
         none_b = ap (λ (h : Summary). h.best_b) none;
         passed =
-            subst (λ (n : ℕ). correction_value network n ≤ℤ ((reading +ℤ (s.adjustment.0 +ℤ by.0)) +ℤ network.precision.0))
+            subst (λ n. correction_value network n ≤ℤ ((reading +ℤ (s.adjustment.0 +ℤ by.0)) +ℤ network.precision.0))
             (last_of_all s.number next.cycle number e)
             (passed_by (correction_value network next.cycle) next.at.0 reading s.adjustment.0 by.0 network.precision.0 on due
-            (subst (λ (p : ℤ). pos 0 ≤ℤ (by.0 +ℤ p)) (sym (from_zero _ network.precision.0 is.in_range.precision.least))
-            (corrected_back network device own s heard by is at.plan (late_enough s.number e) at.near verdict)));
+            (subst (λ p. pos 0 ≤ℤ (by.0 +ℤ p)) (sym (from_zero _ network.precision.0 is.in_range.precision.least))
+            (corrected_back by is at.plan (late_enough s.number e) at.near verdict)));
       };
     })
 
@@ -146,18 +148,19 @@ same_correcting : (m n : ℕ) → correcting m ≡ correcting n → m < n + 1
 same_correcting m n e = let same : m ≡ n = cc in omega arith
 
 point_next : (state : State) (number n : ℕ) → state ≡ Joining → number ≡ n → point_in state (number + 1) ≡ Some (n + 1)
-point_next state number n j e = ap (λ (x : State). point_in x (number + 1)) j ∙ ap (λ (k : ℕ). Some (k + 1)) e
+point_next state number n j e = ap (λ x. point_in x (number + 1)) j ∙ ap (λ k. Some (k + 1)) e
 
 abbrev IsNextAt : Network → Standing → ℤ → List ClockTask → ℕ → Units → Type 0
 IsNextAt network s changed done cycle at = IsNextCorrection network s changed done cycle × (at.0 ≡ (value_of network (correcting cycle) -ℤ s.adjustment.0))
 
-cleared_correction : (network : Network) (device : DeviceId) (own : Own) (s : Standing) (heard : Summary) (changed : ℤ) (done : List ClockTask)
-    (old : Appointment) (o : Option Appointment) → IsOwnOf network device own → s.state ≡ Joining → IsCorrection network s changed done (Some old)
-    → IsSomeAnd o (IsInNextCycle own.plan.cycle_length old) → IsCorrection network (after s (reached_point heard Cleared)) changed
-    (done ++ correcting old.cycle ∷ []) o
-cleared_correction network device own s heard changed done old None is joining here next = absurd next
-cleared_correction network device own s heard changed done old (Some new) is joining here next =
-    subst (λ (n : ℕ). IsNextAt network (after s (reached_point heard Cleared)) changed (done ++ correcting old.cycle ∷ []) n new.at) (sym next.cycle) (
+cleared_correction : {network : Network} {device : DeviceId} {own : Own} (s : Standing) (heard : Summary)
+    (changed : ℤ) (done : List ClockTask) (old : Appointment) (o : Option Appointment) → IsOwnOf network device own
+    → s.state ≡ Joining → IsCorrection network s changed done (Some old)
+    → IsSomeAnd o (IsInNextCycle own.plan.cycle_length old)
+    → IsCorrection network (after s (reached_point heard Cleared)) changed (done ++ correcting old.cycle ∷ []) o
+cleared_correction s heard changed done old None is joining here next = absurd next
+cleared_correction {network} {own} s heard changed done old (Some new) is joining here next =
+    subst (λ n. IsNextAt network (after s (reached_point heard Cleared)) changed (done ++ correcting old.cycle ∷ []) n new.at) (sym next.cycle) (
       record {
         point = point_next s.state s.number old.cycle joining (point_is s.state s.number old.cycle here.0.point);
         ahead = ahead_still (amount network.cycle) (amount network.correction) old.cycle changed here.0.ahead;
@@ -166,36 +169,48 @@ cleared_correction network device own s heard changed done old (Some new) is joi
             [ inl before ↦ less_than_next n old.cycle (here.0.done_before n before) | inr now ↦ same_correcting n old.cycle now ];
       },
       at_later (amount network.cycle) (amount network.correction) old.cycle new.cycle old.at.0 new.at.0 own.plan.cycle_length.0 s.adjustment.0 next.cycle here.1
-          next.at (cycle_whole network device own is),
+          next.at (cycle_whole is),
     )
 
-point_has_in : (state : State) (s : Standing) (network : Network) (heard : Summary) (reading : ℤ) → HasNumber network s heard reading s.number
-    → IfSome (point_in state s.number) (HasNumber network s heard reading)
-point_has_in Off s network heard reading h = tt
-point_has_in Integrating s network heard reading h = tt
-point_has_in Joining s network heard reading h = h
-point_has_in Synchronised s network heard reading h = h
+point_has_in : (state : State) {s : Standing} {network : Network} {heard : Summary} {reading : ℤ}
+    → HasNumber network s heard reading s.number → IfSome (point_in state s.number)
+    (HasNumber network s heard reading)
+point_has_in Off h = tt
+point_has_in Integrating h = tt
+point_has_in Joining h = h
+point_has_in Synchronised h = h
 
 -- the number where it is not the last of all
 point_has : (s : Standing) (network : Network) (heard : Summary) (reading : ℤ) → s.number ≤ 2 ^ 20 + 2 ^ 17 + 2 → (s.number ≡ 2 ^ 20 + 2 ^ 17 + 2 → ⊥)
     → IfSome (next_point s) (HasNumber network s heard reading)
-point_has s network heard reading bound out = point_has_in s.state s network heard reading (record { bound = bound; at_end = λ e. absurd (out e) })
+point_has s network heard reading bound out = point_has_in
+    s.state {s = s} {network = network} {heard = heard} {reading = reading} (record { bound = bound; at_end = λ e. absurd (out e) })
 
 -- ---- all of it
 
-pub corrects : (network : Network) (device : DeviceId) (node : Node) (e : EndSystem) (v : Verdict) (sync : Standing) (heard : Summary) (agenda : Agenda)
-    (moment : Moment) (next : Appointment) → StandsAsEnd e network device node → MayCall network device node moment acting
-    → IsCorrection network node.standing node.changed node.done (Some next) → next.at.0 ≤ℤ moment.reading.0 → HasVerdict e.sync e.heard v
-    → sync ≡ after e.sync (reached_point e.heard v) → IsSmall sync.adjustment.0
-    → heard ≡ silence → Summarizes heard [] → IfSome agenda.dispatch (IsAtSlot e.rows) → IsAgendaAfter e.own e.rows sync (moment.reading.0 +ℤ sync.adjustment.0)
-    next v agenda
-    → StandsAsEnd (record { own = e.own; sync = sync; heard = heard; agenda = agenda; rows = e.rows; entering = e.entering; last = moment }) network device
-    (called moment acting (after_correction node moment e.heard next.cycle v))
-corrects network device node e (Corrected by) sync heard agenda moment next stands may here due verdict value small none nothing slot plan =
-    let value_is : after node.standing (reached_point e.heard (Corrected by)) ≡ sync = ap (λ (s : Standing). after s (reached_point e.heard (Corrected by)))
+pub corrects : {network : Network} {device : DeviceId} {node : Node} {e : EndSystem} (v : Verdict) (sync : Standing)
+    {heard : Summary} (agenda : Agenda) {moment : Moment} (next : Appointment) → StandsAsEnd e network device node
+    → MayCall network device node moment acting → IsCorrection network node.standing node.changed node.done
+    (Some next) → next.at.0 ≤ℤ moment.reading.0 → HasVerdict e.sync e.heard v
+    → sync ≡ after e.sync (reached_point e.heard v) → IsSmall sync.adjustment.0 → heard ≡ silence
+    → Summarizes heard [] → IfSome agenda.dispatch (IsAtSlot e.rows)
+    → IsAgendaAfter e.own e.rows sync (moment.reading.0 +ℤ sync.adjustment.0) next v agenda → StandsAsEnd
+    (record {
+      own = e.own;
+      sync = sync;
+      heard = heard;
+      agenda = agenda;
+      rows = e.rows;
+      entering = e.entering;
+      last =
+          moment;
+    }) network device (called moment acting (after_correction node moment e.heard next.cycle v))
+corrects {network} {device} {node} {e} (Corrected by) sync {heard} agenda {moment} next stands may here due verdict
+    value small none nothing slot plan =
+    let value_is : after node.standing (reached_point e.heard (Corrected by)) ≡ sync = ap (λ s. after s (reached_point e.heard (Corrected by)))
     stands.standing ∙ sym value in
-    let at = subst (λ (s : Standing). IsAtPoint network s e.heard node.last.reading.0 next.cycle) (sym stands.standing)
-    (at_point network device node e next stands here) in
+    let at = subst (λ s. IsAtPoint network s e.heard node.last.reading.0 next.cycle) (sym stands.standing)
+    (at_point next stands here) in
     record {
       own = stands.own;
       sound = stands.sound;
@@ -208,8 +223,9 @@ corrects network device node e (Corrected by) sync heard agenda moment next stan
       near = heard_nothing network _ heard none;
       joined = stands.joined;
       number =
-          corrected_number network device e.own node.standing (after node.standing (reached_point e.heard (Corrected by))) e.heard heard by node.last.reading.0
-          moment.reading.0 next stands.own at (subst (λ (s : Standing). HasVerdict s e.heard (Corrected by)) (sym stands.standing) verdict) here.1 due none
+          corrected_number {s = node.standing} (after node.standing
+          (reached_point e.heard (Corrected by))) {heard = e.heard} heard by {before = node.last.reading.0}
+          moment.reading.0 next stands.own at (subst (λ s. HasVerdict s e.heard (Corrected by)) (sym stands.standing) verdict) here.1 due none
           refl;
       rows = stands.rows;
       entering = stands.entering;
@@ -218,47 +234,50 @@ corrects network device node e (Corrected by) sync heard agenda moment next stan
           subst (λ (s : Standing). IsAgenda network device s (moment.reading.0 +ℤ s.adjustment.0) [] agenda) (sym value_is)
           (plan network device stands.own stands.rows);
     }
-corrects network device node e SyncClique sync heard agenda moment next stands may here due verdict value small none nothing slot plan = record {
-  own = stands.own;
-  sound = stands.sound;
-  standing = ap (λ (s : Standing). after s (reached_point e.heard SyncClique)) stands.standing ∙ sym value;
-  plan = stands.plan;
-  last = refl;
-  begun = not_fallen node.last.reading.0 moment.reading.0 stands.begun may.later.reading;
-  small = stands.small;
-  heard = nothing;
-  near = heard_nothing network _ heard none;
-  joined = stands.joined;
-  number = tt;
-  rows = stands.rows;
-  entering = stands.entering;
-  slot = slot;
-  agenda = empty_agenda network device _ node.changed node.done agenda refl plan;
-}
-corrects network device node e AsyncClique sync heard agenda moment next stands may here due verdict value small none nothing slot plan = record {
-  own = stands.own;
-  sound = stands.sound;
-  standing = ap (λ (s : Standing). after s (reached_point e.heard AsyncClique)) stands.standing ∙ sym value;
-  plan = stands.plan;
-  last = refl;
-  begun = not_fallen node.last.reading.0 moment.reading.0 stands.begun may.later.reading;
-  small = stands.small;
-  heard = nothing;
-  near = heard_nothing network _ heard none;
-  joined = stands.joined;
-  number = tt;
-  rows = stands.rows;
-  entering = stands.entering;
-  slot = slot;
-  agenda = empty_agenda network device _ node.changed node.done agenda refl plan;
-}
-corrects network device node e Cleared sync heard agenda moment next stands may here due verdict value small none nothing slot plan =
+corrects {network} {device} {node} {e} SyncClique sync {heard} agenda {moment} next stands may here due verdict value
+    small none nothing slot plan = record {
+      own = stands.own;
+      sound = stands.sound;
+      standing = ap (λ s. after s (reached_point e.heard SyncClique)) stands.standing ∙ sym value;
+      plan = stands.plan;
+      last = refl;
+      begun = not_fallen node.last.reading.0 moment.reading.0 stands.begun may.later.reading;
+      small = stands.small;
+      heard = nothing;
+      near = heard_nothing network _ heard none;
+      joined = stands.joined;
+      number = tt;
+      rows = stands.rows;
+      entering = stands.entering;
+      slot = slot;
+      agenda = empty_agenda network device _ node.changed node.done refl plan;
+    }
+corrects {network} {device} {node} {e} AsyncClique sync {heard} agenda {moment} next stands may here due verdict
+    value small none nothing slot plan = record {
+      own = stands.own;
+      sound = stands.sound;
+      standing = ap (λ s. after s (reached_point e.heard AsyncClique)) stands.standing ∙ sym value;
+      plan = stands.plan;
+      last = refl;
+      begun = not_fallen node.last.reading.0 moment.reading.0 stands.begun may.later.reading;
+      small = stands.small;
+      heard = nothing;
+      near = heard_nothing network _ heard none;
+      joined = stands.joined;
+      number = tt;
+      rows = stands.rows;
+      entering = stands.entering;
+      slot = slot;
+      agenda = empty_agenda network device _ node.changed node.done refl plan;
+    }
+corrects {network} {device} {node} {e} Cleared sync {heard} agenda {moment} next stands may here due verdict value
+    small none nothing slot plan =
     let at : IsAtIntegration node.standing = subst IsAtIntegration (sym stands.standing) verdict in
     let early = joined_number node.standing.integrated node.standing.number at.cycle stands.joined in
     record {
       own = stands.own;
       sound = stands.sound;
-      standing = ap (λ (s : Standing). after s (reached_point e.heard Cleared)) stands.standing ∙ sym value;
+      standing = ap (λ s. after s (reached_point e.heard Cleared)) stands.standing ∙ sym value;
       plan = stands.plan;
       last = refl;
       begun = not_fallen node.last.reading.0 moment.reading.0 stands.begun may.later.reading;
@@ -277,7 +296,8 @@ corrects network device node e Cleared sync heard agenda moment next stands may 
             subst (IsSending network device (after node.standing (reached_point e.heard Cleared)) node.changed (node.done ++ correcting next.cycle ∷ []))
             (sym plan.sending) (λ master is. joining_yet node.standing.state at.joining is);
         correction =
-            cleared_correction network device e.own node.standing e.heard node.changed node.done next agenda.correction stands.own at.joining here
+            cleared_correction node.standing e.heard node.changed node.done next agenda.correction stands.own
+            at.joining here
             plan.correction;
         dispatch =
             subst (IsDispatch network device (after node.standing (reached_point e.heard Cleared)) node.changed (node.done ++ correcting next.cycle ∷ []))

@@ -11,10 +11,11 @@ at_most : (high n : ℕ) (z : ℤ) → z ≡ pos n → z ≤ℤ pos high → n �
 at_most high n z e h = omega (arith, ints)
 
 -- a frame of a cycle is expected at this value
-pub expected_is : (network : Network) (device : DeviceId) (own : Own) (plan : SyncPlan) (n : ℕ) → IsOwnOf network device own → plan ≡ end_plan network
+pub expected_is : {network : Network} {device : DeviceId} {own : Own} (plan : SyncPlan) (n : ℕ)
+    → IsOwnOf network device own → plan ≡ end_plan network
     → expected_at plan n ≡ pos (n * amount network.cycle + expected_offset network)
-expected_is network device own plan n is e =
-    ap (λ (p : SyncPlan). expected_at p n) e ∙ ap (λ (z : ℤ). (pos n *ℤ z)
+expected_is {network} plan n is e =
+    ap (λ p. expected_at p n) e ∙ ap (λ (z : ℤ). (pos n *ℤ z)
     +ℤ pos (expected_offset network)) (from_zero _ network.cycle.0 is.in_range.cycle.least)
 
 -- the numbers of the network that frames are judged by
@@ -28,9 +29,10 @@ pub record HasNumbers (cycle offset precision correction : ℕ) : Type 0 where
 margin_of : (c e p d : ℕ) (z w x y : ℤ) → z ≡ pos e → w ≡ pos p → x ≡ pos c → y ≡ pos d → (z +ℤ (pos 3 *ℤ w)) <ℤ (x +ℤ y) → e + 3 * p < c + d
 margin_of c e p d z w x y ez ew ex ey h = omega (arith, ints)
 
-pub has_numbers : (network : Network) (device : DeviceId) (own : Own) → IsOwnOf network device own → HasNumbers (amount network.cycle) (expected_offset network)
-    (amount network.precision) (amount network.correction)
-has_numbers network device own is =
+pub has_numbers : {network : Network} {device : DeviceId} {own : Own} → IsOwnOf network device own
+    → HasNumbers (amount network.cycle) (expected_offset network) (amount network.precision)
+    (amount network.correction)
+has_numbers {network} {own} is =
     let cycle = from_zero _ network.cycle.0 is.in_range.cycle.least in
     let precision = from_zero _ network.precision.0 is.in_range.precision.least in
     let correction = from_zero _ network.correction.0 is.in_range.correction.least in
@@ -57,19 +59,21 @@ near_by n f c e p en ef q a bn bf bc be bp isn isf from to low high =
     let mf : f * c ≤ f * 2 ^ 40 = mul-le-mul_left f bc in
     ((omega (arith, ints, mn), omega (arith, ints, mn)), (omega (arith, ints, mn, mf), omega (arith, ints, mn, mf)))
 
-pub heard_near : (network : Network) (device : DeviceId) (own : Own) (s : Standing) (frame : HeardFrame) → IsOwnOf network device own
-    → s.plan ≡ end_plan network → s.number ≤ 2 ^ 20 + 2 ^ 17 + 2 → IsHeardSo network s frame → IsNear s frame
-heard_near network device own s frame is plan bound h =
-    let r = has_numbers network device own is in
-    let near = near_by s.number frame.cycle (amount network.cycle) (expected_offset network) (amount network.precision) _ _ frame.point.0 s.adjustment.0 bound
-    h.cycle r.cycle_most r.offset_most r.precision_most
-    (expected_is network device own s.plan s.number is plan) (expected_is network device own s.plan frame.cycle is plan) h.from h.to h.low h.high in
-    record { difference = near.0; deviation = near.1 }
+module _ (network : Network) (device : DeviceId) (own : Own) (s : Standing) where
+  pub heard_near : {frame : HeardFrame} → IsOwnOf network device own → s.plan ≡ end_plan network
+      → s.number ≤ 2 ^ 20 + 2 ^ 17 + 2 → IsHeardSo network s frame → IsNear s frame
+  heard_near {frame} is plan bound h =
+      let r = has_numbers is in
+      let near = near_by s.number frame.cycle (amount network.cycle) (expected_offset network)
+      (amount network.precision) _ _ frame.point.0 s.adjustment.0 bound
+      h.cycle r.cycle_most r.offset_most r.precision_most
+      (expected_is s.plan s.number is plan) (expected_is s.plan frame.cycle is plan) h.from h.to h.low h.high in
+      record { difference = near.0; deviation = near.1 }
 
-pub best_near : (network : Network) (device : DeviceId) (own : Own) (s : Standing) (o : Option HeardFrame) → IsOwnOf network device own
-    → s.plan ≡ end_plan network → s.number ≤ 2 ^ 20 + 2 ^ 17 + 2 → IfSome o (IsHeardSo network s) → IfSome o (IsNear s)
-best_near network device own s None is plan bound h = tt
-best_near network device own s (Some frame) is plan bound h = heard_near network device own s frame is plan bound h
+  pub best_near : (o : Option HeardFrame) → IsOwnOf network device own → s.plan ≡ end_plan network
+      → s.number ≤ 2 ^ 20 + 2 ^ 17 + 2 → IfSome o (IsHeardSo network s) → IfSome o (IsNear s)
+  best_near None is plan bound h = tt
+  best_near (Some frame) is plan bound h = heard_near is plan bound h
 
 -- ---- behind the last cycle of frames a clock is not set back by more than the precision
 
@@ -84,21 +88,23 @@ up_to f n a b = omega arith
 abbrev pub IsBackBy : ℕ → Option Units → Type 0
 IsBackBy p o = IfSome o (λ d. pos 0 ≤ℤ (d.0 +ℤ pos p))
 
-deviation_back : (network : Network) (device : DeviceId) (own : Own) (s : Standing) (o : Option HeardFrame) → IsOwnOf network device own
-    → s.plan ≡ end_plan network → 2 ^ 20 + 2 ^ 17 ≤ s.number → IfSome o (IsHeardSo network s) → IsBackBy (amount network.precision)
-    (option_and_then (λ frame. if nat_le s.plan.threshold (count_of frame.members) then Some (deviation_by s frame) else None) o)
-deviation_back network device own s None is plan late h = tt
-deviation_back network device own s (Some frame) is plan late h =
+deviation_back : {network : Network} {device : DeviceId} {own : Own} (s : Standing) (o : Option HeardFrame)
+    → IsOwnOf network device own → s.plan ≡ end_plan network → 2 ^ 20 + 2 ^ 17 ≤ s.number
+    → IfSome o (IsHeardSo network s) → IsBackBy (amount network.precision)
+    (option_and_then (λ frame. if nat_le s.plan.threshold (count_of frame.members) then Some (deviation_by s frame)
+    else None) o)
+deviation_back s None is plan late h = tt
+deviation_back {network} s (Some frame) is plan late h =
     elim (nat_le s.plan.threshold (count_of frame.members)) as
     (λ (b : Bool). IsBackBy (amount network.precision) (if b then Some (deviation_by s frame) else None)) [
       | true ↦ back_by s.number frame.cycle (amount network.cycle) (expected_offset network) (amount network.precision) _ _ frame.point.0 s.adjustment.0
           (up_to frame.cycle s.number h.cycle late)
-          (expected_is network device own s.plan s.number is plan) (expected_is network device own s.plan frame.cycle is plan) h.to
+          (expected_is s.plan s.number is plan) (expected_is s.plan frame.cycle is plan) h.to
       | false ↦ tt
     ]
 
-mean_back : (p : ℕ) (a b m : ℤ) → IsMean a b m → pos 0 ≤ℤ (a +ℤ pos p) → pos 0 ≤ℤ (b +ℤ pos p) → pos 0 ≤ℤ (m +ℤ pos p)
-mean_back p a b m mean ha hb = omega (arith, ints, mean.most, mean.least)
+mean_back : (p : ℕ) {a b m : ℤ} → IsMean a b m → pos 0 ≤ℤ (a +ℤ pos p) → pos 0 ≤ℤ (b +ℤ pos p) → pos 0 ≤ℤ (m +ℤ pos p)
+mean_back p mean ha hb = omega (arith, ints, mean.most, mean.least)
 
 none_some : (x : Units) → None ≡ Some x → ⊥
 none_some x e = cc
@@ -108,14 +114,15 @@ correction_back p None None by e ha hb = absurd (none_some by e)
 correction_back p (Some a) None by e ha hb = subst (λ (u : Units). pos 0 ≤ℤ (u.0 +ℤ pos p)) (same_Some _ _ e) ha
 correction_back p None (Some b) by e ha hb = subst (λ (u : Units). pos 0 ≤ℤ (u.0 +ℤ pos p)) (same_Some _ _ e) hb
 correction_back p (Some a) (Some b) by e ha hb =
-    subst (λ (u : Units). pos 0 ≤ℤ (u.0 +ℤ pos p)) (same_Some _ _ e) (mean_back p a.0 b.0 _ (mean_of-floor a.0 b.0) ha hb)
+    subst (λ (u : Units). pos 0 ≤ℤ (u.0 +ℤ pos p)) (same_Some _ _ e) (mean_back p (mean_of-floor a.0 b.0) ha hb)
 
-pub corrected_back : (network : Network) (device : DeviceId) (own : Own) (s : Standing) (heard : Summary) (by : Units) → IsOwnOf network device own
-    → s.plan ≡ end_plan network → 2 ^ 20 + 2 ^ 17 ≤ s.number → AreHeardSo network s heard → HasVerdict s heard (Corrected by)
+pub corrected_back : {network : Network} {device : DeviceId} {own : Own} {s : Standing} {heard : Summary}
+    (by : Units) → IsOwnOf network device own → s.plan ≡ end_plan network → 2 ^ 20 + 2 ^ 17 ≤ s.number
+    → AreHeardSo network s heard → HasVerdict s heard (Corrected by)
     → pos 0 ≤ℤ (by.0 +ℤ pos (amount network.precision))
-corrected_back network device own s heard by is plan late h verdict =
+corrected_back {network} {s} {heard} by is plan late h verdict =
     correction_back (amount network.precision) (deviation_on s heard A) (deviation_on s heard B) by verdict.3
-    (deviation_back network device own s heard.best_a is plan late h.a) (deviation_back network device own s heard.best_b is plan late h.b)
+    (deviation_back s heard.best_a is plan late h.a) (deviation_back s heard.best_b is plan late h.b)
 
 -- nothing qualifies where nothing was heard
 pub none_qualifies : (s : Standing) (heard : Summary) (by : Units) → heard.best_a ≡ None → heard.best_b ≡ None → HasVerdict s heard (Corrected by) → ⊥

@@ -56,8 +56,9 @@ never_switch : (o : Option Device) (channel : Channel) → ((d : Device) → o �
 never_switch None channel range h k = h
 never_switch (Some d) channel range h k = grind (arith, is_some, not, false≢true)
 
-no_switch : (network : Network) (device : DeviceId) (channel : Channel) → IsInRange network → IsEndSystem network device → IsSwitchOf network channel device → ⊥
-no_switch network device channel range end switch =
+no_switch : {network : Network} (device : DeviceId) (channel : Channel) → IsInRange network
+    → IsEndSystem network device → IsSwitchOf network channel device → ⊥
+no_switch {network} device channel range end switch =
     never_switch (device_at network device) channel (λ d at. (in_all IsDeviceInRange network.device device.0 d range.devices at).switches) end switch
 
 -- ---- plans
@@ -71,7 +72,7 @@ plan cycle_length expected threshold = record { cycle_length = cycle_length; exp
 
 plan_same : (network : Network) (device : DeviceId) → IsEndSystem network device → plan_of network device ≡ end_plan network
 plan_same network device end =
-    ap (λ (u : Units). plan network.cycle u network.sync_threshold)
+    ap (λ u. plan network.cycle u network.sync_threshold)
     (plan_by network (is_cm network device) _ (expected_offset network) (cm_not network device end))
 
 expected_most : (n d p q : ℕ) → n ≡ 2 * d + (2 * p + q) → d ≤ 2 ^ 40 → p ≤ 2 ^ 40 → q ≤ 2 ^ 40 → pos n ≤ℤ pos (2 ^ 43)
@@ -87,12 +88,12 @@ margin_by n d p q k r P R K e a b c f g = rw (a, b, c) (omega (arith, ints, e, f
 -- ---- links
 
 -- the other end of a link
-link_facts : (network : Network) (device : DeviceId) (link : LinkId) → IsInRange network → KeepsRules network → IsEndSystem network device
-    → IsParentOf network device link → ⊥
-link_facts network device link range keeps end parent =
+link_facts : {network : Network} (device : DeviceId) (link : LinkId) → IsInRange network → KeepsRules network
+    → IsEndSystem network device → IsParentOf network device link → ⊥
+link_facts {network} device link range keeps end parent =
     let l = some_of (link_at network link) (λ l. l.parent ≡ device) parent in
     let joint = keeps rules.Joints link.0 l.0 l.1 in
-    no_switch network device joint.0 range end (subst (λ (d : DeviceId). IsSwitchOf network joint.0 d) l.2 joint.1)
+    no_switch device joint.0 range end (subst (λ d. IsSwitchOf network joint.0 d) l.2 joint.1)
 
 parent_by : (o : Option Link) (l : Link) (device : DeviceId) → o ≡ Some l → (l.parent ≡ device → ⊥)
     → option_map_or (λ l. l.parent.0 == device.0) o false ≡ false
@@ -116,7 +117,7 @@ channel_by_parent o network channel l e switch = grind (arith, some_of, option_a
 wire_is : (network : Network) (link : LinkId) (wire : Units) → IsSomeAnd (link_at network link) (λ l. l.wire ≡ wire) → wire_of network link ≡ amount wire
 wire_is network link wire h =
     let l = some_of (link_at network link) (λ l. l.wire ≡ wire) h in
-    ap (λ (p : Option Link). option_map_or (λ (l : Link). amount l.wire) p 0) l.1 ∙ ap (λ (u : Units). amount u) l.2
+    ap (λ (p : Option Link). option_map_or (λ (l : Link). amount l.wire) p 0) l.1 ∙ ap (λ u. amount u) l.2
 
 uplink_is : (network : Network) (channel : Channel) (device : DeviceId) (link other : LinkId) → KeepsRules network → IsEndSystem network device
     → IsUplink network channel device link → IsUplink network channel device other → link ≡ other
@@ -124,30 +125,35 @@ uplink_is network channel device link other keeps end h k =
     let one = (keeps rules.Connections device.0).ends end channel in
     one.2 link h ∙ sym (one.2 other k)
 
--- a link of an end system is one of its two
-link_of_channel : (network : Network) (device : DeviceId) (own : Own) (channel : Channel) (link : LinkId) → KeepsRules network → IsEndSystem network device
-    → IsUplinkOf network A device own.a → IsUplinkOf network B device own.b → IsUplink network channel device link
-    → (channel ≡ channel_by own link) × (wire_of network link ≡ amount (wire_by own link))
-link_of_channel network device own A link keeps end a b up = grind (arith, uplink_is, is_first, wire_is, amount)
-link_of_channel network device own B link keeps end a b up = grind (arith, uplink_is, apart, is_second, wire_is, amount)
+module _ (network : Network) (device : DeviceId) (own : Own) where
+  -- a link of an end system is one of its two
+  link_of_channel : (channel : Channel) (link : LinkId) → KeepsRules network → IsEndSystem network device
+      → IsUplinkOf network A device own.a → IsUplinkOf network B device own.b → IsUplink network channel device link
+      → (channel ≡ channel_by own link) × (wire_of network link ≡ amount (wire_by own link))
+  link_of_channel A link keeps end a b up = grind (arith, uplink_is, is_first, wire_is, amount)
+  link_of_channel B link keeps end a b up = grind (arith, uplink_is, apart, is_second, wire_is, amount)
 
-link_is : (network : Network) (device : DeviceId) (own : Own) (link : LinkId) → IsInRange network → KeepsRules network → IsEndSystem network device
-    → IsUplinkOf network A device own.a → IsUplinkOf network B device own.b → IsLinkAt network device link → IsLinkOf network device own link
-link_is network device own link range keeps end a b (inr parent) = absurd (link_facts network device link range keeps end parent)
-link_is network device own link range keeps end a b (inl child) =
-    let l = some_of (link_at network link) (λ l. l.child ≡ device) child in
-    let joint = keeps rules.Joints link.0 l.0 l.1 in
-    let up : IsUplink network joint.0 device link = of_some (link_at network link) (λ l. (l.child ≡ device) × IsSwitchOf network joint.0 l.parent) l.0 l.1
-    (l.2, joint.1) in
-    let of = link_of_channel network device own joint.0 link keeps end a b up in
-    record {
-      child = child;
-      up =
-          parent_by (link_at network link) l.0 device l.1
-          (λ e. no_switch network device joint.0 range end (subst (λ (d : DeviceId). IsSwitchOf network joint.0 d) e joint.1));
-      channel = channel_by_parent (link_at network link) network joint.0 l.0 l.1 joint.1 ∙ ap (λ (c : Channel). Some c) of.0;
-      wire = of.1;
-    }
+  link_is : (link : LinkId) → IsInRange network → KeepsRules network → IsEndSystem network device
+      → IsUplinkOf network A device own.a → IsUplinkOf network B device own.b → IsLinkAt network device link
+      → IsLinkOf network device own link
+  link_is link range keeps end a b (inr parent) = absurd (link_facts device link range keeps end parent)
+  link_is link range keeps end a b (inl child) =
+      let l = some_of (link_at network link) (λ l. l.child ≡ device) child in
+      let joint = keeps rules.Joints link.0 l.0 l.1 in
+      let up : IsUplink network joint.0 device link =
+      of_some (link_at network link) (λ l. (l.child ≡ device) × IsSwitchOf network joint.0 l.parent) l.0 l.1
+      (l.2, joint.1) in
+      let of = link_of_channel joint.0 link keeps end a b up in
+      record {
+        child = child;
+        up =
+            parent_by (link_at network link) l.0 device l.1
+            (λ e. no_switch device joint.0 range end (subst (λ d. IsSwitchOf network joint.0 d) e
+            joint.1));
+        channel = channel_by_parent (link_at network link) network joint.0 l.0 l.1 joint.1 ∙ ap
+            (λ (c : Channel). Some c) of.0;
+        wire = of.1;
+      }
 
 early_by : (offset time wire jitter t p c : ℕ) → offset + time + wire + jitter + t + 4 * p ≤ c → offset + 4 * p ≤ c
 early_by offset time wire jitter t p c h = omega (arith, h)
@@ -157,14 +163,14 @@ offset_by : (network : Network) (row : RowId) (r : Row) → (slice_at : Option R
 offset_by network row r o e = ap (λ (p : Option Row). option_map_or (λ (r : Row). amount r.offset) p 0) e
 
 -- a device that was made so knows its network
-pub is_own : (network : Network) (device : DeviceId) (own : Own) → IsInRange network → KeepsRules network → IsEndSystem network device
-    → own.plan ≡ end_plan network → own.precision ≡ network.precision → own.correction ≡ network.correction → own.dmax ≡ network.dmax
-    → own.marker ≡ network.marker
-    → own.frame ≡ dispatched_frame network device 0 → own.is_master ≡ has_role network is_master device → IsUplinkOf network A device own.a
-    → IsUplinkOf network B device own.b → IsOwnOf network device own
-is_own network device own range keeps end plan_is precision correction dmax marker frame master a b =
+pub is_own : {network : Network} {device : DeviceId} (own : Own) → IsInRange network → KeepsRules network
+    → IsEndSystem network device → own.plan ≡ end_plan network → own.precision ≡ network.precision
+    → own.correction ≡ network.correction → own.dmax ≡ network.dmax → own.marker ≡ network.marker
+    → own.frame ≡ dispatched_frame network device 0 → own.is_master ≡ has_role network is_master device
+    → IsUplinkOf network A device own.a → IsUplinkOf network B device own.b → IsOwnOf network device own
+is_own {network} {device} own range keeps end plan_is precision correction dmax marker frame master a b =
     let within : (low high : ℕ) (u v : Units) → v ≡ u → IsWithin low high u
-    → IsWithin low high v = λ low high u v e h. subst (λ (x : Units). IsWithin low high x) (sym e) h in
+    → IsWithin low high v = λ low high u v e h. subst (λ x. IsWithin low high x) (sym e) h in
     record {
       in_range = range;
       end = end_test network device end;
@@ -198,11 +204,11 @@ is_own network device own range keeps end plan_is precision correction dmax mark
             (margin_by (expected_offset network) (amount network.dmax) (amount network.precision) (amount network.calc) (amount network.correction)
             (amount network.cycle) network.precision.0 network.cycle.0 network.correction.0 refl
             (its_amount _ _ _ range.precision) (its_amount _ _ _ range.cycle) (its_amount _ _ _ range.correction) (keeps rules.Correction 0)
-            (at_least _ _ _ range.cycle));
+            (at_least range.cycle));
       };
       periods = λ vl. keeps rules.Periods vl;
       early = λ row cycle h.
           let ends = keeps rules.WindowEnds row.0 h.entry h.is in
-          subst (λ (n : ℕ). n + 4 * amount network.precision ≤ amount network.cycle) (sym (offset_by network row h.entry.row _ h.is.row))
+          subst (λ n. n + 4 * amount network.precision ≤ amount network.cycle) (sym (offset_by network row h.entry.row _ h.is.row))
           (early_by _ _ _ _ _ (amount network.precision) (amount network.cycle) ends);
     }

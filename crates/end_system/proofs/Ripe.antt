@@ -25,16 +25,19 @@ low_point r q p n e most begun h = omega (arith, ints)
 high_point : (r q : ℤ) → q ≤ℤ r → r ≤ℤ pos (2 ^ 60 + 2 ^ 51) → q ≤ℤ pos (2 ^ 60 + 2 ^ 51)
 high_point r q h low = omega (arith, ints)
 
-pub point_low : (network : Network) (device : DeviceId) (node : Node) (own : Own) (moment : Moment) (link : LinkId) (frame : Pcf) (point : Units)
-    → IsOwnOf network device own → pos 0 ≤ℤ node.last.reading.0 → MayCall network device node moment ripening
-    → MayRipen network device node moment link frame point → neg_ℤ (pos (2 ^ 40)) ≤ℤ point.0
-point_low network device node own moment link frame point is begun may ripens =
+pub point_low : {network : Network} {device : DeviceId} {node : Node} {own : Own} {moment : Moment} {link : LinkId}
+    {frame : Pcf} {point : Units} → IsOwnOf network device own → pos 0 ≤ℤ node.last.reading.0
+    → MayCall network device node moment ripening → MayRipen network device node moment link frame point
+    → neg_ℤ (pos (2 ^ 40)) ≤ℤ point.0
+point_low {network} {node} {moment} {point} is begun may ripens =
     low_point moment.reading.0 point.0 network.precision.0 (amount network.precision) (from_zero _ network.precision.0 is.in_range.precision.least)
-    (has_numbers network device own is).precision_most (not_fallen node.last.reading.0 moment.reading.0 begun may.later.reading) ripens.in_time
+    (has_numbers is).precision_most (not_fallen node.last.reading.0 moment.reading.0 begun may.later.reading)
+    ripens.in_time
 
-pub point_high : (network : Network) (device : DeviceId) (node : Node) (moment : Moment) (link : LinkId) (frame : Pcf) (point : Units)
-    → MayCall network device node moment ripening → MayRipen network device node moment link frame point → point.0 ≤ℤ pos (2 ^ 60 + 2 ^ 51)
-point_high network device node moment link frame point may ripens = high_point moment.reading.0 point.0 ripens.reached may.later.low_enough
+pub point_high : {network : Network} {device : DeviceId} {node : Node} {moment : Moment} {link : LinkId}
+    {frame : Pcf} {point : Units} → MayCall network device node moment ripening
+    → MayRipen network device node moment link frame point → point.0 ≤ℤ pos (2 ^ 60 + 2 ^ 51)
+point_high {moment} {point} may ripens = high_point moment.reading.0 point.0 ripens.reached may.later.low_enough
 
 -- ---- a frame within its time
 
@@ -53,10 +56,12 @@ within_in own Synchronised adjustment point cycle members p e = in_time_by _ e
 abbrev pub heard_frame_of : Pcf → Units → HeardFrame
 heard_frame_of frame point = record { cycle = frame.cycle; members = frame.members; point = point }
 
-pub is_heard_so : (network : Network) (device : DeviceId) (own : Own) (s : Standing) (frame : Pcf) (point : Units) → IsOwnOf network device own
-    → s.plan ≡ end_plan network → neg_ℤ (pos (2 ^ 40)) ≤ℤ point.0 → point.0 ≤ℤ pos (2 ^ 60 + 2 ^ 51) → heard_by own s frame point ≡ Within
+pub is_heard_so : {network : Network} {device : DeviceId} {own : Own} (s : Standing) (frame : Pcf) (point : Units)
+    → IsOwnOf network device own → s.plan ≡ end_plan network → neg_ℤ (pos (2 ^ 40)) ≤ℤ point.0
+    → point.0 ≤ℤ pos (2 ^ 60 + 2 ^ 51) → heard_by own s frame point ≡ Within
     → IsHeardSo network s (heard_frame_of frame point)
-is_heard_so network device own s frame point is plan low high e = grind (arith, and_parts, nat_le, within_in, amount, int_le, leb-true, int_le-is)
+is_heard_so s frame point is plan low high e =
+    grind (arith, and_parts, nat_le, within_in, amount, int_le, leb-true, int_le-is)
 
 -- no frame is within its time at the end of all
 too_late : (f c d e p : ℕ) (v ef r x q a w : ℤ) → f ≤ 2 ^ 20 + 2 ^ 17 → v ≡ pos ((2 ^ 20 + 2 ^ 17 + 1) * c + d) → ef ≡ pos (f * c + e) → v ≤ℤ ((x +ℤ a) +ℤ w)
@@ -64,72 +69,87 @@ too_late : (f c d e p : ℕ) (v ef r x q a w : ℤ) → f ≤ 2 ^ 20 + 2 ^ 17 �
 too_late f c d e p v ef r x q a w bound isv isf passed isw later soon to margin =
     let more : f * c ≤ (2 ^ 20 + 2 ^ 17) * c = mul-le-mul_right c bound in omega (arith, ints, more)
 
-pub not_the_end : (network : Network) (device : DeviceId) (own : Own) (s : Standing) (heard : Summary) (frame : HeardFrame) (before reading : ℤ)
-    → IsOwnOf network device own → s.plan ≡ end_plan network → IsHeardSo network s frame → IsAtEnd network s heard before → before ≤ℤ reading
+pub not_the_end : {network : Network} {device : DeviceId} {own : Own} {s : Standing} {heard : Summary}
+    {frame : HeardFrame} {before : ℤ} (reading : ℤ) → IsOwnOf network device own → s.plan ≡ end_plan network
+    → IsHeardSo network s frame → IsAtEnd network s heard before → before ≤ℤ reading
     → reading <ℤ (frame.point.0 +ℤ network.precision.0) → ⊥
-not_the_end network device own s heard frame before reading is plan h end later soon =
-    let r = has_numbers network device own is in
+not_the_end {network} {s} {frame} {before} reading is plan h end later soon =
+    let r = has_numbers is in
     too_late frame.cycle (amount network.cycle) (amount network.correction) (expected_offset network) (amount network.precision)
     (correction_value network (2 ^ 20 + 2 ^ 17 + 1)) (expected_at s.plan frame.cycle) reading before frame.point.0 s.adjustment.0 network.precision.0
-    h.cycle refl (expected_is network device own s.plan frame.cycle is plan) end.passed (from_zero _ network.precision.0 is.in_range.precision.least) later soon
+    h.cycle refl (expected_is s.plan frame.cycle is plan) end.passed
+    (from_zero _ network.precision.0 is.in_range.precision.least) later soon
     h.to r.margin
 
-better_so : (network : Network) (s : Standing) (o : Option HeardFrame) (later best : HeardFrame) → IsBetterOf o later best → IfSome o (IsHeardSo network s)
-    → IsHeardSo network s later → IsHeardSo network s best
-better_so network s None later best e was now = subst (IsHeardSo network s) (sym e) now
-better_so network s (Some old) later best (inl h) was now = subst (IsHeardSo network s) (sym h.1) was
-better_so network s (Some old) later best (inr h) was now = subst (IsHeardSo network s) (sym h.1) now
+better_so : {network : Network} {s : Standing} (o : Option HeardFrame) {later : HeardFrame} (best : HeardFrame)
+    → IsBetterOf o later best → IfSome o (IsHeardSo network s) → IsHeardSo network s later → IsHeardSo network s best
+better_so {network} {s} None best e was now = subst (IsHeardSo network s) (sym e) now
+better_so {network} {s} (Some old) best (inl h) was now = subst (IsHeardSo network s) (sym h.1) was
+better_so {network} {s} (Some old) best (inr h) was now = subst (IsHeardSo network s) (sym h.1) now
 
-within_near : (network : Network) (s : Standing) (old new : Summary) (channel : Channel) (frame : HeardFrame)
-    → Hears old (record { channel = channel; frame = frame; within = true }) new → AreHeardSo network s old → IsHeardSo network s frame
-    → AreHeardSo network s new
-within_near network s old new A frame h was now =
-    subst (AreHeardSo network s) (sym h.2) (record { a = better_so network s old.best_a frame h.0 h.1 was.a now; b = was.b })
-within_near network s old new B frame h was now =
-    subst (AreHeardSo network s) (sym h.2) (record { a = was.a; b = better_so network s old.best_b frame h.0 h.1 was.b now })
+within_near : {network : Network} {s : Standing} {old : Summary} (new : Summary) (channel : Channel)
+    {frame : HeardFrame} → Hears old (record { channel = channel; frame = frame; within = true }) new
+    → AreHeardSo network s old → IsHeardSo network s frame → AreHeardSo network s new
+within_near {network} {s} {old} new A h was now =
+    subst (AreHeardSo network s) (sym h.2) (record { a = better_so old.best_a h.0 h.1 was.a now; b = was.b })
+within_near {network} {s} {old} new B h was now =
+    subst (AreHeardSo network s) (sym h.2) (record { a = was.a; b = better_so old.best_b h.0 h.1 was.b now })
 
-outside_near : (network : Network) (s : Standing) (old new : Summary) (channel : Channel) (frame : HeardFrame)
-    → Hears old (record { channel = channel; frame = frame; within = false }) new → AreHeardSo network s old → AreHeardSo network s new
-outside_near network s old new channel frame h was = subst (AreHeardSo network s) (sym h) (record { a = was.a; b = was.b })
+module _ (network : Network) (s : Standing) (old new : Summary) (channel : Channel) (frame : HeardFrame) where
+  outside_near : Hears old (record { channel = channel; frame = frame; within = false }) new
+      → AreHeardSo network s old → AreHeardSo network s new
+  outside_near h was = subst (AreHeardSo network s) (sym h) (record { a = was.a; b = was.b })
 
-outside_number : (network : Network) (s : Standing) (old new : Summary) (channel : Channel) (frame : HeardFrame) (x y : ℤ) (o : Option ℕ)
-    → Hears old (record { channel = channel; frame = frame; within = false }) new → x ≤ℤ y → IfSome o (HasNumber network s old x)
-    → IfSome o (HasNumber network s new y)
-outside_number network s old new channel frame x y None h le was = tt
-outside_number network s old new channel frame x y (Some n) h le was =
-    subst (λ (m : Summary). HasNumber network s m y n) (sym h)
-    (let later = number_stays network s old x y (Some n) le was in
-    record { bound = later.bound; at_end = λ e. let end = later.at_end e in record { none_a = end.none_a; none_b = end.none_b; passed = end.passed } })
+  outside_number : (x y : ℤ) (o : Option ℕ) → Hears old
+      (record { channel = channel; frame = frame; within = false }) new → x ≤ℤ y
+      → IfSome o (HasNumber network s old x) → IfSome o (HasNumber network s new y)
+  outside_number x y None h le was = tt
+  outside_number x y (Some n) h le was =
+      subst (λ m. HasNumber network s m y n) (sym h)
+      (let later = number_stays network s old x y (Some n) le was in
+      record { bound = later.bound; at_end = λ e. let end = later.at_end e in record { none_a = end.none_a; none_b = end.none_b; passed = end.passed } })
 
-within_number : (network : Network) (device : DeviceId) (own : Own) (s : Standing) (old new : Summary) (frame : HeardFrame) (x y : ℤ) (o : Option ℕ)
-    → IsOwnOf network device own → s.plan ≡ end_plan network → IsHeardSo network s frame → x ≤ℤ y → y <ℤ (frame.point.0 +ℤ network.precision.0)
+within_number : {network : Network} {device : DeviceId} {own : Own} {s : Standing} (old new : Summary)
+    {frame : HeardFrame} (x y : ℤ) (o : Option ℕ) → IsOwnOf network device own → s.plan ≡ end_plan network
+    → IsHeardSo network s frame → x ≤ℤ y → y <ℤ (frame.point.0 +ℤ network.precision.0)
     → IfSome o (HasNumber network s old x) → IfSome o (HasNumber network s new y)
-within_number network device own s old new frame x y None is plan now le soon was = tt
-within_number network device own s old new frame x y (Some n) is plan now le soon was =
-    record { bound = was.bound; at_end = λ e. absurd (not_the_end network device own s old frame x y is plan now (was.at_end e) le soon) }
+within_number old new x y None is plan now le soon was = tt
+within_number old new x y (Some n) is plan now le soon was =
+    record { bound = was.bound; at_end = λ e. absurd (not_the_end y is plan now (was.at_end e) le soon) }
 
 -- ---- it keeps a frame
 
-summary_of : (heard : Summary) (before : List Hearing) (o : Option Channel) (channel : Channel) (frame : Pcf) (point : Units) (within : Bool) → o ≡ Some channel
-    → Summarizes heard (before ++ record { channel = channel; frame = heard_frame_of frame point; within = within } ∷ [])
+summary_of : {heard : Summary} (before : List Hearing) (o : Option Channel) (channel : Channel) (frame : Pcf)
+    (point : Units) (within : Bool) → o ≡ Some channel → Summarizes heard
+    (before ++ record { channel = channel; frame = heard_frame_of frame point; within = within } ∷ [])
     → Summarizes heard (before ++ hearings o frame.cycle frame.members point within)
-summary_of heard before o channel frame point within e h =
-    subst (λ (x : Option Channel). Summarizes heard (before ++ hearings x frame.cycle frame.members point within)) (sym e) h
+summary_of {heard} before o channel frame point within e h =
+    subst (λ x. Summarizes heard (before ++ hearings x frame.cycle frame.members point within)) (sym e) h
 
-pub keeps : (network : Network) (device : DeviceId) (node : Node) (e : EndSystem) (heard : Summary) (moment : Moment) (link : LinkId) (frame : Pcf)
-    (point : Units) (within : Bool) → StandsAsEnd e network device node → MayCall network device node moment ripening
-    → MayRipen network device node moment link frame point → heard_by e.own e.sync frame point ≡ heard_so within
-    → Hears e.heard (record { channel = channel_by e.own link; frame = heard_frame_of frame point; within = within }) heard
+pub keeps : {network : Network} {device : DeviceId} {node : Node} {e : EndSystem} (heard : Summary) {moment : Moment}
+    {link : LinkId} {frame : Pcf} {point : Units} (within : Bool) → StandsAsEnd e network device node
+    → MayCall network device node moment ripening → MayRipen network device node moment link frame point
+    → heard_by e.own e.sync frame point ≡ heard_so within → Hears e.heard
+    (record { channel = channel_by e.own link; frame = heard_frame_of frame point; within = within }) heard
     → ((before : List Hearing) → Summarizes e.heard before
-    → Summarizes heard (before ++ record { channel = channel_by e.own link; frame = heard_frame_of frame point; within = within } ∷ []))
-    → StandsAsEnd (record { own = e.own; sync = e.sync; heard = heard; agenda = e.agenda; rows = e.rows; entering = e.entering; last = moment }) network device
+    → Summarizes heard (before
+    ++ record { channel = channel_by e.own link; frame = heard_frame_of frame point; within = within } ∷ []))
+    → StandsAsEnd
+    (record {
+      own = e.own;
+      sync = e.sync;
+      heard = heard;
+      agenda = e.agenda;
+      rows = e.rows;
+      entering = e.entering;
+      last = moment;
+    }) network device
     (called moment ripening (with_heard node (channel_of_link network link) frame point within))
-keeps network device node e heard moment link frame point true stands may ripens as_heard hears summary =
+keeps {node} {e} heard {moment} {link} {frame} {point} true stands may ripens as_heard hears summary =
     let plan = stands.plan ∙ stands.own.plan_is in
-    let now = is_heard_so network device e.own node.standing frame point stands.own plan
-    (point_low network device node e.own moment link frame point stands.own stands.begun may ripens)
-    (point_high network device node moment link frame point may ripens)
-    (subst (λ (s : Standing). heard_by e.own s frame point ≡ Within) (sym stands.standing) as_heard) in
+    let now = is_heard_so node.standing frame point stands.own plan (point_low stands.own stands.begun may ripens)
+    (point_high may ripens)
+    (subst (λ s. heard_by e.own s frame point ≡ Within) (sym stands.standing) as_heard) in
     record {
       own = stands.own;
       sound = stands.sound;
@@ -138,18 +158,19 @@ keeps network device node e heard moment link frame point true stands may ripens
       last = refl;
       begun = not_fallen node.last.reading.0 moment.reading.0 stands.begun may.later.reading;
       small = stands.small;
-      heard = summary_of heard node.heard _ _ frame point true (stands.own.links link ripens.at).channel (summary node.heard stands.heard);
-      near = within_near network node.standing e.heard heard (channel_by e.own link) (heard_frame_of frame point) hears stands.near now;
+      heard = summary_of node.heard _ _ frame point true
+          (stands.own.links link ripens.at).channel (summary node.heard stands.heard);
+      near = within_near heard (channel_by e.own link) hears stands.near now;
       joined = stands.joined;
       number =
-          within_number network device e.own node.standing e.heard heard (heard_frame_of frame point) node.last.reading.0 moment.reading.0
+          within_number e.heard heard node.last.reading.0 moment.reading.0
           (next_point node.standing) stands.own plan now may.later.reading ripens.in_time stands.number;
       rows = stands.rows;
       entering = stands.entering;
       slot = stands.slot;
       agenda = stands.agenda;
     }
-keeps network device node e heard moment link frame point false stands may ripens as_heard hears summary =
+keeps {network} {node} {e} heard {moment} {link} {frame} {point} false stands may ripens as_heard hears summary =
     record {
       own = stands.own;
       sound = stands.sound;
@@ -158,7 +179,8 @@ keeps network device node e heard moment link frame point false stands may ripen
       last = refl;
       begun = not_fallen node.last.reading.0 moment.reading.0 stands.begun may.later.reading;
       small = stands.small;
-      heard = summary_of heard node.heard _ _ frame point false (stands.own.links link ripens.at).channel (summary node.heard stands.heard);
+      heard = summary_of node.heard _ _ frame point false
+          (stands.own.links link ripens.at).channel (summary node.heard stands.heard);
       near = outside_near network node.standing e.heard heard (channel_by e.own link) (heard_frame_of frame point) hears stands.near;
       joined = stands.joined;
       number =
@@ -184,21 +206,23 @@ told_in own Integrating adjustment point cycle members p e = (refl, tells_by _ e
 told_in own Joining adjustment point cycle members p e = absurd (in_time_not _ e)
 told_in own Synchronised adjustment point cycle members p e = absurd (in_time_not _ e)
 
-pub tells : (network : Network) (device : DeviceId) (own : Own) (s : Standing) (frame : Pcf) (point : Units) → IsOwnOf network device own
-    → s.plan ≡ end_plan network → heard_by own s frame point ≡ Integrates → DoesIntegrate s frame
-tells network device own s frame point is plan e = grind (arith, told_in, amount, and_parts, nat_le, leb-true)
+pub tells : {network : Network} {device : DeviceId} {own : Own} (s : Standing) (frame : Pcf) (point : Units)
+    → IsOwnOf network device own → s.plan ≡ end_plan network → heard_by own s frame point ≡ Integrates
+    → DoesIntegrate s frame
+tells s frame point is plan e = grind (arith, told_in, amount, and_parts, nat_le, leb-true)
 
 small_joined : (f c e : ℕ) (ef q : ℤ) → f ≤ 2 ^ 20 + 2 ^ 17 → c ≤ 2 ^ 40 → e ≤ 2 ^ 43 → ef ≡ pos (f * c + e) → neg_ℤ (pos (2 ^ 40)) ≤ℤ q
     → q ≤ℤ pos (2 ^ 60 + 2 ^ 51) → IsSmall (ef -ℤ q)
 small_joined f c e ef q bf bc be isf low high = let mf : f * c ≤ f * 2 ^ 40 = mul-le-mul_left f bc in (omega (arith, ints, mf), omega (arith, ints, mf))
 
-pub joined_small : (network : Network) (device : DeviceId) (own : Own) (plan : SyncPlan) (frame : Pcf) (point : Units) → IsOwnOf network device own
-    → plan ≡ end_plan network → frame.cycle ≤ 2 ^ 20 + 2 ^ 17 → neg_ℤ (pos (2 ^ 40)) ≤ℤ point.0 → point.0 ≤ℤ pos (2 ^ 60 + 2 ^ 51)
+pub joined_small : {network : Network} {device : DeviceId} {own : Own} (plan : SyncPlan) (frame : Pcf)
+    (point : Units) → IsOwnOf network device own → plan ≡ end_plan network → frame.cycle ≤ 2 ^ 20 + 2 ^ 17
+    → neg_ℤ (pos (2 ^ 40)) ≤ℤ point.0 → point.0 ≤ℤ pos (2 ^ 60 + 2 ^ 51)
     → IsSmall (joined_by plan frame point).adjustment.0
-joined_small network device own plan frame point is same early low high =
-    let r = has_numbers network device own is in
+joined_small {network} plan frame point is same early low high =
+    let r = has_numbers is in
     small_joined frame.cycle (amount network.cycle) (expected_offset network) (expected_at plan frame.cycle) point.0 early r.cycle_most r.offset_most
-    (expected_is network device own plan frame.cycle is same) low high
+    (expected_is plan frame.cycle is same) low high
 
 -- where the synchronisation stands then
 abbrev pub joined_standing : Standing → Pcf → Units → Standing
@@ -213,19 +237,30 @@ not_last n h e = omega arith
 pub early_enough : (n : ℕ) → n ≤ 2 ^ 20 + 2 ^ 17 → n ≤ 2 ^ 21 + 2 ^ 18
 early_enough n h = omega arith
 
-pub joins : (network : Network) (device : DeviceId) (node : Node) (e : EndSystem) (sync : Standing) (heard : Summary) (agenda : Agenda) (moment : Moment)
-    (link : LinkId) (frame : Pcf) (point : Units) → StandsAsEnd e network device node → IsTold e network device node moment link frame point
-    → sync ≡ joined_standing e.sync frame point → heard ≡ silence → Summarizes heard [] → IfSome agenda.dispatch (IsAtSlot e.rows)
-    → ((network : Network) (device : DeviceId) → IsOwnOf network device e.own → AreRowsOf network device e.rows
-    → IsAgenda network device sync (moment.reading.0 +ℤ sync.adjustment.0) [] agenda)
-    → StandsAsEnd (record { own = e.own; sync = sync; heard = heard; agenda = agenda; rows = e.rows; entering = e.entering; last = moment }) network device
-    (called moment ripening (with_joined node moment frame point))
-joins network device node e sync heard agenda moment link frame point stands told value none nothing slot plan =
-    let value_is : joined_standing node.standing frame point ≡ sync = ap (λ (s : Standing). joined_standing s frame point) stands.standing ∙ sym value in
+pub joins : {network : Network} {device : DeviceId} {node : Node} {e : EndSystem} (sync : Standing) {heard : Summary}
+    (agenda : Agenda) {moment : Moment} {link : LinkId} {frame : Pcf} {point : Units}
+    → StandsAsEnd e network device node → IsTold e network device node moment link frame point
+    → sync ≡ joined_standing e.sync frame point → heard ≡ silence → Summarizes heard []
+    → IfSome agenda.dispatch (IsAtSlot e.rows) → ((network : Network) (device : DeviceId)
+    → IsOwnOf network device e.own → AreRowsOf network device e.rows
+    → IsAgenda network device sync (moment.reading.0 +ℤ sync.adjustment.0) [] agenda) → StandsAsEnd
+    (record {
+      own = e.own;
+      sync = sync;
+      heard = heard;
+      agenda = agenda;
+      rows = e.rows;
+      entering = e.entering;
+      last =
+          moment;
+    }) network device (called moment ripening (with_joined node moment frame point))
+joins {network} {device} {node} {e} sync {heard} agenda {moment} {frame} {point} stands told value none nothing slot
+    plan =
+    let value_is : joined_standing node.standing frame point ≡ sync = ap (λ s. joined_standing s frame point) stands.standing ∙ sym value in
     let plan_is = stands.plan ∙ stands.own.plan_is in
     let may = told.call in
-    let does = tells network device e.own node.standing frame point stands.own plan_is
-    (subst (λ (s : Standing). heard_by e.own s frame point ≡ Integrates) (sym stands.standing) told.integrates) in
+    let does = tells node.standing frame point stands.own plan_is
+    (subst (λ s. heard_by e.own s frame point ≡ Integrates) (sym stands.standing) told.integrates) in
     record {
       own = stands.own;
       sound = stands.sound;
@@ -234,9 +269,8 @@ joins network device node e sync heard agenda moment link frame point stands tol
       last = refl;
       begun = not_fallen node.last.reading.0 moment.reading.0 stands.begun may.later.reading;
       small =
-          joined_small network device e.own node.standing.plan frame point stands.own plan_is does.in_time
-          (point_low network device node e.own moment link frame point stands.own stands.begun may told.ripens)
-          (point_high network device node moment link frame point may told.ripens);
+          joined_small node.standing.plan frame point stands.own plan_is does.in_time
+          (point_low stands.own stands.begun may told.ripens) (point_high may told.ripens);
       heard = nothing;
       near = heard_nothing network (joined_standing node.standing frame point) heard none;
       joined = does.in_time;
@@ -253,42 +287,45 @@ some_iff : {X : Type 0} (o : Option X) (P : Type 0) (v : X) → SomeIff o P v �
 some_iff None P v h p = absurd (h p)
 some_iff (Some x) P v h p = ap Some h.1
 
-pub joined_value : (s new : Standing) (frame : Pcf) (point : Units) (o : Option Joined) → SomeIff o (DoesIntegrate s frame) (joined_by s.plan frame point)
-    → DoesIntegrate s frame → new ≡ after s (heard_frame frame point o) → new ≡ joined_standing s frame point
-joined_value s new frame point o iff does value =
+pub joined_value : {s : Standing} (new : Standing) {frame : Pcf} (point : Units) (o : Option Joined)
+    → SomeIff o (DoesIntegrate s frame) (joined_by s.plan frame point) → DoesIntegrate s frame
+    → new ≡ after s (heard_frame frame point o) → new ≡ joined_standing s frame point
+joined_value {s} new {frame} point o iff does value =
     value ∙ ap (λ (x : Option Joined). after s (heard_frame frame point x)) (some_iff o _ (joined_by s.plan frame point) iff does)
 
 -- what the frame does, where it tells the time
-pub does_tell : (network : Network) (device : DeviceId) (node : Node) (e : EndSystem) (moment : Moment) (link : LinkId) (frame : Pcf) (point : Units)
-    → StandsAsEnd e network device node → IsTold e network device node moment link frame point → DoesIntegrate e.sync frame
-does_tell network device node e moment link frame point stands told =
-    tells network device e.own e.sync frame point stands.own
+pub does_tell : {network : Network} {device : DeviceId} {node : Node} {e : EndSystem} {moment : Moment}
+    {link : LinkId} {frame : Pcf} {point : Units} → StandsAsEnd e network device node
+    → IsTold e network device node moment link frame point → DoesIntegrate e.sync frame
+does_tell {network} {e} {frame} {point} stands told =
+    tells e.sync frame point stands.own
     (subst (λ (s : Standing). s.plan ≡ end_plan network) stands.standing (stands.plan ∙ stands.own.plan_is)) told.integrates
 
-pub joined_number : (s new : Standing) (frame : Pcf) (point : Units) → new ≡ joined_standing s frame point → DoesIntegrate s frame
-    → IfSome (next_point new) (λ n. n ≤ 2 ^ 21 + 2 ^ 18)
-joined_number s new frame point value does =
+pub joined_number : {s : Standing} (new : Standing) {frame : Pcf} (point : Units)
+    → new ≡ joined_standing s frame point → DoesIntegrate s frame → IfSome (next_point new) (λ n. n ≤ 2 ^ 21 + 2 ^ 18)
+joined_number new {frame} point value does =
     subst (λ (x : Standing). IfSome (next_point x) (λ n. n ≤ 2 ^ 21 + 2 ^ 18)) (sym value) (early_enough frame.cycle does.in_time)
 
-pub joined_small_by : (network : Network) (device : DeviceId) (node : Node) (e : EndSystem) (new : Standing) (moment : Moment) (link : LinkId) (frame : Pcf)
-    (point : Units) → StandsAsEnd e network device node → IsTold e network device node moment link frame point → new ≡ joined_standing e.sync frame point
+pub joined_small_by : {network : Network} {device : DeviceId} {node : Node} {e : EndSystem} (new : Standing)
+    {moment : Moment} {link : LinkId} {frame : Pcf} {point : Units} → StandsAsEnd e network device node
+    → IsTold e network device node moment link frame point → new ≡ joined_standing e.sync frame point
     → IsSmall new.adjustment.0
-joined_small_by network device node e new moment link frame point stands told value =
+joined_small_by {network} {e} new {frame} {point} stands told value =
     subst (λ (x : Standing). IsSmall x.adjustment.0) (sym value)
-    (joined_small network device e.own e.sync.plan frame point stands.own
+    (joined_small e.sync.plan frame point stands.own
     (subst (λ (s : Standing). s.plan ≡ end_plan network) stands.standing (stands.plan ∙ stands.own.plan_is))
-    (does_tell network device node e moment link frame point stands told).in_time
-    (point_low network device node e.own moment link frame point stands.own stands.begun told.call told.ripens)
-    (point_high network device node moment link frame point told.call told.ripens))
+    (does_tell stands told).in_time (point_low stands.own stands.begun told.call told.ripens)
+    (point_high told.call told.ripens))
 
 pub wide_range : (z : ℤ) → neg_ℤ (pos (2 ^ 40)) ≤ℤ z → z ≤ℤ pos (2 ^ 60 + 2 ^ 51) → (neg_ℤ (pos (2 ^ 61 + 2 ^ 58)) ≤ℤ z) × (z ≤ℤ pos (2 ^ 61 + 2 ^ 58))
 wide_range z low high = (omega (arith, ints), omega (arith, ints))
 
 -- ---- what becomes of a frame
 
-pub ripe_at : (network : Network) (device : DeviceId) (node : Node) (e : EndSystem) (frame : Pcf) (point : Units) (is : Ripe)
-    → StandsAsEnd e network device node → is ≡ heard_by e.own e.sync frame point → IsPermanenceOutcomeAt network device node frame point is
-ripe_at network device node e frame point is stands r = grind (arith, match_false, amount)
+pub ripe_at : {network : Network} {device : DeviceId} {node : Node} {e : EndSystem} (frame : Pcf) (point : Units)
+    (is : Ripe) → StandsAsEnd e network device node → is ≡ heard_by e.own e.sync frame point
+    → IsPermanenceOutcomeAt network device node frame point is
+ripe_at frame point is stands r = grind (arith, match_false, amount)
 
 ignored_time : (b : Bool) → (ripe_as (heard_by_schedule b) ≡ Within → ⊥) → (ripe_as (heard_by_schedule b) ≡ Outside → ⊥)
     → ripe_as (heard_by_schedule b) ≡ Ignored
@@ -311,23 +348,30 @@ pub is_ignored : (own : Own) (s : Standing) (frame : Pcf) (point : Units) (r : R
 is_ignored own s frame point r e w o i = ignored_in own s.state s.adjustment.0 point.0 frame.cycle frame.members (pos (amount own.precision)) r e w o i
 
 -- a device that ignores a frame stands as before, but later
-pub stands_later : (network : Network) (device : DeviceId) (node : Node) (e : EndSystem) (moment : Moment) (phase : Phase) → StandsAsEnd e network device node
-    → IsLaterMoment node.last moment
-    → StandsAsEnd (record { own = e.own; sync = e.sync; heard = e.heard; agenda = e.agenda; rows = e.rows; entering = e.entering; last = moment }) network
-    device (called moment phase node)
-stands_later network device node e moment phase stands later = grind (arith, not_fallen, number_stays, next_point)
+pub stands_later : {network : Network} {device : DeviceId} {node : Node} {e : EndSystem} {moment : Moment}
+    (phase : Phase) → StandsAsEnd e network device node → IsLaterMoment node.last moment → StandsAsEnd
+    (record {
+      own = e.own;
+      sync = e.sync;
+      heard = e.heard;
+      agenda = e.agenda;
+      rows = e.rows;
+      entering = e.entering;
+      last = moment;
+    }) network device (called moment phase node)
+stands_later phase stands later = grind (arith, not_fallen, number_stays, next_point)
 
--- it is on
-pub is_on : (network : Network) (device : DeviceId) (node : Node) (e : EndSystem) → StandsAsEnd e network device node → is_off e.sync.state ≡ false
-    → is_off node.standing.state ≡ false
-is_on network device node e stands on = subst (λ (s : Standing). is_off s.state ≡ false) (sym stands.standing) on
+module _ {network : Network} {device : DeviceId} {node : Node} {e : EndSystem}
+    (stands : StandsAsEnd e network device node) where
+  -- it is on
+  pub is_on : is_off e.sync.state ≡ false → is_off node.standing.state ≡ false
+  is_on on = subst (λ (s : Standing). is_off s.state ≡ false) (sym stands.standing) on
 
-pub is_not_on : (network : Network) (device : DeviceId) (node : Node) (e : EndSystem) → StandsAsEnd e network device node → is_off e.sync.state ≡ true
-    → is_off node.standing.state ≡ false → ⊥
-is_not_on network device node e stands off on = both_ways _ (subst (λ (s : Standing). is_off s.state ≡ false) stands.standing on) off
+  pub is_not_on : is_off e.sync.state ≡ true → is_off node.standing.state ≡ false → ⊥
+  is_not_on off on = both_ways _ (subst (λ (s : Standing). is_off s.state ≡ false) stands.standing on) off
 
-pub small_now : (network : Network) (device : DeviceId) (node : Node) (e : EndSystem) → StandsAsEnd e network device node → IsSmall e.sync.adjustment.0
-small_now network device node e stands = subst (λ (s : Standing). IsSmall s.adjustment.0) stands.standing stands.small
+  pub small_now : IsSmall e.sync.adjustment.0
+  small_now = subst (λ (s : Standing). IsSmall s.adjustment.0) stands.standing stands.small
 
 -- ---- it is turned on
 
@@ -335,34 +379,44 @@ off_not : (state : State) → state ≡ Off → state ≡ Synchronised → ⊥
 off_not state a b = cc
 
 off_point : (state : State) (n k : ℕ) → state ≡ Off → point_in state n ≡ Some k → ⊥
-off_point state n k e p = let h : point_in Off n ≡ Some k = subst (λ (x : State). point_in x n ≡ Some k) e p in cc
+off_point state n k e p = let h : point_in Off n ≡ Some k = subst (λ x. point_in x n ≡ Some k) e p in cc
 
-on_sending : (network : Network) (device : DeviceId) (s : Standing) (changed : ℤ) (done : List ClockTask) (o : Option Appointment) → s.state ≡ Off
-    → IsSending network device s changed done o → IsSending network device (after s turned_on) changed done o
-on_sending network device s changed done None off is = λ master st. no_longer st
-on_sending network device s changed done (Some next) off is = absurd (off_not s.state off is.1)
+module _ (network : Network) where
+  on_sending : (device : DeviceId) (s : Standing) (changed : ℤ) (done : List ClockTask) (o : Option Appointment)
+      → s.state ≡ Off → IsSending network device s changed done o
+      → IsSending network device (after s turned_on) changed done o
+  on_sending device s changed done None off is = λ master st. no_longer st
+  on_sending device s changed done (Some next) off is = absurd (off_not s.state off is.1)
 
-on_correction : (network : Network) (s : Standing) (changed : ℤ) (done : List ClockTask) (o : Option Appointment) → s.state ≡ Off
-    → IsCorrection network s changed done o → IsCorrection network (after s turned_on) changed done o
-on_correction network s changed done None off is = λ cycle e. absurd (integrating_point s.number cycle e)
-on_correction network s changed done (Some next) off is = absurd (off_point s.state s.number next.cycle off is.0.point)
+  on_correction : (s : Standing) (changed : ℤ) (done : List ClockTask) (o : Option Appointment) → s.state ≡ Off
+      → IsCorrection network s changed done o → IsCorrection network (after s turned_on) changed done o
+  on_correction s changed done None off is = λ cycle e. absurd (integrating_point s.number cycle e)
+  on_correction s changed done (Some next) off is = absurd (off_point s.state s.number next.cycle off is.0.point)
 
-on_dispatch : (network : Network) (device : DeviceId) (s : Standing) (changed : ℤ) (done : List ClockTask) (o : Option Dispatch) → s.state ≡ Off
-    → IsDispatch network device s changed done o → IsDispatch network device (after s turned_on) changed done o
-on_dispatch network device s changed done None off is = λ st. absurd (no_longer st)
-on_dispatch network device s changed done (Some next) off is = absurd (off_not s.state off is.0)
+  on_dispatch : (device : DeviceId) (s : Standing) (changed : ℤ) (done : List ClockTask) (o : Option Dispatch)
+      → s.state ≡ Off → IsDispatch network device s changed done o
+      → IsDispatch network device (after s turned_on) changed done o
+  on_dispatch device s changed done None off is = λ st. absurd (no_longer st)
+  on_dispatch device s changed done (Some next) off is = absurd (off_not s.state off is.0)
 
-frame_still : (network : Network) (s t : Standing) (frame : HeardFrame) → s.plan ≡ t.plan → s.adjustment ≡ t.adjustment → IsHeardSo network s frame
-    → IsHeardSo network t frame
-frame_still network s t frame p a h = grind arith
+  frame_still : {s : Standing} (t : Standing) {frame : HeardFrame} → s.plan ≡ t.plan → s.adjustment ≡ t.adjustment
+      → IsHeardSo network s frame → IsHeardSo network t frame
+  frame_still t p a h = grind arith
 
-heard_still : (network : Network) (s t : Standing) (o : Option HeardFrame) → s.plan ≡ t.plan → s.adjustment ≡ t.adjustment → IfSome o (IsHeardSo network s)
-    → IfSome o (IsHeardSo network t)
-heard_still network s t None p a h = tt
-heard_still network s t (Some frame) p a h = frame_still network s t frame p a h
+  heard_still : (s t : Standing) (o : Option HeardFrame) → s.plan ≡ t.plan → s.adjustment ≡ t.adjustment
+      → IfSome o (IsHeardSo network s) → IfSome o (IsHeardSo network t)
+  heard_still s t None p a h = tt
+  heard_still s t (Some frame) p a h = frame_still t p a h
 
-pub turns_on : (network : Network) (device : DeviceId) (node : Node) (e : EndSystem) (sync : Standing) → StandsAsEnd e network device node
-    → node.standing.state ≡ Off → sync ≡ after e.sync turned_on
-    → StandsAsEnd (record { own = e.own; sync = sync; heard = e.heard; agenda = e.agenda; rows = e.rows; entering = e.entering; last = e.last }) network device
-    (node_turned_on node)
-turns_on network device node e sync stands off value = grind (arith, heard_still, on_sending, on_correction, on_dispatch)
+pub turns_on : {network : Network} {device : DeviceId} {node : Node} {e : EndSystem} (sync : Standing)
+    → StandsAsEnd e network device node → node.standing.state ≡ Off → sync ≡ after e.sync turned_on → StandsAsEnd
+    (record {
+      own = e.own;
+      sync = sync;
+      heard = e.heard;
+      agenda = e.agenda;
+      rows = e.rows;
+      entering = e.entering;
+      last = e.last;
+    }) network device (node_turned_on node)
+turns_on sync stands off value = grind (arith, heard_still, on_sending, on_correction, on_dispatch)

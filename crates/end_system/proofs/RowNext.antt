@@ -18,116 +18,130 @@ slot_of network device row cycle h = record { device = device; residue = cycle %
 residue_small : (cycle : ℕ) → cycle % 64 < 64
 residue_small cycle = omega arith
 
-is_slot : (network : Network) (device : DeviceId) (own : Own) (row : RowId) (cycle : ℕ) → IsOwnOf network device own → (h : Leaves network device row cycle)
-    → IsSlotOf network (SentBy device) (slot_of network device row cycle h)
-is_slot network device own row cycle is h = record {
-  entry = h.entry;
-  is = h.is;
-  place = refl;
-  source = h.leaves;
-  among = (h.leaves, h.sender);
-  residue = residue_small cycle;
-  in_phase = period_divides cycle h.entry.vl.period (is.periods h.entry.row.vl.0 h.entry.vl h.is.vl).0 ∙ h.occurs.in_phase;
-}
+module _ (network : Network) (device : DeviceId) where
+  is_slot : {own : Own} {row : RowId} {cycle : ℕ} → IsOwnOf network device own
+      → (h : Leaves network device row cycle) → IsSlotOf network (SentBy device) (slot_of network device row cycle h)
+  is_slot {cycle} is h = record {
+    entry = h.entry;
+    is = h.is;
+    place = refl;
+    source = h.leaves;
+    among = (h.leaves, h.sender);
+    residue = residue_small cycle;
+    in_phase = period_divides cycle h.entry.vl.period (is.periods h.entry.row.vl.0 h.entry.vl h.is.vl).0
+        ∙ h.occurs.in_phase;
+  }
 
--- it is among the slots
-slot_in : (network : Network) (device : DeviceId) (own : Own) (rows : Rows) (row : RowId) (cycle : ℕ) → IsOwnOf network device own
-    → AreRowsOf network device rows → (h : Leaves network device row cycle) → IsSlotIn rows (slot_of network device row cycle h) cycle
-slot_in network device own rows row cycle is are h =
-    record { there = are.slots.complete (slot_of network device row cycle h) (is_slot network device own row cycle is h); residue = refl }
+  -- it is among the slots
+  slot_in : {own : Own} {rows : Rows} {row : RowId} {cycle : ℕ} → IsOwnOf network device own
+      → AreRowsOf network device rows → (h : Leaves network device row cycle)
+      → IsSlotIn rows (slot_of network device row cycle h) cycle
+  slot_in {row} {cycle} is are h =
+      record { there = are.slots.complete (slot_of network device row cycle h) (is_slot is h); residue = refl }
 
--- the slot's row leaves in each cycle of its residue
-leaves : (network : Network) (device : DeviceId) (own : Own) (slot : Slot) (cycle : ℕ) → IsOwnOf network device own → IsSlotOf network (SentBy device) slot
-    → slot.residue ≡ cycle % 64 → 1 ≤ cycle → Leaves network device slot.place.row cycle
-leaves network device own slot cycle is of residue begun = record {
-  entry = of.entry;
-  is = of.is;
-  leaves = of.among.0;
-  occurs = record {
-    begun = begun;
-    in_phase =
-        sym (period_divides cycle of.entry.vl.period (is.periods of.entry.row.vl.0 of.entry.vl of.is.vl).0)
-        ∙ (ap (λ (n : ℕ). n % of.entry.vl.period) (sym residue) ∙ of.in_phase);
-  };
-  sender = of.among.1;
-}
+  -- the slot's row leaves in each cycle of its residue
+  leaves : {own : Own} {slot : Slot} (cycle : ℕ) → IsOwnOf network device own → IsSlotOf network (SentBy device) slot
+      → slot.residue ≡ cycle % 64 → 1 ≤ cycle → Leaves network device slot.place.row cycle
+  leaves cycle is of residue begun = record {
+    entry = of.entry;
+    is = of.is;
+    leaves = of.among.0;
+    occurs = record {
+      begun = begun;
+      in_phase =
+          sym (period_divides cycle of.entry.vl.period (is.periods of.entry.row.vl.0 of.entry.vl of.is.vl).0)
+          ∙ (ap (λ (n : ℕ). n % of.entry.vl.period) (sym residue) ∙ of.in_phase);
+    };
+    sender = of.among.1;
+  }
 
--- the row's place is that of its slot
-place_is : (network : Network) (device : DeviceId) (slot : Slot) → IsSlotOf network (SentBy device) slot
-    → dispatch_order network slot.place.row ≡ numbers_of slot.place
-place_is network device slot of = row_place_is network slot.place.row of.entry of.is ∙ ap numbers_of (sym of.place)
+  -- the row's place is that of its slot
+  place_is : {slot : Slot} → IsSlotOf network (SentBy device) slot
+      → dispatch_order network slot.place.row ≡ numbers_of slot.place
+  place_is {slot} of = row_place_is network slot.place.row of.entry of.is ∙ ap numbers_of (sym of.place)
 
-offset_is : (network : Network) (device : DeviceId) (slot : Slot) → IsSlotOf network (SentBy device) slot → offset_of network slot.place.row ≡ slot.place.offset
-offset_is network device slot of =
-    ap (λ (o : Option Row). option_map_or (λ (r : Row). amount r.offset) o 0) of.is.row ∙ ap (λ (p : Place). p.offset) (sym of.place)
+  offset_is : {slot : Slot} → IsSlotOf network (SentBy device) slot
+      → offset_of network slot.place.row ≡ slot.place.offset
+  offset_is of =
+      ap (λ (o : Option Row). option_map_or (λ (r : Row). amount r.offset) o 0) of.is.row ∙ ap
+      (λ (p : Place). p.offset) (sym of.place)
 
-length_is : (network : Network) (device : DeviceId) (own : Own) → IsOwnOf network device own → amount own.plan.cycle_length ≡ amount network.cycle
-length_is network device own is = ap (λ (p : SyncPlan). amount p.cycle_length) is.plan
+  length_is : {own : Own} → IsOwnOf network device own → amount own.plan.cycle_length ≡ amount network.cycle
+  length_is is = ap (λ (p : SyncPlan). amount p.cycle_length) is.plan
 
--- the slot's place lies well before the cycle's end
-short : (network : Network) (device : DeviceId) (own : Own) (slot : Slot) → IsOwnOf network device own → IsSlotOf network (SentBy device) slot
-    → slot.place.offset + 4 * amount network.precision ≤ amount own.plan.cycle_length
-short network device own slot is of =
-    let h = is.early slot.place.row (slot.residue + 64) (leaves network device own slot (slot.residue + 64) is of (again slot.residue of.residue)
-    (later slot.residue)) in
-    omega (arith, h, offset_is network device slot of, length_is network device own is)
-  where
-    again : (r : ℕ) → r < 64 → r ≡ (r + 64) % 64
-    again r small = omega (arith, small)
+  -- the slot's place lies well before the cycle's end
+  short : {own : Own} {slot : Slot} → IsOwnOf network device own → IsSlotOf network (SentBy device) slot
+      → slot.place.offset + 4 * amount network.precision ≤ amount own.plan.cycle_length
+  short {slot} is of =
+      let h = is.early slot.place.row (slot.residue + 64)
+      (leaves (slot.residue + 64) is of (again slot.residue of.residue)
+      (later slot.residue)) in
+      omega (arith, h, offset_is of, length_is is)
+    where
+      again : (r : ℕ) → r < 64 → r ≡ (r + 64) % 64
+      again r small = omega (arith, small)
 
-    later : (r : ℕ) → 1 ≤ r + 64
-    later r = omega arith
+      later : (r : ℕ) → 1 ≤ r + 64
+      later r = omega arith
 
 -- where the dispatch is one of the slots', at the reading of the search
-is_at : (network : Network) (device : DeviceId) (own : Own) (rows : Rows) (s : Standing) (adjustment : Units) (first : ℕ) (bound : Slot) (next : Dispatch)
-    → IsOwnOf network device own → IsSlotOf network (SentBy device) next.slot → s.adjustment ≡ adjustment
-    → IsNextFrom own rows adjustment.0 first bound next → next.at.0 ≡ (value_of network (dispatching next.slot.place.row next.cycle) -ℤ s.adjustment.0)
-is_at network device own rows s adjustment first bound next is of same found = grind (arith, length_is, amount, offset_is, value_of, dispatching)
+is_at : {network : Network} {device : DeviceId} {own : Own} {rows : Rows} (s : Standing) (adjustment : Units)
+    {first : ℕ} {bound : Slot} {next : Dispatch} → IsOwnOf network device own
+    → IsSlotOf network (SentBy device) next.slot → s.adjustment ≡ adjustment
+    → IsNextFrom own rows adjustment.0 first bound next
+    → next.at.0 ≡ (value_of network (dispatching next.slot.place.row next.cycle) -ℤ s.adjustment.0)
+is_at s adjustment is of same found = grind (arith, length_is, amount, offset_is, value_of, dispatching)
 
 -- ---- the first behind a local value
 
 same_block : (first cycle n : ℕ) → first ≡ cycle - cycle % 64 → first ≤ n → n < cycle → (n < first + 64) × (n % 64 < cycle % 64)
 same_block first cycle n e a b = (omega arith, omega arith)
 
--- what is not below the bound lies behind the value
-ahead_of : (value c first cycle n offset link row : ℕ) → 0 < c → cycle ≡ value / c → first ≡ cycle - cycle % 64 → first ≤ n
-    → (n < first + 64 → IsBelow (n % 64 ∷ offset ∷ link ∷ row ∷ []) (cycle % 64 ∷ (value % c + 1) ∷ 0 ∷ 0 ∷ []) → ⊥) → value < n * c + offset
-ahead_of value c first cycle n offset link row some is from reached behind =
-    let whole : c * (value / c) + value % c ≡ value = div-add-mod value c in
-    let rest : value % c < c = mod-lt value some in
-    elim (cases_of n cycle) [
-      | inl less ↦ let b = same_block first cycle n from reached less in absurd (behind b.0 (inl b.1))
-      | inr (inl same) ↦
-          elim (cases_of offset (value % c + 1)) [
-            | inl low ↦ absurd (behind (omega (arith, same, from)) (inr (ap (λ (k : ℕ). k % 64) same, inl low)))
-            | inr (inl there) ↦ let e : n * c ≡ (value / c) * c = ap (λ (k : ℕ). k * c) (same ∙ is) in omega (arith, whole, there, e)
-            | inr (inr high) ↦ let e : n * c ≡ (value / c) * c = ap (λ (k : ℕ). k * c) (same ∙ is) in omega (arith, whole, high, e)
-          ]
-      | inr (inr more) ↦ let e : (value / c + 1) * c ≤ n * c = mul-le-mul_right c (omega (arith, more, is)) in omega (arith, whole, rest, e)
-    ]
+module _ (value c first cycle n offset link row : ℕ) (some : 0 < c) (is : cycle ≡ value / c)
+    (from : first ≡ cycle - cycle % 64) where
+  -- what is not below the bound lies behind the value
+  ahead_of : first ≤ n → (n < first + 64 → IsBelow (n % 64 ∷ offset ∷ link ∷ row ∷ []) (cycle % 64 ∷ (value % c + 1)
+      ∷ 0 ∷ 0 ∷ []) → ⊥) → value < n * c + offset
+  ahead_of reached behind =
+      let whole : c * (value / c) + value % c ≡ value = div-add-mod value c in
+      let rest : value % c < c = mod-lt value some in
+      elim (cases_of n cycle) [
+        | inl less ↦ let b = same_block first cycle n from reached less in absurd (behind b.0 (inl b.1))
+        | inr (inl same) ↦
+            elim (cases_of offset (value % c + 1)) [
+              | inl low ↦ absurd (behind (omega (arith, same, from)) (inr (ap (λ (k : ℕ). k % 64) same, inl low)))
+              | inr (inl there) ↦ let e : n * c ≡ (value / c) * c = ap (λ k. k * c) (same ∙ is) in
+                  omega (arith, whole, there, e)
+              | inr (inr high) ↦ let e : n * c ≡ (value / c) * c = ap (λ k. k * c) (same ∙ is) in
+                  omega (arith, whole, high, e)
+            ]
+        | inr (inr more) ↦ let e : (value / c + 1) * c ≤ n * c = mul-le-mul_right c (omega (arith, more, is)) in
+            omega (arith, whole, rest, e)
+      ]
 
--- what lies behind the value is not below the bound
-from_value : (value c first cycle n offset link row : ℕ) → 0 < c → cycle ≡ value / c → first ≡ cycle - cycle % 64 → value < n * c + offset → offset < c
-    → (first ≤ n) × (n < first + 64 → IsBelow (n % 64 ∷ offset ∷ link ∷ row ∷ []) (cycle % 64 ∷ (value % c + 1) ∷ 0 ∷ 0 ∷ []) → ⊥)
-from_value value c first cycle n offset link row some is from ahead low =
-    let whole : c * (value / c) + value % c ≡ value = div-add-mod value c in
-    let reached : cycle ≤ n = elim (cases_of n cycle) [
-      | inl less ↦ let e : (n + 1) * c ≤ (value / c) * c = mul-le-mul_right c (omega (arith, less, is)) in absurd (omega (arith, whole, e, ahead, low))
-      | inr (inl same) ↦ omega (arith, same)
-      | inr (inr more) ↦ omega (arith, more)
-    ] in (
-      omega (arith, reached, from),
-      λ within below. elim below [
-        | inl less ↦ omega (arith, less, within, from, reached)
-        | inr (residue, inl less) ↦
-            let same : n ≡ cycle = omega (arith, residue, within, from, reached) in
-            let e : n * c ≡ (value / c) * c = ap (λ (k : ℕ). k * c) (same ∙ is) in
-            omega (arith, whole, e, less, ahead)
-        | inr (residue, inr (offset, inl less)) ↦ omega (arith, less)
-        | inr (residue, inr (offset, inr (link, inl less))) ↦ omega (arith, less)
-        | inr (residue, inr (offset, inr (link, inr (row, more)))) ↦ more
-      ],
-    )
+  -- what lies behind the value is not below the bound
+  from_value : value < n * c + offset → offset < c → (first ≤ n)
+      × (n < first + 64 → IsBelow (n % 64 ∷ offset ∷ link ∷ row ∷ []) (cycle % 64 ∷ (value % c + 1) ∷ 0 ∷ 0 ∷ []) → ⊥)
+  from_value ahead low =
+      let whole : c * (value / c) + value % c ≡ value = div-add-mod value c in
+      let reached : cycle ≤ n = elim (cases_of n cycle) [
+        | inl less ↦ let e : (n + 1) * c ≤ (value / c) * c = mul-le-mul_right c (omega (arith, less, is)) in
+            absurd (omega (arith, whole, e, ahead, low))
+        | inr (inl same) ↦ omega (arith, same)
+        | inr (inr more) ↦ omega (arith, more)
+      ] in (
+        omega (arith, reached, from),
+        λ within below. elim below [
+          | inl less ↦ omega (arith, less, within, from, reached)
+          | inr (residue, inl less) ↦
+              let same : n ≡ cycle = omega (arith, residue, within, from, reached) in
+              let e : n * c ≡ (value / c) * c = ap (λ k. k * c) (same ∙ is) in
+              omega (arith, whole, e, less, ahead)
+          | inr (residue, inr (offset, inl less)) ↦ omega (arith, less)
+          | inr (residue, inr (offset, inr (link, inl less))) ↦ omega (arith, less)
+          | inr (residue, inr (offset, inr (link, inr (row, more)))) ↦ more
+        ],
+      )
 
 -- the first cycle with rows is cycle 1
 begun : (value c n offset p : ℕ) → c ≤ value + 1 → value < n * c + offset → offset + 4 * p ≤ c → 1 ≤ p → 1 ≤ n
@@ -155,41 +169,45 @@ at_least_one n c h = let e : 1 * c ≤ n * c = mul-le-mul_right c h in omega (ar
 same_key : (a b : ℕ) (xs ys : List ℕ) → a ≡ b → IsBelow (b ∷ xs) ys → IsBelow (a ∷ xs) ys
 same_key a b xs ys e h = subst (λ (k : ℕ). IsBelow (k ∷ xs) ys) (sym e) h
 
-pub first_is_next : (network : Network) (device : DeviceId) (own : Own) (rows : Rows) (s : Standing) (adjustment : Units) (local : ℤ) (value first : ℕ)
-    (bound : Slot) (next : Dispatch) → IsOwnOf network device own → AreRowsOf network device rows → s.adjustment ≡ adjustment → s.state ≡ Synchronised
-    → 1 ≤ amount network.precision → IsBehind own local value first bound → IsNextFrom own rows adjustment.0 first bound next
-    → IsDispatch network device s local [] (Some next)
-first_is_next network device own rows s adjustment local value first bound next is are same synchronised some behind found =
+pub first_is_next : {network : Network} {device : DeviceId} {own : Own} {rows : Rows} (s : Standing)
+    (adjustment : Units) {local : ℤ} {value first : ℕ} {bound : Slot} {next : Dispatch} → IsOwnOf network device own
+    → AreRowsOf network device rows → s.adjustment ≡ adjustment → s.state ≡ Synchronised
+    → 1 ≤ amount network.precision → IsBehind own local value first bound
+    → IsNextFrom own rows adjustment.0 first bound next → IsDispatch network device s local [] (Some next)
+first_is_next {network} {device} {own} s adjustment {local} {value} {first} {next} is are same synchronised some
+    behind found =
     let c = amount own.plan.cycle_length in
-    let of = is_of network device rows next.slot are found.slot.there in
-    let close = short network device own next.slot is of in
+    let of = is_of next.slot are found.slot.there in
+    let close = short network device is of in
     let ahead : value < next.cycle * c + next.slot.place.offset =
     ahead_of value c first (value / c) next.cycle next.slot.place.offset next.slot.place.link.0 next.slot.place.row.0 behind.some refl behind.first_is
     found.from.reached
     (λ within below. found.from.behind within
-    (subst (λ (k : List ℕ). IsBelow (turn_of next.slot) k) (sym behind.bound_is)
+    (subst (λ k. IsBelow (turn_of next.slot) k) (sym behind.bound_is)
     (same_key next.slot.residue (next.cycle % 64) (numbers_of next.slot.place) ((value / c % 64) ∷ (value % c + 1) ∷ 0 ∷ 0 ∷ []) found.slot.residue below))) in
     let start : 1 ≤ next.cycle = begun value c next.cycle next.slot.place.offset (amount network.precision) behind.silent ahead close some in (
       synchronised,
       record {
-        leaves = leaves network device own next.slot next.cycle is of found.slot.residue start;
+        leaves = leaves network device next.cycle is of found.slot.residue start;
         ahead = grind (arith, length_is, offset_is, of, up_to_value, ahead);
         done_before = λ other n there. absurd (none_in (dispatching other n) there);
         rest = λ other n h later sooner.
             let slot = slot_of network device other n h in
-            let one = is_slot network device own other n is h in
-            let low = below_offset slot.place.offset (amount network.precision) c (short network device own slot is one) some in
+            let one = is_slot network device is h in
+            let low = below_offset slot.place.offset (amount network.precision) c (short network device is one) some in
             let there : value < n * c + slot.place.offset = behind.next _ (most n c slot.place.offset h.occurs.begun)
-            (subst (λ (k : ℕ). local <ℤ pos (n * k + slot.place.offset)) (sym (length_is network device own is))
-            (subst (λ (k : ℕ). local <ℤ pos (n * amount network.cycle + k)) (offset_is network device slot one) later)) in
+            (subst (λ (k : ℕ). local <ℤ pos (n * k + slot.place.offset)) (sym (length_is network device is))
+            (subst (λ k. local <ℤ pos (n * amount network.cycle + k)) (offset_is network device one) later)) in
             let from = from_value value c first (value / c) n slot.place.offset slot.place.link.0 slot.place.row.0 behind.some refl behind.first_is
             there low in
-            absurd (found.least slot n (slot_in network device own rows other n is are h)
-            (record { reached = from.0; behind = λ within below. from.1 within (subst (λ (k : List ℕ). IsBelow (turn_of slot) k) behind.bound_is below) })
-            (subst (λ (xs : List ℕ). IsBelow (n ∷ xs) (next.cycle ∷ numbers_of next.slot.place)) (place_is network device slot one)
-            (subst (λ (xs : List ℕ). IsBelow (n ∷ dispatch_order network other) (next.cycle ∷ xs)) (place_is network device next.slot of) sooner)));
+            absurd (found.least slot n (slot_in network device is are h)
+            (record { reached = from.0; behind = λ within below. from.1 within (subst (λ k. IsBelow (turn_of slot) k) behind.bound_is below) })
+            (subst (λ (xs : List ℕ). IsBelow (n ∷ xs) (next.cycle ∷ numbers_of next.slot.place))
+            (place_is network device one)
+            (subst (λ (xs : List ℕ). IsBelow (n ∷ dispatch_order network other) (next.cycle ∷ xs))
+            (place_is network device of) sooner)));
       },
-      is_at network device own rows s adjustment first bound next is of same found,
+      is_at s adjustment is of same found,
     )
   where
     most : (n c offset : ℕ) → 1 ≤ n → c ≤ n * c + offset
@@ -197,15 +215,16 @@ first_is_next network device own rows s adjustment local value first bound next 
 
 -- ---- the one after another
 
--- what comes after a slot in a cycle is not below the slot with the next row, and what is not comes after it
-after_from : (first m n r q a b c x y z : ℕ) → first ≡ m - m % 64 → q ≡ m % 64 → r ≡ n % 64 → IsBelow (m ∷ x ∷ y ∷ z ∷ []) (n ∷ a ∷ b ∷ c ∷ [])
-    → (first ≤ n) × (n < first + 64 → IsBelow (r ∷ a ∷ b ∷ c ∷ []) (q ∷ x ∷ y ∷ (z + 1) ∷ []) → ⊥)
-after_from first m n r q a b c x y z from is at (inl less) = grind arith
-after_from first m n r q a b c x y z from is at (inr (same, above)) = grind (arith, below_more)
+module _ (first m n r q a b c x y z : ℕ) (from : first ≡ m - m % 64) (is : q ≡ m % 64) (at : r ≡ n % 64) where
+  -- what comes after a slot in a cycle is not below the slot with the next row, and what is not comes after it
+  after_from : IsBelow (m ∷ x ∷ y ∷ z ∷ []) (n ∷ a ∷ b ∷ c ∷ [])
+      → (first ≤ n) × (n < first + 64 → IsBelow (r ∷ a ∷ b ∷ c ∷ []) (q ∷ x ∷ y ∷ (z + 1) ∷ []) → ⊥)
+  after_from (inl less) = grind arith
+  after_from (inr (same, above)) = grind (arith, below_more)
 
-from_after : (first m n r q a b c x y z : ℕ) → first ≡ m - m % 64 → q ≡ m % 64 → r ≡ n % 64 → first ≤ n
-    → (n < first + 64 → IsBelow (r ∷ a ∷ b ∷ c ∷ []) (q ∷ x ∷ y ∷ (z + 1) ∷ []) → ⊥) → IsBelow (m ∷ x ∷ y ∷ z ∷ []) (n ∷ a ∷ b ∷ c ∷ [])
-from_after first m n r q a b c x y z from is at reached behind = grind (arith, cases_of, not_below_more, same_block)
+  from_after : first ≤ n → (n < first + 64 → IsBelow (r ∷ a ∷ b ∷ c ∷ []) (q ∷ x ∷ y ∷ (z + 1) ∷ []) → ⊥)
+      → IsBelow (m ∷ x ∷ y ∷ z ∷ []) (n ∷ a ∷ b ∷ c ∷ [])
+  from_after reached behind = grind (arith, cases_of, not_below_more, same_block)
 
 -- lists compared through one between
 trans_below : (xs ys zs : List ℕ) → IsBelow xs ys → IsBelow ys zs → IsBelow xs zs
@@ -246,81 +265,98 @@ done_same done other n row m rows cycles =
     subst (λ (r : RowId). Contains (done ++ dispatching row m ∷ []) (dispatching r n)) (sym (ap row_id rows))
     (subst (λ (c : ℕ). Contains (done ++ dispatching row m ∷ []) (dispatching row c)) (sym cycles) (done_now done (dispatching row m)))
 
-pub next_is_next : (network : Network) (device : DeviceId) (own : Own) (rows : Rows) (s : Standing) (changed : ℤ) (done : List ClockTask) (adjustment : Units)
-    (last : Dispatch) (first : ℕ) (bound : Slot) (next : Dispatch) → IsOwnOf network device own → AreRowsOf network device rows
-    → s.adjustment ≡ adjustment → IsAtSlot rows last → IsDispatch network device s changed done (Some last) → IsAfter last first bound
-    → IsNextFrom own rows adjustment.0 first bound next
-    → IsDispatch network device s changed (done ++ dispatching last.slot.place.row last.cycle ∷ []) (Some next)
-next_is_next network device own rows s changed done adjustment last first bound next is are same at was after found =
-    let deed = dispatching last.slot.place.row last.cycle in
-    let of = is_of network device rows next.slot are found.slot.there in
-    let before = is_of network device rows last.slot are at.there in
-    let above : IsBelow (last.cycle ∷ numbers_of last.slot.place) (next.cycle ∷ numbers_of next.slot.place) =
-    from_after first last.cycle next.cycle next.slot.residue last.slot.residue _ _ _ _ _ last.slot.place.row.0 after.first_is at.residue found.slot.residue
-    found.from.reached
-    (λ within below. found.from.behind within (subst (λ (k : List ℕ). IsBelow (turn_of next.slot) k) (sym after.bound_is) below)) in
-    let start : 1 ≤ next.cycle = later_cycle last.cycle next.cycle (numbers_of last.slot.place) (numbers_of next.slot.place) was.1.leaves.occurs.begun above in
-    let it = leaves network device own next.slot next.cycle is of found.slot.residue start in
-    let sooner : IsSooner network last.slot.place.row last.cycle next.slot.place.row next.cycle =
-    subst (λ (xs : List ℕ). IsBelow (last.cycle ∷ xs) (next.cycle ∷ dispatch_order network next.slot.place.row))
-    (sym (place_is network device last.slot before))
-    (subst (λ (xs : List ℕ). IsBelow (last.cycle ∷ numbers_of last.slot.place) (next.cycle ∷ xs)) (sym (place_is network device next.slot of)) above) in (
-      was.0,
-      record {
-        leaves = it;
-        ahead =
-            below_through changed _ _ was.1.ahead
-            (later_value network device own next.slot.place.row last.slot.place.row next.cycle last.cycle is it was.1.leaves
-            (λ back. below_one_way (last.cycle ∷ dispatch_order network last.slot.place.row)
-            (next.cycle ∷ dispatch_order network next.slot.place.row) sooner back));
-        done_before = λ other n there. elim (was_done done deed (dispatching other n) there) [
-          | inl earlier ↦ trans_below (n ∷ dispatch_order network other) (last.cycle ∷ dispatch_order network last.slot.place.row)
-              (next.cycle ∷ dispatch_order network next.slot.place.row) (was.1.done_before other n earlier) sooner
-          | inr now ↦ sooner_by network other n last.slot.place.row last.cycle next.slot.place.row next.cycle now sooner
-        ];
-        rest = λ other n h later lt.
-            let slot = slot_of network device other n h in
-            let one = is_slot network device own other n is h in
-            let low : IsBelow (n ∷ numbers_of slot.place) (next.cycle ∷ numbers_of next.slot.place) =
-            subst (λ (xs : List ℕ). IsBelow (n ∷ xs) (next.cycle ∷ numbers_of next.slot.place)) (place_is network device slot one)
-            (subst (λ (xs : List ℕ). IsBelow (n ∷ dispatch_order network other) (next.cycle ∷ xs)) (place_is network device next.slot of) lt) in
-            let not_after : IsBelow (last.cycle ∷ numbers_of last.slot.place) (n ∷ numbers_of slot.place) → ⊥ = λ behind.
-            let from = after_from first last.cycle n slot.residue last.slot.residue _ _ _ _ _ last.slot.place.row.0 after.first_is at.residue refl behind in
-            found.least slot n (slot_in network device own rows other n is are h)
-            (record { reached = from.0; behind = λ within below. from.1 within (subst (λ (k : List ℕ). IsBelow (turn_of slot) k) after.bound_is below) }) low
-            in
-            elim (same_or_below (n ∷ numbers_of slot.place) (last.cycle ∷ numbers_of last.slot.place) refl not_after) [
-              | inl equal ↦ let e = same_four equal in done_same done other n last.slot.place.row last.cycle e.1 e.0
-              | inr less ↦ done_still done deed (dispatching other n) (was.1.rest other n h later
-                  (subst (λ (xs : List ℕ). IsBelow (n ∷ xs) (last.cycle ∷ dispatch_order network last.slot.place.row)) (sym (place_is network device slot one))
-                  (subst (λ (xs : List ℕ). IsBelow (n ∷ numbers_of slot.place) (last.cycle ∷ xs)) (sym (place_is network device last.slot before)) less)))
-            ];
-      },
-      is_at network device own rows s adjustment first bound next is of same found,
-    )
+module _ (network : Network) (device : DeviceId) (own : Own) (rows : Rows) where
+  pub next_is_next : (s : Standing) (changed : ℤ) (done : List ClockTask) (adjustment : Units) {last : Dispatch}
+      {first : ℕ} {bound : Slot} {next : Dispatch} → IsOwnOf network device own → AreRowsOf network device rows
+      → s.adjustment ≡ adjustment → IsAtSlot rows last → IsDispatch network device s changed done (Some last)
+      → IsAfter last first bound → IsNextFrom own rows adjustment.0 first bound next
+      → IsDispatch network device s changed (done ++ dispatching last.slot.place.row last.cycle ∷ []) (Some next)
+  next_is_next s changed done adjustment {last} {first} {next} is are same at was after found =
+      let deed = dispatching last.slot.place.row last.cycle in
+      let of = is_of next.slot are found.slot.there in
+      let before = is_of last.slot are at.there in
+      let above : IsBelow (last.cycle ∷ numbers_of last.slot.place) (next.cycle ∷ numbers_of next.slot.place) =
+      from_after first last.cycle next.cycle next.slot.residue last.slot.residue _ _ _ _ _ last.slot.place.row.0
+      after.first_is at.residue found.slot.residue
+      found.from.reached
+      (λ within below. found.from.behind within (subst (λ k. IsBelow (turn_of next.slot) k)
+      (sym after.bound_is) below)) in
+      let start : 1 ≤ next.cycle = later_cycle last.cycle next.cycle (numbers_of last.slot.place)
+      (numbers_of next.slot.place) was.1.leaves.occurs.begun above in
+      let it = leaves network device next.cycle is of found.slot.residue start in
+      let sooner : IsSooner network last.slot.place.row last.cycle next.slot.place.row next.cycle =
+      subst (λ (xs : List ℕ). IsBelow (last.cycle ∷ xs) (next.cycle ∷ dispatch_order network next.slot.place.row))
+      (sym (place_is network device before))
+      (subst (λ (xs : List ℕ). IsBelow (last.cycle ∷ numbers_of last.slot.place) (next.cycle ∷ xs))
+      (sym (place_is network device of)) above) in (
+        was.0,
+        record {
+          leaves = it;
+          ahead =
+              below_through changed _ _ was.1.ahead
+              (later_value is it was.1.leaves
+              (λ back. below_one_way (last.cycle ∷ dispatch_order network last.slot.place.row)
+              (next.cycle ∷ dispatch_order network next.slot.place.row) sooner back));
+          done_before = λ other n there. elim (was_done done deed (dispatching other n) there) [
+            | inl earlier ↦ trans_below (n ∷ dispatch_order network other)
+                (last.cycle ∷ dispatch_order network last.slot.place.row)
+                (next.cycle ∷ dispatch_order network next.slot.place.row) (was.1.done_before other n earlier) sooner
+            | inr now ↦ sooner_by network other n last.slot.place.row last.cycle next.slot.place.row next.cycle now
+                sooner
+          ];
+          rest = λ other n h later lt.
+              let slot = slot_of network device other n h in
+              let one = is_slot network device is h in
+              let low : IsBelow (n ∷ numbers_of slot.place) (next.cycle ∷ numbers_of next.slot.place) =
+              subst (λ (xs : List ℕ). IsBelow (n ∷ xs) (next.cycle ∷ numbers_of next.slot.place))
+              (place_is network device one)
+              (subst (λ (xs : List ℕ). IsBelow (n ∷ dispatch_order network other) (next.cycle ∷ xs))
+              (place_is network device of) lt) in
+              let not_after : IsBelow (last.cycle ∷ numbers_of last.slot.place) (n ∷ numbers_of slot.place) → ⊥ =
+              λ behind.
+              let from = after_from first last.cycle n slot.residue last.slot.residue _ _ _ _ _ last.slot.place.row.0
+              after.first_is at.residue refl behind in
+              found.least slot n (slot_in network device is are h)
+              (record { reached = from.0; behind = λ within below. from.1 within (subst (λ k. IsBelow (turn_of slot) k) after.bound_is below) }) low
+              in
+              elim (same_or_below (n ∷ numbers_of slot.place)
+              (last.cycle ∷ numbers_of last.slot.place) refl not_after) [
+                | inl equal ↦ let e = same_four equal in done_same done other n last.slot.place.row last.cycle e.1 e.0
+                | inr less ↦ done_still done deed (dispatching other n) (was.1.rest other n h later
+                    (subst (λ (xs : List ℕ). IsBelow (n ∷ xs)
+                    (last.cycle ∷ dispatch_order network last.slot.place.row)) (sym (place_is network device one))
+                    (subst (λ (xs : List ℕ). IsBelow (n ∷ numbers_of slot.place) (last.cycle ∷ xs))
+                    (sym (place_is network device before)) less)))
+              ];
+        },
+        is_at s adjustment is of same found,
+      )
 
--- ---- an answer of the search
+  -- ---- an answer of the search
 
-no_rows : (network : Network) (device : DeviceId) (own : Own) (rows : Rows) → IsOwnOf network device own → AreRowsOf network device rows → rows.slots.items ≡ []
-    → (row : RowId) (cycle : ℕ) → Leaves network device row cycle → ⊥
-no_rows network device own rows is are none row cycle h =
-    let there = (slot_in network device own rows row cycle is are h).there in
-    none_in (slot_of network device row cycle h) (subst (λ (xs : List Slot). Contains xs (slot_of network device row cycle h)) none there)
+  no_rows : IsOwnOf network device own → AreRowsOf network device rows → rows.slots.items ≡ []
+      → {row : RowId} {cycle : ℕ} → Leaves network device row cycle → ⊥
+  no_rows is are none {row} {cycle} h =
+      let there = (slot_in network device is are h).there in
+      none_in (slot_of network device row cycle h)
+      (subst (λ (xs : List Slot). Contains xs (slot_of network device row cycle h)) none there)
 
-pub first_next : (network : Network) (device : DeviceId) (own : Own) (rows : Rows) (s : Standing) (adjustment : Units) (local : ℤ) (value first : ℕ)
-    (bound : Slot) (o : Option Dispatch) → IsOwnOf network device own → AreRowsOf network device rows → s.adjustment ≡ adjustment → s.state ≡ Synchronised
-    → IsBehind own local value first bound → IsFirstFrom own rows adjustment.0 first bound o → IsDispatch network device s local [] o
-first_next network device own rows s adjustment local value first bound None is are same synchronised behind found =
-    λ sync row cycle h. no_rows network device own rows is are found row cycle h
-first_next network device own rows s adjustment local value first bound (Some next) is are same synchronised behind found =
-    first_is_next network device own rows s adjustment local value first bound next is are same synchronised
-    (at_least 1 (2 ^ 40) network.precision is.in_range.precision) behind found
+  pub first_next : (s : Standing) (adjustment : Units) {local : ℤ} {value first : ℕ} {bound : Slot}
+      (o : Option Dispatch) → IsOwnOf network device own → AreRowsOf network device rows → s.adjustment ≡ adjustment
+      → s.state ≡ Synchronised → IsBehind own local value first bound
+      → IsFirstFrom own rows adjustment.0 first bound o → IsDispatch network device s local [] o
+  first_next s adjustment None is are same synchronised behind found =
+      λ sync row cycle h. no_rows is are found h
+  first_next s adjustment (Some next) is are same synchronised behind found =
+      first_is_next s adjustment is are same synchronised (at_least is.in_range.precision) behind found
 
-pub next_next : (network : Network) (device : DeviceId) (own : Own) (rows : Rows) (s : Standing) (changed : ℤ) (done : List ClockTask) (adjustment : Units)
-    (last : Dispatch) (first : ℕ) (bound : Slot) (o : Option Dispatch) → IsOwnOf network device own → AreRowsOf network device rows
-    → s.adjustment ≡ adjustment → IsAtSlot rows last → IsDispatch network device s changed done (Some last) → IsAfter last first bound
-    → IsFirstFrom own rows adjustment.0 first bound o → IsDispatch network device s changed (done ++ dispatching last.slot.place.row last.cycle ∷ []) o
-next_next network device own rows s changed done adjustment last first bound None is are same at was after found =
-    λ sync row cycle h. no_rows network device own rows is are found row cycle h
-next_next network device own rows s changed done adjustment last first bound (Some next) is are same at was after found =
-    next_is_next network device own rows s changed done adjustment last first bound next is are same at was after found
+  pub next_next : (s : Standing) (changed : ℤ) (done : List ClockTask) (adjustment : Units) {last : Dispatch}
+      {first : ℕ} {bound : Slot} (o : Option Dispatch) → IsOwnOf network device own → AreRowsOf network device rows
+      → s.adjustment ≡ adjustment → IsAtSlot rows last → IsDispatch network device s changed done (Some last)
+      → IsAfter last first bound → IsFirstFrom own rows adjustment.0 first bound o
+      → IsDispatch network device s changed (done ++ dispatching last.slot.place.row last.cycle ∷ []) o
+  next_next s changed done adjustment None is are same at was after found =
+      λ sync row cycle h. no_rows is are found h
+  next_next s changed done adjustment {last} {first} {bound} (Some next) is are same at was after found =
+      next_is_next s changed done adjustment {last = last} {first = first} {bound = bound} {next = next} is are
+      same at was after found

@@ -13,7 +13,7 @@ module _ (network : Network) (device : DeviceId) (own : Own) (node : Node) (agen
     (sound : node.broken ≡ false) (a : IsAgenda network device node.standing node.changed node.done agenda) where
   pub sends_first : (next : Appointment) → IsFirstDue agenda reading (Some (dues.Sending next)) → IsFirstKind network device node reading Sending
   sends_first next due =
-      first_kind_of network device node reading (doing (sending next.cycle)) (first_is_sending network device own node agenda reading next is sound a due)
+      first_kind_of network device node reading (doing (sending next.cycle)) (first_is_sending network device own node reading next is sound a due)
 
   pub corrects_first : (next : Appointment) → IsFirstDue agenda reading (Some (dues.Correction next)) → IsFirstKind network device node reading Correction
   corrects_first next due =
@@ -25,9 +25,9 @@ module _ (network : Network) (device : DeviceId) (own : Own) (node : Node) (agen
       → IsPending network device node task → reading_for network node task ≤ℤ reading → kind_of task ≡ Dispatches
   dispatches_all none also (emitting sent) p due = absurd (not_both _ p.1.cm is.no_cm)
   dispatches_all none also (doing (sending cycle)) p due =
-      absurd (no_sending network device node agenda reading cycle a none (ahead_task network device node own (doing (sending cycle)) is p) due)
+      absurd (no_sending node reading cycle a none (ahead_task network device node (doing (sending cycle)) is p) due)
   dispatches_all none also (doing (correcting cycle)) p due =
-      absurd (no_correction network device node agenda reading cycle a also (ahead_task network device node own (doing (correcting cycle)) is p) due)
+      absurd (no_correction node reading cycle a also (ahead_task network device node (doing (correcting cycle)) is p) due)
   dispatches_all none also (doing (dispatching row cycle)) p due = refl
 
   pub dispatches_first : IfSome agenda.sending (λ next. reading <ℤ next.at.0) → IfSome agenda.correction (λ next. reading <ℤ next.at.0)

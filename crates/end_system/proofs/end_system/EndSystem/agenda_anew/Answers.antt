@@ -14,4 +14,4 @@ agenda_from-requires-clause-local c =
 pub returns-clause-agenda : goal.returns-clause-agenda
 returns-clause-agenda c = λ network device is rows.
     let local = c.local_at-local.ensures ∙ ap (λ (u : Units). c.args.self.now.last.reading.0 +ℤ u.0) c.adjustment.ensures in
-    subst (λ (z : ℤ). IsAgenda network device c.args.self.now.sync z [] c.agenda_from.result) local (c.agenda_from.ensures.agenda network device is rows)
+    subst (λ z. IsAgenda network device c.args.self.now.sync z [] c.agenda_from.result) local (c.agenda_from.ensures.agenda network device is rows)

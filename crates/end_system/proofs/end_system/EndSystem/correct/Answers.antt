@@ -7,8 +7,8 @@ at_correction-verdict-requires c =
     let node = c.requires.0.2 in
     let stands = c.requires.0.3 in
     let here = subst (IsCorrection c.requires.0.0 node.standing node.changed node.done) c.requires.1.1 stands.agenda.correction in
-    let at = at_point _ _ node _ c.args.correction stands here in
-    record { number = number_fits _ _ _ _ _ at; near_a = near_a _ _ _ _ _ _ _ stands.own at; near_b = near_b _ _ _ _ _ _ _ stands.own at }
+    let at = at_point c.args.correction stands here in
+    record { number = number_fits at; near_a = near_a stands.own at; near_b = near_b stands.own at }
 
 pub agenda_after-self-requires : goal.agenda_after-self-requires
 agenda_after-self-requires c =
@@ -17,7 +17,7 @@ agenda_after-self-requires c =
     let may = c.requires.0.4 in
     let due = c.requires.1 in
     let here = subst (IsCorrection c.requires.0.0 node.standing node.changed node.done) due.1 stands.agenda.correction in
-    let at = at_point _ _ node _ c.args.correction stands here in
+    let at = at_point c.args.correction stands here in
     let value = c.at_correction-verdict.ensures.value in
     record {
       can = record {
@@ -25,7 +25,7 @@ agenda_after-self-requires c =
         rows = (c.requires.0.0, c.requires.0.1, stands.own.in_range, stands.rows);
         number =
             number_after c.args.self.now.sync c.at_correction-verdict.new.self c.args.self.now.heard c.at_correction-verdict.result value
-            (number_bound _ _ _ _ _ at);
+            (number_bound at);
         small =
             still_small c.args.self.now.sync c.at_correction-verdict.new.self c.args.self.now.heard c.at_correction-verdict.result value
             c.at_correction-verdict.ensures.small at.small;
@@ -40,7 +40,7 @@ pub returns : goal.returns
 returns c = λ network device node stands may.
     let due = c.requires.1 in
     let here = subst (IsCorrection network node.standing node.changed node.done) due.1 stands.agenda.correction in
-    let at = at_point _ _ node _ c.args.correction stands here in
+    let at = at_point c.args.correction stands here in
     let value = c.at_correction-verdict.ensures.value in
     let verdict = c.at_correction-verdict.ensures.verdict in (
       _,
@@ -50,14 +50,14 @@ returns c = λ network device node stands may.
           c.args.self.now.heard,
           record {
             summary = stands.heard;
-            verdict_is = subst (λ (s : Standing). HasVerdict s c.args.self.now.heard c.at_correction-verdict.result)
+            verdict_is = subst (λ s. HasVerdict s c.args.self.now.heard c.at_correction-verdict.result)
                 (sym stands.standing) verdict;
           },
           refl,
         ),
       ),
-      corrects network device node c.args.self.now c.at_correction-verdict.result c.at_correction-verdict.new.self c.clear.new.self c.agenda_after-self.result
-          c.args.moment c.args.correction stands may here due.2 verdict value
+      corrects c.at_correction-verdict.result c.at_correction-verdict.new.self c.agenda_after-self.result
+          c.args.correction stands may here due.2 verdict value
           (still_small c.args.self.now.sync c.at_correction-verdict.new.self c.args.self.now.heard c.at_correction-verdict.result value
           c.at_correction-verdict.ensures.small at.small) c.clear.ensures.value c.clear.ensures.heard c.agenda_after-self.ensures.slot
           c.agenda_after-self.ensures.agenda,

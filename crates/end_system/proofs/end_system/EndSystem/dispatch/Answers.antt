@@ -16,7 +16,8 @@ next_behind-self-requires c =
       small =
           small_same node.standing.adjustment c.adjustment.result (ap (λ (s : Standing). s.adjustment) stands.standing ∙ sym c.adjustment.ensures) stands.small;
       cycle =
-          dispatch_in_range _ _ _ node.standing node.changed c.args.moment.reading.0 node.done c.args.dispatch stands.own stands.small here due.3
+          dispatch_in_range node.standing node.changed c.args.moment.reading.0 node.done c.args.dispatch stands.own
+          stands.small here due.3
           may.later.low_enough;
       slot = slot_there _ _ c.args.dispatch due.2 stands.slot;
     }
@@ -27,7 +28,7 @@ returns c = λ network device node stands may.
     let deed = dispatching c.args.dispatch.slot.place.row c.args.dispatch.cycle in
     let here = subst (IsDispatch network device node.standing node.changed node.done) due.2 stands.agenda.dispatch in (
       _,
-      (first_is_dispatch network device _ node _ c.args.moment c.args.dispatch stands.own stands.sound stands.agenda may due, refl),
+      (first_is_dispatch network device _ node _ c.args.dispatch stands.own stands.sound stands.agenda may due, refl),
       record {
         own = stands.own;
         sound = stands.sound;

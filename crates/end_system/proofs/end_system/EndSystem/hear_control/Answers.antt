@@ -23,10 +23,10 @@ arrival-requires c =
 
 pub returns : goal.returns
 returns c = λ network device node stands may arrives on.
-    let is = c.arrival.ensures ∙ ap (λ (d : Result Pcf PcfRefusal). arrival_of c.args.self.now.own c.args.moment.reading c.args.link d) c.decode.ensures in
+    let is = c.arrival.ensures ∙ ap (λ d. arrival_of c.args.self.now.own c.args.moment.reading c.args.link d) c.decode.ensures in
     let still = ap (λ a. after_arrival node c.args.moment a) is ∙ control_still c.args.self.now.own c.args.moment.reading c.args.link node c.args.moment
     (decoded c.args.octets.now) in (
-      is ∙ control_at network device node c.args.self.now c.args.moment c.args.link c.args.octets.now stands (stands.own.links c.args.link arrives.at) on
+      is ∙ control_at c.args.moment c.args.octets.now stands (stands.own.links c.args.link arrives.at) on
           (not_fallen node.last.reading.0 c.args.moment.reading.0 stands.begun may.later.reading),
       subst (λ (n : Node). StandsAsEnd
           (record {
@@ -38,6 +38,5 @@ returns c = λ network device node stands may arrives on.
             entering = c.args.self.now.entering;
             last = c.args.moment;
           }) network device (called c.args.moment arriving n))
-          (sym still)
-          (stands_later network device node c.args.self.now c.args.moment arriving stands may.later),
+          (sym still) (stands_later arriving stands may.later),
     )

@@ -9,9 +9,9 @@ returns-in-Some c = λ network device node stands may arrives on. (
   sym (dropped_by network device c.args.link (standpoint_at node c.args.moment) c.args.octets.now c.of-heading.result node.taken c.in-Some.reason
       c.of-heading.ensures
       (heading_at network device node c.args.self.now c.args.moment c.of-heading.result stands on
-      ∙ ap (λ (s : State). heading_fault true s c.args.self.now.own.marker c.of-heading.result) (sym c.state.ensures)
+      ∙ ap (λ s. heading_fault true s c.args.self.now.own.marker c.of-heading.result) (sym c.state.ensures)
       ∙ sym c.fault.ensures.is ∙ c.in-Some.is)),
-  stands_later network device node c.args.self.now c.args.moment arriving stands may.later,
+  stands_later arriving stands may.later,
 )
 
 pub take-requires-clause-length : goal.take-requires-clause-length
@@ -21,7 +21,7 @@ pub take-requires-clause-low : goal.take-requires-clause-low
 take-requires-clause-low c =
     let stands = c.requires.3 in
     let may = c.requires.4.0 in
-    let small = small_now c.requires.0 c.requires.1 c.requires.2 c.args.self.now stands in
+    let small = small_now stands in
     let r = local_range c.args.moment.reading.0 c.args.self.now.sync.adjustment.0 c.local_at-local.result.0
     (c.local_at-local.ensures ∙ ap (λ (u : Units). c.args.moment.reading.0 +ℤ u.0) c.adjustment.ensures)
     (not_fallen c.requires.2.last.reading.0 c.args.moment.reading.0 stands.begun may.later.reading) may.later.low_enough small.0 small.1 in
@@ -31,7 +31,7 @@ pub take-requires-clause-high : goal.take-requires-clause-high
 take-requires-clause-high c =
     let stands = c.requires.3 in
     let may = c.requires.4.0 in
-    let small = small_now c.requires.0 c.requires.1 c.requires.2 c.args.self.now stands in
+    let small = small_now stands in
     let r = local_range c.args.moment.reading.0 c.args.self.now.sync.adjustment.0 c.local_at-local.result.0
     (c.local_at-local.ensures ∙ ap (λ (u : Units). c.args.moment.reading.0 +ℤ u.0) c.adjustment.ensures)
     (not_fallen c.requires.2.last.reading.0 c.args.moment.reading.0 stands.begun may.later.reading) may.later.low_enough small.0 small.1 in
@@ -49,14 +49,13 @@ returns-in-Ok c = λ network device node stands may arrives on.
     let clock = clock_is network device node c.args.self.now c.args.moment c.local_at-local.result.0 stands begun
     (c.local_at-local.ensures ∙ ap (λ (u : Units). c.args.moment.reading.0 +ℤ u.0) c.adjustment.ensures) in
     let none = heading_at network device node c.args.self.now c.args.moment c.of-heading.result stands on
-    ∙ ap (λ (s : State). heading_fault true s c.args.self.now.own.marker c.of-heading.result) (sym c.state.ensures)
+    ∙ ap (λ s. heading_fault true s c.args.self.now.own.marker c.of-heading.result) (sym c.state.ensures)
     ∙ sym c.fault.ensures.is ∙ c.in_default.is in
     let judged = subst (IsTakenSo network device c.args.link c.of-heading.result at node.taken c.take.new.self) c.in-Ok.is
     (c.take.ensures.is network device at node.taken stands.entering arrives.at (ap (λ (p : SyncPlan). p.cycle_length) stands.own.plan) clock) in (
       sym (heard_by network device c.args.link at c.args.octets.now c.of-heading.result node.taken c.of-heading.ensures none ∙ judged.0
           ∙ rw stands.own.end refl),
-      stands_with network device node c.args.self.now c.args.moment c.take.new.self
-          (node.taken ++ record { vl = c.in-Ok.vl; cycle = c.in-Ok.cycle; at = local_at node c.args.moment } ∷ []) stands may.later
+      stands_with network device node c.args.self.now c.args.moment stands may.later
           (judged.1 (record { vl = c.in-Ok.vl; cycle = c.in-Ok.cycle; at = local_at node c.args.moment }) refl refl),
     )
 
@@ -67,10 +66,10 @@ returns-in-Err c = λ network device node stands may arrives on.
     let clock = clock_is network device node c.args.self.now c.args.moment c.local_at-local.result.0 stands begun
     (c.local_at-local.ensures ∙ ap (λ (u : Units). c.args.moment.reading.0 +ℤ u.0) c.adjustment.ensures) in
     let none = heading_at network device node c.args.self.now c.args.moment c.of-heading.result stands on
-    ∙ ap (λ (s : State). heading_fault true s c.args.self.now.own.marker c.of-heading.result) (sym c.state.ensures)
+    ∙ ap (λ s. heading_fault true s c.args.self.now.own.marker c.of-heading.result) (sym c.state.ensures)
     ∙ sym c.fault.ensures.is ∙ c.in_default.is in
     let judged = subst (IsTakenSo network device c.args.link c.of-heading.result at node.taken c.take.new.self) c.in-Err.is
     (c.take.ensures.is network device at node.taken stands.entering arrives.at (ap (λ (p : SyncPlan). p.cycle_length) stands.own.plan) clock) in (
       sym (heard_by network device c.args.link at c.args.octets.now c.of-heading.result node.taken c.of-heading.ensures none ∙ judged.0),
-      stands_with network device node c.args.self.now c.args.moment c.take.new.self node.taken stands may.later judged.1,
+      stands_with network device node c.args.self.now c.args.moment stands may.later judged.1,
     )

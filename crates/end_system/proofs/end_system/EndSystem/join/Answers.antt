@@ -6,9 +6,8 @@ integrate-joined-requires c =
     let node = c.requires.2 in
     let stands = c.requires.3 in
     let told = c.requires.4.1 in
-    let low = point_low c.requires.0 c.requires.1 node c.args.self.now.own c.args.moment c.requires.4.0 c.args.frame.now c.args.point stands.own stands.begun
-    told.call told.ripens in
-    let high = point_high c.requires.0 c.requires.1 node c.args.moment c.requires.4.0 c.args.frame.now c.args.point told.call told.ripens in
+    let low = point_low stands.own stands.begun told.call told.ripens in
+    let high = point_high told.call told.ripens in
     let wide = wide_range c.args.point.0 low high in
     record { low = wide.0; high = wide.1 }
 
@@ -17,24 +16,23 @@ agenda_anew-self-requires c =
     let node = c.requires.2 in
     let stands = c.requires.3 in
     let told = c.requires.4.1 in
-    let does = does_tell c.requires.0 c.requires.1 node c.args.self.now c.args.moment c.requires.4.0 c.args.frame.now c.args.point stands told in
-    let value = joined_value c.args.self.now.sync c.integrate-joined.new.self c.args.frame.now c.args.point c.integrate-joined.result
+    let does = does_tell stands told in
+    let value = joined_value c.integrate-joined.new.self c.args.point c.integrate-joined.result
     c.integrate-joined.ensures.joined does c.integrate-joined.ensures.value in
     record {
       range = stands.own.range;
       rows = (c.requires.0, c.requires.1, stands.own.in_range, stands.rows);
-      number = joined_number c.args.self.now.sync c.integrate-joined.new.self c.args.frame.now c.args.point value does;
+      number = joined_number c.integrate-joined.new.self c.args.point value does;
       small =
-          joined_small_by c.requires.0 c.requires.1 node c.args.self.now c.integrate-joined.new.self c.args.moment c.requires.4.0 c.args.frame.now c.args.point
-          stands told value;
+          joined_small_by c.integrate-joined.new.self stands told value;
       begun = not_fallen node.last.reading.0 c.args.moment.reading.0 stands.begun told.call.later.reading;
       low = told.call.later.low_enough;
     }
 
 pub returns : goal.returns
 returns c = λ network device node link stands told.
-    let does = does_tell network device node c.args.self.now c.args.moment link c.args.frame.now c.args.point stands told in
-    let value = joined_value c.args.self.now.sync c.integrate-joined.new.self c.args.frame.now c.args.point c.integrate-joined.result
+    let does = does_tell stands told in
+    let value = joined_value c.integrate-joined.new.self c.args.point c.integrate-joined.result
     c.integrate-joined.ensures.joined does c.integrate-joined.ensures.value in
-    joins network device node c.args.self.now c.integrate-joined.new.self c.clear.new.self c.agenda_anew-self.result c.args.moment link c.args.frame.now
-    c.args.point stands told value c.clear.ensures.value c.clear.ensures.heard c.agenda_anew-self.ensures.slot c.agenda_anew-self.ensures.agenda
+    joins c.integrate-joined.new.self c.agenda_anew-self.result stands told value c.clear.ensures.value
+    c.clear.ensures.heard c.agenda_anew-self.ensures.slot c.agenda_anew-self.ensures.agenda

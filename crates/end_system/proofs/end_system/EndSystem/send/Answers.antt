@@ -24,7 +24,8 @@ returns c = λ network device node stands may.
       _,
       (
         c.args.sending.cycle,
-        first_is_sending network device _ node _ c.args.moment.reading.0 c.args.sending stands.own stands.sound stands.agenda due,
+        first_is_sending network device _ node c.args.moment.reading.0 c.args.sending stands.own stands.sound
+            stands.agenda due,
         c.frame_of.ensures ∙ ap (λ (f : Pcf). let g : Pcf = record f { cycle = c.args.sending.cycle } in g) stands.own.frame,
         refl,
       ),
@@ -45,7 +46,7 @@ returns c = λ network device node stands may.
         slot = stands.slot;
         agenda = record {
           sending =
-              sending_next network device _ node.standing node.changed node.done c.args.sending c.in_next_cycle.result stands.own here
+              sending_next node.standing node.changed node.done c.args.sending c.in_next_cycle.result stands.own here
               c.in_next_cycle.ensures.cycle c.in_next_cycle.ensures.at;
           correction =
               correction_stays network node.standing node.changed node.done deed _ (λ n e. no_correcting n c.args.sending.cycle e) stands.agenda.correction;

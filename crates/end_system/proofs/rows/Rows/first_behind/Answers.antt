@@ -5,9 +5,10 @@ pub returns-clause-next : goal.returns-clause-next
 returns-clause-next c = λ network device s is are same synchronised.
     let value = c.value_behind-value in
     let length = c.amount-length.ensures.value in
-    first_next network device c.args.own.now c.args.self.now s c.args.adjustment c.args.local.0 value.result _ _ c.first_from.result is are same synchronised
+    first_next network device c.args.own.now c.args.self.now s
+    c.args.adjustment {local = c.args.local.0} {value = value.result} c.first_from.result is are same synchronised
     (record {
-      some = some_length _ (at_least _ _ _ c.requires.range.cycle);
+      some = some_length _ (at_least c.requires.range.cycle);
       silent = value.ensures.begun;
       least = value.ensures.least;
       next = value.ensures.next;
