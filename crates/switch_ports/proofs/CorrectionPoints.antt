@@ -15,9 +15,10 @@ number_some : (o : Option ℕ) (n limit : ℕ) → o ≡ Some n → n ≤ limit 
 number_some o n limit e h = subst (λ (p : Option ℕ). IsSomeAnd p (λ k. k ≤ limit)) (sym e) h
 
 -- the number of the next correction point
-pub number_within : (s : Switch) (network : Network) (device : DeviceId) (node : Node) (cycle : ℕ) → StandsAs s network device node
-    → next_point s.sync ≡ Some cycle → IsSomeAnd (next_point s.sync) (λ n. n ≤ last_cycle + 2)
-number_within s network device node cycle st e = grind (arith, next_point, timed_next, number_some, last_cycle)
+pub number_within : {s : Switch} {network : Network} {device : DeviceId} {node : Node} (cycle : ℕ)
+    → StandsAs s network device node → next_point s.sync ≡ Some cycle
+    → IsSomeAnd (next_point s.sync) (λ n. n ≤ last_cycle + 2)
+number_within cycle st e = grind (arith, next_point, timed_next, number_some, last_cycle)
 
 near_by : (n l r e p : ℕ) (x point adjustment prec two : ℤ) → n ≤ l + 1 → l ≡ 2 ^ 20 + 2 ^ 17 → r ≤ 2 ^ 40 → e ≤ 2 ^ 43 → p ≤ 2 ^ 40 → prec ≡ pos p
     → two ≡ pos (2 * r) → x ≡ (pos (n * r) +ℤ pos e)
@@ -30,14 +31,15 @@ near_by n l r e p x point adjustment prec two a is b d pm q t xe low high h k =
       (omega (arith, ints, more, most, b, d, pm, q, h, xe), omega (arith, ints, more, most, b, d, t, k, xe)),
     )
 
-near_frame : (network : Network) (device : DeviceId) (s : Switch) (node : Node) (frame : HeardFrame) → StandsAs s network device node
-    → IsFair network node.standing frame → IsNear node.standing frame
-near_frame network device s node frame st f =
-    let en = ap (λ (q : SyncPlan). expected_at q node.standing.number) st.plan ∙ expected_is network device node.standing.number st.accepted in
+near_frame : {network : Network} {device : DeviceId} {s : Switch} {node : Node} {frame : HeardFrame}
+    → StandsAs s network device node → IsFair network node.standing frame → IsNear node.standing frame
+near_frame {network} {device} {node} {frame} st f =
+    let en = ap (λ q. expected_at q node.standing.number) st.plan ∙ expected_is device
+    node.standing.number st.accepted in
     let r = its_amount _ _ network.cycle st.accepted.range.cycle in
     let n = near_by node.standing.number last_cycle (amount network.cycle) (expected_by network device) (amount network.precision)
     (expected_at node.standing.plan node.standing.number) frame.point.0 node.standing.adjustment.0 network.precision.0 (pos 2 *ℤ network.cycle.0)
-    f.cycle refl (amount_most _ _ network.cycle st.accepted.range.cycle) (expected_most network device st.accepted.range)
+    f.cycle refl (amount_most _ _ network.cycle st.accepted.range.cycle) (expected_most device st.accepted.range)
     (amount_most _ _ network.precision st.accepted.range.precision)
     (its_amount _ _ network.precision st.accepted.range.precision) (omega (arith, ints, r)) en f.point.low f.point.high f.behind f.ahead in
     record { difference = n.0; deviation = n.1 }
@@ -47,15 +49,15 @@ if_mapped P Q None f h = tt
 if_mapped P Q (Some x) f h = f x h
 
 -- what is heard is near, where the correction point is to come
-pub is_near : (s : Switch) (network : Network) (device : DeviceId) (node : Node) (at : Units) (ch : Channel) → StandsAs s network device node
-    → s.corrects_at ≡ Some at → IfSome (best_on ch s.heard) (IsNear s.sync)
-is_near s network device node at ch st e =
-    let p = correction_pending s network device node at st e in
+pub is_near : {s : Switch} {network : Network} {device : DeviceId} {node : Node} (at : Units) (ch : Channel)
+    → StandsAs s network device node → s.corrects_at ≡ Some at → IfSome (best_on ch s.heard) (IsNear s.sync)
+is_near {s} {network} {device} {node} at ch st e =
+    let p = correction_pending {s = s} {network = network} {device = device} {node = node} at st e in
     let t = timed_next node.standing.state node.standing.number p.0 p.3 in
-    let lt : node.changed <ℤ correction_value network node.standing.number = subst (λ (n : ℕ). node.changed <ℤ correction_value network n) (sym t.1) p.1.1.ahead
+    let lt : node.changed <ℤ correction_value network node.standing.number = subst (λ n. node.changed <ℤ correction_value network n) (sym t.1) p.1.1.ahead
     in
-    subst (λ (x : Standing). IfSome (best_on ch s.heard) (IsNear x)) st.standing
-    (if_mapped (IsFair network node.standing) (IsNear node.standing) (best_on ch s.heard) (λ f fair. near_frame network device s node f st fair)
+    subst (λ x. IfSome (best_on ch s.heard) (IsNear x)) st.standing
+    (if_mapped (IsFair network node.standing) (IsNear node.standing) (best_on ch s.heard) (λ f fair. near_frame st fair)
     ((st.steady t.0).fair lt ch))
 
 -- the reading that is reached

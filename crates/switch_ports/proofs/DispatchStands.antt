@@ -12,45 +12,48 @@ use Rattle.run_law.specs.{declared.steps.Act.Act, machines.{Answers.{IsActOf, wi
 
 -- ---- rows
 
-departure_closed : (network : Network) (device : DeviceId) (taken : List TakenFrame) (d : Departure) (b : Bool) → IsDeparture network device taken d
-    → IsDeparture network device taken (if b then record d { awaited = None } else d)
-departure_closed network device taken d false is = is
-departure_closed network device taken d true is = grind (arith, fit_closed)
+departure_closed : {network : Network} {device : DeviceId} {taken : List TakenFrame} {d : Departure} (b : Bool)
+    → IsDeparture network device taken d → IsDeparture network device taken
+    (if b then record d { awaited = None } else d)
+departure_closed false is = is
+departure_closed true is = grind (arith, fit_closed)
 
-departs_closed : (network : Network) (device : DeviceId) (place : ℕ) (old new : Departures) (taken : List TakenFrame) → Changes (closed place) old new
-    → HasDepartures network device old taken → HasDepartures network device new taken
-departs_closed network device place old new taken changes h =
-    departs_each network device (closed place) old new taken taken changes (λ d. of_closed d (d.of.place == place))
-    (λ d is. departure_closed network device taken d (d.of.place == place) is) h
+departs_closed : {network : Network} {device : DeviceId} (place : ℕ) {old new : Departures} {taken : List TakenFrame}
+    → Changes (closed place) old new → HasDepartures network device old taken → HasDepartures network device new taken
+departs_closed place {taken} changes h =
+    departs_each taken changes (λ d. of_closed d (d.of.place == place))
+    (λ d is. departure_closed (d.of.place == place) is) h
 
--- the place of a row that is there
-its_place : (rows : List Departure) (lasts : List (Option ℕ)) (d : Departure) → AreChained rows lasts → (there : Contains rows d) → d.of.place ≡ there.0
-its_place rows lasts d chained (k, lt, at) = ap (λ (x : Departure). x.of.place) (sym at) ∙ chained.places k d lt
+module _ (rows : List Departure) (lasts : List (Option ℕ)) where
+  -- the place of a row that is there
+  its_place : (d : Departure) → AreChained rows lasts → (there : Contains rows d) → d.of.place ≡ there.0
+  its_place d chained (k, lt, at) = ap (λ (x : Departure). x.of.place) (sym at) ∙ chained.places k d lt
 
--- one row is at a place
-one_place : (rows : List Departure) (lasts : List (Option ℕ)) (a b : Departure) → AreChained rows lasts → Contains rows a → Contains rows b
-    → a.of.place ≡ b.of.place → a ≡ b
-one_place rows lasts a b chained (k, lt, at) (j, inside, here) e =
-    let same : k ≡ j = sym (its_place rows lasts a chained (k, lt, at)) ∙ e ∙ its_place rows lasts b chained (j, inside, here) in
-    sym at ∙ ap (λ n. get_or rows n a) same ∙ get_or_default rows j a b inside ∙ here
+  -- one row is at a place
+  one_place : (a b : Departure) → AreChained rows lasts → Contains rows a → Contains rows b → a.of.place ≡ b.of.place
+      → a ≡ b
+  one_place a b chained (k, lt, at) (j, inside, here) e =
+      let same : k ≡ j = sym (its_place a chained (k, lt, at)) ∙ e ∙ its_place b chained (j, inside, here) in
+      sym at ∙ ap (λ n. get_or rows n a) same ∙ get_or_default rows j a b inside ∙ here
 
--- and a row is at one place
-one_row : (rows : List Departure) (lasts : List (Option ℕ)) (a b : Departure) → AreChained rows lasts → Contains rows a → Contains rows b
-    → a.of.row.0 ≡ b.of.row.0 → a.of.place ≡ b.of.place
-one_row rows lasts a b chained (k, lt, at) (j, inside, here) e =
-    let other : get_or rows j a ≡ b = get_or_default rows j a b inside ∙ here in
-    let same : k ≡ j = distinct rows lasts k j a chained lt inside
-    (ap (λ (x : Departure). x.of.row.0) at ∙ e ∙ ap (λ (x : Departure). x.of.row.0) (sym other)) in
-    its_place rows lasts a chained (k, lt, at) ∙ same ∙ sym (its_place rows lasts b chained (j, inside, here))
+  -- and a row is at one place
+  one_row : (a b : Departure) → AreChained rows lasts → Contains rows a → Contains rows b → a.of.row.0 ≡ b.of.row.0
+      → a.of.place ≡ b.of.place
+  one_row a b chained (k, lt, at) (j, inside, here) e =
+      let other : get_or rows j a ≡ b = get_or_default rows j a b inside ∙ here in
+      let same : k ≡ j = distinct k j a chained lt inside
+      (ap (λ (x : Departure). x.of.row.0) at ∙ e ∙ ap (λ (x : Departure). x.of.row.0) (sym other)) in
+      its_place a chained (k, lt, at) ∙ same ∙ sym (its_place b chained (j, inside, here))
 
 not_equal : (a b : ℕ) → (a == b) ≡ false → a ≡ b → ⊥
 not_equal a b e h = grind (arith, e, h)
 
-awaits_closed : (s : Switch) (network : Network) (device : DeviceId) (node : Node) (next : Dispatch) (d : Departure) (b : Bool)
-    → StandsAs s network device node → IsNextOf s network node next → (d.of.place == next.place) ≡ b → Contains s.departures.rows.items d
-    → AwaitsSo node.changed node.done d
-    → AwaitsSo node.changed (node.done ++ dispatching next.row next.cycle ∷ []) (if b then record d { awaited = None } else d)
-awaits_closed s network device node next d true st n e here h held = (
+awaits_closed : {s : Switch} {network : Network} {device : DeviceId} {node : Node} {next : Dispatch} (d : Departure)
+    (b : Bool) → StandsAs s network device node → IsNextOf s network node next → (d.of.place == next.place) ≡ b
+    → Contains s.departures.rows.items d → AwaitsSo node.changed node.done d
+    → AwaitsSo node.changed (node.done ++ dispatching next.row next.cycle ∷ [])
+    (if b then record d { awaited = None } else d)
+awaits_closed {s} {network} {device} {node} {next} d true st n e here h held = (
   λ f. absurd cc,
   λ come.
       let place : next.place ≡ n.d.of.place = ap (λ (x : Dispatch). x.place) n.is in
@@ -67,7 +70,7 @@ awaits_closed s network device node next d true st n e here h held = (
       absurd (come.not_yet (subst (Contains (node.done ++ dispatching next.row next.cycle ∷ [])) deed
       (Contains-push node.done (dispatching next.row next.cycle)))),
 )
-awaits_closed s network device node next d false st n e here h held = (
+awaits_closed {s} {node} {next} d false st n e here h held = (
   λ f.
       let come = (h held).0 f in record {
         is = come.is;
@@ -90,10 +93,11 @@ awaits_closed s network device node next d false st n e here h held = (
 )
 
 -- the row that dispatches next is there
-pub next_inside : (s : Switch) (network : Network) (device : DeviceId) (node : Node) (o : Option Dispatch) → StandsAs s network device node
-    → s.departures.next ≡ o → IfSome o (λ next. next.place < length s.departures.rows.items)
-next_inside s network device node None st e = tt
-next_inside s network device node (Some next) st e =
+pub next_inside : {s : Switch} {network : Network} {device : DeviceId} {node : Node} (o : Option Dispatch)
+    → StandsAs s network device node → s.departures.next ≡ o
+    → IfSome o (λ next. next.place < length s.departures.rows.items)
+next_inside None st e = tt
+next_inside {s} {network} {device} {node} (Some next) st e =
     let n = next_of s network device node next st e in
     let place : next.place ≡ n.there.0 = ap (λ (x : Dispatch). x.place) n.is
     ∙ its_place s.departures.rows.items s.departures.lasts.items n.d st.departs.ready.chained n.there in
@@ -106,12 +110,14 @@ passed_more : (network : Network) (node : Node) (next : Dispatch) (x y : ℤ) (r
 passed_more network node next x y row cycle le passed reached there =
     elim (Contains-push_cases node.done (dispatching next.row next.cycle) (dispatching row cycle) there) [
       | inl old ↦ through _ _ _ (passed row cycle old) le
-      | inr new ↦ subst (λ (deed : ClockTask). value_of network deed ≤ℤ y) new reached
+      | inr new ↦ subst (λ deed. value_of network deed ≤ℤ y) new reached
     ]
 
-back_in : (state : State) (network : Network) (ds : Departures) (adjustment changed : ℤ) (done : List ClockTask) (x : ℤ) → state ≡ Synchronised
-    → Awaits network ds adjustment changed done x → AwaitsIn state network ds adjustment changed done x
-back_in state network ds adjustment changed done x e h = subst (λ (z : State). AwaitsIn z network ds adjustment changed done x) (sym e) h
+back_in : (state : State) {network : Network} {ds : Departures} {adjustment changed : ℤ} {done : List ClockTask}
+    {x : ℤ} → state ≡ Synchronised → Awaits network ds adjustment changed done x
+    → AwaitsIn state network ds adjustment changed done x
+back_in state {network} {ds} {adjustment} {changed} {done} {x} e h =
+    subst (λ z. AwaitsIn z network ds adjustment changed done x) (sym e) h
 
 corrected_before : (node : Node) (next : Dispatch) (cycle : ℕ) → ((cycle : ℕ) → Contains node.done (correcting cycle) → cycle < node.standing.number)
     → Contains (node.done ++ dispatching next.row next.cycle ∷ []) (correcting cycle) → cycle < node.standing.number
@@ -121,66 +127,69 @@ corrected_before node next cycle done there =
       | inr new ↦ absurd cc
     ]
 
--- the switch that has done the dispatch
-dispatched_stands : (s new : Switch) (network : Network) (device : DeviceId) (node : Node) (moment : Moment) (next : Dispatch)
-    → StandsAs s network device node → node.last.reading.0 ≤ℤ moment.reading.0 → s.departures.next ≡ Some next
-    → reading_for network node (doing (dispatching next.row next.cycle)) ≤ℤ moment.reading.0 → Dispatches s next new
-    → StandsAs (record s { departures = new.departures }) network device (called moment acting (with_done node (dispatching next.row next.cycle)))
-dispatched_stands s new network device node moment next st later e due h =
-    let n = next_of s network device node next st e in
-    let awaits = its_awaits s network device node st n.sync in
-    let adjustment : s.sync.adjustment.0 ≡ node.standing.adjustment.0 = ap (λ (x : Standing). x.adjustment.0) (sym st.standing) in
-    record {
-      accepted = st.accepted;
-      site = st.site;
-      sound = st.sound;
-      standing = st.standing;
-      plan = st.plan;
-      heard = st.heard;
-      changed = st.changed;
-      corrects = st.corrects;
-      done = λ cycle there. corrected_before node next cycle st.done there;
-      begun = through _ _ _ st.begun later;
-      small = st.small;
-      steady =
-          λ timed. let o = st.steady timed in record {
-            number = o.number;
-            lower = o.lower;
-            upper = further _ _ _ _ o.upper later;
-            joined = o.joined;
-            fair = o.fair;
-          };
-      intake = st.intake;
-      collects = st.collects;
-      departs = departs_closed network device next.place s.departures new.departures node.taken h.changes st.departs;
-      awaits =
-          back_in node.standing.state network new.departures node.standing.adjustment.0 node.changed
-          (node.done ++ dispatching next.row next.cycle ∷ []) _ n.sync
-          (record {
-            each = all_each (λ d. Contains s.departures.rows.items d × AwaitsSo node.changed node.done d)
-                (AwaitsSo node.changed (node.done ++ dispatching next.row next.cycle ∷ [])) (closed next.place) s.departures.rows.items
-                new.departures.rows.items h.changes.rows
-                (λ d both. awaits_closed s network device node next d (d.of.place == next.place) st n refl both.0 both.1)
-                (λ k d lt. (All-contains_itself s.departures.rows.items k d lt, awaits.each k d lt));
-            next = subst (λ (z : ℤ). KnowsNext z new.departures) adjustment h.knows;
-            passed = λ row cycle there. passed_more network node next _ _ row cycle
-                (later_by node.last.reading.0 moment.reading.0 node.standing.adjustment.0 later)
-                awaits.passed (value_reached _ node.standing.adjustment.0 moment.reading.0 due) there;
-          });
-    }
+module _ (s new : Switch) (network : Network) (device : DeviceId) (node : Node) (moment : Moment) where
+  -- the switch that has done the dispatch
+  dispatched_stands : {next : Dispatch} → StandsAs s network device node → node.last.reading.0 ≤ℤ moment.reading.0
+      → s.departures.next ≡ Some next → reading_for network node
+      (doing (dispatching next.row next.cycle)) ≤ℤ moment.reading.0 → Dispatches s next new
+      → StandsAs (record s { departures = new.departures }) network device
+      (called moment acting (with_done node (dispatching next.row next.cycle)))
+  dispatched_stands {next} st later e due h =
+      let n = next_of s network device node next st e in
+      let awaits = its_awaits s network device node st n.sync in
+      let adjustment : s.sync.adjustment.0 ≡ node.standing.adjustment.0 =
+      ap (λ (x : Standing). x.adjustment.0) (sym st.standing) in
+      record {
+        accepted = st.accepted;
+        site = st.site;
+        sound = st.sound;
+        standing = st.standing;
+        plan = st.plan;
+        heard = st.heard;
+        changed = st.changed;
+        corrects = st.corrects;
+        done = λ cycle there. corrected_before node next cycle st.done there;
+        begun = through _ _ _ st.begun later;
+        small = st.small;
+        steady =
+            λ timed. let o = st.steady timed in record {
+              number = o.number;
+              lower = o.lower;
+              upper = further _ _ _ _ o.upper later;
+              joined = o.joined;
+              fair = o.fair;
+            };
+        intake = st.intake;
+        collects = st.collects;
+        departs = departs_closed next.place h.changes st.departs;
+        awaits =
+            back_in node.standing.state {network = network} {ds = new.departures} {adjustment = node.standing.adjustment.0} {changed = node.changed}
+            {done = node.done ++ dispatching next.row next.cycle ∷ []} n.sync
+            (record {
+              each = all_each (λ d. Contains s.departures.rows.items d × AwaitsSo node.changed node.done d)
+                  (AwaitsSo node.changed (node.done ++ dispatching next.row next.cycle ∷ [])) h.changes.rows
+                  (λ d both. awaits_closed d (d.of.place == next.place) st n refl both.0 both.1)
+                  (λ k d lt. (All-contains_itself s.departures.rows.items k d lt, awaits.each k d lt));
+              next = subst (λ z. KnowsNext z new.departures) adjustment h.knows;
+              passed = λ row cycle there. passed_more network node next _ _ row cycle
+                  (later_by node.last.reading.0 moment.reading.0 node.standing.adjustment.0 later)
+                  awaits.passed (value_reached _ node.standing.adjustment.0 moment.reading.0 due) there;
+            });
+      }
 
--- where no collection and no correction is due, it does the dispatch that comes next
-pub dispatch_acts : (s new : Switch) (network : Network) (device : DeviceId) (node : Node) (moment : Moment) (act : Act) (o : Option Units)
-    (next : Option Dispatch) → StandsAs s network device node → MayCall network device node moment acting → EmitsNone s moment.reading.0 o
-    → IfSome s.corrects_at (λ at. moment.reading.0 <ℤ at.0) → HasDue network device node moment.reading.0 → s.departures.next ≡ next
-    → DispatchesSo s next act new → (after : Node) × IsActOf network device node moment act after × StandsAs new network device after
-dispatch_acts s new network device node moment act o None st may none later due e h =
-    absurd (nothing_due s network device node moment.reading.0 o st none later e due)
-dispatch_acts s new network device node moment act o (Some next) st may none later due e (is, h) =
-    let first = first_dispatch s network device node next moment o st may none later e due in
-    let after = called moment acting (with_done node (dispatching next.row next.cycle)) in (
-      after,
-      subst (λ (a : Act). IsActOf network device node moment a after) (sym is) (first, refl),
-      subst (λ (x : Switch). StandsAs x network device after) (sym h.rest)
-          (dispatched_stands s new network device node moment next st may.later.reading e first.due h),
-    )
+  -- where no collection and no correction is due, it does the dispatch that comes next
+  pub dispatch_acts : (act : Act) {o : Option Units} (next : Option Dispatch) → StandsAs s network device node
+      → MayCall network device node moment acting → EmitsNone s moment.reading.0 o
+      → IfSome s.corrects_at (λ at. moment.reading.0 <ℤ at.0) → HasDue network device node moment.reading.0
+      → s.departures.next ≡ next → DispatchesSo s next act new
+      → (after : Node) × IsActOf network device node moment act after × StandsAs new network device after
+  dispatch_acts act None st may none later due e h =
+      absurd (nothing_due s network device node st none later e due)
+  dispatch_acts act (Some next) st may none later due e (is, h) =
+      let first = first_dispatch s network device node next st may none later e due in
+      let after = called moment acting (with_done node (dispatching next.row next.cycle)) in (
+        after,
+        subst (λ a. IsActOf network device node moment a after) (sym is) (first, refl),
+        subst (λ x. StandsAs x network device after) (sym h.rest)
+            (dispatched_stands st may.later.reading e first.due h),
+      )

@@ -21,10 +21,12 @@ all_last : (P : Compressed → Type 0) (xs : List Compressed) (x : Compressed) �
 all_last P xs x all = All-contains P (xs ++ x ∷ []) x all (Contains-append_right xs (x ∷ []) x (in_head x []))
 
 -- the switch that has sent it
-pub sent_stands : (s : Switch) (collector : Collecting) (network : Network) (device : DeviceId) (node : Node) (sent : Compressed)
-    → StandsAs s network device node → collector ≡ record s.collector { earliest = int_max s.collector.earliest sent.at.0; waiting = collector.waiting }
-    → StandsForPoints collector node.points (node.emitted ++ sent ∷ []) → StandsAs (record s { collector = collector }) network device (with_sent node sent)
-sent_stands s collector network device node sent st kept stands = record {
+pub sent_stands : {s : Switch} {collector : Collecting} {network : Network} {device : DeviceId} {node : Node}
+    (sent : Compressed) → StandsAs s network device node → collector
+    ≡ record s.collector { earliest = int_max s.collector.earliest sent.at.0; waiting = collector.waiting }
+    → StandsForPoints collector node.points (node.emitted ++ sent ∷ [])
+    → StandsAs (record s { collector = collector }) network device (with_sent node sent)
+sent_stands {s} {node} sent st kept stands = record {
   accepted = st.accepted;
   intake = st.intake;
   site = st.site;
@@ -68,28 +70,31 @@ same_reading : (network : Network) (node : Node) (sent : Compressed) (task : Tas
 same_reading network node sent (emitting e) = refl
 same_reading network node sent (doing deed) = refl
 
-all_done_before : (network : Network) (device : DeviceId) (node : Node) (sent : Compressed) (moment : Moment) (task : Task)
-    → ((task : Task) → IsPending network device node task → node.last.reading.0 <ℤ reading_for network node task)
-    → IsPending network device (with_sent node sent) task → node.last.reading.0 <ℤ reading_for network (with_sent node sent) task
-all_done_before network device node sent moment task h p =
-    subst (λ (z : ℤ). node.last.reading.0 <ℤ z) (sym (same_reading network node sent task)) (h task (pending_before network device node sent task p))
+module _ (network : Network) (device : DeviceId) (node : Node) (sent : Compressed) (moment : Moment) where
+  all_done_before : (task : Task) → ((task : Task) → IsPending network device node task
+      → node.last.reading.0 <ℤ reading_for network node task) → IsPending network device (with_sent node sent) task
+      → node.last.reading.0 <ℤ reading_for network (with_sent node sent) task
+  all_done_before task h p =
+      subst (λ z. node.last.reading.0 <ℤ z) (sym (same_reading network node sent task))
+      (h task (pending_before network device node sent task p))
 
-in_time_before : (network : Network) (device : DeviceId) (node : Node) (sent : Compressed) (moment : Moment) (task : Task)
-    → ((task : Task) → IsPending network device node task → moment.reading.0 <ℤ (reading_for network node task +ℤ network.precision.0))
-    → IsPending network device (with_sent node sent) task → moment.reading.0 <ℤ (reading_for network (with_sent node sent) task +ℤ network.precision.0)
-in_time_before network device node sent moment task h p =
-    subst (λ (z : ℤ). moment.reading.0 <ℤ (z +ℤ network.precision.0)) (sym (same_reading network node sent task))
-    (h task (pending_before network device node sent task p))
+  in_time_before : (task : Task) → ((task : Task) → IsPending network device node task
+      → moment.reading.0 <ℤ (reading_for network node task +ℤ network.precision.0))
+      → IsPending network device (with_sent node sent) task
+      → moment.reading.0 <ℤ (reading_for network (with_sent node sent) task +ℤ network.precision.0)
+  in_time_before task h p =
+      subst (λ z. moment.reading.0 <ℤ (z +ℤ network.precision.0)) (sym (same_reading network node sent task))
+      (h task (pending_before network device node sent task p))
 
--- so it may be called as before
-pub may_before : (network : Network) (device : DeviceId) (node : Node) (sent : Compressed) (moment : Moment) (phase : Phase)
-    → MayCall network device node moment phase → MayCall network device (with_sent node sent) moment phase
-may_before network device node sent moment phase may = record {
-  later = may.later;
-  in_order = may.in_order;
-  all_done = λ lt task p. all_done_before network device node sent moment task (may.all_done lt) p;
-  in_time = λ task p. in_time_before network device node sent moment task may.in_time p;
-}
+  -- so it may be called as before
+  pub may_before : {phase : Phase} → MayCall network device node moment phase
+      → MayCall network device (with_sent node sent) moment phase
+  may_before may = record {
+    later = may.later;
+    in_order = may.in_order;
+    all_done = λ lt task p. all_done_before task (may.all_done lt) p;
+    in_time = λ task p. in_time_before task may.in_time p;
+  }
 
 -- ---- it is the first task
 
@@ -103,9 +108,9 @@ above x h = omega (arith, ints, h)
 below : (x : ℤ) → neg_ℤ (pos 1) <ℤ x → pos 0 ≤ℤ x
 below x h = omega (arith, ints, h)
 
-opened_from_zero : (s : Switch) (network : Network) (device : DeviceId) (node : Node) (c : Cluster) → StandsAs s network device node
-    → Contains s.collector.waiting c → pos 0 ≤ℤ c.opened
-opened_from_zero s network device node c st at =
+opened_from_zero : {s : Switch} {network : Network} {device : DeviceId} {node : Node} (c : Cluster)
+    → StandsAs s network device node → Contains s.collector.waiting c → pos 0 ≤ℤ c.opened
+opened_from_zero {s} {node} c st at =
     let held = st.collects.collected in
     below c.opened
     (opened_beyond s.collector.ow (neg_ℤ (pos 1)) node.points (held.done ++ s.collector.waiting) c
@@ -122,45 +127,52 @@ order_of_two m n h (inl lt) = omega (arith, lt)
 order_of_two m n h (inr (e, inl lt)) = h lt
 order_of_two m n h (inr (e, inr more)) = more.1
 
-order_first : (s : Switch) (network : Network) (device : DeviceId) (node : Node) (first : Cluster) (rest : List Cluster) (task : Task)
-    → StandsAs s network device node → s.collector.waiting ≡ first ∷ rest → IsEmission s task
-    → IsBefore (order_of network task) (0 ∷ unsigned_abs first.opened ∷ []) → ⊥
-order_first s network device node first rest (doing deed) st is h before = h
-order_first s network device node first rest (emitting sent) st is (c, at, e) before =
-    let zero_on = opened_from_zero s network device node first st (subst (λ (cs : List Cluster). Contains cs first) (sym is) (in_head first rest)) in
-    let le = first_opened s.collector node.points node.emitted first rest c (some_window s network device node st) st.collects.collected is at in
-    let opened : sent.opened.0 ≡ c.opened = ap (λ (x : Compressed). x.opened.0) e in
-    order_of_two (unsigned_abs sent.opened.0) (unsigned_abs first.opened)
-    (λ lt. not_less first.opened c.opened zero_on le (subst (λ (z : ℤ). unsigned_abs z < unsigned_abs first.opened) opened lt)) before
+module _ (s : Switch) (network : Network) (device : DeviceId) (node : Node) where
+  order_first : (first : Cluster) (rest : List Cluster) (task : Task) → StandsAs s network device node
+      → s.collector.waiting ≡ first ∷ rest → IsEmission s task
+      → IsBefore (order_of network task) (0 ∷ unsigned_abs first.opened ∷ []) → ⊥
+  order_first first rest (doing deed) st is h before = h
+  order_first first rest (emitting sent) st is (c, at, e) before =
+      let zero_on =
+      opened_from_zero first st (subst (λ (cs : List Cluster). Contains cs first) (sym is) (in_head first rest)) in
+      let le = first_opened first rest c (some_window s network device node st) st.collects.collected is at in
+      let opened : sent.opened.0 ≡ c.opened = ap (λ (x : Compressed). x.opened.0) e in
+      order_of_two (unsigned_abs sent.opened.0) (unsigned_abs first.opened)
+      (λ lt. not_less first.opened c.opened zero_on le
+      (subst (λ (z : ℤ). unsigned_abs z < unsigned_abs first.opened) opened lt)) before
 
-order_other : (s : Switch) (network : Network) (device : DeviceId) (node : Node) (n : ℕ) (task : Task) → IsClocked s network device node task
-    → IsBefore (order_of network task) (0 ∷ n ∷ []) → ⊥
-order_other s network device node n (doing (correcting cycle)) p (inl lt) = omega (arith, lt)
-order_other s network device node n (doing (correcting cycle)) p (inr more) = omega (arith, more.0)
-order_other s network device node n (doing (dispatching row cycle)) p (inl lt) = omega (arith, lt)
-order_other s network device node n (doing (dispatching row cycle)) p (inr more) = omega (arith, more.0)
-order_other s network device node n (emitting sent) (inl p) before = p
-order_other s network device node n (emitting sent) (inr p) before = p
-order_other s network device node n (doing (sending cycle)) (inl p) before = p
-order_other s network device node n (doing (sending cycle)) (inr p) before = p
+  order_other : (n : ℕ) (task : Task) → IsClocked s network device node task
+      → IsBefore (order_of network task) (0 ∷ n ∷ []) → ⊥
+  order_other n (doing (correcting cycle)) p (inl lt) = omega (arith, lt)
+  order_other n (doing (correcting cycle)) p (inr more) = omega (arith, more.0)
+  order_other n (doing (dispatching row cycle)) p (inl lt) = omega (arith, lt)
+  order_other n (doing (dispatching row cycle)) p (inr more) = omega (arith, more.0)
+  order_other n (emitting sent) (inl p) before = p
+  order_other n (emitting sent) (inr p) before = p
+  order_other n (doing (sending cycle)) (inl p) before = p
+  order_other n (doing (sending cycle)) (inr p) before = p
 
--- the first collection's frame is the first task
-pub first_emission : (s : Switch) (network : Network) (device : DeviceId) (node : Node) (sent : Compressed) (first : Cluster) (rest : List Cluster)
-    (reading : ℤ) → StandsAs s network device node → s.collector.waiting ≡ first ∷ rest → sent ≡ compressed s.collector.ow s.collector.calc first
-    → sent.at.0 ≤ℤ reading → IsFirstTask network device node reading (emitting sent)
-first_emission s network device node sent first rest reading st is e due = record {
-  pending =
-      subst (λ (x : Compressed). IsPending network device node (emitting x)) (sym e)
-      (emission_pending s network device node first st (subst (λ (cs : List Cluster). Contains cs first) (sym is) (in_head first rest)));
-  due = due;
-  first = λ other q here before. elim (kind_of s network device node other st q) [
-    | inl x ↦ order_first s network device node first rest other st is x
-        (subst (λ (z : ℤ). IsBefore (order_of network other) (0 ∷ unsigned_abs z ∷ [])) (ap (λ (x : Compressed). x.opened.0) e) before)
-    | inr y ↦ order_other s network device node _ other y before
-  ];
-}
+  -- the first collection's frame is the first task
+  pub first_emission : (sent : Compressed) (first : Cluster) (rest : List Cluster) (reading : ℤ)
+      → StandsAs s network device node → s.collector.waiting ≡ first ∷ rest
+      → sent ≡ compressed s.collector.ow s.collector.calc first → sent.at.0 ≤ℤ reading
+      → IsFirstTask network device node reading (emitting sent)
+  first_emission sent first rest reading st is e due = record {
+    pending =
+        subst (λ (x : Compressed). IsPending network device node (emitting x)) (sym e)
+        (emission_pending s network device node first st
+        (subst (λ (cs : List Cluster). Contains cs first) (sym is) (in_head first rest)));
+    due = due;
+    first = λ other q here before. elim (kind_of s network device node other st q) [
+      | inl x ↦ order_first first rest other st is x
+          (subst (λ (z : ℤ). IsBefore (order_of network other) (0 ∷ unsigned_abs z ∷ []))
+          (ap (λ (x : Compressed). x.opened.0) e) before)
+      | inr y ↦ order_other _ other y before
+    ];
+  }
 
-pub reached_by : (o : Option Units) (reading x : ℤ) (es : List ℤ) → IsSomeAnd o (λ at. at.0 ≤ℤ reading) → IfSome o (λ at. IsLeast at.0 es) → IsLeast x es
-    → x ≤ℤ reading
-reached_by None reading x es some least mine = absurd some
-reached_by (Some at) reading x es some least mine = let le = All-contains (λ y. x ≤ℤ y) es at.0 mine.bound least.there in omega (arith, ints, le, some)
+pub reached_by : (o : Option Units) (reading : ℤ) {x : ℤ} {es : List ℤ} → IsSomeAnd o (λ at. at.0 ≤ℤ reading)
+    → IfSome o (λ at. IsLeast at.0 es) → IsLeast x es → x ≤ℤ reading
+reached_by None reading some least mine = absurd some
+reached_by (Some at) reading {x} {es} some least mine =
+    let le = All-contains (λ y. x ≤ℤ y) es at.0 mine.bound least.there in omega (arith, ints, le, some)

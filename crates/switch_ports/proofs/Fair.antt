@@ -13,7 +13,7 @@ better_keeps P None later best e new old = subst P (sym e) new
 better_keeps P (Some b) later best e new old = grind arith
 
 best_same : (P : HeardFrame → Type 0) (old new : Summary) (ch : Channel) → new ≡ old → IfSome (best_on ch old) P → IfSome (best_on ch new) P
-best_same P old new ch e h = subst (λ (s : Summary). IfSome (best_on ch s) P) (sym e) h
+best_same P old new ch e h = subst (λ s. IfSome (best_on ch s) P) (sym e) h
 
 -- what holds of the best frames holds after one more frame, of which it holds where it was within
 pub kept : (P : HeardFrame → Type 0) (old new : Summary) (channel : Option Channel) (frame : Pcf) (point : Units) (within : Bool)
@@ -67,30 +67,33 @@ decide zero n = inl (omega arith)
 decide (suc c) zero = inr (omega arith)
 decide (suc c) (suc n) = elim (decide c n) [ inl h ↦ inl (omega (arith, h)) | inr h ↦ inr (omega (arith, h)) ]
 
-pub not_later : (n c r e k p : ℕ) (point adjustment reading changed : ℤ) → IsHeardBefore n c r e k p point adjustment reading changed → c ≤ n
-not_later n c r e k p point adjustment reading changed h = elim (decide c n) [
-  | inl y ↦ y
-  | inr n1 ↦
-      let more : (n + 1) * r ≤ c * r = mul-le-mul_right r n1 in
-      let a = h.early in let b = h.ahead in let d = h.reached in let f = h.room.correction in let g = h.room.compression in let i = h.room.some in
-      absurd (omega (arith, ints, more, a, b, d, f, g, i))
-]
+module _ {n c r e k p : ℕ} {point adjustment reading changed : ℤ}
+    (h : IsHeardBefore n c r e k p point adjustment reading changed) where
+  pub not_later : c ≤ n
+  not_later = elim (decide c n) [
+    | inl y ↦ y
+    | inr n1 ↦
+        let more : (n + 1) * r ≤ c * r = mul-le-mul_right r n1 in
+        let a = h.early in let b = h.ahead in let d = h.reached in let f = h.room.correction in
+        let g = h.room.compression in let i = h.room.some in
+        absurd (omega (arith, ints, more, a, b, d, f, g, i))
+  ]
 
-pub not_earlier : (n c r e k p : ℕ) (point adjustment reading changed : ℤ) → IsHeardBefore n c r e k p point adjustment reading changed → n ≤ c + 1
-not_earlier n c r e k p point adjustment reading changed h = elim (decide n (c + 1)) [
-  | inl y ↦ y
-  | inr n1 ↦
-      let more : (c + 1 + 1) * r ≤ n * r = mul-le-mul_right r n1 in
-      let a = h.late in let b = h.recent in let d = h.lower in let f = h.upper in let i = h.room.some in
-      absurd (omega (arith, ints, more, a, b, d, f, i))
-]
+  pub not_earlier : n ≤ c + 1
+  not_earlier = elim (decide n (c + 1)) [
+    | inl y ↦ y
+    | inr n1 ↦
+        let more : (c + 1 + 1) * r ≤ n * r = mul-le-mul_right r n1 in
+        let a = h.late in let b = h.recent in let d = h.lower in let f = h.upper in let i = h.room.some in
+        absurd (omega (arith, ints, more, a, b, d, f, i))
+  ]
 
-pub behind : (n c r e k p : ℕ) (point adjustment reading changed : ℤ) → IsHeardBefore n c r e k p point adjustment reading changed
-    → (point +ℤ adjustment) ≤ℤ ((pos (n * r) +ℤ pos e) +ℤ pos p)
-behind n c r e k p point adjustment reading changed h = grind (arith, mul-le-mul_right, not_later, ints)
+module _ {n c r e k p : ℕ} {point adjustment reading changed : ℤ}
+    (h : IsHeardBefore n c r e k p point adjustment reading changed) where
+  pub behind : (point +ℤ adjustment) ≤ℤ ((pos (n * r) +ℤ pos e) +ℤ pos p)
+  behind = grind (arith, mul-le-mul_right, not_later, ints)
 
-pub ahead : (n c r e k p : ℕ) (point adjustment reading changed : ℤ) → IsHeardBefore n c r e k p point adjustment reading changed
-    → (pos (n * r) +ℤ pos e) ≤ℤ ((point +ℤ adjustment) +ℤ pos (2 * r))
-ahead n c r e k p point adjustment reading changed h =
-    let b = h.recent in let d = h.lower in let f = h.upper in
-    omega (arith, ints, b, d, f)
+  pub ahead : (pos (n * r) +ℤ pos e) ≤ℤ ((point +ℤ adjustment) +ℤ pos (2 * r))
+  ahead =
+      let b = h.recent in let d = h.lower in let f = h.upper in
+      omega (arith, ints, b, d, f)

@@ -43,8 +43,9 @@ pub record IsBit (network : Network) (members : Members) : Type 0 where
   pub there : Contains (member_numbers network) number
   pub bit : members.0 ≡ 2 ^ number
 
-pub is_bit : (network : Network) (members : Members) → IsAccepted network → IsOneMaster network members → IsBit network members
-is_bit network members accepted (master, h) =
+pub is_bit : {network : Network} (members : Members) → IsAccepted network → IsOneMaster network members
+    → IsBit network members
+is_bit {network} members accepted (master, h) =
     let m = has_member network (device_at network master) members h in
     let range = in_all IsDeviceInRange network.device master.0 m.1.d accepted.range.devices m.1.there in
     let at = slice_there network.device master.0 m.1.d m.1.there in
@@ -70,12 +71,13 @@ bit_small : (n : ℕ) → n ≤ 31 → 2 ^ n < 2 ^ 32
 bit_small n h = pow-lt (few n h)
 
 -- so its lowest bit is below 32
-pub master_small : (network : Network) (members : Members) → IsBit network members → trailing_zeros w32 members.0 < 32
-master_small network members h = rw h.bit ((bit_at-trailing_zeros w32 (2 ^ h.number) (pow_positive h.number) (bit_small h.number h.small)).0)
+pub master_small : {network : Network} {members : Members} → IsBit network members → trailing_zeros w32 members.0 < 32
+master_small h =
+    rw h.bit ((bit_at-trailing_zeros w32 (2 ^ h.number) (pow_positive h.number) (bit_small h.number h.small)).0)
 
 -- and is that number
-pub master_is : (network : Network) (members : Members) (h : IsBit network members) → master_of members.0 ≡ h.number
-master_is network members h =
+pub master_is : {network : Network} {members : Members} (h : IsBit network members) → master_of members.0 ≡ h.number
+master_is h =
     let bits = (bit_at-trailing_zeros w32 (2 ^ h.number) (pow_positive h.number) (bit_small h.number h.small)).1 in
     rw h.bit ((single-members h.number (trailing_zeros w32 (2 ^ h.number))).0 bits)
 
@@ -89,40 +91,44 @@ few_enough v n h = few_by (v == 1) n h
 fewer : (a b : ℕ) → a < b → b ≤ 8 → a < 8
 fewer a b h k = omega (arith, h, k)
 
-room_by : (s : Switch) (network : Network) (device : DeviceId) (node : Node) (members : Members) (reading : ℤ) → StandsAs s network device node
-    → IsBit network members → (o : Option Cluster) → open_at s.collector.waiting reading ≡ o
-    → IfSome o (λ c. IsTrue (has_point_of c (master_of members.0)) ⊎ (length c.points < 8))
-room_by s network device node members reading st h None e = tt
-room_by s network device node members reading st h (Some c) e =
-    let held = st.collects.collected in
-    let last = last_split s.collector.waiting c (open_at-some s.collector.waiting reading c e).0 in
-    let at : Contains s.collector.waiting c = subst (λ (cs : List Cluster). Contains cs c) (sym last.1) (Contains-append_right last.0 (c ∷ []) c (in_head c []))
-    in
-    elim (cases_Bool (has_point_of c (master_of members.0))) [
-      | inl y ↦ inl y
-      | inr n ↦
-          let fewer_points = room_for_each_master s.collector.ow node.points (held.done ++ s.collector.waiting) (member_numbers network) held.clusters
-          st.collects.masters c (Contains-append_right held.done s.collector.waiting c at) (master_of members.0)
-          (subst (Contains (member_numbers network)) (sym (master_is network members h)) h.there) n in
-          let most = few_enough network.version (length (masters network)) ((st.accepted.rules rules.Masters 0).most refl) in
-          let same : length (member_numbers network) ≡ length (masters network) = search (length-map) in
-          inr (fewer _ _ fewer_points (subst (λ (k : ℕ). k ≤ 8) (sym same) most))
-    ]
+module _ {s : Switch} {network : Network} {device : DeviceId} {node : Node} {members : Members} (reading : ℤ)
+    (st : StandsAs s network device node) (h : IsBit network members) where
+  room_by : (o : Option Cluster) → open_at s.collector.waiting reading ≡ o
+      → IfSome o (λ c. IsTrue (has_point_of c (master_of members.0)) ⊎ (length c.points < 8))
+  room_by None e = tt
+  room_by (Some c) e =
+      let held = st.collects.collected in
+      let last = last_split s.collector.waiting c (open_at-some s.collector.waiting reading c e).0 in
+      let at : Contains s.collector.waiting c = subst (λ (cs : List Cluster). Contains cs c) (sym last.1)
+      (Contains-append_right last.0 (c ∷ []) c (in_head c []))
+      in
+      elim (cases_Bool (has_point_of c (master_of members.0))) [
+        | inl y ↦ inl y
+        | inr n ↦
+            let fewer_points = room_for_each_master s.collector.ow node.points (held.done ++ s.collector.waiting)
+            (member_numbers network) held.clusters
+            st.collects.masters c (Contains-append_right held.done s.collector.waiting c at) (master_of members.0)
+            (subst (Contains (member_numbers network)) (sym (master_is h)) h.there) n in
+            let most = few_enough network.version (length (masters network))
+            ((st.accepted.rules rules.Masters 0).most refl) in
+            let same : length (member_numbers network) ≡ length (masters network) = search (length-map) in
+            inr (fewer _ _ fewer_points (subst (λ k. k ≤ 8) (sym same) most))
+      ]
 
--- there is room for the point of each master
-pub has_room : (s : Switch) (network : Network) (device : DeviceId) (node : Node) (members : Members) (reading : ℤ) → StandsAs s network device node
-    → IsBit network members → IfSome (open_at s.collector.waiting reading) (λ c. IsTrue (has_point_of c (master_of members.0)) ⊎ (length c.points < 8))
-has_room s network device node members reading st h = room_by s network device node members reading st h (open_at s.collector.waiting reading) refl
+  -- there is room for the point of each master
+  pub has_room : IfSome (open_at s.collector.waiting reading)
+      (λ c. IsTrue (has_point_of c (master_of members.0)) ⊎ (length c.points < 8))
+  has_room = room_by (open_at s.collector.waiting reading) refl
 
 -- ---- each collection to come is later than the point less the window
 
 later_by : (point reading at em prec ow : ℤ) → at ≡ em → ow ≡ prec → point ≤ℤ reading → reading <ℤ (em +ℤ prec) → (point -ℤ ow) <ℤ at
 later_by point reading at em prec ow a b c d = omega (arith, ints, a, b, c, d)
 
-pub all_later : (s : Switch) (network : Network) (device : DeviceId) (node : Node) (moment : Moment) (phase : Phase) (point : Units)
-    → StandsAs s network device node → MayCall network device node moment phase → point.0 ≤ℤ moment.reading.0
-    → All (λ at. (point.0 -ℤ s.collector.ow) <ℤ at) (emissions s.collector)
-all_later s network device node moment phase point st may reached = λ k d lt.
+pub all_later : {s : Switch} {network : Network} {device : DeviceId} {node : Node} {moment : Moment} {phase : Phase}
+    (point : Units) → StandsAs s network device node → MayCall network device node moment phase
+    → point.0 ≤ℤ moment.reading.0 → All (λ at. (point.0 -ℤ s.collector.ow) <ℤ at) (emissions s.collector)
+all_later {s} {network} {device} {node} {moment} point st may reached = λ k d lt.
     let at = get_or (emissions s.collector) k d in
     let of = in_map (emission s.collector.ow s.collector.calc) s.collector.waiting at (All-contains_itself (emissions s.collector) k d lt) in
     let h = may.in_time (emitting (compressed s.collector.ow s.collector.calc of.0)) (emission_pending s network device node of.0 st of.1) in

@@ -11,58 +11,65 @@ use Rattle.switch_ports.specs.Due.{least_of}
 
 -- ---- collections
 
-pub window_is : (s : Switch) (network : Network) (device : DeviceId) (node : Node) → StandsAs s network device node
-    → s.collector.ow ≡ observation_window network
-window_is s network device node st = st.collects.window ∙ its_amount _ _ network.precision st.accepted.range.precision
+module _ {s : Switch} {network : Network} {device : DeviceId} {node : Node}
+    (st : StandsAs s network device node) where
+  pub window_is : s.collector.ow ≡ observation_window network
+  window_is = st.collects.window ∙ its_amount _ _ network.precision st.accepted.range.precision
 
-calc_is : (s : Switch) (network : Network) (device : DeviceId) (node : Node) → StandsAs s network device node → s.collector.calc ≡ pos (amount network.calc)
-calc_is s network device node st = st.collects.calc ∙ its_amount _ _ network.calc st.accepted.range.calc
+  calc_is : s.collector.calc ≡ pos (amount network.calc)
+  calc_is = st.collects.calc ∙ its_amount _ _ network.calc st.accepted.range.calc
 
 from_one : (x : ℤ) → pos 1 ≤ℤ x → pos 0 ≤ℤ x
 from_one x h = omega (arith, ints, h)
 
-pub some_window : (s : Switch) (network : Network) (device : DeviceId) (node : Node) → StandsAs s network device node → pos 0 ≤ℤ s.collector.ow
-some_window s network device node st = subst (λ (z : ℤ). pos 0 ≤ℤ z) (sym st.collects.window) (from_one _ st.accepted.range.precision.least)
+module _ (s : Switch) (network : Network) (device : DeviceId) (node : Node) where
+  pub some_window : StandsAs s network device node → pos 0 ≤ℤ s.collector.ow
+  some_window st = subst (λ z. pos 0 ≤ℤ z) (sym st.collects.window) (from_one _ st.accepted.range.precision.least)
 
-pub is_master_of : (s : Switch) (network : Network) (device : DeviceId) (node : Node) (c : Cluster) → StandsAs s network device node
-    → Contains s.collector.waiting c → is_cm network device ≡ true
-is_master_of s network device node c st at = elim (cases_Bool (is_cm network device)) [
-  | inl y ↦ y
-  | inr n ↦ absurd (no_cluster s.collector.ow node.points (st.collects.collected.done ++ s.collector.waiting) c (st.collects.idle n)
-      st.collects.collected.clusters (Contains-append_right st.collects.collected.done s.collector.waiting c at))
-]
+  pub is_master_of : (c : Cluster) → StandsAs s network device node → Contains s.collector.waiting c
+      → is_cm network device ≡ true
+  is_master_of c st at = elim (cases_Bool (is_cm network device)) [
+    | inl y ↦ y
+    | inr n ↦ absurd (no_cluster s.collector.ow node.points (st.collects.collected.done ++ s.collector.waiting) c
+        (st.collects.idle n)
+        st.collects.collected.clusters (Contains-append_right st.collects.collected.done s.collector.waiting c at))
+  ]
 
--- a collection that waits is a task
-pub emission_pending : (s : Switch) (network : Network) (device : DeviceId) (node : Node) (c : Cluster) → StandsAs s network device node
-    → Contains s.collector.waiting c → IsPending network device node (emitting (compressed s.collector.ow s.collector.calc c))
-emission_pending s network device node c st at =
-    let held = st.collects.collected in (
-      st.sound,
-      record {
-        cm = is_master_of s network device node c st at;
-        clusters = held.done ++ s.collector.waiting;
-        are = subst (λ (w : ℤ). AreClusters w node.points (held.done ++ s.collector.waiting)) (window_is s network device node st) held.clusters;
-        cluster = c;
-        there = Contains-append_right held.done s.collector.waiting c at;
-        is =
-            ap (λ (w : ℤ). compressed w s.collector.calc c) (window_is s network device node st) ∙ ap (λ (k : ℤ). compressed (observation_window network) k c)
-            (calc_is s network device node st);
-        not_yet = unsent s.collector node.points node.emitted c (some_window s network device node st) held at;
-      },
-    )
+  -- a collection that waits is a task
+  pub emission_pending : (c : Cluster) → StandsAs s network device node → Contains s.collector.waiting c
+      → IsPending network device node (emitting (compressed s.collector.ow s.collector.calc c))
+  emission_pending c st at =
+      let held = st.collects.collected in (
+        st.sound,
+        record {
+          cm = is_master_of c st at;
+          clusters = held.done ++ s.collector.waiting;
+          are = subst (λ w. AreClusters w node.points (held.done ++ s.collector.waiting)) (window_is st)
+              held.clusters;
+          cluster = c;
+          there = Contains-append_right held.done s.collector.waiting c at;
+          is =
+              ap (λ w. compressed w s.collector.calc c) (window_is st) ∙ ap
+              (λ k. compressed (observation_window network) k c)
+              (calc_is st);
+          not_yet = unsent c (some_window st) held at;
+        },
+      )
 
--- and each emission to come is one of them
-pub pending_emission : (s : Switch) (network : Network) (device : DeviceId) (node : Node) (sent : Compressed) → StandsAs s network device node
-    → IsPending network device node (emitting sent) → (c : Cluster) × Contains s.collector.waiting c × (sent ≡ compressed s.collector.ow s.collector.calc c)
-pending_emission s network device node sent st p =
-    let w = p.1 in
-    let is : sent ≡ compressed s.collector.ow s.collector.calc w.cluster =
-    w.is ∙ sym (ap (λ (x : ℤ). compressed x s.collector.calc w.cluster) (window_is s network device node st)
-    ∙ ap (λ (k : ℤ). compressed (observation_window network) k w.cluster) (calc_is s network device node st)) in
-    let are = subst (λ (x : ℤ). AreClusters x node.points w.clusters) (sym (window_is s network device node st)) w.are in
-    let not_yet = λ (at : Contains node.emitted (compressed s.collector.ow s.collector.calc w.cluster)). w.not_yet (subst (Contains node.emitted) (sym is) at)
-    in
-    (w.cluster, waits s.collector node.points node.emitted w.clusters w.cluster st.collects.collected are w.there not_yet, is)
+  -- and each emission to come is one of them
+  pub pending_emission : (sent : Compressed) → StandsAs s network device node
+      → IsPending network device node (emitting sent) → (c : Cluster) × Contains s.collector.waiting c
+      × (sent ≡ compressed s.collector.ow s.collector.calc c)
+  pending_emission sent st p =
+      let w = p.1 in
+      let is : sent ≡ compressed s.collector.ow s.collector.calc w.cluster =
+      w.is ∙ sym (ap (λ x. compressed x s.collector.calc w.cluster) (window_is st)
+      ∙ ap (λ k. compressed (observation_window network) k w.cluster) (calc_is st)) in
+      let are = subst (λ x. AreClusters x node.points w.clusters) (sym (window_is st)) w.are in
+      let not_yet = λ (at : Contains node.emitted (compressed s.collector.ow s.collector.calc w.cluster)). w.not_yet
+      (subst (Contains node.emitted) (sym is) at)
+      in
+      (w.cluster, waits w.clusters w.cluster st.collects.collected are w.there not_yet, is)
 
 -- ---- the correction
 
@@ -84,11 +91,11 @@ due_with : (f : ℕ → Option Units) (next : Option ℕ) (at : Units) → optio
 due_with f None at e = absurd cc
 due_with f (Some cycle) at e = (cycle, refl, e)
 
-pub correction_pending : (s : Switch) (network : Network) (device : DeviceId) (node : Node) (at : Units) → StandsAs s network device node
-    → s.corrects_at ≡ Some at
-    → (cycle : ℕ) × IsPending network device node (doing (correcting cycle)) × (reading_for network node (doing (correcting cycle)) ≡ at.0)
-    × (next_point node.standing ≡ Some cycle)
-correction_pending s network device node at st e =
+pub correction_pending : {s : Switch} {network : Network} {device : DeviceId} {node : Node} (at : Units)
+    → StandsAs s network device node → s.corrects_at ≡ Some at
+    → (cycle : ℕ) × IsPending network device node (doing (correcting cycle))
+    × (reading_for network node (doing (correcting cycle)) ≡ at.0) × (next_point node.standing ≡ Some cycle)
+correction_pending {network} {node} at st e =
     let d = due_with (λ (cycle : ℕ). reading_of (correction_value network cycle) node.standing.adjustment.0 node.changed) (next_point node.standing) at
     (sym st.corrects ∙ e) in
     let by = correction_by (correction_value network d.0) node.standing.adjustment.0 node.changed at d.2 in (
@@ -98,10 +105,11 @@ correction_pending s network device node at st e =
       d.1,
     )
 
-pub pending_correction : (s : Switch) (network : Network) (device : DeviceId) (node : Node) (cycle : ℕ) → StandsAs s network device node
-    → IsPending network device node (doing (correcting cycle))
-    → (next_point node.standing ≡ Some cycle) × (s.corrects_at ≡ Some (record { 0 = correction_value network cycle -ℤ node.standing.adjustment.0 }))
-pending_correction s network device node cycle st p = (
+pub pending_correction : {s : Switch} {network : Network} {device : DeviceId} {node : Node} (cycle : ℕ)
+    → StandsAs s network device node → IsPending network device node (doing (correcting cycle))
+    → (next_point node.standing ≡ Some cycle) × (s.corrects_at
+    ≡ Some (record { 0 = correction_value network cycle -ℤ node.standing.adjustment.0 }))
+pending_correction {network} {node} cycle st p = (
   p.1.own,
   st.corrects ∙ ap (option_and_then (λ (cycle : ℕ). reading_of (correction_value network cycle) node.standing.adjustment.0 node.changed)) p.1.own
       ∙ due_by (correction_value network cycle) node.standing.adjustment.0 node.changed p.1.ahead,
@@ -126,18 +134,20 @@ IsCorrection network device node other = ⊥
 abbrev pub IsClocked : Switch → Network → DeviceId → Node → Task → Type 0
 IsClocked s network device node task = IsCorrection network device node task ⊎ IsDispatch s network node task
 
-pub kind_of : (s : Switch) (network : Network) (device : DeviceId) (node : Node) (task : Task) → StandsAs s network device node
-    → IsPending network device node task → IsEmission s task ⊎ IsClocked s network device node task
-kind_of s network device node (emitting sent) st p = inl (pending_emission s network device node sent st p)
-kind_of s network device node (doing (correcting cycle)) st p = inr (inl p)
-kind_of s network device node (doing (sending cycle)) st p = absurd (both_ways _ st.site.not_master p.1.own.0)
-kind_of s network device node (doing (dispatching row cycle)) st p = inr (inr (pending_dispatch s network device node row cycle st p))
+module _ (s : Switch) (network : Network) (device : DeviceId) (node : Node) where
+  pub kind_of : (task : Task) → StandsAs s network device node → IsPending network device node task
+      → IsEmission s task ⊎ IsClocked s network device node task
+  kind_of (emitting sent) st p = inl (pending_emission s network device node sent st p)
+  kind_of (doing (correcting cycle)) st p = inr (inl p)
+  kind_of (doing (sending cycle)) st p = absurd (both_ways _ st.site.not_master p.1.own.0)
+  kind_of (doing (dispatching row cycle)) st p = inr (inr (pending_dispatch s network device node row cycle st p))
 
-pub emission_is : (s : Switch) (network : Network) (device : DeviceId) (node : Node) (task : Task) → StandsAs s network device node → IsEmission s task
-    → IsPending network device node task
-emission_is s network device node (emitting sent) st (c, at, is) =
-    subst (λ (e : Compressed). IsPending network device node (emitting e)) (sym is) (emission_pending s network device node c st at)
-emission_is s network device node (doing deed) st none = absurd none
+  pub emission_is : (task : Task) → StandsAs s network device node → IsEmission s task
+      → IsPending network device node task
+  emission_is (emitting sent) st (c, at, is) =
+      subst (λ (e : Compressed). IsPending network device node (emitting e)) (sym is)
+      (emission_pending s network device node c st at)
+  emission_is (doing deed) st none = absurd none
 
 correction_is : (network : Network) (device : DeviceId) (node : Node) (task : Task) → IsCorrection network device node task → IsPending network device node task
 correction_is network device node (doing (correcting cycle)) p = p
@@ -154,43 +164,46 @@ no_emission : (s : Switch) (task : Task) → s.collector.waiting ≡ [] → IsEm
 no_emission s (emitting sent) none (c, at, is) = in_none c (subst (λ (cs : List Cluster). Contains cs c) none at)
 no_emission s (doing deed) none h = h
 
-emission_bound : (s : Switch) (network : Network) (node : Node) (task : Task) (at : Units) → IsLeast at.0 (emissions s.collector) → IsEmission s task
-    → at.0 ≤ℤ reading_for network node task
-emission_bound s network node (doing deed) at least h = absurd h
-emission_bound s network node (emitting sent) at least (c, there, is) =
-    subst (λ (e : Compressed). at.0 ≤ℤ e.at.0) (sym is) (All-contains (λ x. at.0 ≤ℤ x) (emissions s.collector) (emission s.collector.ow s.collector.calc c)
-    least.bound (emission_at s c there))
+module _ (s : Switch) (network : Network) where
+  emission_bound : (node : Node) (task : Task) (at : Units) → IsLeast at.0 (emissions s.collector)
+      → IsEmission s task → at.0 ≤ℤ reading_for network node task
+  emission_bound node (doing deed) at least h = absurd h
+  emission_bound node (emitting sent) at least (c, there, is) =
+      subst (λ (e : Compressed). at.0 ≤ℤ e.at.0) (sym is)
+      (All-contains (λ x. at.0 ≤ℤ x) (emissions s.collector) (emission s.collector.ow s.collector.calc c)
+      least.bound (emission_at s c there))
 
-pub no_correction : (s : Switch) (network : Network) (device : DeviceId) (node : Node) (task : Task) → StandsAs s network device node → s.corrects_at ≡ None
-    → IsCorrection network device node task → ⊥
-no_correction s network device node (doing (correcting cycle)) st e p = let f = sym e ∙ (pending_correction s network device node cycle st p).1 in cc
-no_correction s network device node (emitting sent) st e p = p
-no_correction s network device node (doing (sending cycle)) st e p = p
-no_correction s network device node (doing (dispatching row cycle)) st e p = p
+  pub no_correction : {device : DeviceId} {node : Node} (task : Task) → StandsAs s network device node
+      → s.corrects_at ≡ None → IsCorrection network device node task → ⊥
+  no_correction (doing (correcting cycle)) st e p = let f = sym e ∙ (pending_correction cycle st p).1 in cc
+  no_correction (emitting sent) st e p = p
+  no_correction (doing (sending cycle)) st e p = p
+  no_correction (doing (dispatching row cycle)) st e p = p
 
-pub correction_bound : (s : Switch) (network : Network) (device : DeviceId) (node : Node) (task : Task) (at : Units) → StandsAs s network device node
-    → s.corrects_at ≡ Some at → IsCorrection network device node task → at.0 ≤ℤ reading_for network node task
-correction_bound s network device node (doing (correcting cycle)) at st e p =
-    let same = number_of at _ (sym e ∙ (pending_correction s network device node cycle st p).1) in omega (arith, ints, same)
-correction_bound s network device node (emitting sent) at st e p = absurd p
-correction_bound s network device node (doing (sending cycle)) at st e p = absurd p
-correction_bound s network device node (doing (dispatching row cycle)) at st e p = absurd p
+  pub correction_bound : {device : DeviceId} {node : Node} (task : Task) (at : Units)
+      → StandsAs s network device node → s.corrects_at ≡ Some at → IsCorrection network device node task
+      → at.0 ≤ℤ reading_for network node task
+  correction_bound (doing (correcting cycle)) at st e p =
+      let same = number_of at _ (sym e ∙ (pending_correction cycle st p).1) in omega (arith, ints, same)
+  correction_bound (emitting sent) at st e p = absurd p
+  correction_bound (doing (sending cycle)) at st e p = absurd p
+  correction_bound (doing (dispatching row cycle)) at st e p = absurd p
 
-least_emission : (s : Switch) (network : Network) (node : Node) (o : Option Units) → (IsNone o ↔ (s.collector.waiting ≡ []))
-    → IfSome o (λ at. IsLeast at.0 (emissions s.collector)) → IsLeastOf (IsEmission s) (reading_for network node) o
-least_emission s network node None none least = λ task is. no_emission s task (none.0 refl) is
-least_emission s network node (Some at) none least =
-    let of = in_map (emission s.collector.ow s.collector.calc) s.collector.waiting at.0 least.there in (
-      (emitting (compressed s.collector.ow s.collector.calc of.0), (of.0, of.1, refl), sym of.2),
-      λ task is. emission_bound s network node task at least is,
-    )
+  least_emission : (node : Node) (o : Option Units) → (IsNone o ↔ (s.collector.waiting ≡ []))
+      → IfSome o (λ at. IsLeast at.0 (emissions s.collector)) → IsLeastOf (IsEmission s) (reading_for network node) o
+  least_emission node None none least = λ task is. no_emission s task (none.0 refl) is
+  least_emission node (Some at) none least =
+      let of = in_map (emission s.collector.ow s.collector.calc) s.collector.waiting at.0 least.there in (
+        (emitting (compressed s.collector.ow s.collector.calc of.0), (of.0, of.1, refl), sym of.2),
+        λ task is. emission_bound node task at least is,
+      )
 
-least_correction : (s : Switch) (network : Network) (device : DeviceId) (node : Node) (o : Option Units) → StandsAs s network device node → s.corrects_at ≡ o
-    → IsLeastOf (IsCorrection network device node) (reading_for network node) o
-least_correction s network device node None st e = λ task is. no_correction s network device node task st e is
-least_correction s network device node (Some at) st e =
-    let p = correction_pending s network device node at st e in
-    ((doing (correcting p.0), p.1, p.2), λ task is. correction_bound s network device node task at st e is)
+  least_correction : {device : DeviceId} {node : Node} (o : Option Units) → StandsAs s network device node
+      → s.corrects_at ≡ o → IsLeastOf (IsCorrection network device node) (reading_for network node) o
+  least_correction None st e = λ task is. no_correction task st e is
+  least_correction {device} {node} (Some at) st e =
+      let p = correction_pending {s = s} {network = network} {device = device} {node = node} at st e in
+      ((doing (correcting p.0), p.1, p.2), λ task is. correction_bound {device = device} {node = node} task at st e is)
 
 join_least : (Is A B : Task → Type 0) (reading : Task → ℤ) (a b : Option Units) → ((task : Task) → Is task → A task ⊎ B task)
     → ((task : Task) → A task → Is task) → ((task : Task) → B task → Is task)
@@ -216,29 +229,32 @@ is_least : (network : Network) (device : DeviceId) (node : Node) (o : Option Uni
 is_least network device node None h = h
 is_least network device node (Some at) h = h
 
-clocked_is : (s : Switch) (network : Network) (device : DeviceId) (node : Node) (task : Task) → StandsAs s network device node
-    → IsClocked s network device node task → IsPending network device node task
-clocked_is s network device node task st (inl p) = correction_is network device node task p
-clocked_is s network device node task st (inr p) = dispatch_is s network device node task st p
+module _ (s : Switch) (network : Network) (device : DeviceId) (node : Node) where
+  clocked_is : (task : Task) → StandsAs s network device node → IsClocked s network device node task
+      → IsPending network device node task
+  clocked_is task st (inl p) = correction_is network device node task p
+  clocked_is task st (inr p) = dispatch_is s network device node task st p
 
-least_dispatch : (s : Switch) (network : Network) (device : DeviceId) (node : Node) (o : Option Dispatch) → StandsAs s network device node
-    → s.departures.next ≡ o → IsLeastOf (IsDispatch s network node) (reading_for network node) (option_map (λ next. next.at) o)
-least_dispatch s network device node None st e = λ task is. no_dispatch s network device node task st e is
-least_dispatch s network device node (Some next) st e =
-    let n = next_is s network device node next st e in
-    ((doing (dispatching next.row next.cycle), n.0, n.1), λ task is. dispatch_bound s network device node next task st e is)
+  least_dispatch : (o : Option Dispatch) → StandsAs s network device node → s.departures.next ≡ o
+      → IsLeastOf (IsDispatch s network node) (reading_for network node) (option_map (λ next. next.at) o)
+  least_dispatch None st e = λ task is. no_dispatch task st e is
+  least_dispatch (Some next) st e =
+      let n = next_is s network device node next st e in
+      ((doing (dispatching next.row next.cycle), n.0, n.1), λ task is. dispatch_bound next task st e is)
 
--- the least of what the collector, the correction and the rows wait for is due
-pub is_due : (s : Switch) (network : Network) (device : DeviceId) (node : Node) (o : Option Units) → StandsAs s network device node
-    → (IsNone o ↔ (s.collector.waiting ≡ [])) → IfSome o (λ at. IsLeast at.0 (emissions s.collector))
-    → IsDueReading network device node (least_of o (least_of s.corrects_at (option_map (λ next. next.at) s.departures.next)))
-is_due s network device node o st none least =
-    let dispatches = option_map (λ (next : Dispatch). next.at) s.departures.next in
-    is_least network device node (least_of o (least_of s.corrects_at dispatches))
-    (join_least (IsPending network device node) (IsEmission s) (IsClocked s network device node) (reading_for network node) o
-    (least_of s.corrects_at dispatches)
-    (λ task p. kind_of s network device node task st p) (λ task p. emission_is s network device node task st p)
-    (λ task p. clocked_is s network device node task st p) (least_emission s network node o none least)
-    (join_least (IsClocked s network device node) (IsCorrection network device node) (IsDispatch s network node) (reading_for network node) s.corrects_at
-    dispatches (λ task p. p) (λ task p. inl p) (λ task p. inr p) (least_correction s network device node s.corrects_at st refl)
-    (least_dispatch s network device node s.departures.next st refl)))
+  -- the least of what the collector, the correction and the rows wait for is due
+  pub is_due : (o : Option Units) → StandsAs s network device node → (IsNone o ↔ (s.collector.waiting ≡ []))
+      → IfSome o (λ at. IsLeast at.0 (emissions s.collector)) → IsDueReading network device node
+      (least_of o (least_of s.corrects_at (option_map (λ next. next.at) s.departures.next)))
+  is_due o st none least =
+      let dispatches = option_map (λ (next : Dispatch). next.at) s.departures.next in
+      is_least network device node (least_of o (least_of s.corrects_at dispatches))
+      (join_least (IsPending network device node) (IsEmission s) (IsClocked s network device node)
+      (reading_for network node) o
+      (least_of s.corrects_at dispatches)
+      (λ task p. kind_of s network device node task st p) (λ task p. emission_is s network device node task st p)
+      (λ task p. clocked_is task st p) (least_emission s network node o none least)
+      (join_least (IsClocked s network device node) (IsCorrection network device node) (IsDispatch s network node)
+      (reading_for network node) s.corrects_at
+      dispatches (λ task p. p) (λ task p. inl p) (λ task p. inr p) (least_correction s network s.corrects_at st refl)
+      (least_dispatch s.departures.next st refl)))

@@ -9,8 +9,8 @@ small_offset : (b : Bool) (d p q : ℕ) → d ≤ 2 ^ 40 → p ≤ 2 ^ 40 → q 
 small_offset true d p q a b c = omega (arith, a, b, c)
 small_offset false d p q a b c = omega (arith, a, b, c)
 
-pub expected_most : (network : Network) (device : DeviceId) → IsInRange network → expected_by network device ≤ 2 ^ 43
-expected_most network device range =
+pub expected_most : {network : Network} (device : DeviceId) → IsInRange network → expected_by network device ≤ 2 ^ 43
+expected_most {network} device range =
     small_offset (is_cm network device) (amount network.dmax) (amount network.precision) (amount network.calc) (amount_most _ _ network.dmax range.dmax)
     (amount_most _ _ network.precision range.precision) (amount_most _ _ network.calc range.calc)
 
@@ -23,14 +23,16 @@ wires_in_range network device links all =
     All-map (λ (port : Port). IsWithin 0 (2 ^ 40) port.wire) (port_of network device) links
     (λ k d lt. let l = all k d lt in record { least = zero_least 1 (2 ^ 40) _ l.wire.least; most = l.wire.most })
 
-pub site_in_range : (network : Network) (device : DeviceId) (site : Site) → IsInRange network → IsSiteOf network device site → IsSiteInRange site
-site_in_range network device site range is = record {
+pub site_in_range : {network : Network} {device : DeviceId} {site : Site} → IsInRange network
+    → IsSiteOf network device site → IsSiteInRange site
+site_in_range {network} {device} range is = record {
   cycle = subst (λ (p : SyncPlan). IsWithin (2 ^ 32) (2 ^ 40) p.cycle_length) (sym is.plan) range.cycle;
   dmax = subst (IsWithin 1 (2 ^ 40)) (sym is.dmax) range.dmax;
   precision = subst (IsWithin 1 (2 ^ 40)) (sym is.precision) range.precision;
   correction = subst (IsWithin 0 (2 ^ 40)) (sym is.correction) range.correction;
   calc = subst (IsWithin 1 (2 ^ 40)) (sym is.calc) range.calc;
-  expected = subst (λ (p : SyncPlan). IsWithin 0 (2 ^ 43) p.expected) (sym is.plan) (within_43 _ (expected_most network device range));
+  expected = subst (λ (p : SyncPlan). IsWithin 0 (2 ^ 43) p.expected) (sym is.plan)
+      (within_43 _ (expected_most device range));
   wires = subst (All (λ (port : Port). IsWithin 0 (2 ^ 40) port.wire)) (sym is.ports) (wires_in_range network device network.link range.links);
 }
 
@@ -38,6 +40,6 @@ less : (x y : ℤ) (m n : ℕ) → x ≡ pos m → y ≡ pos n → m ≤ n → x
 less x y m n a b h = omega (arith, ints, a, b, h)
 
 -- a compression takes a precision at most
-pub calc_short : (network : Network) → IsInRange network → KeepsRules network → network.calc.0 ≤ℤ network.precision.0
-calc_short network range keeps =
+pub calc_short : {network : Network} → IsInRange network → KeepsRules network → network.calc.0 ≤ℤ network.precision.0
+calc_short {network} range keeps =
     less _ _ _ _ (its_amount _ _ network.calc range.calc) (its_amount _ _ network.precision range.precision) (keeps rules.Precision 0).calc

@@ -21,8 +21,9 @@ end_there : (o : Option Device) (d : Device) → o ≡ Some d → is_master d.ro
 end_there o d e m = subst (λ (p : Option Device). IsSomeAnd p (λ x. is_end_system x.role ≡ true)) (sym e) (master_ends d.role m)
 
 -- an accepted network has a link
-pub some_link : (network : Network) → IsAccepted network → (link : LinkId) × (l : Link) × (link_at network link ≡ Some l)
-some_link network accepted =
+pub some_link : {network : Network} → IsAccepted network
+    → (link : LinkId) × (l : Link) × (link_at network link ≡ Some l)
+some_link {network} accepted =
     let d = head_there (masters network) (one_of_four _ ((accepted.rules rules.Masters 0).least refl)) in
     let at = in_filter (λ (x : Device). is_master x.role) network.device d.0 d.1 in
     let there : slice_get network.device at.0.0 ≡ Some d.0 = slice_get-get_or network.device at.0.0 d.0 at.0.1 ∙ ap Some at.0.2 in
@@ -44,10 +45,11 @@ from_units x n h e = omega (arith, ints, h, e)
 in_cycle : (k d p t s r : ℕ) → k + d + 4 * p + t ≤ s → s + 4 * p ≤ r → k ≤ r
 in_cycle k d p t s r a b = omega (arith, a, b)
 
-pub room : (network : Network) (device : DeviceId) → IsAccepted network → HasRoom (amount network.cycle) (expected_by network device)
-    (amount network.correction) (amount network.precision)
-room network device accepted =
-    let found = some_link network accepted in
+pub room : {network : Network} (device : DeviceId) → IsAccepted network
+    → HasRoom (amount network.cycle) (expected_by network device) (amount network.correction)
+    (amount network.precision)
+room {network} device accepted =
+    let found = some_link accepted in
     let schedule = accepted.rules rules.ScheduleStart 0 in
     let begins = in_all (λ (k : Link). amount network.correction + amount network.dmax + 4 * amount network.precision + pcf_port_time k ≤ amount
     network.tt_start) network.link found.0.0 found.1 schedule.begins found.2 in
@@ -64,7 +66,7 @@ expected_by_parts : (n r e : ℕ) (R : ℤ) → R ≡ pos r → ((pos n *ℤ R) 
 expected_by_parts n r e R is = rw is (omega (arith, ints))
 
 -- when the frame of a cycle is expected, in natural numbers
-pub expected_is : (network : Network) (device : DeviceId) (n : ℕ) → IsAccepted network
+pub expected_is : {network : Network} (device : DeviceId) (n : ℕ) → IsAccepted network
     → expected_at (plan_of network device) n ≡ (pos (n * amount network.cycle) +ℤ pos (expected_by network device))
-expected_is network device n accepted =
+expected_is {network} device n accepted =
     expected_by_parts n (amount network.cycle) (expected_by network device) network.cycle.0 (its_amount _ _ network.cycle accepted.range.cycle)

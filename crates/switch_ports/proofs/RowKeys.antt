@@ -18,21 +18,23 @@ awaited_fit changed (Some held) fit = elim (cases_Bool (int_lt changed held.valu
 held_fit : (length : ℕ) (of : LeavingRow) (cycle : ℕ) (at : ℤ) → cycle * length ≤ 2 ^ 62 → of.offset ≤ 2 ^ 40 → IfSome (held_by length of cycle at) IsHeldFit
 held_fit length of cycle at a b = grind (arith, cases_Bool, int_lt, length, ints)
 
-fit_with : (changed : ℤ) (o : Option Held) (d : Departure) → IfSome o IsHeldFit → IsFit d → IsFit (with_held changed o d)
-fit_with changed o d held fit = grind (arith, awaited_fit)
+fit_with : (changed : ℤ) (o : Option Held) {d : Departure} → IfSome o IsHeldFit → IsFit d
+    → IsFit (with_held changed o d)
+fit_with changed o held fit = grind (arith, awaited_fit)
 
-pub fit_taken : (length cycle : ℕ) (changed at : ℤ) (d : Departure) (b : Bool) → cycle * length ≤ 2 ^ 62 → IsFit d
+pub fit_taken : (length cycle : ℕ) (changed at : ℤ) {d : Departure} (b : Bool) → cycle * length ≤ 2 ^ 62 → IsFit d
     → IsFit (if b then with_held changed (held_by length d.of cycle at) d else d)
-fit_taken length cycle changed at d true fits fit = fit_with changed (held_by length d.of cycle at) d (held_fit length d.of cycle at fits fit.offset) fit
-fit_taken length cycle changed at d false fits fit = fit
+fit_taken length cycle changed at {d} true fits fit =
+    fit_with changed (held_by length d.of cycle at) (held_fit length d.of cycle at fits fit.offset) fit
+fit_taken length cycle changed at false fits fit = fit
 
-pub fit_reopened : (changed : ℤ) (d : Departure) → IsFit d → IsFit (reopened changed d)
-fit_reopened changed d fit = fit_with changed d.held d fit.held fit
+pub fit_reopened : (changed : ℤ) {d : Departure} → IsFit d → IsFit (reopened changed d)
+fit_reopened changed {d} fit = fit_with changed d.held fit.held fit
 
-pub fit_closed : (d : Departure) (b : Bool) → IsFit d → IsFit (if b then record d { awaited = None } else d)
-fit_closed d true fit =
+pub fit_closed : {d : Departure} (b : Bool) → IsFit d → IsFit (if b then record d { awaited = None } else d)
+fit_closed true fit =
     record { offset = fit.offset; period = fit.period; link = fit.link; place = fit.place; held = fit.held; awaited = tt }
-fit_closed d false fit = fit
+fit_closed false fit = fit
 
 pub of_taken : (length cycle : ℕ) (changed at : ℤ) (d : Departure) (b : Bool) → (if b then with_held changed (held_by length d.of cycle at) d else d).of ≡ d.of
 of_taken length cycle changed at d true = refl
@@ -43,12 +45,12 @@ of_closed d true = refl
 of_closed d false = refl
 
 -- rows that are changed one by one stay ready
-pub ready_changed : (f : Departure → Departure) (old new : Departures) → Changes f old new → ((d : Departure) → (f d).of ≡ d.of)
-    → ((d : Departure) → IsFit d → IsFit (f d)) → IsReady old → IsReady new
-ready_changed f old new changes of fit ready = record {
-  fit = all_each IsFit IsFit f old.rows.items new.rows.items changes.rows fit ready.fit;
+pub ready_changed : {f : Departure → Departure} {old new : Departures} → Changes f old new
+    → ((d : Departure) → (f d).of ≡ d.of) → ((d : Departure) → IsFit d → IsFit (f d)) → IsReady old → IsReady new
+ready_changed {new} changes of fit ready = record {
+  fit = all_each IsFit IsFit changes.rows fit ready.fit;
   chained = subst (λ (v : Vec (Option ℕ) Global). AreChained new.rows.items v.items) (sym changes.lasts)
-      (chained_each f old.rows.items new.rows.items old.lasts.items changes.rows of ready.chained);
+      (chained_each changes.rows of ready.chained);
   keys = changes.keys;
 }
 
@@ -57,105 +59,123 @@ ready_changed f old new changes of fit ready = record {
 no_departure : Departure
 no_departure = grind arith
 
--- a dispatch of no lesser key does not come before the other
-not_before : (adjustment : ℤ) (a b : LeavingRow) (x y : Held) → IsHeldFit x → IsHeldFit y → a.link.0 < 2 ^ 32 → a.place < 2 ^ 32 → b.link.0 < 2 ^ 32
-    → b.place < 2 ^ 32 → (b.row.0 < a.row.0 → b.place < a.place) → key_at a x ≤ key_at b y → Precedes (dispatch_at adjustment b y) (dispatch_at adjustment a x)
-    → ⊥
-not_before adjustment a b x y fx fy la pa lb pb rise le (inl lt) =
-    let ex = its_amount 0 _ x.value fx in let ey = its_amount 0 _ y.value fy in omega (arith, ints, la, pa, lb, pb, le, lt, ex, ey)
-not_before adjustment a b x y fx fy la pa lb pb rise le (inr (e, inl lt)) =
-    let ex = its_amount 0 _ x.value fx in let ey = its_amount 0 _ y.value fy in omega (arith, ints, la, pa, lb, pb, le, lt, e, ex, ey)
-not_before adjustment a b x y fx fy la pa lb pb rise le (inr (e, inr (same, lt))) =
-    let ex = its_amount 0 _ x.value fx in let ey = its_amount 0 _ y.value fy in
-    let less = rise lt in omega (arith, ints, la, pa, lb, pb, le, same, less, e, ex, ey)
+module _ (adjustment : ℤ) where
+  -- a dispatch of no lesser key does not come before the other
+  not_before : (a b : LeavingRow) (x y : Held) → IsHeldFit x → IsHeldFit y → a.link.0 < 2 ^ 32 → a.place < 2 ^ 32
+      → b.link.0 < 2 ^ 32 → b.place < 2 ^ 32 → (b.row.0 < a.row.0 → b.place < a.place) → key_at a x ≤ key_at b y
+      → Precedes (dispatch_at adjustment b y) (dispatch_at adjustment a x) → ⊥
+  not_before a b x y fx fy la pa lb pb rise le (inl lt) =
+      let ex = its_amount 0 _ x.value fx in let ey = its_amount 0 _ y.value fy in
+      omega (arith, ints, la, pa, lb, pb, le, lt, ex, ey)
+  not_before a b x y fx fy la pa lb pb rise le (inr (e, inl lt)) =
+      let ex = its_amount 0 _ x.value fx in let ey = its_amount 0 _ y.value fy in
+      omega (arith, ints, la, pa, lb, pb, le, lt, e, ex, ey)
+  not_before a b x y fx fy la pa lb pb rise le (inr (e, inr (same, lt))) =
+      let ex = its_amount 0 _ x.value fx in let ey = its_amount 0 _ y.value fy in
+      let less = rise lt in omega (arith, ints, la, pa, lb, pb, le, same, less, e, ex, ey)
 
--- a row whose key is that of none awaits none
-none_awaited : (adjustment : ℤ) (of : LeavingRow) (o : Option Held) → IfSome o IsHeldFit → of.link.0 < 2 ^ 32 → of.place < 2 ^ 32
-    → no_key ≤ option_map_or (key_at of) o no_key → option_map (dispatch_at adjustment of) o ≡ None
-none_awaited adjustment of None fit link place le = refl
-none_awaited adjustment of (Some held) fit link place le =
-    let most = amount_most 0 _ held.value fit in absurd (omega (arith, link, place, le, most))
+  -- a row whose key is that of none awaits none
+  none_awaited : (of : LeavingRow) (o : Option Held) → IfSome o IsHeldFit → of.link.0 < 2 ^ 32 → of.place < 2 ^ 32
+      → no_key ≤ option_map_or (key_at of) o no_key → option_map (dispatch_at adjustment of) o ≡ None
+  none_awaited of None fit link place le = refl
+  none_awaited of (Some held) fit link place le =
+      let most = amount_most 0 _ held.value fit in absurd (omega (arith, link, place, le, most))
 
--- no row awaits one
-all_none : (adjustment : ℤ) (rows : List Departure) → All IsFit rows → All (λ key. no_key ≤ key) (map key_by rows)
-    → All (λ d. dispatch_by adjustment d ≡ None) rows
-all_none adjustment rows fit late k d lt =
-    let e = get_or rows k d in
-    let is = fit k d lt in
-    none_awaited adjustment e.of e.awaited is.awaited is.link is.place
-    (subst (λ key. no_key ≤ key) (get_or-map key_by rows k d 0 lt) (late k 0 (omega (arith, lt, length-map rows key_by))))
+  -- no row awaits one
+  all_none : (rows : List Departure) → All IsFit rows → All (λ key. no_key ≤ key) (map key_by rows)
+      → All (λ d. dispatch_by adjustment d ≡ None) rows
+  all_none rows fit late k d lt =
+      let e = get_or rows k d in
+      let is = fit k d lt in
+      none_awaited e.of e.awaited is.awaited is.link is.place
+      (subst (λ key. no_key ≤ key) (get_or-map key_by rows k d 0 lt)
+      (late k 0 (omega (arith, lt, length-map rows key_by))))
 
-first_none : (adjustment : ℤ) (rows : List Departure) (place : ℕ) (o : Option Departure) → All (λ d. dispatch_by adjustment d ≡ None) rows
-    → slice_get rows place ≡ o → IsFirstOf adjustment rows (option_and_then (dispatch_by adjustment) o)
-first_none adjustment rows place None none e = none
-first_none adjustment rows place (Some d) none e =
-    subst (IsFirstOf adjustment rows) (sym (in_all (λ d. dispatch_by adjustment d ≡ None) rows place d none e)) none
+  first_none : (rows : List Departure) (place : ℕ) (o : Option Departure)
+      → All (λ d. dispatch_by adjustment d ≡ None) rows → slice_get rows place ≡ o
+      → IsFirstOf adjustment rows (option_and_then (dispatch_by adjustment) o)
+  first_none rows place None none e = none
+  first_none rows place (Some d) none e =
+      subst (IsFirstOf adjustment rows) (sym (in_all (λ d. dispatch_by adjustment d ≡ None) rows place d none e)) none
 
--- the row of the least key dispatches first
-first_some : (adjustment : ℤ) (rows : List Departure) (lasts : List (Option ℕ)) (k : ℕ) (d : Departure) (held : Held) → All IsFit rows
-    → AreChained rows lasts → k < length rows → get_or rows k no_departure ≡ d → d.awaited ≡ Some held
-    → All (λ key. key_at d.of held ≤ key) (map key_by rows) → IsFirstOf adjustment rows (Some (dispatch_at adjustment d.of held))
-first_some adjustment rows lasts k d held fit chained lt at awaits least = (
-  (d, subst (Contains rows) at (Contains-get_or rows k no_departure lt), ap (option_map (dispatch_at adjustment d.of)) awaits),
-  λ j e inside. late (get_or rows j e) (get_or rows j e).awaited (fit j e inside) refl
-      (subst (λ key. key_at d.of held ≤ key) (get_or-map key_by rows j e 0 inside) (least j 0 (omega (arith, inside, length-map rows key_by))))
-      (λ below. elim (cases_Bool (nat_lt j k)) [
-        | inl y ↦
-            let less : j < k = grind (arith, y) in
-            omega (arith, less, chained.places j e inside, ap (λ (x : Departure). x.of.place) (sym at) ∙ chained.places k no_departure lt)
-        | inr n ↦ absurd (elim (cases_eq k j) [
-          | inl same ↦
-              let one : get_or rows j e ≡ d = ap (λ (n : ℕ). get_or rows n e) (sym same) ∙ get_or_default rows k e no_departure lt ∙ at in
-              omega (arith, below, ap (λ (x : Departure). x.of.row.0) one)
-          | inr apart ↦
-              let after : k < j = grind (arith, n, apart) in
-              let more = chained.rise k j e after inside in
-              omega (arith, below, more, ap (λ (x : Departure). x.of.row.0) (get_or_default rows k e no_departure lt ∙ at))
-        ])
-      ]),
-)
-  where
-    own : IsFit d
-    own = subst IsFit at (fit k no_departure lt)
+  -- the row of the least key dispatches first
+  first_some : {rows : List Departure} {lasts : List (Option ℕ)} (k : ℕ) (d : Departure) (held : Held)
+      → All IsFit rows → AreChained rows lasts → k < length rows → get_or rows k no_departure ≡ d
+      → d.awaited ≡ Some held → All (λ key. key_at d.of held ≤ key) (map key_by rows)
+      → IsFirstOf adjustment rows (Some (dispatch_at adjustment d.of held))
+  first_some {rows} k d held fit chained lt at awaits least = (
+    (d, subst (Contains rows) at (Contains-get_or rows k no_departure lt), ap (option_map (dispatch_at adjustment d.of)) awaits),
+    λ j e inside. late (get_or rows j e) (get_or rows j e).awaited (fit j e inside) refl
+        (subst (λ key. key_at d.of held ≤ key) (get_or-map key_by rows j e 0 inside)
+        (least j 0 (omega (arith, inside, length-map rows key_by))))
+        (λ below. elim (cases_Bool (nat_lt j k)) [
+          | inl y ↦
+              let less : j < k = grind (arith, y) in
+              omega (arith, less, chained.places j e inside, ap (λ (x : Departure). x.of.place) (sym at) ∙ chained.places k no_departure lt)
+          | inr n ↦ absurd (elim (cases_eq k j) [
+            | inl same ↦
+                let one : get_or rows j e ≡ d =
+                ap (λ (n : ℕ). get_or rows n e) (sym same) ∙ get_or_default rows k e no_departure lt ∙ at in
+                omega (arith, below, ap (λ (x : Departure). x.of.row.0) one)
+            | inr apart ↦
+                let after : k < j = grind (arith, n, apart) in
+                let more = chained.rise k j e after inside in
+                omega (arith, below, more, ap (λ (x : Departure). x.of.row.0) (get_or_default rows k e no_departure lt ∙ at))
+          ])
+        ]),
+  )
+    where
+      own : IsFit d
+      own = subst IsFit at (fit k no_departure lt)
 
-    own_held : IsHeldFit held
-    own_held = subst (λ o. IfSome o IsHeldFit) awaits own.awaited
+      own_held : IsHeldFit held
+      own_held = subst (λ o. IfSome o IsHeldFit) awaits own.awaited
 
-    late : (e : Departure) (o : Option Held) → IsFit e → e.awaited ≡ o → key_at d.of held ≤ key_by e → (e.of.row.0 < d.of.row.0 → e.of.place < d.of.place)
-        → IfSome (option_map (dispatch_at adjustment e.of) o) (λ other. Precedes other (dispatch_at adjustment d.of held) → ⊥)
-    late e None is awaits le rise = tt
-    late e (Some other) is awaits le rise =
-        not_before adjustment d.of e.of held other own_held (subst (λ o. IfSome o IsHeldFit) awaits is.awaited) own.link own.place is.link is.place rise
-        (subst (λ o. key_at d.of held ≤ option_map_or (key_at e.of) o no_key) awaits le)
+      late : (e : Departure) (o : Option Held) → IsFit e → e.awaited ≡ o → key_at d.of held ≤ key_by e
+          → (e.of.row.0 < d.of.row.0 → e.of.place < d.of.place)
+          → IfSome (option_map (dispatch_at adjustment e.of) o)
+          (λ other. Precedes other (dispatch_at adjustment d.of held) → ⊥)
+      late e None is awaits le rise = tt
+      late e (Some other) is awaits le rise =
+          not_before d.of e.of held other own_held (subst (λ o. IfSome o IsHeldFit) awaits is.awaited) own.link
+          own.place is.link is.place rise
+          (subst (λ o. key_at d.of held ≤ option_map_or (key_at e.of) o no_key) awaits le)
 
-first_at : (adjustment : ℤ) (rows : List Departure) (lasts : List (Option ℕ)) (key k : ℕ) (d : Departure) (o : Option Held) → All IsFit rows
-    → AreChained rows lasts → All (λ other. key ≤ other) (map key_by rows) → k < length rows → get_or rows k no_departure ≡ d → d.awaited ≡ o
-    → key_by d ≡ key → IsFirstOf adjustment rows (option_and_then (dispatch_by adjustment) (slice_get rows (key % 2 ^ 64 % 2 ^ 32)))
-first_at adjustment rows lasts key k d None fit chained least lt at awaits is =
-    let none : no_key ≡ key = ap (λ o. option_map_or (key_at d.of) o no_key) (sym awaits) ∙ is in
-    first_none adjustment rows _ _ (all_none adjustment rows fit (subst (λ n. All (λ other. n ≤ other) (map key_by rows)) (sym none) least)) refl
-first_at adjustment rows lasts key k d (Some held) fit chained least lt at awaits is =
-    let here : key_at d.of held ≡ key = ap (λ o. option_map_or (key_at d.of) o no_key) (sym awaits) ∙ is in
-    let own : IsFit d = subst IsFit at (fit k no_departure lt) in
-    let place : key % 2 ^ 64 % 2 ^ 32 ≡ k =
-    let a = own.link in let b = own.place in
-    omega (arith, a, b, here, ap (λ (x : Departure). x.of.place) (sym at) ∙ chained.places k no_departure lt) in
-    let there : slice_get rows (key % 2 ^ 64 % 2 ^ 32) ≡ Some d = ap (slice_get rows) place ∙ slice_get-get_or rows k no_departure lt ∙ ap Some at in
-    subst (λ o. IsFirstOf adjustment rows (option_and_then (dispatch_by adjustment) o)) (sym there)
-    (subst (IsFirstOf adjustment rows) (sym (ap (option_map (dispatch_at adjustment d.of)) awaits))
-    (first_some adjustment rows lasts k d held fit chained lt at awaits
-    (subst (λ n. All (λ other. n ≤ other) (map key_by rows)) (sym here) least)))
+  first_at : {rows : List Departure} {lasts : List (Option ℕ)} (key k : ℕ) (d : Departure) (o : Option Held)
+      → All IsFit rows → AreChained rows lasts → All (λ other. key ≤ other) (map key_by rows) → k < length rows
+      → get_or rows k no_departure ≡ d → d.awaited ≡ o → key_by d ≡ key
+      → IsFirstOf adjustment rows (option_and_then (dispatch_by adjustment) (slice_get rows (key % 2 ^ 64 % 2 ^ 32)))
+  first_at {rows} key k d None fit chained least lt at awaits is =
+      let none : no_key ≡ key = ap (λ o. option_map_or (key_at d.of) o no_key) (sym awaits) ∙ is in
+      first_none rows _ _ (all_none rows fit (subst (λ n. All (λ other. n ≤ other) (map key_by rows)) (sym none)
+      least)) refl
+  first_at {rows} key k d (Some held) fit chained least lt at awaits is =
+      let here : key_at d.of held ≡ key = ap (λ o. option_map_or (key_at d.of) o no_key) (sym awaits) ∙ is in
+      let own : IsFit d = subst IsFit at (fit k no_departure lt) in
+      let place : key % 2 ^ 64 % 2 ^ 32 ≡ k =
+      let a = own.link in let b = own.place in
+      omega (arith, a, b, here, ap (λ (x : Departure). x.of.place) (sym at) ∙ chained.places k no_departure lt) in
+      let there : slice_get rows (key % 2 ^ 64 % 2 ^ 32) ≡ Some d =
+      ap (slice_get rows) place ∙ slice_get-get_or rows k no_departure lt ∙ ap Some at in
+      subst (λ o. IsFirstOf adjustment rows (option_and_then (dispatch_by adjustment) o)) (sym there)
+      (subst (IsFirstOf adjustment rows) (sym (ap (option_map (dispatch_at adjustment d.of)) awaits))
+      (first_some k d held fit chained lt at awaits
+      (subst (λ n. All (λ other. n ≤ other) (map key_by rows)) (sym here) least)))
 
-pub first_of : (adjustment : ℤ) (ds : Departures) (key : ℕ) → IsReady ds → All (λ other. key ≤ other) ds.keys → (key ≡ no_key) ⊎ Contains ds.keys key
-    → IsFirstOf adjustment ds.rows.items (option_and_then (dispatch_by adjustment) (slice_get ds.rows.items (key % 2 ^ 64 % 2 ^ 32)))
-first_of adjustment ds key ready least (inl none) =
-    first_none adjustment ds.rows.items _ _ (all_none adjustment ds.rows.items ready.fit
-    (subst (λ keys. All (λ other. no_key ≤ other) keys) ready.keys (subst (λ n. All (λ other. n ≤ other) ds.keys) none least))) refl
-first_of adjustment ds key ready least (inr (k, lt, at)) =
-    let inside : k < length ds.rows.items = omega (arith, lt, ap (λ (keys : List ℕ). length keys) ready.keys, length-map ds.rows.items key_by) in
-    first_at adjustment ds.rows.items ds.lasts.items key k (get_or ds.rows.items k no_departure) (get_or ds.rows.items k no_departure).awaited ready.fit
-    ready.chained (subst (λ keys. All (λ other. key ≤ other) keys) ready.keys least) inside refl refl
-    (sym (get_or-map key_by ds.rows.items k no_departure key inside) ∙ ap (λ (keys : List ℕ). get_or keys k key) (sym ready.keys) ∙ at)
+  pub first_of : {ds : Departures} (key : ℕ) → IsReady ds → All (λ other. key ≤ other) ds.keys
+      → (key ≡ no_key) ⊎ Contains ds.keys key → IsFirstOf adjustment ds.rows.items
+      (option_and_then (dispatch_by adjustment) (slice_get ds.rows.items (key % 2 ^ 64 % 2 ^ 32)))
+  first_of {ds} key ready least (inl none) =
+      first_none ds.rows.items _ _ (all_none ds.rows.items ready.fit
+      (subst (λ keys. All (λ other. no_key ≤ other) keys) ready.keys
+      (subst (λ n. All (λ other. n ≤ other) ds.keys) none least))) refl
+  first_of {ds} key ready least (inr (k, lt, at)) =
+      let inside : k < length ds.rows.items =
+      omega (arith, lt, ap (λ keys. length keys) ready.keys, length-map ds.rows.items key_by) in
+      first_at key k (get_or ds.rows.items k no_departure) (get_or ds.rows.items k no_departure).awaited ready.fit
+      ready.chained (subst (λ keys. All (λ other. key ≤ other) keys) ready.keys least) inside refl refl
+      (sym (get_or-map key_by ds.rows.items k no_departure key inside) ∙ ap (λ (keys : List ℕ). get_or keys k key)
+      (sym ready.keys) ∙ at)
 
 no_key_of : (of : LeavingRow) (o : Option Held) → o ≡ None → option_map_or (key_at of) o no_key ≡ no_key
 no_key_of of o none = ap (λ (x : Option Held). option_map_or (key_at of) x no_key) none
@@ -171,26 +191,33 @@ fresh_keys rows none =
 
 -- ---- one departure is another
 
-pub set_long : (place : ℕ) (d : Departure) (old new : Departures) → Sets place d old new → length new.rows.items ≡ length old.rows.items
-set_long place d old new h = ap (λ (ds : List Departure). length ds) h.rows ∙ length-set old.rows.items place d
+pub set_long : {place : ℕ} {d : Departure} {old new : Departures} → Sets place d old new
+    → length new.rows.items ≡ length old.rows.items
+set_long {place} {d} {old} h = ap (λ ds. length ds) h.rows ∙ length-set old.rows.items place d
 
-set_here : (place : ℕ) (d e : Departure) (old new : Departures) → Sets place d old new → place < length old.rows.items → get_or new.rows.items place e ≡ d
-set_here place d e old new h lt = ap (λ (ds : List Departure). get_or ds place e) h.rows ∙ get_or-set_same old.rows.items place d e lt
+set_here : {place : ℕ} {d : Departure} (e : Departure) {old new : Departures} → Sets place d old new
+    → place < length old.rows.items → get_or new.rows.items place e ≡ d
+set_here {place} {d} e {old} h lt =
+    ap (λ (ds : List Departure). get_or ds place e) h.rows ∙ get_or-set_same old.rows.items place d e lt
 
-set_other : (place k : ℕ) (d e : Departure) (old new : Departures) → Sets place d old new → k ≢ place → get_or new.rows.items k e ≡ get_or old.rows.items k e
-set_other place k d e old new h apart = ap (λ (ds : List Departure). get_or ds k e) h.rows ∙ get_or-set_other old.rows.items place k d e apart
+set_other : {place : ℕ} (k : ℕ) {d : Departure} (e : Departure) {old new : Departures} → Sets place d old new
+    → k ≢ place → get_or new.rows.items k e ≡ get_or old.rows.items k e
+set_other {place} k {d} e {old} h apart =
+    ap (λ (ds : List Departure). get_or ds k e) h.rows ∙ get_or-set_other old.rows.items place k d e apart
 
 -- its key is set with it
-keys_set : (place : ℕ) (d : Departure) (old new : Departures) → Sets place d old new → AreKeys old.rows.items old.keys → AreKeys new.rows.items new.keys
-keys_set place d old new h are =
+keys_set : {place : ℕ} {d : Departure} {old new : Departures} → Sets place d old new
+    → AreKeys old.rows.items old.keys → AreKeys new.rows.items new.keys
+keys_set {place} {d} {old} h are =
     h.keys ∙ ap (λ (keys : List ℕ). slice_set keys place (key_by d)) are ∙ sym (map-set key_by old.rows.items place d) ∙ ap (map key_by) (sym h.rows)
 
 -- the row whose dispatch has come awaits none
-pub closes : (place : ℕ) (d : Departure) (old new : Departures) → IsReady old → place < length old.rows.items
-    → d ≡ get_or old.rows.items place d → Sets place (record d { awaited = None }) old new → Changes (closed place) old new
-closes place d old new ready inside is sets = record {
+pub closes : {place : ℕ} (d : Departure) {old new : Departures} → IsReady old → place < length old.rows.items
+    → d ≡ get_or old.rows.items place d → Sets place (record d { awaited = None }) old new
+    → Changes (closed place) old new
+closes {place} d {old} {new} ready inside is sets = record {
   rows = record {
-    count = set_long place _ old new sets;
+    count = set_long sets;
     each = λ k e lt. elim (cases_Bool (nat_eq k place)) [
       | inl y ↦
           let same : k ≡ place = grind (arith, y) in
@@ -198,15 +225,15 @@ closes place d old new ready inside is sets = record {
           let here : closed place d ≡ record d { awaited = None } = rw own refl in
           let was : get_or old.rows.items place e ≡ d = get_or_default old.rows.items place e d inside ∙ sym is in
           subst (λ n. get_or new.rows.items n e ≡ closed place (get_or old.rows.items n e)) (sym same)
-          (set_here place _ e old new sets inside ∙ sym here ∙ ap (closed place) (sym was))
+          (set_here e sets inside ∙ sym here ∙ ap (closed place) (sym was))
       | inr n ↦
           let apart : k ≢ place = grind (arith, n) in
           let other : ((get_or old.rows.items k e).of.place == place) ≡ false = rw (ready.chained.places k e lt) n in
-          set_other place k _ e old new sets apart ∙ sym (kept_open place (get_or old.rows.items k e) other)
+          set_other k e sets apart ∙ sym (kept_open place (get_or old.rows.items k e) other)
     ];
   };
   lasts = sets.lasts;
-  keys = keys_set place _ old new sets ready.keys;
+  keys = keys_set sets ready.keys;
 }
   where
     kept_open : (place : ℕ) (d : Departure) → (d.of.place == place) ≡ false → closed place d ≡ d
@@ -215,10 +242,11 @@ closes place d old new ready inside is sets = record {
 -- ---- the rows from the first one up
 
 -- one more is done
-pub reopening_on : (f : Departure → Departure) (place : ℕ) (d : Departure) (old mid new : Departures)
-    → place < length old.rows.items → IsReopeningAt f place old mid
-    → d ≡ get_or mid.rows.items place d → Sets place (f d) mid new → IsReopeningAt f (place + 1) old new
-reopening_on f place d old mid new inside h is sets = grind (arith, set_long, cases_Bool, get_or, get_or_default, set_here, set_other, keys_set, length)
+pub reopening_on : {f : Departure → Departure} {place : ℕ} (d : Departure) {old mid new : Departures}
+    → place < length old.rows.items → IsReopeningAt f place old mid → d ≡ get_or mid.rows.items place d
+    → Sets place (f d) mid new → IsReopeningAt f (place + 1) old new
+reopening_on d inside h is sets =
+    grind (arith, set_long, cases_Bool, get_or, get_or_default, set_here, set_other, keys_set, length)
 
 -- ---- the rows of a virtual link, from the last one down
 
@@ -236,49 +264,56 @@ skipped : (at : Option ℕ) (vl place k : ℕ) (rows : List Departure) (d : Depa
 skipped None vl place k rows d link from lt is = link k d lt is
 skipped (Some m) vl place k rows d link from lt is = link.2 k d (omega (arith, from)) lt is
 
-taken_at : (f : Departure → Departure) (vl place k : ℕ) (old mid new : Departures) (e d : Departure) (at : Option ℕ)
-    → ((d : Departure) → (d.of.vl.0 ≡ vl → ⊥) → f d ≡ d) → IsTakingAt f vl (Some place) old mid
-    → Sets place (f (get_or mid.rows.items place e)) mid new → get_or mid.rows.items place e ≡ get_or old.rows.items place e
-    → place < length mid.rows.items → IsLast old.rows.items vl place at → bound_of at ≤ k → k < length old.rows.items
+taken_at : {f : Departure → Departure} {vl place : ℕ} (k : ℕ) {old mid new : Departures} (e d : Departure)
+    (at : Option ℕ) → ((d : Departure) → (d.of.vl.0 ≡ vl → ⊥) → f d ≡ d) → IsTakingAt f vl (Some place) old mid
+    → Sets place (f (get_or mid.rows.items place e)) mid new
+    → get_or mid.rows.items place e ≡ get_or old.rows.items place e → place < length mid.rows.items
+    → IsLast old.rows.items vl place at → bound_of at ≤ k → k < length old.rows.items
     → get_or new.rows.items k d ≡ f (get_or old.rows.items k d)
-taken_at f vl place k old mid new e d at other h sets was inside link from lt = grind (arith, cases_Bool, get_or, set_here, get_or_default, set_other, skipped)
+taken_at k e d at other h sets was inside link from lt =
+    grind (arith, cases_Bool, get_or, set_here, get_or_default, set_other, skipped)
 
-taking_by : (f : Departure → Departure) (vl place : ℕ) (old mid new : Departures) (e : Departure) (at : Option ℕ)
-    → ((d : Departure) → (d.of.vl.0 ≡ vl → ⊥) → f d ≡ d) → IsTakingAt f vl (Some place) old mid
-    → Sets place (f (get_or mid.rows.items place e)) mid new → get_or mid.rows.items place e ≡ get_or old.rows.items place e
-    → place < length mid.rows.items → IsLast old.rows.items vl place at → IsTakingAt f vl at old new
-taking_by f vl place old mid new e at other h sets was inside link = grind (arith, set_long, taken_at, rest_below, set_other, next_by, keys_set)
+module _ (f : Departure → Departure) (vl place : ℕ) (old mid new : Departures) (e : Departure) where
+  taking_by : (at : Option ℕ) → ((d : Departure) → (d.of.vl.0 ≡ vl → ⊥) → f d ≡ d)
+      → IsTakingAt f vl (Some place) old mid → Sets place (f (get_or mid.rows.items place e)) mid new
+      → get_or mid.rows.items place e ≡ get_or old.rows.items place e → place < length mid.rows.items
+      → IsLast old.rows.items vl place at → IsTakingAt f vl at old new
+  taking_by at other h sets was inside link =
+      grind (arith, set_long, taken_at, rest_below, set_other, next_by, keys_set)
 
--- one of them is done
-pub taking_on : (f : Departure → Departure) (vl place : ℕ) (old mid new : Departures) (e : Departure)
-    → AreChained old.rows.items old.lasts.items → ((d : Departure) → (d.of.vl.0 ≡ vl → ⊥) → f d ≡ d)
-    → IsTakingAt f vl (Some place) old mid → e ≡ get_or mid.rows.items place e → Sets place (f (get_or mid.rows.items place e)) mid new
-    → IsTakingAt f vl e.of.before old new
-taking_on f vl place old mid new e chained other h is sets =
-    let inside = h.next.0 in
-    let was : get_or mid.rows.items place e ≡ get_or old.rows.items place e = h.rows.rest place e (omega arith) inside in
-    let mid_inside : place < length mid.rows.items = subst (λ n. place < n) (sym h.rows.count) inside in
-    let link : IsLast old.rows.items vl place (get_or mid.rows.items place e).of.before =
-    subst (λ (x : Departure). IsLast old.rows.items vl place x.of.before) (sym was)
-    (subst (λ n. IsLast old.rows.items n place (get_or old.rows.items place e).of.before) (h.next.1 e) (chained.before place e inside)) in
-    subst (λ (d : Departure). IsTakingAt f vl d.of.before old new) (sym is)
-    (taking_by f vl place old mid new e (get_or mid.rows.items place e).of.before other h sets was mid_inside link)
+  -- one of them is done
+  pub taking_on : AreChained old.rows.items old.lasts.items → ((d : Departure) → (d.of.vl.0 ≡ vl → ⊥) → f d ≡ d)
+      → IsTakingAt f vl (Some place) old mid → e ≡ get_or mid.rows.items place e
+      → Sets place (f (get_or mid.rows.items place e)) mid new → IsTakingAt f vl e.of.before old new
+  taking_on chained other h is sets =
+      let inside = h.next.0 in
+      let was : get_or mid.rows.items place e ≡ get_or old.rows.items place e =
+      h.rows.rest place e (omega arith) inside in
+      let mid_inside : place < length mid.rows.items = subst (λ n. place < n) (sym h.rows.count) inside in
+      let link : IsLast old.rows.items vl place (get_or mid.rows.items place e).of.before =
+      subst (λ (x : Departure). IsLast old.rows.items vl place x.of.before) (sym was)
+      (subst (λ n. IsLast old.rows.items n place (get_or old.rows.items place e).of.before) (h.next.1 e)
+      (chained.before place e inside)) in
+      subst (λ (d : Departure). IsTakingAt f vl d.of.before old new) (sym is)
+      (taking_by (get_or mid.rows.items place e).of.before other h sets was mid_inside link)
 
 -- all are done
-pub taken_all : (f : Departure → Departure) (vl : ℕ) (old new : Departures) → IsTakingAt f vl None old new → Changes f old new
-taken_all f vl old new h =
+pub taken_all : {f : Departure → Departure} {vl : ℕ} {old new : Departures} → IsTakingAt f vl None old new
+    → Changes f old new
+taken_all h =
     record { rows = record { count = h.rows.count; each = λ k d lt. h.rows.done k d (omega arith) lt }; lasts = h.lasts; keys = h.keys }
 
--- a frame of another virtual link changes nothing
-pub other_same : (length : ℕ) (changed : ℤ) (taking : Taking) (d : Departure) → (d.of.vl.0 ≡ taking.vl.0 → ⊥) → with_taking length changed taking d ≡ d
-other_same length changed taking d other = grind (arith, cases_Bool, eqb-true)
+module _ (length : ℕ) (changed : ℤ) (taking : Taking) (d : Departure) where
+  -- a frame of another virtual link changes nothing
+  pub other_same : (d.of.vl.0 ≡ taking.vl.0 → ⊥) → with_taking length changed taking d ≡ d
+  other_same other = grind (arith, cases_Bool, eqb-true)
 
--- and one of its own is kept
-pub mine_held : (length : ℕ) (changed : ℤ) (taking : Taking) (d : Departure) → d.of.vl.0 ≡ taking.vl.0
-    → with_taking length changed taking d ≡ with_held changed (held_by length d.of taking.cycle taking.at.0) d
-mine_held length changed taking d same = let y : (d.of.vl.0 == taking.vl.0) ≡ true = grind (arith, same) in rw y refl
+  -- and one of its own is kept
+  pub mine_held : d.of.vl.0 ≡ taking.vl.0 → with_taking length changed taking d
+      ≡ with_held changed (held_by length d.of taking.cycle taking.at.0) d
+  mine_held same = let y : (d.of.vl.0 == taking.vl.0) ≡ true = grind (arith, same) in rw y refl
 
 -- the row that is next is of the virtual link
-pub own_row : (f : Departure → Departure) (vl place : ℕ) (old mid : Departures) (d : Departure)
+pub own_row : {f : Departure → Departure} {vl : ℕ} (place : ℕ) {old mid : Departures} (d : Departure)
     → IsTakingAt f vl (Some place) old mid → d ≡ get_or mid.rows.items place d → d.of.vl.0 ≡ vl
-own_row f vl place old mid d h is = ap (λ (x : Departure). x.of.vl.0) (is ∙ h.rows.rest place d (omega arith) h.next.0) ∙ h.next.1 d
+own_row place d h is = ap (λ (x : Departure). x.of.vl.0) (is ∙ h.rows.rest place d (omega arith) h.next.0) ∙ h.next.1 d

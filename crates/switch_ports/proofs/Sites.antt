@@ -10,9 +10,9 @@ use Rattle.switch_ports.specs.declared.site.Peer.TheVariants as peers
 abbrev port_by : Network → DeviceId → Option Link → Port
 port_by network device o = unwrap_or (option_map (port_of network device) o) no_port
 
-pub port_is : (network : Network) (device : DeviceId) (site : Site) (link : LinkId) → IsSiteOf network device site
+pub port_is : {network : Network} {device : DeviceId} {site : Site} (link : LinkId) → IsSiteOf network device site
     → port_in site.ports.items link ≡ port_by network device (link_at network link)
-port_is network device site link h =
+port_is {network} {device} link h =
     ap (λ (ports : List Port). unwrap_or (slice_get ports link.0) no_port) h.ports
     ∙ ap (λ (o : Option Port). unwrap_or o no_port) (slice_get-map (port_of network device) network.link link.0)
 
@@ -31,10 +31,12 @@ member_by : (network : Network) (device : DeviceId) (o : Option Link) (members :
 member_by network device None members = refl
 member_by network device (Some l) members = by_peer (l.parent.0 == device.0) (is_end network l.child) (member_of network l.child) members
 
-pub member_same : (network : Network) (device : DeviceId) (site : Site) (link : LinkId) (members : Members) → IsSiteOf network device site
-    → is_other_member (port_in site.ports.items link).peer members ≡ is_of_other_member network device link members
-member_same network device site link members h =
-    ap (λ (p : Port). is_other_member p.peer members) (port_is network device site link h) ∙ sym (member_by network device (link_at network link) members)
+pub member_same : {network : Network} {device : DeviceId} {site : Site} (link : LinkId) (members : Members)
+    → IsSiteOf network device site → is_other_member (port_in site.ports.items link).peer members
+    ≡ is_of_other_member network device link members
+member_same {network} {device} link members h =
+    ap (λ (p : Port). is_other_member p.peer members) (port_is link h) ∙ sym
+    (member_by network device (link_at network link) members)
 
 -- ---- ways
 
@@ -47,23 +49,24 @@ by_below false end member = refl
 by_below true false member = refl
 by_below true true member = below_end member
 
-below_by : (network : Network) (device : DeviceId) (o : Option Link) → is_below (port_by network device o).peer ≡ option_map_or (λ l. l.parent.0 == device.0) o
-    false
-below_by network device None = refl
-below_by network device (Some l) = by_below (l.parent.0 == device.0) (is_end network l.child) (member_of network l.child)
+module _ (network : Network) (device : DeviceId) where
+  below_by : (o : Option Link) → is_below (port_by network device o).peer
+      ≡ option_map_or (λ l. l.parent.0 == device.0) o false
+  below_by None = refl
+  below_by (Some l) = by_below (l.parent.0 == device.0) (is_end network l.child) (member_of network l.child)
 
-pub parent_same : (network : Network) (device : DeviceId) (site : Site) (link : LinkId) → IsSiteOf network device site
-    → is_below (port_in site.ports.items link).peer ≡ is_parent_of network device link
-parent_same network device site link h =
-    ap (λ (p : Port). is_below p.peer) (port_is network device site link h) ∙ below_by network device (link_at network link)
+  pub parent_same : {site : Site} (link : LinkId) → IsSiteOf network device site
+      → is_below (port_in site.ports.items link).peer ≡ is_parent_of network device link
+  parent_same link h =
+      ap (λ (p : Port). is_below p.peer) (port_is link h) ∙ below_by (link_at network link)
 
--- ---- wires and channels
+  -- ---- wires and channels
 
-channel_by : (network : Network) (device : DeviceId) (o : Option Link) → (port_by network device o).channel ≡ option_and_then (λ l. channel_of network l.parent)
-    o
-channel_by network device None = refl
-channel_by network device (Some l) = refl
+  channel_by : (o : Option Link) → (port_by network device o).channel
+      ≡ option_and_then (λ l. channel_of network l.parent) o
+  channel_by None = refl
+  channel_by (Some l) = refl
 
-pub channel_same : (network : Network) (device : DeviceId) (site : Site) (link : LinkId) → IsSiteOf network device site
-    → (port_in site.ports.items link).channel ≡ channel_of_link network link
-channel_same network device site link h = ap (λ (p : Port). p.channel) (port_is network device site link h) ∙ channel_by network device (link_at network link)
+  pub channel_same : {site : Site} (link : LinkId) → IsSiteOf network device site
+      → (port_in site.ports.items link).channel ≡ channel_of_link network link
+  channel_same link h = ap (λ (p : Port). p.channel) (port_is link h) ∙ channel_by (link_at network link)

@@ -7,44 +7,44 @@ use Rattle.switch_ports.proofs.Words.{◌&&◌, ◌==◌, ◌∙◌, ◌≡◌, 
 use Rattle.switch_ports.proofs.Words.{Reason, Some, Standing, StandsAs, State, Switch, Units, after_arrival, amount, ap, called, cases_Bool, eqb-true, false}
 use Rattle.switch_ports.{proofs.Words.{further, refl, standpoint_of, sym, through, true, ℕ, ℤ}, specs.declared.standpoint.Standpoint.Standpoint}
 
--- the moment of a call is in its range
-pub alive : (s : Switch) (network : Network) (device : DeviceId) (node : Node) (moment : Moment) (phase : Phase) (at : Standpoint)
-    → StandsAs s network device node → MayCall network device node moment phase
-    → at.reading ≡ moment.reading → at.adjustment ≡ s.sync.adjustment → IsAlive s.site at
-alive s network device node moment phase at st may r a = record {
-  site_in_range = site_in_range network device s.site st.accepted.range st.site;
-  reading = rw r (record { least = through _ _ _ st.begun may.later.reading; most = may.later.low_enough });
-  small = rw (a ∙ sym (ap (λ (x : Standing). x.adjustment) st.standing)) st.small;
-}
+module _ (s : Switch) (network : Network) (device : DeviceId) (node : Node) (moment : Moment) (phase : Phase) where
+  -- the moment of a call is in its range
+  pub alive : (at : Standpoint) → StandsAs s network device node → MayCall network device node moment phase
+      → at.reading ≡ moment.reading → at.adjustment ≡ s.sync.adjustment → IsAlive s.site at
+  alive at st may r a = record {
+    site_in_range = site_in_range st.accepted.range st.site;
+    reading = rw r (record { least = through _ _ _ st.begun may.later.reading; most = may.later.low_enough });
+    small = rw (a ∙ sym (ap (λ (x : Standing). x.adjustment) st.standing)) st.small;
+  }
 
--- a call that changes nothing else
-pub called_stands : (s : Switch) (network : Network) (device : DeviceId) (node : Node) (moment : Moment) (phase : Phase) → StandsAs s network device node
-    → node.last.reading.0 ≤ℤ moment.reading.0 → StandsAs s network device (called moment phase node)
-called_stands s network device node moment phase st later = record {
-  accepted = st.accepted;
-  site = st.site;
-  sound = st.sound;
-  standing = st.standing;
-  plan = st.plan;
-  heard = st.heard;
-  changed = st.changed;
-  corrects = st.corrects;
-  done = st.done;
-  begun = through _ _ _ st.begun later;
-  small = st.small;
-  steady =
-      λ timed. let h = st.steady timed in record {
-        number = h.number;
-        lower = h.lower;
-        upper = further _ _ _ _ h.upper later;
-        joined = h.joined;
-        fair = h.fair;
-      };
-  intake = st.intake;
-  collects = st.collects;
-  departs = st.departs;
-  awaits = awaits_called s network device node moment st later;
-}
+  -- a call that changes nothing else
+  pub called_stands : StandsAs s network device node → node.last.reading.0 ≤ℤ moment.reading.0
+      → StandsAs s network device (called moment phase node)
+  called_stands st later = record {
+    accepted = st.accepted;
+    site = st.site;
+    sound = st.sound;
+    standing = st.standing;
+    plan = st.plan;
+    heard = st.heard;
+    changed = st.changed;
+    corrects = st.corrects;
+    done = st.done;
+    begun = through _ _ _ st.begun later;
+    small = st.small;
+    steady =
+        λ timed. let h = st.steady timed in record {
+          number = h.number;
+          lower = h.lower;
+          upper = further _ _ _ _ h.upper later;
+          joined = h.joined;
+          fair = h.fair;
+        };
+    intake = st.intake;
+    collects = st.collects;
+    departs = st.departs;
+    awaits = awaits_called moment st later;
+  }
 
 -- ---- arrivals
 
@@ -55,27 +55,29 @@ and_true false c e = refl
 abbrev made_point : Bool → State → ℕ → ℤ → Point
 made_point part state reading adjustment = record { takes_part = part; state = state; reading = reading; adjustment = adjustment }
 
-pub point_same : (s : Switch) (network : Network) (device : DeviceId) (node : Node) (moment : Moment) (at : Standpoint) → StandsAs s network device node
-    → at.state ≡ s.sync.state → at.reading ≡ moment.reading → at.adjustment ≡ s.sync.adjustment → standpoint_of at ≡ standpoint_at node moment
-point_same s network device node moment at st e r a = grind (arith, not, and_true, amount)
+pub point_same : {s : Switch} {network : Network} {device : DeviceId} {node : Node} (moment : Moment)
+    (at : Standpoint) → StandsAs s network device node → at.state ≡ s.sync.state → at.reading ≡ moment.reading
+    → at.adjustment ≡ s.sync.adjustment → standpoint_of at ≡ standpoint_at node moment
+point_same moment at st e r a = grind (arith, not, and_true, amount)
 
-taken_none : (node : Node) (moment : Moment) (network : Network) (device : DeviceId) (link : LinkId) (frame : Pcf) (point : Units) (relay parent : Bool)
-    → is_relay network device ≡ relay → is_parent_of network device link ≡ parent
-    → after_arrival node moment (frame_taken network device link frame point) ≡ node
-taken_none node moment network device link frame point false parent r p = rw r refl
-taken_none node moment network device link frame point true true r p = rw r (rw p refl)
-taken_none node moment network device link frame point true false r p = rw r (rw p refl)
+module _ (node : Node) (moment : Moment) (network : Network) (device : DeviceId) (link : LinkId) where
+  taken_none : (frame : Pcf) (point : Units) (relay parent : Bool) → is_relay network device ≡ relay
+      → is_parent_of network device link ≡ parent → after_arrival node moment
+      (frame_taken network device link frame point) ≡ node
+  taken_none frame point false parent r p = rw r refl
+  taken_none frame point true true r p = rw r (rw p refl)
+  taken_none frame point true false r p = rw r (rw p refl)
 
-fault_none : (node : Node) (moment : Moment) (network : Network) (device : DeviceId) (link : LinkId) (at : Point) (frame : Pcf) (fault : Option Reason)
-    → after_arrival node moment (frame_or_fault network device link at frame fault) ≡ node
-fault_none node moment network device link at frame (Some reason) = refl
-fault_none node moment network device link at frame None = taken_none node moment network device link _ _ _ _ refl refl
+  fault_none : (at : Point) (frame : Pcf) (fault : Option Reason)
+      → after_arrival node moment (frame_or_fault network device link at frame fault) ≡ node
+  fault_none at frame (Some reason) = refl
+  fault_none at frame None = taken_none _ _ _ _ refl refl
 
--- a control frame is never taken as that of a virtual link
-pub control_none : (node : Node) (moment : Moment) (network : Network) (device : DeviceId) (link : LinkId) (at : Point) (read : Result Pcf PcfRefusal)
-    → after_arrival node moment (control_arrival network device link at read) ≡ node
-control_none node moment network device link at (Err refusal) = refl
-control_none node moment network device link at (Ok frame) = fault_none node moment network device link at frame (frame_fault network device link at frame)
+  -- a control frame is never taken as that of a virtual link
+  pub control_none : (at : Point) (read : Result Pcf PcfRefusal)
+      → after_arrival node moment (control_arrival network device link at read) ≡ node
+  control_none at (Err refusal) = refl
+  control_none at (Ok frame) = fault_none at frame (frame_fault network device link at frame)
 
 pub is_type : (octets : List ℕ) → field 12 2 octets ≡ pcf_type → (field 12 2 octets == pcf_type) ≡ true
 is_type octets e = rw e refl

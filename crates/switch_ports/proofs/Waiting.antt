@@ -25,7 +25,7 @@ pub opened_beyond : (ow low : ℤ) (ps : List Point) (cs : List Cluster) (c : Cl
 opened_beyond ow low ps [] c all are at = absurd (in_none c at)
 opened_beyond ow low [] (d ∷ cs) c all are at = absurd are
 opened_beyond ow low (o ∷ ps) (d ∷ cs) c all are at = elim (in_cases d c cs at) [
-  | inl e ↦ let opened : c.opened ≡ o.reading = ap (λ (k : Cluster). k.opened) (sym e ∙ are.0) in subst (λ (z : ℤ). low <ℤ z) (sym opened) all.0
+  | inl e ↦ let opened : c.opened ≡ o.reading = ap (λ (k : Cluster). k.opened) (sym e ∙ are.0) in subst (λ z. low <ℤ z) (sym opened) all.0
   | inr there ↦ opened_beyond ow low (beyond d.end ps) cs c (all-beyond low d.end ps all.1) are.1 there
 ]
 
@@ -48,9 +48,10 @@ opened_before ow (o ∷ ps) (k ∷ done) rest d c some are before at = elim (in_
 ]
 
 -- a cluster that was not sent waits
-pub waits : (v : Collecting) (points : List Point) (emitted : List Compressed) (clusters : List Cluster) (c : Cluster) → StandsForPoints v points emitted
-    → AreClusters v.ow points clusters → Contains clusters c → (Contains emitted (compressed v.ow v.calc c) → ⊥) → Contains v.waiting c
-waits v points emitted clusters c st are at not_yet =
+pub waits : {v : Collecting} {points : List Point} {emitted : List Compressed} (clusters : List Cluster)
+    (c : Cluster) → StandsForPoints v points emitted → AreClusters v.ow points clusters → Contains clusters c
+    → (Contains emitted (compressed v.ow v.calc c) → ⊥) → Contains v.waiting c
+waits {v} {points} clusters c st are at not_yet =
     let one = one_list_of_clusters v.ow points in
     let same : clusters ≡ st.done ++ v.waiting = one.2 clusters are ∙ sym (one.2 (st.done ++ v.waiting) st.clusters) in
     elim (Contains-append_cases st.done v.waiting c (subst (λ (cs : List Cluster). Contains cs c) same at)) [
@@ -63,19 +64,20 @@ not_less : (x : ℤ) → x <ℤ x → ⊥
 not_less x h = omega (arith, ints, h)
 
 -- what waits was not sent
-pub unsent : (v : Collecting) (points : List Point) (emitted : List Compressed) (c : Cluster) → pos 0 ≤ℤ v.ow → StandsForPoints v points emitted
-    → Contains v.waiting c → Contains emitted (compressed v.ow v.calc c) → ⊥
-unsent v points emitted c some st at sent =
+pub unsent : {v : Collecting} {points : List Point} {emitted : List Compressed} (c : Cluster) → pos 0 ≤ℤ v.ow
+    → StandsForPoints v points emitted → Contains v.waiting c → Contains emitted (compressed v.ow v.calc c) → ⊥
+unsent {v} {points} c some st at sent =
     let was = in_map (compressed v.ow v.calc) st.done (compressed v.ow v.calc c)
     (subst (λ (es : List Compressed). Contains es (compressed v.ow v.calc c)) st.given sent) in
     let before = opened_before v.ow points st.done v.waiting was.0 c some st.clusters was.1 at in
     let opened : c.opened ≡ was.0.opened = ap (λ (s : Compressed). s.opened.0) was.2 in
-    not_less c.opened (subst (λ (z : ℤ). z <ℤ c.opened) (sym opened) before)
+    not_less c.opened (subst (λ z. z <ℤ c.opened) (sym opened) before)
 
 -- the first that waits opened first
-pub first_opened : (v : Collecting) (points : List Point) (emitted : List Compressed) (first : Cluster) (rest : List Cluster) (c : Cluster) → pos 0 ≤ℤ v.ow
-    → StandsForPoints v points emitted → v.waiting ≡ first ∷ rest → Contains v.waiting c → first.opened ≤ℤ c.opened
-first_opened v points emitted first rest c some st is at =
+pub first_opened : {v : Collecting} {points : List Point} {emitted : List Compressed} (first : Cluster)
+    (rest : List Cluster) (c : Cluster) → pos 0 ≤ℤ v.ow → StandsForPoints v points emitted → v.waiting ≡ first ∷ rest
+    → Contains v.waiting c → first.opened ≤ℤ c.opened
+first_opened {v} {points} first rest c some st is at =
     elim (in_cases first c rest (subst (λ (cs : List Cluster). Contains cs c) is at)) [
       | inl e ↦ subst (λ (x : Cluster). first.opened ≤ℤ x.opened) e (omega (arith, ints))
       | inr there ↦

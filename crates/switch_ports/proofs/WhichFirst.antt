@@ -20,7 +20,7 @@ module _ (s : Switch) (network : Network) (device : DeviceId) (node : Node) (rea
       record {
         task = emitting (compressed s.collector.ow s.collector.calc c.0);
         pending = emission_pending s network device node c.0 st c.1;
-        due = subst (λ (z : ℤ). z ≤ℤ reading) c.2 some;
+        due = subst (λ z. z ≤ℤ reading) c.2 some;
         of_kind = refl;
         first = λ other p due. omega arith;
       }
@@ -31,7 +31,7 @@ module _ (s : Switch) (network : Network) (device : DeviceId) (node : Node) (rea
       let due = some_due s.corrects_at reading reached in
       let next = its_next s network device node due.0 st due.1 in
       first_kind_of network device node reading (doing (correcting next.0))
-      (first_correction s network device node next.0 due.0 reading o st none due.1 (ap next_point st.standing ∙ next.1) due.2)
+      (first_correction s network device node next.0 due.0 st none due.1 (ap next_point st.standing ∙ next.1) due.2)
 
   dispatch_kind : (task : Task) → IsDispatch s network node task → kind_of task ≡ Dispatches
   dispatch_kind (emitting sent) is = absurd is
@@ -43,7 +43,7 @@ module _ (s : Switch) (network : Network) (device : DeviceId) (node : Node) (rea
   dispatches_all : (o : Option Units) → EmitsNone s reading o → IfSome s.corrects_at (λ at. reading <ℤ at.0) → (task : Task)
       → IsPending network device node task → reading_for network node task ≤ℤ reading → kind_of task ≡ Dispatches
   dispatches_all o none later task p due = elim (kinds_of s network device node task st p) [
-    | inl x ↦ absurd (emits_none s network node reading o task none x due)
+    | inl x ↦ absurd (emits_none network node o task none x due)
     | inr (inl y) ↦ absurd (corrects_none s network device node reading s.corrects_at task st refl later y due)
     | inr (inr z) ↦ dispatch_kind task z
   ]

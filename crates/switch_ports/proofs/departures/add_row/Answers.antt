@@ -9,7 +9,7 @@ returns c network is are =
     let vl = c.args.entry.now.row.vl.0 in
     let place : c.len-place.result ≡ length rows = c.len-place.ensures ∙ c.args.rows.now.ok.0 in
     let last = c.index.ensures ∙ sym (ap (λ (o : Option (Option ℕ)). unwrap_or o None) (slice_get-get_or lasts vl c.index.result.now c.requires.vl)) in
-    subst (λ (ds : List Departure). AreLeaving network c.args.device (c.args.row.0 + 1) ds (slice_set lasts vl (Some c.len-place.result)))
+    subst (λ ds. AreLeaving network c.args.device (c.args.row.0 + 1) ds (slice_set lasts vl (Some c.len-place.result)))
     (sym (c.in_ok-push.ensures.items ∙ ap (λ (d : Departure). rows ++ d ∷ []) c.departure_of.ensures))
-    (row_kept network c.args.device c.args.row c.args.entry.now c.len-place.result c.index.result.now rows lasts is
+    (row_kept c.args.row c.len-place.result c.index.result.now is
     (sym c.source.ensures ∙ same_device c.source.result c.args.device c.if-source-device.false) place last c.requires.vl are)

@@ -14,7 +14,7 @@ returns-in-Some c =
     subst (IsFirstOf c.args.adjustment.0 ds.rows.items) (sym c.dispatch.ensures)
     (subst (λ (o : Option Departure). IsFirstOf c.args.adjustment.0 ds.rows.items (option_and_then (dispatch_by c.args.adjustment.0) o))
     (ap (λ (n : ℕ). slice_get ds.rows.items (n % 2 ^ 32)) (sym c.order_of-place.ensures) ∙ at)
-    (first_of c.args.adjustment.0 ds key c.requires.ready c.least.ensures.least c.least.ensures.is))
+    (first_of c.args.adjustment.0 key c.requires.ready c.least.ensures.least c.least.ensures.is))
 
 pub returns-in-None : goal.returns-in-None
 returns-in-None c =
@@ -25,4 +25,4 @@ returns-in-None c =
     (slice_get_past c.deref.result.now (c.order_of-place.result % 2 ^ 32) c.in-None.ensures.lookup.3) in
     subst (λ (o : Option Departure). IsFirstOf c.args.adjustment.0 ds.rows.items (option_and_then (dispatch_by c.args.adjustment.0) o))
     (ap (λ (n : ℕ). slice_get ds.rows.items (n % 2 ^ 32)) (sym c.order_of-place.ensures) ∙ at)
-    (first_of c.args.adjustment.0 ds key c.requires.ready c.least.ensures.least c.least.ensures.is)
+    (first_of c.args.adjustment.0 key c.requires.ready c.least.ensures.least c.least.ensures.is)

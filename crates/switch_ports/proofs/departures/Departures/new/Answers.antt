@@ -9,7 +9,7 @@ pub returns : goal.returns
 returns c =
     let network = c.args.network.now in
     let rows = c.loop-place.rows in
-    let end = ap (λ (xs : List Row). length xs) c.as_slice-place-end.ensures in
+    let end = ap (λ xs. length xs) c.as_slice-place-end.ensures in
     let all : c.loop-place.place ≡ length network.row = omega (arith, c.loop-place-test.false, c.loop-place.auto.place-end, end) in
     let size : c.len.result ≡ length rows.items = c.len.ensures ∙ rows.ok.0 in
     record {

@@ -10,8 +10,8 @@ rows-preserved c =
     let f = with_taking (amount c.args.length) c.args.changed.0 c.args.taking in
     let vl = c.args.taking.vl.0 in
     let here = c.index_mut-departure.result.now in
-    let inv = subst (λ (at : Option ℕ). IsTakingAt f vl at old mid) c.in-Some.is c.rows.invariant in
-    let mine = own_row f vl place old mid here inv c.index_mut-departure.ensures.value in
+    let inv = subst (λ at. IsTakingAt f vl at old mid) c.in-Some.is c.rows.invariant in
+    let mine = own_row place here inv c.index_mut-departure.ensures.value in
     let held = mine_held (amount c.args.length) c.args.changed.0 c.args.taking here mine in
     let taken = c.take.ensures ∙ sym held ∙ ap f c.index_mut-departure.ensures.value in
     let key = c.set.ensures ∙ ap (slice_set mid.keys place) (c.key.ensures ∙ ap key_by taken) in
@@ -24,7 +24,8 @@ first-self-requires-clause-ready c =
     let old = c.args.self.now in
     let taking = c.args.taking in
     let f = with_taking (amount c.args.length) c.args.changed.0 taking in
-    let inv = subst (λ (at : Option ℕ). IsTakingAt f taking.vl.0 at old c.rows.self) c.in_default.is c.rows.invariant in
-    ready_changed f old c.rows.self (taken_all f taking.vl.0 old c.rows.self inv)
+    let inv = subst (λ at. IsTakingAt f taking.vl.0 at old c.rows.self) c.in_default.is c.rows.invariant in
+    ready_changed (taken_all inv)
     (λ d. of_taken (amount c.args.length) taking.cycle c.args.changed.0 taking.at.0 d (d.of.vl.0 == taking.vl.0))
-    (λ d. fit_taken (amount c.args.length) taking.cycle c.args.changed.0 taking.at.0 d (d.of.vl.0 == taking.vl.0) c.requires.taking.cycle) c.requires.ready
+    (λ d. fit_taken (amount c.args.length) taking.cycle c.args.changed.0
+    taking.at.0 {d = d} (d.of.vl.0 == taking.vl.0) c.requires.taking.cycle) c.requires.ready

@@ -17,15 +17,15 @@ control_arrival-requires-clause-alive c =
 pub returns-then-is_pcf : goal.returns-then-is_pcf
 returns-then-is_pcf c network device node st may arrives =
     let octets = c.args.octets.now in
-    let at = point_same c.args.self.now network device node c.args.moment c.standpoint-at.result st c.standpoint-at.ensures.state
+    let at = point_same c.args.moment c.standpoint-at.result st c.standpoint-at.ensures.state
     c.standpoint-at.ensures.reading c.standpoint-at.ensures.adjustment in
     let is = c.control_arrival.ensures network device st.accepted.range st.site
-    ∙ ap (λ (p : Point). control_arrival network device c.args.link p (decoded octets)) at in
+    ∙ ap (λ p. control_arrival network device c.args.link p (decoded octets)) at in
     let signal : signal_of octets ≡ control (decoded octets) = rw (is_type octets (c.is_pcf.ensures.0 c.if-is_pcf.true).1) refl in
     let same : after_arrival node c.args.moment c.control_arrival.result ≡ node = ap (after_arrival node c.args.moment) is
     ∙ control_none node c.args.moment network device c.args.link (standpoint_at node c.args.moment) (decoded octets) in (
       is ∙ ap (arrival_at network device node c.args.moment c.args.link) (sym signal),
-      subst (λ (n : Node). StandsAs c.args.self.now network device (called c.args.moment arriving n)) (sym same)
+      subst (λ n. StandsAs c.args.self.now network device (called c.args.moment arriving n)) (sym same)
           (called_stands c.args.self.now network device node c.args.moment arriving st may.later.reading),
     )
 
@@ -41,16 +41,16 @@ hear_timed-requires-clause-whole c = let r = c.requires in is_whole r.0 r.1 c.ar
 pub returns-else-is_pcf : goal.returns-else-is_pcf
 returns-else-is_pcf c network device node st may arrives =
     let octets = c.args.octets.now in
-    let at = point_same c.args.self.now network device node c.args.moment c.standpoint-at.result st c.standpoint-at.ensures.state
+    let at = point_same c.args.moment c.standpoint-at.result st c.standpoint-at.ensures.state
     c.standpoint-at.ensures.reading c.standpoint-at.ensures.adjustment in
     let heard = c.hear_timed.ensures in
     let taken = heard.is network device node.taken st.accepted.range st.site st.intake arrives.at in
     let is = taken.0
-    ∙ ap (λ (p : Point). timed_arrival network device c.args.link p octets (last_taken_by node)) at in
+    ∙ ap (λ p. timed_arrival network device c.args.link p octets (last_taken_by node)) at in
     let signal : signal_of octets ≡ timed octets =
     rw (is_no_type octets (λ e. let f = c.is_pcf.ensures.1 (enough arrives.least, e) in let g = c.if-is_pcf.false in cc)) refl in (
       is ∙ ap (arrival_at network device node c.args.moment c.args.link) (sym signal),
-      subst (λ (s : Switch). StandsAs s network device (called c.args.moment arriving (after_arrival node c.args.moment c.hear_timed.result))) (sym heard.rest)
+      subst (λ s. StandsAs s network device (called c.args.moment arriving (after_arrival node c.args.moment c.hear_timed.result))) (sym heard.rest)
           (arrival_stands c.args.self.now c.hear_timed.new.self.intake c.hear_timed.new.self.departures network device node c.args.moment c.standpoint-at.result
           c.hear_timed.result st may.later.reading
           (record { state = c.standpoint-at.ensures.state; reading = c.standpoint-at.ensures.reading; adjustment = c.standpoint-at.ensures.adjustment })

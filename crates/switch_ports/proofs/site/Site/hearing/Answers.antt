@@ -5,7 +5,7 @@ use Rattle.switch_ports.proofs.site.Site.hearing.Goals as goal
 pub returns-in-Joining : goal.returns-in-Joining
 returns-in-Joining c =
     let same = c.timed_hearing.ensures
-    ∙ ap (λ (z : ℤ). ripe_as
+    ∙ ap (λ z. ripe_as
     (heard_by_schedule (nat_le c.args.cycle last_cycle && is_in_schedule c.args.self.now.plan c.args.self.now.precision.0 c.args.cycle z)))
     c.shown.ensures in
     elim c.in-Joining.is [ inl e ↦ rw e same | inr e ↦ rw e same ]

@@ -6,7 +6,7 @@ pub returns : goal.returns
 returns c network device range site =
     let at = standpoint_of c.args.at.now in
     let limit : c.gate_end.result.0 ≡ pos (amount network.correction + 2 * amount network.precision) = ap (λ (u : Units). u.0) c.gate_end.ensures
-    ∙ ap (λ (u : Units). pos (amount u + 2 * amount c.args.self.now.precision)) site.correction
+    ∙ ap (λ u. pos (amount u + 2 * amount c.args.self.now.precision)) site.correction
     ∙ ap (λ (u : Units). pos (amount network.correction + 2 * amount u)) site.precision in
     let shown : c.place_in_cycle.result.0 ≡ int_rem_euclid (clock_of at +ℤ pos (2 * amount network.precision)) network.cycle.0 = c.place_in_cycle.ensures
     ∙ ap (λ (z : ℤ). int_rem_euclid z c.args.self.now.plan.cycle_length.0) c.gate_value.ensures

@@ -8,7 +8,7 @@ take-taken-requires-clause-length c = c.requires.alive.site_in_range.cycle
 
 pub returns-in-Some-clause-is : goal.returns-in-Some-clause-is
 returns-in-Some-clause-is c network device taken range site has link =
-    let none = ap (λ (m : ℕ). heading_fault (not (is_off c.args.at.now.state)) c.args.at.now.state m c.of-heading.result) (sym site.marker)
+    let none = ap (λ m. heading_fault (not (is_off c.args.at.now.state)) c.args.at.now.state m c.of-heading.result) (sym site.marker)
     ∙ ap (λ (b : Bool). heading_fault (not b) c.args.at.now.state c.args.self.now.site.marker c.of-heading.result) (sym c.is_off.ensures)
     ∙ sym c.fault.ensures.is ∙ c.in-Some.is in (
       sym (dropped_by network device c.args.link (standpoint_of c.args.at.now) c.args.octets.now c.of-heading.result taken c.in-Some.reason
@@ -20,8 +20,8 @@ pub returns-in-Ok-clause-is : goal.returns-in-Ok-clause-is
 returns-in-Ok-clause-is c network device taken range site has link =
     let at = standpoint_of c.args.at.now in
     let clock : c.local-local.result.0 ≡ clock_of at = c.local-local.ensures
-    ∙ ap (λ (z : ℤ). z +ℤ c.args.at.now.adjustment.0) (its_amount _ _ c.args.at.now.reading c.requires.alive.reading) in
-    let none = ap (λ (m : ℕ). heading_fault (not (is_off c.args.at.now.state)) c.args.at.now.state m c.of-heading.result) (sym site.marker)
+    ∙ ap (λ z. z +ℤ c.args.at.now.adjustment.0) (its_amount _ _ c.args.at.now.reading c.requires.alive.reading) in
+    let none = ap (λ m. heading_fault (not (is_off c.args.at.now.state)) c.args.at.now.state m c.of-heading.result) (sym site.marker)
     ∙ ap (λ (b : Bool). heading_fault (not b) c.args.at.now.state c.args.self.now.site.marker c.of-heading.result) (sym c.is_off.ensures)
     ∙ sym c.fault.ensures.is ∙ c.in_default.is in
     let judged = subst (IsTakenSo network device c.args.link c.of-heading.result at taken c.take-taken.new.self) c.in-Ok.is
@@ -35,8 +35,8 @@ pub returns-in-Err-clause-is : goal.returns-in-Err-clause-is
 returns-in-Err-clause-is c network device taken range site has link =
     let at = standpoint_of c.args.at.now in
     let clock : c.local-local.result.0 ≡ clock_of at = c.local-local.ensures
-    ∙ ap (λ (z : ℤ). z +ℤ c.args.at.now.adjustment.0) (its_amount _ _ c.args.at.now.reading c.requires.alive.reading) in
-    let none = ap (λ (m : ℕ). heading_fault (not (is_off c.args.at.now.state)) c.args.at.now.state m c.of-heading.result) (sym site.marker)
+    ∙ ap (λ z. z +ℤ c.args.at.now.adjustment.0) (its_amount _ _ c.args.at.now.reading c.requires.alive.reading) in
+    let none = ap (λ m. heading_fault (not (is_off c.args.at.now.state)) c.args.at.now.state m c.of-heading.result) (sym site.marker)
     ∙ ap (λ (b : Bool). heading_fault (not b) c.args.at.now.state c.args.self.now.site.marker c.of-heading.result) (sym c.is_off.ensures)
     ∙ sym c.fault.ensures.is ∙ c.in_default.is in
     let judged = subst (IsTakenSo network device c.args.link c.of-heading.result at taken c.take-taken.new.self) c.in-Err.is
