@@ -2,7 +2,7 @@
 use Rattle.end_system.proofs.{Advance.{done_now, done_still, was_done}, Words.{option_map_or, pos, refl, subst, suc, sym, turn_of, value_of, zero, ℕ, ℤ}}
 use Rattle.{end_system.proofs.{RowSearch.is_of, Tasks.later_value}, run_law.specs.machines.Tasks.offset_of, std.proofs.Math.Nat.{div-add-mod, mod-lt}}
 use Rattle.{end_system.proofs.Values.at_least, std.proofs.Common.{◌-◌, ◌/◌}}
-use Rattle.end_system.proofs.Words.{◌%◌, ◌*◌, ◌++◌, ◌+◌, ◌-ℤ◌, ◌<ℤ◌, ◌<◌, ◌^◌, ◌∙◌, ◌∷◌, ◌≡◌, ◌≤ℤ◌, ◌≤◌, AreRowsOf, ClockTask, Contains, DeviceId, Dispatch}
+use Rattle.end_system.proofs.Words.{◌%◌, ◌*◌, ◌++◌, ◌+◌, ◌-ℤ◌, ◌<ℤ◌, ◌<◌, ◌∙◌, ◌∷◌, ◌≡◌, ◌≤ℤ◌, ◌≤◌, AreRowsOf, ClockTask, Contains, DeviceId, Dispatch}
 use Rattle.end_system.proofs.Words.{IsAtSlot, IsBelow, IsDispatch, IsOwnOf, IsSlotOf, List, Network, None, Option, Own, Row, RowId, Rows, SentBy, Slot, Some}
 use Rattle.end_system.proofs.Words.{Standing, SyncPlan, Synchronised, Units, [], amount, ap, arith, dispatching, inl, inr, ints, mul-le-mul_right, numbers_of}
 use Rattle.{end_system.specs.Deeds.{IsSooner, Leaves}, schedule_tables.specs.{Dispatches.dispatch_order, Slots.place_by, declared.slot.Place.Place}}

@@ -1,6 +1,6 @@
 -- The kind of what an end system does first.
 use Rattle.device_rules.{proofs.FirstKinds.first_kind_of, specs.FirstKinds.{IsFirstKind, kind_of, order_of_kind}}
-use Rattle.device_rules.specs.declared.first_kind.TaskKind.{TaskKind, TheVariants.{Correction, Dispatch as Dispatches, Sending}}
+use Rattle.device_rules.specs.declared.first_kind.TaskKind.TheVariants.{Correction, Dispatch as Dispatches, Sending}
 use Rattle.end_system.proofs.Tasks.{ahead_task, first_is_correction, first_is_sending, no_correction, no_sending}
 use Rattle.end_system.proofs.Words.{◌<ℤ◌, ◌≡◌, ◌≤ℤ◌, Agenda, Appointment, DeviceId, IfSome, IsAgenda, IsOwnOf, Network, Node, Own, Some, ap}
 use Rattle.end_system.proofs.Words.{arith, correcting, dispatching, false, refl, sending, ℤ}

@@ -1,6 +1,6 @@
 -- Between which values clocks lie.
 use Rattle.device_rules.specs.Widths.{IsLocal}
-use Rattle.lens_clocks.specs.{Laws.{AreEnds, EndsAreOfClocks}, Spread.{ends_of, locals_of}, declared.{spread.Ends.Ends, telling.Clock.Clock}}
+use Rattle.lens_clocks.specs.{Laws.EndsAreOfClocks, Spread.{ends_of, locals_of}, declared.{spread.Ends.Ends, telling.Clock.Clock}}
 use Rattle.run_law.specs.records.Order.{IsIn}
 use Rattle.std.proofs.Common.{◌∷◌, ◌≡◌, ◌≤ℤ◌, List, Some, [], ap, arith, fold, inl, inr, refl, subst, suc, sym, zero, ℤ}
 use Rattle.std.proofs.lemmas.{Int.{fold-int_max_bounds, fold-int_max_reached, fold-int_min_bounds, fold-int_min_reached}, List.Elements.All-cons}

@@ -7,7 +7,7 @@ use Rattle.run_law.proofs.{device.States.is_in, runs.Places.{in_left, in_parts, 
 use Rattle.run_law.specs.{device.{LocalClocks.local, States.{adjustment_after, is_synchronised, state_after}}, records.Order.IsIn}
 use Rattle.run_law.specs.records.Happenings.{Happening, earlier, up_to}
 use Rattle.run_law.specs.scenario.Scenarios.{Scenario, is_broken}
-use Rattle.std.proofs.Common.{◌+◌, ◌<◌, ◌∙◌, ◌≡◌, ◌≤◌, Bool, List, None, Option, Some, [], ap, arith, false, inl, inr}
+use Rattle.std.proofs.Common.{◌+◌, ◌<◌, ◌∙◌, ◌≡◌, Bool, List, None, Option, Some, [], ap, arith, false, inl, inr}
 use Rattle.std.proofs.Common.{length, refl, subst, suc, sym, true, zero, ℕ, ℤ}
 use Rattle.std.{proofs.lemmas.Bool.cases_lt, specs.{List.cons_option, Prelude.if◌then◌else◌}}
 use Rattle.sync_state.specs.declared.state.State.{State, TheVariants.Synchronised}

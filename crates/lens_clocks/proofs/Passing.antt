@@ -1,9 +1,9 @@
 -- The lines of cycles, one after another.
-use Rattle.lens_clocks.specs.{Answer.{cycle_lines, cycles_by, lines_to}, Laws.CyclesHavePassed}
+use Rattle.lens_clocks.specs.{Answer.{cycle_lines, lines_to}, Laws.CyclesHavePassed}
 use Rattle.run_law.specs.{records.Happenings.Happening, scenario.Scenarios.Scenario}
-use Rattle.std.proofs.Common.{◌*◌, ◌++◌, ◌+◌, ◌<◌, ◌∙◌, ◌≡◌, ◌≤◌, List, [], ap, append_assoc, arith, inl, inr, refl, subst, suc, sym, zero, ℕ}
+use Rattle.std.proofs.Common.{◌++◌, ◌+◌, ◌<◌, ◌∙◌, ◌≡◌, ◌≤◌, List, [], ap, append_assoc, arith, inl, inr, refl, subst, suc, sym, zero, ℕ}
 use Rattle.std.proofs.Math.Nat.{le-div_iff_mul-le}
-use Rattle.{std.proofs.lemmas.{Bool.cases_lt, Int.ints, List.append-nil}, tte_units.specs.Amount.amount}
+use Rattle.std.proofs.lemmas.{Bool.cases_lt, Int.ints, List.append-nil}
 use Rattle.tte_forms.{proofs.Puts.{PutFails-behind, PutFails-more, PutsLines-append}, specs.Putting.{PutFails, PutsLines, PutsSome, Shown}}
 
 pub cycles_have_passed : CyclesHavePassed

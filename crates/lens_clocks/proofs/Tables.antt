@@ -1,6 +1,6 @@
 -- Lines put one after another.
 use Rattle.lens_clocks.specs.Putting.{Puts}
-use Rattle.std.proofs.Common.{◌++◌, ◌+◌, ◌<◌, ◌∙◌, ◌∷◌, ◌≡◌, ◌≤◌, List, [], ap, append_assoc, arith, drop, get_or, length}
+use Rattle.std.proofs.Common.{◌++◌, ◌+◌, ◌<◌, ◌∙◌, ◌∷◌, ◌≡◌, List, [], ap, arith, drop, get_or, length}
 use Rattle.std.proofs.Common.{map, refl, subst, suc, sym, take, zero, ℕ}
 use Rattle.{std.proofs.lemmas.List.{map-append, take-append-drop, take_more}, std.specs.Io.KnownBytes.Appends}
 use Rattle.std.specs.{Prelude.{Err, Ok, OnErr, OnOk}, declared.result.Result.Result}

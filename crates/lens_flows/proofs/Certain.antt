@@ -3,7 +3,7 @@ use Rattle.lens_flows.proofs.counts_lemmas.Within.{counts_within}
 use Rattle.lens_flows.specs.{Laws.{CertainAreDue, CertainAreOwed}, counts.{Counted.HasFateAt, Told.IsTold}}
 use Rattle.lens_flows.specs.{counts.Deliveries.deliveries_of, declared.counts.told.FlowTold.FlowTold}
 use Rattle.{audit_law.specs.events.Readings.scenario_under, lens_flows.specs.judge.Certain.IsCertainAt}
-use Rattle.run_law.specs.{records.{Happenings.happenings, Order.IsIn}}
+use Rattle.run_law.specs.records.{Happenings.happenings, Order.IsIn}
 use Rattle.std.proofs.{Common.{◌*◌, ◌-◌, ◌∷◌, List, [], arith, inl, inr, subst, sym}, lemmas.List.Elements.{All-head, All-tail}}
 use Rattle.std.specs.Prelude.{All}
 use Rattle.{tte_audit.specs.Report.events_of, tte_units.specs.Amount.amount}

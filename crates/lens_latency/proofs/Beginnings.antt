@@ -1,6 +1,6 @@
 -- A frame that was delivered goes back to its dispatch on the sender's row of the channel by which it came.
 use Rattle.lens_latency.specs.Arrivals.{IsDeparture}
-use Rattle.{net_plan.specs.declared.ids.{DeviceId.DeviceId, LinkId.LinkId, VlId.VlId}, run_law.specs.declared.note.NoteBody.NoteBody}
+use Rattle.net_plan.specs.declared.ids.{DeviceId.DeviceId, LinkId.LinkId, VlId.VlId}
 use Rattle.{net_plan.specs.Places.IsSwitchOf, run_law.specs.{records.{Causes.{GoesBackTo, cause_of}, Happenings.{Happening, numbered, time_of}, Order.IsIn}, scenario.Devices.is_end}}
 use Rattle.precision_law.proofs.{faults.{Masters.{good_is_correct, one_channel_is_sound, switches_are_good}, Ways.{sound_switches_begin_on, sound_ways_are_whole}}, law.Whole.blocks_known}
 use Rattle.precision_law.proofs.traffic_lemmas.delivery.{Coming.takings_come_by_rows, Sent.Brings, Taken.takings_are_so, Whole.octets_come_so}

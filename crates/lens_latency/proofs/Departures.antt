@@ -4,7 +4,7 @@ use Rattle.lens_latency.specs.Following.{arrival_by, is_departure}
 use Rattle.net_plan.specs.declared.ids.{DeviceId.DeviceId, LinkId.LinkId, VlId.VlId}
 use Rattle.run_law.specs.{declared.note.NoteBody.NoteBody, records.{Causes.{IsChain, cause_of, last_from}, Happenings.{Happening, numbered, time_of}}}
 use Rattle.std.proofs.Common.{◌-◌, ◌==◌, ◌∙◌, ◌∷◌, ◌≡◌, List, None, Option, Some, [], ap, false, refl, subst, suc, sym, true, zero, ℕ}
-use Rattle.std.{proofs.lemmas.Bool.{eqb-true, false≢true}}
+use Rattle.std.proofs.lemmas.Bool.{eqb-true, false≢true}
 use Rattle.tte_units.proofs.general_lemmas.{Options.some_same}
 use Rattle.run_law.specs.declared.note.NoteBody.TheVariants as notes
 

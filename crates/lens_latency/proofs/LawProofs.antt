@@ -13,7 +13,7 @@ use Rattle.schedule_tables.specs.{Schedule.EntersOn, Windows.{arrival_of, tolera
 use Rattle.std.proofs.Common.{◌-ℤ◌, ◌-◌, ◌<◌, ◌∙◌, ◌∷◌, ◌≡◌, ◌≤ℤ◌, ◌≤◌, List, None, Option, Some, [], ap, arith, false, inl, inr, length, max, min, pos, refl, subst, suc, sym, true, zero}
 use Rattle.std.proofs.{Math.Nat.{le-max_left, le-max_right, min-le_left, min-le_right}, lemmas.{Bool.both_ways, Int.ints, Option.slice_get_within}}
 use Rattle.std.specs.{List.Contains, Prelude.{slice_get, ℕ, ℤ}}
-use Rattle.tte_units.{proofs.general_lemmas.Options.{one as same_some, opened}, specs.{declared.frames.channel.Channel.{Channel, TheVariants.{A, B}}}}
+use Rattle.tte_units.{proofs.general_lemmas.Options.{one as same_some, opened}, specs.declared.frames.channel.Channel.{Channel, TheVariants.{A, B}}}
 
 -- the coming is the device's of the virtual link, among these
 record IsFound (network : Network) (cs : List Coming) (vl : VlId) (device : DeviceId) : Type 0 where

@@ -7,7 +7,7 @@ use Rattle.net_plan.specs.declared.{ids.LinkId.LinkId, tables.Link.Link}
 use Rattle.precision_law.proofs.{records.RunViews.{view_of, view_with}, traffic_lemmas.{delivery.{Coming.takings_come_by_rows, Delivering.fields_fit, Taken.takings_are_so}, faults.Channels.good_sources}}
 use Rattle.{precision_law.specs.traffic.Latency.IsDeliveryBy, run_law.{proofs.law.FirstPlaces.{by_number, number_is, numbered_in}, specs.runs.{DueRecords.IsDue, Runs.IsFounded}}}
 use Rattle.run_law.specs.records.{Causes.{GoesBackTo, IsChain, cause_of}, Happenings.{Happening, happenings, numbered, time_of}, Order.IsIn, Ranks.place_of}
-use Rattle.{run_law.specs.scenario.Scenarios.Scenario, schedule_tables.{proofs.Margins.shape_rules, specs.{Entries.{IsOnChannel, source_of}}}}
+use Rattle.{run_law.specs.scenario.Scenarios.Scenario, schedule_tables.{proofs.Margins.shape_rules, specs.Entries.IsOnChannel}}
 use Rattle.std.proofs.Common.{◌+◌, ◌-◌, ◌∷◌, ◌≡◌, ◌≤◌, List, Some, [], arith, inr, refl, subst, sym, ℕ}
 use Rattle.tte_units.{proofs.general_lemmas.Options.{opened, some_same}, specs.declared.frames.channel.Channel.Channel}
 use Rattle.run_law.specs.declared.note.NoteBody.TheVariants as notes

@@ -3,7 +3,7 @@ use Rattle.lens_latency.specs.Seeing.{AreSeen, AreTold, IsSeen, IsTold, is_of, t
 use Rattle.lens_latency.specs.declared.{arrivals.Arrival.Arrival, comings.Coming.Coming, seeing.{Seen.Seen, Told.Told}}
 use Rattle.run_law.{proofs.runs.Places.{in_left, in_parts, in_right}, specs.records.Order.IsIn}
 use Rattle.std.proofs.Common.{◌++◌, ◌+◌, ◌<◌, ◌∙◌, ◌∷◌, ◌≡◌, ◌≤◌, ◌⊎◌, Bool, List, None, Option, Some, [], ap, arith, false, filter, get_or, if◌then◌else◌, inl, inr, length, map, max, min, refl, subst, suc, sym, take, true, zero, ℕ}
-use Rattle.std.proofs.{Math.Nat.{le-max_left, le-max_right, min-le_left, min-le_right}, lemmas.{List.{Elements.{All-append, All-cons, All-head, All-nil, All-tail}, length-append, length-map, map-append, take_more}}}
+use Rattle.std.proofs.{Math.Nat.{le-max_left, le-max_right, min-le_left, min-le_right}, lemmas.List.{Elements.{All-append, All-cons, All-head, All-nil, All-tail}, length-append, length-map, map-append, take_more}}
 use Rattle.std.specs.{List.All, Prelude.IfSome}
 use Rattle.tte_units.proofs.general_lemmas.Lists.{filter_off, filter_on}
 

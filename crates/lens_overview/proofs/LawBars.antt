@@ -1,12 +1,12 @@
 -- The bars of the strip.
 use Rattle.lens_overview.proofs.LawRows.{in_each}
-use Rattle.lens_overview.specs.{Bars.{bars_of, greater, greatest_of, raised}, Grids.{column_of, pen_at}, Lines.{bar_line, bar_part, caption_line, caption_part, extent_line, piece_line, rail_part, records_part, spread_line, stroke_part, tick_line, tick_part}}
+use Rattle.lens_overview.specs.{Bars.{bars_of, greater, raised}, Grids.{column_of, pen_at}, Lines.{bar_line, bar_part, caption_line, caption_part, extent_line, piece_line, rail_part, records_part, spread_line, stroke_part, tick_line, tick_part}}
 use Rattle.lens_overview.specs.Pieces.{bar_at, bar_height, bars_from, below, bottom_of, front, not_begun, picture_of, row_pieces, rows_from, stride_of, stroke_to, strokes_from, ticks, top}
 use Rattle.lens_overview.specs.{Rows.Row, Shades.{is_blank, is_same}, Signs.sign_line, declared.{grid.{Grid.Grid, Pen.Pen}, label.Label.Label, news.News.News}}
-use Rattle.lens_overview.specs.declared.{pieces.{Begun.Begun, Piece.Piece, Ribbon.Ribbon}, shade.Shade.Shade}
+use Rattle.lens_overview.specs.declared.{pieces.{Begun.Begun, Piece.Piece}, shade.Shade.Shade}
 use Rattle.{lens_svg.specs.{Elements.opening_line, Sketching.with_at, Titles.{heading_line, title_line}}, net_plan.specs.declared.network.Network.Network}
 use Rattle.run_law.{proofs.runs.Places.in_parts, specs.records.Order.IsIn}
-use Rattle.std.proofs.Common.{◌*◌, ◌+◌, ◌++◌, ◌-◌, ◌/◌, ◌<◌, ◌∙◌, ◌∷◌, ◌≡◌, ◌≤◌, ◌⊎◌, Bool, List, None, Option, Some, [], ap, arith, false, fold, get_or, if◌then◌else◌, inl, inr, length, refl, replicate, subst, suc, sym, true, zero, ℕ}
+use Rattle.std.proofs.Common.{◌*◌, ◌+◌, ◌++◌, ◌-◌, ◌/◌, ◌<◌, ◌∙◌, ◌∷◌, ◌≡◌, ◌≤◌, ◌⊎◌, Bool, List, None, Option, Some, [], ap, arith, false, fold, get_or, if◌then◌else◌, inl, inr, length, refl, replicate, suc, sym, true, ℕ}
 use Rattle.std.proofs.lemmas.{Bool.{Decides.nat_tests, cases_lt}, List.{get_or-replicate, get_or-set_other, get_or-set_same, length-replicate, length-set}}
 use Rattle.std.proofs.lemmas.Option.{slice_get_past, unwrap_or-slice_get}
 use Rattle.std.specs.Prelude.{◌==◌, codes, max, nat_lt, slice_get, slice_set, unwrap_or}

@@ -5,7 +5,7 @@ use Rattle.net_plan.specs.declared.ids.DeviceId.{DeviceId}
 use Rattle.run_law.proofs.device.States.{is_in}
 use Rattle.run_law.specs.{declared.note.NoteBody.NoteBody, device.{LocalClocks.local, States.{is_synchronised, state_after}}, law.Safety.IsInStep}
 use Rattle.run_law.specs.{records.{Happenings.{Happening, up_to}, Order.IsIn}, scenario.Scenarios.{Scenario, is_broken}}
-use Rattle.std.proofs.Common.{◌+ℤ◌, ◌-ℤ◌, ◌∙◌, ◌∷◌, ◌≡◌, ◌≤ℤ◌, ◌≤◌, ◌⊎◌, Bool, List, None, Option, Some, [], ap, arith, false, fold, if◌then◌else◌, inl, inr, length, pos, refl, subst, sym, true, ℕ, ℤ}
+use Rattle.std.proofs.Common.{◌+ℤ◌, ◌-ℤ◌, ◌∙◌, ◌∷◌, ◌≡◌, ◌≤ℤ◌, ◌≤◌, ◌⊎◌, Bool, List, None, Option, Some, [], ap, arith, false, fold, if◌then◌else◌, inl, inr, length, pos, refl, sym, true, ℕ, ℤ}
 use Rattle.std.{proofs.lemmas.Int.ints, specs.Prelude.{int_le, option_map, unsigned_abs}}
 use Rattle.tte_units.proofs.general_lemmas.Options.{one}
 use Rattle.run_law.specs.declared.note.NoteBody.TheVariants as notes

@@ -4,10 +4,10 @@ use Rattle.lens_flows.specs.declared.judge.flow.Flow.{Flow}
 use Rattle.lens_overview.proofs.{LawColumns.{brought_code, cell_frame, frame}, LawCopies.{IsKnown, both_is, come_delivered, first_is, has, known_of, second_is}}
 use Rattle.lens_overview.proofs.{LawFrames.{come_brought, never_missing}, LawNews.{brought_delivered, delivered_brought}, LawStrokes.same_shade, NoneMissed.none_are}
 use Rattle.lens_overview.specs.{Cells.{Missed, shade_at}, Grids.column_of, LawColours.{BlueIsByA, ComesBy, ComesByOne, GreenIsByBoth, InEach, InSome, VioletIsByB}}
-use Rattle.lens_overview.specs.{LawParts.IsDeliveredIn, Laws.{cells_for, grid_for}, Shades.{code_of, is_same}, Telling.news_by, declared.{news.News.News, shade.Shade.Shade}}
+use Rattle.lens_overview.specs.{LawParts.IsDeliveredIn, Laws.{cells_for, grid_for}, Shades.code_of, Telling.news_by, declared.{news.News.News, shade.Shade.Shade}}
 use Rattle.net_plan.specs.declared.network.Network.{Network}
-use Rattle.run_law.specs.{declared.note.Note.Note, records.{Happenings.{Happening, happenings}, Order.IsIn}, scenario.Scenarios.Scenario}
-use Rattle.std.proofs.Common.{◌+◌, ◌<◌, ◌∙◌, ◌≡◌, ◌≤◌, ◌⊎◌, Bool, List, [], ap, arith, false, inl, inr, refl, subst, sym, true, ℕ}
+use Rattle.run_law.specs.{declared.note.Note.Note, records.Happenings.{Happening, happenings}, scenario.Scenarios.Scenario}
+use Rattle.std.proofs.Common.{◌∙◌, ◌≡◌, ◌≤◌, Bool, List, [], ap, arith, false, inl, inr, refl, subst, sym, true, ℕ}
 use Rattle.std.proofs.lemmas.Bool.{Decides.nat_tests, false≢true}
 use Rattle.{std.specs.Prelude.◌==◌, tte_audit.specs.Report.events_of}
 use Rattle.tte_units.specs.declared.frames.channel.Channel.{Channel, TheVariants.{A, B}}

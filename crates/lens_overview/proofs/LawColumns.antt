@@ -1,10 +1,10 @@
 -- The cell of a column: the worst of those of its cycles.
 use Rattle.lens_overview.proofs.LawFrames.{Brings, brought_come, code_seen, come_brought, cycle_of_copy, filled_at, filled_long, frame_behind, never_missing}
 use Rattle.lens_overview.specs.{Cells.{filled, flow_cells, in_column, shade_at, taken, worst}, Grids.{column_of, grid_of}, News.{last_cycle, named_cycle}, Ranges.each_below}
-use Rattle.lens_overview.specs.{Shades.{code_of, is_blank, worse}, declared.{grid.Grid.Grid, news.{Change.Change, News.News}, shade.Shade.Shade}}
+use Rattle.lens_overview.specs.{Shades.{code_of, is_blank, worse}, declared.{grid.Grid.Grid, news.News.News, shade.Shade.Shade}}
 use Rattle.{net_plan.specs.declared.ids.{DeviceId.DeviceId, VlId.VlId}, run_law.specs.records.Order.IsIn}
-use Rattle.std.proofs.Common.{◌*◌, ◌+◌, ◌++◌, ◌-◌, ◌/◌, ◌<◌, ◌∙◌, ◌∷◌, ◌≡◌, ◌≤◌, ◌⊎◌, Bool, List, None, Option, [], ap, arith, drop, false, fold, get_or, if◌then◌else◌, inl, inr, length, length-append, length-drop, length-take, refl, replicate, subst, suc, sym, take, true, zero, ℕ}
-use Rattle.std.proofs.{Math.{ListN.get_or-append, Nat.{div-mul-le_self, le-max_left, le-max_right, mul_comm, mul-le-mul_right}, Seq.get_or-append_seam}}
+use Rattle.std.proofs.Common.{◌*◌, ◌+◌, ◌++◌, ◌-◌, ◌/◌, ◌<◌, ◌∙◌, ◌∷◌, ◌≡◌, ◌≤◌, ◌⊎◌, Bool, List, Option, [], ap, arith, drop, false, fold, get_or, if◌then◌else◌, inl, inr, length, length-append, length-drop, length-take, refl, replicate, subst, suc, sym, take, true, zero, ℕ}
+use Rattle.std.proofs.Math.{ListN.get_or-append, Nat.{div-mul-le_self, le-max_left, le-max_right, mul_comm, mul-le-mul_right}, Seq.get_or-append_seam}
 use Rattle.std.proofs.lemmas.{Bool.{Decides.nat_tests, cases_lt, false≢true}, List.{get_or-drop, get_or-replicate, get_or-take, length-replicate}, Nat.le-div, Option.{slice_get_past, unwrap_or-slice_get}}
 use Rattle.std.specs.Prelude.{max, nat_lt, slice_get, unwrap_or}
 use Rattle.lens_overview.specs.declared.label.Label.TheVariants as labels

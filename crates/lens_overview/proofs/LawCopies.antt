@@ -1,13 +1,13 @@
 -- By which channels the copies of a frame come, and its shade.
 use Rattle.lens_flows.specs.declared.judge.flow.Flow.{Flow}
-use Rattle.lens_overview.proofs.LawFrames.{Brings, brought_come, come_brought, frame_after, frame_behind, is_copy, is_own, never_missing}
-use Rattle.lens_overview.proofs.{LawFrames.{cycle_of_copy, flow_of_copy}, LawNews.{brings_delivered, brought_delivered, delivered_brought, told_from}}
+use Rattle.lens_overview.proofs.LawFrames.{Brings, come_brought, frame_after, frame_behind, is_copy, is_own, never_missing}
+use Rattle.lens_overview.proofs.{LawFrames.{cycle_of_copy, flow_of_copy}, LawNews.{brings_delivered, brought_delivered, told_from}}
 use Rattle.lens_overview.specs.{LawColours.{ComesBy, IsRepeatedIn, IsSentBy}, LawParts.IsDeliveredIn, News.{change_at, change_of, news_of, repeats_by, struck}}
 use Rattle.lens_overview.specs.{Shades.{code_of, delivered, is_blank, repeated}, declared.{news.{Change.Change, Copied.Copied, News.News}, shade.Shade.Shade}}
 use Rattle.net_plan.specs.declared.{event.What.What, ids.{DeviceId.DeviceId, LinkId.LinkId, VlId.VlId}, network.Network.Network}
-use Rattle.run_law.{proofs.runs.Places.{in_left, in_parts, in_right}, specs.records.{Happenings.Happening, Order.IsIn}}
+use Rattle.run_law.{proofs.runs.Places.{in_left, in_parts, in_right}, specs.records.Happenings.Happening}
 use Rattle.run_law.specs.{declared.note.{Note.Note, NoteBody.NoteBody}, scenario.{Devices.channel_of_link, Scenarios.Scenario}}
-use Rattle.std.proofs.Common.{◌+◌, ◌++◌, ◌<◌, ◌∙◌, ◌∷◌, ◌≡◌, ◌≤◌, ◌⊎◌, Bool, List, None, Option, Some, [], add-one, ap, append_assoc, arith, false, if◌then◌else◌, inl, inr, refl, subst, suc, sym, true, zero, ℕ}
+use Rattle.std.proofs.Common.{◌+◌, ◌++◌, ◌∙◌, ◌∷◌, ◌≡◌, ◌≤◌, ◌⊎◌, Bool, List, None, Option, Some, [], add-one, ap, append_assoc, arith, false, if◌then◌else◌, inl, inr, refl, subst, suc, sym, true, zero, ℕ}
 use Rattle.std.proofs.lemmas.{Bool.{Decides.nat_tests, false≢true}, List.{Sums.fold-append, append-nil}}
 use Rattle.std.specs.Prelude.{slice_get}
 use Rattle.tte_units.{proofs.general_lemmas.Options.{mapped, one}, specs.declared.frames.channel.Channel.{Channel, TheVariants.{A, B}}}

@@ -1,13 +1,13 @@
 -- The rows of flows.
 use Rattle.lens_flows.specs.declared.judge.flow.Flow.{Flow}
 use Rattle.lens_overview.proofs.{LawStrokes.same_shade, LawTexts.is_flow}
-use Rattle.lens_overview.specs.{Cells.{Missed, cells_of, flow_cells, is_alike, is_any, narrowed}, LawParts.IsRowOf, Labels.{is_of_vl, with_receiver}, Ranges.{all_below, each_below}, Shades.is_same}
+use Rattle.lens_overview.specs.{Cells.{Missed, cells_of, flow_cells, is_alike, is_any}, LawParts.IsRowOf, Labels.{is_of_vl, with_receiver}, Ranges.{all_below, each_below}, Shades.is_same}
 use Rattle.lens_overview.specs.Rows.{Row, Told, calm_below, count_rows, filled_row, is_like, is_turned, joined, lane_at, lane_rows, losses, others_row, passage_rows, passages_at, raised, rows_of, start_of, title_row, upper_rows, with_flows}
-use Rattle.lens_overview.specs.declared.{grid.Grid.Grid, label.{Kind.Kind, Label.Label}, rows.Calm.Calm, shade.Shade.{Shade, TheVariants.Blank}}
+use Rattle.lens_overview.specs.declared.{label.{Kind.Kind, Label.Label}, rows.Calm.Calm, shade.Shade.{Shade, TheVariants.Blank}}
 use Rattle.net_plan.{proofs.SameIds.same_vl, specs.declared.{ids.VlId.VlId, network.Network.Network, tables.Device.Device}}
-use Rattle.run_law.{proofs.runs.Places.{in_left, in_parts, in_right}, specs.records.Order.IsIn}
+use Rattle.run_law.{proofs.runs.Places.{in_left, in_parts}, specs.records.Order.IsIn}
 use Rattle.std.proofs.Common.{◌+◌, ◌++◌, ◌∙◌, ◌∷◌, ◌≡◌, ◌⊎◌, Bool, List, None, Option, Some, [], ap, arith, false, fold, if◌then◌else◌, inl, inr, length, length-append, refl, subst, suc, sym, true, zero, ℕ}
-use Rattle.std.{proofs.lemmas.Bool.{Decides.nat_tests, false≢true}, specs.{Option.option_map_or, Prelude.{◌&&◌, ◌==◌, flat_map, slice_get}}}
+use Rattle.std.{proofs.lemmas.Bool.{Decides.nat_tests, false≢true}, specs.{Option.option_map_or, Prelude.{◌&&◌, ◌==◌, slice_get}}}
 use Rattle.lens_overview.specs.declared.label.Group.TheVariants as groups
 use Rattle.lens_overview.specs.declared.label.Kind.TheVariants as kinds
 use Rattle.lens_overview.specs.declared.label.Label.TheVariants as labels

@@ -4,8 +4,8 @@ use Rattle.lens_overview.specs.Shades.{code_of, delivered, is_blank, is_same, re
 use Rattle.lens_overview.specs.declared.{grid.Grid.Grid, news.{Change.Change, Copied.Copied, News.News}, shade.Shade.Shade}
 use Rattle.net_plan.proofs.SameIds.{alike, same_vl}
 use Rattle.{lens_svg.specs.Sketching.with_at, net_plan.specs.declared.ids.{DeviceId.DeviceId, VlId.VlId}, run_law.specs.records.Order.IsIn}
-use Rattle.std.proofs.Common.{◌+◌, ◌<◌, ◌∙◌, ◌∷◌, ◌≡◌, ◌≤◌, ◌⊎◌, Bool, List, None, Option, Some, [], ap, arith, false, fold, if◌then◌else◌, inl, inr, length, refl, replicate, subst, sym, true, ℕ}
-use Rattle.std.proofs.lemmas.{Bool.{Decides.nat_tests, cases_lt, false≢true}, List.{get_or-set_other, get_or-set_same, length-replicate, length-set}, Option.unwrap_or-slice_get}
+use Rattle.std.proofs.Common.{◌<◌, ◌∙◌, ◌∷◌, ◌≡◌, ◌≤◌, ◌⊎◌, Bool, List, None, Option, Some, [], ap, arith, false, fold, if◌then◌else◌, inl, inr, length, refl, subst, sym, true, ℕ}
+use Rattle.std.proofs.lemmas.{Bool.{Decides.nat_tests, false≢true}, List.{get_or-set_other, get_or-set_same, length-set}, Option.unwrap_or-slice_get}
 use Rattle.std.specs.Prelude.{◌&&◌, ◌==◌, nat_lt, slice_get, slice_set, unwrap_or}
 use Rattle.tte_units.specs.declared.frames.channel.Channel.{Channel, TheVariants.{A, B}}
 use Rattle.lens_overview.specs.declared.label.Label.TheVariants as labels

@@ -5,13 +5,13 @@ use Rattle.lens_overview.proofs.{LawColumns.at_place, LawNews.{note_told, told_f
 use Rattle.lens_overview.specs.{Bars.{bars_of, greatest_of}, Cells.{Missed, cells_of, cut, filled_from, flow_cells, is_alike, is_any, is_same_way, shade_at, taken, turned}, Grids.{column_of, grid_of, pen_at}, Labels.is_of_vl}
 use Rattle.lens_overview.specs.{LawParts.HasStroke, LawStates.{HasCells, IsTurn, device_after, device_cell, way_after, way_cell}, Lines.ribbon_line, News.{change_at, change_of, cycle_of, last_cycle, news_in, news_of, repeats_by, struck}}
 use Rattle.lens_overview.specs.Pieces.{not_begun, told_of, strokes_from}
-use Rattle.lens_overview.specs.Rows.{Row, Told, calm_below, count_rows, filled_row, is_like, is_turn, is_turned, joined, lane_at, lane_rows, losses, others_row, passage_rows, passages_at, raised, rows_of, start_of, title_row, upper_rows, with_flows}
-use Rattle.lens_overview.specs.{Ranges.all_below, Shades.{is_blank, shade_of}, declared.{grid.Grid.Grid, label.Label.Label, news.{Change.Change, News.News}}}
+use Rattle.lens_overview.specs.Rows.{Row, Told, calm_below, count_rows, filled_row, is_like, is_turn, is_turned, joined, lane_at, lane_rows, losses, others_row, passage_rows, passages_at, raised, start_of, title_row, upper_rows, with_flows}
+use Rattle.lens_overview.specs.{Ranges.all_below, Shades.is_blank, declared.{grid.Grid.Grid, label.Label.Label, news.{Change.Change, News.News}}}
 use Rattle.lens_overview.specs.declared.{pieces.Ribbon.Ribbon, shade.Shade.Shade}
 use Rattle.net_plan.specs.declared.{event.What.What, ids.{DeviceId.DeviceId, LinkId.LinkId, VlId.VlId}, network.Network.Network, tables.{Device.Device, Way.Way}}
 use Rattle.run_law.{proofs.runs.Places.{in_left, in_right}, specs.records.{Happenings.Happening, Order.IsIn}}
 use Rattle.run_law.specs.{declared.note.{Note.Note, NoteBody.NoteBody}, scenario.Scenarios.Scenario}
-use Rattle.std.proofs.Common.{◌+◌, ◌++◌, ◌-◌, ◌<◌, ◌∙◌, ◌∷◌, ◌≡◌, ◌≤◌, ◌⊎◌, Bool, List, None, Option, Some, [], ap, arith, drop, false, fold, get_or, if◌then◌else◌, inl, inr, length, length-append, length-take, refl, replicate, subst, suc, sym, take, true, zero, ℕ}
+use Rattle.std.proofs.Common.{◌+◌, ◌++◌, ◌-◌, ◌<◌, ◌∙◌, ◌∷◌, ◌≡◌, ◌≤◌, Bool, List, None, Option, Some, [], ap, arith, false, fold, get_or, if◌then◌else◌, inl, inr, length, length-append, length-take, refl, replicate, subst, suc, sym, take, true, zero, ℕ}
 use Rattle.std.proofs.{Math.ListN.get_or-append, lemmas.{Bool.{Decides.nat_tests, cases_lt, false≢true}, List.{get_or-append-add, get_or-replicate, get_or-take, length-replicate, length-take-le}}}
 use Rattle.std.proofs.lemmas.{List.Sums.fold-append, Option.{slice_get_within, unwrap_or-slice_get}}
 use Rattle.std.specs.{List.list_any, Option.option_map_or, Prelude.{◌&&◌, ◌==◌, ◌||◌, nat_le, nat_lt, not, slice_get, unwrap_or}}

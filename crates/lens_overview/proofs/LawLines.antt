@@ -1,16 +1,15 @@
 -- What the lines of a picture show of flows.
 use Rattle.lens_flows.specs.declared.judge.flow.Flow.{Flow}
 use Rattle.lens_overview.proofs.LawColumns.{none_missing}
-use Rattle.lens_overview.proofs.{LawFlows.{IsOfSome, IsRowIn, cells_in, flow_has, long_flow, row_is}, LawRows.{IsLaid, picture_laid, picture_stroke}}
+use Rattle.lens_overview.proofs.{LawFlows.{flow_has, long_flow, row_is}, LawRows.{IsLaid, picture_laid, picture_stroke}}
 use Rattle.lens_overview.proofs.{LawStrokes.{IsStruck, all_struck, at_first, stroke_label, strokes_are}, LawTexts.{flow_stroke, is_flow, missing_flow, missing_of, stroke_of}}
-use Rattle.lens_overview.specs.{Bars.{bars_of, greatest_of}, Cells.{Missed, flow_cells, shade_at}, Grids.{grid_of, pen_at, right_of}, LawParts.{HasRow, HasStroke, IsRowOf, IsStrokeOf}}
-use Rattle.lens_overview.specs.{Lines.{name_line, piece_line, ribbon_line}, News.last_cycle, Pieces.{not_begun, pieces_of, row_pieces, strokes_from, told_of}, Rows.{Row, Told, rows_of}}
-use Rattle.lens_overview.specs.{Shades.is_blank, declared.{grid.Grid.Grid, label.Label.Label, news.News.News, pieces.{Piece.Piece, Ribbon.Ribbon}, shade.Shade.Shade}}
+use Rattle.lens_overview.specs.{Bars.{bars_of, greatest_of}, Cells.{Missed, flow_cells, shade_at}, Grids.{grid_of, pen_at, right_of}, LawParts.{HasRow, HasStroke, IsStrokeOf}}
+use Rattle.lens_overview.specs.{Lines.{name_line, piece_line, ribbon_line}, News.last_cycle, Pieces.{not_begun, pieces_of, strokes_from, told_of}, Rows.{Row, rows_of}}
+use Rattle.lens_overview.specs.{Shades.is_blank, declared.{grid.Grid.Grid, news.News.News, pieces.{Piece.Piece, Ribbon.Ribbon}, shade.Shade.Shade}}
 use Rattle.{net_plan.specs.declared.network.Network.Network, run_law.specs.records.Order.IsIn}
-use Rattle.std.proofs.Common.{◌+◌, ◌++◌, ◌<◌, ◌∙◌, ◌∷◌, ◌≡◌, ◌≤◌, List, [], ap, arith, false, inl, inr, length, map, refl, subst, sym, true, ℕ}
+use Rattle.std.proofs.Common.{◌+◌, ◌++◌, ◌<◌, ◌∙◌, ◌∷◌, ◌≡◌, List, [], ap, arith, false, inl, inr, length, map, refl, subst, sym, true, ℕ}
 use Rattle.std.specs.Prelude.{codes}
 use Rattle.lens_overview.specs.declared.pieces.Piece.TheVariants as pieces
-use Rattle.lens_overview.specs.declared.shade.Shade.TheVariants as shades
 
 module _ (network : Network) (title : List ℕ) where
   pub line_in : (all : List Piece) (piece : Piece) → IsIn piece all

@@ -1,5 +1,5 @@
 -- Which records tell of a delivery.
-use Rattle.lens_overview.proofs.LawFrames.{Brings, flow_of_copy, cycle_of_copy, is_copy, is_own}
+use Rattle.lens_overview.proofs.LawFrames.{Brings, flow_of_copy, cycle_of_copy, is_own}
 use Rattle.lens_overview.specs.{LawParts.IsDeliveredIn, News.{change_at, change_of, news_in, news_of, repeats_by, struck}}
 use Rattle.lens_overview.specs.declared.news.{Change.{Change, TheVariants.{Delivers, Sends}}, Copied.Copied, News.News}
 use Rattle.lens_flows.specs.declared.judge.flow.Flow.{Flow}
@@ -7,7 +7,6 @@ use Rattle.net_plan.specs.declared.{event.What.What, ids.{DeviceId.DeviceId, Lin
 use Rattle.run_law.{proofs.runs.Places.{in_left, in_parts, in_right}, specs.records.{Happenings.Happening, Order.IsIn}}
 use Rattle.run_law.specs.{declared.note.{Note.Note, NoteBody.NoteBody}, scenario.{Devices.channel_of_link, Scenarios.Scenario}}
 use Rattle.std.proofs.Common.{◌+◌, ◌++◌, ◌∙◌, ◌∷◌, ◌≡◌, ◌⊎◌, List, None, Option, Some, [], ap, arith, fold, inl, inr, length, length-append, refl, subst, sym, ℕ}
-use Rattle.tte_units.specs.declared.frames.channel.Channel.{Channel}
 use Rattle.lens_overview.specs.declared.news.Change.TheVariants as changes
 use Rattle.net_plan.specs.declared.event.What.TheVariants as events
 use Rattle.run_law.specs.declared.judgement.Reason.TheVariants as reasons

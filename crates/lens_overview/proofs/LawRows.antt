@@ -1,15 +1,10 @@
 -- The rows of a picture: their pieces, and those of flows.
-use Rattle.lens_flows.specs.declared.judge.flow.Flow.{Flow}
-use Rattle.lens_overview.proofs.{LawStrokes.same_shade, LawTexts.is_flow}
-use Rattle.lens_overview.specs.{Cells.is_alike, Grids.pen_at, Labels.{is_of_vl, with_receiver}, Ranges.{all_below, each_below}, Shades.is_same}
+use Rattle.lens_overview.specs.{Grids.pen_at, Ranges.each_below}
 use Rattle.lens_overview.specs.Pieces.{bar_at, bars_from, below, bottom_of, front, not_begun, picture_of, row_pieces, rows_from, stride_of, strokes_from, ticks, top}
-use Rattle.lens_overview.specs.Rows.{Row, is_like, joined, raised}
-use Rattle.lens_overview.specs.declared.{grid.{Grid.Grid, Pen.Pen}, label.Label.Label, pieces.{Piece.Piece, Ribbon.Ribbon}, shade.Shade.Shade}
-use Rattle.net_plan.specs.declared.ids.VlId.{VlId}
+use Rattle.lens_overview.specs.Rows.{Row}
+use Rattle.lens_overview.specs.declared.{grid.{Grid.Grid, Pen.Pen}, pieces.{Piece.Piece, Ribbon.Ribbon}}
 use Rattle.run_law.{proofs.runs.Places.{in_left, in_parts, in_right}, specs.records.Order.IsIn}
-use Rattle.std.proofs.Common.{◌*◌, ◌+◌, ◌++◌, ◌-◌, ◌/◌, ◌∙◌, ◌∷◌, ◌≡◌, ◌⊎◌, Bool, List, None, Option, Some, [], ap, arith, false, fold, if◌then◌else◌, inl, inr, refl, subst, suc, sym, true, zero, ℕ}
-use Rattle.std.{proofs.lemmas.Bool.{Decides.nat_tests, false≢true}, specs.Prelude.{◌&&◌, ◌==◌}}
-use Rattle.lens_overview.specs.declared.label.Label.TheVariants as labels
+use Rattle.std.proofs.Common.{◌*◌, ◌+◌, ◌++◌, ◌-◌, ◌/◌, ◌∷◌, ◌≡◌, ◌⊎◌, List, None, Option, Some, [], inl, inr, refl, subst, suc, zero, ℕ}
 use Rattle.lens_overview.specs.declared.pieces.Piece.TheVariants as pieces
 
 -- ---- rows and their pieces

@@ -6,7 +6,7 @@ use Rattle.lens_overview.specs.{Bars.{bars_of, greatest_of}, Cells.{Missed, cell
 use Rattle.lens_overview.specs.{LawStates.{IsStrokeAlong, device_cell, way_cell}, Lines.{piece_line, ribbon_line}, News.{last_cycle, news_in}}
 use Rattle.lens_overview.specs.{Pieces.{not_begun, told_of}, Ranges.all_below, Shades.is_blank}
 use Rattle.lens_overview.specs.Rows.{Row, Told, calm_below, count_rows, filled_row, is_like, is_turned, joined, lane_at, lane_rows, losses, others_row, passage_rows, passages_at, raised, rows_of, start_of, title_row, upper_rows, with_flows}
-use Rattle.lens_overview.specs.declared.{grid.Grid.Grid, label.{Group.Group, Kind.Kind, Label.Label}, news.News.News, pieces.{Piece.Piece, Ribbon.Ribbon}, rows.Calm.Calm, shade.Shade.Shade}
+use Rattle.lens_overview.specs.declared.{grid.Grid.Grid, label.{Group.Group, Kind.Kind, Label.Label}, news.News.News, pieces.Ribbon.Ribbon, rows.Calm.Calm, shade.Shade.Shade}
 use Rattle.net_plan.specs.declared.{ids.{DeviceId.DeviceId, LinkId.LinkId}, network.Network.Network, tables.{Device.Device, Way.Way}}
 use Rattle.run_law.{proofs.runs.Places.in_parts, specs.records.{Happenings.Happening, Order.IsIn}}
 use Rattle.run_law.specs.{declared.note.Note.Note, scenario.Scenarios.Scenario}

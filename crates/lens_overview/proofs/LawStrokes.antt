@@ -2,8 +2,8 @@
 use Rattle.lens_overview.specs.{Cells.shade_at, Grids.pen_at, Pieces.{not_begun, stroke_to, strokes_from}, Shades.{code_of, is_blank, is_same}}
 use Rattle.lens_overview.specs.declared.{grid.Grid.Grid, label.Label.Label, pieces.{Begun.Begun, Piece.{Piece, TheVariants.Stroke}, Ribbon.Ribbon}, shade.Shade.Shade}
 use Rattle.run_law.{proofs.runs.Places.{in_left, in_parts, in_right}, specs.records.Order.IsIn}
-use Rattle.std.proofs.Common.{◌+◌, ◌++◌, ◌<◌, ◌∙◌, ◌∷◌, ◌≡◌, ◌≤◌, ◌⊎◌, add-one, Bool, List, [], ap, arith, drop, false, get_or, if◌then◌else◌, inl, inr, length, refl, subst, suc, sym, true, zero, ℕ}
-use Rattle.std.{proofs.lemmas.{Bool.{Decides.nat_tests, cases_lt, false≢true}, Option.unwrap_or-slice_get}, specs.Prelude.{◌==◌, slice_get, unwrap_or}}
+use Rattle.std.proofs.Common.{◌+◌, ◌++◌, ◌<◌, ◌∙◌, ◌∷◌, ◌≡◌, ◌≤◌, add-one, Bool, List, [], ap, arith, drop, false, if◌then◌else◌, inl, inr, length, refl, subst, suc, sym, true, zero, ℕ}
+use Rattle.std.{proofs.lemmas.Bool.{Decides.nat_tests, cases_lt, false≢true}, specs.Prelude.◌==◌}
 use Rattle.lens_overview.specs.declared.shade.Shade.TheVariants as shades
 
 -- ---- shades of one code are one

@@ -1,6 +1,6 @@
 -- How the lines of a picture begin.
 use Rattle.lens_overview.specs.Lines.{bar_line, bar_part, caption_line, caption_part, extent_line, piece_line, rail_part, records_part, ribbon_line, spread_line, stroke_part, tick_line, tick_part}
-use Rattle.lens_overview.specs.{Labels.label_word, Shades.shade_word, Signs.sign_line, declared.{grid.Pen.Pen, label.Label.Label, pieces.{Piece.Piece, Ribbon.Ribbon}, shade.Shade.Shade}}
+use Rattle.lens_overview.specs.{Signs.sign_line, declared.{grid.Pen.Pen, label.Label.Label, pieces.{Piece.Piece, Ribbon.Ribbon}, shade.Shade.Shade}}
 use Rattle.{lens_svg.specs.{Elements.opening_line, Titles.{heading_line, title_line}}, net_plan.specs.declared.network.Network.Network}
 use Rattle.std.{proofs.{Common.{◌++◌, ◌≡◌, Bool, List, ap, arith, false, get_or, refl, true, ℕ}, lemmas.Bool.false≢true}, specs.Prelude.codes}
 use Rattle.lens_overview.specs.declared.label.Kind.TheVariants as kinds

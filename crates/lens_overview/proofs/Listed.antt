@@ -1,6 +1,6 @@
 -- The line of the next piece.
 use Rattle.{lens_overview.specs.{Lines.piece_line, declared.pieces.Piece.Piece}, net_plan.specs.declared.network.Network.Network}
-use Rattle.std.{proofs.{Common.{◌++◌, ◌+◌, ◌<◌, ◌∷◌, ◌≡◌, List, [], drop, get_or, length, take, ℕ}, lemmas.List.{drop_more, take_more}}}
+use Rattle.std.proofs.{Common.{◌++◌, ◌+◌, ◌<◌, ◌∷◌, ◌≡◌, List, [], drop, get_or, length, take, ℕ}, lemmas.List.{drop_more, take_more}}
 
 -- the piece of this number, and its line
 pub record IsNext (network : Network) (title : List ℕ) (all : List Piece) (n : ℕ) (text : List ℕ) : Type 0 where

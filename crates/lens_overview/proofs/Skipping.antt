@@ -1,6 +1,6 @@
 -- Records that leave the cells of a row as they are.
 use Rattle.lens_overview.specs.{Cells.{cut, seen, shade_at, taken, turned}, Grids.column_of, Shades.more}
-use Rattle.lens_overview.specs.declared.{grid.Grid.Grid, label.{Kind.Kind, Label.Label}, news.{Change.Change, News.News}, shade.Shade.Shade}
+use Rattle.lens_overview.specs.declared.{grid.Grid.Grid, label.Kind.Kind, news.{Change.Change, News.News}, shade.Shade.Shade}
 use Rattle.lens_overview.specs.{Labels.is_kind, Parts.{is_coming, is_counted, is_of, is_turning}, Rows.{calm_below, is_turn, is_turned, with_calm}}
 use Rattle.lens_overview.specs.declared.rows.Calm.{Calm}
 use Rattle.lens_svg.specs.Sketching.{with_at}

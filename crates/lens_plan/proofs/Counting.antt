@@ -3,7 +3,7 @@ use Rattle.lens_plan.proofs.Wanted.{links_next}
 use Rattle.std.proofs.Common.{◌&&◌, ◌++◌, ◌+◌, ◌∙◌, ◌∷◌, ◌≡◌, ◌≤◌, Bool, List, None, Option, Some, [], ap, arith, cond, false, inl, inr, length, refl, subst, suc, sym, true, zero, ℕ}
 use Rattle.std.proofs.lemmas.{Bool.{Decides.nat_tests, cases_Bool}, List.Sums.{sum_by-append, sum_by-cons, sum_by-le-sum_by}}
 use Rattle.std.specs.{List.{count_by, filter_map, range_with_len}, Option.option_to_list, Prelude.{nat_lt, slice_get}}
-use Rattle.tte_units.proofs.general_lemmas.{Bools.{both_left, both_right}}
+use Rattle.tte_units.proofs.general_lemmas.Bools.{both_left, both_right}
 
 abbrev pub one_if : Bool → ℕ
 one_if b = cond b 1 0

@@ -9,7 +9,7 @@ use Rattle.net_plan.specs.declared.tables.{Role.{Role, TheVariants.Cm}, Way.{Way
 use Rattle.schedule_tables.specs.Entries.{source_by, target_by}
 use Rattle.std.proofs.Common.{◌++◌, ◌+◌, ◌<◌, ◌∙◌, ◌∷◌, ◌≡◌, ◌≤◌, ◌⊎◌, List, Some, [], ap, append_assoc, arith, false, get_or, inl, inr, length, refl, subst, suc, sym, true, zero, ℕ}
 use Rattle.std.proofs.lemmas.{Bool.{cases_Bool, false≢true}, List.{Elements.{All-append, All-cons, All-nil, Contains-append_left, Contains-append_right}, append-nil, length-append}}
-use Rattle.std.specs.{List.{All, Contains}}
+use Rattle.std.specs.List.{All, Contains}
 use Rattle.tte_units.{proofs.general_lemmas.Options.{at_known, closed, opened, some_same}, specs.declared.frames.channel.Channel.Channel}
 
 -- ---- lists by their ends

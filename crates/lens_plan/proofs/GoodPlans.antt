@@ -4,7 +4,7 @@ use Rattle.lens_plan.specs.{declared.{places.planning.NoPlan.NoPlan, text.line.P
 use Rattle.lens_plan.specs.declared.places.planning.NoPlan.TheVariants as plans
 use Rattle.net_plan.specs.declared.network.Network.{Network}
 use Rattle.std.{proofs.Common.{◌++◌, ◌∙◌, ◌≡◌, List, ap, inl, inr, subst, sym, ℕ}, specs.List.concat}
-use Rattle.tte_forms.specs.{Answering.Answer, declared.status.Status.{TheVariants.{Done, MessagesRefused, NetworkRefused, PlanRefused, TooLong}}}
+use Rattle.tte_forms.specs.{Answering.Answer, declared.status.Status.TheVariants.{Done, MessagesRefused, NetworkRefused, PlanRefused, TooLong}}
 
 -- an answer that is done has no other status
 status_is : (a b : Answer) → a ≡ b → a.status ≡ Done → b.status ≡ Done

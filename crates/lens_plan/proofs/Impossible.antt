@@ -4,7 +4,7 @@ use Rattle.lens_plan.specs.{Answer.{IsJoinedAnswer, IsPlanAnswer, IsToldBy, Mean
 use Rattle.lens_plan.specs.declared.places.{best.Attempt.Attempt, limits.Excess.{Excess, TheVariants.{Rows, RowsOf, VirtualLinks}}, planning.NoPlan.NoPlan}
 use Rattle.lens_plan.specs.declared.places.planning.NoPlan.TheVariants as plans
 use Rattle.lens_plan.specs.{messages.Message.Message, places.{Planning.IsNoPlan}, text.Refusals.{excess_line, short_line, short_line_at, short_row, short_row_text}}
-use Rattle.net_plan.{specs.{declared.network.Network.Network}}
+use Rattle.net_plan.specs.{declared.network.Network.Network}
 use Rattle.std.proofs.Common.{◌++◌, ◌∙◌, ◌∷◌, ◌≡◌, List, Option, Some, [], ap, None, append_assoc, arith, inl, inr, refl, sym, ℕ}
 use Rattle.std.proofs.lemmas.Option.{get_or_from_slice_get, slice_get_within}
 use Rattle.std.specs.{Fmt.decimal, Option.option_map_or, Prelude.{codes, slice_get}}

@@ -1,8 +1,8 @@
 -- Frames of virtual links that serve messages come in time.
-use Rattle.lens_plan.specs.{Laws.{ServedComeInTime}}
+use Rattle.lens_plan.specs.Laws.{ServedComeInTime}
 use Rattle.net_plan.specs.{Places.IsEndSystem}
 use Rattle.precision_law.proofs.traffic_lemmas.Safe.{frames_are_delivered}
-use Rattle.{schedule_tables.specs.{Entries.target_of, Windows.window_end}}
+use Rattle.schedule_tables.specs.{Entries.target_of, Windows.window_end}
 use Rattle.std.{proofs.{Common.{◌≤ℤ◌, ◌≤◌, None, Option, Some, arith, pos, subst, sym, ℕ, ℤ}, lemmas.Int.ints}, specs.{List.Contains, Prelude.IfSome}}
 
 -- what is no later than the window's end is no later than a bound of that

@@ -3,10 +3,10 @@ use Rattle.lens_plan.proofs.{Counting.{count_append, count_cons, one_if}, KeptCo
 use Rattle.lens_plan.proofs.KeptRows.{both_channels, comes_in_time, ends_in_cycle, enters_anew, goes_once, has_period, has_sender, has_source, ids_new, names_new, stands_apart}
 use Rattle.lens_plan.proofs.KeptShape.{connected, delays_fit, errors_settle, masters_suffice, one_cm, precision_fits, schedule_fits}
 use Rattle.lens_plan.specs.{declared.places.best.Attempt.Attempt, joining.Planned.{planned_network, rows_from, vls_of}, messages.Message.Message}
-use Rattle.lens_plan.specs.places.{Limits.{IsWithinLimits}}
+use Rattle.lens_plan.specs.places.Limits.{IsWithinLimits}
 use Rattle.net_plan.specs.{Places.link_at, Ranges.{IsInRange, IsLinkInRange}, Rules.IsWithinLimits as IsWithinAll}
 use Rattle.net_plan.specs.declared.{ids.DeviceId.DeviceId, network.Network.Network, tables.{Link.Link, Row.Row, Way.{Way, TheVariants.{Down, Up}}}}
-use Rattle.schedule_tables.specs.{Entries.source_by, Rules.{KeepsRules}, Schedule.{HasFewRows, leaves}, declared.rule.Rule.{TheVariants.{VlNamesDiffer, WindowEnds}}}
+use Rattle.schedule_tables.specs.{Entries.source_by, Rules.KeepsRules, Schedule.{HasFewRows, leaves}, declared.rule.Rule.TheVariants.{VlNamesDiffer, WindowEnds}}
 use Rattle.schedule_tables.specs.declared.rule.Rule.TheVariants.{BothChannels, CompressionMasters, Connections, Correction, Delays, DevicesDiffer, Forwarding}
 use Rattle.schedule_tables.specs.declared.rule.Rule.TheVariants.{Joints, Limits, LinksDiffer, LinksOnce, Masters, Periods, Precision, RowsOfDevice}
 use Rattle.schedule_tables.specs.declared.rule.Rule.TheVariants.{ScheduleStart, Senders, Settling, Sources, Spacing, Targets, VlIdsDiffer}

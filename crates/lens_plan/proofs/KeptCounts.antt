@@ -8,7 +8,7 @@ use Rattle.schedule_tables.specs.Schedule.{leaves}
 use Rattle.std.proofs.Common.{◌++◌, ◌+◌, ◌==◌, ◌∙◌, ◌∷◌, ◌≡◌, Bool, List, None, Option, Some, [], ap, arith, cond, false, length, map, refl, suc, sym, true, ℕ}
 use Rattle.std.proofs.lemmas.List.{Sums.sum_by-cons, length-map, map-append}
 use Rattle.std.specs.{List.{cons_option, count_by, filter_map, range_with_len}, Option.option_map, Prelude.slice_get}
-use Rattle.tte_units.specs.declared.frames.channel.Channel.{TheVariants.{A, B}}
+use Rattle.tte_units.specs.declared.frames.channel.Channel.TheVariants.{A, B}
 
 map_map : {X Y Z : Type 0} (f : X → Y) (g : Y → Z) (xs : List X) → map g (map f xs) ≡ map (λ x. g (f x)) xs
 map_map f g [] = refl

@@ -7,7 +7,7 @@ use Rattle.lens_plan.specs.declared.places.planning.NoPlan.TheVariants as plans
 use Rattle.lens_plan.specs.{messages.{Lines.messages_read, Message.Message}, places.{InOrder.rows_in_order, Planning.{IsNoPlan, IsPlan}, Same.{IsSameAttempt, IsSameNoPlan}}}
 use Rattle.lens_plan.specs.text.{Blocks.{message_blocks, plan_lines, row_block, vl_block}, Ids.{AreIds, IsIdBy, taken_ids}, Refusals.{excess_line, line_refusal, message_text, row_limit, short_line, short_line_at, short_row_text}}
 use Rattle.net_plan.specs.{Paths.IsTree, declared.network.Network.Network}
-use Rattle.std.proofs.{Common.{◌++◌, ◌∙◌, ◌∷◌, ◌≡◌, Err, List, None, Ok, Option, Some, [], ap, arith, inl, inr, refl, subst, sym, ℕ}}
+use Rattle.std.proofs.Common.{◌++◌, ◌∙◌, ◌∷◌, ◌≡◌, Err, List, None, Ok, Option, Some, [], ap, arith, inl, inr, refl, subst, sym, ℕ}
 use Rattle.std.specs.{Fmt.decimal, List.{AllZip, find, flat_map}, Option.option_map_or, Prelude.{◌-◌, ◌==◌, codes, slice_get}}
 use Rattle.tte_forms.specs.{Answering.{Answer, line_answer}, declared.status.Status.TheVariants.{MessagesRefused, PlanRefused}}
 

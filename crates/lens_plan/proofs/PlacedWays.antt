@@ -1,5 +1,5 @@
 -- One more row of a way.
-use Rattle.lens_plan.specs.{declared.places.{placing.{Placed.Placed, Trial.Trial}, ways.Hop.Hop}, places.{Placing.{IsPlacedAt, IsPlacedWay}}}
+use Rattle.lens_plan.specs.{declared.places.{placing.{Placed.Placed, Trial.Trial}, ways.Hop.Hop}, places.Placing.{IsPlacedAt, IsPlacedWay}}
 use Rattle.std.proofs.{Common.{◌++◌, ◌+◌, ◌<◌, ◌∙◌, ◌∷◌, ◌≡◌, List, [], ap, append_assoc, get_or, length, refl, subst, sym, take, ℕ}, lemmas.List.{append-nil, take_more}}
 
 -- where the row behind these begins

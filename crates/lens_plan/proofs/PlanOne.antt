@@ -6,7 +6,7 @@ use Rattle.lens_plan.specs.places.{Moving.{ArePlanned, IsMoved, IsReached}, Orde
 use Rattle.lens_plan.specs.places.There.{AreThere, taken_by}
 use Rattle.net_plan.specs.{Paths.IsTree, declared.network.Network.Network}
 use Rattle.schedule_tables.{proofs.EntryLemmas.one_entry}
-use Rattle.std.proofs.{Common.{◌++◌, ◌+◌, ◌<◌, ◌∙◌, ◌∷◌, ◌≡◌, ◌⊎◌, List, None, Option, Some, [], ap, arith, get_or, inl, inr, length, map, refl, slice_get, subst, suc, sym, take, zero, ℕ}}
+use Rattle.std.proofs.Common.{◌++◌, ◌+◌, ◌<◌, ◌∙◌, ◌∷◌, ◌≡◌, ◌⊎◌, List, None, Option, Some, [], ap, arith, get_or, inl, inr, length, map, refl, slice_get, subst, suc, sym, take, zero, ℕ}
 use Rattle.std.proofs.lemmas.{Bool.cases_lt, List.{Elements.{All-cons, All-nil}, FromFn.{get_or-range_with_len, length-range_with_len}, Sorted.{All-permutation, Contains-permutation, IsPermutation-sym, IsPermutation-trans}}, Option.{get_or_from_slice_get, slice_get-get_or, slice_get_past}}
 use Rattle.std.{proofs.Math.Seq.take-length, specs.Option.option_map_or}
 use Rattle.std.specs.List.{All, AllPairs, AllZip, Contains, Sorted.IsPermutation, range_with_len}

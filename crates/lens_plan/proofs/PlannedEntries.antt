@@ -4,7 +4,7 @@ use Rattle.lens_plan.proofs.Seats.{HasGround, IsSeated, ItsCourse, its_courses}
 use Rattle.lens_plan.specs.declared.places.{best.Attempt.Attempt, offsets.Taken.Taken, placing.{Placed.Placed}}
 use Rattle.lens_plan.specs.{joining.Planned.{planned_network, row_of, rows_from, vl_of, vls_of}, messages.Message.Message, places.{Filling.taken_of, There.taken_by}}
 use Rattle.net_plan.specs.{Places.{IsEndSystem, link_at}, Ranges.{IsInRange, IsRowInRange}}
-use Rattle.net_plan.specs.declared.{ids.{DeviceId.DeviceId}, network.Network.Network, tables.{Link.Link, Row.Row, VirtualLink.VirtualLink, Way.Way}}
+use Rattle.net_plan.specs.declared.{ids.DeviceId.DeviceId, network.Network.Network, tables.{Link.Link, Row.Row, VirtualLink.VirtualLink}}
 use Rattle.run_law.proofs.law.FirstPlaces.{in_front}
 use Rattle.schedule_tables.specs.{Entries.{IsEntry, source_by, source_of, target_by, target_of}, Rules.KeepsRules, declared.entry.Entry.Entry}
 use Rattle.std.proofs.Common.{◌++◌, ◌+◌, ◌<◌, ◌∙◌, ◌∷◌, ◌≡◌, ◌≢◌, ◌⊎◌, List, Some, [], ap, arith, inl, inr, length, refl, sym, ℕ}

@@ -6,7 +6,7 @@ use Rattle.net_plan.specs.declared.{network.Network.Network, tables.{Row.Row, Vi
 use Rattle.std.proofs.Common.{◌++◌, ◌+◌, ◌<◌, ◌==◌, ◌∙◌, ◌∷◌, ◌≡◌, ◌≤◌, ◌⊎◌, Bool, List, None, Option, Some, [], ap, arith, cond, inl, inr, length, map, refl, subst, suc, sym, false, true, zero, ℕ}
 use Rattle.std.proofs.lemmas.{Bool.{cases_lt, eq-eqb, eqb-true}, List.length-map, Option.{none-some, same_Some, slice_get-map}}
 use Rattle.std.specs.{List.{cons_option, filter_map, find, range_with_len}, Prelude.{option_map, slice_get}}
-use Rattle.tte_units.proofs.general_lemmas.{Lists.{find_at, found_passes}}
+use Rattle.tte_units.proofs.general_lemmas.Lists.{find_at, found_passes}
 
 -- ---- lists
 

@@ -6,7 +6,7 @@ use Rattle.lens_plan.specs.places.{Offsets.IsLeastOffset, Placing.{IsPlacedAt, I
 use Rattle.lens_plan.specs.places.{Scoring.score_of, Trying.{AreTried, IsPlacedTo, start_of}, Ways.IsWay}
 use Rattle.net_plan.specs.{Bounds.gamma_of, Paths.IsTree, declared.{ids.DeviceId.DeviceId, network.Network.Network}}
 use Rattle.schedule_tables.specs.Windows.{tolerance}
-use Rattle.std.proofs.{Common.{◌++◌, ◌+◌, ◌<◌, ◌∙◌, ◌∷◌, ◌≡◌, ◌≤◌, ◌⊎◌, List, None, Option, Some, [], ap, arith, inl, inr, max, refl, subst, sym, ℕ}}
+use Rattle.std.proofs.Common.{◌++◌, ◌+◌, ◌<◌, ◌∙◌, ◌∷◌, ◌≡◌, ◌≤◌, ◌⊎◌, List, None, Option, Some, [], ap, arith, inl, inr, max, refl, subst, sym, ℕ}
 use Rattle.std.specs.Option.{unwrap_or}
 use Rattle.tte_units.specs.{Amount.amount, declared.frames.channel.Channel.{Channel, TheVariants.{A, B}}}
 

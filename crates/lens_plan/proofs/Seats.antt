@@ -1,7 +1,7 @@
 -- A message that has a place behind rows: the courses of its rows.
 use Rattle.lens_plan.proofs.Courses.{HasTrees, IsCourse, courses, one_link, one_target, reaches, sends, targets}
 use Rattle.lens_plan.proofs.{Courses.EntersIt, Early.{IsInTime, own_attempt, whole}, Leading.one_channel}
-use Rattle.lens_plan.specs.declared.places.{best.Attempt.Attempt, offsets.Taken.Taken, placing.{Placed.Placed, Trial.Trial}, scoring.Score.Score, ways.Hop.Hop}
+use Rattle.lens_plan.specs.declared.places.{best.Attempt.Attempt, offsets.Taken.Taken, placing.{Placed.Placed, Trial.Trial}, scoring.Score.Score}
 use Rattle.lens_plan.specs.{messages.Message.Message, places.{Best.{IsBestBy, in_phase}, Fitting.HasPlace, Placing.{IsOrdered, IsPlacedWay}}}
 use Rattle.lens_plan.specs.places.{Scoring.{no_score, score_of}, Spacing.IsPhaseBy, Trying.{AreTried, IsPlacedTo, start_of}, Ways.{down_hops, up_hops}}
 use Rattle.net_plan.proofs.Trees.{paths_are_unique}

@@ -1,9 +1,9 @@
 -- A virtual link of an accepted network that serves a message, and its rows.
-use Rattle.lens_plan.proofs.{Leading.{Goes, Lead, leads, one_channel, relay_is}}
+use Rattle.lens_plan.proofs.Leading.{Goes, Lead, leads, one_channel, relay_is}
 use Rattle.lens_plan.specs.declared.places.{ways.Hop.Hop}
 use Rattle.lens_plan.specs.joining.{Extends.{Begins, Extends}, Served.{IsAskedFor, IsReached, IsServedBy}}
-use Rattle.lens_plan.specs.{messages.{Message.Message}}
-use Rattle.lens_plan.specs.places.{Ways.{IsWay, down_hops, up_hops}}
+use Rattle.lens_plan.specs.messages.{Message.Message}
+use Rattle.lens_plan.specs.places.Ways.{IsWay, down_hops, up_hops}
 use Rattle.{net_plan.proofs.Shape.rules_give_trees, run_law.proofs.law.FirstPlaces.in_front, schedule_checker.proofs.Trees.tree_of}
 use Rattle.net_plan.specs.{Bounds.gamma_of, Paths.{IsPath, IsTree}, Places.{IsEndSystem, IsRoleOf, IsSwitchOf, device_at, is_end_system, link_at}, Ranges.IsInRange}
 use Rattle.net_plan.specs.declared.{ids.{DeviceId.DeviceId, LinkId.LinkId, VlId.VlId}, network.Network.Network, tables.{Device.Device, Link.Link, VirtualLink.VirtualLink}}
@@ -11,7 +11,7 @@ use Rattle.net_plan.specs.declared.tables.{Role.TheVariants.{Cm, Relay}, Way.{Wa
 use Rattle.schedule_tables.specs.{Entries.{IsEntry, IsOnChannel, target_by, target_of}, Rules.KeepsRules, Schedule.{EntersOn}}
 use Rattle.schedule_tables.specs.{Windows.{tolerance, window_end}, declared.{entry.Entry.Entry, rule.Rule.TheVariants.{Forwarding, Joints, Senders}}}
 use Rattle.std.proofs.Common.{◌*◌, ◌++◌, ◌+◌, ◌-◌, ◌∙◌, ◌∷◌, ◌≡◌, ◌≤◌, ◌⊎◌, List, None, Option, Some, [], ap, arith, inl, inr, length, max, refl, subst, suc, sym, true, ℕ, ⊎_elim}
-use Rattle.std.proofs.{Math.Nat.{max-le}}
+use Rattle.std.proofs.Math.Nat.{max-le}
 use Rattle.std.specs.{Option.{unwrap_or}, Prelude.{IfSome, IsSomeAnd, slice_get}}
 use Rattle.tte_units.proofs.general_lemmas.Options.{closed, opened, some_same}
 use Rattle.tte_units.specs.{Amount.amount, Slip.slip_of, declared.frames.channel.Channel.{Channel, TheVariants.{A, B}}}

@@ -3,7 +3,7 @@ use Rattle.lens_plan.specs.declared.places.{best.Attempt.Attempt, placing.{Place
 use Rattle.lens_plan.specs.places.{Best.{ComesFirst, IsAttempt, IsBest, IsBestBy, in_phase}, Placing.{IsPlacedAt, IsPlacedWay, delay_on, port_on}}
 use Rattle.lens_plan.specs.places.{Scoring.{is_last, limit_of, no_score, score_of, with_row}, Spacing.{AreSpaced, IsNoLater, IsPhaseBy, IsSpacedAt, IsSpacedTo, IsSpacedWay}}
 use Rattle.lens_plan.specs.places.{Trying.{AreTried, IsPlacedTo, start_of}, Ways.{IsWay, down_hops, up_hops}}
-use Rattle.net_plan.{proofs.Trees.paths_are_unique, specs.{Paths.IsTree, declared.{ids.{DeviceId.DeviceId, LinkId.LinkId}, network.Network.Network}}}
+use Rattle.net_plan.{proofs.Trees.paths_are_unique, specs.{Paths.IsTree, declared.{ids.DeviceId.DeviceId, network.Network.Network}}}
 use Rattle.schedule_tables.specs.Windows.{tolerance}
 use Rattle.std.proofs.{Common.{◌++◌, ◌+◌, ◌-◌, ◌<◌, ◌∙◌, ◌∷◌, ◌≡◌, ◌≤◌, ◌⊎◌, Bool, List, None, Option, Some, [], ap, arith, cond, false, inl, inr, max, refl, subst, sym, true, ℕ}, Math.Nat.{le-max_left, le-max_right, max-le}, lemmas.Bool.cases_lt}
 use Rattle.std.specs.List.{AllZip, fold}

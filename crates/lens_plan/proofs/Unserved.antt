@@ -6,8 +6,8 @@ use Rattle.lens_plan.specs.{messages.{Message.Message, Values.is_end}, places.{B
 use Rattle.lens_plan.specs.places.{Scoring.{is_down, is_last, limit_of, no_score, schedule_end, with_row}, There.{AreThere}}
 use Rattle.lens_plan.specs.places.{Spacing.{AreSpaced, IsPhaseBy, IsSpacedAt, IsSpacedTo, IsSpacedWay}, Trying.start_of}
 use Rattle.net_plan.specs.{Bounds.gamma_of, Paths.{IsTree}, Places.{IsEndSystem, is_end_system, link_at}}
-use Rattle.net_plan.specs.declared.{ids.{DeviceId.DeviceId, LinkId.LinkId, VlId.VlId}, network.Network.Network, tables.{Link.Link, VirtualLink.VirtualLink}}
-use Rattle.net_plan.specs.declared.tables.{Way.{Way, TheVariants.{Down, Up}}}
+use Rattle.net_plan.specs.declared.{ids.{DeviceId.DeviceId, VlId.VlId}, network.Network.Network, tables.{Link.Link, VirtualLink.VirtualLink}}
+use Rattle.net_plan.specs.declared.tables.Way.{Way, TheVariants.{Down, Up}}
 use Rattle.schedule_tables.proofs.EntryLemmas.{one_entry}
 use Rattle.schedule_tables.specs.{Entries.{target_by, target_of}, Schedule.{Coincide}}
 use Rattle.schedule_tables.specs.{Windows.{port_time}, declared.{entry.Entry.Entry, rule.Rule.TheVariants.{Periods, Spacing, WindowEnds}}}

@@ -1,11 +1,11 @@
 -- A network has one answer of `draw`.
 use Rattle.lens_schedule.{proofs.TwigLists.twigs_once, specs.{Answer.{IsScheduleOf, picture_answer}, declared.part.Part.Part}}
 use Rattle.lens_svg.specs.Titles.{title_of}
-use Rattle.lens_schedule.specs.{Picture.{IsPicture, picture_of}, declared.tree.Twig.Twig}
+use Rattle.lens_schedule.specs.Picture.{IsPicture, picture_of}
 use Rattle.{net_plan.{proofs.Trees.paths_are_unique, specs.{Paths.IsTree, declared.network.Network.Network}}, tte_forms.specs.Answering.Answer}
 use Rattle.schedule_tables.specs.{Entries.{AreEntries, EntryIsOne}, declared.entry.Entry.Entry}
 use Rattle.std.proofs.Common.{◌∙◌, ◌∷◌, ◌≡◌, List, [], ap, arith, get_or, length, refl, subst, sym, ℕ}
-use Rattle.std.{proofs.lemmas.{List.ext_get_or, Option.slice_get-get_or}}
+use Rattle.std.proofs.lemmas.{List.ext_get_or, Option.slice_get-get_or}
 use Rattle.tte_units.specs.declared.frames.channel.Channel.TheVariants.{A, B}
 
 -- the rows have one list of entries

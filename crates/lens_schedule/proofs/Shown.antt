@@ -3,7 +3,7 @@ use Rattle.lens_schedule.specs.Lanes.{column_by, lane_at, lane_of, lanes_below, 
 use Rattle.lens_schedule.specs.{Answer.IsScheduleOf, Laws.RowsAreShown, Lines.{lane_line, part_line}, Scale.scale_of}
 use Rattle.lens_schedule.specs.Picture.{cycle_parts, frame_part, front_parts, full_parts, lane_part, lane_place, picture_of, sheet_of, twig_part, zone_parts}
 use Rattle.lens_schedule.specs.declared.{lanes.Lane.Lane, part.Part.{Part, TheVariants.{Bare, Close}}, picture.Sheet.Sheet, tree.Twig.Twig}
-use Rattle.{lens_svg.specs.{Titles.title_of, declared.element.Point.Point}, tte_forms.specs.Answering.Answer}
+use Rattle.{lens_svg.specs.Titles.title_of, tte_forms.specs.Answering.Answer}
 use Rattle.net_plan.specs.declared.{ids.LinkId.LinkId, network.Network.Network, tables.Way.{Way, TheVariants.{Down, Up}}}
 use Rattle.schedule_tables.{proofs.EntryLemmas.one_entry, specs.{Entries.{AreEntries, IsEntry}, declared.entry.Entry.Entry}}
 use Rattle.std.proofs.Common.{◌%◌, ◌*◌, ◌++◌, ◌+◌, ◌/◌, ◌<◌, ◌∙◌, ◌∷◌, ◌≡◌, Bool, List, [], ap, arith, false, get_or, inl, inr, length, map, refl, subst, suc, sym, true, zero, ℕ}

@@ -1,7 +1,7 @@
 -- The trees of the devices below a number.
 use Rattle.lens_schedule.specs.{Tree.{AreTwigsBelow, IsTwig, IsTwigAt, twig_by}, declared.tree.Twig.Twig}
 use Rattle.net_plan.specs.{Paths.{IsTree, PathsAreUnique}, declared.{ids.{DeviceId.DeviceId}, network.Network.Network}}
-use Rattle.{std.proofs.Common.{◌++◌, ◌+◌, ◌∙◌, ◌∷◌, ◌≡◌, ◌≤◌, List, [], ap, arith, inl, inr, length, length-append, refl, subst, suc, sym, zero, ℕ}}
+use Rattle.std.proofs.Common.{◌++◌, ◌+◌, ◌∙◌, ◌∷◌, ◌≡◌, ◌≤◌, List, [], ap, arith, inl, inr, length, length-append, refl, subst, suc, sym, zero, ℕ}
 use Rattle.tte_units.specs.declared.frames.channel.Channel.{Channel}
 
 module _ (network : Network) (channel : Channel) where

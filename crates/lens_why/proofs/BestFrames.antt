@@ -1,29 +1,29 @@
 -- What a correction comes from: the best frames that were heard.
 use Rattle.{audit_devices.specs.Keeping.records_before, run_law.proofs.runs.Places.{chain, in_parts}, tte_units.specs.declared.units.Units.Units}
 use Rattle.{audit_devices.specs.Showing.IsAfter, lens_why.specs.Seeking.last_sought, run_law.specs.runs.Runs.IsFounded, tte_audit.specs.Report.scenario_of}
-use Rattle.{audit_law.{proofs.law_lemmas.Correcting.time_before, specs.law.CorrectionNumbers.standing_at}}
-use Rattle.{run_law.proofs.records.Order.{has_passed, is_there}}
-use Rattle.{audit_sweep.proofs.{HeardBefore.rank_below, HeardPoints.unchanged_before}}
-use Rattle.{net_plan.specs.declared.{ids.DeviceId.DeviceId, network.Network.Network}}
+use Rattle.audit_law.{proofs.law_lemmas.Correcting.time_before, specs.law.CorrectionNumbers.standing_at}
+use Rattle.run_law.proofs.records.Order.{has_passed, is_there}
+use Rattle.audit_sweep.proofs.{HeardBefore.rank_below, HeardPoints.unchanged_before}
+use Rattle.net_plan.specs.declared.{ids.DeviceId.DeviceId, network.Network.Network}
 use Rattle.lens_why.specs.Corrections.{better, channel_ground, clique_ground, corrected_ground, heard_at_point, is_behind, is_clique, said_by, summary_of}
 use Rattle.{lens_why.specs.Corrections.{told_on, value_of, with_hearing}, sync_state.specs.membership.{BestFrame.{IsBehind, IsBetterOf}, Members.count_of}}
-use Rattle.{lens_why.specs.declared.{ground.Best.Best, seeking.Sought.TheVariants.Frame}}
-use Rattle.{run_law.proofs.law.FirstPlaces.{front_founded, in_filter, none_kept}}
+use Rattle.lens_why.specs.declared.{ground.Best.Best, seeking.Sought.TheVariants.Frame}
+use Rattle.run_law.proofs.law.FirstPlaces.{front_founded, in_filter, none_kept}
 use Rattle.{lens_why.specs.declared.ground.Ground.TheVariants.{Clique, Corrected}, sync_state.specs.declared.membership.frame.HeardFrame.HeardFrame}
 use Rattle.{lens_why.specs.declared.ground.Told.Told}
-use Rattle.{run_law.{proofs.{records.Members.in_kept, runs.Lacking.behind_first}, specs.scenario.Scenarios.Scenario}}
+use Rattle.run_law.{proofs.{records.Members.in_kept, runs.Lacking.behind_first}, specs.scenario.Scenarios.Scenario}
 use Rattle.sync_state.specs.{Standing.next_point, declared.state.State.State, membership.Hearing.Hearing}
 use Rattle.audit_sweep.specs.Indexing.{before_corrections}
 use Rattle.{run_law.specs.declared.{judgement.Why.Why, note.Note.Note}, tte_audit.proofs.ReportRuns.audit_run, tte_reports.specs.Reports.IsReportOf}
-use Rattle.{run_law.specs.{declared.note.NoteBody.NoteBody, records.Order.{IsBefore, IsIn, is_before}}}
+use Rattle.run_law.specs.{declared.note.NoteBody.NoteBody, records.Order.{IsBefore, IsIn, is_before}}
 use Rattle.{tte_units.specs.declared.frames.members.Members.Members}
 use Rattle.{run_law.specs.device.States.adjustment_before}
-use Rattle.{std.proofs.lemmas.Bool.{and_from, cases_Bool, eq-eqb, eqb-true, false_from_ne_true, lt-ltb, ltb-true, or_left, or_right}}
+use Rattle.std.proofs.lemmas.Bool.{and_from, cases_Bool, eq-eqb, eqb-true, false_from_ne_true, lt-ltb, ltb-true, or_left, or_right}
 use Rattle.{run_law.specs.records.Happenings.{Happening, happenings, time_of}, std.specs.Prelude.{◌||◌, int_lt, nat_le, nat_lt, option_and_then}}
 use Rattle.{run_law.specs.records.Ranks.{key, members_in, place_of, rank}, tte_units.proofs.general_lemmas.Integers.{int_lt-from, int_lt-is}}
 use Rattle.std.proofs.Common.{◌&&◌, ◌++◌, ◌==◌, ◌∙◌, ◌∷◌, ◌≡◌, ◌≤◌, Bool, List, None, Option, Some, [], ap, append_assoc, arith, false, filter, fold}
-use Rattle.{std.proofs.Common.{if◌then◌else◌, inl, inr, refl, subst, sym, true, ℕ, ℤ}}
-use Rattle.{tte_units.proofs.general_lemmas.Bools.{both_left, both_right, not_both}}
+use Rattle.std.proofs.Common.{if◌then◌else◌, inl, inr, refl, subst, sym, true, ℕ, ℤ}
+use Rattle.tte_units.proofs.general_lemmas.Bools.{both_left, both_right, not_both}
 use Rattle.{std.proofs.lemmas.List.{Elements.filter-append, append-nil}, tte_audit.specs.Named.IsNamed}
 use Rattle.sync_state.proofs.membership_lemmas.{OneSummary.one_summary, SummaryLemmas.{hears_on_a, hears_on_b, hears_outside, silence_summarizes}}
 use Rattle.{sync_state.specs.membership.Summary.{Summarizes, Summary, best_on}, tte_units.specs.declared.frames.channel.Channel.{Channel, TheVariants.{A, B}}}

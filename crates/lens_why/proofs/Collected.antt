@@ -4,9 +4,9 @@ use Rattle.{compression.proofs.Sound.open_at-some, run_law.{proofs.records.Order
 use Rattle.{audit_devices.specs.Keeping.records_before}
 use Rattle.{compression.proofs.{Rows.last_split, Taking.role_in-joined}, tte_units.specs.declared.units.Units.Units}
 use Rattle.{audit_devices.specs.declared.effect.Carried.Carried}
-use Rattle.{audit_law.proofs.collections_lemmas.Stepping.{AreBefore, are-ignored, are-joined, are-opened}}
-use Rattle.{compression.proofs.{Elements.{Ordered, Ordered-from}, Standing.AreClusters-unique}}
-use Rattle.{std.proofs.lemmas.List.{Elements.{All-nil, filter_map-append}, append-nil}}
+use Rattle.audit_law.proofs.collections_lemmas.Stepping.{AreBefore, are-ignored, are-joined, are-opened}
+use Rattle.compression.proofs.{Elements.{Ordered, Ordered-from}, Standing.AreClusters-unique}
+use Rattle.std.proofs.lemmas.List.{Elements.{All-nil, filter_map-append}, append-nil}
 use Rattle.{compression.specs.Clusters.{AreClusters, Cluster, Point}, tte_reports.specs.Reports.IsReportOf}
 use Rattle.{compression.specs.{Collection.{joined, opening}, declared.taken.Taken.Taken}, std.specs.Prelude.{filter_map, fold, option_map, take}}
 use Rattle.compression.specs.Role.{open_at, role}

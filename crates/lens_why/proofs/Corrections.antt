@@ -8,7 +8,7 @@ use Rattle.lens_why.specs.Decisions.{IsCorrectedBy, IsStateBy, value_told}
 use Rattle.lens_why.specs.declared.ground.Told.{Told}
 use Rattle.net_plan.specs.declared.{ids.DeviceId.DeviceId, network.Network.Network}
 use Rattle.run_law.{proofs.law.FirstPlaces.{same_earlier, split}, specs.{declared.note.{Note.Note, NoteBody.NoteBody}, runs.DueRecords.IsDue}}
-use Rattle.run_law.specs.{device.States.{adjustment_after, adjustment_before}}
+use Rattle.run_law.specs.device.States.{adjustment_after, adjustment_before}
 use Rattle.run_law.specs.{records.Ranks.{key, members_in, place_of, rank}, scenario.{Devices.plan_of, Scenarios.Scenario}}
 use Rattle.run_law.specs.records.Happenings.{Happening, earlier, happenings, numbered, time_of}
 use Rattle.{schedule_tables.specs.Rules.KeepsRules}
@@ -18,8 +18,8 @@ use Rattle.std.proofs.Common.{arith, false, if◌then◌else◌, inl, inr, refl,
 use Rattle.{std.proofs.lemmas.Bool.cases_lt, std.specs.Prelude.{IfSome, IsSomeAnd, nat_le, option_and_then, option_map}}
 use Rattle.sync_state.specs.{Plan.expected_at, Standing.{Standing, point_in}, Verdicts.{HasVerdict, deviation_on}, correction.Correction.correction_of}
 use Rattle.sync_state.specs.{correction.Deviation.deviation_of, declared.{answers.Verdict.Verdict, membership.frame.HeardFrame.HeardFrame, state.State.State}}
-use Rattle.sync_state.specs.membership.{Members.count_of, Summary.{Summarizes, Summary, best_on}}
-use Rattle.tte_units.specs.declared.{frames.{channel.Channel.{Channel, TheVariants.{A, B}}, members.Members.Members}, units.Units.Units}
+use Rattle.sync_state.specs.membership.{Members.count_of, Summary.{Summarizes, best_on}}
+use Rattle.tte_units.specs.declared.{frames.channel.Channel.{Channel, TheVariants.{A, B}}, units.Units.Units}
 use Rattle.audit_law.specs.law.DueRecords as audits
 use Rattle.run_law.specs.declared.judgement.Why.TheVariants as whys
 use Rattle.run_law.specs.declared.note.NoteBody.TheVariants as notes

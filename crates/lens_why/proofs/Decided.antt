@@ -7,14 +7,14 @@ use Rattle.precision_law.proofs.words.Runs.{same_some}
 use Rattle.{run_law.proofs.law.FirstPlaces.front_founded, tte_audit.proofs.{Clocked.clocked, ReportRuns.audit_run}, tte_reports.proofs.Answers.kept_apart}
 use Rattle.run_law.specs.{control.{Collections.master_of, Leaving.clock_at_leaving}, records.Ranks.{members_in, place_of}, runs.Runs.IsFounded}
 use Rattle.{std.proofs.lemmas.{Bool.eqb-true, List.Elements.recursion_from_All}, std.specs.{Option.option_map_or, Prelude.{All, IfSome, nat_lt}}}
-use Rattle.{net_plan.specs.declared.tables.Way.Way, tte_units.specs.Amount.amount}
+use Rattle.{tte_units.specs.Amount.amount}
 use Rattle.lens_why.proofs.{Collected.ComeInOrder, Corrections.{clique_by, corrected_by, outnumbered_by}}
 use Rattle.lens_why.proofs.{Deciding.left_by, LastRecords.parted_there, Losing.cut_before}
 use Rattle.lens_why.proofs.Dropped.{early_so, gate_so, late_so}
 use Rattle.lens_why.proofs.{Permanents.{joined_so, opened_so, outside_so, repeat_so, within_so}, Since.since_so}
 use Rattle.lens_why.specs.{Decisions.{GroundsDecide, IsCutBefore, IsDecidedBy}, Grounds.{ground_by, lost_ground}}
 use Rattle.net_plan.specs.{Places.link_at}
-use Rattle.net_plan.specs.{declared.{ids.{DeviceId.DeviceId, LinkId.LinkId}, network.Network.Network, tables.{Link.Link, Way.TheVariants.{Down, Up}}}}
+use Rattle.net_plan.specs.declared.{ids.{DeviceId.DeviceId, LinkId.LinkId}, network.Network.Network, tables.{Link.Link, Way.TheVariants.{Down, Up}}}
 use Rattle.run_law.specs.{control.Losses.{IsLost}, declared.{judgement.Judgement.Judgement, note.{Note.Note, NoteBody.NoteBody}}}
 use Rattle.run_law.specs.{control.{Collections.{ends_stretch, point_by, points_of}, Leaving.{leaves, on_cut_way, too_old}}, device.States.cycle_in}
 use Rattle.run_law.specs.{records.{Happenings.{Happening, happenings, numbered, time_of}, Ranks.rank}, scenario.{Devices.{is_cm}, Scenarios.Scenario}}

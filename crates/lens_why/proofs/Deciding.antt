@@ -1,5 +1,5 @@
 -- What the grounds of leavings and of losses decide.
-use Rattle.{lens_why.proofs.{Holding.held_by}}
+use Rattle.lens_why.proofs.{Holding.held_by}
 use Rattle.lens_why.specs.{Decisions.IsLeftBy, Grounds.{ground_by, held_ground}}
 use Rattle.{net_plan.specs.declared.{ids.{DeviceId.DeviceId, LinkId.LinkId}, network.Network.Network}, run_law.specs.declared.note.{Note.Note}}
 use Rattle.run_law.specs.records.Happenings.{Happening, happenings, numbered, time_of}

@@ -6,7 +6,7 @@ use Rattle.net_plan.specs.declared.{event.What.TheVariants.Send, ids.{DeviceId.D
 use Rattle.net_plan.specs.declared.{network.Network.Network, tables.Way.{TheVariants.{Down, Up}, Way}}
 use Rattle.pcf_codec.specs.{EtherType.pcf_type, Fields.field, declared.refusal.PcfRefusal.PcfRefusal}
 use Rattle.run_law.proofs.law.FirstPlaces.{founded_at, front_founded, numbered_front, numbered_in, same_earlier, split}
-use Rattle.run_law.specs.control.{Arrivals.{clock_on_arrival, control_arrival, frame_fault, frame_or_fault, is_cold_start, is_gate_shut, is_of_other_domain}}
+use Rattle.run_law.specs.control.Arrivals.{clock_on_arrival, control_arrival, frame_fault, frame_or_fault, is_cold_start, is_gate_shut, is_of_other_domain}
 use Rattle.run_law.specs.control.{Losses.IsDropped}
 use Rattle.run_law.specs.control.{Collections.{point_fault, ripe_by_role}, Permanence.{BecomesPermanent, IsCollectedOrDropped, ripe_as}}
 use Rattle.run_law.specs.control.Arrivals.{is_of_other_member, refused}

@@ -1,8 +1,8 @@
 -- What a compression master sends, by the points of a cluster.
-use Rattle.{compression.specs.Middle.{middle_of, relative}, std.proofs.Common.{◌*ℤ◌, ◌*◌, ◌+ℤ◌, ◌+◌, ◌-ℤ◌, ◌∙◌, ◌≡◌, List, ap, arith, pos, subst, sym, ℕ, ℤ}}
+use Rattle.{compression.specs.Middle.{middle_of, relative}, std.proofs.Common.{◌*ℤ◌, ◌*◌, ◌+ℤ◌, ◌+◌, ◌-ℤ◌, ◌∙◌, ◌≡◌, ap, arith, pos, subst, sym, ℕ, ℤ}}
 use Rattle.{compression.specs.declared.compressed.Compressed.Compressed, lens_why.specs.Collections.{IsMiddle, MiddlesAreOfClusters}}
 use Rattle.{lens_why.proofs.LastRecords.parted_there, run_law.specs.control.Emissions.Emits, tte_audit.specs.Report.scenario_of, tte_units.specs.Amount.amount}
-use Rattle.run_law.specs.{declared.note.NoteBody.NoteBody, records.Happenings.{Happening, time_of}, runs.DueRecords.IsCaused, scenario.Scenarios.Scenario}
+use Rattle.run_law.specs.{records.Happenings.time_of, runs.DueRecords.IsCaused, scenario.Scenarios.Scenario}
 use Rattle.std.proofs.lemmas.Int.{ints}
 use Rattle.run_law.specs.declared.note.NoteBody.TheVariants as notes
 

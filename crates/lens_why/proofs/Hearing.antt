@@ -2,7 +2,7 @@
 use Rattle.{audit_devices.specs.Effects.carried_by, run_law.specs.scenario.Scenarios.Scenario}
 use Rattle.{audit_devices.specs.Keeping.records_before, tte_units.specs.{Amount.amount, declared.units.Units.Units}}
 use Rattle.audit_sweep.specs.Indexing.{permanence_place}
-use Rattle.{audit_devices.specs.declared.effect.Carried.Carried, run_law.specs.declared.{judgement.Judgement.Judgement, note.{Note.Note, NoteBody.NoteBody}}}
+use Rattle.{audit_devices.specs.declared.effect.Carried.Carried, run_law.specs.declared.{judgement.Judgement.Judgement, note.Note.Note}}
 use Rattle.{lens_why.specs.{Collections.collected_ground, Records.{ComesFrom, IsPermanence}}, net_plan.specs.declared.ids.DeviceId.DeviceId}
 use Rattle.lens_why.specs.Grounds.{heard_ground, hearing_adjustment, is_by_schedule, is_collected, permanent_ground, scheduled_ground}
 use Rattle.{lens_why.specs.declared.ground.Ground.{Ground, TheVariants.{Heard, Untold}}, run_law.specs.device.States.{adjustment_at_hearing, cycle_in}}

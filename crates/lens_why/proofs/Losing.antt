@@ -2,7 +2,7 @@
 use Rattle.{lens_why.proofs.{Cutting.{cut_found}, LastRecords.parted_there}, run_law.specs.runs.DueRecords.{IsDue}}
 use Rattle.lens_why.specs.{Decisions.{IsCutBefore, is_cut_after}, Seeking.{cut_by, cut_told}, declared.ground.Ground.TheVariants.CutBy}
 use Rattle.audit_devices.specs.Keeping.{records_before}
-use Rattle.{net_plan.specs.declared.{event.{Event.Event}, ids.{LinkId.LinkId}, network.Network.Network, tables.Way.Way}}
+use Rattle.net_plan.specs.declared.{event.Event.Event, ids.LinkId.LinkId, network.Network.Network, tables.Way.Way}
 use Rattle.run_law.specs.declared.note.{Note.Note, NoteBody.NoteBody}
 use Rattle.run_law.specs.records.{Happenings.{Happening, happenings, numbered, time_of}, Order.{IsBefore, IsIn}, Ranks.{key, members_in, place_of, rank}}
 use Rattle.run_law.specs.runs.Runs.{IsFounded}
@@ -15,7 +15,7 @@ use Rattle.std.proofs.Common.{[], ap, append_assoc, arith, false, filter, if◌t
 use Rattle.std.proofs.Common.{subst, sym, true, ℕ}
 use Rattle.std.proofs.lemmas.{Bool.{le-leb, leb-true}, List.{Elements.{filter-append, filter_map-append}, append-nil}}
 use Rattle.std.specs.{List.{cons_option, last_or}, Prelude.{filter_map, nat_le, unwrap_or}}
-use Rattle.{tte_audit.specs.Report.{event_by, events_of, scenario_of}}
+use Rattle.tte_audit.specs.Report.{event_by, events_of, scenario_of}
 use Rattle.{tte_reports.specs.Reports.IsReportOf, tte_units.specs.{Amount.amount, declared.units.Units.Units}}
 use Rattle.run_law.specs.declared.note.NoteBody.TheVariants as notes
 

@@ -10,8 +10,8 @@ use Rattle.run_law.specs.records.Happenings.{frame_by}
 use Rattle.run_law.specs.runs.DueRecords.{IsDue}
 use Rattle.std.specs.{List.last_or, Option.option_map_or}
 use Rattle.std.proofs.Common.{◌<ℤ◌, ◌==◌}
-use Rattle.{net_plan.specs.declared.{ids.{DeviceId.DeviceId, LinkId.LinkId}, network.Network.Network}}
-use Rattle.{run_law.specs.declared.note.{Note.Note, NoteBody.NoteBody}}
+use Rattle.net_plan.specs.declared.{ids.{DeviceId.DeviceId, LinkId.LinkId}, network.Network.Network}
+use Rattle.run_law.specs.declared.note.{Note.Note}
 use Rattle.run_law.specs.records.Happenings.{Happening, happenings, numbered, time_of}
 use Rattle.run_law.specs.records.Ranks.{members_in, place_at, place_of}
 use Rattle.run_law.specs.control.Hearing.{heard_as, heard_by_schedule, heard_enough, is_in_schedule, last_cycle}

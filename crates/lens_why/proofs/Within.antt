@@ -8,7 +8,7 @@ use Rattle.precision_law.{proofs.traffic_lemmas.delivery.{Faultless.{FindsNone, 
 use Rattle.run_law.{proofs.law.FirstPlaces.{same_earlier, split}, specs.{control.Wires.{Signal, control, timed}, declared.note.{Note.Note, NoteBody.NoteBody}}}
 use Rattle.run_law.specs.{device.Standpoints.{clock_of, offset_in_cycle, standpoint}, records.Happenings.{Happening, earlier, happenings, numbered, time_of}}
 use Rattle.run_law.specs.{device.States.adjustment_after, records.Ranks.{key, members_in, place_of, rank}, timed.Receptions.{ArrivesAs, arrival_of, last_taken}}
-use Rattle.{std.proofs.Common.{◌+ℤ◌, ◌∙◌, ◌∷◌, ◌≡◌, ◌≤ℤ◌, List, Option, Some, ap, inl, inr, pos, subst, sym, ℕ, ℤ}, tte_units.specs.declared.units.Units.Units}
+use Rattle.{std.proofs.Common.{◌+ℤ◌, ◌∙◌, ◌∷◌, ◌≡◌, ◌≤ℤ◌, List, Some, ap, inl, inr, pos, subst, sym, ℕ, ℤ}, tte_units.specs.declared.units.Units.Units}
 use Rattle.run_law.specs.declared.note.NoteBody.TheVariants as notes
 use Rattle.run_law.specs.declared.steps.Arrival.TheVariants as arrivals
 

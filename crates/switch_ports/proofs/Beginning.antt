@@ -4,8 +4,8 @@ use Rattle.switch_ports.proofs.{Awaiting.{awaits_fresh, departs_fresh}, Fair.Has
 use Rattle.switch_ports.proofs.{CorrectedStands.{and_then_same, silent_now}, Words.{option_and_then, plan_of, pos, reading_of, refl, silence, sym, ℕ, ℤ}}
 use Rattle.{switch_ports.proofs.Rooms.{expected_is, room}, sync_state.specs.Standing.{adjustment_at_start, begun, state_at_start}}
 use Rattle.switch_ports.proofs.Words.{◌*◌, ◌+ℤ◌, ◌+◌, ◌^◌, ◌∙◌, ◌≡◌, ◌≤ℤ◌, ◌≤◌, DeviceId, HasTaken, IfSome, IsAccepted, IsBegun, IsFair, IsSiteOf, IsSmall}
-use Rattle.switch_ports.proofs.Words.{IsWithin, Joining, Network, None, Option, Some, Standing, StandsAs, Switch, SyncPlan, Units, [], amount, ap, arith}
-use Rattle.switch_ports.proofs.Words.{correction_at, correction_value, expected_by, fresh, ints, its_amount, last_cycle, never_less, next_point}
+use Rattle.switch_ports.proofs.Words.{IsWithin, Joining, Network, None, Option, Some, Standing, StandsAs, Switch, Units, [], amount, ap, arith}
+use Rattle.switch_ports.proofs.Words.{correction_at, correction_value, fresh, ints, its_amount, last_cycle, never_less, next_point}
 
 small_within : {u : Units} → IsWithin 0 (2 ^ 40) u → IsSmall u.0
 small_within h = let a = h.least in let b = h.most in (omega (arith, ints, a, b), omega (arith, ints, a, b))

@@ -4,9 +4,9 @@ use Rattle.{run_law.specs.device.States.is_synchronised, sync_state.specs.member
 use Rattle.{run_law.specs.machines.Answers.after_correction, switch_ports.proofs.Awaiting.{awaits_cleared, awaits_reopened, departs_reopened, departs_stopped}}
 use Rattle.{std.proofs.lemmas.List.Elements.Contains-append_cases, switch_ports.specs.Steps.Corrects, tte_units.proofs.general_lemmas.Naturals.less_than_next}
 use Rattle.switch_ports.proofs.{Hearings.{fresh_collects, nothing_done, silent, site_due, times_three, times_two}, Rooms.{expected_is, small_expected}}
-use Rattle.switch_ports.proofs.Words.{◌*◌, ◌++◌, ◌+ℤ◌, ◌+◌, ◌-ℤ◌, ◌<ℤ◌, ◌<◌, ◌∙◌, ◌∷◌, ◌≡◌, ◌≤ℤ◌, ◌≤◌, A, Awaits, B, Bool, Channel, Collecting, Contains}
-use Rattle.switch_ports.proofs.Words.{Departures, DeviceId, HasCollected, HasDepartures, HasTaken, HeardFrame, IfSome, Intake, Integrating, IsFair, IsSiteOf}
-use Rattle.switch_ports.proofs.Words.{IsSmall, Joining, Moment, Network, Node, None, Option, Some, Standing, StandsAs, Summary, Switch, SyncPlan, Synchronised}
+use Rattle.switch_ports.proofs.Words.{◌*◌, ◌++◌, ◌+ℤ◌, ◌+◌, ◌-ℤ◌, ◌<ℤ◌, ◌<◌, ◌∙◌, ◌∷◌, ◌≡◌, ◌≤ℤ◌, ◌≤◌, A, Awaits, B, Bool, Channel, Contains}
+use Rattle.switch_ports.proofs.Words.{Departures, DeviceId, HasCollected, HasDepartures, HasTaken, HeardFrame, IfSome, Integrating, IsFair, IsSiteOf}
+use Rattle.switch_ports.proofs.Words.{IsSmall, Joining, Moment, Network, Node, None, Option, Some, Standing, StandsAs, Summary, Switch, Synchronised}
 use Rattle.switch_ports.proofs.Words.{Units, [], acting, after, amount, ap, arith, best_on, called, correcting, correction_at, correction_value, expected_at}
 use Rattle.switch_ports.proofs.Words.{expected_by, false, fresh, further, if◌then◌else◌, in_none, inl, inr, ints, is_cm, is_timed, its_amount, last_cycle}
 use Rattle.switch_ports.proofs.Words.{nat_le, never_less, next_point, option_and_then, pos, reading_of, refl, silence, subst, sym, through, true, ℕ, ℤ}

@@ -1,7 +1,7 @@
 -- How a switch stands when its correction point has come.
 use Rattle.{switch_ports.proofs.{Pending.correction_pending, Ranges.expected_most, Rooms.expected_is}, sync_state.specs.Verdicts.IsNear}
 use Rattle.switch_ports.proofs.Words.{◌*ℤ◌, ◌*◌, ◌+ℤ◌, ◌+◌, ◌-ℤ◌, ◌<ℤ◌, ◌^◌, ◌∙◌, ◌≡◌, ◌≤ℤ◌, ◌≤◌, Channel, DeviceId, HeardFrame, IfSome, Integrating, IsFair}
-use Rattle.switch_ports.proofs.Words.{IsSmall, IsSomeAnd, Joining, Network, Node, None, Off, Option, Some, Standing, StandsAs, State, Switch, SyncPlan}
+use Rattle.switch_ports.proofs.Words.{IsSmall, IsSomeAnd, Joining, Network, Node, None, Off, Option, Some, StandsAs, State, Switch}
 use Rattle.switch_ports.proofs.Words.{Synchronised, Units, amount, amount_most, ap, arith, best_on, correction_value, expected_at, expected_by, ints, is_timed}
 use Rattle.switch_ports.proofs.Words.{its_amount, last_cycle, mul-le-mul_right, neg_ℤ, next_point, point_in, pos, refl, subst, sym, true, ℕ, ℤ}
 

@@ -3,7 +3,7 @@ use Rattle.{compression.specs.Clusters.Point, run_law.specs.machines.Answers.{wi
 use Rattle.switch_ports.proofs.{Awaiting.{awaits_called, departs_stopped}, Fair.{HasRoom, IsHeardBefore, ahead, behind, kept, not_earlier, within_in}}
 use Rattle.{switch_ports.{proofs.{Ranges.expected_most, Rooms.{expected_is, room}}, specs.Standpoints.IsPoint}, sync_state.specs.membership.Summary.Summarizes}
 use Rattle.switch_ports.proofs.Words.{◌*ℤ◌, ◌*◌, ◌+ℤ◌, ◌+◌, ◌-ℤ◌, ◌<ℤ◌, ◌<◌, ◌^◌, ◌∙◌, ◌≡◌, ◌≤ℤ◌, ◌≤◌, A, B, Bool, Channel, ClockTask, Collecting, Compressed}
-use Rattle.switch_ports.proofs.Words.{Contains, Departures, DeviceId, HasCollected, HasTaken, HeardFrame, IfSome, Intake, Integrating, IsFair, IsSiteOf}
+use Rattle.switch_ports.proofs.Words.{Contains, Departures, DeviceId, HasCollected, HasTaken, HeardFrame, IfSome, Integrating, IsFair, IsSiteOf}
 use Rattle.switch_ports.proofs.Words.{IsSmall, Joining, List, MayCall, Moment, Network, Node, Off, Option, Pcf, Phase, Some, Standing, StandsAs}
 use Rattle.switch_ports.proofs.Words.{StandsForPoints, State, Summary, Switch, SyncPlan, Synchronised, Units, [], after, amount, amount_most, ap, arith}
 use Rattle.switch_ports.proofs.Words.{best_on, called, correcting, correction_at, correction_value, doing, expected_at, expected_by, fresh, further, heard_as}

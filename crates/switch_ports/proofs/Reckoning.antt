@@ -1,5 +1,5 @@
 -- What numbers of 64 bits come to at a cycle.
-use Rattle.switch_ports.proofs.Words.{if◌then◌else◌, ◌*ℤ◌, ◌*◌, ◌+ℤ◌, ◌+◌, ◌-ℤ◌, ◌<ℤ◌, ◌^◌, ◌∙◌, ◌≡◌, ◌≤ℤ◌, ◌≤◌, Bool, None, Option, Some, Units}
+use Rattle.switch_ports.proofs.Words.{if◌then◌else◌, ◌*ℤ◌, ◌*◌, ◌+ℤ◌, ◌+◌, ◌-ℤ◌, ◌^◌, ◌∙◌, ◌≡◌, ◌≤ℤ◌, ◌≤◌, Bool, None, Some, Units}
 use Rattle.switch_ports.proofs.Words.{IsSmall, ap, arith, int_lt, ints, mul-le-mul_right, neg_ℤ, pos, reading_of, subst, sym, true, false, ℕ, ℤ}
 use Rattle.std.{proofs.{Common.FitsSigned, Math.Nat.mul-le-mul_left, lemmas.Int.to_z-of_z}, specs.Int.w64}
 use mir.Val.{of_z, to_z}

@@ -1,7 +1,7 @@
 -- Time-triggered frames that a switch takes.
 use Rattle.switch_ports.{proofs.Awaiting.{awaits_taken, departs_taken, later_by, taken_as}, specs.declared.standpoint.Standpoint.{Standpoint as Place}}
-use Rattle.switch_ports.proofs.{Standings.called_stands, Words.{Units, VlId, [], after_arrival, amount, ap, called, further, refl, subst, sym, through, ℕ, ℤ}}
-use Rattle.switch_ports.proofs.Words.{◌*◌, ◌++◌, ◌+ℤ◌, ◌^◌, ◌∙◌, ◌∷◌, ◌≡◌, ◌≤ℤ◌, ◌≤◌, AwaitsIn, Changes, Departures, DeviceId, HasDepartures}
+use Rattle.switch_ports.proofs.{Standings.called_stands, Words.{Units, VlId, after_arrival, amount, ap, called, further, refl, subst, sym, through, ℕ, ℤ}}
+use Rattle.switch_ports.proofs.Words.{◌*◌, ◌+ℤ◌, ◌^◌, ◌∙◌, ◌≡◌, ◌≤ℤ◌, ◌≤◌, AwaitsIn, Changes, Departures, DeviceId, HasDepartures}
 use Rattle.switch_ports.proofs.Words.{HasTaken, Intake, KnowsNext, List, Moment, Network, Node, Standing, StandsAs, Switch, SyncPlan, Synchronised, TakenFrame}
 use Rattle.switch_ports.specs.{Departing.{IsKeptSo, Keeps}, Intakes.IsTakenSo}
 use Rattle.run_law.specs.{declared.steps.Arrival.Arrival, machines.{Answers.with_taken, Nodes.arriving}}

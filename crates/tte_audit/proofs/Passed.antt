@@ -1,7 +1,7 @@
 -- What an audit passes.
 use Rattle.{audit_law.proofs.law_lemmas.Sound.run_exactly, tte_audit.{proofs.ReportRuns.{audit_run, run_of_audit}, specs.Laws.PassedLaw}}
 use Rattle.run_law.specs.runs.Runs.{IsRun}
-use Rattle.tte_audit.proofs.{OneAnswer.same_of, Words.{IsDue, List, Note, Units, behind_time, happenings, place_of, refl, scenario_of, subst}}
+use Rattle.tte_audit.proofs.{OneAnswer.same_of, Words.{IsDue, behind_time, happenings, place_of, refl, scenario_of, subst}}
 
 pub passed_law : PassedLaw
 passed_law network octets ns time named of =

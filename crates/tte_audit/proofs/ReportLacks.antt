@@ -1,5 +1,5 @@
 -- What a report lacks first is told by its debts.
-use Rattle.tte_audit.{proofs.Words.{amount, ap, happenings, refl, scenario_of, subst, sym, ℕ}, specs.Laws.ReportLackLaw}
+use Rattle.tte_audit.{proofs.Words.{amount, ap, happenings, refl, scenario_of, subst, sym}, specs.Laws.ReportLackLaw}
 use Rattle.audit_law.{proofs.law_lemmas.FirstUnpaid.lack_law, specs.law.DebtLaws.IsFirstLack}
 
 pub report_lack_law : ReportLackLaw

@@ -2,7 +2,7 @@
 use Rattle.{report_text.proofs.SameReports.same_note, tte_audit.specs.{Named.IsNamed, Swift.{AreAt, IsAt, IsSought, IsSoughtOn}, declared.swift.Sought.Sought}}
 use Rattle.tte_audit.proofs.{EventsRead.{events_on, right_none, right_on}, Meet.apart_of, Words.{length-append, note_text, refl, subst, sym, with_event, ℕ}}
 use Rattle.tte_audit.proofs.Parts.{line_of, one_text}
-use Rattle.tte_audit.proofs.Words.{◌++◌, ◌∷◌, ◌≡◌, BeginsWithRecord, Event, Follows, List, MayCome, Network, Note, [], ap, arith, events_of, length}
+use Rattle.tte_audit.proofs.Words.{◌++◌, ◌∷◌, ◌≡◌, BeginsWithRecord, Follows, List, MayCome, Network, Note, [], ap, arith, events_of, length}
 
 -- two ends of some octets that are as long are one
 pub one_end : (front other rest more : List ℕ) → front ++ rest ≡ other ++ more → length rest ≡ length more → rest ≡ more

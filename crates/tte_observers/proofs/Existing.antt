@@ -2,7 +2,7 @@
 use Rattle.net_plan.specs.{Bearers.{HasNoBearer, IsFirstBearer, link_names, vl_names}, Ranges.IsInRange}
 use Rattle.net_plan.specs.declared.{ids.{LinkId.LinkId, VlId.VlId}, network.Network.Network}
 use Rattle.net_plan.specs.declared.tables.{VirtualLink.VirtualLink, Way.Way}
-use Rattle.std.proofs.Common.{◌<◌, ◌∙◌, ◌∷◌, ◌≡◌, ◌⊎◌, Bool, List, Option, Some, [], ap, arith, false, inl, inr}
+use Rattle.std.proofs.Common.{◌<◌, ◌∙◌, ◌∷◌, ◌≡◌, ◌⊎◌, Bool, List, Some, [], ap, arith, false, inl, inr}
 use Rattle.std.proofs.Common.{map, refl, suc, sym, true, zero, ℕ}
 use Rattle.std.proofs.lemmas.{Bool.cases_lt, Option.slice_get-map, Slice.Eq.bytes_eq-Decides}
 use Rattle.std.specs.{Prelude.slice_get, Str.bytes_eq}

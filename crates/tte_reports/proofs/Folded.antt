@@ -1,5 +1,5 @@
 -- The records of a report, taken one after another.
-use Rattle.std.proofs.Common.{◌++◌, ◌+◌, ◌<◌, ◌∙◌, ◌∷◌, ◌≡◌, List, [], ap, append_assoc, arith, length, refl, subst, sym, ℕ}
+use Rattle.std.proofs.Common.{◌++◌, ◌+◌, ◌<◌, ◌∙◌, ◌∷◌, ◌≡◌, List, [], ap, append_assoc, arith, length, refl, subst, sym}
 use Rattle.{report_text.specs.NoteLine.{note_line, note_text, report_of}, std.proofs.lemmas.List.{append-nil, length-append}}
 use Rattle.{net_plan.specs.declared.network.Network.Network, run_law.specs.declared.note.Note.Note}
 use Rattle.{std.specs.List.concat, tte_reports.specs.{Folding.{Holds, IsTakenSoFar}, Reports.AreLeft, declared.records.Records.Records}}

@@ -12,7 +12,7 @@ use Rattle.run_law.{proofs.runs.NetworkRuns.one_more, specs.{control.Wires.{Arri
 use Rattle.{run_law.specs.{control.Leaving.{Departs, Departure}, declared.note.NoteBody.NoteBody}, schedule_tables.specs.declared.entry.Entry.Entry}
 use Rattle.run_law.specs.{records.Happenings.{Happening, happening, happenings, time_of}, runs.DueRecords.{IsArrivedRecord, IsCaused, IsDue, IsScenarioRun}}
 use Rattle.std.proofs.Common.{option_map}
-use Rattle.tte_traces.proofs.Words.{◌++◌, ◌<◌, ◌∙◌, ◌∷◌, ◌≡◌, IsInRange, IsNoteOf, IsOfNetwork, List, Network, None, Note, Option, Some, Units, What, []}
+use Rattle.tte_traces.proofs.Words.{◌++◌, ◌<◌, ◌∙◌, ◌∷◌, ◌≡◌, IsInRange, IsNoteOf, IsOfNetwork, List, Network, None, Note, Option, Some, Units, []}
 use Rattle.run_law.specs.declared.note.NoteBody.TheVariants as kinds
 
 -- ---- links and devices

@@ -4,7 +4,7 @@ use Rattle.{audit_devices.specs.Showing.{IsSteady, Shown}, net_plan.specs.declar
 use Rattle.audit_devices.specs.clocks.{Finding.{CrossesAt, IsNextCrossing, NoneCrossed, value_in}, Sendings.{IsNextSending, IsStretch, NoneSent}}
 use Rattle.{net_plan.specs.Places.is_master, run_law.specs.{scenario.{Devices.has_role, Scenarios.Scenario}, timed.Dispatching.Sends}}
 use Rattle.{run_law.specs.device.States.{state_after, state_before}, sync_state.specs.declared.state.State.TheVariants.{Integrating, Synchronised}}
-use Rattle.std.proofs.Common.{◌*◌, ◌+◌, ◌-◌, ◌<◌, ◌∙◌, ◌≡◌, ◌≤◌, Bool, List, ap, arith, if◌then◌else◌, pos, refl, subst, sym, true, ℕ, ℤ}
+use Rattle.std.proofs.Common.{◌*◌, ◌+◌, ◌-◌, ◌<◌, ◌∙◌, ◌≡◌, ◌≤◌, Bool, List, ap, arith, if◌then◌else◌, pos, refl, subst, sym, true, ℕ}
 use Rattle.tte_units.specs.Amount.{amount}
 
 -- the series is that of the beginnings of cycles

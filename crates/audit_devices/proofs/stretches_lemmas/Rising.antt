@@ -6,7 +6,7 @@ use Rattle.{compression.specs.Clusters.{Point, point_at}, net_plan.specs.declare
 use Rattle.{net_plan.specs.Ranges.IsInRange, std.specs.List.after_last, tte_units.specs.Amount.amount}
 use Rattle.{net_plan.specs.declared.ids.LinkId.LinkId, std.specs.Prelude.{◌==◌, IfSome, filter_map}, tte_units.specs.declared.units.Units.Units}
 use Rattle.{run_law.{proofs.runs.Places.parted, specs.{device.States.cycle_in, runs.Runs.IsFounded}}, std.proofs.lemmas.{Bool.{cases_lt, eqb-true}, Int.ints}}
-use Rattle.run_law.specs.control.{Collections.{ends_stretch, master_of, point_by, points_of}, Permanence.{BecomesPermanent, IsPermanent, ripe_as}}
+use Rattle.run_law.specs.control.{Collections.{ends_stretch, master_of, point_by, points_of}, Permanence.{BecomesPermanent, IsPermanent}}
 use Rattle.run_law.specs.{declared.{judgement.{Judgement.Judgement, Why.TheVariants.On}, note.NoteBody.NoteBody}, records.Happenings.{Happening, time_of}}
 use Rattle.std.proofs.Common.{◌++◌, ◌+ℤ◌, ◌-ℤ◌, ◌<ℤ◌, ◌<◌, ◌∙◌, ◌∷◌, ◌≡◌, ◌≤ℤ◌, ◌≤◌, ◌⊎◌, All, Bool, List, None, Option, Some, [], ap, arith, false}
 use Rattle.std.proofs.{Common.{if◌then◌else◌, inl, inr, negsuc, pos, refl, subst, sym, true, unsigned_abs, ℕ, ℤ}, lemmas.List.Elements.{All-cons, All-nil}}

@@ -1,6 +1,6 @@
 -- The draft of a picture, and the marks of records put one after another.
 use Rattle.{lens.specs.{declared.draw.drawing.Draft.Draft, draw.Drafts.IsDraftOf}, std.proofs.lemmas.List.Sums.fold_push}
-use Rattle.{lens.proofs.draw_lemmas.Parts.{fails_before, fails_between}, lens_svg.specs.{Clocks.{Clocks, clocks_in, clocks_with, no_clocks}, Views.View, declared.layout.Span.Span}}
+use Rattle.{lens.proofs.draw_lemmas.Parts.{fails_before, fails_between}, lens_svg.specs.{Clocks.{Clocks, clocks_in, clocks_with, no_clocks}, Views.View}}
 use Rattle.{lens.specs.draw.Answer.{back_answer, draw_answer, fitting_answer}, lens_svg.specs.{Plan.Plan, Sketching.{begun, fits, plan_behind, plan_of, took}}}
 use Rattle.lens.specs.draw.{Picture.{back_lines, front_lines, mark_lines, marks_behind, marks_of, picture_lines, windows_of}, Signs.close_line}
 use Rattle.{lens_svg.proofs.Painting.view_behind, std.{proofs.Common.{true, ℕ}, specs.List.concat}, tte_reports.specs.Reports.AreLeft}

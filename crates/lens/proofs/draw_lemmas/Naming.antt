@@ -2,11 +2,11 @@
 use Rattle.lens.specs.{Limit.report_limit, draw.Keeping.{AreFlags, AreLanes, IsKept, StandsIn, Tells}}
 use Rattle.lens.specs.draw.Naming.{AnswersNamed, CompletesNamed, IsKeptAnswer, IsNamedAnswer, IsNamedStatus, IsUnknown, LeavesNamed, LeavesUnnamed, Names, unknown_answer, view_of}
 use Rattle.lens.specs.{declared.{draw.subject.Subject.{Subject, TheVariants.{Frames, Lane}}, forms.Part.Part}, draw.{Answer.draw_answer, Spans.span_of}}
-use Rattle.{lens_svg.specs.{Views.flag_at, declared.layout.Span.Span}, schedule_checker.specs.Refusals.RefusalIsOne}
-use Rattle.net_plan.specs.{Bearers.{IsFirstBearer, device_names, vl_names}, declared.network.Network.Network}
+use Rattle.{lens_svg.specs.declared.layout.Span.Span, schedule_checker.specs.Refusals.RefusalIsOne}
+use Rattle.net_plan.specs.{Bearers.IsFirstBearer, declared.network.Network.Network}
 use Rattle.net_plan.specs.declared.ids.{DeviceId.DeviceId, VlId.VlId}
-use Rattle.run_law.specs.{declared.note.Note.Note, records.{Happenings.{Happening, happenings}, Order.IsIn}}
-use Rattle.std.proofs.Common.{◌<◌, ◌∙◌, ◌∷◌, ◌≡◌, ◌≤◌, ◌⊎◌, Bool, List, None, Ok, Option, Result, Some, [], ap, arith, false, inl, inr, length, refl, subst, suc, sym, true, zero, ℕ}
+use Rattle.run_law.specs.{declared.note.Note.Note, records.{Happenings.Happening, Order.IsIn}}
+use Rattle.std.proofs.Common.{◌<◌, ◌∙◌, ◌∷◌, ◌≡◌, ◌≤◌, ◌⊎◌, Bool, List, None, Ok, Option, Result, Some, [], ap, arith, false, inl, inr, length, refl, subst, suc, sym, zero, ℕ}
 use Rattle.std.{proofs.lemmas.Bool.cases_lt, specs.Prelude.{slice_get, unwrap_or}}
 use Rattle.tte_forms.proofs.{Octets.{for_all, for_more}, OneAnswers.answer_widened, networks.Answers.{accepted_alone, network_answer_one}}
 use Rattle.tte_forms.specs.Answering.{Answer, ForOctets, Gives, GivesAnswer}

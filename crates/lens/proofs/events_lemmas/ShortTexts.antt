@@ -1,7 +1,7 @@
 -- The text of an event fits a line.
 use Rattle.{net_plan.specs.{Belonging.IsOfNetwork, Ranges.IsInRange}, std.specs.Fmt.signed_decimal, trace_text.proofs.EventsBack.text_joined}
 use Rattle.{net_plan.specs.declared.{event.Event.Event, network.Network.Network}, trace_text.specs.{EventLine.{event_text, what_words}, Ranges.IsEventInRange}}
-use Rattle.{report_text.proofs.Short.{joined_short, size, time_short, what_short}, std.proofs.Common.{◌∷◌, ◌≤◌, List, arith, length, subst, sym, ℕ}}
+use Rattle.{report_text.proofs.Short.{joined_short, size, time_short, what_short}, std.proofs.Common.{◌∷◌, ◌≤◌, arith, length, subst, sym}}
 use Rattle.tte_io.specs.Line.{line_limit}
 
 pub event_short : (network : Network) (event : Event) → IsInRange network → IsOfNetwork network event.what → IsEventInRange event

@@ -9,7 +9,7 @@ use Rattle.lens_flows.specs.judge.{Courses.{IsCourse, scenario_of}, Fates.IsBegu
 use Rattle.net_plan.specs.{Ranges.IsInRange, declared.event.Event.Event}
 use Rattle.run_law.specs.{records.Happenings.Happening, scenario.Scenarios.Scenario}
 use Rattle.schedule_tables.specs.Windows.{OccursIn}
-use Rattle.std.proofs.Common.{◌*◌, ◌+◌, ◌<◌, ◌^◌, ◌≡◌, ◌≤◌, List, arith, inl, inr, pos, subst, sym, ℕ}
+use Rattle.std.proofs.Common.{◌+◌, ◌<◌, ◌^◌, ◌≡◌, ◌≤◌, List, arith, inl, inr, subst, sym, ℕ}
 use Rattle.{std.proofs.lemmas.Bool.cases_lt, tte_units.{proofs.general_lemmas.Integers.amount_least, specs.Amount.amount}}
 
 module _ (s : Scenario) (hs : List Happening) (until : ℕ) (flow : Flow) where

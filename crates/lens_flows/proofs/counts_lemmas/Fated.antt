@@ -5,7 +5,7 @@ use Rattle.lens_flows.{proofs.judge_lemmas.{Comings.not_at_first, Fating.{owed_e
 use Rattle.lens_flows.specs.{counts.Counted.{AreFateCounts, HasFateAt, count_of, counted}, declared.counts.counting.FateCounts.FateCounts, judge.Flows.IsFlow}
 use Rattle.{lens_flows.specs.declared.judge.{beginning.Begun.Begun, fate.Fate.Fate, flow.Flow.Flow}, net_plan.specs.declared.ids.DeviceId.DeviceId}
 use Rattle.{run_law.specs.{law.Safety.ReachesPlace, records.Happenings.Happening, scenario.Scenarios.Scenario}, schedule_tables.specs.Windows.OccursIn}
-use Rattle.std.proofs.{Common.{◌*◌, ◌+◌, ◌<◌, ◌^◌, ◌≡◌, ◌≤◌, List, arith, inl, inr, pos, refl, subst, suc, sym, zero, ℕ}, Math.Nat.mul-le-mul_right}
+use Rattle.std.proofs.{Common.{◌*◌, ◌+◌, ◌<◌, ◌^◌, ◌≡◌, ◌≤◌, List, arith, inl, inr, refl, subst, suc, sym, zero, ℕ}, Math.Nat.mul-le-mul_right}
 use Rattle.{std.proofs.lemmas.{Bool.cases_lt, Int.ints}, tte_units.specs.Amount.amount}
 use Rattle.lens_flows.specs.declared.judge.fate.Fate.TheVariants as fates
 

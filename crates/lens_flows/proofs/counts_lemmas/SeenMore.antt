@@ -1,7 +1,7 @@
 -- What was seen of records, and one more.
 use Rattle.lens_flows.specs.{counts.{Deliveries.{deliveries_of, delivery_by}, Seen.some_delivery}, declared.counts.deliveries.Delivery.Delivery}
 use Rattle.{run_law.specs.declared.note.Note.Note, std.proofs.{Common.{◌++◌, ◌∙◌, ◌∷◌, ◌≡◌, List, [], ap, refl}, lemmas.List.Elements.filter_map-append}}
-use Rattle.{std.{specs.Prelude.{None, Option, Some, filter_map}}, tte_units.specs.Amount.amount}
+use Rattle.{std.specs.Prelude.{None, Option, Some, filter_map}, tte_units.specs.Amount.amount}
 
 one_given : (f : Note → Option Delivery) (note : Note) (o : Option Delivery) → f note ≡ o → filter_map f (note ∷ []) ≡ some_delivery o
 one_given f note None e = cc

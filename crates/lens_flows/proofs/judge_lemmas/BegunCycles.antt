@@ -6,7 +6,7 @@ use Rattle.{audit_sweep.specs.unpaid.points.Kept.ShowsWithin, net_plan.specs.dec
 use Rattle.lens_flows.{proofs.judge_lemmas.Firsts.{first_behind}, specs.judge.Beginnings.{BeginsCycle, BeginsOne, IsFirstBegun, IsNextBegun}}
 use Rattle.{lens_flows.specs.declared.judge.beginning.Begun.Begun, run_law.specs.{records.Happenings.{Happening, earlier}, scenario.Scenarios.Scenario}}
 use Rattle.{lens_flows.specs.judge.Times.NoneWithin, tte_units.specs.Amount.amount}
-use Rattle.std.proofs.{Common.{◌*◌, ◌+◌, ◌-◌, ◌∙◌, ◌≡◌, ◌≤◌, List, ap, arith, false, pos, refl, subst, sym, true, ℕ, ℤ}}
+use Rattle.std.proofs.Common.{◌*◌, ◌+◌, ◌-◌, ◌∙◌, ◌≡◌, ◌≤◌, List, ap, arith, false, pos, refl, subst, sym, true, ℕ}
 
 module _ (s : Scenario) (hs : List Happening) (device : DeviceId) (shown : Shown) (series : Series) where
   begins_crosses : {t cycle : ℕ} → AreBeginnings s series → Shows s (earlier t hs) device shown

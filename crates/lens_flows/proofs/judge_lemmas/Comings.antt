@@ -4,8 +4,8 @@ pub use Rattle.audit_sweep.proofs.unpaid_lemmas.dispatches_lemmas.RowFacts.{reac
 use Rattle.{lens_flows.specs.judge.Fates.{HasComeInStep, ReachesInStep}, sync_state.specs.declared.state.State.TheVariants.Synchronised}
 use Rattle.{lens_flows.specs.judge.Times.{IsFirstTime, NoneWithin}, run_law.specs.{records.Happenings.{Happening, up_to}, scenario.Scenarios.Scenario}}
 use Rattle.{net_plan.specs.declared.ids.DeviceId.DeviceId, std.specs.Prelude.{◌↔◌, IsTrue, MatchBool}}
-use Rattle.{run_law.specs.{device.States.state_after, law.Safety.ReachesPlace}, tte_units.specs.Amount.amount}
-use Rattle.std.proofs.{Common.{◌*◌, ◌+◌, ◌<◌, ◌≡◌, ◌≤◌, Bool, List, arith, false, inl, inr, pos, refl, subst, true, ℕ}, lemmas.Bool.{cases_lt, false≢true}}
+use Rattle.run_law.specs.{device.States.state_after, law.Safety.ReachesPlace}
+use Rattle.std.proofs.{Common.{◌+◌, ◌<◌, ◌≡◌, ◌≤◌, Bool, List, arith, false, inl, inr, refl, subst, true, ℕ}, lemmas.Bool.{cases_lt, false≢true}}
 
 module _ (s : Scenario) (hs : List Happening) (device : DeviceId) (cycle place : ℕ) where
   pub none_in_step : (after before last : ℕ) → last ≤ before

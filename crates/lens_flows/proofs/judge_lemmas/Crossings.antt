@@ -2,7 +2,7 @@
 use Rattle.audit_devices.{proofs.clocks_lemmas.Reached.{come_reaches, reaches_come}, specs.clocks.Finding.{CrossesAt, IsNextCrossing, NoneCrossed, value_in}}
 use Rattle.{audit_devices.specs.Showing.{Shown, Shows}, net_plan.specs.declared.ids.DeviceId.DeviceId, run_law.specs.device.LocalClocks.Reaches}
 use Rattle.{audit_devices.specs.declared.clocks.finding.Crossed.Crossed, std.proofs.Common.{◌+◌, ◌-◌, ◌≡◌, ◌≤◌, List, arith, refl, subst, sym, ℕ, ℤ}}
-use Rattle.{lens_flows.specs.judge.{Times.{IsFirstTime, NoneWithin}, Values.values_from}}
+use Rattle.lens_flows.specs.judge.{Times.{IsFirstTime, NoneWithin}, Values.values_from}
 use Rattle.{audit_law.specs.events.Readings.ReadsOn, std.proofs.lemmas.Int.ints}
 use Rattle.{audit_sweep.specs.unpaid.points.Kept.ShowsWithin, run_law.specs.{records.Happenings.{Happening, earlier}, scenario.Scenarios.Scenario}}
 

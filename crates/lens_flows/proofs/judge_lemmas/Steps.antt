@@ -1,5 +1,5 @@
 -- How long a device is in step.
-use Rattle.{run_law.{proofs.records.Order.same_kept}}
+use Rattle.run_law.{proofs.records.Order.same_kept}
 use Rattle.{audit_devices.specs.Showing.{Shown, Shows}, lens_flows.specs.judge.Fates.StaysInStep}
 use Rattle.{audit_law.specs.events.Remembering.has_come, net_plan.specs.declared.ids.DeviceId.DeviceId, std.specs.Prelude.{None, Option, Some, nat_le, nat_lt}}
 use Rattle.run_law.specs.{device.States.state_after, records.Happenings.{Happening, earlier, time_of, up_to}, scenario.Scenarios.{Scenario, is_broken}}

@@ -2,7 +2,7 @@
 use Rattle.{lens_slack.specs.{Bounds.begin_bound, Tightest.IsEnough}, schedule_tables.specs.Numbers.number_of, tte_units.specs.Amount.amount}
 use Rattle.{lens_slack.specs.{declared.least.times.Times.Times, least.Least.{AreLeast, Suffices}}, schedule_tables.specs.Rules.{IsKeptAt, KeepsBelow}}
 use Rattle.{lens_slack.specs.least.{Answer.room_of, Times.{IsButForTimes, times_of, with_times}}, schedule_checker.proofs.Selection.{all_of_each, each_of_all}}
-use Rattle.{lens_slack.specs.least.Laws.{LeastAreLeast, LeastHaveRoom}, schedule_tables.specs.{Delays.{ScheduleFits, pcf_port_time}, declared.rule.Rule.Rule}}
+use Rattle.{lens_slack.specs.least.Laws.{LeastAreLeast, LeastHaveRoom}, schedule_tables.specs.Delays.{ScheduleFits, pcf_port_time}}
 use Rattle.{net_plan.specs.declared.{network.Network.Network, tables.Link.Link}, schedule_checker.proofs.OneRefusal.same_rule, std.proofs.lemmas.Bool.cases_lt}
 use Rattle.{schedule_tables.specs.declared.rule.Rule.TheVariants.ScheduleStart, std.proofs.Common.{◌*◌, ◌+◌, ◌≡◌, ◌≤◌, arith, inl, inr, refl, subst, sym}}
 

@@ -5,7 +5,7 @@ use Rattle.tte_observers.proofs.stamps_lemmas.{Beginning.stamps_begin, Words.{cl
 use Rattle.tte_observers.{proofs.stamps_lemmas.{Ordered.admitted_up_to_last, SameRecords.up_to_mark}, specs.stamps.Stamping.{PutsStamps, StopsStamps}}
 use Rattle.{tte_observers.proofs.stamps_lemmas.Staying.stamps_stay, world_drive.specs.{Observing.{Sees, Stops, Told}, exact.Records.AreAllRecords}}
 use Rattle.tte_observers.proofs.stamps_lemmas.Words.{◌+◌, ◌∙◌, ◌∷◌, ◌≡◌, ◌≤◌, AreAdmitted, AreRecordsBefore, AreRecordsSoFar, Event, IsTraceAnswer, List}
-use Rattle.tte_observers.proofs.stamps_lemmas.Words.{Network, None, Note, Option, PutsLines, Some, Units, [], admitted_in_order, amount, ap, append-nil, arith}
+use Rattle.tte_observers.proofs.stamps_lemmas.Words.{Network, None, Note, Option, PutsLines, Some, [], admitted_in_order, amount, ap, append-nil, arith}
 
 -- ---- an observer whose granule is given by it
 

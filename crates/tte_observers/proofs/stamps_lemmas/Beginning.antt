@@ -2,7 +2,7 @@
 use Rattle.tte_observers.proofs.stamps_lemmas.{Ordered.{admitted_follow, admitted_up_to_last, last_grows}, Staying.stamps_stay}
 use Rattle.tte_observers.proofs.stamps_lemmas.{SameRecords.{IsUpTo, up_to_mark}, Words.{inr, last_time, length, stamp_lines, stamps_behind, subst, sym, ℕ}}
 use Rattle.tte_observers.proofs.stamps_lemmas.Words.{◌++◌, ◌+◌, ◌∙◌, ◌∷◌, ◌≡◌, ◌≤◌, Answer, AreAdmitted, AreRecordsBefore, AreRecordsSoFar, Event}
-use Rattle.tte_observers.proofs.stamps_lemmas.Words.{IsTraceAnswer, List, Network, Note, Units, [], admitted_in_order, amount, ap, append_assoc, arith, inl}
+use Rattle.tte_observers.proofs.stamps_lemmas.Words.{IsTraceAnswer, List, Network, Note, [], admitted_in_order, amount, ap, append_assoc, arith, inl}
 use Rattle.tte_traces.{proofs.{Admitted.admitted_one, Answers.{AnswersEither, answer_stops}}, specs.{Along.{BeginWith, IsFrontOf}, FaultLine.fault_lines}}
 
 module _ (granule : ℕ) (network : Network) (octets : List ℕ) (events : List Event) (notes : List Note) (run : AreRecordsSoFar network events notes) where

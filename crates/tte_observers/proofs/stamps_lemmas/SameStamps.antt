@@ -1,6 +1,6 @@
 -- The stamps of a line are by the records of earlier times alone.
 use Rattle.{run_law.specs.device.States.{adjustment_after, is_synchronised, state_after}, sync_state.specs.declared.state.State.TheVariants.Integrating}
-use Rattle.{run_law.specs.records.Happenings.{Happening, earlier}, std.proofs.Common.{◌&&◌, ◌+ℤ◌, if◌then◌else◌, not}}
+use Rattle.{run_law.specs.records.Happenings.earlier, std.proofs.Common.{◌&&◌, ◌+ℤ◌, if◌then◌else◌, not}}
 use Rattle.{run_law.specs.scenario.Scenarios.{is_broken, is_turned_on_at}, tte_observers.specs.stamps.granules.{Lines.scenario_at, Stamps.stamp_at}}
 use Rattle.std.specs.Prelude.{option_map, option_to_list}
 use Rattle.tte_observers.proofs.stamps_lemmas.Words.{◌++◌, ◌∙◌, ◌∷◌, ◌≡◌, DeviceId, Event, IsIn, List, Network, None, Note, Option, Some, [], amount, ap}

@@ -8,7 +8,7 @@ use Rattle.tte_observers.proofs.votes_lemmas.Words.{for_more, inl, inr, length, 
 use Rattle.{tte_observers.specs.declared.votes.voter.Voter.Voter, tte_traces.specs.declared.fault.{TraceFault.TraceFault, TraceStop.TraceStop}}
 use Rattle.{tte_traces.proofs.Answers.{IsFaultBehind, faulty_answer, faulty_is, whole_is}, world_drive.specs.exact.Records.{AreAllRecords, AreRecordsSoFar}}
 use Rattle.tte_traces.proofs.Ends.{done_no_read, fault_no_read, for_stopped, little_at, little_so_far, puts_shown, trace_ended, trace_stopped}
-use Rattle.{tte_traces.{proofs.Streams.writes_answer, specs.Along.IsAllAdmitted}, world_drive.specs.{Observing.{Told, told_by}, exact.Worlds.ExactWorld}}
+use Rattle.{tte_traces.{proofs.Streams.writes_answer, specs.Along.IsAllAdmitted}, world_drive.specs.{Observing.told_by, exact.Worlds.ExactWorld}}
 use Rattle.tte_io.specs.declared.ends.Sink as sinks
 use Rattle.tte_io.specs.declared.ends.Source as sources
 use Rattle.tte_traces.specs.declared.fault.TraceStop.TheVariants as ends

@@ -1,6 +1,6 @@
 -- In a run that goes well two correct senders outvote the third, and the lines tell it.
 use Rattle.{device_rules.specs.frames.traced.RecordOctets.record_octets, drift_clock.specs.Segment.{fresh_segment, segment_reading, stepped_segment}}
-use Rattle.{net_plan.specs.Places.{device_at, is_end_system}, run_law.specs.declared.note.NoteBody.NoteBody, tte_units.proofs.general_lemmas.Options.opened}
+use Rattle.{net_plan.specs.Places.{device_at, is_end_system}, tte_units.proofs.general_lemmas.Options.opened}
 use Rattle.{net_plan.specs.declared.tables.Device.Device, std.specs.Prelude.{option_and_then, option_map}, tte_observers.specs.votes.Safely.TwoOutvote}
 use Rattle.{precision_law.specs.traffic.safety.{Headline.IsEventOf, Under.scenario_of}, run_law.specs.law.Safety.{FramesAreDelivered, IsOwed}}
 use Rattle.{run_law.proofs.runs.{NetworkRuns.one_more, Places.in_left}, std.proofs.lemmas.Option.slice_get_within}

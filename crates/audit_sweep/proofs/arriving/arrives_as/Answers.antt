@@ -1,4 +1,4 @@
-use Rattle.{audit_sweep.proofs.Words.{Arrival, ArrivesAs, scenario_under, subst}, run_law.proofs.runs.SameSteps.same_arrival}
+use Rattle.{audit_sweep.proofs.Words.{ArrivesAs, scenario_under, subst}, run_law.proofs.runs.SameSteps.same_arrival}
 use Rattle.device_rules.specs.Answers.{arrival_as}
 use Rattle.audit_sweep.proofs.arriving.arrives_as.Goals as goal
 

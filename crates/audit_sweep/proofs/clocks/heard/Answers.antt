@@ -1,5 +1,5 @@
-use Rattle.{audit_devices.specs.Keeping.records_before, sync_state.specs.membership.{Hearing.Hearing, Summary.Summarizes}}
-use Rattle.audit_sweep.proofs.{HeardPoints.{heard_before_corrections, unchanged_before}, Words.{◌∷◌, List, [], refl, scenario_under, subst}}
+use Rattle.{audit_devices.specs.Keeping.records_before, sync_state.specs.membership.Summary.Summarizes}
+use Rattle.audit_sweep.proofs.{HeardPoints.{heard_before_corrections, unchanged_before}, Words.{◌∷◌, [], refl, scenario_under, subst}}
 use Rattle.audit_sweep.proofs.clocks.heard.Goals as goal
 
 pub returns : goal.returns

@@ -1,5 +1,5 @@
-use Rattle.audit_sweep.proofs.Words.{BecomesPermanent, Units, scenario_under, subst}
-use Rattle.run_law.{proofs.runs.SameSteps.{same_point, same_ripening}, specs.{control.Permanence.ripe_as, declared.steps.Ripe.Ripe}}
+use Rattle.audit_sweep.proofs.Words.{BecomesPermanent, scenario_under, subst}
+use Rattle.run_law.{proofs.runs.SameSteps.{same_point, same_ripening}, specs.control.Permanence.ripe_as}
 use Rattle.audit_sweep.proofs.hearing.becomes_permanent.Goals as goal
 
 pub returns-then-is_same_point : goal.returns-then-is_same_point

@@ -1,5 +1,5 @@
 use Rattle.audit_sweep.proofs.Words.{BecomesPermanent, scenario_under, subst}
-use Rattle.run_law.{proofs.runs.SameSteps.same_ripening, specs.declared.steps.Ripe.{Ripe, TheVariants.Dropped}}
+use Rattle.run_law.{proofs.runs.SameSteps.same_ripening, specs.declared.steps.Ripe.TheVariants.Dropped}
 use Rattle.audit_sweep.proofs.hearing.drops.Goals as goal
 
 pub returns-in-Some : goal.returns-in-Some

@@ -1,5 +1,5 @@
 use Rattle.{audit_devices.specs.stretches.Points.HasPoints, run_law.specs.{control.Emissions.Emits, scenario.{Devices.is_cm, Scenarios.is_broken}}}
-use Rattle.audit_sweep.proofs.Words.{◌∙◌, ◌≡◌, ◌≤◌, DeviceId, Judgement, Network, Some, ap, one, points_of, refl, scenario_under, subst, sym, true, ℕ}
+use Rattle.audit_sweep.proofs.Words.{◌∙◌, ◌≡◌, ◌≤◌, DeviceId, Judgement, Some, ap, one, points_of, refl, scenario_under, subst, sym, true, ℕ}
 use Rattle.std.proofs.Common.{◌-◌}
 use Rattle.audit_sweep.proofs.hearing.emits.Goals as goal
 

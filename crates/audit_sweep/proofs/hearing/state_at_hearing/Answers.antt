@@ -1,4 +1,4 @@
-use Rattle.audit_sweep.proofs.Words.{if◌then◌else◌, ◌∙◌, Bool, Happening, List, ap, scenario_under, state_before, sym}
+use Rattle.audit_sweep.proofs.Words.{if◌then◌else◌, ◌∙◌, Bool, ap, scenario_under, state_before, sym}
 use Rattle.run_law.specs.{device.States.state_after, scenario.Scenarios.is_turned_on_at}
 use Rattle.sync_state.specs.declared.state.State.TheVariants.{Integrating, Joining}
 use Rattle.audit_sweep.proofs.hearing.state_at_hearing.Goals as goal

@@ -1,4 +1,4 @@
-use Rattle.{audit_sweep.proofs.{Departures.one_departed, Words.{scenario_under, subst}}, device_rules.specs.declared.leaving.Departed.Departed}
+use Rattle.audit_sweep.proofs.{Departures.one_departed, Words.{scenario_under, subst}}
 use Rattle.{device_rules.specs.Answers.departure_as, run_law.{proofs.runs.SameSteps.same_departure, specs.control.Leaving.Departs}}
 use Rattle.audit_sweep.proofs.leaving.departs.Goals as goal
 

@@ -1,7 +1,7 @@
 -- What is dispatched by the rows of a link.
 use Rattle.audit_sweep.specs.{declared.records.dispatches.leaving.LeavingRow.LeavingRow, records.dispatches.Leaving.{AreRowsOn, HavePeriods, leaving_by}}
 use Rattle.audit_sweep.specs.{declared.records.dispatches.leaving.Dispatch.Dispatch, records.dispatches.Dispatched.{IsAtHand, SomeDispatched}}
-use Rattle.net_plan.specs.{Ranges.{IsInRange, IsVlInRange}, declared.{ids.{DeviceId.DeviceId, LinkId.LinkId, VlId.VlId}, network.Network.Network}}
+use Rattle.net_plan.specs.{Ranges.{IsInRange, IsVlInRange}, declared.{ids.{DeviceId.DeviceId, LinkId.LinkId}, network.Network.Network}}
 use Rattle.{run_law.specs.{records.{Happenings.Happening, Order.IsIn}, scenario.Scenarios.Scenario}, std.proofs.lemmas.Bool.false≢true}
 use Rattle.{run_law.specs.timed.Dispatching.{Dispatches, IsUp}, tte_units.proofs.general_lemmas.{Lists.in_all, Naturals.below_next}}
 use Rattle.std.proofs.Common.{◌+◌, ◌<◌, ◌↔◌, ◌∷◌, ◌≡◌, ◌≤◌, Bool, IsTrue, List, [], arith, false, inl, inr, length, slice_index_or, subst, suc, sym, zero, ℕ}

@@ -7,7 +7,7 @@ use Rattle.audit_sweep.specs.records.dispatches.{Leaving.{AreRowsOn, leaving_by}
 use Rattle.audit_sweep.specs.records.dispatches.Sent.{AreFoundByNumber, AreRowsFit, CrossesSome, ReachesSome, SendsBy, SendsBySome, SendsSome}
 use Rattle.{net_plan.{proofs.InRange.amount_most, specs.declared.ids.{DeviceId.DeviceId, LinkId.LinkId}}, tte_units.proofs.general_lemmas.Lists.in_all}
 use Rattle.{net_plan.specs.declared.network.Network.Network, run_law.{proofs.law.FirstDeliveries.accepted_in, specs.timed.Dispatching.{HasAtHand, IsUp}}}
-use Rattle.std.proofs.Common.{◌+◌, ◌-◌, ◌↔◌, ◌∙◌, ◌≡◌, IsTrue, List, None, Option, Some, ap, arith, inl, inr, pos, refl, subst, suc, sym, zero, ℕ, ℤ}
+use Rattle.std.proofs.Common.{◌+◌, ◌-◌, ◌↔◌, ◌∙◌, ◌≡◌, IsTrue, List, None, Option, Some, ap, arith, inl, inr, pos, refl, subst, suc, sym, zero, ℕ}
 use Rattle.std.{proofs.lemmas.Int.ints, specs.Prelude.is_some}
 
 -- ---- a crossing at a time

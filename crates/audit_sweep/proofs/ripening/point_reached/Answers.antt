@@ -1,5 +1,4 @@
 use Rattle.{audit_sweep.proofs.Words.{◌∙◌, ap, clock_reading, pos, subst, sym, ℕ}, drift_clock.specs.{Reach.IsReach, transparent.Points.point_of}}
-use Rattle.std.proofs.Common.{ℤ}
 use Rattle.audit_sweep.proofs.ripening.point_reached.Goals as goal
 
 pub returns-then-is_first_read : goal.returns-then-is_first_read

@@ -1,5 +1,5 @@
 use Rattle.audit_sweep.proofs.{StandingPoints.{same_standpoint, stood}, Words.{◌&&◌, ◌∙◌, Bool, Standpoint, ap, arith, scenario_under, state_before}}
-use Rattle.{run_law.specs.device.States.is_off, std.proofs.{Common.{not, rules}, lemmas.Int.to_z-of_z}, sync_state.specs.declared.state.State.State}
+use Rattle.{run_law.specs.device.States.is_off, std.proofs.{Common.{not, rules}, lemmas.Int.to_z-of_z}}
 use Rattle.std.specs.Int.{w128}
 use Rattle.audit_sweep.proofs.standing.standpoint.Goals as goal
 

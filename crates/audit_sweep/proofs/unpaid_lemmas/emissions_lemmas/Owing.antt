@@ -5,7 +5,7 @@ use Rattle.{audit_law.proofs.collections_lemmas.Sending.in_map, run_law.specs.sc
 use Rattle.{audit_law.specs.collections.Kept.{History, as_emitted, clusters_in, emitted}, run_law.specs.device.States.{adjustment_at_hearing, state_at_hearing}}
 use Rattle.{audit_law.specs.declared.collections.emitted.Emitted.Emitted, run_law.specs.control.{Collections.{observation_window, points_of}, Hearing.heard_as}}
 use Rattle.{audit_law.specs.declared.collections.gathering.Gathering.Gathering, compression.proofs.Elements.{in_cases, in_head, in_none, in_tail}}
-use Rattle.{audit_sweep.specs.unpaid.emissions.Emissions.{Owes, OwesAt, OwesBehind, OwesWithin, sent_of}, std.proofs.Common.{subst, suc, sym, true, zero, ℕ, ℤ}}
+use Rattle.{audit_sweep.specs.unpaid.emissions.Emissions.{Owes, OwesAt, OwesBehind, OwesWithin, sent_of}, std.proofs.Common.{subst, suc, sym, true, zero, ℕ}}
 use Rattle.{compression.{proofs.ClusterFacts.no_cluster, specs.Clusters.{AreClusters, Cluster, Point}}, run_law.specs.records.Order.{IsBefore, IsIn, is_before}}
 use Rattle.{compression.proofs.Standing.AreClusters-unique, net_plan.specs.declared.network.Network.Network, tte_units.proofs.general_lemmas.Lists.got_within}
 use Rattle.{compression.specs.declared.compressed.Compressed.Compressed, run_law.proofs.records.Order.{has_passed, index_of, is_there}}

@@ -2,7 +2,7 @@
 use Rattle.audit_devices.{proofs.clocks_lemmas.Pointing.{has_point, number_is}, specs.clocks.Finding.{CrossesAt, IsNextCrossing, NoneCrossed}}
 use Rattle.audit_devices.{proofs.clocks_lemmas.Reached.reaches_come, specs.declared.clocks.finding.{Crossed.Crossed, Series.Series}}
 use Rattle.{audit_law.specs.law.CorrectionNumbers.points_come, run_law.{proofs.law.FirstPlaces.split, specs.control.Corrections.correction_value}}
-use Rattle.audit_sweep.proofs.unpaid_lemmas.points_lemmas.{Fronts.earlier_up_to, Words.{refl, subst, sym, up_to, value_in, ℕ, ℤ}}
+use Rattle.audit_sweep.proofs.unpaid_lemmas.points_lemmas.{Fronts.earlier_up_to, Words.{refl, subst, sym, up_to, value_in, ℕ}}
 use Rattle.audit_sweep.proofs.unpaid_lemmas.points_lemmas.Words.{◌+◌, ◌-◌, ◌∙◌, ◌∷◌, ◌≡◌, ◌≤◌, ArePaid, DeviceId, Happening, IsDue, IsFounded, List, OwesAt}
 use Rattle.audit_sweep.proofs.unpaid_lemmas.points_lemmas.Words.{Scenario, Shown, Shows, ShowsWithin, [], ap, arith, cases_lt, earlier, inl, inr, place_of}
 

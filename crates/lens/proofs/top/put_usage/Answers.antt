@@ -1,4 +1,4 @@
-use Rattle.{lens.specs.Top.usage_line, std.proofs.Common.{◌≡◌, List, subst, ℕ}}
+use Rattle.{lens.specs.Top.usage_line, std.proofs.Common.{◌≡◌, subst}}
 use Rattle.tte_forms.specs.{Answering.{Gives, line_answer}, Putting.shown_by, declared.status.Status.TheVariants.Usage}
 use Rattle.lens.proofs.top.put_usage.Goals as goal
 

@@ -1,7 +1,7 @@
 use Rattle.audit_law.specs.events.Readings.{scenario_under}
 use Rattle.lens_clocks.proofs.Passing.{cycles_fail, cycles_more, cycles_some}
-use Rattle.lens_clocks.specs.{Answer.{cycles_by, lines_to}, Lines.told_lines, Telling.clocks_at, declared.telling.Clock.Clock}
-use Rattle.std.proofs.Common.{◌*◌, ◌+◌, ◌/◌, ◌<◌, ◌∙◌, ◌≡◌, List, ap, arith, inl, inr, refl, subst, ℕ}
+use Rattle.lens_clocks.specs.{Answer.{cycles_by, lines_to}, Lines.told_lines, Telling.clocks_at}
+use Rattle.std.proofs.Common.{◌*◌, ◌+◌, ◌/◌, ◌<◌, ◌∙◌, ◌≡◌, ap, arith, inl, inr, refl, subst, ℕ}
 use Rattle.tte_forms.{proofs.Puts.Ends-gives, specs.Putting.{PutFails, PutsLines, shown_by}}
 use Rattle.tte_forms.specs.declared.status.Status.TheVariants.{Done}
 use Rattle.lens_clocks.proofs.cycles.put_cycles.Goals as goal

@@ -1,5 +1,5 @@
 use Rattle.{lens_clocks.{proofs.Tables.{lines_fail, lines_more}, specs.Lines.clock_line}, tte_forms.specs.Putting.{PutFails, shown_by}}
-use Rattle.std.{proofs.{Common.{◌∙◌, map, of_z, rules, subst, to_z, ℤ}, lemmas.Int.to_z-of_z}, specs.Int.w128}
+use Rattle.std.{proofs.{Common.{◌∙◌, map, of_z, rules, subst, to_z}, lemmas.Int.to_z-of_z}, specs.Int.w128}
 use Rattle.lens_clocks.proofs.putting.put_clocks.Goals as goal
 
 pub clocks-preserved : goal.clocks-preserved

@@ -1,5 +1,5 @@
-use Rattle.lens_clocks.{proofs.{Extremes.ends_fit, Tables.puts_last}, specs.{Lines.lines_between, Putting.Puts, declared.spread.Ends.Ends}}
-use Rattle.std.proofs.Common.{◌∙◌, ◌∷◌, List, Option, [], subst, sym, ℕ}
+use Rattle.lens_clocks.{proofs.{Extremes.ends_fit, Tables.puts_last}, specs.{Lines.lines_between, Putting.Puts}}
+use Rattle.std.proofs.Common.{◌∙◌, ◌∷◌, List, [], subst, sym, ℕ}
 use Rattle.tte_forms.{proofs.Puts.PutsLines-none, specs.Putting.shown_by}
 use Rattle.lens_clocks.proofs.putting.put_told.Goals as goal
 

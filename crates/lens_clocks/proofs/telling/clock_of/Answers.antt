@@ -1,7 +1,7 @@
 use Rattle.audit_law.specs.events.Readings.{scenario_under}
 use Rattle.lens_clocks.proofs.InStep.{told_adjustment, told_not, told_own, told_state}
 use Rattle.run_law.specs.{device.States.adjustment_after, records.Happenings.up_to}
-use Rattle.std.{proofs.{Common.{◌+ℤ◌, ◌∙◌, ◌≡◌, ap, pos, rules, sym, ℕ, ℤ}, lemmas.Int.to_z-of_z}, specs.Int.w128}
+use Rattle.std.{proofs.{Common.{◌+ℤ◌, ◌∙◌, ◌≡◌, ap, pos, rules, sym, ℤ}, lemmas.Int.to_z-of_z}, specs.Int.w128}
 use Rattle.sync_state.specs.declared.state.State.TheVariants.{Synchronised}
 use Rattle.lens_clocks.proofs.telling.clock_of.Goals as goal
 

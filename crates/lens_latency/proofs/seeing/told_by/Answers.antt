@@ -1,5 +1,5 @@
-use Rattle.lens_latency.{proofs.SeenTimes.told_names, specs.{Comings.HasNames, Seeing.AreTold, declared.{arrivals.Arrival.Arrival, comings.Coming.Coming}}}
-use Rattle.std.proofs.Common.{All, List, refl, subst, sym}
+use Rattle.lens_latency.{proofs.SeenTimes.told_names, specs.{Comings.HasNames, Seeing.AreTold}}
+use Rattle.std.proofs.Common.{All, refl, subst, sym}
 use Rattle.lens_latency.proofs.seeing.told_by.Goals as goal
 
 pub returns-clause-names : goal.returns-clause-names

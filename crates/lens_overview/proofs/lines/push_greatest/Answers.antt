@@ -1,5 +1,5 @@
 use Rattle.lens_overview.{proofs.Joins.joined, specs.Lines.{apart_text, greatest_text}}
-use Rattle.std.{proofs.Common.{◌++◌, ◌∙◌, Option, ap, sym, ℕ}, specs.Prelude.codes}
+use Rattle.std.{proofs.Common.{◌++◌, ◌∙◌, ap, sym}, specs.Prelude.codes}
 use Rattle.lens_overview.proofs.lines.push_greatest.Goals as goal
 
 pub returns-in-Some-clause-text : goal.returns-in-Some-clause-text

@@ -1,5 +1,5 @@
-use Rattle.lens_overview.{proofs.Skipping.calm_skips, specs.{Rows.calm_below, declared.news.News.News}}
-use Rattle.std.proofs.Common.{◌∙◌, List, ap, length}
+use Rattle.lens_overview.{proofs.Skipping.calm_skips, specs.Rows.calm_below}
+use Rattle.std.proofs.Common.{◌∙◌, ap, length}
 use Rattle.lens_overview.proofs.rows.calm_in.Goals as goal
 
 pub returns : goal.returns

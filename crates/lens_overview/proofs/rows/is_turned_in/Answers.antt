@@ -1,5 +1,5 @@
-use Rattle.lens_overview.{proofs.Skipping.turned_skips, specs.{Rows.is_turned, declared.news.News.News}}
-use Rattle.std.proofs.Common.{◌∙◌, List, ap}
+use Rattle.lens_overview.{proofs.Skipping.turned_skips, specs.Rows.is_turned}
+use Rattle.std.proofs.Common.{◌∙◌, ap}
 use Rattle.lens_overview.proofs.rows.is_turned_in.Goals as goal
 
 pub returns : goal.returns

@@ -1,6 +1,6 @@
 use Rattle.{audit_law.specs.events.Readings.scenario_under, lens_overview.proofs.Standing.{local_in_step, local_other, shows_up_to}}
 use Rattle.run_law.specs.{device.States.adjustment_after, records.Happenings.up_to}
-use Rattle.std.{proofs.{Common.{◌+ℤ◌, ◌∙◌, ◌≡◌, Some, ap, pos, rules, sym, ℕ, ℤ}, lemmas.Int.to_z-of_z}, specs.Int.w128}
+use Rattle.std.{proofs.{Common.{◌+ℤ◌, ◌∙◌, ◌≡◌, Some, ap, pos, rules, sym, ℤ}, lemmas.Int.to_z-of_z}, specs.Int.w128}
 use Rattle.sync_state.specs.declared.state.State.TheVariants.{Synchronised}
 use Rattle.lens_overview.proofs.spread.local_at.Goals as goal
 

@@ -1,4 +1,4 @@
-use Rattle.{lens_page.{proofs.Puts.{gives_no_more, gives_then}, specs.Closing.page_closing}, std.proofs.Common.{◌∙◌, List, subst, ℕ}}
+use Rattle.{lens_page.{proofs.Puts.{gives_no_more, gives_then}, specs.Closing.page_closing}, std.proofs.Common.{◌∙◌, subst}}
 use Rattle.tte_forms.specs.{Answering.{Gives, line_answer}, Putting.shown_by, declared.status.Status.TheVariants.Done}
 use Rattle.lens_page.proofs.putting.put_report.Goals as goal
 

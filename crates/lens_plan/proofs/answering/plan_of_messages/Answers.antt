@@ -1,7 +1,6 @@
 use Rattle.lens_plan.{proofs.Plans.{lines_given, no_plan_given, tells}, specs.declared.text.line.PlanLine.PlanLine}
 use Rattle.lens_plan.specs.{Answer.{ArePlanLines, IsJoinedAnswer, IsToldBy}, places.Planning.IsNoPlan}
-use Rattle.net_plan.specs.declared.network.Network.{Network}
-use Rattle.std.proofs.Common.{List, subst}
+use Rattle.std.proofs.Common.{subst}
 use Rattle.tte_forms.specs.{Answering.GivesAnswer, Putting.shown_by}
 use Rattle.lens_plan.proofs.answering.plan_of_messages.Goals as goal
 

@@ -1,5 +1,5 @@
 use Rattle.lens_plan.{proofs.Plans.no_join_given, specs.joining.Joined.IsNoJoin}
-use Rattle.{std.proofs.Common.{List, subst, ℕ}, tte_forms.specs.Putting.shown_by}
+use Rattle.{std.proofs.Common.subst, tte_forms.specs.Putting.shown_by}
 use Rattle.lens_plan.proofs.answering.put_joined.Goals as goal
 
 pub returns-in-Err-clause-gives : goal.returns-in-Err-clause-gives

@@ -1,8 +1,7 @@
 use Rattle.lens_schedule.{proofs.Limits.{all_in_range, most_links, most_rows}, specs.{Answer.{IsScheduleOf, picture_answer}, Picture.IsPicture}}
-use Rattle.lens_schedule.specs.declared.part.Part.{Part}
-use Rattle.net_plan.specs.{Ranges.IsInRange, declared.network.Network.Network}
+use Rattle.net_plan.specs.{Ranges.IsInRange}
 use Rattle.schedule_tables.specs.{Entries.IsEntryInRange, Rules.KeepsRules, declared.entry.Entry.Entry}
-use Rattle.{lens_svg.specs.Titles.title_of, std.{proofs.Common.{◌≤◌, List, inl, length, refl, subst, sym, ℕ}, specs.List.All}}
+use Rattle.{lens_svg.specs.Titles.title_of, std.{proofs.Common.{◌≤◌, inl, length, refl, subst, sym}, specs.List.All}}
 use Rattle.tte_forms.specs.{Answering.{Gives, GivesAnswer}, Putting.shown_by}
 use Rattle.lens_schedule.proofs.answering.put_schedule_of.Goals as goal
 

@@ -1,5 +1,5 @@
 use Rattle.lens_schedule.specs.{Frames.frame_of, Lanes.column_by, Picture.lane_place, declared.part.Part.TheVariants.Frame}
-use Rattle.{lens_svg.specs.declared.element.Point.Point, std.proofs.Common.{◌∙◌, ap, ℕ}}
+use Rattle.std.proofs.Common.{◌∙◌, ap}
 use Rattle.lens_schedule.proofs.picture.frame_part.Goals as goal
 
 pub returns : goal.returns

@@ -1,5 +1,5 @@
-use Rattle.lens_schedule.specs.{Lanes.lanes_of, Picture.{IsPicture, parts_of}, declared.{lanes.Lane.Lane, tree.Twig.Twig}}
-use Rattle.std.proofs.{Common.{◌∙◌, List, ap}, lemmas.Result.IfOk-weaker}
+use Rattle.lens_schedule.specs.{Lanes.lanes_of, Picture.{IsPicture, parts_of}}
+use Rattle.std.proofs.{Common.{◌∙◌, ap}, lemmas.Result.IfOk-weaker}
 use Rattle.lens_schedule.proofs.picture.picture_of.Goals as goal
 
 pub returns : goal.returns

@@ -1,5 +1,5 @@
 use Rattle.lens_schedule.{proofs.Joins.joined5, specs.{Frames.{height_of, seat_of}, Lines.{box_text, boxes_text}}}
-use Rattle.std.proofs.Common.{◌++◌, ◌∙◌, ap, ℕ}
+use Rattle.std.proofs.Common.{◌++◌, ◌∙◌, ap}
 use Rattle.lens_schedule.proofs.text.push_boxes.Goals as goal
 
 pub returns : goal.returns

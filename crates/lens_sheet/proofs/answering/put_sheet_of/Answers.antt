@@ -1,6 +1,5 @@
-use Rattle.lens_sheet.specs.{Answer.{IsSheetOf, sheet_answer}, declared.sheet.SheetLine.SheetLine}
-use Rattle.net_plan.specs.declared.network.Network.{Network}
-use Rattle.std.proofs.Common.{List, inl, refl, subst}
+use Rattle.lens_sheet.specs.Answer.{IsSheetOf, sheet_answer}
+use Rattle.std.proofs.Common.{inl, refl, subst}
 use Rattle.tte_forms.specs.{Answering.{Gives, GivesAnswer}, Putting.shown_by}
 use Rattle.lens_sheet.proofs.answering.put_sheet_of.Goals as goal
 

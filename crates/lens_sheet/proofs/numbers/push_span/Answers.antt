@@ -1,5 +1,5 @@
 use Rattle.lens_sheet.{proofs.Texts.two, specs.Lines.{schedule_end, span_text, time_text}}
-use Rattle.std.{proofs.Common.{◌++◌, ◌∙◌, ◌≡◌, ap, ℕ}, specs.Prelude.codes}
+use Rattle.std.{proofs.Common.{◌++◌, ◌∙◌, ◌≡◌, ap}, specs.Prelude.codes}
 use Rattle.tte_units.specs.Amount.{amount}
 use Rattle.lens_sheet.proofs.numbers.push_span.Goals as goal
 

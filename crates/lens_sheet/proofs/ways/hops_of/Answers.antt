@@ -1,5 +1,5 @@
 use Rattle.{lens_sheet.proofs.Going.{ComesBelow, hops_all, hops_more, hops_none}, net_plan.specs.Bounds.IsGreatest}
-use Rattle.std.proofs.Common.{◌+◌, ap, arith, length, subst, sym, ℕ}
+use Rattle.std.proofs.Common.{◌+◌, ap, arith, length, subst, sym}
 use Rattle.lens_sheet.proofs.ways.hops_of.Goals as goal
 
 pub rows-init : goal.rows-init

@@ -1,6 +1,5 @@
 use Rattle.lens_sheet.{proofs.Going.{before_of, none_before}, specs.Going.Enters}
 use Rattle.lens_latency.specs.Trips.{IsFirstOf}
-use Rattle.net_plan.specs.declared.ids.DeviceId.{DeviceId}
 use Rattle.std.proofs.{Common.subst, lemmas.Bool.false≢true}
 use Rattle.lens_sheet.proofs.ways.row_before.Goals as goal
 

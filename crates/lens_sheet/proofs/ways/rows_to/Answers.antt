@@ -1,5 +1,4 @@
 use Rattle.lens_sheet.specs.Ways.{IsWay}
-use Rattle.net_plan.specs.declared.ids.VlId.{VlId}
 use Rattle.schedule_tables.specs.Entries.{source_of}
 use Rattle.std.proofs.{Common.{◌∷◌, [], arith, subst, sym}, lemmas.Int.ints}
 use Rattle.lens_sheet.proofs.ways.rows_to.Goals as goal

@@ -1,5 +1,5 @@
 use Rattle.{lens_sheet.proofs.Weighing.{jitter_left, rest_most}, lens_slack.proofs.SmallBeta.beta_small, net_plan.specs.Bounds.IsBeta}
-use Rattle.std.proofs.Common.{◌+◌, arith, refl, subst, ℤ}
+use Rattle.std.proofs.Common.{◌+◌, arith, refl, subst}
 use Rattle.lens_sheet.proofs.weights.greatest_jitter.Goals as goal
 
 pub overflow_sub-result : goal.overflow_sub-result

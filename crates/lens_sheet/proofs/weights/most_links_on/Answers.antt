@@ -1,4 +1,4 @@
-use Rattle.{net_plan.proofs.Greatest.{IsOfPathBelow, greatest_below_all, greatest_below_more}, std.proofs.Common.{◌+◌, ◌≡◌, ap, arith, length, subst, sym, ℕ}}
+use Rattle.{net_plan.proofs.Greatest.{IsOfPathBelow, greatest_below_all, greatest_below_more}, std.proofs.Common.{◌+◌, ◌≡◌, ap, arith, length, subst, sym}}
 use Rattle.net_plan.specs.{Bounds.IsGreatest, declared.{ids.LinkId.LinkId, tables.Device.Device}}
 use Rattle.lens_sheet.proofs.weights.most_links_on.Goals as goal
 

@@ -1,5 +1,5 @@
-use Rattle.lens_slack.{proofs.Taken.{ArePushed, pushed_first, pushed_next}, specs.{Spots.spots_of, Tightest.IsTightestAt, declared.spot.Spot.Spot}}
-use Rattle.std.proofs.Common.{◌≡◌, arith, subst, ℕ}
+use Rattle.lens_slack.{proofs.Taken.{ArePushed, pushed_first, pushed_next}, specs.{Spots.spots_of, Tightest.IsTightestAt}}
+use Rattle.std.proofs.Common.{◌≡◌, arith, subst}
 use Rattle.lens_slack.proofs.measuring.push_spots.Goals as goal
 
 pub spots-init : goal.spots-init

@@ -1,5 +1,5 @@
-use Rattle.lens_slack.{proofs.Taken.{StandBefore, drop_all, stand_all, stand_end, stand_first, stand_step}, specs.declared.spot.Finding.Finding}
-use Rattle.{lens_slack.specs.declared.step.Step.Step, std.proofs.Common.{List, arith, subst, sym}}
+use Rattle.lens_slack.proofs.Taken.{StandBefore, drop_all, stand_all, stand_end, stand_first, stand_step}
+use Rattle.std.proofs.Common.{arith, subst, sym}
 use Rattle.lens_slack.proofs.measuring.take_steps.Goals as goal
 
 pub steps-init : goal.steps-init

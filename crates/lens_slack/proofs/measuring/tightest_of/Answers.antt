@@ -1,6 +1,6 @@
-use Rattle.std.{proofs.Common.{◌+◌, ◌<◌, arith, subst, sym}, specs.Prelude.Option}
+use Rattle.std.proofs.Common.{◌+◌, ◌<◌, arith, subst, sym}
 use Rattle.lens_slack.{proofs.{Keeping.{Below, next_tightest, none_below, tightest_of_all}, Ones.found_at}, specs.Spots.{IsFoundAt, spots_of}}
-use Rattle.lens_slack.specs.{Tightest.{IsFirstTightest, IsTightestAt}, declared.spot.{Finding.Finding, Spot.Spot}}
+use Rattle.lens_slack.specs.Tightest.{IsFirstTightest, IsTightestAt}
 use Rattle.lens_slack.proofs.measuring.tightest_of.Goals as goal
 
 pub spots-init : goal.spots-init

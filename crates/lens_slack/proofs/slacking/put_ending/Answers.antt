@@ -1,4 +1,4 @@
-use Rattle.{lens_slack.specs.{Answer.ending_answer, declared.measuring.Ending.Ending}, tte_forms.specs.{Answering.Gives, Putting.shown_by}}
+use Rattle.{lens_slack.specs.Answer.ending_answer, tte_forms.specs.{Answering.Gives, Putting.shown_by}}
 use Rattle.std.proofs.Common.{subst, sym}
 use Rattle.lens_slack.proofs.slacking.put_ending.Goals as goal
 

@@ -1,5 +1,5 @@
-use Rattle.{lens_slack.specs.{Answer.{IsFileAnswer, IsSlackOf}, declared.step.Step.Step}, tte_forms.specs.{Answering.AnswersOne, Putting.shown_by}}
-use Rattle.std.proofs.Common.{List, subst}
+use Rattle.{lens_slack.specs.Answer.{IsFileAnswer, IsSlackOf}, tte_forms.specs.{Answering.AnswersOne, Putting.shown_by}}
+use Rattle.std.proofs.Common.{subst}
 use Rattle.lens_slack.proofs.slacking.slack_of_rule.Goals as goal
 
 pub returns-clause-general : goal.returns-clause-general

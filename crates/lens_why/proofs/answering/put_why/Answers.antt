@@ -1,4 +1,4 @@
-use Rattle.std.proofs.Common.{◌∙◌, ◌≡◌, List, ap, inl, refl, subst, ℕ}
+use Rattle.std.proofs.Common.{◌∙◌, ◌≡◌, ap, inl, refl, subst}
 use Rattle.tte_forms.specs.{Answering.{Gives, GivesAnswer, line_answer}, Putting.shown_by, declared.status.Status.TheVariants.NumberRefused}
 use Rattle.lens_why.{proofs.Notes.{none_there, number_of}, specs.{Answer.IsWhyAnswer, Lines.number_refused_line}}
 use Rattle.lens_why.proofs.answering.put_why.Goals as goal

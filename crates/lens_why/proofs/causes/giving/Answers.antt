@@ -1,4 +1,4 @@
-use Rattle.{std.proofs.Common.{◌∙◌, ap, ℕ}, tte_reports.specs.Places.note_at}
+use Rattle.{std.proofs.Common.{◌∙◌, ap}, tte_reports.specs.Places.note_at}
 use Rattle.lens_why.proofs.causes.giving.Goals as goal
 
 pub returns : goal.returns

@@ -1,7 +1,7 @@
 use Rattle.{audit_devices.specs.Showing.IsAfter, audit_sweep.specs.Indexing.before_corrections, lens_why.proofs.LastRecords.parted_there}
 use Rattle.{lens_why.proofs.BestFrames.{after_clique, clique_is, summary_is}, run_law.specs.records.Happenings.{happenings, time_of}}
-use Rattle.{std.proofs.Common.{◌∙◌, ◌≡◌, ap, refl, subst, sym, ℕ}, tte_audit.specs.Report.{events_of, scenario_of}}
-use Rattle.tte_units.specs.{Amount.amount, declared.units.Units.Units}
+use Rattle.{std.proofs.Common.{◌∙◌, ◌≡◌, ap, refl, subst, sym}, tte_audit.specs.Report.{events_of, scenario_of}}
+use Rattle.tte_units.specs.{Amount.amount}
 use Rattle.lens_why.proofs.correcting.clique.Goals as goal
 
 pub heard-heard-requires-clause-index : goal.heard-heard-requires-clause-index

@@ -1,5 +1,5 @@
 use Rattle.{audit_law.specs.events.Readings.scenario_under, tte_units.specs.Amount.amount}
-use Rattle.{lens_why.specs.Grounds.{cycle_before, position_at}, std.{proofs.{Common.{◌∙◌, ap, of_z, rules, to_z, ℕ, ℤ}, lemmas.Int.to_z-of_z}, specs.Int.w128}}
+use Rattle.{lens_why.specs.Grounds.{cycle_before, position_at}, std.{proofs.{Common.{◌∙◌, ap, of_z, rules, to_z}, lemmas.Int.to_z-of_z}, specs.Int.w128}}
 use Rattle.{lens_why.specs.declared.ground.Ground.TheVariants.Missed, schedule_tables.specs.declared.window.Window.{Window as Places}}
 use Rattle.lens_why.proofs.dropping.missed.Goals as goal
 

@@ -1,5 +1,5 @@
-use Rattle.{lens_why.specs.Grounds.repeat_ground, std.proofs.Common.{◌∙◌, Option, ap, sym}}
-use Rattle.{run_law.specs.records.Happenings.happenings, schedule_tables.specs.declared.entry.Entry.Entry, tte_audit.specs.Report.{events_of, scenario_of}}
+use Rattle.{lens_why.specs.Grounds.repeat_ground, std.proofs.Common.{◌∙◌, ap, sym}}
+use Rattle.{run_law.specs.records.Happenings.happenings, tte_audit.specs.Report.{events_of, scenario_of}}
 use Rattle.lens_why.proofs.dropping.repeated.Goals as goal
 
 pub returns-in-Some : goal.returns-in-Some

@@ -1,6 +1,6 @@
 use Rattle.{audit_law.specs.events.Readings.scenario_under, lens_why.specs.declared.ground.Ground.{Ground, TheVariants.{Gate, Untold}}}
 use Rattle.audit_sweep.specs.Indexing.{clock_at}
-use Rattle.{run_law.specs.device.Standpoints.offset_in_cycle, std.proofs.Common.{◌*◌, ◌+ℤ◌, ◌+◌, ◌∙◌, Bool, ap, if◌then◌else◌, pos, rules, sym, ℕ, ℤ}}
+use Rattle.{run_law.specs.device.Standpoints.offset_in_cycle, std.proofs.Common.{◌*◌, ◌+ℤ◌, ◌+◌, ◌∙◌, Bool, ap, if◌then◌else◌, pos, rules, sym, ℤ}}
 use Rattle.{std.{proofs.lemmas.Int.to_z-of_z, specs.Int.w128}, tte_units.specs.Amount.amount}
 use Rattle.lens_why.proofs.dropping.shut.Goals as goal
 

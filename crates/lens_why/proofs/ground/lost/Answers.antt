@@ -1,4 +1,4 @@
-use Rattle.{audit_devices.specs.Keeping.records_before, net_plan.specs.declared.tables.Way.Way, run_law.specs.records.Ranks.place_of}
+use Rattle.{audit_devices.specs.Keeping.records_before, run_law.specs.records.Ranks.place_of}
 use Rattle.{lens_why.specs.{Seeking.cut_by, declared.ground.Ground.TheVariants.CutBy}, std.proofs.Common.{◌∙◌, ap, ℕ}}
 use Rattle.run_law.specs.records.Happenings.{happenings}
 use Rattle.lens_why.proofs.ground.lost.Goals as goal

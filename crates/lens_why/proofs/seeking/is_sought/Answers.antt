@@ -1,5 +1,5 @@
-use Rattle.{lens_why.specs.Seeking.{is_sought, turns_before}, run_law.specs.declared.note.{Note.Note, NoteBody.NoteBody}, std.proofs.Common.{◌∙◌, ap, sym, ℕ}}
-use Rattle.{lens_why.specs.declared.seeking.Sought.{Sought, TheVariants.{Frame, Opening, Taking, Turning}}, run_law.specs.timed.Receptions.is_taken_before}
+use Rattle.{lens_why.specs.Seeking.{is_sought, turns_before}, run_law.specs.declared.note.Note.Note, std.proofs.Common.{◌∙◌, ap, sym}}
+use Rattle.{lens_why.specs.declared.seeking.Sought.TheVariants.{Frame, Opening, Taking, Turning}, run_law.specs.timed.Receptions.is_taken_before}
 use Rattle.tte_units.specs.Amount.{amount}
 use Rattle.lens_why.proofs.seeking.is_sought.Goals as goal
 

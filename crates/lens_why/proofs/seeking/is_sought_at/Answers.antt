@@ -1,5 +1,5 @@
 use Rattle.{lens_why.proofs.Notes.{never_none, note_there}, run_law.specs.records.Happenings.{happenings, numbered}, tte_audit.specs.Report.events_of}
-use Rattle.{run_law.specs.declared.note.Note.Note, std.proofs.Common.{◌∙◌, ◌≡◌, Some, ap, subst, sym, ℕ}}
+use Rattle.{run_law.specs.declared.note.Note.Note, std.proofs.Common.{◌∙◌, ◌≡◌, Some, ap, subst, sym}}
 use Rattle.lens_why.proofs.seeking.is_sought_at.Goals as goal
 
 pub returns-in-Some : goal.returns-in-Some

@@ -1,4 +1,4 @@
-use Rattle.tte_audit.{proofs.Words.{IsBodyOf, Network, Note, refl, subst, sym}, specs.Report.IsNextLine}
+use Rattle.tte_audit.{proofs.Words.{IsBodyOf, Note, refl, subst, sym}, specs.Report.IsNextLine}
 use Rattle.tte_audit.proofs.auditing.take_event.Goals as goal
 
 pub judge-requires-clause-named : goal.judge-requires-clause-named

@@ -1,4 +1,4 @@
-use Rattle.tte_audit.{proofs.Words.{IsBodyOf, Network, Note, subst, sym}, specs.Report.IsNextLine}
+use Rattle.tte_audit.{proofs.Words.{IsBodyOf, Note, subst, sym}, specs.Report.IsNextLine}
 use Rattle.tte_audit.proofs.auditing.take_line.Goals as goal
 
 pub judge-requires-clause-named : goal.judge-requires-clause-named

@@ -1,5 +1,5 @@
 use Rattle.tte_audit.proofs.{Seeking.one_record, Words.{◌∙◌, List, Note, ap, sym, ℕ}}
-use Rattle.tte_audit.{specs.Report.{HasNoEvent, IsNextLine}}
+use Rattle.tte_audit.specs.Report.{HasNoEvent, IsNextLine}
 use Rattle.tte_audit.proofs.lines.numbered_event.Goals as goal
 
 pub returns-in_err-left : goal.returns-in_err-left

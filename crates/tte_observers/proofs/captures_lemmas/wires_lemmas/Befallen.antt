@@ -3,7 +3,7 @@ use Rattle.{drift_world.specs.Running.event_note, run_law.proofs.records.Order.i
 use Rattle.tte_observers.proofs.captures_lemmas.wires_lemmas.Seen.{IsReady, flush_failed, flushed, later_ready, later_stops, ready_out, ready_seen, same_ready}
 use Rattle.{tte_observers.proofs.captures_lemmas.wires_lemmas.Seen.sent_new, world_drive.specs.declared.observing.Cut.TheVariants.{OutOfMemory, WriteFault}}
 use Rattle.tte_observers.proofs.captures_lemmas.wires_lemmas.Words.{◌++◌, ◌+◌, ◌^◌, ◌∙◌, ◌∷◌, ◌≡◌, ◌≤◌, AllBefore, Capture, Cut, Err, Event, ExactWorld, Ghosts}
-use Rattle.tte_observers.proofs.captures_lemmas.wires_lemmas.Words.{Happening, IsIn, List, Network, Note, Ok, PassesTo, PutFails, PutsLines, Result}
+use Rattle.tte_observers.proofs.captures_lemmas.wires_lemmas.Words.{IsIn, List, Network, Note, Ok, PassesTo, PutFails, PutsLines, Result}
 use Rattle.tte_observers.proofs.captures_lemmas.wires_lemmas.Words.{SeesRecords, SeesWay, Start, StopsRecords, StopsWay, Told, [], amount, ap, arith}
 use Rattle.tte_observers.proofs.captures_lemmas.wires_lemmas.Words.{happenings, inl, inr, last_happening, length, one_more, place_of, sends_of, sent_packets}
 use Rattle.tte_observers.{proofs.captures_lemmas.wires_lemmas.Words.{shown_as, subst, sym, told_by}, specs.captures.wires.Seeing.{TakesWhat, octets_sent}}

@@ -8,7 +8,7 @@ use Rattle.tte_observers.proofs.captures_lemmas.wires_lemmas.{Along.{IsOwn, line
 use Rattle.tte_observers.proofs.captures_lemmas.wires_lemmas.{Seen.{at_start, whole}, Words.{shown_by, subst, told_by, way_lines, ℕ}}
 use Rattle.tte_observers.proofs.captures_lemmas.wires_lemmas.Words.{◌+◌, ◌∙◌, ◌∷◌, ◌≡◌, ◌⊎◌, Answer, AreAdmitted, AreRecordsSoFar, Capture, EndsEither, Event}
 use Rattle.tte_observers.proofs.captures_lemmas.wires_lemmas.Words.{ExactWorld, Gives, GivesOne, IsCapture, LinkId, List, Network, Note, RunEnds, SeesWay}
-use Rattle.tte_observers.proofs.captures_lemmas.wires_lemmas.Words.{Shown, Status, Units, Way, [], amount, ap, capture_of, fault_status, for_more, happenings}
+use Rattle.tte_observers.proofs.captures_lemmas.wires_lemmas.Words.{Shown, Status, Way, [], amount, ap, capture_of, fault_status, for_more, happenings}
 use Rattle.tte_observers.proofs.captures_lemmas.wires_lemmas.Words.{inl, inr, length, packets_of, refl, scenario_under, sent_packets, settled, settled_lines}
 use Rattle.tte_traces.proofs.Ends.{done_no_read, fault_no_read, for_stopped, little_at, little_so_far, puts_shown, trace_ended, trace_stopped}
 use Rattle.{tte_traces.specs.{Along.IsAllAdmitted, Taking.IsStopAt}, world_drive.specs.Observing.start_by}

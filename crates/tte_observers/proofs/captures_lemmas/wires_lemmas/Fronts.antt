@@ -4,7 +4,7 @@ use Rattle.{run_law.specs.records.Order.IsBefore, tte_traces.specs.Lines.behind_
 use Rattle.{std.proofs.Common.append_assoc, tte_observers.proofs.captures_lemmas.wires_lemmas.{Cuts.packets_stay, Settled.settled_sooner, Words.{way_lines, ℕ}}}
 use Rattle.tte_observers.proofs.captures_lemmas.wires_lemmas.Words.{◌++◌, ◌+◌, ◌∙◌, ◌∷◌, ◌≡◌, AllBefore, Answer, AnswersAll, AreAdmitted, AreFrom}
 use Rattle.tte_observers.proofs.captures_lemmas.wires_lemmas.Words.{AreRecordsSoFar, EndsEither, Event, Happening, IsCapture, IsIn, LinkId, List, Network, Note}
-use Rattle.tte_observers.proofs.captures_lemmas.wires_lemmas.Words.{Units, Way, [], amount, ap, append-nil, capture_of, filter_map-append, happenings, inl, inr}
+use Rattle.tte_observers.proofs.captures_lemmas.wires_lemmas.Words.{Way, [], amount, ap, append-nil, capture_of, filter_map-append, happenings, inl, inr}
 use Rattle.tte_observers.proofs.captures_lemmas.wires_lemmas.Words.{is_settled, length, packet_of, packets_of, place_of, refl, scenario_under, subst, sym, true}
 use Rattle.tte_traces.proofs.{Admitted.{IsStopped, admitted_in_order, admitted_one, front_admitted, stopped_one}, Faults.{end_has_no_fault, fault_stops}}
 use Rattle.{tte_traces.proofs.{EventOrder.{last_before, not_earlier}, Lasting.lasts}, world_drive.specs.exact.Records.{AreRecordsBefore, clock_reading}}

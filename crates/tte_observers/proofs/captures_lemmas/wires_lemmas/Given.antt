@@ -8,7 +8,6 @@ use Rattle.tte_observers.proofs.captures_lemmas.wires_lemmas.Words.{is_sent_on, 
 use Rattle.tte_observers.proofs.captures_lemmas.wires_lemmas.Words.{place_of, rank, record_octets, refl, scenario_under, sent_packets, shown_as, subst, sym}
 use Rattle.{tte_observers.specs.captures.wires.Packets.is_carried, world_drive.specs.{declared.observing.Cut.TheVariants.WriteFault, exact.Worlds.StandsExact}}
 use Rattle.run_law.specs.declared.note.NoteBody.TheVariants as notes
-use Rattle.run_law.specs.declared.plain.bodies.PlainKind.TheVariants as kinds
 
 module _ (s : Scenario) (link : LinkId) (way : Way) where
   -- a way carries it exactly where its device sends there

@@ -1,4 +1,4 @@
-use Rattle.{std.proofs.Common.{◌∙◌, ◌≡◌, List, subst, ℕ}, tte_forms.specs.{Answering.{Gives, line_answer}, declared.status.Status.TheVariants.Done}}
+use Rattle.{std.proofs.Common.{◌∙◌, ◌≡◌, subst}, tte_forms.specs.{Answering.{Gives, line_answer}, declared.status.Status.TheVariants.Done}}
 use Rattle.{tte_forms.specs.Putting.shown_by, tte_reports.specs.AuditLine.audited_line}
 use Rattle.tte_reports.proofs.auditing.put_audited.Goals as goal
 

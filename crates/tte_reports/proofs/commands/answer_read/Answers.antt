@@ -1,4 +1,4 @@
-use Rattle.{net_plan.specs.declared.network.Network.Network, run_law.specs.declared.note.Note.Note, std.proofs.Common.{List, subst, sym}}
+use Rattle.{run_law.specs.declared.note.Note.Note, std.proofs.Common.{List, subst, sym}}
 use Rattle.{schedule_tables.specs.Rules.KeepsRules, tte_audit.specs.Named.IsNamed, tte_reports.specs.{Commands.IsRead, Reports.IsReportOf}}
 use Rattle.{tte_forms.specs.{Answering.GivesAnswer, Putting.shown_by}, tte_units.specs.declared.units.Units.Units}
 use Rattle.tte_reports.proofs.commands.answer_read.Goals as goal

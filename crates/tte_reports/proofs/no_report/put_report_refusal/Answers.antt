@@ -1,4 +1,4 @@
-use Rattle.{std.proofs.Common.{◌∙◌, ◌≡◌, List, subst, sym, ℕ}, tte_forms.specs.Answering.{Gives, line_answer}, tte_reports.specs.Answer.report_refused_answer}
+use Rattle.{std.proofs.Common.{◌∙◌, ◌≡◌, subst, sym}, tte_forms.specs.Answering.{Gives, line_answer}, tte_reports.specs.Answer.report_refused_answer}
 use Rattle.{tte_audit.specs.declared.refusal.AuditRefusal.AuditRefusal, tte_forms.specs.declared.status.Status.{Status, TheVariants.AuditRefused}}
 use Rattle.{tte_forms.specs.Putting.{Shown, shown_by}, tte_reports.specs.AuditLine.lack_line}
 use Rattle.tte_reports.proofs.no_report.put_report_refusal.Goals as goal

@@ -1,4 +1,4 @@
-use Rattle.{std.{proofs.{Common.{◌+◌, ◌∙◌, List, subst, sym, ℕ}, lemmas.List.take_rest}, specs.Prelude.drop}, tte_reports.proofs.Placed.IsFoundSoFar}
+use Rattle.{std.{proofs.{Common.{◌+◌, ◌∙◌, subst, sym}, lemmas.List.take_rest}, specs.Prelude.drop}, tte_reports.proofs.Placed.IsFoundSoFar}
 use Rattle.tte_reports.proofs.Placed.{found_all, found_none, found_one}
 use Rattle.tte_reports.proofs.places.places_of.Goals as goal
 

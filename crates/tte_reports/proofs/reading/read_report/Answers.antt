@@ -1,4 +1,4 @@
-use Rattle.{std.proofs.Common.{◌<◌, ◌∙◌, ◌≤◌, Err, ap, length, subst, ℕ}, tte_forms.proofs.Octets.{for_all, for_read, for_too_many}}
+use Rattle.{std.proofs.Common.{◌<◌, ◌∙◌, ◌≤◌, Err, ap, length, subst}, tte_forms.proofs.Octets.{for_all, for_read, for_too_many}}
 use Rattle.tte_reports.proofs.Answers.{if_judged}
 use Rattle.tte_reports.proofs.reading.read_report.Goals as goal
 

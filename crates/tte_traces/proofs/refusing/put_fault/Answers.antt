@@ -1,5 +1,5 @@
 use Rattle.{tte_forms.specs.Answering.line_answer, tte_traces.specs.FaultLine.trace_refusal_line}
-use Rattle.tte_traces.proofs.Words.{◌≡◌, Gives, List, Shown, Status, TraceFault, TraceRefused, fault_answer, shown_by, subst, sym, ℕ}
+use Rattle.tte_traces.proofs.Words.{◌≡◌, Gives, Shown, Status, TraceFault, TraceRefused, fault_answer, shown_by, subst, sym, ℕ}
 use Rattle.tte_traces.proofs.refusing.put_fault.Goals as goal
 
 -- the answer about one fault under two names

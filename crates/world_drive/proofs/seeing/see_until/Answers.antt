@@ -1,7 +1,7 @@
-use Rattle.{std.proofs.Common.Bool, world_drive.{proofs.{Placed.{end_stays, fewer}, exact_lemmas.Worlds.below_amount}, specs.Observing.instant_of}}
+use Rattle.world_drive.{proofs.{Placed.{end_stays, fewer}, exact_lemmas.Worlds.below_amount}, specs.Observing.instant_of}
 use Rattle.world_drive.proofs.{Instants.{given_before, underway_now}, Ways.{asked_limit, asked_still, past_near, past_order, room_now, way_reached}}
 use Rattle.world_drive.proofs.More.{cut_here, cut_in_instant, cut_one, puts_cut, puts_more, puts_none, puts_well, seen_instant, seen_none, seen_one, seen_until}
-use Rattle.world_drive.proofs.Words.{◌++◌, ◌+◌, ◌∙◌, ◌∷◌, ◌≡◌, IsUnderwayAt, List, None, NoteValue, Reaches, Some, StandsExact, Units, [], amount, ap, arith}
+use Rattle.world_drive.proofs.Words.{◌++◌, ◌+◌, ◌∙◌, ◌∷◌, ◌≡◌, IsUnderwayAt, List, None, NoteValue, Reaches, Some, StandsExact, [], amount, ap, arith}
 use Rattle.world_drive.proofs.{Words.{go_on, inl, inr, ints, refl, subst, sym, told_by}, exact_lemmas.Given.{given_none, if_none, is_before}}
 use Rattle.world_drive.proofs.seeing.see_until.Goals as goal
 

@@ -1,5 +1,5 @@
 use Rattle.{audit_devices.proofs.clocks_lemmas.Bringing.{corrected, turned_on}, sync_state.specs.declared.answers.Verdict.TheVariants.{AsyncClique, SyncClique}}
-use Rattle.{audit_law.specs.law.DueRecords.ChangesState, run_law.specs.declared.judgement.Why.Why, std.proofs.lemmas.Bool.{not-true, not_from_false}}
+use Rattle.{audit_law.specs.law.DueRecords.ChangesState, std.proofs.lemmas.Bool.{not-true, not_from_false}}
 use Rattle.std.proofs.Common.{◌∙◌, subst, sym}
 use Rattle.audit_devices.proofs.clocks.changing.changes_state.Goals as goal
 

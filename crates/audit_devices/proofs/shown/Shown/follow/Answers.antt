@@ -1,4 +1,4 @@
-use Rattle.audit_devices.{proofs.Words.{Effect, Hearing, subst, sym, ℕ}, specs.Following.{Follows, HasHeard}}
+use Rattle.audit_devices.{proofs.Words.{Hearing, subst, sym}, specs.Following.{Follows, HasHeard}}
 use Rattle.audit_devices.proofs.shown.Shown.follow.Goals as goal
 
 pub returns-in-Hears : goal.returns-in-Hears

@@ -1,4 +1,4 @@
-use Rattle.audit_devices.proofs.Words.{Summarizes, Summary, subst, sym}
+use Rattle.audit_devices.proofs.Words.{Summarizes, subst, sym}
 use Rattle.audit_devices.proofs.shown.Shown.hear.Goals as goal
 
 pub returns-clause-heard : goal.returns-clause-heard

@@ -1,4 +1,4 @@
-use Rattle.audit_devices.proofs.Words.{◌∙◌, ◌∷◌, Happening, List, Shows, [], ap, got_at, records_before, subst, sym, ℕ}
+use Rattle.audit_devices.proofs.Words.{◌∙◌, ◌∷◌, Shows, [], ap, got_at, records_before, subst, sym}
 use Rattle.audit_devices.{proofs.KeptAll.earlier_are, specs.Keeping.shown_before}
 use Rattle.audit_devices.proofs.standings.Standings.after_time.Goals as goal
 

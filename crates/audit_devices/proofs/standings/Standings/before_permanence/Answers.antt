@@ -1,5 +1,5 @@
 use Rattle.audit_devices.proofs.standings.Standings.before_permanence.Goals as goal
-use Rattle.audit_devices.proofs.Words.{List, Shows, records_before, subst, ℕ}
+use Rattle.audit_devices.proofs.Words.{Shows, records_before, subst}
 
 pub returns : goal.returns
 returns c s hs verdict stands =

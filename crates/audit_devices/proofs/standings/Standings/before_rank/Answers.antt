@@ -1,4 +1,4 @@
-use Rattle.audit_devices.proofs.Words.{List, Shows, records_before, subst, ℕ}
+use Rattle.audit_devices.proofs.Words.{Shows, records_before, subst}
 use Rattle.audit_devices.proofs.standings.Standings.before_rank.Goals as goal
 
 pub returns : goal.returns

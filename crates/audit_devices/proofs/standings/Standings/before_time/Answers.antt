@@ -1,4 +1,4 @@
-use Rattle.audit_devices.proofs.{KeptAll.earlier_are, Words.{◌∙◌, Happening, List, Shows, ap, records_before, subst, ℕ}}
+use Rattle.audit_devices.proofs.{KeptAll.earlier_are, Words.{◌∙◌, Shows, ap, records_before, subst}}
 use Rattle.audit_devices.proofs.standings.Standings.before_time.Goals as goal
 
 pub returns : goal.returns

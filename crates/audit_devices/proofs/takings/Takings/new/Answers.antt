@@ -1,4 +1,4 @@
-use Rattle.audit_devices.proofs.Words.{◌++◌, ◌∙◌, ◌∷◌, ◌≡◌, DeviceTakings, List, [], ap, arith, length, length-append}
+use Rattle.audit_devices.proofs.Words.{◌++◌, ◌∙◌, ◌∷◌, ◌≡◌, [], ap, arith, length, length-append}
 use Rattle.audit_devices.proofs.Takes.{items_by, more_devices, no_devices, none_taken}
 use Rattle.audit_devices.proofs.takings.Takings.new.Goals as goal
 

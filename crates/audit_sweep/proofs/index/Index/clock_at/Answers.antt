@@ -1,5 +1,5 @@
 use Rattle.{audit_law.specs.events.Readings.scenario_under, run_law.specs.device.States.adjustment_before}
-use Rattle.std.{proofs.{Common.{◌+ℤ◌, ◌∙◌, ap, pos, rules, ℕ, ℤ}, lemmas.Int.to_z-of_z}, specs.Int.w128}
+use Rattle.std.{proofs.{Common.{◌+ℤ◌, ◌∙◌, ap, pos, rules, ℤ}, lemmas.Int.to_z-of_z}, specs.Int.w128}
 use Rattle.audit_sweep.proofs.index.Index.clock_at.Goals as goal
 
 pub returns-clause-is : goal.returns-clause-is

@@ -1,5 +1,5 @@
 use Rattle.{run_law.{proofs.law.FirstPlaces.in_at, specs.records.Order.IsIn}, std.{proofs.lemmas.Bool.ltb-true, specs.Prelude.slice_get}}
-use Rattle.{std.proofs.Common.{◌≡◌, List, Some, length, subst, sym, ℕ}, tte_units.proofs.general_lemmas.Lists.got_at}
+use Rattle.{std.proofs.Common.{◌≡◌, Some, length, subst, sym}, tte_units.proofs.general_lemmas.Lists.got_at}
 use Rattle.audit_sweep.proofs.records.places.is_among.Goals as goal
 
 pub returns-in-Some : goal.returns-in-Some

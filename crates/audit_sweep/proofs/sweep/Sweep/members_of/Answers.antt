@@ -1,4 +1,4 @@
-use Rattle.{audit_sweep.proofs.Words.{ap, ℕ}, run_law.specs.records.Ranks.place_at}
+use Rattle.{audit_sweep.proofs.Words.ap, run_law.specs.records.Ranks.place_at}
 use Rattle.run_law.specs.declared.note.NoteBody.TheVariants as notes
 use Rattle.audit_sweep.proofs.sweep.Sweep.members_of.Goals as goal
 

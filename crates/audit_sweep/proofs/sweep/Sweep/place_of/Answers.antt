@@ -1,4 +1,4 @@
-use Rattle.{audit_sweep.proofs.Words.{◌∙◌, amount, ap, ℕ}, run_law.specs.records.Ranks.place_at}
+use Rattle.{audit_sweep.proofs.Words.{◌∙◌, amount, ap}, run_law.specs.records.Ranks.place_at}
 use Rattle.audit_sweep.proofs.sweep.Sweep.place_of.Goals as goal
 
 pub returns : goal.returns

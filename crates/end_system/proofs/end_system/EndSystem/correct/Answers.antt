@@ -1,4 +1,4 @@
-use Rattle.end_system.proofs.{Advance.{low_at, not_fallen}, Tasks.first_is_correction, Words.{HasVerdict, IsCorrection, Standing, refl, subst, sym}}
+use Rattle.end_system.proofs.{Advance.{low_at, not_fallen}, Tasks.first_is_correction, Words.{HasVerdict, IsCorrection, refl, subst, sym}}
 use Rattle.end_system.proofs.Correct.{at_point, below_range, corrects, near_a, near_b, number_after, number_bound, number_fits, still_small}
 use Rattle.end_system.proofs.end_system.EndSystem.correct.Goals as goal
 

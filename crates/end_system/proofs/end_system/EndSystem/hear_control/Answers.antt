@@ -1,7 +1,6 @@
-use Rattle.{end_system.proofs.Advance.not_fallen, pcf_codec.specs.declared.refusal.PcfRefusal.PcfRefusal, run_law.specs.machines.Answers.after_arrival}
-use Rattle.end_system.proofs.{Arrive.{control_at, control_still}, Words.{◌∙◌, Node, Pcf, StandsAsEnd, ap, arith, arriving, called, subst, sym}}
+use Rattle.{end_system.proofs.Advance.not_fallen, run_law.specs.machines.Answers.after_arrival}
+use Rattle.end_system.proofs.{Arrive.{control_at, control_still}, Words.{◌∙◌, Node, StandsAsEnd, ap, arith, arriving, called, subst, sym}}
 use Rattle.{end_system.{proofs.Ripe.stands_later, specs.Controls.arrival_of}, pcf_codec.specs.Decoding.decoded, std.proofs.lemmas.Grind.common_steps}
-use Rattle.std.proofs.Common.{Result}
 use Rattle.end_system.proofs.end_system.EndSystem.hear_control.Goals as goal
 
 pub decode-requires : goal.decode-requires

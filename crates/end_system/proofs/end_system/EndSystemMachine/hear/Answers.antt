@@ -1,5 +1,5 @@
 use Rattle.end_system.proofs.{Arrive.{is_control, is_timed, off_arrival}, Ripe.{is_on, stands_later}, Words.{◌∙◌, ap, arith, sym}}
-use Rattle.run_law.specs.{control.Wires.{Signal, signal_of}, machines.Answers.arrival_at}
+use Rattle.run_law.specs.{control.Wires.signal_of, machines.Answers.arrival_at}
 use Rattle.end_system.proofs.end_system.EndSystemMachine.hear.Goals as goal
 
 pub is_pcf-requires : goal.is_pcf-requires

@@ -1,4 +1,4 @@
-use Rattle.{lens.specs.draw.Drafts.IsDraftOf, lens_svg.specs.Plan.Plan, std.proofs.Common.{refl, subst}}
+use Rattle.{lens.specs.draw.Drafts.IsDraftOf, std.proofs.Common.{refl, subst}}
 use Rattle.lens.proofs.draw.drawing.draft_of.Goals as goal
 
 pub take_records-requires-clause-none : goal.take_records-requires-clause-none

@@ -1,5 +1,5 @@
 use Rattle.lens.proofs.draw_lemmas.Keeping.{IsSpread, spread_all, spread_first, spread_next}
-use Rattle.std.proofs.Common.{◌-◌, ◌∙◌, Bool, List, arith, subst, sym, ℕ}
+use Rattle.std.proofs.Common.{◌-◌, ◌∙◌, arith, subst, sym}
 use Rattle.lens.proofs.draw.flags.kept_flags.Goals as goal
 
 pub own_flags-requires-clause-report : goal.own_flags-requires-clause-report

@@ -1,6 +1,6 @@
 use Rattle.lens.specs.draw.Keeping.{cause_at, with_flag}
 use Rattle.lens_svg.specs.Views.{flag_at}
-use Rattle.std.{proofs.Common.{◌∙◌, ◌≡◌, Bool, List, ap, sym, true}, specs.Prelude.if◌then◌else◌}
+use Rattle.std.{proofs.Common.{◌∙◌, ◌≡◌, Bool, ap, sym, true}, specs.Prelude.if◌then◌else◌}
 use Rattle.lens.proofs.draw.flags.pass_on.Goals as goal
 
 pub returns-then-flag_at : goal.returns-then-flag_at

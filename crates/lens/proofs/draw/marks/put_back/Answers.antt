@@ -1,7 +1,7 @@
 use Rattle.lens.proofs.draw_lemmas.Marking.{IsMarked, left_less, marked_all, marked_fails, marked_first, marked_more, next_in_range, next_of}
-use Rattle.{lens.specs.draw.Signs.close_line, run_law.specs.declared.note.Note.Note, tte_forms.specs.Putting.shown_by, tte_reports.specs.Reports.AreLeft}
+use Rattle.{lens.specs.draw.Signs.close_line, tte_forms.specs.Putting.shown_by, tte_reports.specs.Reports.AreLeft}
 use Rattle.lens_svg.specs.declared.mark.Mark.{Mark}
-use Rattle.{std.proofs.Common.{◌∙◌, ◌≡◌, List, refl, subst, sym, ℕ}, tte_forms.specs.{Answering.{Gives, line_answer}, declared.status.Status.TheVariants.Done}}
+use Rattle.{std.proofs.Common.{◌∙◌, ◌≡◌, refl, subst, sym}, tte_forms.specs.{Answering.{Gives, line_answer}, declared.status.Status.TheVariants.Done}}
 use Rattle.lens.proofs.draw.marks.put_back.Goals as goal
 
 pub records-init : goal.records-init

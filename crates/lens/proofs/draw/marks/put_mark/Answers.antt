@@ -1,5 +1,5 @@
 use Rattle.{lens.specs.draw.{Picture.{first_line, marks_of}, Putting.Draws}, tte_forms.specs.Putting.shown_by}
-use Rattle.std.{proofs.Common.{◌≡◌, Bool, List, [], ap, subst, sym, ℕ}, specs.Prelude.if◌then◌else◌}
+use Rattle.std.{proofs.Common.{◌≡◌, Bool, [], ap, subst, sym}, specs.Prelude.if◌then◌else◌}
 use Rattle.lens.proofs.draw.marks.put_mark.Goals as goal
 
 pub returns-then-draws-clause-draws : goal.returns-then-draws-clause-draws

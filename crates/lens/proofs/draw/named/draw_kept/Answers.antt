@@ -1,6 +1,6 @@
 use Rattle.lens.specs.draw.{Answer.IsViewAnswer, Keeping.AreLanes, Naming.{IsKeptAnswer, view_of}}
-use Rattle.lens_svg.specs.{Titles.title_of, Views.{Choice, View}, declared.layout.Span.Span}
-use Rattle.std.proofs.Common.{Bool, List, Some, subst, ℕ}
+use Rattle.lens_svg.specs.Views.{Choice, View}
+use Rattle.std.proofs.Common.{List, Some, subst, ℕ}
 use Rattle.tte_forms.{proofs.OneAnswers.answer_widened, specs.{Answering.Answer, Putting.shown_by}}
 use Rattle.lens.proofs.draw.named.draw_kept.Goals as goal
 

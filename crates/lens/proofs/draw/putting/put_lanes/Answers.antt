@@ -1,6 +1,6 @@
 use Rattle.{lens.{proofs.draw_lemmas.Parts.{places_fail, places_more}, specs.draw.Picture.some_line}, tte_forms.specs.Putting.{PutFails, PutsLines, shown_by}}
-use Rattle.{lens_svg.specs.Layers.on_lane, std.specs.Prelude.Option}
-use Rattle.{lens_svg.specs.declared.element.Element.Element, net_plan.specs.declared.tables.Device.Device, std.proofs.Common.{◌<◌, ◌∙◌, List, length, subst}}
+use Rattle.{lens_svg.specs.Layers.on_lane}
+use Rattle.std.proofs.Common.{◌<◌, ◌∙◌, length, subst}
 use Rattle.lens.proofs.draw.putting.put_lanes.Goals as goal
 
 pub lanes-preserved : goal.lanes-preserved

@@ -1,6 +1,5 @@
 use Rattle.{lens.{proofs.draw_lemmas.Parts.draws_one, specs.draw.{Picture.some_line, Putting.Draws}}, tte_forms.specs.Putting.shown_by}
-use Rattle.{lens_svg.specs.{Elements.element_line, declared.element.Element.Element}, std.proofs.Common.{◌∙◌, ◌∷◌, ◌≡◌, List, [], subst, sym, ℕ}}
-use Rattle.std.specs.Prelude.{Option}
+use Rattle.{lens_svg.specs.Elements.element_line, std.proofs.Common.{◌∙◌, ◌∷◌, ◌≡◌, List, [], subst, sym, ℕ}}
 use Rattle.lens.proofs.draw.putting.put_some.Goals as goal
 
 pub returns-in-Some-clause-draws : goal.returns-in-Some-clause-draws

@@ -1,4 +1,4 @@
-use Rattle.{lens_svg.specs.Windows.came_of, std.{proofs.{Common.{◌∙◌, ap, rules, ℤ}, lemmas.Int.to_z-of_z}, specs.Int.w128}}
+use Rattle.{lens_svg.specs.Windows.came_of, std.{proofs.{Common.{◌∙◌, ap, rules}, lemmas.Int.to_z-of_z}, specs.Int.w128}}
 use Rattle.lens.proofs.draw.windows.came_at.Goals as goal
 
 pub returns-in-Taken : goal.returns-in-Taken

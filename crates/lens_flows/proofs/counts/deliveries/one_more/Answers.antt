@@ -1,4 +1,4 @@
-use Rattle.std.proofs.Common.{ℤ, rules, subst}
+use Rattle.std.proofs.Common.{rules, subst}
 use Rattle.lens_flows.{proofs.judge_lemmas.Rows.receiver_there, specs.counts.Nearest.{IsInsideSome, TellsLeast}}
 use Rattle.lens_flows.proofs.counts.deliveries.one_more.Goals as goal
 

@@ -1,5 +1,5 @@
-use Rattle.{lens_flows.proofs.counts_lemmas.FlowParts.{all_vls, no_flows}, net_plan.specs.declared.tables.VirtualLink.VirtualLink}
-use Rattle.{lens_flows.specs.counts.PartLists.AreFlowsBefore, std.proofs.Common.{List, ap, arith, length, subst, sym}}
+use Rattle.lens_flows.proofs.counts_lemmas.FlowParts.{all_vls, no_flows}
+use Rattle.{lens_flows.specs.counts.PartLists.AreFlowsBefore, std.proofs.Common.{ap, arith, length, subst, sym}}
 use Rattle.lens_flows.proofs.counts.flows.flows_of.Goals as goal
 
 pub vls-init : goal.vls-init

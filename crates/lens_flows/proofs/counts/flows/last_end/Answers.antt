@@ -1,5 +1,4 @@
-use Rattle.{lens_flows.proofs.counts_lemmas.Ends.{ends_all, ends_more, ends_none}, std.proofs.Common.{List, ap, arith, length}}
-use Rattle.net_plan.specs.declared.tables.Row.{Row}
+use Rattle.{lens_flows.proofs.counts_lemmas.Ends.{ends_all, ends_more, ends_none}, std.proofs.Common.{ap, arith, length}}
 use Rattle.lens_flows.proofs.counts.flows.last_end.Goals as goal
 
 pub rows-init : goal.rows-init

@@ -1,4 +1,4 @@
-use Rattle.{lens_flows.proofs.counts_lemmas.FlowParts.next_vl, net_plan.specs.declared.tables.Device.Device, std.proofs.Common.{List, ap, arith, length}}
+use Rattle.{lens_flows.proofs.counts_lemmas.FlowParts.next_vl, std.proofs.Common.{ap, arith, length}}
 use Rattle.lens_flows.proofs.counts.flows.push_flows.Goals as goal
 
 pub devices-preserved : goal.devices-preserved

@@ -1,5 +1,4 @@
-use Rattle.{lens_flows.proofs.counts_lemmas.Leasts.{inside_all, inside_more, inside_none}, std.proofs.Common.{List, ap, arith, length, pos}}
-use Rattle.net_plan.specs.declared.tables.Row.{Row}
+use Rattle.{lens_flows.proofs.counts_lemmas.Leasts.{inside_all, inside_more, inside_none}, std.proofs.Common.{ap, arith, length, pos}}
 use Rattle.lens_flows.proofs.counts.nearest.nearest_by.Goals as goal
 
 pub rows-init : goal.rows-init

@@ -1,5 +1,5 @@
 use Rattle.{lens_flows.specs.judge.Courses.scenario_of, std.{proofs.lemmas.Int.to_z-of_z, specs.Int.w128}}
-use Rattle.{run_law.specs.device.{Standpoints.offset_in_cycle, States.adjustment_before}, std.proofs.Common.{◌+ℤ◌, ◌∙◌, ap, arith, pos, rules, ℕ, ℤ}}
+use Rattle.{run_law.specs.device.{Standpoints.offset_in_cycle, States.adjustment_before}, std.proofs.Common.{◌+ℤ◌, ◌∙◌, ap, arith, pos, rules, ℤ}}
 use Rattle.lens_flows.proofs.counts.nearest.place_at.Goals as goal
 
 pub before_time-shown-requires : goal.before_time-shown-requires

@@ -1,5 +1,5 @@
 use Rattle.lens_latency.{proofs.Followings.followed_more, specs.{Following.{IsFollowed, arrival_by, departure_by}, declared.arrivals.Arrival.Arrival}}
-use Rattle.std.{proofs.Common.{◌++◌, ◌∙◌, ◌∷◌, ◌≡◌, List, Option, [], ap, subst, sym, ℕ}, specs.List.cons_option}
+use Rattle.std.{proofs.Common.{◌++◌, ◌∙◌, ◌∷◌, ◌≡◌, Option, [], ap, subst, sym, ℕ}, specs.List.cons_option}
 use Rattle.tte_units.specs.Amount.{amount}
 use Rattle.lens_latency.proofs.arrivals.FollowedRecordTaker.take.Goals as goal
 

@@ -1,6 +1,6 @@
 use Rattle.lens_page.specs.{Lines.network_text, Pages.page_with}
 use Rattle.{report_text.specs.NoteLine.report_of, std.specs.List.concat}
-use Rattle.std.proofs.{Common.{◌∙◌, ◌≡◌, List, inl, refl, subst, ℕ}, lemmas.List.append-nil}
+use Rattle.std.proofs.{Common.{◌∙◌, ◌≡◌, inl, refl, subst}, lemmas.List.append-nil}
 use Rattle.tte_forms.specs.{Answering.Gives, Putting.shown_by}
 use Rattle.lens_page.proofs.answering.PageReportCommand.put.Goals as goal
 

@@ -1,5 +1,5 @@
 use Rattle.lens_plan.proofs.Meanings.{planned_as}
-use Rattle.{lens_plan.specs.joining.{Extends.Extends, Served.AreServed}, net_plan.specs.declared.network.Network.Network}
+use Rattle.lens_plan.specs.joining.{Extends.Extends, Served.AreServed}
 use Rattle.std.{proofs.Common.{subst}, specs.Prelude.{◌↔◌, IsTrue}}
 use Rattle.lens_plan.proofs.joining.joined.means_planned.Goals as goal
 

@@ -1,5 +1,5 @@
 use Rattle.lens_plan.{proofs.Attempts.{best_new, best_old, first_best}, specs.places.Best.IsBestBelow}
-use Rattle.std.{proofs.{Common.{◌+◌, ◌≡◌, arith, refl, subst, sym}, lemmas.Bool.false≢true}, specs.Prelude.ℕ}
+use Rattle.std.proofs.{Common.{◌+◌, ◌≡◌, arith, refl, subst, sym}, lemmas.Bool.false≢true}
 use Rattle.lens_plan.proofs.places.best.best_below.Goals.{else-is_better, then-is_better}
 use Rattle.lens_plan.proofs.places.best.best_below.Goals as goal
 

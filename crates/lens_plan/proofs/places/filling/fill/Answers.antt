@@ -1,6 +1,6 @@
 use Rattle.lens_plan.proofs.{Early.early_rows, Filled.{asked_at, placed_next}, Orders.turn_below}
-use Rattle.lens_plan.specs.{declared.places.offsets.Taken.Taken, places.Fitting.IsBestBehind}
-use Rattle.std.proofs.Common.{◌∙◌, List, arith, get_or, length, refl, subst}
+use Rattle.lens_plan.specs.{places.Fitting.IsBestBehind}
+use Rattle.std.proofs.Common.{◌∙◌, arith, get_or, length, refl, subst}
 use Rattle.std.proofs.lemmas.{List.{get_or_default, length-set}, Option.slice_get-get_or}
 use Rattle.lens_plan.proofs.places.filling.fill.Goals as goal
 

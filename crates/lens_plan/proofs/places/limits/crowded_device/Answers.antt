@@ -1,5 +1,5 @@
 use Rattle.lens_plan.specs.places.Limits.{rows_from}
-use Rattle.std.{proofs.{Common.{◌≡◌, ◌≤◌, arith, inl, inr, subst, sym, ℕ}, lemmas.Bool.cases_lt}}
+use Rattle.std.proofs.{Common.{◌≡◌, ◌≤◌, arith, inl, inr, subst, sym, ℕ}, lemmas.Bool.cases_lt}
 use Rattle.lens_plan.proofs.places.limits.crowded_device.Goals as goal
 
 pub devices-preserved : goal.devices-preserved

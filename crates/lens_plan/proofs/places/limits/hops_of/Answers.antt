@@ -1,5 +1,5 @@
-use Rattle.lens_plan.{proofs.Wanted.hops_next, specs.{declared.places.ways.Hop.Hop, messages.Message.Message, places.Limits.{AreWays, once}}}
-use Rattle.std.proofs.Common.{◌++◌, ◌∙◌, List, ap, subst}
+use Rattle.lens_plan.{proofs.Wanted.hops_next, specs.{messages.Message.Message, places.Limits.{AreWays, once}}}
+use Rattle.std.proofs.Common.{◌++◌, ◌∙◌, ap, subst}
 use Rattle.lens_plan.proofs.places.limits.hops_of.Goals as goal
 
 pub messages-preserved : goal.messages-preserved

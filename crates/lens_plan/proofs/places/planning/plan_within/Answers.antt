@@ -1,5 +1,5 @@
-use Rattle.lens_plan.{proofs.Planned.none_by_order, specs.{declared.places.offsets.Taken.Taken, places.There.AreThere}}
-use Rattle.std.proofs.Common.{List, subst, sym}
+use Rattle.lens_plan.{proofs.Planned.none_by_order, specs.places.There.AreThere}
+use Rattle.std.proofs.Common.{subst, sym}
 use Rattle.lens_plan.proofs.places.planning.plan_within.Goals as goal
 
 pub returns-in-Err-place_all-clause-none : goal.returns-in-Err-place_all-clause-none

@@ -1,5 +1,4 @@
 use Rattle.lens_slack.{proofs.Files.{answered_network, answered_unread}, specs.least.Answer.{IsLeastOf, with_late}}
-use Rattle.net_plan.specs.declared.network.Network.{Network}
 use Rattle.{std.proofs.Common.{subst}, tte_forms.specs.{Answering.GivesAnswer, Putting.shown_by}}
 use Rattle.lens_slack.proofs.least.answering.least_of_network.Goals as goal
 

@@ -1,6 +1,6 @@
 use Rattle.lens_slack.{proofs.least_lemmas.Rooms.{roomy, short}, specs.{Lines.finding_line, least.{Answer.room_of, Lines.{keys_text, least_line}}}}
-use Rattle.std.proofs.Common.{◌∙◌, ◌≡◌, List, ap, arith, subst, sym, ℕ}
-use Rattle.tte_forms.specs.{Answering.{Answer, Gives, line_answer, with_line}, Putting.shown_by, declared.status.Status.TheVariants.{Done, NetworkRefused}}
+use Rattle.std.proofs.Common.{◌∙◌, ◌≡◌, ap, arith, subst, sym}
+use Rattle.tte_forms.specs.{Answering.{Gives, line_answer, with_line}, Putting.shown_by, declared.status.Status.TheVariants.{Done, NetworkRefused}}
 use Rattle.lens_slack.proofs.least.answering.put_times.Goals as goal
 
 pub returns-then-room-clause-gives : goal.returns-then-room-clause-gives

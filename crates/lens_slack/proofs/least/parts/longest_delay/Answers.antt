@@ -1,5 +1,5 @@
 use Rattle.{net_plan.{proofs.Greatest.greatest_of_channels, specs.Bounds.{IsGreatest, IsOfPath}}, schedule_tables.specs.Delays.delay_on}
-use Rattle.std.proofs.Common.{subst, sym, ℕ}
+use Rattle.std.proofs.Common.{subst, sym}
 use Rattle.lens_slack.proofs.least.parts.longest_delay.Goals as goal
 
 pub returns-clause-longest : goal.returns-clause-longest

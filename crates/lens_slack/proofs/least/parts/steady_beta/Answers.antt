@@ -1,4 +1,4 @@
-use Rattle.{lens_slack.proofs.SmallBeta.beta_small, net_plan.specs.Bounds.IsBeta, std.proofs.Common.{arith, subst, ℤ}}
+use Rattle.{lens_slack.proofs.SmallBeta.beta_small, net_plan.specs.Bounds.IsBeta, std.proofs.Common.{arith, subst}}
 use Rattle.lens_slack.proofs.least.parts.steady_beta.Goals as goal
 
 pub returns-clause-bound : goal.returns-clause-bound

@@ -4,7 +4,7 @@ use Rattle.{run_law.specs.control.Permanence.IsCollectedOrDropped, switch_ports.
 use Rattle.{run_law.specs.device.States.is_off, std.proofs.Common.not}
 use Rattle.{run_law.specs.machines.Calls.{MayRipen, MayTake}, switch_ports.proofs.{CmLinks.{cm_linked, not_child}, Words.{subst, sym, true, ℕ, ℤ}}}
 use Rattle.switch_ports.proofs.{Collected.{collected_stands, taken_so}, MasterBits.{IsBit, all_later, has_room, is_bit, master_small}, Ranges.site_in_range}
-use Rattle.switch_ports.proofs.Words.{◌∙◌, ◌≡◌, ◌≤ℤ◌, ◌⊎◌, Bool, Channel, DeviceId, LinkId, Moment, Network, Node, Option, Pcf, Port, Reason, Standing}
+use Rattle.switch_ports.proofs.Words.{◌∙◌, ◌≡◌, ◌≤ℤ◌, ◌⊎◌, Bool, DeviceId, LinkId, Moment, Network, Node, Option, Pcf, Port, Reason, Standing}
 use Rattle.switch_ports.proofs.Words.{StandsAs, State, Switch, Units, after_permanence, ap, arith, called, false, inl, inr, ints, is_cm, master_of, pos, refl}
 use Rattle.run_law.specs.declared.steps.Ripe.TheVariants as ripe
 use Rattle.switch_ports.proofs.machine.SwitchMachine.ripen.Goals as goal

@@ -1,4 +1,4 @@
-use Rattle.switch_ports.proofs.{FirstActs.EmitsNone, WhichFirst.{corrects_first, dispatches_first, emits_first}}
+use Rattle.switch_ports.proofs.WhichFirst.{corrects_first, dispatches_first, emits_first}
 use Rattle.switch_ports.proofs.machine.SwitchTellsKind.first_kind.Goals as goal
 
 pub returns-then-is_reached : goal.returns-then-is_reached

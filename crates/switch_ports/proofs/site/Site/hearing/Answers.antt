@@ -1,4 +1,4 @@
-use Rattle.switch_ports.proofs.Words.{◌&&◌, ◌∙◌, ap, inl, inr, last_cycle, nat_le, ripe_as, ℤ}
+use Rattle.switch_ports.proofs.Words.{◌&&◌, ◌∙◌, ap, inl, inr, last_cycle, nat_le, ripe_as}
 use Rattle.run_law.specs.control.Hearing.{heard_by_schedule, is_in_schedule}
 use Rattle.switch_ports.proofs.site.Site.hearing.Goals as goal
 

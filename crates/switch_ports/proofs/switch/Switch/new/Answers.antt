@@ -1,5 +1,5 @@
 use Rattle.{run_law.specs.scenario.Devices.start_of, switch_ports.proofs.{Beginning.begun_stands, Ranges.{calc_short, site_in_range}}}
-use Rattle.switch_ports.proofs.Words.{◌^◌, ◌∙◌, ◌≡◌, HasTaken, IfSome, IsBegun, IsSiteOf, IsWithin, Network, Option, Units, [], ap, arith, ints, subst}
+use Rattle.switch_ports.proofs.Words.{◌^◌, ◌∙◌, ◌≡◌, HasTaken, IfSome, IsBegun, IsSiteOf, IsWithin, Option, Units, [], ap, arith, ints, subst}
 use Rattle.sync_state.specs.Standing.{begun}
 use Rattle.switch_ports.proofs.switch.Switch.new.Goals as goal
 

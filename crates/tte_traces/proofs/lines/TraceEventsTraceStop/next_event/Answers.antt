@@ -1,5 +1,5 @@
 use Rattle.{tte_traces.proofs.Taken.{stop_given, trace_gives}, world_drive.specs.Sources.given_in}
-use Rattle.tte_traces.{proofs.Words.{Bool, Result, TraceStop, ap}, specs.declared.fault.TraceStop.TheVariants.{ReadFault, WriteFault}}
+use Rattle.tte_traces.{proofs.Words.ap, specs.declared.fault.TraceStop.TheVariants.{ReadFault, WriteFault}}
 use Rattle.tte_traces.proofs.lines.TraceEventsTraceStop.next_event.Goals as goal
 
 pub returns-clause-gives : goal.returns-clause-gives

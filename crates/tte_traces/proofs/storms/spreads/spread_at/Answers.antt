@@ -1,5 +1,5 @@
 use Rattle.{drift_world.specs.Locals.{IsLocalClock, IsWide}, run_law.specs.records.Happenings.happenings, tte_traces.specs.declared.storms.spreads.Ends.Ends}
-use Rattle.std.{proofs.Common.{◌+◌, ◌-ℤ◌, ◌<◌, ◌∙◌, ◌≡◌, FitsSigned, List, None, Option, Some, ap, arith, length, of_z, subst, sym, to_z}, specs.Prelude.IfSome}
+use Rattle.std.{proofs.Common.{◌+◌, ◌-ℤ◌, ◌<◌, ◌∙◌, ◌≡◌, FitsSigned, None, Option, Some, ap, arith, length, of_z, subst, sym, to_z}, specs.Prelude.IfSome}
 use Rattle.std.specs.Int.{w128}
 use Rattle.tte_traces.{proofs.storms.spreads.spread_at.Goals.{in-None, in-Some}, specs.storms.{Answer.exact_scenario, Spreads.{AreEnds, IsSpreadAt, Widens}}}
 use Rattle.{tte_traces.proofs.storms_lemmas.Locals.{apart_fits, apart_is, ends_stay, ends_widen, no_spread, spread_of, value_is}, tte_units.specs.Amount.amount}

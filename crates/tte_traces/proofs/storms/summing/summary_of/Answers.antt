@@ -1,5 +1,5 @@
-use Rattle.{net_plan.specs.declared.network.Network.Network, tte_traces.{proofs.storms_lemmas.Drawn.has_stormed, specs.storms.Storms.HasStormed}}
-use Rattle.std.proofs.Common.{subst, ℕ}
+use Rattle.tte_traces.{proofs.storms_lemmas.Drawn.has_stormed, specs.storms.Storms.HasStormed}
+use Rattle.std.proofs.Common.{subst}
 use Rattle.tte_traces.proofs.storms.summing.summary_of.Goals as goal
 
 pub told-requires-clause-stormed : goal.told-requires-clause-stormed

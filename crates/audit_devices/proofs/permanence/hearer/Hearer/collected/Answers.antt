@@ -1,6 +1,6 @@
-use Rattle.{audit_devices.proofs.permanence_lemmas.Judging.collects_so, std.proofs.Common.{◌↔◌, ◌≡◌, None, Option, rules, subst, sym}}
+use Rattle.{audit_devices.proofs.permanence_lemmas.Judging.collects_so, std.proofs.Common.{◌↔◌, ◌≡◌, None, rules, subst, sym}}
 use Rattle.compression.specs.Clusters.{point_at}
-use Rattle.run_law.specs.{control.{Collections.{master_of, point_fault}, Permanence.IsCollectedOrDropped}, declared.judgement.Reason.Reason}
+use Rattle.run_law.specs.control.{Collections.{master_of, point_fault}, Permanence.IsCollectedOrDropped}
 use Rattle.audit_devices.proofs.permanence.hearer.Hearer.collected.Goals as goal
 
 pub returns-in-None : goal.returns-in-None

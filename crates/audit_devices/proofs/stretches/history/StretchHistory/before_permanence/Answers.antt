@@ -1,4 +1,4 @@
-use Rattle.{audit_devices.specs.Keeping.records_before, std.proofs.Common.{List, subst, ℕ}}
+use Rattle.{audit_devices.specs.Keeping.records_before, std.proofs.Common.subst}
 use Rattle.{audit_devices.specs.stretches.Points.HasPoints, run_law.specs.{control.Collections.points_of, declared.judgement.Judgement.TheVariants.Ignored}}
 use Rattle.audit_devices.proofs.stretches.history.StretchHistory.before_permanence.Goals as goal
 

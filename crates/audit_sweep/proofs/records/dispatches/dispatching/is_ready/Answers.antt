@@ -1,4 +1,4 @@
-use Rattle.{audit_sweep.specs.records.dispatches.Dispatched.IsAtHand, run_law.specs.device.LocalClocks.Reaches, std.proofs.Common.{◌∙◌, pos, subst, sym, ℕ}}
+use Rattle.{audit_sweep.specs.records.dispatches.Dispatched.IsAtHand, run_law.specs.device.LocalClocks.Reaches, std.proofs.Common.{◌∙◌, pos, subst, sym}}
 use Rattle.std.proofs.lemmas.Bool.{false≢true}
 use Rattle.audit_sweep.proofs.records.dispatches.dispatching.is_ready.Goals as goal
 

@@ -1,4 +1,4 @@
-use Rattle.{audit_sweep.proofs.records_lemmas.AscendingPlaces.of_map, run_law.specs.records.Order.IsIn, std.proofs.Common.{List, refl, subst, ℕ}}
+use Rattle.{audit_sweep.proofs.records_lemmas.AscendingPlaces.of_map, run_law.specs.records.Order.IsIn, std.proofs.Common.{refl, subst}}
 use Rattle.audit_sweep.proofs.records.places.Places.has_behind.Goals as goal
 
 pub returns-then-is_among : goal.returns-then-is_among

@@ -1,4 +1,4 @@
-use Rattle.{audit_law.specs.events.Readings.scenario_under, device_rules.specs.Answers.departure_as, net_plan.specs.declared.tables.Way.Way}
+use Rattle.{audit_law.specs.events.Readings.scenario_under, device_rules.specs.Answers.departure_as}
 use Rattle.audit_sweep.proofs.records_lemmas.wires_lemmas.{Givers.given_within, LeavingTimes.{departs, giver_is, not_given_departs, other_time_departs}}
 use Rattle.{run_law.specs.scenario.Ways.is_cut, std.proofs.Common.{◌∙◌, ap, refl, sym}}
 use Rattle.audit_sweep.proofs.records.wires.leaving.departure.Goals as goal

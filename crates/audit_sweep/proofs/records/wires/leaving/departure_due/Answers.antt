@@ -1,4 +1,4 @@
-use Rattle.{audit_law.specs.events.Readings.scenario_under, std.proofs.Common.{◌<◌, ◌∙◌, ◌≤◌, ap, not, subst, sym, ℕ}}
+use Rattle.{audit_law.specs.events.Readings.scenario_under, std.proofs.Common.{◌<◌, ◌∙◌, ◌≤◌, ap, not, subst, sym}}
 use Rattle.tte_units.proofs.general_lemmas.Options.{some_of}
 use Rattle.audit_sweep.proofs.records_lemmas.wires_lemmas.{Givers.given_within, LeavingTimes.{broken, giver_is, later, leaving}}
 use Rattle.audit_sweep.proofs.records.wires.leaving.departure_due.Goals as goal

@@ -1,4 +1,4 @@
-use Rattle.{audit_law.specs.events.Readings.scenario_under, audit_sweep.proofs.records_lemmas.wires_lemmas.Wires.{arrives_elsewhere, arrives_here}}
+use Rattle.audit_sweep.proofs.records_lemmas.wires_lemmas.Wires.{arrives_elsewhere, arrives_here}
 use Rattle.std.proofs.Common.{◌∙◌, ◌≡◌, false, sym, true}
 use Rattle.audit_sweep.proofs.records.wires.receiving.arriving.Goals as goal
 

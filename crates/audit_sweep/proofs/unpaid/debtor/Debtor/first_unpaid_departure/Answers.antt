@@ -1,5 +1,5 @@
 use Rattle.{audit_sweep.proofs.unpaid_lemmas.Among.{first_among_all, first_of_both}, tte_units.proofs.general_lemmas.Naturals.below_next}
-use Rattle.audit_sweep.proofs.unpaid_lemmas.Words.{◌+◌, ◌<◌, ◌≡◌, LinkId, Option, TellsFirstAmong, arith, numbered_within, scenario_of, subst, sym, ℕ}
+use Rattle.audit_sweep.proofs.unpaid_lemmas.Words.{◌+◌, ◌<◌, ◌≡◌, LinkId, TellsFirstAmong, arith, numbered_within, scenario_of, subst, sym, ℕ}
 use Rattle.audit_law.specs.law.Owed as debts
 use Rattle.audit_sweep.proofs.unpaid.debtor.Debtor.first_unpaid_departure.Goals as goal
 

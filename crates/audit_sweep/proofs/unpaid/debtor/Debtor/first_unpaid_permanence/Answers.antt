@@ -1,4 +1,4 @@
-use Rattle.audit_sweep.proofs.unpaid_lemmas.Words.{◌+◌, Option, TellsFirstBelow, arith, scenario_of, subst, sym, ℕ}
+use Rattle.audit_sweep.proofs.unpaid_lemmas.Words.{◌+◌, TellsFirstBelow, arith, scenario_of, subst, sym, ℕ}
 use Rattle.audit_sweep.proofs.unpaid_lemmas.{Firsts.{first_of_all, next_below}, PaidPermanences.permanences_of_records}
 use Rattle.audit_law.specs.law.Owed as debts
 use Rattle.audit_sweep.proofs.unpaid.debtor.Debtor.first_unpaid_permanence.Goals as goal

@@ -1,6 +1,6 @@
 use Rattle.audit_sweep.proofs.{records_lemmas.wires_lemmas.Givers.given_within, unpaid_lemmas.Among.{first_of_both, first_of_more, first_of_one}}
 use Rattle.audit_sweep.proofs.unpaid_lemmas.{DepartureDebts.{gives_may, same_pair}, Words.{inr, length, numbered, same_some, scenario_of, subst, sym, ℕ}}
-use Rattle.audit_sweep.proofs.unpaid_lemmas.Words.{◌+◌, ◌<◌, ◌∙◌, ◌≡◌, Happening, KeptRecord, LinkId, Option, Some, TellsFirstAmong, ap, arith, both_ways, inl}
+use Rattle.audit_sweep.proofs.unpaid_lemmas.Words.{◌+◌, ◌<◌, ◌∙◌, ◌≡◌, Happening, KeptRecord, LinkId, Some, TellsFirstAmong, ap, arith, both_ways, inl}
 use Rattle.{audit_sweep.specs.unpaid.Leavings.may_give, run_law.specs.control.Leaving.Gives, tte_units.proofs.general_lemmas.Naturals.below_next}
 use Rattle.audit_law.specs.law.Owed as debts
 use Rattle.audit_sweep.proofs.unpaid.debtor.Debtor.unpaid_departure.Goals as goal

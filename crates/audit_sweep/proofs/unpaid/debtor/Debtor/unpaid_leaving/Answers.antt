@@ -1,6 +1,6 @@
-use Rattle.{audit_law.specs.law.Departures.leaves_at, device_rules.specs.Answers.departure_as, run_law.specs.control.Leaving.{Departs, departure}}
+use Rattle.{audit_law.specs.law.Departures.leaves_at, run_law.specs.control.Leaving.{Departs, departure}}
 use Rattle.audit_sweep.proofs.unpaid_lemmas.DepartureDebts.{departure_paid, departure_time, giver_there, gives_named, owed_departs}
-use Rattle.audit_sweep.proofs.unpaid_lemmas.Words.{◌∙◌, DeviceId, arith, both_ways, numbered_in, scenario_of, subst, sym, time_of, ℕ}
+use Rattle.audit_sweep.proofs.unpaid_lemmas.Words.{◌∙◌, arith, both_ways, numbered_in, scenario_of, subst, sym, time_of}
 use Rattle.net_plan.specs.Belonging.{HasDevice}
 use Rattle.audit_sweep.proofs.unpaid.debtor.Debtor.unpaid_leaving.Goals as goal
 

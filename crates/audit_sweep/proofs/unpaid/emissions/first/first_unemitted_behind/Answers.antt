@@ -1,4 +1,4 @@
-use Rattle.{audit_law.specs.collections.Kept.emissions_in, std.proofs.Common.{◌+◌, ◌-◌, ◌∙◌, ◌≡◌, FitsSigned, Option, arith, rules, subst, sym, w64, ℕ, ℤ}}
+use Rattle.{audit_law.specs.collections.Kept.emissions_in, std.proofs.Common.{◌+◌, ◌-◌, ◌∙◌, ◌≡◌, FitsSigned, arith, rules, subst, sym, w64}}
 use Rattle.{audit_law.specs.{declared.collections.emitted.Emitted.Emitted, events.Reaches.IsFirstReach}, audit_sweep.specs.unpaid.emissions.Firsts.TellsFirstOf}
 use Rattle.{audit_law.specs.events.Readings.{clock_reading, scenario_under}, audit_sweep.specs.unpaid.emissions.Emissions.{IsTold, OwesBehind}}
 use Rattle.audit_sweep.proofs.unpaid_lemmas.emissions_lemmas.Entries.{emission_there, entry_points, least_short, length_there, not_negative, short_there}

@@ -1,4 +1,4 @@
-use Rattle.audit_sweep.proofs.unpaid_lemmas.Words.{◌+◌, ◌∙◌, ◌≡◌, IsPaidSo, List, Paid, Some, ap, arith, slice_get, subst, sym, ℕ}
+use Rattle.audit_sweep.proofs.unpaid_lemmas.Words.{◌+◌, ◌∙◌, ◌≡◌, IsPaidSo, List, Paid, Some, ap, arith, slice_get, subst, sym}
 use Rattle.{std.proofs.Common.◌-◌, tte_units.proofs.general_lemmas.Lists.got_at}
 use Rattle.audit_sweep.proofs.unpaid.payments.Payments.of.Goals as goal
 

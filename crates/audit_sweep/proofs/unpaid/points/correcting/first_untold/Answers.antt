@@ -1,4 +1,4 @@
-use Rattle.audit_sweep.proofs.unpaid_lemmas.points_lemmas.Words.{◌+◌, IsTold, Option, OwesAt, TellsFirstAmong, ap, arith, length, scenario_under, subst, sym, ℕ}
+use Rattle.audit_sweep.proofs.unpaid_lemmas.points_lemmas.Words.{◌+◌, IsTold, OwesAt, TellsFirstAmong, ap, arith, length, scenario_under, subst, sym}
 use Rattle.audit_sweep.proofs.unpaid_lemmas.points_lemmas.{FirstPoints.first_point, Joining.among_more}
 use Rattle.audit_sweep.proofs.unpaid.points.correcting.first_untold.Goals as goal
 

@@ -1,4 +1,4 @@
-use Rattle.audit_sweep.proofs.unpaid_lemmas.points_lemmas.Words.{◌+◌, ◌∙◌, IsTold, OwesAt, ShowsWithin, arith, scenario_under, subst, sym, ℕ}
+use Rattle.audit_sweep.proofs.unpaid_lemmas.points_lemmas.Words.{◌+◌, ◌∙◌, IsTold, OwesAt, ShowsWithin, arith, scenario_under, subst, sym}
 use Rattle.audit_sweep.proofs.unpaid_lemmas.points_lemmas.Joining.{end_near, none_is, none_tells, paid_both, paid_less, shows_within, tells_behind}
 use Rattle.audit_sweep.proofs.unpaid.points.correcting.first_untold_by.Goals as goal
 

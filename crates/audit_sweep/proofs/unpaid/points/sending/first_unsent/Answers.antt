@@ -1,4 +1,4 @@
-use Rattle.audit_sweep.proofs.unpaid_lemmas.points_lemmas.Words.{◌+◌, IsSent, Option, Sends, TellsFirstAmong, ap, arith, length, scenario_under, subst, sym, ℕ}
+use Rattle.audit_sweep.proofs.unpaid_lemmas.points_lemmas.Words.{◌+◌, IsSent, Sends, TellsFirstAmong, ap, arith, length, scenario_under, subst, sym}
 use Rattle.audit_sweep.proofs.unpaid_lemmas.points_lemmas.{FirstSendings.first_sending, Joining.among_more}
 use Rattle.audit_sweep.proofs.unpaid.points.sending.first_unsent.Goals as goal
 

@@ -1,4 +1,4 @@
-use Rattle.audit_sweep.proofs.unpaid_lemmas.points_lemmas.Words.{◌+◌, ◌∙◌, IsSent, Sends, ShowsWithin, arith, scenario_under, subst, sym, ℕ}
+use Rattle.audit_sweep.proofs.unpaid_lemmas.points_lemmas.Words.{◌+◌, ◌∙◌, IsSent, Sends, ShowsWithin, arith, scenario_under, subst, sym}
 use Rattle.audit_sweep.proofs.unpaid_lemmas.points_lemmas.Joining.{end_near, none_is, none_tells, paid_both, shows_within, tells_behind}
 use Rattle.audit_sweep.proofs.unpaid.points.sending.first_unsent_by.Goals as goal
 

@@ -1,4 +1,4 @@
-use Rattle.{lens.proofs.draw_lemmas.Marking.drafted_more, lens_svg.specs.{Clocks.clocks_with, declared.layout.Span.Span}, std.proofs.Common.{◌∙◌, ap}}
+use Rattle.{lens.proofs.draw_lemmas.Marking.drafted_more, lens_svg.specs.Clocks.clocks_with, std.proofs.Common.{◌∙◌, ap}}
 use Rattle.lens.proofs.draw.drawing.DraftRecordTaker.take.Goals as goal
 
 pub returns : goal.returns

@@ -1,6 +1,5 @@
 use Rattle.lens.{proofs.draw_lemmas.Keeping.own_more, specs.draw.Keeping.{AreOwn, own_flag}}
-use Rattle.lens.specs.declared.draw.subject.Subject.{Subject}
-use Rattle.std.proofs.Common.{◌++◌, ◌∙◌, ◌∷◌, ◌≡◌, Bool, List, [], ap, subst, sym}
+use Rattle.std.proofs.Common.{◌++◌, ◌∙◌, ◌∷◌, ◌≡◌, Bool, [], ap, subst, sym}
 use Rattle.lens.proofs.draw.flags.OwnRecordTaker.take.Goals as goal
 
 pub returns : goal.returns

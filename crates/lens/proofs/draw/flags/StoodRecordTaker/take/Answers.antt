@@ -1,7 +1,7 @@
 use Rattle.lens.{proofs.draw_lemmas.Lanes.lanes_with, specs.draw.Keeping.AreLanes}
-use Rattle.lens_svg.specs.{Layout.holds, Sketching.{moment, with_at}, Views.flag_at, declared.layout.Span.Span}
+use Rattle.lens_svg.specs.{Layout.holds, Sketching.{moment, with_at}, Views.flag_at}
 use Rattle.net_plan.specs.declared.ids.DeviceId.{DeviceId}
-use Rattle.std.proofs.Common.{◌++◌, ◌∙◌, ◌∷◌, ◌≡◌, Bool, List, [], ap, if◌then◌else◌, subst, sym, true}
+use Rattle.std.proofs.Common.{◌++◌, ◌∙◌, ◌∷◌, ◌≡◌, [], ap, if◌then◌else◌, subst, sym, true}
 use Rattle.std.specs.Prelude.{◌&&◌}
 use Rattle.lens.proofs.draw.flags.StoodRecordTaker.take.Goals as goal
 

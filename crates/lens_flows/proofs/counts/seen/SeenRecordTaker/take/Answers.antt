@@ -1,6 +1,6 @@
 use Rattle.{lens_flows.{proofs.counts_lemmas.SeenMore.deliveries_more, specs.declared.counts.deliveries.Delivery.Delivery}, tte_units.specs.Amount.amount}
 use Rattle.lens_flows.specs.counts.{Deliveries.{deliveries_of, delivery_by}, Seen.some_delivery}
-use Rattle.std.{proofs.{Common.{◌++◌, ◌∙◌, ◌≡◌, List, Option, ap, rules, sym, ℕ, ℤ}, lemmas.Int.to_z-of_z}, specs.{Int.w64, Prelude.unsigned_abs}}
+use Rattle.std.{proofs.{Common.{◌++◌, ◌∙◌, ◌≡◌, List, ap, rules, sym, ℤ}, lemmas.Int.to_z-of_z}, specs.{Int.w64, Prelude.unsigned_abs}}
 use Rattle.lens_flows.proofs.counts.seen.SeenRecordTaker.take.Goals as goal
 
 pub returns : goal.returns

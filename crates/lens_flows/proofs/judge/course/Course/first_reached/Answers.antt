@@ -1,5 +1,5 @@
 use Rattle.audit_sweep.{proofs.unpaid_lemmas.points_lemmas.Joining.{end_later, end_near, none_is, shows_within}, specs.unpaid.points.Kept.ShowsWithin}
-use Rattle.{lens_flows.proofs.judge_lemmas.Firsts.{none_both, none_tells, tells_behind}, std.proofs.Common.{◌+◌, ◌∙◌, arith, subst, sym, ℕ}}
+use Rattle.{lens_flows.proofs.judge_lemmas.Firsts.{none_both, none_tells, tells_behind}, std.proofs.Common.{◌+◌, ◌∙◌, arith, subst, sym}}
 use Rattle.{lens_flows.specs.judge.Courses.scenario_of, run_law.specs.law.Safety.ReachesPlace}
 use Rattle.lens_flows.proofs.judge.course.Course.first_reached.Goals as goal
 

@@ -1,4 +1,4 @@
-use Rattle.std.proofs.{Common.{◌∙◌, List, ap, arith, length, refl, sym}, lemmas.Bool.{false≢true}}
+use Rattle.std.proofs.{Common.{◌∙◌, ap, arith, length, refl, sym}, lemmas.Bool.false≢true}
 use Rattle.lens_flows.{proofs.judge_lemmas.Rows.{all_rows, one_more, sender_there}, specs.judge.{Courses.scenario_of, Fates.IsRowSent}}
 use Rattle.net_plan.specs.declared.tables.Row.{Row}
 use Rattle.lens_flows.proofs.judge.course.Course.is_sent.Goals as goal

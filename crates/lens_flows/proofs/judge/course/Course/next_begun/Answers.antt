@@ -1,5 +1,5 @@
 use Rattle.audit_sweep.{proofs.unpaid_lemmas.points_lemmas.Joining.{end_later, end_near, shows_within}, specs.unpaid.points.Kept.ShowsWithin}
-use Rattle.{lens_flows.proofs.judge_lemmas.BegunCycles.{begun_behind, no_begun, none_next}, std.proofs.Common.{◌+◌, ◌∙◌, arith, subst, sym, ℕ}}
+use Rattle.{lens_flows.proofs.judge_lemmas.BegunCycles.{begun_behind, no_begun, none_next}, std.proofs.Common.{◌+◌, ◌∙◌, arith, subst, sym}}
 use Rattle.lens_flows.{proofs.judge_lemmas.Firsts.none_both, specs.judge.{Beginnings.BeginsOne, Courses.scenario_of}}
 use Rattle.lens_flows.proofs.judge.course.Course.next_begun.Goals as goal
 

@@ -1,4 +1,4 @@
-use Rattle.std.proofs.{Common.{◌+◌, ◌∙◌, ◌≡◌, arith, refl, rules, subst, sym, ℕ}, lemmas.Bool.false≢true}
+use Rattle.std.proofs.{Common.{◌+◌, ◌∙◌, ◌≡◌, arith, refl, rules, subst, sym}, lemmas.Bool.false≢true}
 use Rattle.audit_sweep.{proofs.unpaid_lemmas.points_lemmas.Joining.{end_later, end_near, shows_within}, specs.unpaid.points.Kept.ShowsWithin}
 use Rattle.lens_flows.{proofs.judge_lemmas.Steps.{in_step, shown_state, stays_on}, specs.judge.Courses.scenario_of}
 use Rattle.sync_state.specs.declared.state.State.TheVariants.{Synchronised}

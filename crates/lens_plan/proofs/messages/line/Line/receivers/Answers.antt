@@ -1,7 +1,6 @@
 use Rattle.{net_plan.specs.Places.IsEndSystem, std.{proofs.lemmas.List.Elements.{All-append, All-cons, All-nil}, specs.List.All}}
 use Rattle.lens_plan.{proofs.Receivers.{receivers_first, receivers_next, receivers_stop}, specs.messages.Reading.{receiver, receivers}}
-use Rattle.net_plan.specs.declared.ids.DeviceId.{DeviceId}
-use Rattle.std.proofs.{Common.{◌∙◌, ◌∷◌, ◌≡◌, Err, List, Ok, [], ap, subst, sym}, lemmas.Bool.false≢true}
+use Rattle.std.proofs.{Common.{◌∙◌, ◌∷◌, ◌≡◌, Err, Ok, [], ap, subst, sym}, lemmas.Bool.false≢true}
 use Rattle.lens_plan.proofs.messages.line.Line.receivers.Goals as goal
 
 pub receivers-init : goal.receivers-init

@@ -1,4 +1,4 @@
-use Rattle.std.proofs.{Common.{◌+◌, ◌∙◌, ◌∷◌, ◌≡◌, List, ap, drop, rules, sym, take, ℕ}, lemmas.List.take_rest}
+use Rattle.std.proofs.{Common.{◌+◌, ◌∙◌, ◌∷◌, ◌≡◌, ap, drop, rules, sym, take}, lemmas.List.take_rest}
 use Rattle.lens_plan.{proofs.LineParts.{lines_parted, lines_whole}, specs.messages.Lines.lines_of}
 use Rattle.lens_plan.proofs.messages.lines.Lines.next_line.Goals as goal
 

@@ -1,4 +1,4 @@
-use Rattle.tte_observers.proofs.captures_lemmas.wires_lemmas.Words.{◌++◌, ◌+◌, ◌∙◌, ◌∷◌, Err, List, Ok, PutsAll, [], map, packet_at, subst, sym, take, ℕ}
+use Rattle.tte_observers.proofs.captures_lemmas.wires_lemmas.Words.{◌++◌, ◌+◌, ◌∙◌, ◌∷◌, Err, Ok, PutsAll, [], map, packet_at, subst, sym, take}
 use Rattle.std.proofs.{Common.drop, lemmas.List.get_or_default}
 use Rattle.tte_observers.proofs.captures_lemmas.wires_lemmas.Puts.{failed_more, frames_all, frames_more, then_all}
 use Rattle.tte_observers.proofs.captures.wires.frames.put_frames.Goals as goal

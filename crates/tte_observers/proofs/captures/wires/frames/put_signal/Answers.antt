@@ -1,5 +1,5 @@
 use Rattle.tte_observers.proofs.captures_lemmas.wires_lemmas.Words.{IsSpelt, ap, packet_at, subst, sym}
-use Rattle.world_state.specs.{Views.signal_as, declared.contents.Signal.Signal}
+use Rattle.world_state.specs.{Views.signal_as}
 use Rattle.tte_observers.proofs.captures.wires.frames.put_signal.Goals as goal
 
 pub returns-in-Control : goal.returns-in-Control

@@ -1,4 +1,4 @@
-use Rattle.tte_observers.proofs.stamps_lemmas.Words.{◌++◌, ◌∙◌, ◌∷◌, Note, [], ap, line_at, line_stamps, subst, sym, ℕ}
+use Rattle.tte_observers.proofs.stamps_lemmas.Words.{◌++◌, ◌∙◌, ◌∷◌, Note, [], ap, line_at, line_stamps, subst, sym}
 use Rattle.tte_observers.{proofs.stamps_lemmas.{EventLines.{at_line, may_stamp}, Stamped.{seen_go, stamps_go}}, specs.stamps.Stamping.PutsAll}
 use Rattle.tte_observers.proofs.stamps.stamper.StamperObserver.event.Goals as goal
 

@@ -1,4 +1,4 @@
-use Rattle.{std.proofs.Common.{◌∙◌, ap, refl}, world_drive.specs.Observing.told_by}
+use Rattle.std.proofs.Common.{◌∙◌, ap, refl}
 use Rattle.tte_traces.{proofs.storms_lemmas.Seen.{behind_events, room_for, seen_record}, specs.storms.{Counts.corrects, summary.Counting.counted_as}}
 use Rattle.tte_traces.proofs.storms.counting.SeenObserver.record.Goals as goal
 

@@ -1,5 +1,4 @@
-use Rattle.{audit_sweep.proofs.records_lemmas.dispatches_lemmas.RowsOn.{all_exits, first_none, more_exits}, std.proofs.Common.{List, ap, arith, length}}
-use Rattle.net_plan.specs.declared.tables.Row.{Row}
+use Rattle.{audit_sweep.proofs.records_lemmas.dispatches_lemmas.RowsOn.{all_exits, first_none, more_exits}, std.proofs.Common.{ap, arith, length}}
 use Rattle.audit_sweep.proofs.records.dispatches.exits.Exits.new.Goals as goal
 
 pub loop-place-init : goal.loop-place-init

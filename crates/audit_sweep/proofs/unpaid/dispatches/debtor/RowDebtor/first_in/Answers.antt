@@ -1,6 +1,6 @@
 use Rattle.audit_sweep.{proofs.unpaid_lemmas.dispatches_lemmas.RowFacts.device_there, specs.unpaid.dispatches.{Debtors.scenario_of, Frames.{IsTold, OwesFrame}}}
 use Rattle.audit_sweep.proofs.unpaid_lemmas.points_lemmas.Joining.{end_later, end_near, none_is, none_tells, paid_both, shows_within, tells_behind}
-use Rattle.{audit_sweep.specs.unpaid.points.Kept.ShowsWithin, std.proofs.Common.{◌+◌, ◌∙◌, arith, subst, sym, ℕ}}
+use Rattle.{audit_sweep.specs.unpaid.points.Kept.ShowsWithin, std.proofs.Common.{◌+◌, ◌∙◌, arith, subst, sym}}
 use Rattle.audit_sweep.proofs.unpaid.dispatches.debtor.RowDebtor.first_in.Goals as goal
 
 pub after_time-next-requires-clause-device : goal.after_time-next-requires-clause-device

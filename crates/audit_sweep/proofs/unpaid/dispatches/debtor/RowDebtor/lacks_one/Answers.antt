@@ -1,4 +1,4 @@
-use Rattle.{audit_devices.specs.declared.taking.Taking.Taking, std.proofs.Common.{Option, arith, subst}}
+use Rattle.std.proofs.Common.{arith, subst}
 use Rattle.audit_sweep.proofs.unpaid_lemmas.dispatches_lemmas.{Hands.{none_taken, one_taken, when_false, when_true}, RowFacts.{device_there, link_there}}
 use Rattle.audit_sweep.specs.{records.dispatches.Dispatched.IsAcceptedLast, unpaid.dispatches.Debtors.scenario_of}
 use Rattle.audit_sweep.proofs.unpaid.dispatches.debtor.RowDebtor.lacks_one.Goals as goal
