@@ -22,27 +22,31 @@ pub record IsAlike (node new : Node) : Type 0 where
   pub taken : new.taken ≡ node.taken
   pub done : (deed : ClockTask) → Contains node.done deed → Contains new.done deed
 
-pub deed_alike : (network : Network) (device : DeviceId) (node new : Node) (deed : ClockTask) → IsAlike node new → IsDeedOf network device new deed
-    → IsDeedOf network device node deed
-deed_alike network device node new (sending cycle) a own = (own.0, sym (ap (λ (x : Standing). x.state) a.standing) ∙ own.1, own.2)
-deed_alike network device node new (correcting cycle) a own = sym (ap next_point a.standing) ∙ own
-deed_alike network device node new (dispatching row cycle) a own = grind (arith, last_or, filter, value_of, dispatching)
+pub deed_alike : (network : Network) (device : DeviceId) {node new : Node} (deed : ClockTask) → IsAlike node new
+    → IsDeedOf network device new deed → IsDeedOf network device node deed
+deed_alike network device (sending cycle) a own =
+    (own.0, sym (ap (λ (x : Standing). x.state) a.standing) ∙ own.1, own.2)
+deed_alike network device (correcting cycle) a own = sym (ap next_point a.standing) ∙ own
+deed_alike network device (dispatching row cycle) a own = grind (arith, last_or, filter, value_of, dispatching)
 
-pub undone_alike : (network : Network) (device : DeviceId) (node new : Node) (deed : ClockTask) → IsAlike node new → IsUndone network device new deed
-    → IsUndone network device node deed
-undone_alike network device node new deed a u = grind (arith, deed_alike, value_of)
+module _ (network : Network) (device : DeviceId) (node new : Node) where
+  pub undone_alike : {deed : ClockTask} → IsAlike node new → IsUndone network device new deed
+      → IsUndone network device node deed
+  undone_alike a u = grind (arith, deed_alike, value_of)
 
--- a device that has emitted no less, of the same points, has the same frames before it
-pub waiting_alike : (network : Network) (device : DeviceId) (node new : Node) (sent : Compressed) → new.points ≡ node.points
-    → ((c : Compressed) → Contains node.emitted c → Contains new.emitted c) → IsWaiting network device new sent → IsWaiting network device node sent
-waiting_alike network device node new sent points emitted w = grind (arith, observation_window)
+  -- a device that has emitted no less, of the same points, has the same frames before it
+  pub waiting_alike : {sent : Compressed} → new.points ≡ node.points
+      → ((c : Compressed) → Contains node.emitted c → Contains new.emitted c) → IsWaiting network device new sent
+      → IsWaiting network device node sent
+  waiting_alike points emitted w = grind (arith, observation_window)
 
-pending_alike : (network : Network) (device : DeviceId) (node new : Node) (moment : Moment) (task : Task) → IsAlike node new → new.points ≡ node.points
-    → ((c : Compressed) → Contains node.emitted c → Contains new.emitted c) → IsPending network device new task → IsCarried network device node new moment task
-pending_alike network device node new moment (emitting sent) a points emitted p =
-    inl ((sym a.broken ∙ p.0, waiting_alike network device node new sent points emitted p.1), refl)
-pending_alike network device node new moment (doing deed) a points emitted p =
-    inl ((sym a.broken ∙ p.0, undone_alike network device node new deed a p.1), ap (λ (x : Standing). value_of network deed -ℤ x.adjustment.0) a.standing)
+  pending_alike : (moment : Moment) (task : Task) → IsAlike node new → new.points ≡ node.points
+      → ((c : Compressed) → Contains node.emitted c → Contains new.emitted c) → IsPending network device new task
+      → IsCarried network device node new moment task
+  pending_alike moment (emitting sent) a points emitted p =
+      inl ((sym a.broken ∙ p.0, waiting_alike points emitted p.1), refl)
+  pending_alike moment (doing deed) a points emitted p =
+      inl ((sym a.broken ∙ p.0, undone_alike a p.1), ap (λ (x : Standing). value_of network deed -ℤ x.adjustment.0) a.standing)
 
 -- ---- the device begins anew
 
@@ -66,7 +70,7 @@ done_more node moment deed = grind (arith, Contains-append_left)
 after_deed : (network : Network) (device : DeviceId) (node new : Node) (moment : Moment) (deed : ClockTask) (task : Task)
     → new ≡ called moment acting (with_done node deed) → IsPending network device new task → IsCarried network device node new moment task
 after_deed network device node new moment deed task is p =
-    subst (λ (n : Node). IsPending network device n task → IsCarried network device node n moment task) (sym is)
+    subst (λ n. IsPending network device n task → IsCarried network device node n moment task) (sym is)
     (pending_alike network device node (called moment acting (with_done node deed)) moment task (done_more node moment deed) refl (λ c there. there)) p
 
 -- a device hears a frame as one of four things
@@ -118,97 +122,106 @@ one_more Synchronised number cycle n e f = let a : number ≡ cycle = cc in let 
 
 pub next_turn : (r c cycle n : ℕ) (a reading precision : ℤ) → n ≡ cycle + 1 → reading <ℤ ((pos (cycle * r + c) -ℤ a) +ℤ precision) → precision ≤ℤ pos r
     → reading <ℤ (pos (n * r + c) -ℤ a)
-next_turn r c cycle n a reading precision is lt wide = let more : n * r ≡ (cycle + 1) * r = ap (λ (k : ℕ). k * r) is in omega (arith, ints, lt, wide, more)
+next_turn r c cycle n a reading precision is lt wide = let more : n * r ≡ (cycle + 1) * r = ap (λ k. k * r) is in omega (arith, ints, lt, wide, more)
 
-corrected_by : (network : Network) (device : DeviceId) (node : Node) (moment : Moment) (heard : Summary) (by : Units) (task : Task)
-    → IsPending network device (called moment acting (with_corrected node moment heard by)) task
-    → IsCarried network device node (called moment acting (with_corrected node moment heard by)) moment task
-corrected_by network device node moment heard by (doing deed) p = inr (beyond_it _ _ _ _ refl p.1.ahead)
-corrected_by network device node moment heard by (emitting sent) p =
-    inl (
-      (
-        p.0,
-        kept_waiting network device node (is_synchronised node.standing.state) sent p.1.cm p.1.clusters p.1.are p.1.cluster p.1.there p.1.is
-            p.1.not_yet,
-      ),
-      refl,
-    )
+module _ (network : Network) (device : DeviceId) (node : Node) (moment : Moment) where
+  corrected_by : (heard : Summary) (by : Units) (task : Task)
+      → IsPending network device (called moment acting (with_corrected node moment heard by)) task
+      → IsCarried network device node (called moment acting (with_corrected node moment heard by)) moment task
+  corrected_by heard by (doing deed) p = inr (beyond_it _ _ _ _ refl p.1.ahead)
+  corrected_by heard by (emitting sent) p =
+      inl (
+        (
+          p.0,
+          kept_waiting network device node (is_synchronised node.standing.state) sent p.1.cm p.1.clusters p.1.are
+              p.1.cluster p.1.there p.1.is
+              p.1.not_yet,
+        ),
+        refl,
+      )
 
-clique_by : (network : Network) (device : DeviceId) (node : Node) (moment : Moment) (heard : Summary) (verdict : Verdict) (task : Task)
-    → state_by node.standing.state verdict ≡ Integrating → IsPending network device (called moment acting (with_clique node heard verdict)) task
-    → IsCarried network device node (called moment acting (with_clique node heard verdict)) moment task
-clique_by network device node moment heard verdict (emitting sent) lost p =
-    absurd (no_cluster (observation_window network) p.1.clusters p.1.cluster p.1.are p.1.there)
-clique_by network device node moment heard verdict (doing (sending cycle)) lost p = absurd (no_longer (sym lost ∙ p.1.own.1))
-clique_by network device node moment heard verdict (doing (dispatching row cycle)) lost p = absurd (no_longer (sym lost ∙ p.1.own.0))
-clique_by network device node moment heard verdict (doing (correcting cycle)) lost p = absurd (no_point _ _ _ lost p.1.own)
+  clique_by : (heard : Summary) (verdict : Verdict) (task : Task) → state_by node.standing.state verdict ≡ Integrating
+      → IsPending network device (called moment acting (with_clique node heard verdict)) task
+      → IsCarried network device node (called moment acting (with_clique node heard verdict)) moment task
+  clique_by heard verdict (emitting sent) lost p =
+      absurd (no_cluster (observation_window network) p.1.clusters p.1.cluster p.1.are p.1.there)
+  clique_by heard verdict (doing (sending cycle)) lost p = absurd (no_longer (sym lost ∙ p.1.own.1))
+  clique_by heard verdict (doing (dispatching row cycle)) lost p = absurd (no_longer (sym lost ∙ p.1.own.0))
+  clique_by heard verdict (doing (correcting cycle)) lost p = absurd (no_point _ _ _ lost p.1.own)
 
-cleared_by : (network : Network) (device : DeviceId) (node : Node) (moment : Moment) (heard : Summary) (cycle : ℕ) (task : Task)
-    → next_point node.standing ≡ Some cycle → moment.reading.0 <ℤ ((correction_value network cycle -ℤ node.standing.adjustment.0) +ℤ network.precision.0)
-    → network.precision.0 ≤ℤ pos (amount network.cycle)
-    → IsPending network device (called moment acting (after_correction node moment heard cycle Cleared)) task
-    → IsCarried network device node (called moment acting (after_correction node moment heard cycle Cleared)) moment task
-cleared_by network device node moment heard cycle (emitting sent) next in_time wide p =
-    inl (
-      (p.0, record { cm = p.1.cm; clusters = p.1.clusters; are = p.1.are; cluster = p.1.cluster; there = p.1.there; is = p.1.is; not_yet = p.1.not_yet }),
-      refl,
-    )
-cleared_by network device node moment heard cycle (doing (sending n)) next in_time wide p =
-    inl (
-      (
-        p.0,
-        record { own = p.1.own; ahead = p.1.ahead; not_yet = λ there. p.1.not_yet (Contains-append_left node.done (correcting cycle ∷ []) (sending n) there) },
-      ),
-      refl,
-    )
-cleared_by network device node moment heard cycle (doing (dispatching row n)) next in_time wide p =
-    inl (
-      (
-        p.0,
-        record {
-          own = (
-            p.1.own.0,
-            record {
-              entry = p.1.own.1.entry;
-              is = p.1.own.1.is;
-              leaves = p.1.own.1.leaves;
-              occurs = p.1.own.1.occurs;
-              has = elim p.1.own.1.has [ inl sender ↦ inl sender | inr took ↦ inr (took.0, record { last = took.1.last }) ];
-            },
-          );
-          ahead = p.1.ahead;
-          not_yet = λ there. p.1.not_yet (Contains-append_left node.done (correcting cycle ∷ []) (dispatching row n) there);
-        },
-      ),
-      refl,
-    )
-cleared_by network device node moment heard cycle (doing (correcting n)) next in_time wide p =
-    inr (next_turn (amount network.cycle) (amount network.correction) cycle n node.standing.adjustment.0 moment.reading.0 network.precision.0
-    (one_more node.standing.state node.standing.number cycle n next p.1.own) in_time wide)
+  cleared_by : (heard : Summary) (cycle : ℕ) (task : Task) → next_point node.standing ≡ Some cycle
+      → moment.reading.0 <ℤ ((correction_value network cycle -ℤ node.standing.adjustment.0) +ℤ network.precision.0)
+      → network.precision.0 ≤ℤ pos (amount network.cycle)
+      → IsPending network device (called moment acting (after_correction node moment heard cycle Cleared)) task
+      → IsCarried network device node
+      (called moment acting (after_correction node moment heard cycle Cleared)) moment task
+  cleared_by heard cycle (emitting sent) next in_time wide p =
+      inl (
+        (p.0, record { cm = p.1.cm; clusters = p.1.clusters; are = p.1.are; cluster = p.1.cluster; there = p.1.there; is = p.1.is; not_yet = p.1.not_yet }),
+        refl,
+      )
+  cleared_by heard cycle (doing (sending n)) next in_time wide p =
+      inl (
+        (
+          p.0,
+          record { own = p.1.own; ahead = p.1.ahead; not_yet = λ there. p.1.not_yet (Contains-append_left node.done (correcting cycle ∷ []) (sending n) there) },
+        ),
+        refl,
+      )
+  cleared_by heard cycle (doing (dispatching row n)) next in_time wide p =
+      inl (
+        (
+          p.0,
+          record {
+            own = (
+              p.1.own.0,
+              record {
+                entry = p.1.own.1.entry;
+                is = p.1.own.1.is;
+                leaves = p.1.own.1.leaves;
+                occurs = p.1.own.1.occurs;
+                has = elim p.1.own.1.has [ inl sender ↦ inl sender | inr took ↦ inr (took.0, record { last = took.1.last }) ];
+              },
+            );
+            ahead = p.1.ahead;
+            not_yet = λ there. p.1.not_yet (Contains-append_left node.done (correcting cycle ∷ [])
+                (dispatching row n) there);
+          },
+        ),
+        refl,
+      )
+  cleared_by heard cycle (doing (correcting n)) next in_time wide p =
+      inr (next_turn (amount network.cycle) (amount network.correction) cycle n node.standing.adjustment.0
+      moment.reading.0 network.precision.0
+      (one_more node.standing.state node.standing.number cycle n next p.1.own) in_time wide)
 
-after_point : (network : Network) (device : DeviceId) (node : Node) (moment : Moment) (heard : Summary) (cycle : ℕ) (verdict : Verdict) (task : Task)
-    → next_point node.standing ≡ Some cycle → moment.reading.0 <ℤ ((correction_value network cycle -ℤ node.standing.adjustment.0) +ℤ network.precision.0)
-    → network.precision.0 ≤ℤ pos (amount network.cycle)
-    → IsPending network device (called moment acting (after_correction node moment heard cycle verdict)) task
-    → IsCarried network device node (called moment acting (after_correction node moment heard cycle verdict)) moment task
-after_point network device node moment heard cycle (Corrected by) task next in_time wide p = corrected_by network device node moment heard by task p
-after_point network device node moment heard cycle SyncClique task next in_time wide p = clique_by network device node moment heard SyncClique task refl p
-after_point network device node moment heard cycle AsyncClique task next in_time wide p = clique_by network device node moment heard AsyncClique task refl p
-after_point network device node moment heard cycle Cleared task next in_time wide p = cleared_by network device node moment heard cycle task next in_time wide p
+  after_point : (heard : Summary) (cycle : ℕ) (verdict : Verdict) (task : Task)
+      → next_point node.standing ≡ Some cycle → moment.reading.0 <ℤ
+      ((correction_value network cycle -ℤ node.standing.adjustment.0) +ℤ network.precision.0)
+      → network.precision.0 ≤ℤ pos (amount network.cycle)
+      → IsPending network device (called moment acting (after_correction node moment heard cycle verdict)) task
+      → IsCarried network device node
+      (called moment acting (after_correction node moment heard cycle verdict)) moment task
+  after_point heard cycle (Corrected by) task next in_time wide p = corrected_by heard by task p
+  after_point heard cycle SyncClique task next in_time wide p = clique_by heard SyncClique task refl p
+  after_point heard cycle AsyncClique task next in_time wide p = clique_by heard AsyncClique task refl p
+  after_point heard cycle Cleared task next in_time wide p = cleared_by heard cycle task next in_time wide p
 
--- after an act a device has the tasks that it had before, and such as are for later readings
-pub acted : (network : Network) (device : DeviceId) (node : Node) (moment : Moment) (act : Act) (new : Node) → MayCall network device node moment acting
-    → network.precision.0 ≤ℤ pos (amount network.cycle)
-    → IsActOf network device node moment act new → (task : Task) → IsPending network device new task → IsCarried network device node new moment task
-acted network device node moment (acts.Send frame) new may wide (cycle, first, of_frame, is) task p =
-    after_deed network device node new moment (sending cycle) task is p
-acted network device node moment (acts.Dispatch row cycle) new may wide (first, is) task p =
-    after_deed network device node new moment (dispatching row cycle) task is p
-acted network device node moment (acts.Emit sent heard) new may wide (first, so, is) task p =
-    let whole : new ≡ called moment acting (after_emission network device node moment sent (own_hearing network device node sent)) = is
-    ∙ ap (λ (r : Ripe). called moment acting (after_emission network device node moment sent r)) so in
-    subst (λ (n : Node). IsPending network device n task → IsCarried network device node n moment task) (sym whole)
-    (after_emission_by network device node moment sent task) p
-acted network device node moment (acts.Correct cycle verdict) new may wide (first, (heard, comes, is)) task p =
-    subst (λ (n : Node). IsPending network device n task → IsCarried network device node n moment task) (sym is)
-    (after_point network device node moment heard cycle verdict task first.pending.1.own (may.in_time (doing (correcting cycle)) first.pending) wide) p
+  -- after an act a device has the tasks that it had before, and such as are for later readings
+  pub acted : (act : Act) (new : Node) → MayCall network device node moment acting
+      → network.precision.0 ≤ℤ pos (amount network.cycle) → IsActOf network device node moment act new
+      → (task : Task) → IsPending network device new task → IsCarried network device node new moment task
+  acted (acts.Send frame) new may wide (cycle, first, of_frame, is) task p =
+      after_deed network device node new moment (sending cycle) task is p
+  acted (acts.Dispatch row cycle) new may wide (first, is) task p =
+      after_deed network device node new moment (dispatching row cycle) task is p
+  acted (acts.Emit sent heard) new may wide (first, so, is) task p =
+      let whole : new ≡ called moment acting (after_emission network device node moment sent
+      (own_hearing network device node sent)) = is
+      ∙ ap (λ r. called moment acting (after_emission network device node moment sent r)) so in
+      subst (λ n. IsPending network device n task → IsCarried network device node n moment task) (sym whole)
+      (after_emission_by network device node moment sent task) p
+  acted (acts.Correct cycle verdict) new may wide (first, (heard, comes, is)) task p =
+      subst (λ n. IsPending network device n task → IsCarried network device node n moment task) (sym is)
+      (after_point heard cycle verdict task first.pending.1.own
+      (may.in_time (doing (correcting cycle)) first.pending) wide) p

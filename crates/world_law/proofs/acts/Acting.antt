@@ -26,75 +26,78 @@ pub record Comes (s : Scenario) (hs : List Happening) (device : DeviceId) (t lat
   pub reached : (v -ℤ node.standing.adjustment.0) ≤ℤ pos (s.reading device later)
   pub not_before : (x : ℕ) → changed_at hs device t ≤ x → x < later → pos (s.reading device x) <ℤ (v -ℤ node.standing.adjustment.0)
 
-pub comes_so : (s : Scenario) (hs : List Happening) (device : DeviceId) (t later : ℕ) (node : Node) (v : ℤ) → IsUnmoved s hs device t later
-    → IsLeft s hs device t node → Reaches s hs device v later → Comes s hs device t later node v
-comes_so s hs device t later node v u left r =
-    let adjusted : adjustment_before s hs device later ≡ node.standing.adjustment = adjustment_still s hs device t later u.le u.still
-    ∙ sym left.counted.adjustment in
-    let local : local_at_change s hs device later ≡ node.changed = local_still s hs device t later u.le u.still ∙ sym left.counted.changed in
-    let change = change_still hs device t later u.le u.still in
-    record {
-      ahead = subst (λ (z : ℤ). z <ℤ v) local r.below;
-      reached = subst (λ (a : Units). (v -ℤ a.0) ≤ℤ pos (s.reading device later)) adjusted r.reach.reached;
-      not_before = λ x from lt.
-          subst (λ (a : Units). pos (s.reading device x) <ℤ (v -ℤ a.0)) adjusted
-          (r.reach.not_before x (omega (arith, ints, from, change)) (omega (arith, ints, lt)));
-    }
+module _ (s : Scenario) (hs : List Happening) (device : DeviceId) (t later : ℕ) (node : Node) where
+  pub comes_so : {v : ℤ} → IsUnmoved s hs device t later → IsLeft s hs device t node → Reaches s hs device v later
+      → Comes s hs device t later node v
+  comes_so {v} u left r =
+      let adjusted : adjustment_before s hs device later ≡ node.standing.adjustment =
+      adjustment_still s hs device t later u.le u.still
+      ∙ sym left.counted.adjustment in
+      let local : local_at_change s hs device later ≡ node.changed =
+      local_still s hs device t later u.le u.still ∙ sym left.counted.changed in
+      let change = change_still hs device t later u.le u.still in
+      record {
+        ahead = subst (λ z. z <ℤ v) local r.below;
+        reached = subst (λ (a : Units). (v -ℤ a.0) ≤ℤ pos (s.reading device later)) adjusted r.reach.reached;
+        not_before = λ x from lt.
+            subst (λ (a : Units). pos (s.reading device x) <ℤ (v -ℤ a.0)) adjusted
+            (r.reach.not_before x (omega (arith, ints, from, change)) (omega (arith, ints, lt)));
+      }
 
--- a deed of the device to whose value its clock comes is to be done
-pub undone_so : (s : Scenario) (hs : List Happening) (device : DeviceId) (t later : ℕ) (node : Node) (deed : ClockTask) → t ≤ later → HasDone s hs device t node
-    → IsDeedOf s.network device node deed → Comes s hs device t later node (value_of s.network deed) → IsUndone s.network device node deed
-undone_so s hs device t later node deed le has own c = record {
-  own = own;
-  ahead = c.ahead;
-  not_yet = λ there.
-      let x = has.done deed there in
-      never_both _ _ (c.not_before x.0 x.1 (omega (arith, x.2, le))) x.3;
-}
+  -- a deed of the device to whose value its clock comes is to be done
+  pub undone_so : (deed : ClockTask) → t ≤ later → HasDone s hs device t node → IsDeedOf s.network device node deed
+      → Comes s hs device t later node (value_of s.network deed) → IsUndone s.network device node deed
+  undone_so deed le has own c = record {
+    own = own;
+    ahead = c.ahead;
+    not_yet = λ there.
+        let x = has.done deed there in
+        never_both _ _ (c.not_before x.0 x.1 (omega (arith, x.2, le))) x.3;
+  }
 
--- ---- a master that sends
+  -- ---- a master that sends
 
-pub sending_task : (s : Scenario) (hs : List Happening) (device : DeviceId) (t later : ℕ) (node : Node) (cycle : ℕ) → IsUnmoved s hs device t later
-    → IsLeft s hs device t node → HasDone s hs device t node → Sends s hs device later cycle
-    → HasTaskAt s device node later (task_place s.network later device (doing (sending cycle)))
-sending_task s hs device t later node cycle u left has sent =
-    let c = comes_so s hs device t later node (value_of s.network (sending cycle)) u left sent.reached in
-    let state : node.standing.state ≡ Synchronised = left.state ∙ not_turned_on s hs device t u.not_on ∙ sym (state_still s hs device t later u.le u.still)
-    ∙ sym (not_turned_on s hs device later u.not_on_later) ∙ sent.up.synchronised in (
-      doing (sending cycle),
-      (
-        left.counted.broken ∙ sym u.not_broken ∙ sent.up.correct,
-        undone_so s hs device t later node (sending cycle) u.le has
-            (sent.master, state, sent.begun) c,
-      ),
-      c.reached,
-      refl,
-    )
+  pub sending_task : {cycle : ℕ} → IsUnmoved s hs device t later → IsLeft s hs device t node
+      → HasDone s hs device t node → Sends s hs device later cycle
+      → HasTaskAt s device node later (task_place s.network later device (doing (sending cycle)))
+  sending_task {cycle} u left has sent =
+      let c = comes_so u left sent.reached in
+      let state : node.standing.state ≡ Synchronised =
+      left.state ∙ not_turned_on s hs device t u.not_on ∙ sym (state_still s hs device t later u.le u.still)
+      ∙ sym (not_turned_on s hs device later u.not_on_later) ∙ sent.up.synchronised in (
+        doing (sending cycle),
+        (
+          left.counted.broken ∙ sym u.not_broken ∙ sent.up.correct,
+          undone_so (sending cycle) u.le has (sent.master, state, sent.begun) c,
+        ),
+        c.reached,
+        refl,
+      )
 
--- ---- a compression master that emits
+  -- ---- a compression master that emits
 
-pub emitting_task : (s : Scenario) (hs : List Happening) (device : DeviceId) (t later : ℕ) (node : Node) (sent : Compressed) (verdict : Judgement)
-    → IsUnmoved s hs device t later → IsLeft s hs device t node → HasSent s device t node → Emits s hs device later sent verdict
-    → HasTaskAt s device node later (task_place s.network later device (emitting sent))
-emitting_task s hs device t later node sent verdict u left has e = (
-  emitting sent,
-  (
-    left.counted.broken ∙ sym u.not_broken ∙ e.correct,
-    record {
-      cm = e.cm;
-      clusters = e.clusters;
-      are = subst (λ ps. AreClusters (observation_window s.network) ps e.clusters) (sym (left.points e.cm)) e.are;
-      cluster = e.cluster;
-      there = e.there;
-      is = e.is;
-      not_yet =
-          λ there. let x = has.sent sent there in let le = u.le in never_both _ _
-          (e.reached.not_before x.0 (omega (arith, ints)) (omega (arith, ints, x.1, le))) x.2;
-    },
-  ),
-  e.reached.reached,
-  refl,
-)
+  pub emitting_task : {sent : Compressed} {verdict : Judgement} → IsUnmoved s hs device t later
+      → IsLeft s hs device t node → HasSent s device t node → Emits s hs device later sent verdict
+      → HasTaskAt s device node later (task_place s.network later device (emitting sent))
+  emitting_task {sent} u left has e = (
+    emitting sent,
+    (
+      left.counted.broken ∙ sym u.not_broken ∙ e.correct,
+      record {
+        cm = e.cm;
+        clusters = e.clusters;
+        are = subst (λ ps. AreClusters (observation_window s.network) ps e.clusters) (sym (left.points e.cm)) e.are;
+        cluster = e.cluster;
+        there = e.there;
+        is = e.is;
+        not_yet =
+            λ there. let x = has.sent sent there in let le = u.le in never_both _ _
+            (e.reached.not_before x.0 (omega (arith, ints)) (omega (arith, ints, x.1, le))) x.2;
+      },
+    ),
+    e.reached.reached,
+    refl,
+  )
 
 -- ---- a correction point
 
@@ -123,24 +126,26 @@ onward : (v a : ℤ) (r m : ℕ) → v ≤ℤ (pos r +ℤ a) → r ≤ m → v �
 onward v a r m le fell = omega (arith, ints, le, fell)
 
 -- what a clock had come to at an earlier time, it had come to before this one
-cleared_by_then : (s : Scenario) (hs : List Happening) (device : DeviceId) (t : ℕ) (node : Node) (x : ℕ) → IsLeft s hs device t node
-    → is_timed node.standing.state ≡ true → node.standing.number ≡ recorded_cycle (earlier t hs) device → is_integration_cycle (earlier t hs) device ≡ true
-    → int_lt (local_at_change s hs device t) (correction_value s.network (recorded_cycle (earlier t hs) device)) ≡ true
-    → ((a b : ℕ) → a ≤ b → s.reading device a ≤ s.reading device b) → x < t
-    → (correction_value s.network node.standing.number -ℤ node.standing.adjustment.0) ≤ℤ pos (s.reading device x) → has_cleared s hs device t t ≡ true
-cleared_by_then s hs device t node x left timed number joining ahead never_falls lt at =
+cleared_by_then : {s : Scenario} {hs : List Happening} {device : DeviceId} {t : ℕ} {node : Node} (x : ℕ)
+    → IsLeft s hs device t node → is_timed node.standing.state ≡ true
+    → node.standing.number ≡ recorded_cycle (earlier t hs) device → is_integration_cycle (earlier t hs) device ≡ true
+    → int_lt (local_at_change s hs device t) (correction_value s.network (recorded_cycle (earlier t hs) device))
+    ≡ true → ((a b : ℕ) → a ≤ b → s.reading device a ≤ s.reading device b) → x < t
+    → (correction_value s.network node.standing.number -ℤ node.standing.adjustment.0) ≤ℤ pos (s.reading device x)
+    → has_cleared s hs device t t ≡ true
+cleared_by_then {s} {hs} {device} {t} {node} x left timed number joining ahead never_falls lt at =
     let fell = never_falls x (t - 1) (omega (arith, lt)) in
     let there : correction_value s.network node.standing.number ≤ℤ (pos (s.reading device (t - 1)) +ℤ node.standing.adjustment.0) =
     come_there (correction_value s.network node.standing.number) node.standing.adjustment.0 (s.reading device x) (s.reading device (t - 1)) at fell in
     let moved : correction_value s.network (recorded_cycle (earlier t hs) device) ≤ℤ (pos (s.reading device (t - 1)) +ℤ (adjustment_before s hs device t).0) =
     subst (λ (a : Units). correction_value s.network (recorded_cycle (earlier t hs) device) ≤ℤ (pos (s.reading device (t - 1)) +ℤ a.0)) left.counted.adjustment
-    (subst (λ (n : ℕ). correction_value s.network n ≤ℤ (pos (s.reading device (t - 1)) +ℤ node.standing.adjustment.0)) number there) in
+    (subst (λ n. correction_value s.network n ≤ℤ (pos (s.reading device (t - 1)) +ℤ node.standing.adjustment.0)) number there) in
     and_from _ _ joining (and_from _ _ ahead (int_le-from _ _ moved))
 
 -- what a device has cleared stays so
-pub cleared_on : (s : Scenario) (hs : List Happening) (device : DeviceId) (t later : ℕ) → IsUnmoved s hs device t later → has_cleared s hs device t t ≡ true
-    → has_cleared s hs device later later ≡ true
-cleared_on s hs device t later u did =
+pub cleared_on : {s : Scenario} {hs : List Happening} {device : DeviceId} {t later : ℕ}
+    → IsUnmoved s hs device t later → has_cleared s hs device t t ≡ true → has_cleared s hs device later later ≡ true
+cleared_on {s} {hs} {device} {t} {later} u did =
     let joining = and_parts (is_integration_cycle (earlier t hs) device) _ did in
     let came = and_parts (int_lt (local_at_change s hs device t) (correction_value s.network (recorded_cycle (earlier t hs) device))) _ joining.1 in
     let there : correction_value s.network (recorded_cycle (earlier t hs) device) ≤ℤ (pos (s.reading device (t - 1)) +ℤ (adjustment_before s hs device t).0) =
@@ -149,83 +154,100 @@ cleared_on s hs device t later u did =
     cleared_still s hs device t later later u.le u.still
     ∙ and_from _ _ joining.0 (and_from _ _ came.0 (int_le-from _ _ (onward _ (adjustment_before s hs device t).0 _ _ there fell)))
 
--- a device with a next correction point, whose clock had come to it before a time, has a task that was due before it
-pub had_come_by : (s : Scenario) (hs : List Happening) (device : DeviceId) (t later : ℕ) (node : Node) → IsUnmoved s hs device t later
-    → IsLeft s hs device t node → ((cycle : ℕ) → IsDeedOf s.network device node (correcting cycle) → node.changed <ℤ correction_value s.network cycle
-    → Contains node.done (correcting cycle) → (x : ℕ) × (changed_at hs device t ≤ x) × (x < t)
-    × ((correction_value s.network cycle -ℤ node.standing.adjustment.0) ≤ℤ pos (s.reading device x))) → is_timed node.standing.state ≡ true
-    → has_cleared s hs device t t ≡ false → has_cleared s hs device later later ≡ true → node.broken ≡ false
-    → HasTaskAt s device node (later - 1) (rows_place (later - 1) device)
-had_come_by s hs device t later node u left has timed not_yet cleared sound =
-    let moved : has_cleared s hs device t later ≡ true = sym (cleared_still s hs device t later later u.le u.still) ∙ cleared in
-    let joining = and_parts (is_integration_cycle (earlier t hs) device) _ moved in
-    let came = and_parts (int_lt (local_at_change s hs device t) (correction_value s.network (recorded_cycle (earlier t hs) device))) _ joining.1 in
-    let number : node.standing.number ≡ recorded_cycle (earlier t hs) device = left.counted.number timed
-    ∙ ap (λ (b : Bool). if b then recorded_cycle (earlier t hs) device + 1 else recorded_cycle (earlier t hs) device) not_yet in
-    let ahead : local_at_change s hs device t <ℤ correction_value s.network (recorded_cycle (earlier t hs) device) = int_lt-is _ _ came.0 in
-    let there : correction_value s.network (recorded_cycle (earlier t hs) device) ≤ℤ (pos (s.reading device (later - 1)) +ℤ (adjustment_before s hs device t).0)
-    = int_le-is _ _ came.1 in
-    let v = correction_value s.network node.standing.number in
-    let same : correction_value s.network (recorded_cycle (earlier t hs) device) ≡ v = ap (correction_value s.network) (sym number) in
-    let before : node.changed <ℤ v = subst (λ (z : ℤ). z <ℤ v) (sym left.counted.changed) (subst (λ (z : ℤ). local_at_change s hs device t <ℤ z) same ahead) in
-    let reached : v ≤ℤ (pos (s.reading device (later - 1)) +ℤ node.standing.adjustment.0) =
-    subst (λ (a : Units). v ≤ℤ (pos (s.reading device (later - 1)) +ℤ a.0)) (sym left.counted.adjustment)
-    (subst (λ (z : ℤ). z ≤ℤ (pos (s.reading device (later - 1)) +ℤ (adjustment_before s hs device t).0)) same there) in
-    let own = point_of_timed node.standing.state node.standing.number timed in (
-      doing (correcting node.standing.number),
-      (
-        sound,
-        record { own = own; ahead = before; not_yet = grind (arith, own, before, both_ways, cleared_by_then, number, joining.0, came.0) },
-      ),
-      come_back v node.standing.adjustment.0 (s.reading device (later - 1)) (s.reading device (later - 1)) reached (omega arith),
-      refl,
-    )
+module _ {s : Scenario} {hs : List Happening} {device : DeviceId} {t later : ℕ} {node : Node}
+    (u : IsUnmoved s hs device t later) (left : IsLeft s hs device t node) where
+  -- a device with a next correction point, whose clock had come to it before a time, has a task that was due before it
+  pub had_come_by : ((cycle : ℕ) → IsDeedOf s.network device node (correcting cycle)
+      → node.changed <ℤ correction_value s.network cycle → Contains node.done (correcting cycle)
+      → (x : ℕ) × (changed_at hs device t ≤ x) × (x < t)
+      × ((correction_value s.network cycle -ℤ node.standing.adjustment.0) ≤ℤ pos (s.reading device x)))
+      → is_timed node.standing.state ≡ true → has_cleared s hs device t t ≡ false
+      → has_cleared s hs device later later ≡ true → node.broken ≡ false
+      → HasTaskAt s device node (later - 1) (rows_place (later - 1) device)
+  had_come_by has timed not_yet cleared sound =
+      let moved : has_cleared s hs device t later ≡ true =
+      sym (cleared_still s hs device t later later u.le u.still) ∙ cleared in
+      let joining = and_parts (is_integration_cycle (earlier t hs) device) _ moved in
+      let came = and_parts (int_lt (local_at_change s hs device t)
+      (correction_value s.network (recorded_cycle (earlier t hs) device))) _ joining.1 in
+      let number : node.standing.number ≡ recorded_cycle (earlier t hs) device = left.counted.number timed
+      ∙ ap (λ (b : Bool). if b then recorded_cycle (earlier t hs) device + 1 else recorded_cycle (earlier t hs)
+      device) not_yet in
+      let ahead : local_at_change s hs device t <ℤ correction_value s.network (recorded_cycle (earlier t hs) device) =
+      int_lt-is _ _ came.0 in
+      let there : correction_value s.network (recorded_cycle (earlier t hs) device) ≤ℤ (pos
+      (s.reading device (later - 1)) +ℤ (adjustment_before s hs device t).0)
+      = int_le-is _ _ came.1 in
+      let v = correction_value s.network node.standing.number in
+      let same : correction_value s.network (recorded_cycle (earlier t hs) device) ≡ v =
+      ap (correction_value s.network) (sym number) in
+      let before : node.changed <ℤ v = subst (λ z. z <ℤ v) (sym left.counted.changed)
+      (subst (λ z. local_at_change s hs device t <ℤ z) same ahead) in
+      let reached : v ≤ℤ (pos (s.reading device (later - 1)) +ℤ node.standing.adjustment.0) =
+      subst (λ (a : Units). v ≤ℤ (pos (s.reading device (later - 1)) +ℤ a.0)) (sym left.counted.adjustment)
+      (subst (λ z. z ≤ℤ (pos (s.reading device (later - 1)) +ℤ (adjustment_before s hs device t).0)) same
+      there) in
+      let own = point_of_timed node.standing.state node.standing.number timed in (
+        doing (correcting node.standing.number),
+        (
+          sound,
+          record { own = own; ahead = before; not_yet = grind (arith, own, before, both_ways, cleared_by_then, number, joining.0, came.0) },
+        ),
+        come_back v node.standing.adjustment.0 (s.reading device (later - 1)) (s.reading device (later - 1)) reached
+            (omega arith),
+        refl,
+      )
 
--- the same of what it has done before the time
-pub had_come_before : (s : Scenario) (hs : List Happening) (device : DeviceId) (t later : ℕ) (node : Node) → IsUnmoved s hs device t later
-    → IsLeft s hs device t node → HasDone s hs device t node → is_timed node.standing.state ≡ true
-    → has_cleared s hs device t t ≡ false → has_cleared s hs device later later ≡ true → node.broken ≡ false
-    → HasTaskAt s device node (later - 1) (rows_place (later - 1) device)
-had_come_before s hs device t later node u left has timed not_yet cleared sound =
-    had_come_by s hs device t later node u left (λ cycle own ahead there. has.done (correcting cycle) there) timed not_yet cleared sound
+  -- the same of what it has done before the time
+  pub had_come_before : HasDone s hs device t node → is_timed node.standing.state ≡ true
+      → has_cleared s hs device t t ≡ false → has_cleared s hs device later later ≡ true → node.broken ≡ false
+      → HasTaskAt s device node (later - 1) (rows_place (later - 1) device)
+  had_come_before has timed not_yet cleared sound =
+      had_come_by (λ cycle own ahead there. has.done (correcting cycle) there) timed not_yet cleared sound
 
 later_still : (z : ℤ) (r m : ℕ) → z ≤ℤ pos r → r ≤ m → z ≤ℤ pos m
 later_still z r m le fell = omega (arith, ints, le, fell)
 
-had_come_task : (s : Scenario) (hs : List Happening) (device : DeviceId) (t later : ℕ) (node : Node) → IsUnmoved s hs device t later → IsLeft s hs device t node
-    → HasDone s hs device t node → is_timed node.standing.state ≡ true
-    → has_cleared s hs device t t ≡ false → has_cleared s hs device later later ≡ true → node.broken ≡ false
-    → HasTaskAt s device node later (rows_place later device)
-had_come_task s hs device t later node u left has timed not_yet cleared sound =
-    let x = had_come_before s hs device t later node u left has timed not_yet cleared sound in
-    let at : task_numbers s.network device x.0 ≡ 6 ∷ device.0 ∷ [] = let e = x.3 in cc in (
-      x.0,
-      x.1,
-      later_still _ (s.reading device (later - 1)) (s.reading device later) x.2 (u.never_falls (later - 1) later (omega arith)),
-      ap (λ (l : List ℕ). later ∷ l) at,
-    )
+module _ (s : Scenario) (hs : List Happening) (device : DeviceId) (t later : ℕ) (node : Node) where
+  had_come_task : IsUnmoved s hs device t later → IsLeft s hs device t node → HasDone s hs device t node
+      → is_timed node.standing.state ≡ true → has_cleared s hs device t t ≡ false
+      → has_cleared s hs device later later ≡ true → node.broken ≡ false
+      → HasTaskAt s device node later (rows_place later device)
+  had_come_task u left has timed not_yet cleared sound =
+      let x = had_come_before u left has timed not_yet cleared sound in
+      let at : task_numbers s.network device x.0 ≡ 6 ∷ device.0 ∷ [] = let e = x.3 in cc in (
+        x.0,
+        x.1,
+        later_still _ (s.reading device (later - 1)) (s.reading device later) x.2
+            (u.never_falls (later - 1) later (omega arith)),
+        ap (λ (l : List ℕ). later ∷ l) at,
+      )
 
--- a device that comes to its correction point has a task that is due
-pub correcting_task : (s : Scenario) (hs : List Happening) (device : DeviceId) (t later : ℕ) (node : Node) (cycle : ℕ) → IsUnmoved s hs device t later
-    → IsLeft s hs device t node → HasDone s hs device t node → IsAtCorrection s hs later device cycle → HasTaskAt s device node later (rows_place later device)
-correcting_task s hs device t later node cycle u left has c =
-    let point = point_number (state_before s hs device later) (next_cycle s hs device later) cycle c.next in
-    let state : node.standing.state ≡ state_before s hs device later =
-    left.state ∙ not_turned_on s hs device t u.not_on ∙ sym (state_still s hs device t later u.le u.still)
-    ∙ sym (not_turned_on s hs device later u.not_on_later) in
-    let timed : is_timed node.standing.state ≡ true = ap is_timed state ∙ point.0 in
-    let sound = left.counted.broken ∙ sym u.not_broken ∙ c.correct in
-    let here = comes_so s hs device t later node (correction_value s.network cycle) u left c.reached in
-    let as_before : has_cleared s hs device later later ≡ has_cleared s hs device t t → HasTaskAt s device node later (rows_place later device) = λ flag.
-    let number : node.standing.number ≡ cycle = left.counted.number timed ∙ sym (next_still s hs device t later u.le u.still flag) ∙ point.1 in
-    let own : point_in node.standing.state node.standing.number ≡ Some cycle = point_of_timed node.standing.state node.standing.number timed
-    ∙ ap (λ (n : ℕ). Some n) number in
-    (doing (correcting cycle), (sound, undone_so s hs device t later node (correcting cycle) u.le has own here), here.reached, refl) in
-    elim (cases_Bool (has_cleared s hs device t t)) [
-      | inl did ↦ as_before (cleared_on s hs device t later u did ∙ sym did)
-      | inr not_yet ↦
-          elim (cases_Bool (has_cleared s hs device later later)) [
-            | inl cleared ↦ had_come_task s hs device t later node u left has timed not_yet cleared sound
-            | inr still_not ↦ as_before (still_not ∙ sym not_yet)
-          ]
-    ]
+  -- a device that comes to its correction point has a task that is due
+  pub correcting_task : {cycle : ℕ} → IsUnmoved s hs device t later → IsLeft s hs device t node
+      → HasDone s hs device t node → IsAtCorrection s hs later device cycle
+      → HasTaskAt s device node later (rows_place later device)
+  correcting_task {cycle} u left has c =
+      let point = point_number (state_before s hs device later) (next_cycle s hs device later) cycle c.next in
+      let state : node.standing.state ≡ state_before s hs device later =
+      left.state ∙ not_turned_on s hs device t u.not_on ∙ sym (state_still s hs device t later u.le u.still)
+      ∙ sym (not_turned_on s hs device later u.not_on_later) in
+      let timed : is_timed node.standing.state ≡ true = ap is_timed state ∙ point.0 in
+      let sound = left.counted.broken ∙ sym u.not_broken ∙ c.correct in
+      let here = comes_so s hs device t later node u left c.reached in
+      let as_before : has_cleared s hs device later later ≡ has_cleared s hs device t t → HasTaskAt s device node
+      later (rows_place later device) = λ flag.
+      let number : node.standing.number ≡ cycle =
+      left.counted.number timed ∙ sym (next_still s hs device t later u.le u.still flag) ∙ point.1 in
+      let own : point_in node.standing.state node.standing.number ≡ Some cycle =
+      point_of_timed node.standing.state node.standing.number timed
+      ∙ ap (λ (n : ℕ). Some n) number in
+      (doing (correcting cycle), (sound, undone_so s hs device t later node (correcting cycle) u.le has own here), here.reached, refl) in
+      elim (cases_Bool (has_cleared s hs device t t)) [
+        | inl did ↦ as_before (cleared_on u did ∙ sym did)
+        | inr not_yet ↦
+            elim (cases_Bool (has_cleared s hs device later later)) [
+              | inl cleared ↦ had_come_task u left has timed not_yet cleared sound
+              | inr still_not ↦ as_before (still_not ∙ sym not_yet)
+            ]
+      ]

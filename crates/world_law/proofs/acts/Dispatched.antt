@@ -13,24 +13,25 @@ none_some : (x : Happening) → None ≡ Some x → ⊥
 none_some x e = cc
 
 -- an event of the instant is the cause of no dispatch
-pub send_apart : (s : Scenario) (hs coming js : List Happening) (device : DeviceId) (now : ℕ) (link other : LinkId) (cause : ℕ) (vl : VlId) (cycle : ℕ)
-    → IsFounded place_of (IsDue s) hs → ((z : Happening) → IsIn z coming → time_of z ≡ now)
+pub send_apart : {s : Scenario} (hs coming : List Happening) {js : List Happening} {device : DeviceId} {now : ℕ}
+    {link other : LinkId} {cause : ℕ} {vl : VlId} {cycle : ℕ} → IsFounded place_of (IsDue s) hs
+    → ((z : Happening) → IsIn z coming → time_of z ≡ now)
     → ((h : Happening) → numbered js cause ≡ Some h → numbered (hs ++ coming) cause ≡ Some h)
     → IsSendLost s js device now link cause → Dispatches s (hs ++ coming) device now other cause vl cycle → ⊥
-send_apart s hs coming js device now link other cause vl cycle founded of_now on lost d =
+send_apart {s} hs coming {device} {now} founded of_now on lost d =
     let event = on lost.event lost.is.there in
     let all = hs ++ coming in
     let same : earlier now all ≡ earlier now hs = earlier_still now hs coming (λ z i. let at = of_now z i in omega (arith, at)) in
     elim d.at_hand [
-      | inl sender ↦ none_some lost.event (subst (λ (n : ℕ). numbered all n ≡ Some lost.event) sender.1 event)
+      | inl sender ↦ none_some lost.event (subst (λ n. numbered all n ≡ Some lost.event) sender.1 event)
       | inr took ↦ elim (last_in None (filter (λ h. is_accepted device d.entry.row.vl h.note.body) (earlier now all)) took.1.taken took.1.last) [
         | inl none ↦ none_some took.1.taken none
         | inr i ↦
-            let inside = subst (λ (l : List Happening). IsIn took.1.taken l) same
+            let inside = subst (λ l. IsIn took.1.taken l) same
             (in_filter (λ h. is_accepted device d.entry.row.vl h.note.body) (earlier now all) took.1.taken i) in
             let lt : time_of took.1.taken < now = in_earlier now hs took.1.taken inside in
             let there : IsIn took.1.taken hs = in_filter (λ h. Rattle.std.specs.Prelude.nat_lt (time_of h) now) hs took.1.taken inside in
-            let it = subst (λ (n : ℕ). numbered all n ≡ Some took.1.taken) (sym took.1.number)
+            let it = subst (λ n. numbered all n ≡ Some took.1.taken) (sym took.1.number)
             (numbered_front hs coming took.1.taken.note.number took.1.taken (by_number s hs took.1.taken founded there)) in
             let same : lost.event ≡ took.1.taken = same_some lost.event took.1.taken (sym event ∙ it) in
             let at = lost.is.same_time in
@@ -39,15 +40,15 @@ send_apart s hs coming js device now link other cause vl cycle founded of_now on
       ]
     ]
 
--- what a record that tells of a dispatch says
-pub dispatch_told : (s : Scenario) (device : DeviceId) (now : ℕ) (link : LinkId) (cause : ℕ) (vl : VlId) (cycle : ℕ) (body : NoteBody)
-    → body ≡ dispatch_body s device now link cause vl cycle → (body ≡ kinds.Lost device link cause)
-    ⊎ (body ≡ kinds.TtSent device link cause vl cycle)
-dispatch_told s device now link cause vl cycle body e = grind (arith, cases_Bool, is_cut, way_from)
+module _ (s : Scenario) (device : DeviceId) (now : ℕ) (link : LinkId) (cause : ℕ) (vl : VlId) (cycle : ℕ) where
+  -- what a record that tells of a dispatch says
+  pub dispatch_told : (body : NoteBody) → body ≡ dispatch_body s device now link cause vl cycle
+      → (body ≡ kinds.Lost device link cause) ⊎ (body ≡ kinds.TtSent device link cause vl cycle)
+  dispatch_told body e = grind (arith, cases_Bool, is_cut, way_from)
 
--- the record of a dispatch stands behind all others of the acts
-pub dispatch_late : (s : Scenario) (device : DeviceId) (now : ℕ) (link : LinkId) (cause : ℕ) (vl : VlId) (cycle : ℕ)
-    → 9 ≤ rank (dispatch_body s device now link cause vl cycle)
-dispatch_late s device now link cause vl cycle =
-    elim (is_cut s link (way_from s.network device link) now) as (λ (b : Bool). 9 ≤ rank (if b then kinds.Lost device link cause
-    else kinds.TtSent device link cause vl cycle)) [ true ↦ omega arith | false ↦ omega arith ]
+  -- the record of a dispatch stands behind all others of the acts
+  pub dispatch_late : 9 ≤ rank (dispatch_body s device now link cause vl cycle)
+  dispatch_late =
+      elim (is_cut s link (way_from s.network device link) now) as (λ (b : Bool). 9 ≤ rank
+      (if b then kinds.Lost device link cause
+      else kinds.TtSent device link cause vl cycle)) [ true ↦ omega arith | false ↦ omega arith ]

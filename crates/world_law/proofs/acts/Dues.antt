@@ -5,8 +5,8 @@ use Rattle.tte_units.proofs.general_lemmas.Lists.{none_in}
 use Rattle.world_law.proofs.{acts.Acting.point_number, devices.Borne.by_last, rows.{AtHand.{has_frame, value_is}, Dispatching.IsLawful}}
 use Rattle.world_law.proofs.runs.SourcesBack.{dispatches_same, reaches_back, standing_in, up_back}
 use Rattle.world_law.proofs.Words.{◌++◌, ◌-ℤ◌, ◌<ℤ◌, ◌∙◌, ◌∷◌, ◌≡◌, ◌≤ℤ◌, ◌≤◌, ◌⊎◌, AreClusters, ClockTask, Compressed, DeviceId, Dispatches, Emits, HadComeTo}
-use Rattle.world_law.proofs.Words.{Happening, HasDoneTask, IsActing, IsAtCorrection, IsIn, IsLeft, IsPending, Judgement, LinkId, List, Node, Point, Reaches}
-use Rattle.world_law.proofs.Words.{RowId, Scenario, Sends, Some, Task, Units, VlId, [], adjustment_before, ap, arith, changed_at, correcting, correction_value}
+use Rattle.world_law.proofs.Words.{Happening, HasDoneTask, IsActing, IsAtCorrection, IsIn, IsLeft, IsPending, Judgement, LinkId, List, Node, Reaches}
+use Rattle.world_law.proofs.Words.{RowId, Scenario, Sends, Some, Task, Units, VlId, [], adjustment_before, ap, arith, changed_at, correcting}
 use Rattle.world_law.proofs.Words.{dispatching, doing, earlier, emitting, false, frames_taken, inl, inr, ints, is_broken, is_timed, never_both, next_point}
 use Rattle.world_law.proofs.Words.{observation_window, plan_of, points_of, pos, reading_for, sending, state_before, subst, sym, time_of, value_of, ℕ, ℤ}
 use Rattle.run_law.specs.control.Corrections.{standing_before}
@@ -65,45 +65,46 @@ pub record HasItsFrames (s : Scenario) (js : List Happening) (now : ℕ) (device
 abbrev pub IsDueTask : Scenario → DeviceId → Node → ℕ → Task → Type 0
 IsDueTask s device node now task = IsPending s.network device node task × (reading_for s.network node task ≤ℤ pos (s.reading device now))
 
-pub same_standing : (s : Scenario) (hs : List Happening) (device : DeviceId) (t : ℕ) (node : Node) → IsLeft s hs device t node
-    → is_timed node.standing.state ≡ true → node.standing ≡ standing_before s hs device t
-same_standing s hs device t node left is = grind (arith, plan_of, state_before, adjustment_before)
+pub same_standing : {s : Scenario} {hs : List Happening} {device : DeviceId} {t : ℕ} {node : Node}
+    → IsLeft s hs device t node → is_timed node.standing.state ≡ true → node.standing ≡ standing_before s hs device t
+same_standing left is = grind (arith, plan_of, state_before, adjustment_before)
 
--- its clock is at the value that is reached
-read_so : (s : Scenario) (js : List Happening) (now : ℕ) (device : DeviceId) (node : Node) (v : ℤ) → IsPresent s js now device node
-    → Reaches s js device v now → (v -ℤ node.standing.adjustment.0) ≤ℤ pos (s.reading device now)
-read_so s js now device node v w r =
-    subst (λ (a : Units). (v -ℤ a.0) ≤ℤ pos (s.reading device now)) (sym w.left.counted.adjustment) r.reach.reached
+module _ (s : Scenario) (js : List Happening) (now : ℕ) (device : DeviceId) (node : Node) where
+  -- its clock is at the value that is reached
+  read_so : {v : ℤ} → IsPresent s js now device node → Reaches s js device v now
+      → (v -ℤ node.standing.adjustment.0) ≤ℤ pos (s.reading device now)
+  read_so {v} w r =
+      subst (λ (a : Units). (v -ℤ a.0) ≤ℤ pos (s.reading device now)) (sym w.left.counted.adjustment) r.reach.reached
 
-ahead_so : (s : Scenario) (js : List Happening) (now : ℕ) (device : DeviceId) (node : Node) (v : ℤ) → IsPresent s js now device node
-    → Reaches s js device v now → node.changed <ℤ v
-ahead_so s js now device node v w r = subst (λ (z : ℤ). z <ℤ v) (sym w.left.counted.changed) r.below
+  ahead_so : {v : ℤ} → IsPresent s js now device node → Reaches s js device v now → node.changed <ℤ v
+  ahead_so {v} w r = subst (λ z. z <ℤ v) (sym w.left.counted.changed) r.below
 
-pub sending_due : (s : Scenario) (js : List Happening) (now : ℕ) (device : DeviceId) (node : Node) (cycle : ℕ) → IsPresent s js now device node
-    → Sends s js device now cycle → (Contains node.done (sending cycle) → ⊥) → IsDueTask s device node now (doing (sending cycle))
-sending_due s js now device node cycle w d not = (
-  (
-    w.left.counted.broken ∙ w.sound,
-    record {
-      own = (d.master, w.left.state ∙ d.up.synchronised, d.begun);
-      ahead = ahead_so s js now device node (value_of s.network (sending cycle)) w d.reached;
-      not_yet = not;
-    },
-  ),
-  read_so s js now device node (value_of s.network (sending cycle)) w d.reached,
-)
+  pub sending_due : {cycle : ℕ} → IsPresent s js now device node → Sends s js device now cycle
+      → (Contains node.done (sending cycle) → ⊥) → IsDueTask s device node now (doing (sending cycle))
+  sending_due w d not = (
+    (
+      w.left.counted.broken ∙ w.sound,
+      record {
+        own = (d.master, w.left.state ∙ d.up.synchronised, d.begun);
+        ahead = ahead_so w d.reached;
+        not_yet = not;
+      },
+    ),
+    read_so w d.reached,
+  )
 
 -- by other records that leave it the same points
-pub emitting_due : (s : Scenario) (js gs : List Happening) (now : ℕ) (device : DeviceId) (node : Node) (c : Compressed) (verdict : Judgement)
-    → IsPresent s js now device node → points_of gs device ≡ points_of js device → Emits s gs device now c verdict
-    → (Contains node.emitted c → ⊥) → IsDueTask s device node now (emitting c)
-emitting_due s js gs now device node c verdict w points e not = (
+pub emitting_due : {s : Scenario} {js gs : List Happening} {now : ℕ} {device : DeviceId} {node : Node}
+    {c : Compressed} {verdict : Judgement} → IsPresent s js now device node
+    → points_of gs device ≡ points_of js device → Emits s gs device now c verdict → (Contains node.emitted c → ⊥)
+    → IsDueTask s device node now (emitting c)
+emitting_due {s} w points e not = (
   (
     w.left.counted.broken ∙ w.sound,
     record {
       cm = e.cm;
       clusters = e.clusters;
-      are = subst (λ (ps : List Point). AreClusters (observation_window s.network) ps e.clusters) (points ∙ sym (w.left.points e.cm)) e.are;
+      are = subst (λ ps. AreClusters (observation_window s.network) ps e.clusters) (points ∙ sym (w.left.points e.cm)) e.are;
       cluster = e.cluster;
       there = e.there;
       is = e.is;
@@ -113,27 +114,30 @@ emitting_due s js gs now device node c verdict w points e not = (
   e.reached.reached,
 )
 
-pub correcting_due : (s : Scenario) (js : List Happening) (now : ℕ) (device : DeviceId) (node : Node) (cycle : ℕ) → IsPresent s js now device node
-    → IsAtCorrection s js now device cycle → (Contains node.done (correcting cycle) → ⊥) → IsDueTask s device node now (doing (correcting cycle))
-correcting_due s js now device node cycle w c not =
+pub correcting_due : {s : Scenario} {js : List Happening} {now : ℕ} {device : DeviceId} {node : Node} {cycle : ℕ}
+    → IsPresent s js now device node → IsAtCorrection s js now device cycle
+    → (Contains node.done (correcting cycle) → ⊥) → IsDueTask s device node now (doing (correcting cycle))
+correcting_due {s} {js} {now} {device} {node} {cycle} w c not =
     let point = point_number (standing_before s js device now).state (standing_before s js device now).number cycle c.next in
     let timed : is_timed node.standing.state ≡ true = ap is_timed w.left.state ∙ point.0 in
-    let own : next_point node.standing ≡ Some cycle = ap next_point (same_standing s js device now node w.left timed) ∙ c.next in (
+    let own : next_point node.standing ≡ Some cycle = ap next_point (same_standing w.left timed) ∙ c.next in (
       (
         w.left.counted.broken ∙ w.sound,
-        record { own = own; ahead = ahead_so s js now device node (correction_value s.network cycle) w c.reached; not_yet = not },
+        record { own = own; ahead = ahead_so s js now device node w c.reached; not_yet = not },
       ),
-      read_so s js now device node (correction_value s.network cycle) w c.reached,
+      read_so s js now device node w c.reached,
     )
 
-pub dispatching_due : (s : Scenario) (js : List Happening) (now : ℕ) (device : DeviceId) (node : Node) (link : LinkId) (cause : ℕ) (vl : VlId) (cycle : ℕ)
-    → IsPresent s js now device node → HasItsFrames s js now device node → (d : Dispatches s js device now link cause vl cycle)
-    → (Contains node.done (dispatching (record { 0 = d.place }) cycle) → ⊥) → IsDueTask s device node now (doing (dispatching (record { 0 = d.place }) cycle))
-dispatching_due s js now device node link cause vl cycle w f d not =
+pub dispatching_due : {s : Scenario} {js : List Happening} {now : ℕ} {device : DeviceId} {node : Node}
+    {link : LinkId} {cause : ℕ} {vl : VlId} {cycle : ℕ} → IsPresent s js now device node
+    → HasItsFrames s js now device node → (d : Dispatches s js device now link cause vl cycle)
+    → (Contains node.done (dispatching (record { 0 = d.place }) cycle) → ⊥)
+    → IsDueTask s device node now (doing (dispatching (record { 0 = d.place }) cycle))
+dispatching_due {s} {js} {now} {device} {node} {cycle} w f d not =
     let row : RowId = record { 0 = d.place } in
     let reached : Reaches s js device (value_of s.network (dispatching row cycle)) now =
-    subst (λ (z : ℤ). Reaches s js device z now) (sym (value_is s.network row d.entry cycle d.row)) d.reached in
-    let frame = has_frame s js device node row d.entry cycle cause now (record {
+    subst (λ z. Reaches s js device z now) (sym (value_is row cycle d.row)) d.reached in
+    let frame = has_frame {s = s} {node = node} {row = row} {entry = d.entry} (record {
       range = f.lawful.range;
       rules = f.lawful.rules;
       steady = f.lawful.steady;
@@ -148,60 +152,62 @@ dispatching_due s js now device node link cause vl cycle w f d not =
         w.left.counted.broken ∙ w.sound,
         record {
           own = (w.left.state ∙ d.up.synchronised, frame);
-          ahead = ahead_so s js now device node (value_of s.network (dispatching row cycle)) w reached;
+          ahead = ahead_so s js now device node w reached;
           not_yet = not;
         },
       ),
-      read_so s js now device node (value_of s.network (dispatching row cycle)) w reached,
+      read_so s js now device node w reached,
     )
 
 -- ---- all kinds
 
 -- what acts by records that leave the device as it is, and is not done, is due of it
-pub act_due : (s : Scenario) (js hs : List Happening) (now : ℕ) (device : DeviceId) (node : Node) (task : Task) → IsPresent s js now device node
-    → HasItsFrames s js now device node
-    → earlier now hs ≡ earlier now js → points_of hs device ≡ points_of js device → IsActing s hs now device task → (HasDoneTask node task → ⊥)
+pub act_due : {s : Scenario} {js hs : List Happening} {now : ℕ} {device : DeviceId} {node : Node} {task : Task}
+    → IsPresent s js now device node → HasItsFrames s js now device node → earlier now hs ≡ earlier now js
+    → points_of hs device ≡ points_of js device → IsActing s hs now device task → (HasDoneTask node task → ⊥)
     → IsDueTask s device node now task
-act_due s js hs now device node task w f same points (IsActing.emits sent verdict e) not = emitting_due s js hs now device node sent verdict w points e not
-act_due s js hs now device node task w f same points (IsActing.sends cycle d) not =
-    sending_due s js now device node cycle w
+act_due w f same points (IsActing.emits sent verdict e) not = emitting_due w points e not
+act_due {s} {js} {hs} {now} {device} {node} w f same points (IsActing.sends cycle d) not =
+    sending_due s js now device node {cycle = cycle} w
     (record {
       master = d.master;
       up = up_back s hs js now device same d.up;
       begun = d.begun;
-      reached = reaches_back s hs js now device _ same d.reached;
+      reached = reaches_back s hs js now device same d.reached;
     }) not
-act_due s js hs now device node task w f same points (IsActing.corrects cycle c) not =
-    correcting_due s js now device node cycle w
+act_due {s} {js} {hs} {now} {device} w f same points (IsActing.corrects cycle c) not =
+    correcting_due {cycle = cycle} w
     (record {
-      next = subst (λ (l : List Happening). next_point (standing_in s device now l) ≡ Some cycle) same c.next;
-      reached = reaches_back s hs js now device _ same c.reached;
+      next = subst (λ l. next_point (standing_in s device now l) ≡ Some cycle) same c.next;
+      reached = reaches_back s hs js now device same c.reached;
       correct = c.correct;
     }) not
-act_due s js hs now device node task w f same points (IsActing.dispatches link cause vl cycle d) not =
+act_due {s} {js} {hs} {now} {device} {node} w f same points (IsActing.dispatches link cause vl cycle d) not =
     let e = dispatches_same s hs js now device link cause vl cycle same d in
     subst (λ (n : ℕ). IsDueTask s device node now (doing (dispatching (let row : RowId = record { 0 = n } in row) cycle))) e.1
-    (dispatching_due s js now device node link cause vl cycle w f e.0
+    (dispatching_due w f e.0
     (λ there. not (subst (λ (n : ℕ). Contains node.done (dispatching (let row : RowId = record { 0 = n } in row) cycle)) e.1 there)))
 
 -- nor had its clock come to what is reached at the instant before it
-had_not : (s : Scenario) (js : List Happening) (now : ℕ) (device : DeviceId) (node : Node) (v : ℤ) → IsPresent s js now device node
-    → Reaches s js device v now → (x : ℕ) → changed_at js device now ≤ x → x < now
+had_not : {s : Scenario} {js : List Happening} {now : ℕ} {device : DeviceId} {node : Node} {v : ℤ}
+    → IsPresent s js now device node → Reaches s js device v now → (x : ℕ) → changed_at js device now ≤ x → x < now
     → (v -ℤ node.standing.adjustment.0) ≤ℤ pos (s.reading device x) → ⊥
-had_not s js now device node v w r x from lt at =
+had_not {s} {device} {v} w r x from lt at =
     never_both _ _ (r.reach.not_before x (omega (arith, ints, from)) (omega (arith, ints, lt)))
     (subst (λ (a : Units). (v -ℤ a.0) ≤ℤ pos (s.reading device x)) w.left.counted.adjustment at)
 
-pub came_not : (s : Scenario) (js hs : List Happening) (now : ℕ) (device : DeviceId) (node : Node) (task : Task) → IsPresent s js now device node
-    → earlier now hs ≡ earlier now js → IsActing s hs now device task → HadComeTo s device node (changed_at js device now) now task → ⊥
-came_not s js hs now device node task w same (IsActing.emits sent verdict e) x =
+pub came_not : {s : Scenario} {js hs : List Happening} {now : ℕ} {device : DeviceId} {node : Node} {task : Task}
+    → IsPresent s js now device node → earlier now hs ≡ earlier now js → IsActing s hs now device task
+    → HadComeTo s device node (changed_at js device now) now task → ⊥
+came_not w same (IsActing.emits sent verdict e) x =
     never_both _ _ (e.reached.not_before x.0 (omega (arith, ints)) (omega (arith, ints, x.1))) x.2
-came_not s js hs now device node task w same (IsActing.sends cycle d) x =
-    had_not s js now device node (value_of s.network (sending cycle)) w (reaches_back s hs js now device _ same d.reached) x.0 x.1 x.2 x.3
-came_not s js hs now device node task w same (IsActing.corrects cycle c) x =
-    had_not s js now device node (correction_value s.network cycle) w (reaches_back s hs js now device _ same c.reached) x.0 x.1 x.2 x.3
-came_not s js hs now device node task w same (IsActing.dispatches link cause vl cycle d) x =
+came_not {s} {js} {hs} {now} {device} w same (IsActing.sends cycle d) x =
+    had_not w (reaches_back s hs js now device same d.reached) x.0 x.1 x.2 x.3
+came_not {s} {js} {hs} {now} {device} w same (IsActing.corrects cycle c) x =
+    had_not w (reaches_back s hs js now device same c.reached) x.0 x.1 x.2 x.3
+came_not {s} {js} {hs} {now} {device} w same (IsActing.dispatches link cause vl cycle d) x =
     let row : RowId = record { 0 = d.place } in
-    had_not s js now device node (value_of s.network (dispatching row cycle)) w
-    (subst (λ (z : ℤ). Reaches s js device z now) (sym (value_is s.network row d.entry cycle d.row)) (reaches_back s hs js now device _ same d.reached))
+    had_not w
+    (subst (λ z. Reaches s js device z now) (sym (value_is row cycle d.row))
+    (reaches_back s hs js now device same d.reached))
     x.0 x.1 x.2 x.3

@@ -40,7 +40,7 @@ quiet_stretch device body (inr e) = turning_stretch device body e
 
 pub points_same : (zs hs : List Happening) (device : DeviceId) → ((z : Happening) → IsIn z zs → IsQuiet device z.note.body × (4 ≤ rank z.note.body))
     → points_of (hs ++ zs) device ≡ points_of hs device
-points_same [] hs device quiet = ap (λ (l : List Happening). points_of l device) (append-nil hs)
+points_same [] hs device quiet = ap (λ l. points_of l device) (append-nil hs)
 points_same (z ∷ zs) hs device quiet =
     grind (
       arith,
@@ -75,39 +75,41 @@ never_moved device old (h ∷ hs) still =
     ap (λ (z : State). Rattle.std.specs.Prelude.fold (λ state g. state_with device state g.note.body) z hs)
     (keeps_state device old h.note.body (still h (inl refl))) ∙ never_moved device old hs (λ g i. still g (inr i))
 
-state_of_none : (s : Scenario) (hs : List Happening) (device : DeviceId) (t : ℕ) → length s.network.device ≤ device.0 → AreOfNetwork s hs
-    → state_before s hs device t ≡ Off
-state_of_none s hs device t le known = grind (arith, state_after, earlier, never_moved, in_filter, nat_lt, time_of, off_of_none)
+module _ (s : Scenario) (hs : List Happening) (device : DeviceId) (t : ℕ) where
+  state_of_none : length s.network.device ≤ device.0 → AreOfNetwork s hs → state_before s hs device t ≡ Off
+  state_of_none le known = grind (arith, state_after, earlier, never_moved, in_filter, nat_lt, time_of, off_of_none)
 
-pub none_acts : (s : Scenario) (hs : List Happening) (device : DeviceId) (t : ℕ) (task : Task) → length s.network.device ≤ device.0 → AreOfNetwork s hs
-    → IsActing s hs t device task → ⊥
-none_acts s hs device t task le known (IsActing.sends cycle d) = no_role s.network _ device le d.master
-none_acts s hs device t task le known (IsActing.emits sent verdict e) = no_role s.network _ device le e.cm
-none_acts s hs device t task le known (IsActing.corrects cycle c) =
-    let none : None ≡ Some cycle = sym (ap (λ (z : State). point_in z (next_cycle s hs device t)) (state_of_none s hs device t le known)) ∙ c.next in cc
-none_acts s hs device t task le known (IsActing.dispatches link cause vl cycle d) =
-    let bad : Off ≡ Synchronised = sym (state_of_none s hs device t le known) ∙ d.up.synchronised in cc
+  pub none_acts : {task : Task} → length s.network.device ≤ device.0 → AreOfNetwork s hs
+      → IsActing s hs t device task → ⊥
+  none_acts le known (IsActing.sends cycle d) = no_role s.network _ device le d.master
+  none_acts le known (IsActing.emits sent verdict e) = no_role s.network _ device le e.cm
+  none_acts le known (IsActing.corrects cycle c) =
+      let none : None ≡ Some cycle =
+      sym (ap (λ z. point_in z (next_cycle s hs device t)) (state_of_none le known)) ∙ c.next in cc
+  none_acts le known (IsActing.dispatches link cause vl cycle d) =
+      let bad : Off ≡ Synchronised = sym (state_of_none le known) ∙ d.up.synchronised in cc
 
--- ---- nor does a broken one
+  -- ---- nor does a broken one
 
-pub broken_acts : (s : Scenario) (hs : List Happening) (device : DeviceId) (t : ℕ) (task : Task) → is_broken s device t ≡ true
-    → IsActing s hs t device task → ⊥
-broken_acts s hs device t task broken (IsActing.sends cycle d) = let bad : true ≡ false = sym broken ∙ d.up.correct in cc
-broken_acts s hs device t task broken (IsActing.emits sent verdict e) = let bad : true ≡ false = sym broken ∙ e.correct in cc
-broken_acts s hs device t task broken (IsActing.corrects cycle c) = let bad : true ≡ false = sym broken ∙ c.correct in cc
-broken_acts s hs device t task broken (IsActing.dispatches link cause vl cycle d) = let bad : true ≡ false = sym broken ∙ d.up.correct in cc
+  pub broken_acts : {task : Task} → is_broken s device t ≡ true → IsActing s hs t device task → ⊥
+  broken_acts broken (IsActing.sends cycle d) = let bad : true ≡ false = sym broken ∙ d.up.correct in cc
+  broken_acts broken (IsActing.emits sent verdict e) = let bad : true ≡ false = sym broken ∙ e.correct in cc
+  broken_acts broken (IsActing.corrects cycle c) = let bad : true ≡ false = sym broken ∙ c.correct in cc
+  broken_acts broken (IsActing.dispatches link cause vl cycle d) =
+      let bad : true ≡ false = sym broken ∙ d.up.correct in cc
 
--- ---- and one that looks for the common time acts only by emissions
+  -- ---- and one that looks for the common time acts only by emissions
 
-looking_acts : (s : Scenario) (hs : List Happening) (device : DeviceId) (t : ℕ) (task : Task) → state_before s hs device t ≡ Integrating
-    → IsActing s hs t device task
-    → (sent : Compressed) × (verdict : Judgement) × Emits s hs device t sent verdict
-looking_acts s hs device t task looking (IsActing.emits sent verdict e) = (sent, verdict, e)
-looking_acts s hs device t task looking (IsActing.sends cycle d) = absurd (let bad : Integrating ≡ Synchronised = sym looking ∙ d.up.synchronised in cc)
-looking_acts s hs device t task looking (IsActing.corrects cycle c) =
-    absurd (let none : None ≡ Some cycle = sym (ap (λ (z : State). point_in z (next_cycle s hs device t)) looking) ∙ c.next in cc)
-looking_acts s hs device t task looking (IsActing.dispatches link cause vl cycle d) =
-    absurd (let bad : Integrating ≡ Synchronised = sym looking ∙ d.up.synchronised in cc)
+  looking_acts : {task : Task} → state_before s hs device t ≡ Integrating → IsActing s hs t device task
+      → (sent : Compressed) × (verdict : Judgement) × Emits s hs device t sent verdict
+  looking_acts looking (IsActing.emits sent verdict e) = (sent, verdict, e)
+  looking_acts looking (IsActing.sends cycle d) =
+      absurd (let bad : Integrating ≡ Synchronised = sym looking ∙ d.up.synchronised in cc)
+  looking_acts looking (IsActing.corrects cycle c) =
+      absurd (let none : None ≡ Some cycle = sym (ap (λ z. point_in z (next_cycle s hs device t)) looking)
+      ∙ c.next in cc)
+  looking_acts looking (IsActing.dispatches link cause vl cycle d) =
+      absurd (let bad : Integrating ≡ Synchronised = sym looking ∙ d.up.synchronised in cc)
 
 -- ---- a device that is kept
 
@@ -126,29 +128,34 @@ pub record IsBehind (coming : List Happening) (cursor : List ℕ) (now : ℕ) (p
   pub lone : (z : Happening) → IsIn z coming → rank z.note.body ≡ 4 → (w : List ℕ) → (IsBefore w cursor → ⊥) → IsBefore w p → ⊥
 
 -- how it is at the present instant
-pub present : {M : Type 0} (stands : M → Network → DeviceId → Node → Type 0) (s : Scenario) (hs coming : List Happening) (cursor : List ℕ) (now : ℕ)
-    (device : DeviceId) (machine : M) (k : IsKept stands s hs coming cursor now device machine) → k.up ≡ now → IsPresent s (hs ++ coming) now device k.node
-present stands s hs coming cursor now device machine k up =
-    record { left = subst (λ (n : ℕ). IsLeft s (hs ++ coming) device n k.node) up k.left; sound = k.sound }
+pub present : {M : Type 0} {stands : M → Network → DeviceId → Node → Type 0} {s : Scenario}
+    {hs coming : List Happening} {cursor : List ℕ} {now : ℕ} {device : DeviceId} {machine : M}
+    (k : IsKept stands s hs coming cursor now device machine) → k.up ≡ now
+    → IsPresent s (hs ++ coming) now device k.node
+present {s} {hs} {coming} {device} k up =
+    record { left = subst (λ n. IsLeft s (hs ++ coming) device n k.node) up k.left; sound = k.sound }
 
-pub kept_no_act : {M : Type 0} (stands : M → Network → DeviceId → Node → Type 0) (s : Scenario) (hs coming : List Happening) (mark cursor p : List ℕ)
-    (now t : ℕ) (device : DeviceId) (machine : M) (k : IsKept stands s hs coming cursor now device machine) (task : Task)
-    → IsLawful s (hs ++ coming) device → IsBehind coming cursor now p → IsPast hs now → (IsBefore (now ∷ 2 ∷ []) p → IsWorked hs cursor now) → HaveBefallen s mark now
-    → ((q : List ℕ) → IsBefore q cursor → IsBefore q ((now + 1) ∷ [])) → now ≤ t → IsIdleBefore s device now k.node p → IsActing s hs t device task → (IsBefore (task_place s.network t device task) cursor → ⊥)
-    → IsBefore (task_place s.network t device task) p → ⊥
-kept_no_act {M} stands s hs coming mark cursor p now t device machine k task law behind_it past worked befallen later le idle a not b =
+pub kept_no_act : {M : Type 0} {stands : M → Network → DeviceId → Node → Type 0} {s : Scenario}
+    {hs coming : List Happening} {mark cursor p : List ℕ} {now t : ℕ} {device : DeviceId} {machine : M}
+    (k : IsKept stands s hs coming cursor now device machine) {task : Task} → IsLawful s (hs ++ coming) device
+    → IsBehind coming cursor now p → IsPast hs now → (IsBefore (now ∷ 2 ∷ []) p → IsWorked hs cursor now)
+    → HaveBefallen s mark now → ((q : List ℕ) → IsBefore q cursor → IsBefore q ((now + 1) ∷ [])) → now ≤ t
+    → IsIdleBefore s device now k.node p → IsActing s hs t device task
+    → (IsBefore (task_place s.network t device task) cursor → ⊥) → IsBefore (task_place s.network t device task) p → ⊥
+kept_no_act {M} {stands} {s} {hs} {coming} {mark} {cursor} {p} {now} {t} {device} {machine} k {task} law behind_it
+    past worked befallen later le idle a not b =
     elim (cases_lt now t) [
       | inr ge ↦ let same : t ≡ now =
-          omega (arith, ge, le) in at_once (subst (λ (n : ℕ). IsActing s hs n device task) same a)
-          (subst (λ (n : ℕ). IsBefore (task_place s.network n device task) cursor → ⊥) same not)
-          (subst (λ (n : ℕ). IsBefore (task_place s.network n device task) p) same b)
+          omega (arith, ge, le) in at_once (subst (λ n. IsActing s hs n device task) same a)
+          (subst (λ n. IsBefore (task_place s.network n device task) cursor → ⊥) same not)
+          (subst (λ n. IsBefore (task_place s.network n device task) p) same b)
       | inl lt ↦
           let empty = behind_it.none t device lt (acts_before s.network t device task p b) in
           let k0 : (x : IsKept stands s hs [] cursor now device machine)
-          × (x.node ≡ k.node) = subst (λ (l : List Happening). (x : IsKept stands s hs l cursor now device machine) × (x.node ≡ k.node)) empty (k, refl)
+          × (x.node ≡ k.node) = subst (λ l. (x : IsKept stands s hs l cursor now device machine) × (x.node ≡ k.node)) empty (k, refl)
           in
-          let idle0 : IsIdleBefore s device now k0.0.node p = subst (λ (n : Node). IsIdleBefore s device now n p) (sym k0.1) idle in
-          let law0 : IsLawful s hs device = subst (λ (l : List Happening). IsLawful s l device)
+          let idle0 : IsIdleBefore s device now k0.0.node p = subst (λ n. IsIdleBefore s device now n p) (sym k0.1) idle in
+          let law0 : IsLawful s hs device = subst (λ l. IsLawful s l device)
           (ap (λ (l : List Happening). hs ++ l) empty ∙ append-nil hs) law in
           afterwards lt k0.0 idle0 law0
     ]
@@ -169,24 +176,24 @@ kept_no_act {M} stands s hs coming mark cursor p now t device machine k task law
                 quiet_rest s device now z.note.body (k.still yet.0 z (in_right z hs coming i) (behind_it.of_now z i)),
                 behind_it.late z i device (acts_before s.network now device task p b),
               )) in
-              let w = present stands s hs coming cursor now device machine k yet.0 in
+              let w = present k yet.0 in
               elim (done_or k.node task) [
                 | inr undone ↦
-                    let due = act_due s js hs now device k.node task w (record { taken = k.taken; past = past_all; lawful = law }) (sym same)
+                    let due = act_due w (record { taken = k.taken; past = past_all; lawful = law }) (sym same)
                     (sym points) a undone in
                     idle now (omega arith) task due.0 due.1 b
                 | inl did ↦
-                    came_not s js hs now device k.node task w (sym same) a
-                    (subst (λ (n : ℕ). HadComeTo s device k.node (changed_at js device n) now task) yet.0
-                    (came_sooner s device k.node (changed_at js device k.up) k.up now cursor k.worked task did not))
+                    came_not w (sym same) a
+                    (subst (λ n. HadComeTo s device k.node (changed_at js device n) now task) yet.0
+                    (came_sooner now k.worked task did not))
               ]
           | inr over ↦ elim (k.told over.0) [
             | inl out ↦ not (out.all task a)
             | inr (inr joining) ↦ behind_it.lone joining.by joining.there joining.sent (task_place s.network now device task) not b
             | inr (inl just) ↦
-                let looking : state_before s hs device now ≡ Integrating = ap (λ (w : List Happening). if is_turned_on_at s device now then Integrating
+                let looking : state_before s hs device now ≡ Integrating = ap (λ w. if is_turned_on_at s device now then Integrating
                 else state_after s w device) (sym same) ∙ just.looking in
-                let e = looking_acts s hs device now task looking a in
+                let e = looking_acts s hs device now looking a in
                 let bad : true ≡ false = sym e.2.cm ∙ just.other in cc
           ]
         ]
@@ -200,22 +207,22 @@ kept_no_act {M} stands s hs coming mark cursor p now t device machine k task law
           | inl less ↦ less
           | inr ge ↦
               let at = placed_so s.network now device other in
-              absurd (idle0 now (omega arith) other pending ge (subst (λ (q : List ℕ). IsBefore q p) (sym at.is) (sooner at.rank (device.0 ∷ at.rest))))
+              absurd (idle0 now (omega arith) other pending ge (subst (λ q. IsBefore q p) (sym at.is) (sooner at.rank (device.0 ∷ at.rest))))
         ]) in
         let few = rest.soon in
         let u : IsUnmoved s hs device rest.from t = record {
           le = omega (arith, few, lt);
           still = λ h i from before. rest.still h i from;
           not_on = rest.off;
-          not_on_later = not_on_after s mark now t device befallen lt;
+          not_on_later = not_on_after t device befallen lt;
           not_broken = no_later_breaks s mark now t device befallen le ∙ sym (no_later_breaks s mark now rest.from device befallen rest.le);
           never_falls = law0.steady.never_falls;
         } in
-        let taken = k0.taken ∙ ap (λ (l : List Happening). frames_taken s l device) (append-nil hs) in
-        let due = acting_task s hs device rest.from t k0.node task u rest.left rest.done rest.sent
-        (λ link cause vl cycle d. dispatching_task s hs device rest.from t k0.node link cause vl cycle u rest.left rest.done law0
+        let taken = k0.taken ∙ ap (λ l. frames_taken s l device) (append-nil hs) in
+        let due = acting_task u rest.left rest.done rest.sent
+        (λ link cause vl cycle d. dispatching_task u rest.left rest.done law0
         (λ h i. let early = past.past h i in omega (arith, early, le)) taken d) a in
-        idle0 t le due.0 due.1 due.2 (subst (λ (q : List ℕ). IsBefore q p) (sym due.3) b)
+        idle0 t le due.0 due.1 due.2 (subst (λ q. IsBefore q p) (sym due.3) b)
 
 -- ---- all devices
 
@@ -242,35 +249,41 @@ behind_of coming cursor now p of worked after = record {
     from t device lt b (z ∷ l) of_l seen =
         let at = of_l z (inl refl) in absurd (seen z (inl refl) (chain (place_of z) (act_place t device) p (inl (omega (arith, lt, at))) b))
 
-held_no_act : {M : Type 0} (stands : M → Network → DeviceId → Node → Type 0) (s : Scenario) (hs coming : List Happening) (mark cursor p : List ℕ) (now t : ℕ)
-    (device : DeviceId) (machine : M) (task : Task) → IsHeld stands s hs coming cursor now device machine
-    → IsLawful s (hs ++ coming) device → IsBehind coming cursor now p → IsPast hs now → (IsBefore (now ∷ 2 ∷ []) p → IsWorked hs cursor now) → HaveBefallen s mark now
-    → ((q : List ℕ) → IsBefore q cursor → IsBefore q ((now + 1) ∷ [])) → now ≤ t → ((node : Node) → stands machine s.network device node → IsIdleBefore s device now node p)
-    → IsActing s hs t device task → (IsBefore (task_place s.network t device task) cursor → ⊥) → IsBefore (task_place s.network t device task) p → ⊥
-held_no_act stands s hs coming mark cursor p now t device machine task (inl k) law behind_it past worked befallen later le idle a not b =
-    kept_no_act stands s hs coming mark cursor p now t device machine k task law behind_it past worked befallen later le (idle k.node k.is) a not b
-held_no_act stands s hs coming mark cursor p now t device machine task (inr k) law behind_it past worked befallen later le idle a not b =
-    broken_acts s hs device t task (no_later_breaks s mark now t device befallen le ∙ k.broken) a
+held_no_act : {M : Type 0} {stands : M → Network → DeviceId → Node → Type 0} {s : Scenario}
+    {hs coming : List Happening} {mark cursor p : List ℕ} {now t : ℕ} {device : DeviceId} {machine : M} {task : Task}
+    → IsHeld stands s hs coming cursor now device machine → IsLawful s (hs ++ coming) device
+    → IsBehind coming cursor now p → IsPast hs now → (IsBefore (now ∷ 2 ∷ []) p → IsWorked hs cursor now)
+    → HaveBefallen s mark now → ((q : List ℕ) → IsBefore q cursor → IsBefore q ((now + 1) ∷ [])) → now ≤ t
+    → ((node : Node) → stands machine s.network device node → IsIdleBefore s device now node p)
+    → IsActing s hs t device task → (IsBefore (task_place s.network t device task) cursor → ⊥)
+    → IsBefore (task_place s.network t device task) p → ⊥
+held_no_act (inl k) law behind_it past worked befallen later le idle a not b =
+    kept_no_act k law behind_it past worked befallen later le (idle k.node k.is) a not b
+held_no_act {s} {hs} {mark} {now} {t} {device} (inr k) law behind_it past worked befallen later le idle a not b =
+    broken_acts s hs device t (no_later_breaks s mark now t device befallen le ∙ k.broken) a
 
-no_acts : {C M : Type 0} (reading : C → ℕ → ℕ) (stands : M → Network → DeviceId → Node → Type 0) (s : Scenario) (world : World C M) (notes : List Note)
-    (p : List ℕ) (old : Stands reading stands s world notes)
-    → ((z : Happening) → IsIn z world.settled → IsBefore (place_of z) p → ⊥) → NothingBefore stands s world p
-    → NoActBefore s (happenings s.network notes) old.cursor p
-no_acts reading stands s world notes p old after none t device task a not b =
-    let hs = happenings s.network notes in
-    let over : (q : List ℕ) → IsBefore q (world.now ∷ []) → IsBefore q old.cursor = λ q x. old.ahead q (old.of_now q x) in
-    let le : world.now ≤ t = elim (cases_lt t world.now) [ inl lt ↦ absurd (not (over (task_place s.network t device task) (inl lt))) | inr ge ↦ ge ] in
-    elim (cases_lt device.0 (length s.network.device)) [
-      | inl lt ↦
-          let m = old.devices device lt in
-          held_no_act stands s hs world.settled old.mark old.cursor p world.now t device m.0 task m.2 (lawful reading stands s world notes old device)
-          (behind_of world.settled old.cursor world.now p old.are.of_now old.are.worked after) (are_past reading stands s world notes old)
-          (λ two. elim (cases_Bool world.pending) [ inr told ↦ old.untold.done told | inl open_ ↦ absurd (none.befell open_ two) ]) old.befallen old.not_later le
-          (λ node is u from other pending due before. none.acting device m.0 node other m.1 is pending u from due before) a not b
-      | inr ge ↦ none_acts s hs device t task ge
-          (record { unmoved = λ d far h i. old.known.unmoved d far h (in_left h hs world.settled i); never_on = old.known.never_on }) a
-    ]
+module _ {C M : Type 0} (reading : C → ℕ → ℕ) (stands : M → Network → DeviceId → Node → Type 0) where
+  no_acts : {s : Scenario} {world : World C M} {notes : List Note} {p : List ℕ}
+      (old : Stands reading stands s world notes) → ((z : Happening) → IsIn z world.settled → IsBefore (place_of z) p
+      → ⊥) → NothingBefore stands s world p → NoActBefore s (happenings s.network notes) old.cursor p
+  no_acts {s} {world} {notes} {p} old after none t device task a not b =
+      let hs = happenings s.network notes in
+      let over : (q : List ℕ) → IsBefore q (world.now ∷ []) → IsBefore q old.cursor =
+      λ q x. old.ahead q (old.of_now q x) in
+      let le : world.now ≤ t = elim (cases_lt t
+      world.now) [ inl lt ↦ absurd (not (over (task_place s.network t device task) (inl lt))) | inr ge ↦ ge ] in
+      elim (cases_lt device.0 (length s.network.device)) [
+        | inl lt ↦
+            let m = old.devices device lt in
+            held_no_act m.2 (lawful reading stands s world notes old device)
+            (behind_of world.settled old.cursor world.now p old.are.of_now old.are.worked after) (are_past old)
+            (λ two. elim (cases_Bool world.pending) [ inr told ↦ old.untold.done told | inl open_ ↦ absurd (none.befell open_ two) ]) old.befallen old.not_later le
+            (λ node is u from other pending due before. none.acting device m.0 node other m.1 is pending u from due
+            before) a not b
+        | inr ge ↦ none_acts s hs device t ge
+            (record { unmoved = λ d far h i. old.known.unmoved d far h (in_left h hs world.settled i); never_on = old.known.never_on }) a
+      ]
 
-pub nothing_comes_before : {C M : Type 0} (reading : C → ℕ → ℕ) (stands : M → Network → DeviceId → Node → Type 0) → NothingComesBefore reading stands
-nothing_comes_before {C} {M} reading stands s world notes p old after none w source not b =
-    none_but_acts reading stands s world notes p old none (no_acts reading stands s world notes p old after none) w source not b
+  pub nothing_comes_before : NothingComesBefore reading stands
+  nothing_comes_before s world notes p old after none w source not b =
+      none_but_acts old none (no_acts old after none) source not b

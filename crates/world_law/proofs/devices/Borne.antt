@@ -102,34 +102,40 @@ pub record TellAlike (s : Scenario) (hs gs : List Happening) (device : DeviceId)
   pub cycle : recorded_cycle (earlier t hs) device ≡ recorded_cycle (earlier t gs) device
   pub change : changed_at hs device t ≡ changed_at gs device t
 
--- it is where the same records move the device before the time
-pub tell_owned : (s : Scenario) (hs gs : List Happening) (device : DeviceId) (t : ℕ) → own device (earlier t hs) ≡ own device (earlier t gs)
-    → TellAlike s hs gs device t
-tell_owned s hs gs device t owned =
-    let states = fold_own device (λ state h. state_with device state h.note.body) (λ z h e. keeps_state device z h.note.body e) _ in
-    let adjustments = fold_own device (λ adjustment h. adjustment_with s device (cycle_in h) adjustment h.note.body)
-    (λ z h e. keeps_adjustment s device (cycle_in h) z h.note.body e) _ in
-    let integrations = fold_own device (λ last h. if is_joined_by device h.note.body then Some (cycle_in h) else last) (λ z h e. keeps_integration device z h e)
-    None in
-    let cycles = fold_own device (λ next h. cycle_after device next h h.note.body) (λ z h e. keeps_cycle device z h h.note.body e) 1 in
-    let changes = filter_own device (λ h. changes_adjustment device h.note.body) (λ h e. changes_no_other device h.note.body e) in
-    record {
-      state = states (earlier t hs) ∙ ap (fold _ _) owned ∙ sym (states (earlier t gs));
-      adjustment = adjustments (earlier t hs) ∙ ap (fold _ _) owned ∙ sym (adjustments (earlier t gs));
-      integration = integrations (earlier t hs) ∙ ap (fold _ _) owned ∙ sym (integrations (earlier t gs));
-      cycle = cycles (earlier t hs) ∙ ap (fold _ _) owned ∙ sym (cycles (earlier t gs));
-      change =
-          ap (λ (l : List Happening). option_map_or time_of (last_or None l) 0) (changes (earlier t hs) ∙ ap (filter _) owned ∙ sym (changes (earlier t gs)));
-    }
+module _ (s : Scenario) (hs gs : List Happening) (device : DeviceId) (t : ℕ) where
+  -- it is where the same records move the device before the time
+  pub tell_owned : own device (earlier t hs) ≡ own device (earlier t gs) → TellAlike s hs gs device t
+  tell_owned owned =
+      let states = fold_own device (λ state h. state_with device state h.note.body)
+      (λ z h e. keeps_state device z h.note.body e) _ in
+      let adjustments = fold_own device (λ adjustment h. adjustment_with s device (cycle_in h) adjustment h.note.body)
+      (λ z h e. keeps_adjustment s device (cycle_in h) z h.note.body e) _ in
+      let integrations = fold_own device (λ last h. if is_joined_by device h.note.body then Some
+      (cycle_in h) else last) (λ z h e. keeps_integration device z h e)
+      None in
+      let cycles = fold_own device (λ next h. cycle_after device next h h.note.body)
+      (λ z h e. keeps_cycle device z h h.note.body e) 1 in
+      let changes = filter_own device (λ h. changes_adjustment device h.note.body)
+      (λ h e. changes_no_other device h.note.body e) in
+      record {
+        state = states (earlier t hs) ∙ ap (fold _ _) owned ∙ sym (states (earlier t gs));
+        adjustment = adjustments (earlier t hs) ∙ ap (fold _ _) owned ∙ sym (adjustments (earlier t gs));
+        integration = integrations (earlier t hs) ∙ ap (fold _ _) owned ∙ sym (integrations (earlier t gs));
+        cycle = cycles (earlier t hs) ∙ ap (fold _ _) owned ∙ sym (cycles (earlier t gs));
+        change =
+            ap (λ (l : List Happening). option_map_or time_of (last_or None l) 0)
+            (changes (earlier t hs) ∙ ap (filter _) owned ∙ sym (changes (earlier t gs)));
+      }
 
-pub tell_alike : (s : Scenario) (hs gs : List Happening) (device : DeviceId) (t : ℕ) → borne device hs ≡ borne device gs → TellAlike s hs gs device t
-tell_alike s hs gs device t same =
-    tell_owned s hs gs device t
-    (own_before device t hs ∙ ap (λ (l : List Happening). own device (earlier t l)) same ∙ sym (own_before device t gs))
+  pub tell_alike : borne device hs ≡ borne device gs → TellAlike s hs gs device t
+  tell_alike same =
+      tell_owned
+      (own_before device t hs ∙ ap (λ l. own device (earlier t l)) same ∙ sym
+      (own_before device t gs))
 
-pub cleared_alike : (s : Scenario) (hs gs : List Happening) (device : DeviceId) (t by : ℕ) → TellAlike s hs gs device t
-    → has_cleared s hs device t by ≡ has_cleared s gs device t by
-cleared_alike s hs gs device t by a = grind (arith, recorded_cycle, earlier, changed_at, adjustment_before, integration_cycle)
+  pub cleared_alike : (by : ℕ) → TellAlike s hs gs device t
+      → has_cleared s hs device t by ≡ has_cleared s gs device t by
+  cleared_alike by a = grind (arith, recorded_cycle, earlier, changed_at, adjustment_before, integration_cycle)
 
 -- what was heard, by the flags of what is kept
 abbrev heard_of : Scenario → DeviceId → ℕ → (ℕ → Bool) → List Happening → List Hearing
@@ -165,7 +171,7 @@ pub heard_alike : (s : Scenario) (hs gs : List Happening) (device : DeviceId) (t
 heard_alike s hs gs device t same =
     let a = tell_alike s hs gs device t same in
     heard_borne s device t (has_cleared s hs device t) hs
-    ∙ ap (λ (l : List Happening). heard_of s device t (has_cleared s hs device t) (since_at device t l)) same
+    ∙ ap (λ l. heard_of s device t (has_cleared s hs device t) (since_at device t l)) same
     ∙ sym (heard_borne s device t (has_cleared s hs device t) gs)
     ∙ ap (filter_map (λ h. hearing_by s.network device h h.note.body))
     (same_kept (λ h. not (has_cleared s hs device t t) || has_cleared s hs device t (time_of h)) (λ h. not (has_cleared s gs device t t)
@@ -185,9 +191,9 @@ points_alike hs gs device same =
     ∙ sym (to gs)
 
 -- the device stands by the records that bear on it
-pub left_alike : (s : Scenario) (hs gs : List Happening) (device : DeviceId) (t : ℕ) (node : Node) → borne device hs ≡ borne device gs
-    → IsLeft s hs device t node → IsLeft s gs device t node
-left_alike s hs gs device t node same left =
+pub left_alike : {s : Scenario} {hs : List Happening} (gs : List Happening) {device : DeviceId} {t : ℕ} {node : Node}
+    → borne device hs ≡ borne device gs → IsLeft s hs device t node → IsLeft s gs device t node
+left_alike {s} {hs} gs {device} {t} same left =
     let a = tell_alike s hs gs device t same in
     record {
       counted = record {
@@ -198,7 +204,7 @@ left_alike s hs gs device t node same left =
             left.counted.number timed
             ∙ ap (λ (b : Bool). if b then recorded_cycle (earlier t hs) device + 1 else recorded_cycle (earlier t hs) device)
             (cleared_alike s hs gs device t t a)
-            ∙ ap (λ (n : ℕ). if has_cleared s gs device t t then n + 1 else n) a.cycle;
+            ∙ ap (λ n. if has_cleared s gs device t t then n + 1 else n) a.cycle;
         changed =
             left.counted.changed
             ∙ ap (λ (n : ℕ). pos (s.reading device n) +ℤ (adjustment_before s hs device t).0) a.change
@@ -214,10 +220,11 @@ left_alike s hs gs device t node same left =
     }
 
 -- so it does not matter to it where, before what it has yet to tell, another's record comes
-pub other_comes : (s : Scenario) (hs ahead : List Happening) (device : DeviceId) (t : ℕ) (node : Node) (h : Happening) → bears_on device h.note.body ≡ false
-    → IsLeft s (hs ++ ahead) device t node → IsLeft s ((hs ++ h ∷ []) ++ ahead) device t node
-other_comes s hs ahead device t node h misses left =
+pub other_comes : {s : Scenario} (hs ahead : List Happening) {device : DeviceId} {t : ℕ} {node : Node}
+    (h : Happening) → bears_on device h.note.body ≡ false → IsLeft s (hs ++ ahead) device t node
+    → IsLeft s ((hs ++ h ∷ []) ++ ahead) device t node
+other_comes hs ahead {device} h misses left =
     let q = λ (g : Happening). bears_on device g.note.body in
-    left_alike s (hs ++ ahead) ((hs ++ h ∷ []) ++ ahead) device t node
+    left_alike ((hs ++ h ∷ []) ++ ahead)
     (filter-append q hs ahead ∙ ap (λ (l : List Happening). l ++ filter q ahead) (sym (filter_no q hs h misses)) ∙ sym (filter-append q (hs ++ h ∷ []) ahead))
     left

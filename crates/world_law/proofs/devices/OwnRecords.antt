@@ -28,25 +28,30 @@ keeps_adjustment s device cycle old (notes.Compressed other opened at of_cycle m
     ap (λ (b : Bool). if b then joined_adjustment s device of_cycle at else old) e
 keeps_adjustment s device cycle old other e = refl
 
-pub keeps_cycle : (device : DeviceId) (next : ℕ) (h : Happening) (body : NoteBody) → moves device body ≡ false → cycle_after device next h body ≡ next
-keeps_cycle device next h (notes.Corrected other cycle by adjustment) e = ap (λ (b : Bool). if b then cycle + 1 else next) e
-keeps_cycle device next h other e = ap (λ (b : Bool). if b then cycle_in h else next) (joins_no_other device other e)
+module _ (device : DeviceId) where
+  pub keeps_cycle : (next : ℕ) (h : Happening) (body : NoteBody) → moves device body ≡ false
+      → cycle_after device next h body ≡ next
+  keeps_cycle next h (notes.Corrected other cycle by adjustment) e = ap (λ (b : Bool). if b then cycle + 1 else next) e
+  keeps_cycle next h other e = ap (λ (b : Bool). if b then cycle_in h else next) (joins_no_other device other e)
 
-pub keeps_integration : (device : DeviceId) (last : Option ℕ) (h : Happening) → moves device h.note.body ≡ false
-    → (if is_joined_by device h.note.body then Some (cycle_in h) else last) ≡ last
-keeps_integration device last h e = ap (λ (b : Bool). if b then Some (cycle_in h) else last) (joins_no_other device h.note.body e)
+  pub keeps_integration : (last : Option ℕ) (h : Happening) → moves device h.note.body ≡ false
+      → (if is_joined_by device h.note.body then Some (cycle_in h) else last) ≡ last
+  keeps_integration last h e =
+      ap (λ (b : Bool). if b then Some (cycle_in h) else last) (joins_no_other device h.note.body e)
 
-pub changes_no_other : (device : DeviceId) (body : NoteBody) → moves device body ≡ false → changes_adjustment device body ≡ false
-changes_no_other device (notes.Corrected other cycle by adjustment) e = e
-changes_no_other device other e = joins_no_other device other e
+  pub changes_no_other : (body : NoteBody) → moves device body ≡ false → changes_adjustment device body ≡ false
+  changes_no_other (notes.Corrected other cycle by adjustment) e = e
+  changes_no_other other e = joins_no_other device other e
 
--- ---- lists: what a fold or a filter makes of records, it makes of the device's own
+  -- ---- lists: what a fold or a filter makes of records, it makes of the device's own
 
-pub own_no : (device : DeviceId) (h : Happening) (hs : List Happening) → moves device h.note.body ≡ false → own device (h ∷ hs) ≡ own device hs
-own_no device h hs e = ap (λ (b : Bool). if b then h ∷ own device hs else own device hs) e
+  pub own_no : (h : Happening) (hs : List Happening) → moves device h.note.body ≡ false
+      → own device (h ∷ hs) ≡ own device hs
+  own_no h hs e = ap (λ (b : Bool). if b then h ∷ own device hs else own device hs) e
 
-pub own_yes : (device : DeviceId) (h : Happening) (hs : List Happening) → moves device h.note.body ≡ true → own device (h ∷ hs) ≡ h ∷ own device hs
-own_yes device h hs e = ap (λ (b : Bool). if b then h ∷ own device hs else own device hs) e
+  pub own_yes : (h : Happening) (hs : List Happening) → moves device h.note.body ≡ true
+      → own device (h ∷ hs) ≡ h ∷ own device hs
+  own_yes h hs e = ap (λ (b : Bool). if b then h ∷ own device hs else own device hs) e
 
 pub fold_own : {B : Type 0} (device : DeviceId) (f : B → Happening → B) → ((z : B) (h : Happening) → moves device h.note.body ≡ false → f z h ≡ z)
     → (z : B) (hs : List Happening) → fold f z hs ≡ fold f z (own device hs)
@@ -84,34 +89,37 @@ own_still device t later le (h ∷ hs) still =
 
 -- ---- so all that the records before a time say of a device stays while none bears on it
 
-pub state_still : (s : Scenario) (hs : List Happening) (device : DeviceId) (t later : ℕ) → t ≤ later → IsStill hs device t later
-    → state_after s (earlier later hs) device ≡ state_after s (earlier t hs) device
-state_still s hs device t later le still =
-    let same = fold_own device (λ state h. state_with device state h.note.body) (λ z h e. keeps_state device z h.note.body e) _ in
-    same (earlier later hs) ∙ ap (fold _ _) (own_still device t later le hs still) ∙ sym (same (earlier t hs))
+module _ (s : Scenario) (hs : List Happening) (device : DeviceId) (t later : ℕ) (le : t ≤ later)
+    (still : IsStill hs device t later) where
+  pub state_still : state_after s (earlier later hs) device ≡ state_after s (earlier t hs) device
+  state_still =
+      let same = fold_own device (λ state h. state_with device state h.note.body)
+      (λ z h e. keeps_state device z h.note.body e) _ in
+      same (earlier later hs) ∙ ap (fold _ _) (own_still device t later le hs still) ∙ sym (same (earlier t hs))
 
-pub adjustment_still : (s : Scenario) (hs : List Happening) (device : DeviceId) (t later : ℕ) → t ≤ later → IsStill hs device t later
-    → adjustment_before s hs device later ≡ adjustment_before s hs device t
-adjustment_still s hs device t later le still =
-    let same = fold_own device (λ adjustment h. adjustment_with s device (cycle_in h) adjustment h.note.body)
-    (λ z h e. keeps_adjustment s device (cycle_in h) z h.note.body e) _ in
-    same (earlier later hs) ∙ ap (fold _ _) (own_still device t later le hs still) ∙ sym (same (earlier t hs))
+  pub adjustment_still : adjustment_before s hs device later ≡ adjustment_before s hs device t
+  adjustment_still =
+      let same = fold_own device (λ adjustment h. adjustment_with s device (cycle_in h) adjustment h.note.body)
+      (λ z h e. keeps_adjustment s device (cycle_in h) z h.note.body e) _ in
+      same (earlier later hs) ∙ ap (fold _ _) (own_still device t later le hs still) ∙ sym (same (earlier t hs))
 
-pub integration_still : (hs : List Happening) (device : DeviceId) (t later : ℕ) → t ≤ later → IsStill hs device t later
-    → integration_cycle (earlier later hs) device ≡ integration_cycle (earlier t hs) device
-integration_still hs device t later le still =
-    let same = fold_own device (λ last h. if is_joined_by device h.note.body then Some (cycle_in h) else last) (λ z h e. keeps_integration device z h e) None in
-    same (earlier later hs) ∙ ap (fold _ _) (own_still device t later le hs still) ∙ sym (same (earlier t hs))
+module _ (hs : List Happening) (device : DeviceId) (t later : ℕ) (le : t ≤ later)
+    (still : IsStill hs device t later) where
+  pub integration_still : integration_cycle (earlier later hs) device ≡ integration_cycle (earlier t hs) device
+  integration_still =
+      let same = fold_own device (λ last h. if is_joined_by device h.note.body then Some (cycle_in h) else last)
+      (λ z h e. keeps_integration device z h e) None in
+      same (earlier later hs) ∙ ap (fold _ _) (own_still device t later le hs still) ∙ sym (same (earlier t hs))
 
-pub cycle_still : (hs : List Happening) (device : DeviceId) (t later : ℕ) → t ≤ later → IsStill hs device t later
-    → recorded_cycle (earlier later hs) device ≡ recorded_cycle (earlier t hs) device
-cycle_still hs device t later le still =
-    let same = fold_own device (λ next h. cycle_after device next h h.note.body) (λ z h e. keeps_cycle device z h h.note.body e) 1 in
-    same (earlier later hs) ∙ ap (fold _ _) (own_still device t later le hs still) ∙ sym (same (earlier t hs))
+  pub cycle_still : recorded_cycle (earlier later hs) device ≡ recorded_cycle (earlier t hs) device
+  cycle_still =
+      let same = fold_own device (λ next h. cycle_after device next h h.note.body)
+      (λ z h e. keeps_cycle device z h h.note.body e) 1 in
+      same (earlier later hs) ∙ ap (fold _ _) (own_still device t later le hs still) ∙ sym (same (earlier t hs))
 
-pub change_still : (hs : List Happening) (device : DeviceId) (t later : ℕ) → t ≤ later → IsStill hs device t later
-    → changed_at hs device later ≡ changed_at hs device t
-change_still hs device t later le still =
-    let same = filter_own device (λ h. changes_adjustment device h.note.body) (λ h e. changes_no_other device h.note.body e) in
-    ap (λ (l : List Happening). option_map_or time_of (last_or None l) 0)
-    (same (earlier later hs) ∙ ap (filter _) (own_still device t later le hs still) ∙ sym (same (earlier t hs)))
+  pub change_still : changed_at hs device later ≡ changed_at hs device t
+  change_still =
+      let same = filter_own device (λ h. changes_adjustment device h.note.body)
+      (λ h e. changes_no_other device h.note.body e) in
+      ap (λ (l : List Happening). option_map_or time_of (last_or None l) 0)
+      (same (earlier later hs) ∙ ap (filter _) (own_still device t later le hs still) ∙ sym (same (earlier t hs)))

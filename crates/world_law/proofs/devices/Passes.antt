@@ -23,13 +23,13 @@ joining_still hs device t later le still =
 pub cleared_still : (s : Scenario) (hs : List Happening) (device : DeviceId) (t later by : ℕ) → t ≤ later → IsStill hs device t later
     → has_cleared s hs device later by ≡ has_cleared s hs device t by
 cleared_still s hs device t later by le still =
-    ap (λ (b : Bool). cleared_as s device b (recorded_cycle (earlier later hs) device) (changed_at hs device later) (adjustment_before s hs device later) by)
+    ap (λ b. cleared_as s device b (recorded_cycle (earlier later hs) device) (changed_at hs device later) (adjustment_before s hs device later) by)
     (joining_still hs device t later le still)
-    ∙ ap (λ (n : ℕ). cleared_as s device (is_integration_cycle (earlier t hs) device) n (changed_at hs device later) (adjustment_before s hs device later) by)
+    ∙ ap (λ n. cleared_as s device (is_integration_cycle (earlier t hs) device) n (changed_at hs device later) (adjustment_before s hs device later) by)
     (cycle_still hs device t later le still)
-    ∙ ap (λ (n : ℕ). cleared_as s device (is_integration_cycle (earlier t hs) device) (recorded_cycle (earlier t hs) device) n
+    ∙ ap (λ n. cleared_as s device (is_integration_cycle (earlier t hs) device) (recorded_cycle (earlier t hs) device) n
     (adjustment_before s hs device later) by) (change_still hs device t later le still)
-    ∙ ap (λ (u : Units). cleared_as s device (is_integration_cycle (earlier t hs) device) (recorded_cycle (earlier t hs) device) (changed_at hs device t) u by)
+    ∙ ap (λ u. cleared_as s device (is_integration_cycle (earlier t hs) device) (recorded_cycle (earlier t hs) device) (changed_at hs device t) u by)
     (adjustment_still s hs device t later le still)
 
 -- the records behind the last change before a time are those behind the last change before a later one
@@ -56,29 +56,37 @@ since_still hs device t later le still =
 abbrev heard_of : Scenario → DeviceId → List Happening → List Hearing
 heard_of s device kept = filter_map (λ h. hearing_by s.network device h h.note.body) kept
 
-pub heard_still : (s : Scenario) (hs : List Happening) (device : DeviceId) (t later : ℕ) → t ≤ later → IsStill hs device t later
-    → has_cleared s hs device later later ≡ has_cleared s hs device t t → heard_since s hs device later ≡ heard_since s hs device t
-heard_still s hs device t later le still flag =
-    let since = after_last (λ h. nat_lt (time_of h) t && changes_adjustment device h.note.body) hs in
-    ap (λ (l : List Happening). heard_of s device (filter (λ h. not (has_cleared s hs device later later) || has_cleared s hs device later (time_of h)) l))
-    (since_still hs device t later le still)
-    ∙ ap (λ (b : Bool). heard_of s device (filter (λ h. not b || has_cleared s hs device later (time_of h)) since)) flag
-    ∙ ap (heard_of s device)
-    (same_kept (λ h. not (has_cleared s hs device t t) || has_cleared s hs device later (time_of h)) (λ h. not (has_cleared s hs device t t)
-    || has_cleared s hs device t (time_of h)) since
-    (λ h i. ap (λ (b : Bool). not (has_cleared s hs device t t) || b) (cleared_still s hs device t later (time_of h) le still)))
+module _ (s : Scenario) (hs : List Happening) (device : DeviceId) (t later : ℕ) (le : t ≤ later)
+    (still : IsStill hs device t later) where
+  pub heard_still : has_cleared s hs device later later ≡ has_cleared s hs device t t
+      → heard_since s hs device later ≡ heard_since s hs device t
+  heard_still flag =
+      let since = after_last (λ h. nat_lt (time_of h) t && changes_adjustment device h.note.body) hs in
+      ap (λ (l : List Happening). heard_of s device
+      (filter (λ h. not (has_cleared s hs device later later) || has_cleared s hs device later (time_of h)) l))
+      (since_still hs device t later le still)
+      ∙ ap (λ (b : Bool). heard_of s device (filter (λ h. not b || has_cleared s hs device later (time_of h)) since))
+      flag
+      ∙ ap (heard_of s device)
+      (same_kept (λ h. not (has_cleared s hs device t t) || has_cleared s hs device later (time_of h))
+      (λ h. not (has_cleared s hs device t t)
+      || has_cleared s hs device t (time_of h)) since
+      (λ h i. ap (λ (b : Bool). not (has_cleared s hs device t t) || b)
+      (cleared_still s hs device t later (time_of h) le still)))
 
-pub next_still : (s : Scenario) (hs : List Happening) (device : DeviceId) (t later : ℕ) → t ≤ later → IsStill hs device t later
-    → has_cleared s hs device later later ≡ has_cleared s hs device t t → next_cycle s hs device later ≡ next_cycle s hs device t
-next_still s hs device t later le still flag =
-    ap (λ (b : Bool). if b then recorded_cycle (earlier later hs) device + 1 else recorded_cycle (earlier later hs) device) flag
-    ∙ ap (λ (n : ℕ). if has_cleared s hs device t t then n + 1 else n) (cycle_still hs device t later le still)
+  pub next_still : has_cleared s hs device later later ≡ has_cleared s hs device t t
+      → next_cycle s hs device later ≡ next_cycle s hs device t
+  next_still flag =
+      ap (λ (b : Bool). if b then recorded_cycle (earlier later hs) device + 1 else recorded_cycle (earlier later hs)
+      device) flag
+      ∙ ap (λ n. if has_cleared s hs device t t then n + 1 else n) (cycle_still hs device t later le still)
 
-pub local_still : (s : Scenario) (hs : List Happening) (device : DeviceId) (t later : ℕ) → t ≤ later → IsStill hs device t later
-    → local_at_change s hs device later ≡ local_at_change s hs device t
-local_still s hs device t later le still =
-    ap (λ (n : ℕ). pos (s.reading device n) +ℤ (adjustment_before s hs device later).0) (change_still hs device t later le still)
-    ∙ ap (λ (u : Units). pos (s.reading device (changed_at hs device t)) +ℤ u.0) (adjustment_still s hs device t later le still)
+  pub local_still : local_at_change s hs device later ≡ local_at_change s hs device t
+  local_still =
+      ap (λ (n : ℕ). pos (s.reading device n) +ℤ (adjustment_before s hs device later).0)
+      (change_still hs device t later le still)
+      ∙ ap (λ (u : Units). pos (s.reading device (changed_at hs device t)) +ℤ u.0)
+      (adjustment_still s hs device t later le still)
 
 -- what no event turns on at the time stands as the records before it say
 pub not_turned_on : (s : Scenario) (hs : List Happening) (device : DeviceId) (t : ℕ) → is_turned_on_at s device t ≡ false
@@ -93,11 +101,12 @@ started_still hs device t later le still h =
     (subst (λ (n : ℕ). IfSome (integration_cycle (earlier t hs) device) (λ cycle. cycle ≤ n)) (sym (cycle_still hs device t later le still)) h)
 
 -- the same, where what it has cleared counts only if it has a next correction point
-pub passes_if : (s : Scenario) (hs : List Happening) (device : DeviceId) (t later : ℕ) (node : Node) → t ≤ later → IsStill hs device t later
-    → is_turned_on_at s device t ≡ false → is_turned_on_at s device later ≡ false → is_broken s device later ≡ is_broken s device t
-    → (is_timed node.standing.state ≡ true → has_cleared s hs device later later ≡ has_cleared s hs device t t) → IsLeft s hs device t node
-    → IsLeft s hs device later node
-passes_if s hs device t later node le still off off_later sound cleared left = record {
+pub passes_if : {s : Scenario} {hs : List Happening} {device : DeviceId} {t : ℕ} (later : ℕ) {node : Node}
+    → t ≤ later → IsStill hs device t later → is_turned_on_at s device t ≡ false
+    → is_turned_on_at s device later ≡ false → is_broken s device later ≡ is_broken s device t
+    → (is_timed node.standing.state ≡ true → has_cleared s hs device later later ≡ has_cleared s hs device t t)
+    → IsLeft s hs device t node → IsLeft s hs device later node
+passes_if {s} {hs} {device} {t} later le still off off_later sound cleared left = record {
   counted = record {
     plan = left.counted.plan;
     adjustment = left.counted.adjustment ∙ sym (adjustment_still s hs device t later le still);

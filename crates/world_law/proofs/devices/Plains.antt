@@ -75,117 +75,143 @@ integrations_plain hs device =
 pub cycles_plain : (hs : List Happening) (device : DeviceId) → recorded_cycle (plains hs) device ≡ recorded_cycle hs device
 cycles_plain hs device = fold_plain (λ next h. cycle_after device next h h.note.body) (λ b h. cycle_plain device b h h.note.body) 1 hs
 
-pub changes_at_plain : (hs : List Happening) (device : DeviceId) (t : ℕ) → changed_at (plains hs) device t ≡ changed_at hs device t
-changes_at_plain hs device t =
-    ap (λ (l : List Happening). option_map_or time_of (last_or None (filter (λ h. changes_adjustment device h.note.body) l)) 0) (earlier_plain t hs)
-    ∙ ap (λ (l : List Happening). option_map_or time_of (last_or None l) 0)
-    (filter_plain (λ h. changes_adjustment device h.note.body) (λ h. changes_adjustment device h.note.body) (λ h. refl)
-    (earlier t hs))
-    ∙ last_plain None None (filter (λ h. changes_adjustment device h.note.body) (earlier t hs)) refl
+module _ (hs : List Happening) (device : DeviceId) where
+  pub changes_at_plain : (t : ℕ) → changed_at (plains hs) device t ≡ changed_at hs device t
+  changes_at_plain t =
+      ap (λ (l : List Happening). option_map_or time_of
+      (last_or None (filter (λ h. changes_adjustment device h.note.body) l)) 0) (earlier_plain t hs)
+      ∙ ap (λ (l : List Happening). option_map_or time_of (last_or None l) 0)
+      (filter_plain (λ h. changes_adjustment device h.note.body) (λ h. changes_adjustment device h.note.body)
+      (λ h. refl)
+      (earlier t hs))
+      ∙ last_plain None None (filter (λ h. changes_adjustment device h.note.body) (earlier t hs)) refl
 
-pub points_plain : (hs : List Happening) (device : DeviceId) → points_of (plains hs) device ≡ points_of hs device
-points_plain hs device =
-    ap (filter_map (λ h. point_by device h h.note.body)) (behind_plain (λ h. ends_stretch device h.note.body) (λ h. ends_stretch device h.note.body)
-    (λ h. refl) hs)
-    ∙ map_plain (λ h. point_by device h h.note.body) (λ h. point_plain device h h.note.body) (after_last (λ h. ends_stretch device h.note.body) hs)
+  pub points_plain : points_of (plains hs) device ≡ points_of hs device
+  points_plain =
+      ap (filter_map (λ h. point_by device h h.note.body))
+      (behind_plain (λ h. ends_stretch device h.note.body) (λ h. ends_stretch device h.note.body)
+      (λ h. refl) hs)
+      ∙ map_plain (λ h. point_by device h h.note.body) (λ h. point_plain device h h.note.body)
+      (after_last (λ h. ends_stretch device h.note.body) hs)
 
-integration_plain : (hs : List Happening) (device : DeviceId) (t : ℕ) → integration_cycle (earlier t (plains hs)) device ≡ integration_cycle (earlier t hs)
-    device
-integration_plain hs device t = ap (λ (l : List Happening). integration_cycle l device) (earlier_plain t hs) ∙ integrations_plain (earlier t hs) device
+  integration_plain : (t : ℕ) → integration_cycle (earlier t (plains hs)) device
+      ≡ integration_cycle (earlier t hs) device
+  integration_plain t = ap (λ l. integration_cycle l device) (earlier_plain t hs)
+      ∙ integrations_plain (earlier t hs) device
 
 recorded_plain : (hs : List Happening) (device : DeviceId) (t : ℕ) → recorded_cycle (earlier t (plains hs)) device ≡ recorded_cycle (earlier t hs) device
-recorded_plain hs device t = ap (λ (l : List Happening). recorded_cycle l device) (earlier_plain t hs) ∙ cycles_plain (earlier t hs) device
+recorded_plain hs device t = ap (λ l. recorded_cycle l device) (earlier_plain t hs) ∙ cycles_plain (earlier t hs) device
 
-pub before_plain : (s : Scenario) (hs : List Happening) (device : DeviceId) (t : ℕ) → adjustment_before s (plains hs) device t ≡ adjustment_before s hs device t
-before_plain s hs device t = ap (λ (l : List Happening). adjustment_after s l device) (earlier_plain t hs) ∙ adjustments_plain s (earlier t hs) device
+module _ (s : Scenario) (hs : List Happening) (device : DeviceId) (t : ℕ) where
+  pub before_plain : adjustment_before s (plains hs) device t ≡ adjustment_before s hs device t
+  before_plain = ap (λ l. adjustment_after s l device) (earlier_plain t hs) ∙ adjustments_plain s
+      (earlier t hs) device
 
-cleared_plain : (s : Scenario) (hs : List Happening) (device : DeviceId) (t by : ℕ) → has_cleared s (plains hs) device t by ≡ has_cleared s hs device t by
-cleared_plain s hs device t by =
-    ap (λ (o : Option ℕ). cleared_as s device (option_map_or (λ cycle. recorded_cycle (earlier t (plains hs)) device == cycle) o false)
-    (recorded_cycle (earlier t (plains hs)) device) (changed_at (plains hs) device t) (adjustment_before s (plains hs) device t) by)
-    (integration_plain hs device t)
-    ∙ ap (λ (n : ℕ). cleared_as s device (option_map_or (λ cycle. n == cycle) (integration_cycle (earlier t hs) device) false) n
-    (changed_at (plains hs) device t) (adjustment_before s (plains hs) device t) by) (recorded_plain hs device t)
-    ∙ ap (λ (n : ℕ). cleared_as s device (is_integration_cycle (earlier t hs) device) (recorded_cycle (earlier t hs) device) n
-    (adjustment_before s (plains hs) device t) by) (changes_at_plain hs device t)
-    ∙ ap (λ (u : Units). cleared_as s device (is_integration_cycle (earlier t hs) device) (recorded_cycle (earlier t hs) device) (changed_at hs device t) u by)
-    (before_plain s hs device t)
+  cleared_plain : (by : ℕ) → has_cleared s (plains hs) device t by ≡ has_cleared s hs device t by
+  cleared_plain by =
+      ap (λ (o : Option ℕ). cleared_as s device (option_map_or
+      (λ cycle. recorded_cycle (earlier t (plains hs)) device == cycle) o false)
+      (recorded_cycle (earlier t (plains hs)) device) (changed_at (plains hs) device t)
+      (adjustment_before s (plains hs) device t) by)
+      (integration_plain hs device t)
+      ∙ ap (λ (n : ℕ). cleared_as s device (option_map_or (λ cycle. n == cycle)
+      (integration_cycle (earlier t hs) device) false) n
+      (changed_at (plains hs) device t) (adjustment_before s (plains hs) device t) by) (recorded_plain hs device t)
+      ∙ ap (λ n. cleared_as s device (is_integration_cycle (earlier t hs) device)
+      (recorded_cycle (earlier t hs) device) n
+      (adjustment_before s (plains hs) device t) by) (changes_at_plain hs device t)
+      ∙ ap (λ u. cleared_as s device (is_integration_cycle (earlier t hs) device)
+      (recorded_cycle (earlier t hs) device) (changed_at hs device t) u by)
+      (before_plain)
 
-pub heard_plain : (s : Scenario) (hs : List Happening) (device : DeviceId) (t : ℕ) → heard_since s (plains hs) device t ≡ heard_since s hs device t
-heard_plain s hs device t =
-    let p = λ (h : Happening). nat_lt (time_of h) t && changes_adjustment device h.note.body in
-    let k = λ (h : Happening). not (has_cleared s (plains hs) device t t) || has_cleared s (plains hs) device t (time_of h) in
-    let m = λ (h : Happening). not (has_cleared s hs device t t) || has_cleared s hs device t (time_of h) in
-    let since = after_last p hs in
-    ap (λ (l : List Happening). filter_map (λ h. hearing_by s.network device h h.note.body) (filter k l))
-    (behind_plain p p (λ h. refl) hs)
-    ∙ ap (filter_map (λ h. hearing_by s.network device h h.note.body))
-    (filter_plain k m (λ h. ap (λ (b : Bool). not b || has_cleared s (plains hs) device t (time_of h)) (cleared_plain s hs device t t)
-    ∙ ap (λ (b : Bool). not (has_cleared s hs device t t) || b) (cleared_plain s hs device t (time_of h))) since)
-    ∙ map_plain (λ h. hearing_by s.network device h h.note.body) (λ h. hearing_plain s.network device h h.note.body) (filter m since)
+  pub heard_plain : heard_since s (plains hs) device t ≡ heard_since s hs device t
+  heard_plain =
+      let p = λ (h : Happening). nat_lt (time_of h) t && changes_adjustment device h.note.body in
+      let k = λ (h : Happening). not (has_cleared s (plains hs) device t t) || has_cleared s (plains hs) device t
+      (time_of h) in
+      let m = λ (h : Happening). not (has_cleared s hs device t t) || has_cleared s hs device t (time_of h) in
+      let since = after_last p hs in
+      ap (λ (l : List Happening). filter_map (λ h. hearing_by s.network device h h.note.body) (filter k l))
+      (behind_plain p p (λ h. refl) hs)
+      ∙ ap (filter_map (λ h. hearing_by s.network device h h.note.body))
+      (filter_plain k m (λ h. ap (λ (b : Bool). not b || has_cleared s (plains hs) device t (time_of h))
+      (cleared_plain t)
+      ∙ ap (λ (b : Bool). not (has_cleared s hs device t t) || b) (cleared_plain (time_of h))) since)
+      ∙ map_plain (λ h. hearing_by s.network device h h.note.body)
+      (λ h. hearing_plain s.network device h h.note.body) (filter m since)
 
--- the device stands by the records without their numbers
-pub left_plain : (s : Scenario) (hs : List Happening) (device : DeviceId) (t : ℕ) (node : Node) → IsLeft s hs device t node → IsLeft s (plains hs) device t node
-left_plain s hs device t node left = record {
-  counted = record {
-    plan = left.counted.plan;
-    adjustment = left.counted.adjustment ∙ sym (before_plain s hs device t);
-    integrated = left.counted.integrated ∙ sym (integration_plain hs device t);
-    number = λ timed.
-        left.counted.number timed
-        ∙ sym (ap (λ (b : Bool). if b then recorded_cycle (earlier t (plains hs)) device + 1 else recorded_cycle (earlier t (plains hs)) device)
-        (cleared_plain s hs device t t)
-        ∙ ap (λ (n : ℕ). if has_cleared s hs device t t then n + 1 else n) (recorded_plain hs device t));
-    changed =
-        left.counted.changed
-        ∙ sym (ap (λ (n : ℕ). pos (s.reading device n) +ℤ (adjustment_before s (plains hs) device t).0) (changes_at_plain hs device t)
-        ∙ ap (λ (u : Units). pos (s.reading device (changed_at hs device t)) +ℤ u.0) (before_plain s hs device t));
-    heard = λ timed. left.counted.heard timed ∙ sym (heard_plain s hs device t);
-    started =
-        subst (λ (o : Option ℕ). IfSome o (λ cycle. cycle ≤ recorded_cycle (earlier t (plains hs)) device)) (sym (integration_plain hs device t))
-        (subst (λ (n : ℕ). IfSome (integration_cycle (earlier t hs) device) (λ cycle. cycle ≤ n)) (sym (recorded_plain hs device t)) left.counted.started);
-    broken = left.counted.broken;
-  };
-  state =
-      left.state ∙ ap (λ (x : State). if is_turned_on_at s device t then Integrating else x)
-      (sym (ap (λ (l : List Happening). state_after s l device) (earlier_plain t hs) ∙ states_plain s (earlier t hs) device));
-  points = λ cm. left.points cm ∙ sym (points_plain hs device);
-}
+  -- the device stands by the records without their numbers
+  pub left_plain : {node : Node} → IsLeft s hs device t node → IsLeft s (plains hs) device t node
+  left_plain left = record {
+    counted = record {
+      plan = left.counted.plan;
+      adjustment = left.counted.adjustment ∙ sym (before_plain);
+      integrated = left.counted.integrated ∙ sym (integration_plain hs device t);
+      number = λ timed.
+          left.counted.number timed
+          ∙ sym (ap (λ (b : Bool). if b then recorded_cycle (earlier t (plains hs)) device + 1 else recorded_cycle
+          (earlier t (plains hs)) device)
+          (cleared_plain t)
+          ∙ ap (λ n. if has_cleared s hs device t t then n + 1 else n) (recorded_plain hs device t));
+      changed =
+          left.counted.changed
+          ∙ sym (ap (λ (n : ℕ). pos (s.reading device n) +ℤ (adjustment_before s (plains hs) device t).0)
+          (changes_at_plain hs device t)
+          ∙ ap (λ (u : Units). pos (s.reading device (changed_at hs device t)) +ℤ u.0) (before_plain));
+      heard = λ timed. left.counted.heard timed ∙ sym (heard_plain);
+      started =
+          subst (λ (o : Option ℕ). IfSome o (λ cycle. cycle ≤ recorded_cycle (earlier t (plains hs)) device))
+          (sym (integration_plain hs device t))
+          (subst (λ (n : ℕ). IfSome (integration_cycle (earlier t hs) device) (λ cycle. cycle ≤ n))
+          (sym (recorded_plain hs device t)) left.counted.started);
+      broken = left.counted.broken;
+    };
+    state =
+        left.state ∙ ap (λ (x : State). if is_turned_on_at s device t then Integrating else x)
+        (sym (ap (λ l. state_after s l device) (earlier_plain t hs) ∙ states_plain s
+        (earlier t hs) device));
+    points = λ cm. left.points cm ∙ sym (points_plain hs device);
+  }
 
-pub left_numbered : (s : Scenario) (hs : List Happening) (device : DeviceId) (t : ℕ) (node : Node) → IsLeft s (plains hs) device t node
-    → IsLeft s hs device t node
-left_numbered s hs device t node left = record {
-  counted = record {
-    plan = left.counted.plan;
-    adjustment = left.counted.adjustment ∙ before_plain s hs device t;
-    integrated = left.counted.integrated ∙ integration_plain hs device t;
-    number = λ timed.
-        left.counted.number timed
-        ∙ ap (λ (b : Bool). if b then recorded_cycle (earlier t (plains hs)) device + 1 else recorded_cycle (earlier t (plains hs)) device)
-        (cleared_plain s hs device t t)
-        ∙ ap (λ (n : ℕ). if has_cleared s hs device t t then n + 1 else n) (recorded_plain hs device t);
-    changed =
-        left.counted.changed
-        ∙ ap (λ (n : ℕ). pos (s.reading device n) +ℤ (adjustment_before s (plains hs) device t).0) (changes_at_plain hs device t)
-        ∙ ap (λ (u : Units). pos (s.reading device (changed_at hs device t)) +ℤ u.0) (before_plain s hs device t);
-    heard = λ timed. left.counted.heard timed ∙ heard_plain s hs device t;
-    started =
-        subst (λ (n : ℕ). IfSome (integration_cycle (earlier t hs) device) (λ cycle. cycle ≤ n)) (recorded_plain hs device t)
-        (subst (λ (o : Option ℕ). IfSome o (λ cycle. cycle ≤ recorded_cycle (earlier t (plains hs)) device)) (integration_plain hs device t)
-        left.counted.started);
-    broken = left.counted.broken;
-  };
-  state =
-      left.state ∙ ap (λ (x : State). if is_turned_on_at s device t then Integrating else x)
-      (ap (λ (l : List Happening). state_after s l device) (earlier_plain t hs) ∙ states_plain s (earlier t hs) device);
-  points = λ cm. left.points cm ∙ points_plain hs device;
-}
+  pub left_numbered : {node : Node} → IsLeft s (plains hs) device t node → IsLeft s hs device t node
+  left_numbered left = record {
+    counted = record {
+      plan = left.counted.plan;
+      adjustment = left.counted.adjustment ∙ before_plain;
+      integrated = left.counted.integrated ∙ integration_plain hs device t;
+      number = λ timed.
+          left.counted.number timed
+          ∙ ap (λ (b : Bool). if b then recorded_cycle (earlier t (plains hs)) device + 1 else recorded_cycle
+          (earlier t (plains hs)) device)
+          (cleared_plain t)
+          ∙ ap (λ n. if has_cleared s hs device t t then n + 1 else n) (recorded_plain hs device t);
+      changed =
+          left.counted.changed
+          ∙ ap (λ (n : ℕ). pos (s.reading device n) +ℤ (adjustment_before s (plains hs) device t).0)
+          (changes_at_plain hs device t)
+          ∙ ap (λ (u : Units). pos (s.reading device (changed_at hs device t)) +ℤ u.0) (before_plain);
+      heard = λ timed. left.counted.heard timed ∙ heard_plain;
+      started =
+          subst (λ (n : ℕ). IfSome (integration_cycle (earlier t hs) device) (λ cycle. cycle ≤ n))
+          (recorded_plain hs device t)
+          (subst (λ (o : Option ℕ). IfSome o (λ cycle. cycle ≤ recorded_cycle (earlier t (plains hs)) device))
+          (integration_plain hs device t)
+          left.counted.started);
+      broken = left.counted.broken;
+    };
+    state =
+        left.state ∙ ap (λ (x : State). if is_turned_on_at s device t then Integrating else x)
+        (ap (λ l. state_after s l device) (earlier_plain t hs) ∙ states_plain s (earlier t hs)
+        device);
+    points = λ cm. left.points cm ∙ points_plain hs device;
+  }
 
 -- so what was still to be told may be told by records that differ in their numbers
-pub told_by_others : (s : Scenario) (hs gs : List Happening) (device : DeviceId) (t : ℕ) (node : Node) → plains hs ≡ plains gs → IsLeft s hs device t node
-    → IsLeft s gs device t node
-told_by_others s hs gs device t node same left =
-    left_numbered s gs device t node (subst (λ (l : List Happening). IsLeft s l device t node) same (left_plain s hs device t node left))
+pub told_by_others : {s : Scenario} {hs : List Happening} (gs : List Happening) {device : DeviceId} {t : ℕ}
+    {node : Node} → plains hs ≡ plains gs → IsLeft s hs device t node → IsLeft s gs device t node
+told_by_others {s} {hs} gs {device} {t} {node} same left =
+    left_numbered s gs device t (subst (λ l. IsLeft s l device t node) same
+    (left_plain s hs device t left))
 
 pub plains_parts : (hs gs : List Happening) → plains (hs ++ gs) ≡ plains hs ++ plains gs
 plains_parts [] gs = refl

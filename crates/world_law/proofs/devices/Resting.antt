@@ -42,9 +42,10 @@ in_order hs stands front rest x e h i =
 pub in_time_of : (s : Scenario) (hs : List Happening) → IsFounded place_of (IsDue s) hs → IsInTime hs
 in_time_of s hs founded = in_order hs (λ front rest x e. (founded front rest x e).0)
 
-pub are_past : {C M : Type 0} (reading : C → ℕ → ℕ) (stands : M → Network → DeviceId → Node → Type 0) (s : Scenario) (world : World C M) (notes : List Note)
-    (old : Stands reading stands s world notes) → IsPast (happenings s.network notes) world.now
-are_past reading stands s world notes old = record {
+pub are_past : {C M : Type 0} {reading : C → ℕ → ℕ} {stands : M → Network → DeviceId → Node → Type 0} {s : Scenario}
+    {world : World C M} {notes : List Note} (old : Stands reading stands s world notes)
+    → IsPast (happenings s.network notes) world.now
+are_past {s} {notes} old = record {
   past = λ h i. elim (old.not_later (place_of h) (old.ahead (place_of h) (old.run.within h i))) [ inl lt ↦ omega (arith, lt) | inr bad ↦ absurd bad.1 ];
   in_time = in_time_of s (happenings s.network notes) old.run.founded;
 }
@@ -60,15 +61,17 @@ abbrev IsIdleAt : Scenario → DeviceId → Node → ℕ → Type 0
 IsIdleAt s device node now = (task : Task) → IsPending s.network device node task → pos (s.reading device now) <ℤ reading_for s.network node task
 
 -- where nothing of it is due at the instant, it stands at the next as it did
-left_next : (s : Scenario) (hs : List Happening) (mark : List ℕ) (device : DeviceId) (now : ℕ) (node : Node) → IsQuietInstant s hs device now
-    → ((h : Happening) → IsIn h hs → time_of h ≡ now → IsAtRest s device now h.note.body) → HaveBefallen s mark now → HasCleared node
-    → (is_turned_on_at s device now ≡ true → IsTurnedOnBy hs device now) → ((x y : ℕ) → x ≤ y → s.reading device x ≤ s.reading device y)
-    → node.broken ≡ false → IsIdleAt s device node now → IsLeft s hs device now node → IsLeft s hs device (now + 1) node
-left_next s hs mark device now node q still befallen r on_by falls sound idle left =
-    let off = not_on_after s mark now (now + 1) device befallen (omega arith) in
+left_next : {s : Scenario} {hs : List Happening} {mark : List ℕ} {device : DeviceId} {now : ℕ} {node : Node}
+    → IsQuietInstant s hs device now → ((h : Happening) → IsIn h hs → time_of h ≡ now
+    → IsAtRest s device now h.note.body) → HaveBefallen s mark now → HasCleared node
+    → (is_turned_on_at s device now ≡ true → IsTurnedOnBy hs device now)
+    → ((x y : ℕ) → x ≤ y → s.reading device x ≤ s.reading device y) → node.broken ≡ false
+    → IsIdleAt s device node now → IsLeft s hs device now node → IsLeft s hs device (now + 1) node
+left_next {s} {hs} {mark} {device} {now} {node} q still befallen r on_by falls sound idle left =
+    let off = not_on_after (now + 1) device befallen (omega arith) in
     let same = no_later_breaks s mark now (now + 1) device befallen (omega arith) in
     elim (cases_Bool (is_turned_on_at s device now)) [
-      | inl on ↦ left_after_on s hs device now node q on off same (on_by on) left
+      | inl on ↦ left_after_on q on off same (on_by on) left
       | inr not_on ↦
           let u : IsUnmoved s hs device now (now + 1) = record {
             le = omega arith;
@@ -78,14 +81,14 @@ left_next s hs mark device now node q still befallen r on_by falls sound idle le
             not_broken = same;
             never_falls = falls;
           } in
-          passes_if s hs device now (now + 1) node u.le u.still not_on off same (λ timed.
+          passes_if (now + 1) u.le u.still not_on off same (λ timed.
           elim (cases_Bool (has_cleared s hs device now now)) [
-            | inl did ↦ cleared_on s hs device now (now + 1) u did ∙ sym did
+            | inl did ↦ cleared_on u did ∙ sym did
             | inr not_yet ↦
                 elim (cases_Bool (has_cleared s hs device (now + 1) (now + 1))) [
                   | inr still_not ↦ still_not ∙ sym not_yet
                   | inl cleared ↦
-                      let task = had_come_by s hs device now (now + 1) node u left (λ cycle own ahead there.
+                      let task = had_come_by u left (λ cycle own ahead there.
                       let less = r cycle there in let number = (point_number node.standing.state node.standing.number cycle own).1 in absurd
                       (omega (arith, less, number))) timed not_yet
                       cleared sound in
@@ -99,85 +102,94 @@ left_next s hs mark device now node q still befallen r on_by falls sound idle le
     never_both : (a b : Rattle.std.proofs.Common.ℤ) → a <ℤ b → b ≤ℤ a → ⊥
     never_both a b lt le = omega (arith, ints, lt, le)
 
--- where the instant is over for it
-rests_over : {M : Type 0} (stands : M → Network → DeviceId → Node → Type 0) (s : Scenario) (hs : List Happening) (mark cursor : List ℕ) (now : ℕ)
-    (device : DeviceId) (machine : M) (k : IsKept stands s hs [] cursor now device machine) → k.up ≡ now + 1 → HaveBefallen s mark now → IsPast hs now
-    → IsNoLater s device cursor now → Rests s hs device now k.node
-rests_over stands s hs mark cursor now device machine k up befallen past no_later =
-    let whole : hs ++ [] ≡ hs = append-nil hs in
-    let le : now + 1 ≤ k.up = omega (arith, up) in
-    let change : changed_at (hs ++ []) device k.up ≡ changed_at hs device (now + 1) = ap (λ (n : ℕ). changed_at (hs ++ []) device n) up
-    ∙ ap (λ (l : List Happening). changed_at l device (now + 1)) whole in
-    let done = done_by s device k.node (changed_at (hs ++ []) device k.up) k.up now cursor k.worked no_later.later (now + 1) le in
-    record {
-      from = now + 1;
-      le = omega arith;
-      soon = omega arith;
-      left = subst (λ (l : List Happening). IsLeft s l device (now + 1) k.node) whole (subst (λ (n : ℕ). IsLeft s (hs ++ []) device n k.node) up k.left);
-      done = rests s hs device (now + 1) (changed_at (hs ++ []) device k.up) k.node done (sym change);
-      sent = record {
-        unsent = λ c w x lt. k.worked.unsent c w x (omega (arith, lt, up));
-        sent = (sent_by s device k.node (changed_at (hs ++ []) device k.up) k.up now cursor k.worked no_later.later (now + 1) le).sent;
-      };
-      off = not_on_after s mark now (now + 1) device befallen (omega arith);
-      still = λ h i from. let early = past.past h i in absurd (omega (arith, early, from));
-    }
+module _ {M : Type 0} (stands : M → Network → DeviceId → Node → Type 0) (s : Scenario) (hs : List Happening)
+    (mark cursor : List ℕ) (now : ℕ) (device : DeviceId) (machine : M) where
+  -- where the instant is over for it
+  rests_over : (k : IsKept stands s hs [] cursor now device machine) → k.up ≡ now + 1 → HaveBefallen s mark now
+      → IsPast hs now → IsNoLater s device cursor now → Rests s hs device now k.node
+  rests_over k up befallen past no_later =
+      let whole : hs ++ [] ≡ hs = append-nil hs in
+      let le : now + 1 ≤ k.up = omega (arith, up) in
+      let change : changed_at (hs ++ []) device k.up ≡ changed_at hs device (now + 1) =
+      ap (λ n. changed_at (hs ++ []) device n) up
+      ∙ ap (λ l. changed_at l device (now + 1)) whole in
+      let done = done_by now k.worked no_later.later (now + 1) le in
+      record {
+        from = now + 1;
+        le = omega arith;
+        soon = omega arith;
+        left = subst (λ l. IsLeft s l device (now + 1) k.node) whole
+            (subst (λ n. IsLeft s (hs ++ []) device n k.node) up k.left);
+        done = rests s hs done (sym change);
+        sent = record {
+          unsent = λ c w x lt. k.worked.unsent c w x (omega (arith, lt, up));
+          sent = (sent_by now k.worked no_later.later (now + 1) le).sent;
+        };
+        off = not_on_after (now + 1) device befallen (omega arith);
+        still = λ h i from. let early = past.past h i in absurd (omega (arith, early, from));
+      }
 
--- and where it is not, but nothing of it is due
-rests_next : {M : Type 0} (stands : M → Network → DeviceId → Node → Type 0) (s : Scenario) (hs : List Happening) (mark cursor : List ℕ) (now : ℕ)
-    (device : DeviceId) (machine : M) (k : IsKept stands s hs [] cursor now device machine) → k.up ≡ now → HaveBefallen s mark now → IsPast hs now
-    → IsWorked hs cursor now → IsNoLater s device cursor now → IsIdleAt s device k.node now → Rests s hs device now k.node
-rests_next stands s hs mark cursor now device machine k up befallen past worked no_later idle =
-    let whole : hs ++ [] ≡ hs = append-nil hs in
-    let inside : (h : Happening) → IsIn h hs → IsIn h (hs ++ []) = λ h i. subst (λ (l : List Happening). IsIn h l) (sym whole) i in
-    let still : (h : Happening) → IsIn h hs → time_of h ≡ now → IsAtRest s device now h.note.body = λ h i at. k.still up h (inside h i) at in
-    let q : IsQuietInstant s hs device now = record {
-      past = past.past;
-      quiet = λ h i at. quiet_rest s device now h.note.body (still h i at);
-      in_time = past.in_time;
-    } in
-    let left : IsLeft s hs device now k.node = subst (λ (l : List Happening). IsLeft s l device now k.node) whole
-    (subst (λ (n : ℕ). IsLeft s (hs ++ []) device n k.node) up k.left) in
-    let sound : k.node.broken ≡ false = left.counted.broken ∙ k.sound in
-    let change : changed_at hs device (now + 1) ≡ changed_at (hs ++ []) device k.up = change_quiet s hs device now q
-    ∙ ap (λ (n : ℕ). changed_at hs device n) (sym up) ∙ ap (λ (l : List Happening). changed_at l device k.up) (sym whole) in
-    let done = done_by s device k.node (changed_at (hs ++ []) device k.up) k.up now cursor k.worked no_later.later now (omega (arith, up)) in
-    record {
-      from = now + 1;
-      le = omega arith;
-      soon = omega arith;
-      left = left_next s hs mark device now k.node q still befallen k.cleared (λ on.
-          let was = k.turned on in
-          subst (λ (l : List Happening). IsTurnedOnBy l device now) whole (was.turned (worked was.number was.event was.befell))) no_later.falls sound idle left;
-      done = record {
-        undone = λ deed u x from lt. elim (cases_lt x now) [
-          | inl before ↦ done.undone deed u x (omega (arith, from, change)) before
-          | inr ge ↦ let at : x ≡ now =
-              omega (arith, ge, lt) in subst (λ (n : ℕ). pos (s.reading device n) <ℤ reading_for s.network k.node (doing deed)) (sym at)
-              (idle (doing deed) (sound, u))
-        ];
-        done = λ deed there. let x = done.done deed there in (x.0, omega (arith, x.1, change), x.2, x.3);
-      };
-      sent = record {
-        unsent = λ c w x lt. elim (cases_lt x now) [
-          | inl before ↦ k.worked.unsent c w x (omega (arith, before, up))
-          | inr ge ↦ let at : x ≡ now =
-              omega (arith, ge, lt) in subst (λ (n : ℕ). pos (s.reading device n) <ℤ reading_for s.network k.node (emitting c)) (sym at)
-              (idle (emitting c) (sound, w))
-        ];
-        sent = (sent_by s device k.node (changed_at (hs ++ []) device k.up) k.up now cursor k.worked no_later.later now (omega (arith, up))).sent;
-      };
-      off = not_on_after s mark now (now + 1) device befallen (omega arith);
-      still = λ h i from. let early = past.past h i in absurd (omega (arith, early, from));
-    }
+  -- and where it is not, but nothing of it is due
+  rests_next : (k : IsKept stands s hs [] cursor now device machine) → k.up ≡ now → HaveBefallen s mark now
+      → IsPast hs now → IsWorked hs cursor now → IsNoLater s device cursor now → IsIdleAt s device k.node now
+      → Rests s hs device now k.node
+  rests_next k up befallen past worked no_later idle =
+      let whole : hs ++ [] ≡ hs = append-nil hs in
+      let inside : (h : Happening) → IsIn h hs → IsIn h (hs ++ []) =
+      λ h i. subst (λ l. IsIn h l) (sym whole) i in
+      let still : (h : Happening) → IsIn h hs → time_of h ≡ now → IsAtRest s device now h.note.body =
+      λ h i at. k.still up h (inside h i) at in
+      let q : IsQuietInstant s hs device now = record {
+        past = past.past;
+        quiet = λ h i at. quiet_rest s device now h.note.body (still h i at);
+        in_time = past.in_time;
+      } in
+      let left : IsLeft s hs device now k.node = subst (λ l. IsLeft s l device now k.node) whole
+      (subst (λ n. IsLeft s (hs ++ []) device n k.node) up k.left) in
+      let sound : k.node.broken ≡ false = left.counted.broken ∙ k.sound in
+      let change : changed_at hs device (now + 1) ≡ changed_at (hs ++ []) device k.up = change_quiet q
+      ∙ ap (λ n. changed_at hs device n) (sym up) ∙ ap (λ l. changed_at l device k.up)
+      (sym whole) in
+      let done = done_by now k.worked no_later.later now (omega (arith, up)) in
+      record {
+        from = now + 1;
+        le = omega arith;
+        soon = omega arith;
+        left = left_next q still befallen k.cleared (λ on.
+            let was = k.turned on in
+            subst (λ l. IsTurnedOnBy l device now) whole
+            (was.turned (worked was.number was.event was.befell))) no_later.falls sound idle left;
+        done = record {
+          undone = λ deed u x from lt. elim (cases_lt x now) [
+            | inl before ↦ done.undone deed u x (omega (arith, from, change)) before
+            | inr ge ↦ let at : x ≡ now =
+                omega (arith, ge, lt) in subst (λ (n : ℕ). pos (s.reading device n) <ℤ reading_for s.network k.node
+                (doing deed)) (sym at)
+                (idle (doing deed) (sound, u))
+          ];
+          done = λ deed there. let x = done.done deed there in (x.0, omega (arith, x.1, change), x.2, x.3);
+        };
+        sent = record {
+          unsent = λ c w x lt. elim (cases_lt x now) [
+            | inl before ↦ k.worked.unsent c w x (omega (arith, before, up))
+            | inr ge ↦ let at : x ≡ now =
+                omega (arith, ge, lt) in subst (λ (n : ℕ). pos (s.reading device n) <ℤ reading_for s.network k.node
+                (emitting c)) (sym at)
+                (idle (emitting c) (sound, w))
+          ];
+          sent = (sent_by now k.worked no_later.later now (omega (arith, up))).sent;
+        };
+        off = not_on_after (now + 1) device befallen (omega arith);
+        still = λ h i from. let early = past.past h i in absurd (omega (arith, early, from));
+      }
 
--- where nothing of it is due at the instant
-pub at_rest : {M : Type 0} (stands : M → Network → DeviceId → Node → Type 0) (s : Scenario) (hs : List Happening) (mark cursor : List ℕ) (now : ℕ)
-    (device : DeviceId) (machine : M) (k : IsKept stands s hs [] cursor now device machine) → HaveBefallen s mark now → IsPast hs now → IsWorked hs cursor now
-    → IsNoLater s device cursor now
-    → ((task : Task) → IsPending s.network device k.node task → pos (s.reading device now) <ℤ reading_for s.network k.node task) → Rests s hs device now k.node
-at_rest stands s hs mark cursor now device machine k befallen past worked no_later idle =
-    elim k.acted [
-      | inr over ↦ rests_over stands s hs mark cursor now device machine k over.0 befallen past no_later
-      | inl yet ↦ rests_next stands s hs mark cursor now device machine k yet.0 befallen past worked no_later idle
-    ]
+  -- where nothing of it is due at the instant
+  pub at_rest : (k : IsKept stands s hs [] cursor now device machine) → HaveBefallen s mark now → IsPast hs now
+      → IsWorked hs cursor now → IsNoLater s device cursor now
+      → ((task : Task) → IsPending s.network device k.node task
+      → pos (s.reading device now) <ℤ reading_for s.network k.node task) → Rests s hs device now k.node
+  at_rest k befallen past worked no_later idle =
+      elim k.acted [
+        | inr over ↦ rests_over k over.0 befallen past no_later
+        | inl yet ↦ rests_next k yet.0 befallen past worked no_later idle
+      ]

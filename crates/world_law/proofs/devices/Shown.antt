@@ -9,14 +9,14 @@ use Rattle.world_law.proofs.devices.{OwnRecords.state_still, TurnedOn.{IsInTime,
 in_time_more : (now : ℕ) (hs coming : List Happening) → IsInTime hs → ((h : Happening) → IsIn h hs → time_of h ≤ now)
     → ((h : Happening) → IsIn h coming → time_of h ≡ now) → IsInTime (hs ++ coming)
 in_time_more now [] coming ordered past of front rest x e h i =
-    let at = of x (subst (λ (l : List Happening). IsIn x l) (sym e) (Rattle.run_law.proofs.runs.Places.in_right x front (x ∷ rest) (inl refl))) in
-    let then_ = of h (subst (λ (l : List Happening). IsIn h l) (sym e) (Rattle.run_law.proofs.runs.Places.in_right h front (x ∷ rest) (inr i))) in
+    let at = of x (subst (λ l. IsIn x l) (sym e) (Rattle.run_law.proofs.runs.Places.in_right x front (x ∷ rest) (inl refl))) in
+    let then_ = of h (subst (λ l. IsIn h l) (sym e) (Rattle.run_law.proofs.runs.Places.in_right h front (x ∷ rest) (inr i))) in
     omega (arith, at, then_)
 in_time_more now (g ∷ hs) coming ordered past of [] rest x e h i =
     let a : g ≡ x = cc in
     let b : hs ++ coming ≡ rest = cc in
     let same : time_of g ≡ time_of x = ap time_of a in
-    elim (in_parts h hs coming (subst (λ (l : List Happening). IsIn h l) (sym b) i)) [
+    elim (in_parts h hs coming (subst (λ l. IsIn h l) (sym b) i)) [
       | inl old ↦ let le = ordered [] hs g refl h old in omega (arith, le, same)
       | inr new ↦ let le = past g (inl refl) in let at = of h new in omega (arith, le, at, same)
     ]
@@ -28,7 +28,7 @@ in_time_more now (g ∷ hs) coming ordered past of (f ∷ front) rest x e h i =
 pub all_past : {C M : Type 0} (reading : C → ℕ → ℕ) (stands : M → Network → DeviceId → Node → Type 0) (s : Scenario) (world : World C M) (notes : List Note)
     (old : Stands reading stands s world notes) → IsPast (happenings s.network notes ++ world.settled) world.now
 all_past reading stands s world notes old =
-    let given = are_past reading stands s world notes old in
+    let given = are_past old in
     record {
       past =
           λ h i. elim (in_parts h (happenings s.network notes) world.settled i)
@@ -41,59 +41,61 @@ pub record ShowsAll (s : Scenario) (hs : List Happening) (device : DeviceId) (no
   pub state : node.standing.state ≡ state_after s (up_to now hs) device
   pub adjustment : node.standing.adjustment ≡ adjustment_after s (up_to now hs) device
 
--- where it has not acted, its state is that before the time, but for what is that it was turned on
-shown_before : {M : Type 0} (stands : M → Network → DeviceId → Node → Type 0) (s : Scenario) (hs coming : List Happening) (mark cursor : List ℕ) (now : ℕ)
-    (device : DeviceId) (machine : M) (k : IsKept stands s hs coming cursor now device machine) → k.up ≡ now → IsWorked hs cursor now
-    → IsPast (hs ++ coming) now → HaveBefallen s mark now → ShowsAll s (hs ++ coming) device now k.node
-shown_before stands s hs coming mark cursor now device machine k up worked past befallen =
-    let js = hs ++ coming in
-    let q : IsQuietInstant s js device now = record {
-      past = past.past;
-      quiet = λ h i at. quiet_rest s device now h.note.body (k.still up h i at);
-      in_time = past.in_time;
-    } in
-    let state : node_state k.node ≡ state_before s js device now = k.left.state ∙ ap (λ (n : ℕ). state_before s js device n) up in
-    record {
-      state = elim (cases_Bool (is_turned_on_at s device now)) [
-        | inl on ↦ state ∙ ap (λ (b : Bool). if b then Integrating else state_after s (earlier now js) device) on
-            ∙ sym (on_state s js device now q (let was = k.turned on in was.turned (worked was.number was.event was.befell)))
-        | inr off ↦
-            state ∙ not_turned_on s js device now off
-            ∙ sym (state_still s js device now (now + 1) (omega arith)
-            (λ h i from lt. unmoved_by s device now h.note.body off (k.still up h i (omega (arith, from, lt)))))
-            ∙ ap (λ (l : List Happening). state_after s l device) (next_is_up_to now js)
-      ];
-      adjustment =
-          k.left.counted.adjustment ∙ ap (λ (n : ℕ). adjustment_before s js device n) up ∙ sym (adjustment_quiet s js device now q)
-          ∙ ap (λ (l : List Happening). adjustment_after s l device) (next_is_up_to now js);
-    }
-  where
-    node_state : Node → State
-    node_state node = node.standing.state
-
-kept_shows : {M : Type 0} (stands : M → Network → DeviceId → Node → Type 0) (s : Scenario) (hs coming : List Happening) (mark cursor : List ℕ) (now : ℕ)
-    (device : DeviceId) (machine : M) (k : IsKept stands s hs coming cursor now device machine) → IsWorked hs cursor now → IsPast (hs ++ coming) now
-    → HaveBefallen s mark now → ShowsAll s (hs ++ coming) device now k.node
-kept_shows stands s hs coming mark cursor now device machine k worked past befallen =
-    let js = hs ++ coming in
-    elim k.acted [
-      | inl yet ↦ shown_before stands s hs coming mark cursor now device machine k yet.0 worked past befallen
-      | inr over ↦ record {
-        state =
-            k.left.state ∙ ap (λ (n : ℕ). state_before s js device n) over.0
-            ∙ not_turned_on s js device (now + 1) (not_on_after s mark now (now + 1) device befallen (omega arith))
-            ∙ ap (λ (l : List Happening). state_after s l device) (next_is_up_to now js);
+module _ {M : Type 0} (stands : M → Network → DeviceId → Node → Type 0) (s : Scenario) (hs coming : List Happening)
+    (mark cursor : List ℕ) (now : ℕ) (device : DeviceId) (machine : M) where
+  -- where it has not acted, its state is that before the time, but for what is that it was turned on
+  shown_before : (k : IsKept stands s hs coming cursor now device machine) → k.up ≡ now → IsWorked hs cursor now
+      → IsPast (hs ++ coming) now → HaveBefallen s mark now → ShowsAll s (hs ++ coming) device now k.node
+  shown_before k up worked past befallen =
+      let js = hs ++ coming in
+      let q : IsQuietInstant s js device now = record {
+        past = past.past;
+        quiet = λ h i at. quiet_rest s device now h.note.body (k.still up h i at);
+        in_time = past.in_time;
+      } in
+      let state : node_state k.node ≡ state_before s js device now =
+      k.left.state ∙ ap (λ n. state_before s js device n) up in
+      record {
+        state = elim (cases_Bool (is_turned_on_at s device now)) [
+          | inl on ↦ state ∙ ap (λ (b : Bool). if b then Integrating else state_after s (earlier now js) device) on
+              ∙ sym (on_state q (let was = k.turned on in was.turned (worked was.number was.event was.befell)))
+          | inr off ↦
+              state ∙ not_turned_on s js device now off
+              ∙ sym (state_still s js device now (now + 1) (omega arith)
+              (λ h i from lt. unmoved_by s device now h.note.body off (k.still up h i (omega (arith, from, lt)))))
+              ∙ ap (λ l. state_after s l device) (next_is_up_to now js)
+        ];
         adjustment =
-            k.left.counted.adjustment ∙ ap (λ (n : ℕ). adjustment_before s js device n) over.0 ∙ ap (λ (l : List Happening). adjustment_after s l device)
-            (next_is_up_to now js);
+            k.left.counted.adjustment ∙ ap (λ n. adjustment_before s js device n) up ∙ sym (adjustment_quiet q)
+            ∙ ap (λ l. adjustment_after s l device) (next_is_up_to now js);
       }
-    ]
+    where
+      node_state : Node → State
+      node_state node = node.standing.state
 
--- so the machine of each device does
-pub held_shows : {M : Type 0} (stands : M → Network → DeviceId → Node → Type 0) (s : Scenario) (hs coming : List Happening) (mark cursor : List ℕ) (now : ℕ)
-    (device : DeviceId) (machine : M) → IsHeld stands s hs coming cursor now device machine → IsWorked hs cursor now → IsPast (hs ++ coming) now
-    → HaveBefallen s mark now → (node : Node) × stands machine s.network device node × ShowsAll s (hs ++ coming) device now node
-held_shows stands s hs coming mark cursor now device machine (inl k) worked past befallen =
-    (k.node, k.is, kept_shows stands s hs coming mark cursor now device machine k worked past befallen)
-held_shows stands s hs coming mark cursor now device machine (inr k) worked past befallen =
-    (k.node, k.is, record { state = k.state; adjustment = k.adjustment })
+  kept_shows : (k : IsKept stands s hs coming cursor now device machine) → IsWorked hs cursor now
+      → IsPast (hs ++ coming) now → HaveBefallen s mark now → ShowsAll s (hs ++ coming) device now k.node
+  kept_shows k worked past befallen =
+      let js = hs ++ coming in
+      elim k.acted [
+        | inl yet ↦ shown_before k yet.0 worked past befallen
+        | inr over ↦ record {
+          state =
+              k.left.state ∙ ap (λ n. state_before s js device n) over.0
+              ∙ not_turned_on s js device (now + 1) (not_on_after (now + 1) device befallen (omega arith))
+              ∙ ap (λ l. state_after s l device) (next_is_up_to now js);
+          adjustment =
+              k.left.counted.adjustment ∙ ap (λ n. adjustment_before s js device n) over.0 ∙ ap
+              (λ l. adjustment_after s l device)
+              (next_is_up_to now js);
+        }
+      ]
+
+  -- so the machine of each device does
+  pub held_shows : IsHeld stands s hs coming cursor now device machine → IsWorked hs cursor now
+      → IsPast (hs ++ coming) now → HaveBefallen s mark now
+      → (node : Node) × stands machine s.network device node × ShowsAll s (hs ++ coming) device now node
+  held_shows (inl k) worked past befallen =
+      (k.node, k.is, kept_shows k worked past befallen)
+  held_shows (inr k) worked past befallen =
+      (k.node, k.is, record { state = k.state; adjustment = k.adjustment })

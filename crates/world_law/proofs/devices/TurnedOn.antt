@@ -24,39 +24,41 @@ quiet_rest s device now body (inr on) = inr on.0
 
 -- ---- what such a record does not change
 
-turning_joins : (device : DeviceId) (body : NoteBody) → is_turning device body ≡ true → is_joined_by device body ≡ false
-turning_joins device (notes.State other Integrating cause On) e = refl
-turning_joins device other e = absurd cc
+module _ (device : DeviceId) where
+  turning_joins : (body : NoteBody) → is_turning device body ≡ true → is_joined_by device body ≡ false
+  turning_joins (notes.State other Integrating cause On) e = refl
+  turning_joins other e = absurd cc
 
-pub quiet_joins : (device : DeviceId) (body : NoteBody) → IsQuiet device body → is_joined_by device body ≡ false
-quiet_joins device body (inl e) = joins_no_other device body e
-quiet_joins device body (inr e) = turning_joins device body e
+  pub quiet_joins : (body : NoteBody) → IsQuiet device body → is_joined_by device body ≡ false
+  quiet_joins body (inl e) = joins_no_other device body e
+  quiet_joins body (inr e) = turning_joins body e
 
-turning_changes : (device : DeviceId) (body : NoteBody) → is_turning device body ≡ true → changes_adjustment device body ≡ false
-turning_changes device (notes.State other Integrating cause On) e = refl
-turning_changes device other e = absurd cc
+  turning_changes : (body : NoteBody) → is_turning device body ≡ true → changes_adjustment device body ≡ false
+  turning_changes (notes.State other Integrating cause On) e = refl
+  turning_changes other e = absurd cc
 
-pub quiet_changes : (device : DeviceId) (body : NoteBody) → IsQuiet device body → changes_adjustment device body ≡ false
-quiet_changes device body (inl e) = changes_no_other device body e
-quiet_changes device body (inr e) = turning_changes device body e
+  pub quiet_changes : (body : NoteBody) → IsQuiet device body → changes_adjustment device body ≡ false
+  quiet_changes body (inl e) = changes_no_other device body e
+  quiet_changes body (inr e) = turning_changes body e
 
-turning_adjustment : (s : Scenario) (device : DeviceId) (cycle : ℕ) (old : Units) (body : NoteBody) → is_turning device body ≡ true
-    → adjustment_with s device cycle old body ≡ old
-turning_adjustment s device cycle old (notes.State other Integrating cause On) e = refl
-turning_adjustment s device cycle old other e = absurd cc
+module _ (s : Scenario) (device : DeviceId) (cycle : ℕ) (old : Units) where
+  turning_adjustment : (body : NoteBody) → is_turning device body ≡ true
+      → adjustment_with s device cycle old body ≡ old
+  turning_adjustment (notes.State other Integrating cause On) e = refl
+  turning_adjustment other e = absurd cc
 
-quiet_adjustment : (s : Scenario) (device : DeviceId) (cycle : ℕ) (old : Units) (body : NoteBody) → IsQuiet device body
-    → adjustment_with s device cycle old body ≡ old
-quiet_adjustment s device cycle old body (inl e) = keeps_adjustment s device cycle old body e
-quiet_adjustment s device cycle old body (inr e) = turning_adjustment s device cycle old body e
+  quiet_adjustment : (body : NoteBody) → IsQuiet device body → adjustment_with s device cycle old body ≡ old
+  quiet_adjustment body (inl e) = keeps_adjustment s device cycle old body e
+  quiet_adjustment body (inr e) = turning_adjustment body e
 
-turning_cycle : (device : DeviceId) (next : ℕ) (h : Happening) (body : NoteBody) → is_turning device body ≡ true → cycle_after device next h body ≡ next
-turning_cycle device next h (notes.State other Integrating cause On) e = refl
-turning_cycle device next h other e = absurd cc
+module _ (device : DeviceId) (next : ℕ) (h : Happening) where
+  turning_cycle : (body : NoteBody) → is_turning device body ≡ true → cycle_after device next h body ≡ next
+  turning_cycle (notes.State other Integrating cause On) e = refl
+  turning_cycle other e = absurd cc
 
-quiet_cycle : (device : DeviceId) (next : ℕ) (h : Happening) (body : NoteBody) → IsQuiet device body → cycle_after device next h body ≡ next
-quiet_cycle device next h body (inl e) = keeps_cycle device next h body e
-quiet_cycle device next h body (inr e) = turning_cycle device next h body e
+  quiet_cycle : (body : NoteBody) → IsQuiet device body → cycle_after device next h body ≡ next
+  quiet_cycle body (inl e) = keeps_cycle device next h body e
+  quiet_cycle body (inr e) = turning_cycle body e
 
 pub turning_state : (device : DeviceId) (old : State) (body : NoteBody) → is_turning device body ≡ true → state_with device old body ≡ Integrating
 turning_state device old (notes.State other Integrating cause On) e = ap (λ (b : Bool). if b then Integrating else old) e
@@ -100,73 +102,75 @@ pub record IsQuietInstant (s : Scenario) (hs : List Happening) (device : DeviceI
   pub quiet : (h : Happening) → IsIn h hs → time_of h ≡ now → IsQuiet device h.note.body
   pub in_time : IsInTime hs
 
-pub on_state : (s : Scenario) (hs : List Happening) (device : DeviceId) (now : ℕ) → IsQuietInstant s hs device now → IsTurnedOnBy hs device now
-    → state_after s (up_to now hs) device ≡ Integrating
-on_state s hs device now q on =
-    let f = λ (state : State) (h : Happening). state_with device state h.note.body in
-    let at = parted on.by hs on.there in
-    let begun = fold f (state_at_start (start_of s.network device)) at.0 in
-    let rest : (h : Happening) → IsIn h at.1 → IsQuiet device h.note.body = λ h i.
-    let inside : IsIn h hs = subst (λ (l : List Happening). IsIn h l) (sym at.2) (in_right h at.0 (on.by ∷ at.1) (inr i)) in
-    let from = q.in_time at.0 at.1 on.by at.2 h i in
-    let to = q.past h inside in
-    let by_at = on.at in
-    q.quiet h inside (omega (arith, from, to, by_at)) in
-    ap (λ (l : List Happening). state_after s l device) (all_up_to now hs q.past ∙ at.2)
-    ∙ fold_parts f (state_at_start (start_of s.network device)) at.0 (on.by ∷ at.1)
-    ∙ ap (λ (z : State). fold f z at.1) (turning_state device begun on.by.note.body on.turning)
-    ∙ looking_on device at.1 rest
+module _ {s : Scenario} {hs : List Happening} {device : DeviceId} {now : ℕ} (q : IsQuietInstant s hs device now) where
+  pub on_state : IsTurnedOnBy hs device now → state_after s (up_to now hs) device ≡ Integrating
+  on_state on =
+      let f = λ (state : State) (h : Happening). state_with device state h.note.body in
+      let at = parted on.by hs on.there in
+      let begun = fold f (state_at_start (start_of s.network device)) at.0 in
+      let rest : (h : Happening) → IsIn h at.1 → IsQuiet device h.note.body = λ h i.
+      let inside : IsIn h hs =
+      subst (λ l. IsIn h l) (sym at.2) (in_right h at.0 (on.by ∷ at.1) (inr i)) in
+      let from = q.in_time at.0 at.1 on.by at.2 h i in
+      let to = q.past h inside in
+      let by_at = on.at in
+      q.quiet h inside (omega (arith, from, to, by_at)) in
+      ap (λ l. state_after s l device) (all_up_to now hs q.past ∙ at.2)
+      ∙ fold_parts f (state_at_start (start_of s.network device)) at.0 (on.by ∷ at.1)
+      ∙ ap (λ (z : State). fold f z at.1) (turning_state device begun on.by.note.body on.turning)
+      ∙ looking_on device at.1 rest
 
--- ---- the node
+  -- ---- the node
 
-pub adjustment_quiet : (s : Scenario) (hs : List Happening) (device : DeviceId) (now : ℕ) → IsQuietInstant s hs device now
-    → adjustment_before s hs device (now + 1) ≡ adjustment_before s hs device now
-adjustment_quiet s hs device now q =
-    fold_still (λ adjustment h. adjustment_with s device (cycle_in h) adjustment h.note.body) now (now + 1) (omega arith) hs (λ h i from lt z.
-    let past = q.past h i in quiet_adjustment s device (cycle_in h) z h.note.body (q.quiet h i (omega (arith, from, past)))) _
+  pub adjustment_quiet : adjustment_before s hs device (now + 1) ≡ adjustment_before s hs device now
+  adjustment_quiet =
+      fold_still (λ adjustment h. adjustment_with s device (cycle_in h) adjustment h.note.body) now (now + 1)
+      (omega arith) hs (λ h i from lt z.
+      let past = q.past h i in quiet_adjustment s device (cycle_in h) z h.note.body
+      (q.quiet h i (omega (arith, from, past)))) _
 
-integration_quiet : (s : Scenario) (hs : List Happening) (device : DeviceId) (now : ℕ) → IsQuietInstant s hs device now
-    → integration_cycle (earlier (now + 1) hs) device ≡ integration_cycle (earlier now hs) device
-integration_quiet s hs device now q = grind (arith, fold_still, is_joined_by, cycle_in, quiet_joins)
+  integration_quiet : integration_cycle (earlier (now + 1) hs) device ≡ integration_cycle (earlier now hs) device
+  integration_quiet = grind (arith, fold_still, is_joined_by, cycle_in, quiet_joins)
 
-cycle_quiet : (s : Scenario) (hs : List Happening) (device : DeviceId) (now : ℕ) → IsQuietInstant s hs device now
-    → recorded_cycle (earlier (now + 1) hs) device ≡ recorded_cycle (earlier now hs) device
-cycle_quiet s hs device now q =
-    fold_still (λ next h. cycle_after device next h h.note.body) now (now + 1) (omega arith) hs (λ h i from lt z.
-    let past = q.past h i in quiet_cycle device z h h.note.body (q.quiet h i (omega (arith, from, past)))) 1
+  cycle_quiet : recorded_cycle (earlier (now + 1) hs) device ≡ recorded_cycle (earlier now hs) device
+  cycle_quiet =
+      fold_still (λ next h. cycle_after device next h h.note.body) now (now + 1) (omega arith) hs (λ h i from lt z.
+      let past = q.past h i in quiet_cycle device z h h.note.body (q.quiet h i (omega (arith, from, past)))) 1
 
-pub change_quiet : (s : Scenario) (hs : List Happening) (device : DeviceId) (now : ℕ) → IsQuietInstant s hs device now
-    → changed_at hs device (now + 1) ≡ changed_at hs device now
-change_quiet s hs device now q = grind (arith, option_map_or, time_of, last_or, filter_still, changes_adjustment, quiet_changes)
+  pub change_quiet : changed_at hs device (now + 1) ≡ changed_at hs device now
+  change_quiet = grind (arith, option_map_or, time_of, last_or, filter_still, changes_adjustment, quiet_changes)
 
-local_quiet : (s : Scenario) (hs : List Happening) (device : DeviceId) (now : ℕ) → IsQuietInstant s hs device now
-    → local_at_change s hs device (now + 1) ≡ local_at_change s hs device now
-local_quiet s hs device now q =
-    ap (λ (n : ℕ). pos (s.reading device n) +ℤ (adjustment_before s hs device (now + 1)).0) (change_quiet s hs device now q)
-    ∙ ap (λ (u : Units). pos (s.reading device (changed_at hs device now)) +ℤ u.0) (adjustment_quiet s hs device now q)
+  local_quiet : local_at_change s hs device (now + 1) ≡ local_at_change s hs device now
+  local_quiet =
+      ap (λ (n : ℕ). pos (s.reading device n) +ℤ (adjustment_before s hs device (now + 1)).0) (change_quiet)
+      ∙ ap (λ (u : Units). pos (s.reading device (changed_at hs device now)) +ℤ u.0) (adjustment_quiet)
 
-pub left_after_on : (s : Scenario) (hs : List Happening) (device : DeviceId) (now : ℕ) (node : Node) → IsQuietInstant s hs device now
-    → is_turned_on_at s device now ≡ true → is_turned_on_at s device (now + 1) ≡ false → is_broken s device (now + 1) ≡ is_broken s device now
+pub left_after_on : {s : Scenario} {hs : List Happening} {device : DeviceId} {now : ℕ} {node : Node}
+    → IsQuietInstant s hs device now → is_turned_on_at s device now ≡ true
+    → is_turned_on_at s device (now + 1) ≡ false → is_broken s device (now + 1) ≡ is_broken s device now
     → IsTurnedOnBy hs device now → IsLeft s hs device now node → IsLeft s hs device (now + 1) node
-left_after_on s hs device now node q on off same turned left =
+left_after_on {s} {hs} {device} {now} {node} q on off same turned left =
     let looking : node.standing.state ≡ Integrating = left.state ∙ ap (λ (b : Bool). if b then Integrating else state_after s (earlier now hs) device) on in
     let untimed : is_timed node.standing.state ≡ true → ⊥ = λ timed. let bad : false ≡ true = sym (ap is_timed looking) ∙ timed in cc in
     record {
       counted = record {
         plan = left.counted.plan;
-        adjustment = left.counted.adjustment ∙ sym (adjustment_quiet s hs device now q);
-        integrated = left.counted.integrated ∙ sym (integration_quiet s hs device now q);
+        adjustment = left.counted.adjustment ∙ sym (adjustment_quiet q);
+        integrated = left.counted.integrated ∙ sym (integration_quiet q);
         number = λ timed. absurd (untimed timed);
-        changed = left.counted.changed ∙ sym (local_quiet s hs device now q);
+        changed = left.counted.changed ∙ sym (local_quiet q);
         heard = λ timed. absurd (untimed timed);
         started =
-            subst (λ (o : Option ℕ). IfSome o (λ cycle. cycle ≤ recorded_cycle (earlier (now + 1) hs) device)) (sym (integration_quiet s hs device now q))
-            (subst (λ (n : ℕ). IfSome (integration_cycle (earlier now hs) device) (λ cycle. cycle ≤ n)) (sym (cycle_quiet s hs device now q))
+            subst (λ (o : Option ℕ). IfSome o (λ cycle. cycle ≤ recorded_cycle (earlier (now + 1) hs) device))
+            (sym (integration_quiet q))
+            (subst (λ (n : ℕ). IfSome (integration_cycle (earlier now hs) device) (λ cycle. cycle ≤ n))
+            (sym (cycle_quiet q))
             left.counted.started);
         broken = left.counted.broken ∙ sym same;
       };
       state =
-          looking ∙ sym (on_state s hs device now q turned) ∙ ap (λ (l : List Happening). state_after s l device) (sym (next_is_up_to now hs))
+          looking ∙ sym (on_state q turned) ∙ ap (λ l. state_after s l device)
+          (sym (next_is_up_to now hs))
           ∙ sym (not_turned_on s hs device (now + 1) off);
       points = left.points;
     }

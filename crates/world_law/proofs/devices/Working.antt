@@ -4,16 +4,18 @@ use Rattle.world_law.proofs.Words.{◌+◌, ◌<◌, ◌∷◌, ◌≡◌, ◌�
 use Rattle.world_law.proofs.Words.{List, Node, Scenario, Task, [], act_place, arith, cases_order, chain, doing, emitting, inl, inr, subst, task_place, ℕ}
 use Rattle.world_law.specs.device.Deeds.{HasSentFrom}
 
-pub out_on : (s : Scenario) (hs : List Happening) (now : ℕ) (device : DeviceId) (cursor then_ : List ℕ) → ((p : List ℕ) → IsBefore p cursor → IsBefore p then_)
-    → IsActedOut s hs now device cursor → IsActedOut s hs now device then_
-out_on s hs now device cursor then_ on out = record { past = on _ out.past; all = λ task a. on _ (out.all task a) }
+pub out_on : {s : Scenario} {hs : List Happening} {now : ℕ} {device : DeviceId} {cursor : List ℕ} (then_ : List ℕ)
+    → ((p : List ℕ) → IsBefore p cursor → IsBefore p then_) → IsActedOut s hs now device cursor
+    → IsActedOut s hs now device then_
+out_on then_ on out = record { past = on _ out.past; all = λ task a. on _ (out.all task a) }
 
 -- it stays so
-pub worked_on : (s : Scenario) (device : DeviceId) (node : Node) (changed again up : ℕ) (cursor then_ : List ℕ) → changed ≡ again
-    → ((p : List ℕ) → IsBefore p cursor → IsBefore p then_) → HasWorkedTo s device node changed up cursor → HasWorkedTo s device node again up then_
-worked_on s device node changed again up cursor then_ same on w = record {
+pub worked_on : {s : Scenario} {device : DeviceId} {node : Node} {changed : ℕ} (again : ℕ) {up : ℕ} {cursor : List ℕ}
+    (then_ : List ℕ) → changed ≡ again → ((p : List ℕ) → IsBefore p cursor → IsBefore p then_)
+    → HasWorkedTo s device node changed up cursor → HasWorkedTo s device node again up then_
+worked_on again then_ same on w = record {
   undone = λ deed u x from lt. w.undone deed u x (omega (arith, from, same)) lt;
-  done = λ deed there. let x = w.done deed there in (x.0, subst (λ (n : ℕ). n ≤ x.0) same x.1, on _ x.2, x.3);
+  done = λ deed there. let x = w.done deed there in (x.0, subst (λ n. n ≤ x.0) same x.1, on _ x.2, x.3);
   unsent = w.unsent;
   sent = λ c there. let x = w.sent c there in (x.0, on _ x.1, x.2);
 }
@@ -22,17 +24,18 @@ worked_on s device node changed again up cursor then_ same on w = record {
 sooner : (s : Scenario) (device : DeviceId) (task : Task) (x now : ℕ) (frontier : List ℕ) → IsBefore (task_place s.network x device task) frontier
     → (IsBefore (task_place s.network now device task) frontier → ⊥) → x < now
 sooner s device task x now frontier b not = elim (cases_order x now) [
-  | inl same ↦ absurd (not (subst (λ (n : ℕ). IsBefore (task_place s.network n device task) frontier) same b))
+  | inl same ↦ absurd (not (subst (λ n. IsBefore (task_place s.network n device task) frontier) same b))
   | inr (inl lt) ↦ lt
   | inr (inr gt) ↦ absurd (not (chain (task_place s.network now device task) (task_place s.network x device task) frontier (inl gt) b))
 ]
 
 -- what it has done, where that is not before the frontier at the present instant, it had come to sooner
-pub came_sooner : (s : Scenario) (device : DeviceId) (node : Node) (changed up now : ℕ) (frontier : List ℕ) → HasWorkedTo s device node changed up frontier
-    → (task : Task) → HasDoneTask node task → (IsBefore (task_place s.network now device task) frontier → ⊥) → HadComeTo s device node changed now task
-came_sooner s device node changed up now frontier w (emitting c) did not =
+pub came_sooner : {s : Scenario} {device : DeviceId} {node : Node} {changed up : ℕ} (now : ℕ) {frontier : List ℕ}
+    → HasWorkedTo s device node changed up frontier → (task : Task) → HasDoneTask node task
+    → (IsBefore (task_place s.network now device task) frontier → ⊥) → HadComeTo s device node changed now task
+came_sooner {s} {device} now {frontier} w (emitting c) did not =
     let x = w.sent c did in (x.0, sooner s device (emitting c) x.0 now frontier x.1 not, x.2)
-came_sooner s device node changed up now frontier w (doing deed) did not =
+came_sooner {s} {device} now {frontier} w (doing deed) did not =
     let x = w.done deed did in (x.0, x.1, sooner s device (doing deed) x.0 now frontier x.2 not, x.3)
 
 -- what it has done by a time: nothing that its clock comes to then
@@ -40,46 +43,51 @@ pub record HasRested (s : Scenario) (device : DeviceId) (node : Node) (changed t
   pub done : HasDoneFrom s.network (s.reading device) device node changed t t
   pub sent : HasSentFrom s device node t t
 
--- where no act of the present instant is before the frontier, it rests
-pub rested : (s : Scenario) (device : DeviceId) (node : Node) (changed up now : ℕ) (frontier : List ℕ) → HasWorkedTo s device node changed up frontier → now ≤ up
-    → (IsBefore (act_place now device) frontier → ⊥) → HasRested s device node changed up
-rested s device node changed up now frontier w le not = record {
-  done = record {
-    undone = w.undone;
-    done = λ deed there.
-        let x = w.done deed there in
-        let lt = sooner s device (doing deed) x.0 now frontier x.2 (λ b. not (acts_before s.network now device (doing deed) frontier b)) in
-        (x.0, x.1, omega (arith, lt, le), x.3);
-  };
-  sent = record {
-    unsent = w.unsent;
-    sent = λ c there.
-        let x = w.sent c there in
-        let lt = sooner s device (emitting c) x.0 now frontier x.1 (λ b. not (acts_before s.network now device (emitting c) frontier b)) in
-        (x.0, omega (arith, lt, le), x.2);
-  };
-}
+module _ {s : Scenario} {device : DeviceId} {node : Node} {changed up : ℕ} (now : ℕ) {frontier : List ℕ}
+    (w : HasWorkedTo s device node changed up frontier) where
+  -- where no act of the present instant is before the frontier, it rests
+  pub rested : now ≤ up → (IsBefore (act_place now device) frontier → ⊥) → HasRested s device node changed up
+  rested le not = record {
+    done = record {
+      undone = w.undone;
+      done = λ deed there.
+          let x = w.done deed there in
+          let lt = sooner s device (doing deed) x.0 now frontier x.2
+          (λ b. not (acts_before s.network now device (doing deed) frontier b)) in
+          (x.0, x.1, omega (arith, lt, le), x.3);
+    };
+    sent = record {
+      unsent = w.unsent;
+      sent = λ c there.
+          let x = w.sent c there in
+          let lt = sooner s device (emitting c) x.0 now frontier x.1
+          (λ b. not (acts_before s.network now device (emitting c) frontier b)) in
+          (x.0, omega (arith, lt, le), x.2);
+    };
+  }
 
--- where all is of the present instant or before, it has done nothing that its clock comes to later
-pub done_by : (s : Scenario) (device : DeviceId) (node : Node) (changed up now : ℕ) (frontier : List ℕ) → HasWorkedTo s device node changed up frontier
-    → ((p : List ℕ) → IsBefore p frontier → IsBefore p ((now + 1) ∷ [])) → (low : ℕ) → low ≤ up
-    → HasDoneFrom s.network (s.reading device) device node changed low (now + 1)
-done_by s device node changed up now frontier w later low le = record {
-  undone = λ deed u x from lt. w.undone deed u x from (omega (arith, lt, le));
-  done = λ deed there. let x = w.done deed there in (x.0, x.1, task_time s.network x.0 (now + 1) device (doing deed) (later _ x.2), x.3);
-}
+  -- where all is of the present instant or before, it has done nothing that its clock comes to later
+  pub done_by : ((p : List ℕ) → IsBefore p frontier → IsBefore p ((now + 1) ∷ [])) → (low : ℕ) → low ≤ up
+      → HasDoneFrom s.network (s.reading device) device node changed low (now + 1)
+  done_by later low le = record {
+    undone = λ deed u x from lt. w.undone deed u x from (omega (arith, lt, le));
+    done = λ deed there. let x = w.done deed there in
+        (x.0, x.1, task_time s.network x.0 (now + 1) device (doing deed) (later _ x.2), x.3);
+  }
 
-pub sent_by : (s : Scenario) (device : DeviceId) (node : Node) (changed up now : ℕ) (frontier : List ℕ) → HasWorkedTo s device node changed up frontier
-    → ((p : List ℕ) → IsBefore p frontier → IsBefore p ((now + 1) ∷ [])) → (low : ℕ) → low ≤ up → HasSentFrom s device node low (now + 1)
-sent_by s device node changed up now frontier w later low le = record {
-  unsent = λ c u x lt. w.unsent c u x (omega (arith, lt, le));
-  sent = λ c there. let x = w.sent c there in (x.0, task_time s.network x.0 (now + 1) device (emitting c) (later _ x.1), x.2);
-}
+  pub sent_by : ((p : List ℕ) → IsBefore p frontier → IsBefore p ((now + 1) ∷ [])) → (low : ℕ) → low ≤ up
+      → HasSentFrom s device node low (now + 1)
+  sent_by later low le = record {
+    unsent = λ c u x lt. w.unsent c u x (omega (arith, lt, le));
+    sent = λ c there. let x = w.sent c there in
+        (x.0, task_time s.network x.0 (now + 1) device (emitting c) (later _ x.1), x.2);
+  }
 
 -- and the other way: it rests by a time before which the frontier is not
-pub worked_by : (s : Scenario) (device : DeviceId) (node : Node) (changed t : ℕ) (frontier : List ℕ) → HasRested s device node changed t
-    → ((x : ℕ) (task : Task) → x < t → IsBefore (task_place s.network x device task) frontier) → HasWorkedTo s device node changed t frontier
-worked_by s device node changed t frontier r over = record {
+pub worked_by : {s : Scenario} {device : DeviceId} {node : Node} {changed t : ℕ} (frontier : List ℕ)
+    → HasRested s device node changed t → ((x : ℕ) (task : Task) → x < t
+    → IsBefore (task_place s.network x device task) frontier) → HasWorkedTo s device node changed t frontier
+worked_by frontier r over = record {
   undone = r.done.undone;
   done = λ deed there. let x = r.done.done deed there in (x.0, x.1, over x.0 (doing deed) x.2, x.3);
   unsent = r.sent.unsent;

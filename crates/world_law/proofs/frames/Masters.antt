@@ -34,9 +34,9 @@ ends_differ network link l keeps at same =
 
 -- ---- masters
 
-master_member : (network : Network) (device : DeviceId) → IsInRange network → has_role network is_master device ≡ true → (m : ℕ)
-    × (member_of network device ≡ Some m)
-master_member network device range role = by (device_at network device) refl role
+master_member : {network : Network} (device : DeviceId) → IsInRange network
+    → has_role network is_master device ≡ true → (m : ℕ) × (member_of network device ≡ Some m)
+master_member {network} device range role = by (device_at network device) refl role
   where
     some_of : (o : Option ℕ) → is_some o ≡ true → (m : ℕ) × (o ≡ Some m)
     some_of None e = absurd cc
@@ -111,7 +111,7 @@ given_by : (s : Scenario) (g : Happening) (front : List Happening) (device : Dev
     → ((by : DeviceId × LinkId) (of_cause of_clock : ℕ) (f : Pcf) → g.note.body ≡ kinds.Arrived by.0 by.1 of_cause of_clock → g.frame ≡ Some f
     → IsParentOf s.network by.0 by.1 → IsOneMaster s.network f.members) → IsOneMaster s.network frame.members
 given_by s g front device link frame (kinds.Sent master cycle) range c made of gives below is rest =
-    let m = master_member s.network master range c.master in
+    let m = master_member master range c.master in
     let dispatched = Rattle.run_law.specs.records.Frames.dispatched_frame s.network master cycle in
     let same : frame ≡ dispatched = some_same frame dispatched g.frame of made in
     one_of s.network master m.0 frame.members m.1
@@ -120,17 +120,20 @@ given_by s g front device link frame (kinds.Compressed cm opened at cycle of_mas
     absurd (both_ways (is_parent_of s.network device link) below (parent_true device (link_at s.network link) gives.1))
 given_by s g front device link frame (kinds.Arrived relay by cause clock) range c made of gives below is rest =
     elim gives.1.on [
-      | inl up ↦ rest (relay, by) cause clock frame is of (subst (λ (d : DeviceId). IsParentOf s.network d by) gives.0 up.0)
+      | inl up ↦ rest (relay, by) cause clock frame is of (subst (λ d. IsParentOf s.network d by) gives.0 up.0)
       | inr down ↦ absurd (both_ways (is_parent_of s.network device link) below (parent_true device (link_at s.network link) down.1))
     ]
 given_by s g front device link frame other range c made of gives below is rest = absurd gives
 
-from_put : (s : Scenario) (link : LinkId) (way : Way) (came : Pcf) (body : NoteBody) (h : Happening) (front : List Happening) → IsInRange s.network
-    → IsCaused s front h.note.time body → h.frame ≡ frame_by s.network front body → h.frame ≡ Some came → IsFounded place_of (IsDue s) front
-    → IsPutBy s h link way body → way ≡ Up → ((line : ℕ) (octets : List ℕ) → body ≡ kinds.Event line (Send link octets) → ⊥)
-    → ((g : Happening) (by : DeviceId × LinkId) (of_cause of_clock : ℕ) (f : Pcf) → IsIn g front → g.note.body ≡ kinds.Arrived by.0 by.1 of_cause of_clock
-    → g.frame ≡ Some f → IsParentOf s.network by.0 by.1 → IsOneMaster s.network f.members) → IsOneMaster s.network came.members
-from_put s link way came body h front range c made of founded (IsPutBy.leaving device cause clock w) upward never rest =
+from_put : {s : Scenario} {link : LinkId} {way : Way} (came : Pcf) {body : NoteBody} {h : Happening}
+    (front : List Happening) → IsInRange s.network → IsCaused s front h.note.time body
+    → h.frame ≡ frame_by s.network front body → h.frame ≡ Some came → IsFounded place_of (IsDue s) front
+    → IsPutBy s h link way body → way ≡ Up → ((line : ℕ) (octets : List ℕ)
+    → body ≡ kinds.Event line (Send link octets) → ⊥) →
+    ((g : Happening) (by : DeviceId × LinkId) (of_cause of_clock : ℕ) (f : Pcf) → IsIn g front
+    → g.note.body ≡ kinds.Arrived by.0 by.1 of_cause of_clock → g.frame ≡ Some f → IsParentOf s.network by.0 by.1
+    → IsOneMaster s.network f.members) → IsOneMaster s.network came.members
+from_put {s} {link} came {h} front range c made of founded (IsPutBy.leaving device cause clock w) upward never rest =
     let g = c.giving in
     let inside = numbered_in front cause g c.there in
     let at = founded_at s front g founded inside in
@@ -142,7 +145,8 @@ from_put s link way came body h front range c made of founded (IsPutBy.leaving d
     subst (λ (f : Pcf). IsOneMaster s.network f.members) (sym same)
     (given_by s g at.front device link c.frame g.note.body range at.due.cause (ap (λ (x : Happening). x.frame) at.due.same) c.of_frame c.gives below refl
     (λ by of_cause of_clock f is of_f parent. rest g by of_cause of_clock f inside is of_f parent))
-from_put s link way came body h front range c made of founded (IsPutBy.sending line octets w) upward never rest = absurd (never line octets refl)
+from_put came front range c made of founded (IsPutBy.sending line octets w) upward never rest =
+    absurd (never line octets refl)
 
 -- of the records up to so many: what comes up is of one master
 pub one_master : (n : ℕ) (s : Scenario) (hs : List Happening) (arrival : Happening) (device : DeviceId) (link : LinkId) (cause clock : ℕ) (frame : Pcf)
@@ -167,14 +171,14 @@ one_master (suc n) s hs arrival device link cause clock frame le range keeps end
           in
           let whole : hs ≡ c.front ++ arrival ∷ c.rest = c.whole in
           let before : IsFounded place_of (IsDue s) c.front = front_founded place_of (IsDue s) c.front (arrival ∷ c.rest)
-          (subst (λ (l : List Happening). IsFounded place_of (IsDue s) l) whole founded) in
+          (subst (λ l. IsFounded place_of (IsDue s) l) whole founded) in
           let long : length hs ≡ length (c.front ++ arrival ∷ c.rest) = ap length whole in
           let more = length-append c.front (arrival ∷ c.rest) in
           let tail : length (arrival ∷ c.rest) ≡ suc (length c.rest) = refl in
           let put = founded_at s c.front c.so.putting before (numbered_in c.front cause c.so.putting c.so.there) in
           let members : IsOneMaster network c.so.came.members → IsOneMaster network frame.members = λ one. subst (IsOneMaster network) (sym sound.members) one
           in
-          members (from_put s link c.so.arrives.way c.so.came c.so.putting.note.body c.so.putting put.front range put.due.cause
+          members (from_put c.so.came put.front range put.due.cause
           (ap (λ (h : Happening). h.frame) put.due.same) c.of_frame put.founded
           (put_by s c.so.putting (time_of c.so.putting) link c.so.arrives.way c.so.came c.so.putting.note.body c.so.arrives.put) upward
           (λ line octets it_is. both_ways (is_end network joint.child) switch
@@ -196,7 +200,7 @@ one_master (suc n) s hs arrival device link cause clock frame le range keeps end
     sent_end : (h : Happening) (front : List Happening) → IsCaused s front h.note.time h.note.body → (line : ℕ) (octets : List ℕ)
         → h.note.body ≡ kinds.Event line (Send link octets) → IsFromEnd s.network link
     sent_end h front c line octets is =
-        let e = subst (λ (b : NoteBody). IsCaused s front h.note.time b) is c in
+        let e = subst (λ b. IsCaused s front h.note.time b) is c in
         ends e.before e.event link octets e.is (sym e.same)
 
 -- so what waits is of one master, where it came from below; from an end system, of that
@@ -213,7 +217,7 @@ of_master s hs arrival device link cause clock frame range keeps ends founded i 
       own = λ child is_child end_is.
           let joint = opened (λ (l : Link). l.parent ≡ device) (link_at network link) parent in
           let same : joint.0.child ≡ child = at_known (λ (l : Link). l.child ≡ child) (link_at network link) joint.0 joint.1 is_child in
-          let m = end_member network device link frame.members joint.0 joint.1 joint.2 (subst (λ (d : DeviceId). is_end network d ≡ true) (sym same) end_is)
+          let m = end_member network device link frame.members joint.0 joint.1 joint.2 (subst (λ d. is_end network d ≡ true) (sym same) end_is)
           sound.member in
           subst (λ (o : Option ℕ). IsSomeAnd o (λ member. frame.members.0 ≡ 2 ^ member)) (sym (ap (member_of network) (sym same) ∙ m.1)) m.2;
     }

@@ -30,15 +30,16 @@ pub record IsTakenAs (network : Network) (device : DeviceId) (link : LinkId) (at
   pub none : frame_fault network device link at came ≡ None
   pub is : frame ≡ with_clock (clock_on_arrival network link came) came
 
-taken_by_fault : (network : Network) (device : DeviceId) (link : LinkId) (at : Standpoint) (came frame : Pcf) (fault : Option Reason) (is : Arrival)
-    → frame_of is ≡ Some frame
-    → is ≡ frame_or_fault network device link at came fault → (fault ≡ None) × (frame ≡ with_clock (clock_on_arrival network link came) came)
-taken_by_fault network device link at came frame (Some reason) is of e = absurd (let bad : None ≡ Some frame = sym (ap frame_of e) ∙ of in cc)
-taken_by_fault network device link at came frame None is of e = grind (arith, with_clock, frame_of_taken)
+module _ (network : Network) (device : DeviceId) (link : LinkId) (at : Standpoint) where
+  taken_by_fault : (came frame : Pcf) (fault : Option Reason) (is : Arrival) → frame_of is ≡ Some frame
+      → is ≡ frame_or_fault network device link at came fault
+      → (fault ≡ None) × (frame ≡ with_clock (clock_on_arrival network link came) came)
+  taken_by_fault came frame (Some reason) is of e =
+      absurd (let bad : None ≡ Some frame = sym (ap frame_of e) ∙ of in cc)
+  taken_by_fault came frame None is of e = grind (arith, with_clock, frame_of_taken)
 
-not_timed : (network : Network) (device : DeviceId) (link : LinkId) (at : Standpoint) (octets : List ℕ) (last : _)
-    → frame_of (timed_arrival network device link at octets last) ≡ None
-not_timed network device link at octets last = grind (arith, length)
+  not_timed : (octets : List ℕ) (last : _) → frame_of (timed_arrival network device link at octets last) ≡ None
+  not_timed octets last = grind (arith, length)
 
 -- what came was a control frame without a fault
 pub record CameSo (s : Scenario) (hs : List Happening) (device : DeviceId) (t : ℕ) (link : LinkId) (cause : ℕ) (frame : Pcf) : Type 0 where
@@ -48,27 +49,31 @@ pub record CameSo (s : Scenario) (hs : List Happening) (device : DeviceId) (t : 
   pub arrives : Arrives s putting device link t (control (Ok came))
   pub taken : IsTakenAs s.network device link (standpoint s hs device t) came frame
 
-came_so : (s : Scenario) (hs : List Happening) (device : DeviceId) (t : ℕ) (link : LinkId) (cause : ℕ) (is : Arrival) (frame : Pcf) → frame_of is ≡ Some frame
-    → ArrivesAs s hs device t link cause is → CameSo s hs device t link cause frame
-came_so s hs device t link cause is frame of a = by_signal a.signal a.arrives a.becomes
-  where
-    by_signal : (signal : Signal) → Arrives s a.putting device link t signal → is ≡ arrival_of s hs device t link cause signal
-        → CameSo s hs device t link cause frame
-    by_signal (timed octets) arrives e =
-        absurd (let bad : None ≡ Some frame = sym (not_timed s.network device link (standpoint s hs device t) octets _) ∙ sym (ap frame_of e) ∙ of in cc)
-    by_signal (control (Err refusal)) arrives e = absurd (let bad : None ≡ Some frame = sym (ap frame_of e) ∙ of in cc)
-    by_signal (control (Ok came)) arrives e =
-        let it = taken_by_fault s.network device link (standpoint s hs device t) came frame _ is of e in
-        record { putting = a.putting; there = a.there; came = came; arrives = arrives; taken = record { none = it.0; is = it.1 } }
+module _ (s : Scenario) (hs : List Happening) (device : DeviceId) (t : ℕ) (link : LinkId) (cause : ℕ) where
+  came_so : {is : Arrival} (frame : Pcf) → frame_of is ≡ Some frame → ArrivesAs s hs device t link cause is
+      → CameSo s hs device t link cause frame
+  came_so {is} frame of a = by_signal a.signal a.arrives a.becomes
+    where
+      by_signal : (signal : Signal) → Arrives s a.putting device link t signal → is ≡ arrival_of s hs device t link
+          cause signal
+          → CameSo s hs device t link cause frame
+      by_signal (timed octets) arrives e =
+          absurd (let bad : None ≡ Some frame = sym (not_timed s.network device link (standpoint s hs device t)
+          octets _) ∙ sym (ap frame_of e) ∙ of in cc)
+      by_signal (control (Err refusal)) arrives e =
+          absurd (let bad : None ≡ Some frame = sym (ap frame_of e) ∙ of in cc)
+      by_signal (control (Ok came)) arrives e =
+          let it = taken_by_fault s.network device link (standpoint s hs device t) came frame _ is of e in
+          record { putting = a.putting; there = a.there; came = came; arrives = arrives; taken = record { none = it.0; is = it.1 } }
 
-pub arrived_so : (s : Scenario) (hs : List Happening) (device : DeviceId) (t : ℕ) (link : LinkId) (cause clock : ℕ)
-    (a : IsArrivedRecord s hs device t link cause clock) → CameSo s hs device t link cause a.frame
-arrived_so s hs device t link cause clock a =
-    elim a.taken [
-      | inl waits ↦ came_so s hs device t link cause _ a.frame refl waits
-      | inr (inl passes) ↦ came_so s hs device t link cause _ a.frame refl passes
-      | inr (inr both) ↦ came_so s hs device t link cause _ a.frame refl both
-    ]
+  pub arrived_so : (clock : ℕ) (a : IsArrivedRecord s hs device t link cause clock)
+      → CameSo s hs device t link cause a.frame
+  arrived_so clock a =
+      elim a.taken [
+        | inl waits ↦ came_so a.frame refl waits
+        | inr (inl passes) ↦ came_so a.frame refl passes
+        | inr (inr both) ↦ came_so a.frame refl both
+      ]
 
 -- ---- its frame is that of the record that put it on the wire
 
@@ -106,11 +111,11 @@ pub has_come : (s : Scenario) (hs : List Happening) (arrival : Happening) (devic
 has_come s hs arrival device link cause clock frame founded i body of =
     let at = founded_at s hs arrival founded i in
     let due = at.due in
-    let a : IsArrivedRecord s at.front device (time_of arrival) link cause clock = subst (λ (b : NoteBody). IsCaused s at.front arrival.note.time b) body
+    let a : IsArrivedRecord s at.front device (time_of arrival) link cause clock = subst (λ b. IsCaused s at.front arrival.note.time b) body
     due.cause in
     let so = arrived_so s at.front device (time_of arrival) link cause clock a in
     let before : IsFounded place_of (IsDue s) at.front = Rattle.run_law.proofs.law.FirstPlaces.front_founded place_of (IsDue s) at.front (arrival ∷ at.rest)
-    (subst (λ (l : List Happening). IsFounded place_of (IsDue s) l) at.whole founded) in
+    (subst (λ l. IsFounded place_of (IsDue s) l) at.whole founded) in
     let put = founded_at s at.front so.putting before (numbered_in at.front cause so.putting so.there) in
     let put_frame : so.putting.frame ≡ Some so.came =
     launched_frame s put.front so.putting (time_of so.putting) link so.arrives.way so.came so.putting.note.body (ap (λ (h : Happening). h.frame) put.due.same)
@@ -121,7 +126,7 @@ has_come s hs arrival device link cause clock frame founded i body of =
     ∙ ap (option_map (with_clock clock)) put_frame in
     let frame_is : frame ≡ with_clock clock so.came = Rattle.world_law.proofs.giving.GivenParts.some_same frame (with_clock clock so.came) arrival.frame of own in
     let taken_clock : clock ≡ clock_on_arrival s.network link so.came = a.shows ∙ ap (λ (f : Pcf). f.clock) so.taken.is in
-    let same : a.frame ≡ frame = so.taken.is ∙ ap (λ (c : ℕ). with_clock c so.came) (sym taken_clock) ∙ sym frame_is in
+    let same : a.frame ≡ frame = so.taken.is ∙ ap (λ c. with_clock c so.came) (sym taken_clock) ∙ sym frame_is in
     record {
       front = at.front;
       rest = at.rest;
@@ -199,10 +204,10 @@ pub record IsReceiver (network : Network) (device : DeviceId) (link : LinkId) (w
   pub there : link_at network link ≡ Some joint
   pub is : target_by way joint ≡ device
 
-pub received : (network : Network) (device : DeviceId) (link : LinkId) (way : Way) → receiver_of network link way ≡ Some device
-    → IsReceiver network device link way
-received network device link way e = grind (arith, link_at, option_map, target_by)
+module _ (network : Network) (device : DeviceId) (link : LinkId) where
+  pub received : (way : Way) → receiver_of network link way ≡ Some device → IsReceiver network device link way
+  received way e = grind (arith, link_at, option_map, target_by)
 
-pub link_of : (network : Network) (device : DeviceId) (link : LinkId) (way : Way) → IsReceiver network device link way → IsLinkAt network device link
-link_of network device link Up r = inr (subst (λ (o : Option Link). IsSomeAnd o (λ l. l.parent ≡ device)) (sym r.there) r.is)
-link_of network device link Down r = inl (subst (λ (o : Option Link). IsSomeAnd o (λ l. l.child ≡ device)) (sym r.there) r.is)
+  pub link_of : (way : Way) → IsReceiver network device link way → IsLinkAt network device link
+  link_of Up r = inr (subst (λ (o : Option Link). IsSomeAnd o (λ l. l.parent ≡ device)) (sym r.there) r.is)
+  link_of Down r = inl (subst (λ (o : Option Link). IsSomeAnd o (λ l. l.child ≡ device)) (sym r.there) r.is)

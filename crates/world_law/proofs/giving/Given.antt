@@ -2,12 +2,12 @@
 use Rattle.world_law.proofs.devices.{Plains.{adjustments_plain, changes_at_plain, filter_plain, plains_parts, states_plain, told_by_others}, Working.worked_on}
 use Rattle.world_law.proofs.{rows.Takings.frames_by_others, runs.TaskPlaces.acts_before}
 use Rattle.run_law.proofs.{law.FirstPlaces.numbered_next, runs.NetworkRuns.one_more}
-use Rattle.{world_law.specs.world.World.{AreStored, AreUntold, Befell, IsActedUpTo, IsAwaitedFor, IsAtRest, IsJustTold, is_turning, note_of}}
+use Rattle.world_law.specs.world.World.{AreStored, AreUntold, Befell, IsActedUpTo, IsAwaitedFor, IsAtRest, IsJustTold, is_turning, note_of}
 use Rattle.std.proofs.lemmas.{List.length_push, Option.slice_get_cases}
 use Rattle.world_law.proofs.Words.{◌++◌, ◌+◌, ◌<◌, ◌∙◌, ◌∷◌, ◌≡◌, ◌≤◌, ◌⊎◌, AreAtPorts, AreClusters, AreOfNetwork, AreOnWires, AreSettled, AreWaiting}
 use Rattle.world_law.proofs.Words.{AtPort, Bool, Device, DeviceId, Happening, HaveBefallen, Integrating, IsActedOut, IsActing, IsBefore, IsDue}
 use Rattle.world_law.proofs.Words.{IsFounded, IsHeld, IsIn, IsJoiningNow, IsKept, IsSource, List, Network}
-use Rattle.world_law.proofs.Words.{Node, None, NoteBody, OnWire, Pcf, Point, Scenario, Some, State, Synchronised}
+use Rattle.world_law.proofs.Words.{Node, None, NoteBody, OnWire, Pcf, Scenario, Some, State, Synchronised}
 use Rattle.world_law.proofs.Words.{Task, Waiting, [], act_place, adjustment_after, amount, ap, append-nil, append_assoc, arith, before_behind}
 use Rattle.world_law.proofs.Words.{before_next_time, behind, cases_Bool, chain, changed_at, clock_place, device_at, earlier, ends_stretch, eqb-true, false}
 use Rattle.world_law.proofs.Words.{filter, filter_map, happening, happenings, if◌then◌else◌, in_left, in_parts, in_right, inl, inr, ints}
@@ -28,18 +28,19 @@ use Rattle.run_law.specs.declared.note.NoteBody.TheVariants as kinds
 up_to_by : (js gs : List Happening) (t : ℕ) → plains js ≡ plains gs → plains (up_to t js) ≡ plains (up_to t gs)
 up_to_by js gs t same =
     let p = λ (h : Happening). nat_le (time_of h) t in
-    sym (filter_plain p p (λ h. refl) js) ∙ ap (λ (l : List Happening). filter p l) same ∙ filter_plain p p (λ h. refl) gs
+    sym (filter_plain p p (λ h. refl) js) ∙ ap (λ l. filter p l) same ∙ filter_plain p p (λ h. refl) gs
 
-states_by : (s : Scenario) (js gs : List Happening) (device : DeviceId) (t : ℕ) → plains js ≡ plains gs
-    → state_after s (up_to t js) device ≡ state_after s (up_to t gs) device
-states_by s js gs device t same =
-    sym (states_plain s (up_to t js) device) ∙ ap (λ (l : List Happening). state_after s l device) (up_to_by js gs t same) ∙ states_plain s (up_to t gs) device
+module _ (s : Scenario) (js gs : List Happening) (device : DeviceId) (t : ℕ) (same : plains js ≡ plains gs) where
+  states_by : state_after s (up_to t js) device ≡ state_after s (up_to t gs) device
+  states_by =
+      sym (states_plain s (up_to t js) device) ∙ ap (λ l. state_after s l device)
+      (up_to_by js gs t same) ∙ states_plain s (up_to t gs) device
 
-adjustments_by : (s : Scenario) (js gs : List Happening) (device : DeviceId) (t : ℕ) → plains js ≡ plains gs
-    → adjustment_after s (up_to t js) device ≡ adjustment_after s (up_to t gs) device
-adjustments_by s js gs device t same =
-    sym (adjustments_plain s (up_to t js) device) ∙ ap (λ (l : List Happening). adjustment_after s l device) (up_to_by js gs t same)
-    ∙ adjustments_plain s (up_to t gs) device
+  adjustments_by : adjustment_after s (up_to t js) device ≡ adjustment_after s (up_to t gs) device
+  adjustments_by =
+      sym (adjustments_plain s (up_to t js) device) ∙ ap (λ l. adjustment_after s l device)
+      (up_to_by js gs t same)
+      ∙ adjustments_plain s (up_to t gs) device
 
 -- ---- whom a frame of its own tells the time
 
@@ -54,8 +55,8 @@ joined_points hs z device joins = ap (filter_map (λ h. point_by device h h.note
 joined_place : (z : Happening) (device : DeviceId) (now : ℕ) → time_of z ≡ now → (body : NoteBody) → z.note.body ≡ body → rank body ≡ 4
     → is_joined_by device body ≡ true → IsBefore (act_place now device) (place_of z)
 joined_place z device now at (kinds.Compressed other opened out cycle members judgements.Integrates) e four joins =
-    subst (λ (l : List ℕ). IsBefore (act_place now device) l)
-    (sym (ap (λ (b : NoteBody). time_of z ∷ rank b ∷ key (members_in z) b) e
+    subst (λ l. IsBefore (act_place now device) l)
+    (sym (ap (λ b. time_of z ∷ rank b ∷ key (members_in z) b) e
     ∙ ap (λ (n : ℕ). n ∷ 4 ∷ other.0 ∷ key_rest (members_in z) (kinds.Compressed other opened out cycle members judgements.Integrates)) at))
     (inr (refl, inr (refl, inr (eqb-true device.0 other.0 joins, tt))))
   where
@@ -67,19 +68,20 @@ joined_place z device now at (kinds.Permanent other link cause point judgements.
 joined_place z device now at other e four joins = absurd (let bad : false ≡ true = joins in cc)
 
 -- a device that looked for the common time, and has no points, does not act
-gone_acts : (s : Scenario) (hs : List Happening) (device : DeviceId) (now : ℕ) (task : Task) → state_before s hs device now ≡ Integrating
-    → points_of hs device ≡ [] → IsActing s hs now device task → ⊥
-gone_acts s hs device now task looking none (IsActing.emits sent verdict e) =
+gone_acts : {s : Scenario} {hs : List Happening} {device : DeviceId} {now : ℕ} {task : Task}
+    → state_before s hs device now ≡ Integrating → points_of hs device ≡ [] → IsActing s hs now device task → ⊥
+gone_acts {s} looking none (IsActing.emits sent verdict e) =
     no_cluster (observation_window s.network) e.clusters e.cluster
-    (subst (λ (ps : List Point). AreClusters (observation_window s.network) ps e.clusters) none e.are) e.there
-gone_acts s hs device now task looking none (IsActing.sends cycle d) = let bad : Integrating ≡ Synchronised = sym looking ∙ d.up.synchronised in cc
-gone_acts s hs device now task looking none (IsActing.corrects cycle c) =
-    let none : None ≡ Some cycle = sym (ap (λ (st : State). point_in st (next_cycle s hs device now)) looking) ∙ c.next in cc
-gone_acts s hs device now task looking none (IsActing.dispatches link cause vl cycle d) =
+    (subst (λ ps. AreClusters (observation_window s.network) ps e.clusters) none e.are) e.there
+gone_acts looking none (IsActing.sends cycle d) =
+    let bad : Integrating ≡ Synchronised = sym looking ∙ d.up.synchronised in cc
+gone_acts {s} {hs} {device} {now} looking none (IsActing.corrects cycle c) =
+    let none : None ≡ Some cycle = sym (ap (λ st. point_in st (next_cycle s hs device now)) looking) ∙ c.next in cc
+gone_acts looking none (IsActing.dispatches link cause vl cycle d) =
     let bad : Integrating ≡ Synchronised = sym looking ∙ d.up.synchronised in cc
 
 changes_by : (js gs : List Happening) (device : DeviceId) (t : ℕ) → plains js ≡ plains gs → changed_at js device t ≡ changed_at gs device t
-changes_by js gs device t same = sym (changes_at_plain js device t) ∙ ap (λ (l : List Happening). changed_at l device t) same ∙ changes_at_plain gs device t
+changes_by js gs device t same = sym (changes_at_plain js device t) ∙ ap (λ l. changed_at l device t) same ∙ changes_at_plain gs device t
 
 module _ {s : Scenario} {hs : List Happening} {z : Happening} {rest : List Happening} {mark cursor : List ℕ} {now : ℕ}
     (g : IsGiving s hs z rest mark cursor now) {n : ℕ} (is : n ≡ length hs + 1) where
@@ -106,7 +108,7 @@ module _ {s : Scenario} {hs : List Happening} {z : Happening} {rest : List Happe
           (record { putting = was.0.putting; there = there; signal = e.signal; arrives = was.0.arrives }) in
           (record { putting = was.0.putting; there = there; arrives = was.0.arrives }, λ open_. absurd cc, λ b. was.2 (worked_yet (wire_place e) source b))
       | inr it ↦
-          let later = arrives_later s (renumbered n z) e.device e.link e.at e.signal g.forward it.1 in (
+          let later = arrives_later g.forward it.1 in (
             record { putting = renumbered n z; there = here_then e.cause it.0; arrives = it.1 },
             λ open_. absurd cc,
             λ b. elim (no_higher e.at 2 (time_of z) (rank z.note.body) _ (key (members_in z) z.note.body) (up_to_place (wire_place e) (place_of z) b)) [
@@ -179,9 +181,9 @@ module _ {s : Scenario} {hs : List Happening} {z : Happening} {rest : List Happe
               let frame : r.frame ≡ e.frame = some_same r.frame e.frame _ p.of_frame (ap (λ (h : Happening). h.frame) (sym arrival) ∙ was.awaited.of_frame) in
               let at = ripe_with t e r.frame frame in
               let yet = worked_yet _ (IsSource.ripening t e.device e.link e.cause e.point r)
-              (subst (λ (q : List ℕ). IsBefore q (behind (place_of z))) (sym at) b) in
-              are.later e old t (record { frame = r.frame; permanent = same_permanent s hs _ t e.device e.link e.cause r.frame e.point p there })
-              (subst (λ (q : List ℕ). IsBefore q cursor) at yet)
+              (subst (λ q. IsBefore q (behind (place_of z))) (sym at) b) in
+              are.later e old t (record { frame = r.frame; permanent = same_permanent hs p there })
+              (subst (λ q. IsBefore q cursor) at yet)
           | inr it ↦
               let arrival : renumbered n z ≡ p.arrival = some_same (renumbered n z) p.arrival _ (here_then e.cause it.0) p.there in
               let two : rank z.note.body ≡ 2 = ap (λ (h : Happening). rank h.note.body) arrival ∙ ap rank p.arrived in
@@ -193,20 +195,20 @@ module _ {s : Scenario} {hs : List Happening} {z : Happening} {rest : List Happe
               ]
         ];
     sound = λ e i. elim (put.real e i)
-        [ inl old ↦ are.sound e old | inr it ↦ subst (λ (t : ℕ). is_broken s e.device t ≡ false) (g.are.of_now z (inl refl)) it.2 ];
+        [ inl old ↦ are.sound e old | inr it ↦ subst (λ t. is_broken s e.device t ≡ false) (g.are.of_now z (inl refl)) it.2 ];
     all = λ e it sound not.
         elim (numbered_more hs (renumbered n z) it.arrival e.cause it.there) [
           | inl old ↦
               put.kept e (are.all e (record { arrival = it.arrival; there = old; awaited = it.awaited }) sound (λ t r b.
               not t (record {
                 frame = r.frame;
-                permanent = same_permanent s _ hs t e.device e.link e.cause r.frame e.point r.permanent
+                permanent = same_permanent _ r.permanent
                     (there_still r.permanent.arrival e.cause r.permanent.there);
               })
               (g.are.not_past z (inl refl) (ripe_place t e) b)))
           | inr new_one ↦
-              put.all e (new_one.0 ∙ sym is) (subst (λ (h : Happening). IsAwaitedFor s h e) (sym new_one.1) it.awaited)
-              (subst (λ (t : ℕ). is_broken s e.device t ≡ false) (sym (g.are.of_now z (inl refl))) sound)
+              put.all e (new_one.0 ∙ sym is) (subst (λ h. IsAwaitedFor s h e) (sym new_one.1) it.awaited)
+              (subst (λ t. is_broken s e.device t ≡ false) (sym (g.are.of_now z (inl refl))) sound)
         ];
   }
     where
@@ -229,7 +231,7 @@ module _ {s : Scenario} {hs : List Happening} {z : Happening} {rest : List Happe
       (up_to_place (act_place now device) (place_of z) b)) [
         | inl lt ↦ absurd (omega (arith, at, lt))
         | inr same ↦
-            acting_back s hs (renumbered n z ∷ []) now device task (λ y i. let t = alone_now y i in omega (arith, t))
+            acting_back hs (renumbered n z ∷ []) (λ y i. let t = alone_now y i in omega (arith, t))
             (λ y i. elim i [
               | inl e ↦ let same_rank : rank y.note.body ≡ rank z.note.body = ap (λ (h : Happening). rank h.note.body) e in omega (arith, same_rank, same.1)
               | inr none ↦ absurd none
@@ -258,7 +260,7 @@ module _ {s : Scenario} {hs : List Happening} {z : Happening} {rest : List Happe
   joins_then {device} j =
       let same : earlier now (hs ++ renumbered n z ∷ []) ≡ earlier now hs = earlier_still now hs (renumbered n z ∷ [])
       (λ y i. let t = alone_now y i in omega (arith, t)) in
-      let looking : state_before s (hs ++ renumbered n z ∷ []) device now ≡ Integrating = ap (λ (l : List Happening). if is_turned_on_at s device now
+      let looking : state_before s (hs ++ renumbered n z ∷ []) device now ≡ Integrating = ap (λ l. if is_turned_on_at s device now
       then Integrating else state_after s l device) same ∙ j.looking in
       elim j.there [
         | inr more ↦ inr (inr (record { looking = looking; by = j.by; there = more; sent = j.sent; joins = j.joins }))
@@ -268,7 +270,7 @@ module _ {s : Scenario} {hs : List Happening} {z : Happening} {rest : List Happe
             inl (record {
               past = chain (act_place now device) (place_of z) (behind (place_of z))
                   (joined_place z device now (g.are.of_now z (inl refl)) z.note.body refl four joins) (before_behind (place_of z));
-              all = λ task a. absurd (gone_acts s _ device now task looking (joined_points hs (renumbered n z) device joins) a);
+              all = λ task a. absurd (gone_acts looking (joined_points hs (renumbered n z) device joins) a);
             })
       ]
 
@@ -289,7 +291,7 @@ module _ {s : Scenario} {hs : List Happening} {z : Happening} {rest : List Happe
   -- each of them is one of those before, but for its number, and the other way round
   one_then : (h : Happening) → IsIn h ((hs ++ renumbered n z ∷ []) ++ rest) → (y : Happening) × IsIn y (hs ++ z ∷ rest) × (time_of y ≡ time_of h)
       × (y.note.body ≡ h.note.body)
-  one_then h i = elim (in_parts h hs (renumbered n z ∷ rest) (subst (λ (l : List Happening). IsIn h l) (append_assoc hs (renumbered n z ∷ []) rest) i)) [
+  one_then h i = elim (in_parts h hs (renumbered n z ∷ rest) (subst (λ l. IsIn h l) (append_assoc hs (renumbered n z ∷ []) rest) i)) [
     | inl old ↦ (h, in_left h hs (z ∷ rest) old, refl, refl)
     | inr (inl e) ↦ (z, in_right z hs (z ∷ rest) (inl refl), ap time_of (sym e), ap (λ (k : Happening). k.note.body) (sym e))
     | inr (inr more) ↦ (h, in_right h hs (z ∷ rest) (inr more), refl, refl)
@@ -299,7 +301,7 @@ module _ {s : Scenario} {hs : List Happening} {z : Happening} {rest : List Happe
       × (y.note.body ≡ h.note.body)
   one_before h i =
       let over : (y : Happening) → IsIn y (hs ++ renumbered n z ∷ rest) → IsIn y ((hs ++ renumbered n z ∷ []) ++ rest) = λ y j.
-      subst (λ (l : List Happening). IsIn y l) (sym (append_assoc hs (renumbered n z ∷ []) rest)) j in
+      subst (λ l. IsIn y l) (sym (append_assoc hs (renumbered n z ∷ []) rest)) j in
       elim (in_parts h hs (z ∷ rest) i) [
         | inl old ↦ (h, over h (in_left h hs (renumbered n z ∷ rest) old), refl, refl)
         | inr (inl e) ↦ (
@@ -327,14 +329,14 @@ module _ {s : Scenario} {hs : List Happening} {z : Happening} {rest : List Happe
               | inl out ↦ inl (out_then out)
               | inr (inl just) ↦ inr (inl (record {
                 looking =
-                    ap (λ (l : List Happening). if is_turned_on_at s device now then Integrating else state_after s l device) (sym later) ∙ just.looking;
+                    ap (λ l. if is_turned_on_at s device now then Integrating else state_after s l device) (sym later) ∙ just.looking;
                 other = just.other;
               }))
               | inr (inr joining) ↦ joins_then joining
             ];
-        left = told_by_others s _ _ device k.up k.node alike_then k.left;
+        left = told_by_others _ alike_then k.left;
         taken = k.taken ∙ frames_by_others s _ _ device alike_then;
-        worked = worked_on s device k.node _ _ k.up cursor (behind (place_of z)) (changes_by _ _ device k.up alike_then) (g.are.not_past z (inl refl)) k.worked;
+        worked = worked_on _ (behind (place_of z)) (changes_by _ _ device k.up alike_then) (g.are.not_past z (inl refl)) k.worked;
         bare = k.bare;
         ready = k.ready;
         still = λ same h i at.
@@ -342,7 +344,7 @@ module _ {s : Scenario} {hs : List Happening} {z : Happening} {rest : List Happe
         turned = λ on.
             let was = k.turned on in
             record {
-              off = ap (λ (l : List Happening). state_after s l device) (sym later) ∙ was.off;
+              off = ap (λ l. state_after s l device) (sym later) ∙ was.off;
               number = was.number;
               event = was.event;
               befell = record { there = there_still was.event was.number was.befell.there; same_time = was.befell.same_time };
@@ -379,7 +381,7 @@ module _ {s : Scenario} {hs : List Happening} {z : Happening} {rest : List Happe
     none = untold.none;
     waits = λ open_. absurd (let bad : false ≡ true = sym told ∙ open_ in cc);
     early = λ open_. absurd (let bad : false ≡ true = sym told ∙ open_ in cc);
-    real = λ e i. absurd (subst (λ (l : List Befell). IsIn e l) (untold.none told) i);
+    real = λ e i. absurd (subst (λ l. IsIn e l) (untold.none told) i);
     all = λ open_. absurd (let bad : false ≡ true = sym told ∙ open_ in cc);
     in_order = untold.in_order;
   }
@@ -391,9 +393,9 @@ module _ {s : Scenario} {hs : List Happening} {z : Happening} {rest : List Happe
   }
 
 -- where something is settled, no event is pending
-settled_told : (hs : List Happening) (cursor : List ℕ) (now : ℕ) (pending : Bool) (befell : List Befell) → AreUntold hs cursor now pending befell
-    → IsBefore (now ∷ 2 ∷ []) cursor → pending ≡ false
-settled_told hs cursor now pending befell untold begun =
+settled_told : {hs : List Happening} {cursor : List ℕ} {now : ℕ} {pending : Bool} {befell : List Befell}
+    → AreUntold hs cursor now pending befell → IsBefore (now ∷ 2 ∷ []) cursor → pending ≡ false
+settled_told {now} {pending} untold begun =
     elim (cases_Bool pending) [ inr told ↦ told | inl open_ ↦ absurd (never_self (now ∷ 2 ∷ []) (untold.early open_ (now ∷ 2 ∷ []) begun)) ]
 
 -- ---- the step
@@ -410,22 +412,22 @@ given_step {C} {M} reading stands s world notes z rest wires ports waiting store
     let hs = happenings s.network notes in
     let n = length notes + 1 in
     let x = renumbered n z in
-    let number : n ≡ length hs + 1 = ap (λ (k : ℕ). k + 1) (length_is s notes) in
-    let are : AreSettled s hs (z ∷ rest) old.mark old.cursor world.now = subst (λ (l : List Happening). AreSettled s hs l old.mark old.cursor world.now)
+    let number : n ≡ length hs + 1 = ap (λ k. k + 1) (length_is s notes) in
+    let are : AreSettled s hs (z ∷ rest) old.mark old.cursor world.now = subst (λ l. AreSettled s hs l old.mark old.cursor world.now)
     settled old.are in
-    let due : IsDueAs s hs z = subst (λ (l : List Happening). IsDueAs s l z) (append-nil hs) (are.founded [] rest z refl).1 in
+    let due : IsDueAs s hs z = subst (λ l. IsDueAs s l z) (append-nil hs) (are.founded [] rest z refl).1 in
     let is_x : happening s.network hs (note_of notes z) ≡ x = sym (ap (renumbered n) due.same) in
     let back : hs ++ x ∷ [] ≡ happenings s.network (notes ++ note_of notes z ∷ []) = ap (λ (h : Happening). hs ++ h ∷ []) (sym is_x)
     ∙ sym (one_more s.network notes (note_of notes z)) in
     let giving : IsGiving s hs z rest old.mark old.cursor world.now =
     record { forward = old.forward; are = are; first = none; past = λ p b. old.ahead p (old.of_now p b) } in
     let then_ = behind (place_of z) in
-    let told = settled_told hs old.cursor world.now world.pending world.befell old.untold (are.begun z (inl refl)) in
+    let told = settled_told old.untold (are.begun z (inl refl)) in
     let over : (p : List ℕ) → IsBefore p old.mark → IsBefore p then_ = λ p b. are.not_past z (inl refl) p (old.ahead p b) in
-    let room : length notes + suc (length rest) < numbers_end = subst (λ (l : List Happening). length notes + length l < numbers_end) settled old.room in
+    let room : length notes + suc (length rest) < numbers_end = subst (λ l. length notes + length l < numbers_end) settled old.room in
     let pushed : length (notes ++ note_of notes z ∷ []) ≡ n = length_push notes (note_of notes z) in
     let founded : IsFounded place_of (IsDue s) hs = old.run.founded in
-    let told_wires : AreOnWires s hs old.cursor world.now false world.wires = subst (λ (b : Bool). AreOnWires s hs old.cursor world.now b world.wires) told
+    let told_wires : AreOnWires s hs old.cursor world.now false world.wires = subst (λ b. AreOnWires s hs old.cursor world.now b world.wires) told
     old.wires in (
       record {
         same = old.same;
@@ -440,11 +442,11 @@ given_step {C} {M} reading stands s world notes z rest wires ports waiting store
         ahead = λ p b. b;
         of_now = λ p b. over p (old.of_now p b);
         not_later =
-            λ p b. subst (λ (t : ℕ). IsBefore p ((t + 1) ∷ [])) (are.of_now z (inl refl))
+            λ p b. subst (λ t. IsBefore p ((t + 1) ∷ [])) (are.of_now z (inl refl))
             (before_next_time p (time_of z) (rank z.note.body ∷ (key (members_in z) z.note.body ++ 0 ∷ [])) b);
         limit = old.limit;
         lines = old.lines;
-        given = ap (λ (k : ℕ). k + 1) old.given ∙ sym pushed;
+        given = ap (λ k. k + 1) old.given ∙ sym pushed;
         ended = old.ended;
         befallen = record {
           past = old.befallen.past;
@@ -463,27 +465,27 @@ given_step {C} {M} reading stands s world notes z rest wires ports waiting store
             let k = old.devices device lt in (
               k.0,
               k.1,
-              subst (λ (l : List Happening). IsHeld stands s l rest then_ world.now device k.0) back
-                  (held_then giving number (subst (λ (l : List Happening). IsHeld stands s hs l old.cursor world.now device k.0) settled k.2)),
+              subst (λ l. IsHeld stands s l rest then_ world.now device k.0) back
+                  (held_then giving number (subst (λ l. IsHeld stands s hs l old.cursor world.now device k.0) settled k.2)),
             );
         early = λ fresh. absurd (never_self (world.now ∷ 2 ∷ []) (old.early fresh (world.now ∷ 2 ∷ []) (are.begun z (inl refl))));
         untold =
-            subst (λ (l : List Happening). AreUntold l then_ world.now world.pending world.befell) back (untold_then giving number told old.untold);
+            subst (λ l. AreUntold l then_ world.now world.pending world.befell) back (untold_then giving number told old.untold);
         wires =
-            subst (λ (b : Bool). AreOnWires s (happenings s.network (notes ++ note_of notes z ∷ [])) then_ world.now b wires) (sym told)
-            (subst (λ (l : List Happening). AreOnWires s l then_ world.now false wires) back
-            (wires_then giving number told_wires (subst (λ (h : Happening). ArePut s h n world.wires wires) is_x put)));
+            subst (λ b. AreOnWires s (happenings s.network (notes ++ note_of notes z ∷ [])) then_ world.now b wires) (sym told)
+            (subst (λ l. AreOnWires s l then_ world.now false wires) back
+            (wires_then giving number told_wires (subst (λ h. ArePut s h n world.wires wires) is_x put)));
         ports =
-            subst (λ (l : List Happening). AreAtPorts s l then_ ports) back
-            (ports_then giving number old.ports (subst (λ (h : Happening). AreGiven s h n world.ports ports) is_x given));
+            subst (λ l. AreAtPorts s l then_ ports) back
+            (ports_then giving number old.ports (subst (λ h. AreGiven s h n world.ports ports) is_x given));
         waiting =
-            subst (λ (l : List Happening). AreWaiting s l then_ world.now waiting) back
-            (waiting_then giving number old.befallen old.waiting (subst (λ (h : Happening). AreAwaited s h n world.waiting waiting) is_x awaited));
+            subst (λ l. AreWaiting s l then_ world.now waiting) back
+            (waiting_then giving number old.befallen old.waiting (subst (λ h. AreAwaited s h n world.waiting waiting) is_x awaited));
         stored =
-            subst (λ (l : List Happening). AreStored l stored) back
-            (stored_then hs x n world.stored stored refl old.stored (subst (λ (h : Happening). AreTaken h n world.stored stored) is_x taken));
+            subst (λ l. AreStored l stored) back
+            (stored_then refl old.stored (subst (λ h. AreTaken h n world.stored stored) is_x taken));
         are =
-            subst (λ (l : List Happening). AreSettled s l rest then_ then_ world.now) back
+            subst (λ l. AreSettled s l rest then_ then_ world.now) back
             (settled_then (record { giving = giving; one = refl; founded = founded }));
         shown = λ device lt ended. (
           λ b.

@@ -18,7 +18,7 @@ module _ {s : Scenario} {hs : List Happening} {z g : Happening} {rest : List Hap
     (x : IsGivenAs s hs z g rest mark cursor now) where
   not_over : (q : List ℕ) → IsBefore q (behind (place_of z)) → IsBefore (place_of z) q → ⊥
   not_over q under lt = elim (up_to_place q (place_of z) under) [
-    | inl e ↦ never_self (place_of z) (subst (λ (p : List ℕ). IsBefore (place_of z) p) e lt)
+    | inl e ↦ never_self (place_of z) (subst (λ p. IsBefore (place_of z) p) e lt)
     | inr less ↦ never_self (place_of z) (chain (place_of z) q (place_of z) lt less)
   ]
 
@@ -28,7 +28,7 @@ module _ {s : Scenario} {hs : List Happening} {z g : Happening} {rest : List Hap
     | inr no_it ↦ no_it
     | inl is ↦
         let are = x.giving.are in
-        absurd (not_over (place_of y) (are.not_past z (inl refl) (place_of y) (are.worked y (inr i) is)) (first_before s hs z rest mark cursor now are y i))
+        absurd (not_over (place_of y) (are.not_past z (inl refl) (place_of y) (are.worked y (inr i) is)) (first_before z rest are y i))
   ]
 
   from_two : 2 ≤ rank z.note.body
@@ -64,7 +64,7 @@ module _ {s : Scenario} {hs : List Happening} {z g : Happening} {rest : List Hap
         at = at ∙ time;
         not_there = late;
         own = off.1;
-        under = subst (λ (p : List ℕ). IsBefore p off.0 → ⊥) place (not_over off.0 off.3);
+        under = subst (λ p. IsBefore p off.0 → ⊥) place (not_over off.0 off.3);
       } in
       let from : AreFrom (time_of g) (rank g.note.body) (g ∷ front) = λ h i.
       let was = from_it front back e in
@@ -72,9 +72,9 @@ module _ {s : Scenario} {hs : List Happening} {z g : Happening} {rest : List Hap
         | inl same ↦ (ap time_of same, subst (λ (k : Happening). rank g.note.body ≤ rank k.note.body) (sym same) (omega arith))
         | inr more ↦
             let it = was h (inr more) in
-            (it.0 ∙ time, subst (λ (n : ℕ). n ≤ rank h.note.body) ranks it.1)
+            (it.0 ∙ time, subst (λ n. n ≤ rank h.note.body) ranks it.1)
       ] in
-      let high : 2 ≤ rank g.note.body = subst (λ (n : ℕ). 2 ≤ n) ranks from_two in
+      let high : 2 ≤ rank g.note.body = subst (λ n. 2 ≤ n) ranks from_two in
       let is = due_given s hs front g z (sym x.one) x.giving.forward x.founded high from b due in
       let own = own_given s hs front g z (sym x.one) x.giving.forward x.founded high from b due in
       (is, (off.0, own, own_source s (hs ++ z ∷ front) y.note.time (members_in y) y.note.body off.0 late is.cause own, off.3))
@@ -84,7 +84,7 @@ module _ {s : Scenario} {hs : List Happening} {z g : Happening} {rest : List Hap
       → IsBefore q (behind (place_of z)) → IsBefore (place_of z) (place_of y) → (time_of y ≡ time_of z) × (is_at_source y.note.body ≡ false)
   of_it js y q own under over =
       let at = own_time s js (time_of y) (members_in y) y.note.body q own in
-      let low : time_of y ≤ time_of z = elim (subst (λ (p : List ℕ). IsBefore p (behind (place_of z))) at.2 under)
+      let low : time_of y ≤ time_of z = elim (subst (λ p. IsBefore p (behind (place_of z))) at.2 under)
       [ inl lt ↦ omega (arith, lt) | inr same ↦ let e = same.0 in omega (arith, e) ] in
       let high : time_of z ≤ time_of y = elim over [ inl lt ↦ omega (arith, lt) | inr same ↦ let e = same.0 in omega (arith, e) ] in (
         omega (arith, low, high),
@@ -92,18 +92,18 @@ module _ {s : Scenario} {hs : List Happening} {z g : Happening} {rest : List Hap
           | inr no_it ↦ no_it
           | inl is ↦
               let here = own_here s js (time_of y) (members_in y) y.note.body q is own in
-              absurd (not_over q under (subst (λ (p : List ℕ). IsBefore (place_of z) p) (sym here) over))
+              absurd (not_over q under (subst (λ p. IsBefore (place_of z) p) (sym here) over))
         ],
       )
 
   pub settled_then : AreSettled s (hs ++ g ∷ []) rest (behind (place_of z)) (behind (place_of z)) now
   settled_then =
       let are = x.giving.are in
-      let first = first_before s hs z rest mark cursor now are in
+      let first = first_before z rest are in
       let each : (front back : List Happening) (y : Happening) → rest ≡ front ++ y ∷ back
       → IsDueAs s (hs ++ g ∷ front) y × IsWorkedOff s (hs ++ g ∷ front) (behind (place_of z)) y = λ front back y e.
       let whole : z ∷ rest ≡ (z ∷ front) ++ y ∷ back = ap (λ (l : List Happening). z ∷ l) e in
-      let here : IsIn y rest = subst (λ (l : List Happening). IsIn y l) (sym e) (in_right y front (y ∷ back) (inl refl)) in
+      let here : IsIn y rest = subst (λ l. IsIn y l) (sym e) (in_right y front (y ∷ back) (inl refl)) in
       let by = are.by (z ∷ front) back y whole in
       over_to front (y ∷ back) y e (are.of_now y (inr here) ∙ sym (are.of_now z (inl refl))) (late y here) (are.founded (z ∷ front) back y whole).1
       (by.0, by.1, by.2, are.not_past z (inl refl) by.0 by.3) in
@@ -112,27 +112,27 @@ module _ {s : Scenario} {hs : List Happening} {z g : Happening} {rest : List Hap
         behind_mark = λ y i b. nothing_between (place_of z) (place_of y) (first y i) b;
         founded = λ front back y e.
             let was = are.founded (z ∷ front) back y (ap (λ (l : List Happening). z ∷ l) e) in
-            (λ h i. was.0 h (inr i), subst (λ (l : List Happening). IsDueAs s l y) (sym (append_assoc hs (g ∷ []) front)) (each front back y e).0);
+            (λ h i. was.0 h (inr i), subst (λ l. IsDueAs s l y) (sym (append_assoc hs (g ∷ []) front)) (each front back y e).0);
         by = λ front back y e.
-            subst (λ (l : List Happening). IsWorkedOff s l (behind (place_of z)) y) (sym (append_assoc hs (g ∷ []) front)) (each front back y e).1;
+            subst (λ l. IsWorkedOff s l (behind (place_of z)) y) (sym (append_assoc hs (g ∷ []) front)) (each front back y e).1;
         full = λ front back y e before none not due worked.
             let over = beyond (place_of z) (place_of y) not in
             let all : AllBefore place_of (z ∷ front) (place_of y) = λ h i. elim i
-            [ inl same ↦ subst (λ (k : Happening). IsBefore (place_of k) (place_of y)) (sym same) over | inr more ↦ before h more ] in
+            [ inl same ↦ subst (λ k. IsBefore (place_of k) (place_of y)) (sym same) over | inr more ↦ before h more ] in
             let parts = append_assoc hs (g ∷ []) front in
             let unmarked : IsBefore (place_of y) mark → ⊥ = λ b. are.behind_mark z (inl refl) (chain (place_of z) (place_of y) mark over b) in
             let off : IsWorkedOff s (hs ++ g ∷ front) (behind (place_of z)) y =
-            subst (λ (l : List Happening). IsWorkedOff s l (behind (place_of z)) y) parts worked in
+            subst (λ l. IsWorkedOff s l (behind (place_of z)) y) parts worked in
             let it = of_it (hs ++ g ∷ front) y off.0 off.1 off.3 over in
-            let was = back_to front back y e it.0 it.1 (subst (λ (l : List Happening). IsDueAs s l y) parts due) off in
+            let was = back_to front back y e it.0 it.1 (subst (λ l. IsDueAs s l y) parts due) off in
             let found = are.full (z ∷ front) back y (ap (λ (l : List Happening). z ∷ l) e) all none unmarked was.0
             (was.1.0, was.1.1, was.1.2, worked_by_then x.giving (z ∷ front) (all_over x.giving front back e) was.1.0 was.1.2 was.1.3) in
             elim found.1 [
-              | inl same ↦ absurd (never_self (place_of y) (subst (λ (p : List ℕ). IsBefore p (place_of y)) (sym (ap place_of same) ∙ found.2) over))
+              | inl same ↦ absurd (never_self (place_of y) (subst (λ p. IsBefore p (place_of y)) (sym (ap place_of same) ∙ found.2) over))
               | inr i ↦ (found.0, i, found.2)
             ];
         not_past = λ y i p b. elim (up_to_place p (place_of z) b) [
-          | inl e ↦ chain p (place_of y) (behind (place_of y)) (subst (λ (q : List ℕ). IsBefore q (place_of y)) (sym e) (first y i))
+          | inl e ↦ chain p (place_of y) (behind (place_of y)) (subst (λ q. IsBefore q (place_of y)) (sym e) (first y i))
               (before_behind (place_of y))
           | inr lt ↦ chain p (place_of y) (behind (place_of y)) (chain p (place_of z) (place_of y) lt (first y i)) (before_behind (place_of y))
         ];

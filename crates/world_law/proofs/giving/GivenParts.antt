@@ -18,20 +18,23 @@ in_get (y ∷ xs) x (inl e) = (0, ap Some (sym e))
 in_get (y ∷ xs) x (inr i) = let more = in_get xs x i in (suc more.0, more.1)
 
 -- at a later time no other events have befallen
-pub no_later_events : (s : Scenario) (mark : List ℕ) (now t : ℕ) → HaveBefallen s mark now → now ≤ t → events_up_to s t ≡ events_up_to s now
-no_later_events s mark now t b le = grind (arith, same_kept, nat_le, amount, in_get, le-leb)
+pub no_later_events : {s : Scenario} {mark : List ℕ} {now : ℕ} (t : ℕ) → HaveBefallen s mark now → now ≤ t
+    → events_up_to s t ≡ events_up_to s now
+no_later_events t b le = grind (arith, same_kept, nat_le, amount, in_get, le-leb)
 
 pub no_later_breaks : (s : Scenario) (mark : List ℕ) (now t : ℕ) (device : DeviceId) → HaveBefallen s mark now → now ≤ t
     → is_broken s device t ≡ is_broken s device now
-no_later_breaks s mark now t device b le = ap (λ (l : List Event). list_any (λ e. breaks_at device.0 e.what) l) (no_later_events s mark now t b le)
+no_later_breaks s mark now t device b le =
+    ap (λ (l : List Event). list_any (λ e. breaks_at device.0 e.what) l) (no_later_events t b le)
 
 pub some_same : {X : Type 0} (x y : X) (o : Option X) → o ≡ Some x → o ≡ Some y → x ≡ y
 some_same x y o a b = let e : Some x ≡ Some y = sym a ∙ b in cc
 
 -- the arrival of this number is permanent by the records of its number alone
-pub same_permanent : (s : Scenario) (hs js : List Happening) (t : ℕ) (device : DeviceId) (link : LinkId) (cause : ℕ) (frame : Pcf) (point : Units)
-    (p : IsPermanent s js device t link cause frame point) → numbered hs cause ≡ Some p.arrival → IsPermanent s hs device t link cause frame point
-same_permanent s hs js t device link cause frame point p there = grind arith
+pub same_permanent : {s : Scenario} (hs : List Happening) {js : List Happening} {t : ℕ} {device : DeviceId}
+    {link : LinkId} {cause : ℕ} {frame : Pcf} {point : Units} (p : IsPermanent s js device t link cause frame point)
+    → numbered hs cause ≡ Some p.arrival → IsPermanent s hs device t link cause frame point
+same_permanent hs p there = grind arith
 
 -- ---- places
 
@@ -65,22 +68,25 @@ time_in [] = 0
 time_in (n ∷ ns) = n
 
 -- a source that stands at the place of a record stands so by the record's kind
-pub at_its_place : (s : Scenario) (hs : List Happening) (z : Happening) (w : List ℕ) → IsSource s hs w → w ≡ place_of z → is_at_source z.note.body ≡ true
-at_its_place s hs z w (IsSource.arriving t device link cause a) e = elim (source_kinds z.note.body) [ inl is ↦ is | inr other ↦ absurd (other.0 (ap second e)) ]
-at_its_place s hs z w (IsSource.ripening t device link cause point r) e =
+pub at_its_place : {s : Scenario} {hs : List Happening} (z : Happening) {w : List ℕ} → IsSource s hs w
+    → w ≡ place_of z → is_at_source z.note.body ≡ true
+at_its_place z (IsSource.arriving t device link cause a) e =
+    elim (source_kinds z.note.body) [ inl is ↦ is | inr other ↦ absurd (other.0 (ap second e)) ]
+at_its_place z (IsSource.ripening t device link cause point r) e =
     elim (source_kinds z.note.body) [ inl is ↦ is | inr other ↦ absurd (other.1 (ap second e)) ]
-at_its_place s hs z w (IsSource.acting t device task a) e = elim (source_kinds z.note.body) [
+at_its_place {s} z (IsSource.acting t device task a) e = elim (source_kinds z.note.body) [
   | inl is ↦ is
   | inr other ↦ absurd (no_task_at s.network t device (rank z.note.body) (key (members_in z) z.note.body) other.4 task
       (e ∙ ap (λ (n : ℕ). n ∷ rank z.note.body ∷ key (members_in z) z.note.body) (sym (ap time_in e))))
 ]
-at_its_place s hs z w (IsSource.departing t device link cause d) e =
+at_its_place z (IsSource.departing t device link cause d) e =
     elim (source_kinds z.note.body) [ inl is ↦ is | inr other ↦ absurd (other.2 (ap second e)) ]
-at_its_place s hs z w (IsSource.following t cause h it) e =
+at_its_place z (IsSource.following t cause h it) e =
     let few : 2 ≡ suc (suc (length (key (members_in z) z.note.body))) = ap length e in absurd (omega (arith, few, key_long (members_in z) z.note.body))
-at_its_place s hs z w (IsSource.befalling time line what it) e =
+at_its_place z (IsSource.befalling time line what it) e =
     let few : 2 ≡ suc (suc (length (key (members_in z) z.note.body))) = ap length e in absurd (omega (arith, few, key_long (members_in z) z.note.body))
-at_its_place s hs z w (IsSource.ending time device is there it) e = elim (source_kinds z.note.body) [ inl is ↦ is | inr other ↦ absurd (other.3 (ap second e)) ]
+at_its_place z (IsSource.ending time device is there it) e =
+    elim (source_kinds z.note.body) [ inl is ↦ is | inr other ↦ absurd (other.3 (ap second e)) ]
 
 -- ---- what is worked off
 
@@ -97,7 +103,7 @@ AreOver z zs = (y : Happening) → IsIn y zs → (time_of y ≡ time_of z) × (I
 
 -- so it is of itself, whatever its number
 pub over_itself : (z : Happening) (n : ℕ) → AreOver z (renumbered n z ∷ [])
-over_itself z n y (inl same) = (ap time_of same, λ b. never_self (place_of z) (subst (λ (p : List ℕ). IsBefore p (place_of z)) (ap place_of same) b))
+over_itself z n y (inl same) = (ap time_of same, λ b. never_self (place_of z) (subst (λ p. IsBefore p (place_of z)) (ap place_of same) b))
 over_itself z n y (inr none) = absurd none
 
 module _ {s : Scenario} {hs : List Happening} {z : Happening} {rest : List Happening} {mark cursor : List ℕ} {now : ℕ}
@@ -105,11 +111,11 @@ module _ {s : Scenario} {hs : List Happening} {z : Happening} {rest : List Happe
   -- and of what is to come from it on
   pub all_over : (front back : List Happening) → rest ≡ front ++ back → AreOver z (z ∷ front)
   all_over front back e y (inl same) =
-      (ap time_of same, λ b. never_self (place_of z) (subst (λ (h : Happening). IsBefore (place_of h) (place_of z)) same b))
+      (ap time_of same, λ b. never_self (place_of z) (subst (λ h. IsBefore (place_of h) (place_of z)) same b))
   all_over front back e y (inr i) =
-      let there : IsIn y rest = subst (λ (l : List Happening). IsIn y l) (sym e) (in_left y front back i) in (
+      let there : IsIn y rest = subst (λ l. IsIn y l) (sym e) (in_left y front back i) in (
         g.are.of_now y (inr there) ∙ sym (g.are.of_now z (inl refl)),
-        λ b. never_self (place_of z) (chain (place_of z) (place_of y) (place_of z) (first_before s hs z rest mark cursor now g.are y there) b),
+        λ b. never_self (place_of z) (chain (place_of z) (place_of y) (place_of z) (first_before z rest g.are y there) b),
       )
 
   -- a source up to the place of the first, by others of its time that are not before it, is worked off
@@ -117,19 +123,19 @@ module _ {s : Scenario} {hs : List Happening} {z : Happening} {rest : List Happe
   worked_by_then zs over w source under =
       let le = up_to_place w (place_of z) under in
       let at : time_of z ≡ now = g.are.of_now z (inl refl) in
-      elim (source_back s hs zs (time_of z) (rank z.note.body) (key (members_in z) z.note.body) g.forward
-      (λ y i. (over y i).0) (λ y i. (over y i).1) w source le) [
+      elim (source_back hs zs (time_of z) (rank z.note.body) (key (members_in z) z.note.body) g.forward
+      (λ y i. (over y i).0) (λ y i. (over y i).1) source le) [
         | inl old ↦
             elim (before_or_not w cursor) [
               | inl yet ↦ yet
               | inr not ↦
                   elim le [
                     | inr lt ↦ absurd (g.first w old not lt)
-                    | inl same ↦ subst (λ (p : List ℕ). IsBefore p cursor) (sym same) (g.are.worked z (inl refl) (at_its_place s hs z w old same))
+                    | inl same ↦ subst (λ p. IsBefore p cursor) (sym same) (g.are.worked z (inl refl) (at_its_place z old same))
                   ]
             ]
         | inr (inl early) ↦ g.past w (subst (λ (n : ℕ). IsBefore w (n ∷ [])) at early)
-        | inr (inr same) ↦ subst (λ (p : List ℕ). IsBefore p cursor) (ap (λ (n : ℕ). n ∷ 2 ∷ []) (sym at) ∙ sym same) (g.are.begun z (inl refl))
+        | inr (inr same) ↦ subst (λ p. IsBefore p cursor) (ap (λ (n : ℕ). n ∷ 2 ∷ []) (sym at) ∙ sym same) (g.are.begun z (inl refl))
       ]
 
 -- what is not before the place just behind another is behind that one

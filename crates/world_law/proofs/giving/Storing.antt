@@ -13,9 +13,10 @@ pub last_then : (hs : List Happening) (h : Happening) (device : DeviceId) (vl : 
 last_then hs h device vl b is = grind (arith, is_accepted, last_or, filter-append, last_more, filter, last_one)
 
 -- a record by which no frame is taken
-pub stored_still : (hs : List Happening) (h : Happening) (stored : List Stored)
-    → ((device : DeviceId) (vl : VlId) → is_accepted device vl h.note.body ≡ false) → AreStored hs stored → AreStored (hs ++ h ∷ []) stored
-stored_still hs h stored none m = record {
+pub stored_still : {hs : List Happening} (h : Happening) {stored : List Stored}
+    → ((device : DeviceId) (vl : VlId) → is_accepted device vl h.note.body ≡ false) → AreStored hs stored
+    → AreStored (hs ++ h ∷ []) stored
+stored_still {hs} h none m = record {
   real = λ e i.
       let o = m.real e i in
       record { taking = o.taking; last = last_then hs h e.device e.vl false (none e.device e.vl) ∙ o.last; number = o.number; octets = o.octets };
@@ -23,9 +24,9 @@ stored_still hs h stored none m = record {
 }
 
 -- a record that is given
-pub stored_then : (hs : List Happening) (h : Happening) (number : ℕ) (stored new : List Stored) → number ≡ h.note.number → AreStored hs stored
-    → AreTaken h number stored new → AreStored (hs ++ h ∷ []) new
-stored_then hs h number stored new is m t = record { real = real; all = all }
+pub stored_then : {hs : List Happening} {h : Happening} {number : ℕ} {stored new : List Stored}
+    → number ≡ h.note.number → AreStored hs stored → AreTaken h number stored new → AreStored (hs ++ h ∷ []) new
+stored_then {hs} {h} {number} {new} is m t = record { real = real; all = all }
   where
     real : (e : Stored) → IsIn e new → IsStored (hs ++ h ∷ []) e
     real e i = elim (t.real e i) [
@@ -42,6 +43,6 @@ stored_then hs h number stored new is m t = record { real = real; all = all }
       | inr not ↦
           let it = m.all device vl taking (sym (last_then hs h device vl false not) ∙ last) in
           let kept : is_accepted it.0.device it.0.vl h.note.body ≡ false =
-          ap (λ (d : DeviceId). is_accepted d it.0.vl h.note.body) it.2 ∙ ap (λ (v : VlId). is_accepted device v h.note.body) it.3 ∙ not in
+          ap (λ d. is_accepted d it.0.vl h.note.body) it.2 ∙ ap (λ v. is_accepted device v h.note.body) it.3 ∙ not in
           (it.0, t.kept it.0 it.1 kept, it.2, it.3)
     ]

@@ -5,7 +5,7 @@ use Rattle.{schedule_tables.specs.Dispatches.dispatch_order, world_law.proofs.{W
 use Rattle.std.{proofs.lemmas.Bool.ne_eqb, specs.{List.IsDistinct, Prelude.All}}
 use Rattle.world_law.proofs.Words.{◌++◌, ◌+ℤ◌, ◌+◌, ◌<ℤ◌, ◌<◌, ◌==◌, ◌∙◌, ◌∷◌, ◌≡◌, ◌≤ℤ◌, ◌≤◌, ◌⊎◌, Act, AllByRecursion, AreClusters, AsyncClique, Bool}
 use Rattle.world_law.proofs.Words.{Cleared, Compressed, Corrected, DeviceId, IsActOf, IsBefore, IsFromZero, IsIn, IsInRange, IsPending, KeepsRules, List}
-use Rattle.world_law.proofs.Words.{MayCall, Moment, Network, Node, Point, Ripe, Summary, SyncClique, Task, Verdict, [], acting, after_correction}
+use Rattle.world_law.proofs.Words.{MayCall, Moment, Network, Node, Point, Summary, SyncClique, Task, Verdict, [], acting, after_correction}
 use Rattle.world_law.proofs.Words.{after_emission, amount, ap, arith, called, cases_lt, chain, correcting, dispatching, doing, emitting, false, if◌then◌else◌}
 use Rattle.world_law.proofs.Words.{inl, inr, ints, length, never_self, no_cluster, observation_window, own_hearing, plan_of, pos, reading_for, refl, sending}
 use Rattle.world_law.proofs.growing.{FewRows.{IsRowOf, few_rows, row_of}, Growing.{acts_grow, nothing_behind_correction, nothing_sent_behind_sending, wide}}
@@ -14,9 +14,10 @@ use Rattle.run_law.specs.declared.steps.Act.TheVariants as acts
 -- ---- each act where the device may act
 
 -- it may act again at the moment
-pub may_act_again : (network : Network) (device : DeviceId) (node : Node) (moment : Moment) (act : Act) (new : Node) → IsInRange network → KeepsRules network
-    → MayCall network device node moment acting → IsActOf network device node moment act new → MayCall network device new moment acting
-may_act_again network device node moment act new range rules may is =
+pub may_act_again : {network : Network} {device : DeviceId} {node : Node} {moment : Moment} (act : Act) (new : Node)
+    → IsInRange network → KeepsRules network → MayCall network device node moment acting
+    → IsActOf network device node moment act new → MayCall network device new moment acting
+may_act_again {network} {device} {node} {moment} act new range rules may is =
     let last : new.last ≡ moment = last_is network device node moment act new is in
     let time : new.last.time.0 ≡ moment.time.0 = ap (λ (m : Moment). m.time.0) last in
     let read : new.last.reading.0 ≡ moment.reading.0 = ap (λ (m : Moment). m.reading.0) last in
@@ -31,8 +32,8 @@ may_act_again network device node moment act new range rules may is =
       in_order = λ same. acting_last new.phase;
       all_done = λ before task p. absurd (omega (arith, ints, before, time));
       in_time = λ task p.
-          elim (acted network device node moment act new may (wide network range rules) is task p) [
-            | inl old ↦ subst (λ (z : ℤ). moment.reading.0 <ℤ (z +ℤ network.precision.0)) (sym old.1) (may.in_time task old.0)
+          elim (acted network device node moment act new may (wide range rules) is task p) [
+            | inl old ↦ subst (λ z. moment.reading.0 <ℤ (z +ℤ network.precision.0)) (sym old.1) (may.in_time task old.0)
             | inr far ↦ omega (arith, ints, far, some)
           ];
     }
@@ -44,24 +45,29 @@ AreCalled network device moment node (act ∷ done) new =
     (mid : Node) × MayCall network device node moment acting × IsActOf network device node moment act mid
     × AreCalled network device moment mid done new
 
-so_called : (network : Network) (device : DeviceId) (moment : Moment) (node : Node) (done : List Act) (new : Node) → IsInRange network → KeepsRules network
-    → MayCall network device node moment acting → AreActs network device moment node done new → AreCalled network device moment node done new
-so_called network device moment node [] new range rules may are = are
-so_called network device moment node (act ∷ done) new range rules may (mid, is, rest) =
-    (mid, may, is, so_called network device moment mid done new range rules (may_act_again network device node moment act mid range rules may is) rest)
+module _ (network : Network) (device : DeviceId) (moment : Moment) where
+  so_called : {node : Node} (done : List Act) (new : Node) → IsInRange network → KeepsRules network
+      → MayCall network device node moment acting → AreActs network device moment node done new
+      → AreCalled network device moment node done new
+  so_called [] new range rules may are = are
+  so_called (act ∷ done) new range rules may (mid, is, rest) =
+      (mid, may, is, so_called done new range rules (may_act_again act mid range rules may is) rest)
 
--- after all of them it may act again
-pub may_act_then : (network : Network) (device : DeviceId) (moment : Moment) (node : Node) (done : List Act) (new : Node) → IsInRange network
-    → KeepsRules network → MayCall network device node moment acting → AreActs network device moment node done new → MayCall network device new moment acting
-may_act_then network device moment node [] new range rules may are = subst (λ (n : Node). MayCall network device n moment acting) (sym are) may
-may_act_then network device moment node (act ∷ done) new range rules may (mid, is, rest) =
-    may_act_then network device moment mid done new range rules (may_act_again network device node moment act mid range rules may is) rest
+  -- after all of them it may act again
+  pub may_act_then : {node : Node} (done : List Act) (new : Node) → IsInRange network → KeepsRules network
+      → MayCall network device node moment acting → AreActs network device moment node done new
+      → MayCall network device new moment acting
+  may_act_then [] new range rules may are = subst (λ n. MayCall network device n moment acting) (sym are) may
+  may_act_then (act ∷ done) new range rules may (mid, is, rest) =
+      may_act_then done new range rules (may_act_again act mid range rules may is) rest
 
--- one more act
-pub one_more_act : (network : Network) (device : DeviceId) (moment : Moment) (node mid : Node) (done : List Act) (act : Act) (new : Node)
-    → AreActs network device moment node done mid → IsActOf network device mid moment act new → AreActs network device moment node (done ++ act ∷ []) new
-one_more_act network device moment node mid [] act new are is = (new, subst (λ (n : Node). IsActOf network device n moment act new) are is, refl)
-one_more_act network device moment node mid (a ∷ done) act new are is = (are.0, are.1, one_more_act network device moment are.0 mid done act new are.2 is)
+  -- one more act
+  pub one_more_act : (node mid : Node) (done : List Act) (act : Act) (new : Node)
+      → AreActs network device moment node done mid → IsActOf network device mid moment act new
+      → AreActs network device moment node (done ++ act ∷ []) new
+  one_more_act node mid [] act new are is =
+      (new, subst (λ n. IsActOf network device n moment act new) are is, refl)
+  one_more_act node mid (a ∷ done) act new are is = (are.0, are.1, one_more_act are.0 mid done act new are.2 is)
 
 -- ---- the points after an act: those before, or none
 
@@ -86,7 +92,7 @@ points_after : (network : Network) (device : DeviceId) (node : Node) (moment : M
 points_after network device node moment (acts.Send frame) new (cycle, first, of_frame, is) = inl (ap (λ (n : Node). n.points) is)
 points_after network device node moment (acts.Dispatch row cycle) new (first, is) = inl (ap (λ (n : Node). n.points) is)
 points_after network device node moment (acts.Emit sent heard) new (first, so, is) =
-    subst (HasPointsOf node) (sym (is ∙ ap (λ (r : Ripe). called moment acting (after_emission network device node moment sent r)) so))
+    subst (HasPointsOf node) (sym (is ∙ ap (λ r. called moment acting (after_emission network device node moment sent r)) so))
     (points_emitted network device node moment sent)
 points_after network device node moment (acts.Correct cycle verdict) new (first, (heard, comes, is)) =
     subst (HasPointsOf node) (sym is) (points_corrected node moment heard cycle verdict)
@@ -127,9 +133,9 @@ by_kind network (doing (dispatching of m)) (doing (correcting n)) lt = absurd (o
 by_kind network (doing (dispatching of m)) (doing (dispatching row n)) lt = absurd (omega (arith, lt))
 
 -- none is of a kind before that of the first
-from_first : (network : Network) (device : DeviceId) (node : Node) (moment : Moment) (task : Task) → IsFirstTask network device node moment.reading.0 task
-    → AreFrom network device moment (kind_of task) node
-from_first network device node moment task first other q due = grind (arith, cases_lt, by_kind)
+from_first : {network : Network} {device : DeviceId} {node : Node} (moment : Moment) {task : Task}
+    → IsFirstTask network device node moment.reading.0 task → AreFrom network device moment (kind_of task) node
+from_first moment first other q due = grind (arith, cases_lt, by_kind)
 
 -- ---- the dispatches
 
@@ -162,34 +168,43 @@ record AreDispatches (network : Network) (device : DeviceId) (done : List Act) :
   pub each : AllByRecursion (IsRowOf network device) (rows_in done)
   pub distinct : IsDistinct (λ a b. a == b) (rows_in done)
 
-apart_all : (network : Network) (low : ℕ) (ns : List ℕ) → AllByRecursion (λ n. IsBefore (order_at network low) (order_at network n)) ns
-    → AllByRecursion (λ n. (low == n) ≡ false) ns
-apart_all network low [] all = tt
-apart_all network low (n ∷ ns) all = grind (arith, ne_eqb, never_self, (apart_all network low ns all.1))
+module _ (network : Network) where
+  apart_all : (low : ℕ) (ns : List ℕ) → AllByRecursion (λ n. IsBefore (order_at network low) (order_at network n)) ns
+      → AllByRecursion (λ n. (low == n) ≡ false) ns
+  apart_all low [] all = tt
+  apart_all low (n ∷ ns) all = grind (arith, ne_eqb, never_self, (apart_all low ns all.1))
 
-further : (network : Network) (low high : List ℕ) (ns : List ℕ) → IsBefore low high → AllByRecursion (λ n. IsBefore high (order_at network n)) ns
-    → AllByRecursion (λ n. IsBefore low (order_at network n)) ns
-further network low high [] b all = tt
-further network low high (n ∷ ns) b all = (chain low high (order_at network n) b all.0, further network low high ns b all.1)
+  further : (low high ns : List ℕ) → IsBefore low high → AllByRecursion (λ n. IsBefore high (order_at network n)) ns
+      → AllByRecursion (λ n. IsBefore low (order_at network n)) ns
+  further low high [] b all = tt
+  further low high (n ∷ ns) b all = (chain low high (order_at network n) b all.0, further low high ns b all.1)
 
-behind_rows : (network : Network) (device : DeviceId) (moment : Moment) (node : Node) (done : List Act) (new : Node) (low : List ℕ) → IsInRange network
-    → KeepsRules network → IsFromZero network device node → AreCalled network device moment node done new → AreBehindRow network device moment low node
-    → AllByRecursion (λ n. IsBefore low (order_at network n)) (rows_in done)
-behind_rows network device moment node [] new low range rules zero_on are behind = tt
-behind_rows network device moment node (acts.Dispatch row cycle ∷ more) new low range rules zero_on (mid, may, is, rest) behind =
-    let here = row_behind low (dispatch_order network row) (behind (doing (dispatching row cycle)) is.0.pending is.0.due) in (
-      here,
-      further network low (dispatch_order network row) (rows_in more) here
-          (behind_rows network device moment mid more new (dispatch_order network row) range rules
-          (still_from_zero network device node moment (acts.Dispatch row cycle) mid is zero_on) rest
-          (λ task p due. acts_grow network device node moment (acts.Dispatch row cycle) mid task range rules zero_on may is p due)),
-    )
-behind_rows network device moment node (acts.Send frame ∷ more) new low range rules zero_on (mid, may, is, rest) behind =
-    let bad = of_kind_three low network (doing (sending is.0)) (behind (doing (sending is.0)) is.1.pending is.1.due) in absurd (omega (arith, bad))
-behind_rows network device moment node (acts.Emit sent heard ∷ more) new low range rules zero_on (mid, may, is, rest) behind =
-    let bad = of_kind_three low network (emitting sent) (behind (emitting sent) is.0.pending is.0.due) in absurd (omega (arith, bad))
-behind_rows network device moment node (acts.Correct cycle verdict ∷ more) new low range rules zero_on (mid, may, is, rest) behind =
-    let bad = of_kind_three low network (doing (correcting cycle)) (behind (doing (correcting cycle)) is.0.pending is.0.due) in absurd (omega (arith, bad))
+  behind_rows : (device : DeviceId) (moment : Moment) (node : Node) (done : List Act) (new : Node) (low : List ℕ)
+      → IsInRange network → KeepsRules network → IsFromZero network device node
+      → AreCalled network device moment node done new → AreBehindRow network device moment low node
+      → AllByRecursion (λ n. IsBefore low (order_at network n)) (rows_in done)
+  behind_rows device moment node [] new low range rules zero_on are behind = tt
+  behind_rows device moment node (acts.Dispatch row cycle ∷ more) new low range rules zero_on (mid, may, is, rest)
+      behind =
+      let here = row_behind low (dispatch_order network row)
+      (behind (doing (dispatching row cycle)) is.0.pending is.0.due) in (
+        here,
+        further low (dispatch_order network row) (rows_in more) here
+            (behind_rows device moment mid more new (dispatch_order network row) range rules
+            (still_from_zero network device node moment (acts.Dispatch row cycle) mid is zero_on) rest
+            (λ task p due. acts_grow network device node moment (acts.Dispatch row cycle) mid task range rules
+            zero_on may is p due)),
+      )
+  behind_rows device moment node (acts.Send frame ∷ more) new low range rules zero_on (mid, may, is, rest) behind =
+      let bad = of_kind_three low network (doing (sending is.0))
+      (behind (doing (sending is.0)) is.1.pending is.1.due) in absurd (omega (arith, bad))
+  behind_rows device moment node (acts.Emit sent heard ∷ more) new low range rules zero_on (mid, may, is, rest) behind =
+      let bad = of_kind_three low network (emitting sent) (behind (emitting sent) is.0.pending is.0.due) in
+      absurd (omega (arith, bad))
+  behind_rows device moment node (acts.Correct cycle verdict ∷ more) new low range rules zero_on (mid, may, is, rest)
+      behind =
+      let bad = of_kind_three low network (doing (correcting cycle))
+      (behind (doing (correcting cycle)) is.0.pending is.0.due) in absurd (omega (arith, bad))
 
 dispatches : (network : Network) (device : DeviceId) (moment : Moment) (node : Node) (done : List Act) (new : Node) → IsInRange network → KeepsRules network
     → IsFromZero network device node → AreCalled network device moment node done new → AreFrom network device moment 3 node → AreDispatches network device done
@@ -205,7 +220,7 @@ dispatches network device moment node (acts.Dispatch row cycle ∷ more) new ran
     let many = others.many in
     record {
       many = omega (arith, many);
-      each = (row_of network device row.0 frame.entry frame.is frame.leaves, others.each);
+      each = (row_of device frame.is frame.leaves, others.each);
       distinct = (
         apart_all network row.0 (rows_in more) (behind_rows network device moment mid more new (dispatch_order network row) range rules zero_mid rest grow),
         others.distinct,
@@ -218,62 +233,70 @@ dispatches network device moment node (acts.Emit sent heard ∷ more) new range 
 dispatches network device moment node (acts.Correct cycle verdict ∷ more) new range rules zero_on (mid, may, is, rest) from =
     let bad = from (doing (correcting cycle)) is.0.pending is.0.due in absurd (omega (arith, bad))
 
--- at most 256 acts, where no emission or sending is due
-few_behind : (network : Network) (device : DeviceId) (moment : Moment) (node : Node) (done : List Act) (new : Node) → IsInRange network → KeepsRules network
-    → IsFromZero network device node → AreCalled network device moment node done new → AreFrom network device moment 2 node → length done ≤ 256
-few_behind network device moment node [] new range rules zero_on are from = omega arith
-few_behind network device moment node (acts.Dispatch row cycle ∷ more) new range rules zero_on are from =
-    let all = dispatches network device moment node (acts.Dispatch row cycle ∷ more) new range rules zero_on are
-    (from_first network device node moment (doing (dispatching row cycle)) are.2.0) in
-    let few = few_rows network device (rows_in (acts.Dispatch row cycle ∷ more)) rules all.distinct all.each in
-    let many = all.many in
-    omega (arith, few, many)
-few_behind network device moment node (acts.Send frame ∷ more) new range rules zero_on (mid, may, is, rest) from =
-    let bad = from (doing (sending is.0)) is.1.pending is.1.due in absurd (omega (arith, bad))
-few_behind network device moment node (acts.Emit sent heard ∷ more) new range rules zero_on (mid, may, is, rest) from =
-    let bad = from (emitting sent) is.0.pending is.0.due in absurd (omega (arith, bad))
-few_behind network device moment node (acts.Correct cycle verdict ∷ []) new range rules zero_on are from = omega arith
-few_behind network device moment node (acts.Correct cycle verdict ∷ act ∷ more) new range rules zero_on (mid, may, is, (last, may_go, next, rest)) from =
-    absurd (first_there act next (λ task p due. nothing_behind_correction network device node moment cycle verdict mid task range rules may is p due))
-  where
-    first_there : (a : Act) → IsActOf network device mid moment a last
-        → ((task : Task) → IsPending network device mid task → reading_for network mid task ≤ℤ moment.reading.0 → ⊥) → ⊥
-    first_there (acts.Send frame) x none = none (doing (sending x.0)) x.1.pending x.1.due
-    first_there (acts.Emit sent heard) x none = none (emitting sent) x.0.pending x.0.due
-    first_there (acts.Correct n so) x none = none (doing (correcting n)) x.0.pending x.0.due
-    first_there (acts.Dispatch row n) x none = none (doing (dispatching row n)) x.0.pending x.0.due
+module _ (network : Network) (device : DeviceId) (moment : Moment) where
+  -- at most 256 acts, where no emission or sending is due
+  few_behind : (node : Node) (done : List Act) (new : Node) → IsInRange network → KeepsRules network
+      → IsFromZero network device node → AreCalled network device moment node done new
+      → AreFrom network device moment 2 node → length done ≤ 256
+  few_behind node [] new range rules zero_on are from = omega arith
+  few_behind node (acts.Dispatch row cycle ∷ more) new range rules zero_on are from =
+      let all = dispatches network device moment node (acts.Dispatch row cycle ∷ more) new range rules zero_on are
+      (from_first moment are.2.0) in
+      let few = few_rows network device (rows_in (acts.Dispatch row cycle ∷ more)) rules all.distinct all.each in
+      let many = all.many in
+      omega (arith, few, many)
+  few_behind node (acts.Send frame ∷ more) new range rules zero_on (mid, may, is, rest) from =
+      let bad = from (doing (sending is.0)) is.1.pending is.1.due in absurd (omega (arith, bad))
+  few_behind node (acts.Emit sent heard ∷ more) new range rules zero_on (mid, may, is, rest) from =
+      let bad = from (emitting sent) is.0.pending is.0.due in absurd (omega (arith, bad))
+  few_behind node (acts.Correct cycle verdict ∷ []) new range rules zero_on are from = omega arith
+  few_behind node (acts.Correct cycle verdict ∷ act ∷ more) new range rules zero_on
+      (mid, may, is, (last, may_go, next, rest)) from =
+      absurd (first_there act next (λ task p due. nothing_behind_correction network device node moment cycle verdict
+      mid task range rules may is p due))
+    where
+      first_there : (a : Act) → IsActOf network device mid moment a last
+          → ((task : Task) → IsPending network device mid task → reading_for network mid task ≤ℤ moment.reading.0
+          → ⊥) → ⊥
+      first_there (acts.Send frame) x none = none (doing (sending x.0)) x.1.pending x.1.due
+      first_there (acts.Emit sent heard) x none = none (emitting sent) x.0.pending x.0.due
+      first_there (acts.Correct n so) x none = none (doing (correcting n)) x.0.pending x.0.due
+      first_there (acts.Dispatch row n) x none = none (doing (dispatching row n)) x.0.pending x.0.due
 
--- and one more, where no emission is due
-few_then : (network : Network) (device : DeviceId) (moment : Moment) (node : Node) (done : List Act) (new : Node) → IsInRange network → KeepsRules network
-    → IsFromZero network device node → AreCalled network device moment node done new → AreFrom network device moment 1 node → length done ≤ 257
-few_then network device moment node [] new range rules zero_on are from = omega arith
-few_then network device moment node (acts.Send frame ∷ more) new range rules zero_on (mid, may, is, rest) from =
-    let few = few_behind network device moment mid more new range rules (still_from_zero network device node moment (acts.Send frame) mid is zero_on) rest
-    behind in
-    omega (arith, few)
-  where
-    sent_behind : (n : ℕ) → IsBefore (1 ∷ frame.cycle ∷ []) (0 ∷ n ∷ []) → ⊥
-    sent_behind n (inl lt) = omega (arith, lt)
-    sent_behind n (inr same) = let bad = same.0 in omega (arith, bad)
+  -- and one more, where no emission is due
+  few_then : (node : Node) (done : List Act) (new : Node) → IsInRange network → KeepsRules network
+      → IsFromZero network device node → AreCalled network device moment node done new
+      → AreFrom network device moment 1 node → length done ≤ 257
+  few_then node [] new range rules zero_on are from = omega arith
+  few_then node (acts.Send frame ∷ more) new range rules zero_on (mid, may, is, rest) from =
+      let few = few_behind mid more new range rules
+      (still_from_zero network device node moment (acts.Send frame) mid is zero_on) rest
+      behind in
+      omega (arith, few)
+    where
+      sent_behind : (n : ℕ) → IsBefore (1 ∷ frame.cycle ∷ []) (0 ∷ n ∷ []) → ⊥
+      sent_behind n (inl lt) = omega (arith, lt)
+      sent_behind n (inr same) = let bad = same.0 in omega (arith, bad)
 
-    behind : AreFrom network device moment 2 mid
-    behind (emitting sent) p due =
-        absurd (sent_behind (amount sent.opened)
-        (acts_grow network device node moment (acts.Send frame) mid (emitting sent) range rules zero_on may is p due))
-    behind (doing (sending n)) p due = absurd (nothing_sent_behind_sending network device node moment frame mid n range rules may is p due)
-    behind (doing (correcting n)) p due = omega arith
-    behind (doing (dispatching row n)) p due = omega arith
-few_then network device moment node (acts.Dispatch row cycle ∷ more) new range rules zero_on are from =
-    let first = from_first network device node moment (doing (dispatching row cycle)) are.2.0 in
-    let few = few_behind network device moment node (acts.Dispatch row cycle ∷ more) new range rules zero_on are
-    (λ task p due. let ge = first task p due in omega (arith, ge)) in
-    omega (arith, few)
-few_then network device moment node (acts.Correct cycle verdict ∷ more) new range rules zero_on are from =
-    let few = few_behind network device moment node (acts.Correct cycle verdict ∷ more) new range rules zero_on are
-    (from_first network device node moment (doing (correcting cycle)) are.2.0) in
-    omega (arith, few)
-few_then network device moment node (acts.Emit sent heard ∷ more) new range rules zero_on (mid, may, is, rest) from =
-    let bad = from (emitting sent) is.0.pending is.0.due in absurd (omega (arith, bad))
+      behind : AreFrom network device moment 2 mid
+      behind (emitting sent) p due =
+          absurd (sent_behind (amount sent.opened)
+          (acts_grow network device node moment (acts.Send frame) mid (emitting sent) range rules zero_on may is p due))
+      behind (doing (sending n)) p due =
+          absurd (nothing_sent_behind_sending network device node moment frame mid n range rules may is p due)
+      behind (doing (correcting n)) p due = omega arith
+      behind (doing (dispatching row n)) p due = omega arith
+  few_then node (acts.Dispatch row cycle ∷ more) new range rules zero_on are from =
+      let first = from_first moment are.2.0 in
+      let few = few_behind node (acts.Dispatch row cycle ∷ more) new range rules zero_on are
+      (λ task p due. let ge = first task p due in omega (arith, ge)) in
+      omega (arith, few)
+  few_then node (acts.Correct cycle verdict ∷ more) new range rules zero_on are from =
+      let few = few_behind node (acts.Correct cycle verdict ∷ more) new range rules zero_on are
+      (from_first moment are.2.0) in
+      omega (arith, few)
+  few_then node (acts.Emit sent heard ∷ more) new range rules zero_on (mid, may, is, rest) from =
+      let bad = from (emitting sent) is.0.pending is.0.due in absurd (omega (arith, bad))
 
 -- ---- the emissions
 
@@ -282,9 +305,10 @@ emitted_in [] = []
 emitted_in (acts.Emit sent heard ∷ more) = sent ∷ emitted_in more
 emitted_in (other ∷ more) = []
 
-due_frame : (network : Network) (device : DeviceId) (node : Node) (moment : Moment) (sent : Compressed) → MayCall network device node moment acting
-    → IsPending network device node (emitting sent) → sent.at.0 ≤ℤ moment.reading.0 → IsDueFrame network node moment.reading.0 sent
-due_frame network device node moment sent may p due = record {
+due_frame : {network : Network} {device : DeviceId} {node : Node} {moment : Moment} (sent : Compressed)
+    → MayCall network device node moment acting → IsPending network device node (emitting sent)
+    → sent.at.0 ≤ℤ moment.reading.0 → IsDueFrame network node moment.reading.0 sent
+due_frame sent may p due = record {
   clusters = p.1.clusters;
   are = p.1.are;
   cluster = p.1.cluster;
@@ -294,12 +318,12 @@ due_frame network device node moment sent may p due = record {
   in_time = may.in_time (emitting sent) p;
 }
 
-due_before : (network : Network) (node new : Node) (reading : ℤ) (c : Compressed) → HasPointsOf node new → IsDueFrame network new reading c
-    → IsDueFrame network node reading c
-due_before network node new reading c (inl same) d = grind (arith, observation_window)
-due_before network node new reading c (inr none) d =
+due_before : {network : Network} (node : Node) {new : Node} {reading : ℤ} {c : Compressed} → HasPointsOf node new
+    → IsDueFrame network new reading c → IsDueFrame network node reading c
+due_before node (inl same) d = grind (arith, observation_window)
+due_before {network} node (inr none) d =
     absurd (no_cluster (observation_window network) d.clusters d.cluster
-    (subst (λ (ps : List Point). AreClusters (observation_window network) ps d.clusters) none d.are) d.there)
+    (subst (λ ps. AreClusters (observation_window network) ps d.clusters) none d.are) d.there)
 
 each_due : (network : Network) (device : DeviceId) (moment : Moment) (node : Node) (done : List Act) (new : Node)
     → AreCalled network device moment node done new → (c : Compressed) → IsIn c (emitted_in done) → IsDueFrame network node moment.reading.0 c
@@ -308,9 +332,9 @@ each_due network device moment node (acts.Send frame ∷ more) new are c i = abs
 each_due network device moment node (acts.Correct cycle verdict ∷ more) new are c i = absurd i
 each_due network device moment node (acts.Dispatch row cycle ∷ more) new are c i = absurd i
 each_due network device moment node (acts.Emit sent heard ∷ more) new (mid, may, is, rest) c (inl e) =
-    subst (IsDueFrame network node moment.reading.0) (sym e) (due_frame network device node moment sent may is.0.pending is.0.due)
+    subst (IsDueFrame network node moment.reading.0) (sym e) (due_frame sent may is.0.pending is.0.due)
 each_due network device moment node (acts.Emit sent heard ∷ more) new (mid, may, is, rest) c (inr i) =
-    due_before network node mid moment.reading.0 c (points_after network device node moment (acts.Emit sent heard) mid is)
+    due_before node (points_after network device node moment (acts.Emit sent heard) mid is)
     (each_due network device moment mid more new rest c i)
 
 opened_behind : (a b : Compressed) → a.opened.0 ≡ pos (amount a.opened) → b.opened.0 ≡ pos (amount b.opened)
@@ -319,45 +343,48 @@ opened_behind a b x y (inl lt) = absurd (omega (arith, lt))
 opened_behind a b x y (inr (e, inl lt)) = omega (arith, ints, x, y, lt)
 opened_behind a b x y (inr (e, inr more)) = absurd more.1
 
-rising : (network : Network) (device : DeviceId) (moment : Moment) (node : Node) (done : List Act) (new : Node) → IsInRange network → KeepsRules network
-    → IsFromZero network device node → AreCalled network device moment node done new → AreRising (emitted_in done)
-rising network device moment node [] new range rules zero_on are = tt
-rising network device moment node (acts.Send frame ∷ more) new range rules zero_on are = tt
-rising network device moment node (acts.Correct cycle verdict ∷ more) new range rules zero_on are = tt
-rising network device moment node (acts.Dispatch row cycle ∷ more) new range rules zero_on are = tt
-rising network device moment node (acts.Emit sent heard ∷ []) new range rules zero_on are = tt
-rising network device moment node (acts.Emit sent heard ∷ acts.Send frame ∷ more) new range rules zero_on are = tt
-rising network device moment node (acts.Emit sent heard ∷ acts.Correct cycle verdict ∷ more) new range rules zero_on are = tt
-rising network device moment node (acts.Emit sent heard ∷ acts.Dispatch row cycle ∷ more) new range rules zero_on are = tt
-rising network device moment node (acts.Emit sent heard ∷ acts.Emit next by ∷ more) new range rules zero_on (mid, may, is, rest) =
-    let zero_mid = still_from_zero network device node moment (acts.Emit sent heard) mid is zero_on in
-    let first = rest.2.0 in (
-      opened_behind sent next (from_zero network device node sent zero_on is.0.pending.1) (from_zero network device mid next zero_mid first.pending.1)
-          (acts_grow network device node moment (acts.Emit sent heard) mid (emitting next) range rules zero_on may is first.pending first.due),
-      rising network device moment mid (acts.Emit next by ∷ more) new range rules zero_mid rest,
-    )
+module _ (network : Network) (device : DeviceId) (moment : Moment) where
+  rising : (node : Node) (done : List Act) (new : Node) → IsInRange network → KeepsRules network
+      → IsFromZero network device node → AreCalled network device moment node done new → AreRising (emitted_in done)
+  rising node [] new range rules zero_on are = tt
+  rising node (acts.Send frame ∷ more) new range rules zero_on are = tt
+  rising node (acts.Correct cycle verdict ∷ more) new range rules zero_on are = tt
+  rising node (acts.Dispatch row cycle ∷ more) new range rules zero_on are = tt
+  rising node (acts.Emit sent heard ∷ []) new range rules zero_on are = tt
+  rising node (acts.Emit sent heard ∷ acts.Send frame ∷ more) new range rules zero_on are = tt
+  rising node (acts.Emit sent heard ∷ acts.Correct cycle verdict ∷ more) new range rules zero_on are = tt
+  rising node (acts.Emit sent heard ∷ acts.Dispatch row cycle ∷ more) new range rules zero_on are = tt
+  rising node (acts.Emit sent heard ∷ acts.Emit next by ∷ more) new range rules zero_on (mid, may, is, rest) =
+      let zero_mid = still_from_zero network device node moment (acts.Emit sent heard) mid is zero_on in
+      let first = rest.2.0 in (
+        opened_behind sent next (from_zero zero_on is.0.pending.1) (from_zero zero_mid first.pending.1)
+            (acts_grow network device node moment (acts.Emit sent heard) mid (emitting next) range rules zero_on may
+            is first.pending first.due),
+        rising mid (acts.Emit next by ∷ more) new range rules zero_mid rest,
+      )
 
-few_others : (network : Network) (device : DeviceId) (moment : Moment) (node : Node) (done : List Act) (new : Node) → IsInRange network → KeepsRules network
-    → IsFromZero network device node → AreCalled network device moment node done new → length done ≤ length (emitted_in done) + 257
-few_others network device moment node [] new range rules zero_on are = omega arith
-few_others network device moment node (acts.Emit sent heard ∷ more) new range rules zero_on (mid, may, is, rest) =
-    let few = few_others network device moment mid more new range rules
-    (still_from_zero network device node moment (acts.Emit sent heard) mid is zero_on) rest in
-    omega (arith, few)
-few_others network device moment node (acts.Send frame ∷ more) new range rules zero_on are =
-    few_then network device moment node (acts.Send frame ∷ more) new range rules zero_on are
-    (from_first network device node moment (doing (sending are.2.0)) are.2.1)
-few_others network device moment node (acts.Correct cycle verdict ∷ more) new range rules zero_on are =
-    few_then network device moment node (acts.Correct cycle verdict ∷ more) new range rules zero_on are
-    (λ task p due. let ge = from_first network device node moment (doing (correcting cycle)) are.2.0 task p due in omega (arith, ge))
-few_others network device moment node (acts.Dispatch row cycle ∷ more) new range rules zero_on are =
-    few_then network device moment node (acts.Dispatch row cycle ∷ more) new range rules zero_on are
-    (λ task p due. let ge = from_first network device node moment (doing (dispatching row cycle)) are.2.0 task p due in omega (arith, ge))
+  few_others : (node : Node) (done : List Act) (new : Node) → IsInRange network → KeepsRules network
+      → IsFromZero network device node → AreCalled network device moment node done new
+      → length done ≤ length (emitted_in done) + 257
+  few_others node [] new range rules zero_on are = omega arith
+  few_others node (acts.Emit sent heard ∷ more) new range rules zero_on (mid, may, is, rest) =
+      let few = few_others mid more new range rules
+      (still_from_zero network device node moment (acts.Emit sent heard) mid is zero_on) rest in
+      omega (arith, few)
+  few_others node (acts.Send frame ∷ more) new range rules zero_on are =
+      few_then network device moment node (acts.Send frame ∷ more) new range rules zero_on are
+      (from_first moment are.2.1)
+  few_others node (acts.Correct cycle verdict ∷ more) new range rules zero_on are =
+      few_then network device moment node (acts.Correct cycle verdict ∷ more) new range rules zero_on are
+      (λ task p due. let ge = from_first moment are.2.0 task p due in omega (arith, ge))
+  few_others node (acts.Dispatch row cycle ∷ more) new range rules zero_on are =
+      few_then network device moment node (acts.Dispatch row cycle ∷ more) new range rules zero_on are
+      (λ task p due. let ge = from_first moment are.2.0 task p due in omega (arith, ge))
 
 -- what a device does at one moment is not much
 pub acts_are_few : ActsAreFew
 acts_are_few network device moment node done new range rules zero_on may acts_are =
-    let are = so_called network device moment node done new range rules may acts_are in
+    let are = so_called network device moment done new range rules may acts_are in
     let few = few_are_emitted network node moment.reading.0 (emitted_in done) range (each_due network device moment node done new are)
     (rising network device moment node done new range rules zero_on are) in
     let others = few_others network device moment node done new range rules zero_on are in

@@ -39,8 +39,9 @@ pub record IsRowOf (network : Network) (device : DeviceId) (n : ℕ) : Type 0 wh
   pub there : slice_get network.row n ≡ Some row
   pub leaves : leaves network device row ≡ true
 
-pub row_of : (network : Network) (device : DeviceId) (n : ℕ) (entry : Entry) → IsEntry network n entry → source_of entry ≡ device → IsRowOf network device n
-row_of network device n entry is from = grind (arith, option_map_or, eq-eqb, source_of)
+pub row_of : {network : Network} (device : DeviceId) {n : ℕ} {entry : Entry} → IsEntry network n entry
+    → source_of entry ≡ device → IsRowOf network device n
+row_of device is from = grind (arith, option_map_or, eq-eqb, source_of)
 
 -- different ones are at most 256
 pub few_rows : (network : Network) (device : DeviceId) (rows : List ℕ) → KeepsRules network → IsDistinct (λ a b. a == b) rows
@@ -50,7 +51,7 @@ few_rows network device rows rules distinct each =
     let few : count_by p network.row ≤ 256 = rules RowsOfDevice device.0 in
     let within = length-le_from_is_member numbers_equal rows (places p 0 network.row) distinct
     (λ q at. let it = member_has (IsRowOf network device) rows q each at in
-    subst (λ (n : ℕ). list_any (eqn n) (places p 0 network.row) ≡ true) (omega arith) (passing p 0 q network.row it.row it.there it.leaves)) in
+    subst (λ n. list_any (eqn n) (places p 0 network.row) ≡ true) (omega arith) (passing p 0 q network.row it.row it.there it.leaves)) in
     let many = places_many p 0 network.row in
     let counted = length-filter p network.row in
     omega (arith, few, within, many, counted)

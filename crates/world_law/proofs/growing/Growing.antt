@@ -15,12 +15,14 @@ use Rattle.run_law.specs.declared.steps.Act.TheVariants as acts
 -- ---- the precision
 
 -- it is a number, and less than the cycle
-pub whole_precision : (network : Network) → IsInRange network → network.precision.0 ≡ pos (amount network.precision)
-whole_precision network range = let least = range.precision.least in natural network.precision.0 (omega (arith, ints, least))
+pub whole_precision : {network : Network} → IsInRange network → network.precision.0 ≡ pos (amount network.precision)
+whole_precision {network} range =
+    let least = range.precision.least in natural network.precision.0 (omega (arith, ints, least))
 
-pub wide : (network : Network) → IsInRange network → KeepsRules network → network.precision.0 ≤ℤ pos (amount network.cycle)
-wide network range rules =
-    let whole = whole_precision network range in
+pub wide : {network : Network} → IsInRange network → KeepsRules network
+    → network.precision.0 ≤ℤ pos (amount network.cycle)
+wide range rules =
+    let whole = whole_precision range in
     let ends = (rules ScheduleStart 0).ends in
     omega (arith, ints, whole, ends)
 
@@ -33,110 +35,124 @@ due_shows v a reading p precision whole reached late = record { least = omega (a
 not_less : (k m n : ℕ) → (IsBefore (k ∷ m ∷ []) (k ∷ n ∷ []) → ⊥) → n ≤ m
 not_less k m n none = elim (cases_lt m n) [ inl lt ↦ absurd (none (inr (refl, inl lt))) | inr ge ↦ ge ]
 
-row_order : (network : Network) (row : RowId) (entry : Entry) → IsEntry network row.0 entry
+row_order : {network : Network} (row : RowId) {entry : Entry} → IsEntry network row.0 entry
     → dispatch_order network row ≡ amount entry.row.offset ∷ entry.row.link.0 ∷ row.0 ∷ []
-row_order network row entry is = ap (λ (o : Option Row). option_map_or (λ (r : Row). amount r.offset ∷ r.link.0 ∷ row.0 ∷ []) o []) is.row
+row_order row is =
+    ap (λ (o : Option Row). option_map_or (λ (r : Row). amount r.offset ∷ r.link.0 ∷ row.0 ∷ []) o []) is.row
 
 third_of : (a b c d e f : ℕ) → ◌≡◌ {A = List ℕ} (a ∷ b ∷ c ∷ []) (d ∷ e ∷ f ∷ []) → c ≡ f
 third_of a b c d e f same = cc
 
 -- of two rows one is dispatched before the other
-rows_apart : (network : Network) (row other : RowId) (entry with : Entry) → IsEntry network row.0 entry → IsEntry network other.0 with → (row.0 ≡ other.0 → ⊥)
+rows_apart : {network : Network} (row other : RowId) {entry : Entry} (with : Entry) → IsEntry network row.0 entry
+    → IsEntry network other.0 with → (row.0 ≡ other.0 → ⊥)
     → (IsBefore (3 ∷ dispatch_order network other) (3 ∷ dispatch_order network row) → ⊥)
     → IsBefore (3 ∷ dispatch_order network row) (3 ∷ dispatch_order network other)
-rows_apart network row other entry with is at apart none = grind (arith, either_way, third_of, row_order)
+rows_apart row other with is at apart none = grind (arith, either_way, third_of, row_order)
 
 -- ---- what was done is not pending
 
-gone_deed : (network : Network) (device : DeviceId) (node new : Node) (moment : Moment) (deed : ClockTask) → new ≡ called moment acting (with_done node deed)
-    → IsPending network device new (doing deed) → ⊥
-gone_deed network device node new moment deed is =
-    subst (λ (n : Node). IsPending network device n (doing deed) → ⊥) (sym is)
-    (λ p. p.1.not_yet (Contains-append_right node.done (deed ∷ []) deed (in_head deed [])))
+module _ (network : Network) (device : DeviceId) (node new : Node) (moment : Moment) where
+  gone_deed : (deed : ClockTask) → new ≡ called moment acting (with_done node deed)
+      → IsPending network device new (doing deed) → ⊥
+  gone_deed deed is =
+      subst (λ n. IsPending network device n (doing deed) → ⊥) (sym is)
+      (λ p. p.1.not_yet (Contains-append_right node.done (deed ∷ []) deed (in_head deed [])))
 
-gone_emission : (network : Network) (device : DeviceId) (node new : Node) (moment : Moment) (sent : Compressed) (heard : Ripe)
-    → heard ≡ own_hearing network device node sent → new ≡ called moment acting (after_emission network device node moment sent heard)
-    → IsPending network device new (emitting sent) → ⊥
-gone_emission network device node new moment sent heard so is =
-    let whole : new ≡ called moment acting (after_emission network device node moment sent (own_hearing network device node sent)) = is
-    ∙ ap (λ (r : Ripe). called moment acting (after_emission network device node moment sent r)) so in
-    let there : Contains (node.emitted ++ sent ∷ []) sent = Contains-append_right node.emitted (sent ∷ []) sent (in_head sent []) in
-    subst (λ (n : Node). IsPending network device n (emitting sent) → ⊥) (sym whole)
-    (heard_so (plan_of network device) (observation_window network) node.standing.state node.standing.adjustment.0 sent.at.0 sent.cycle sent.members
-    (λ (r : Ripe). IsPending network device (called moment acting (after_emission network device node moment sent r)) (emitting sent) → ⊥)
-    (λ p. p.1.not_yet there)
-    (λ p. p.1.not_yet there)
-    (λ p. no_cluster (observation_window network) p.1.clusters p.1.cluster p.1.are p.1.there)
-    (λ p. p.1.not_yet there))
+  gone_emission : (sent : Compressed) (heard : Ripe) → heard ≡ own_hearing network device node sent
+      → new ≡ called moment acting (after_emission network device node moment sent heard)
+      → IsPending network device new (emitting sent) → ⊥
+  gone_emission sent heard so is =
+      let whole : new ≡ called moment acting (after_emission network device node moment sent
+      (own_hearing network device node sent)) = is
+      ∙ ap (λ r. called moment acting (after_emission network device node moment sent r)) so in
+      let there : Contains (node.emitted ++ sent ∷ []) sent =
+      Contains-append_right node.emitted (sent ∷ []) sent (in_head sent []) in
+      subst (λ n. IsPending network device n (emitting sent) → ⊥) (sym whole)
+      (heard_so (plan_of network device) (observation_window network) node.standing.state node.standing.adjustment.0
+      sent.at.0 sent.cycle sent.members
+      (λ (r : Ripe). IsPending network device (called moment acting
+      (after_emission network device node moment sent r)) (emitting sent) → ⊥)
+      (λ p. p.1.not_yet there)
+      (λ p. p.1.not_yet there)
+      (λ p. no_cluster (observation_window network) p.1.clusters p.1.cluster p.1.are p.1.there)
+      (λ p. p.1.not_yet there))
 
 -- ---- what is behind each act, of the tasks that were pending before
 
-behind_emission : (network : Network) (device : DeviceId) (node new : Node) (reading : ℤ) (sent : Compressed) (task : Task) → IsFromZero network device node
-    → IsFirstTask network device node reading (emitting sent) → (IsPending network device new (emitting sent) → ⊥)
-    → IsPending network device new task → IsPending network device node task → reading_for network node task ≤ℤ reading
-    → IsBefore (0 ∷ amount sent.opened ∷ []) (order_of network task)
-behind_emission network device node new reading sent (doing (sending n)) zero_on first gone p q due = inl (omega arith)
-behind_emission network device node new reading sent (doing (correcting n)) zero_on first gone p q due = inl (omega arith)
-behind_emission network device node new reading sent (doing (dispatching row n)) zero_on first gone p q due = inl (omega arith)
-behind_emission network device node new reading sent (emitting other) zero_on first gone p q due =
-    let least = not_less 0 (amount other.opened) (amount sent.opened) (first.first (emitting other) q due) in
-    elim (cases_lt (amount sent.opened) (amount other.opened)) [
-      | inl lt ↦ inr (refl, inl lt)
-      | inr most ↦
-          let same : amount other.opened ≡ amount sent.opened = omega (arith, least, most) in
-          let one = one_waiting network device node other sent q.1 first.pending.1
-          (from_zero network device node other zero_on q.1 ∙ ap (λ (n : ℕ). pos n) same ∙ sym (from_zero network device node sent zero_on first.pending.1)) in
-          absurd (gone (subst (λ (c : Compressed). IsPending network device new (emitting c)) one p))
-    ]
+module _ (network : Network) (device : DeviceId) (node new : Node) (reading : ℤ) where
+  behind_emission : (sent : Compressed) (task : Task) → IsFromZero network device node
+      → IsFirstTask network device node reading (emitting sent) → (IsPending network device new (emitting sent) → ⊥)
+      → IsPending network device new task → IsPending network device node task
+      → reading_for network node task ≤ℤ reading → IsBefore (0 ∷ amount sent.opened ∷ []) (order_of network task)
+  behind_emission sent (doing (sending n)) zero_on first gone p q due = inl (omega arith)
+  behind_emission sent (doing (correcting n)) zero_on first gone p q due = inl (omega arith)
+  behind_emission sent (doing (dispatching row n)) zero_on first gone p q due = inl (omega arith)
+  behind_emission sent (emitting other) zero_on first gone p q due =
+      let least = not_less 0 (amount other.opened) (amount sent.opened) (first.first (emitting other) q due) in
+      elim (cases_lt (amount sent.opened) (amount other.opened)) [
+        | inl lt ↦ inr (refl, inl lt)
+        | inr most ↦
+            let same : amount other.opened ≡ amount sent.opened = omega (arith, least, most) in
+            let one = one_waiting q.1 first.pending.1
+            (from_zero zero_on q.1 ∙ ap (λ n. pos n) same ∙ sym (from_zero zero_on first.pending.1)) in
+            absurd (gone (subst (λ (c : Compressed). IsPending network device new (emitting c)) one p))
+      ]
 
-behind_sending : (network : Network) (device : DeviceId) (node new : Node) (reading : ℤ) (cycle : ℕ) (task : Task)
-    → IsFirstTask network device node reading (doing (sending cycle)) → (IsPending network device new (doing (sending cycle)) → ⊥)
-    → IsPending network device new task → IsPending network device node task → reading_for network node task ≤ℤ reading
-    → IsBefore (1 ∷ cycle ∷ []) (order_of network task)
-behind_sending network device node new reading cycle (emitting other) first gone p q due = absurd (first.first (emitting other) q due (inl (omega arith)))
-behind_sending network device node new reading cycle (doing (correcting n)) first gone p q due = inl (omega arith)
-behind_sending network device node new reading cycle (doing (dispatching row n)) first gone p q due = inl (omega arith)
-behind_sending network device node new reading cycle (doing (sending n)) first gone p q due =
-    let least = not_less 1 n cycle (first.first (doing (sending n)) q due) in
-    elim (cases_lt cycle n) [
-      | inl lt ↦ inr (refl, inl lt)
-      | inr most ↦
-          let same : n ≡ cycle = omega (arith, least, most) in
-          absurd (gone (subst (λ (k : ℕ). IsPending network device new (doing (sending k))) same p))
-    ]
+  behind_sending : (cycle : ℕ) (task : Task) → IsFirstTask network device node reading (doing (sending cycle))
+      → (IsPending network device new (doing (sending cycle)) → ⊥) → IsPending network device new task
+      → IsPending network device node task → reading_for network node task ≤ℤ reading
+      → IsBefore (1 ∷ cycle ∷ []) (order_of network task)
+  behind_sending cycle (emitting other) first gone p q due =
+      absurd (first.first (emitting other) q due (inl (omega arith)))
+  behind_sending cycle (doing (correcting n)) first gone p q due = inl (omega arith)
+  behind_sending cycle (doing (dispatching row n)) first gone p q due = inl (omega arith)
+  behind_sending cycle (doing (sending n)) first gone p q due =
+      let least = not_less 1 n cycle (first.first (doing (sending n)) q due) in
+      elim (cases_lt cycle n) [
+        | inl lt ↦ inr (refl, inl lt)
+        | inr most ↦
+            let same : n ≡ cycle = omega (arith, least, most) in
+            absurd (gone (subst (λ (k : ℕ). IsPending network device new (doing (sending k))) same p))
+      ]
 
 -- one row of two cycles is not due at once
-same_row : (network : Network) (node : Node) (reading : ℤ) (row : RowId) (m n : ℕ) → IsInRange network → KeepsRules network → m < n
+same_row : {network : Network} (node : Node) (reading : ℤ) (row : RowId) (m n : ℕ) → IsInRange network
+    → KeepsRules network → m < n
     → reading <ℤ (reading_for network node (doing (dispatching row m)) +ℤ network.precision.0)
     → reading_for network node (doing (dispatching row n)) ≤ℤ reading → ⊥
-same_row network node reading row m n range rules lt late due =
+same_row {network} node reading row m n range rules lt late due =
     let far = cycles_apart m n (amount network.cycle) lt in
-    let size = wide network range rules in
+    let size = wide range rules in
     omega (arith, ints, far, size, late, due)
 
-behind_dispatch : (network : Network) (device : DeviceId) (node new : Node) (moment : Moment) (row : RowId) (cycle : ℕ) (task : Task) → IsInRange network
-    → KeepsRules network → MayCall network device node moment acting
-    → IsFirstTask network device node moment.reading.0 (doing (dispatching row cycle)) → (IsPending network device new (doing (dispatching row cycle)) → ⊥)
-    → IsPending network device new task → IsPending network device node task → reading_for network node task ≤ℤ moment.reading.0
+behind_dispatch : {network : Network} {device : DeviceId} {node : Node} (new : Node) {moment : Moment} (row : RowId)
+    (cycle : ℕ) (task : Task) → IsInRange network → KeepsRules network → MayCall network device node moment acting
+    → IsFirstTask network device node moment.reading.0 (doing (dispatching row cycle))
+    → (IsPending network device new (doing (dispatching row cycle)) → ⊥) → IsPending network device new task
+    → IsPending network device node task → reading_for network node task ≤ℤ moment.reading.0
     → IsBefore (3 ∷ dispatch_order network row) (order_of network task)
-behind_dispatch network device node new moment row cycle (emitting other) range rules may first gone p q due =
+behind_dispatch new row cycle (emitting other) range rules may first gone p q due =
     absurd (first.first (emitting other) q due (inl (omega arith)))
-behind_dispatch network device node new moment row cycle (doing (sending n)) range rules may first gone p q due =
+behind_dispatch new row cycle (doing (sending n)) range rules may first gone p q due =
     absurd (first.first (doing (sending n)) q due (inl (omega arith)))
-behind_dispatch network device node new moment row cycle (doing (correcting n)) range rules may first gone p q due =
+behind_dispatch new row cycle (doing (correcting n)) range rules may first gone p q due =
     absurd (first.first (doing (correcting n)) q due (inl (omega arith)))
-behind_dispatch network device node new moment row cycle (doing (dispatching other n)) range rules may first gone p q due =
+behind_dispatch {network} {device} {node} new {moment} row cycle (doing (dispatching other n)) range rules may first
+    gone p q due =
     let mine = first.pending.1.own.1 in
     let its = q.1.own.1 in
-    rows_apart network row other mine.entry its.entry mine.is its.is apart (first.first (doing (dispatching other n)) q due)
+    rows_apart row other its.entry mine.is its.is apart (first.first (doing (dispatching other n)) q due)
   where
     of_row : IsPending network device new (doing (dispatching row n)) → IsPending network device node (doing (dispatching row n))
         → reading_for network node (doing (dispatching row n)) ≤ℤ moment.reading.0 → (n ≡ cycle) ⊎ ((n < cycle) ⊎ (cycle < n)) → ⊥
     of_row p_row q_row due_row (inl same) = gone (subst (λ (k : ℕ). IsPending network device new (doing (dispatching row k))) same p_row)
     of_row p_row q_row due_row (inr (inl lt)) =
-        same_row network node moment.reading.0 row n cycle range rules lt (may.in_time (doing (dispatching row n)) q_row) first.due
+        same_row node moment.reading.0 row n cycle range rules lt (may.in_time (doing (dispatching row n)) q_row)
+        first.due
     of_row p_row q_row due_row (inr (inr gt)) =
-        same_row network node moment.reading.0 row cycle n range rules gt (may.in_time (doing (dispatching row cycle)) first.pending) due_row
+        same_row node moment.reading.0 row cycle n range rules gt
+        (may.in_time (doing (dispatching row cycle)) first.pending) due_row
 
     apart : row.0 ≡ other.0 → ⊥
     apart same =
@@ -150,115 +166,136 @@ behind_dispatch network device node new moment row cycle (doing (dispatching oth
 not_ahead : (reading adjustment value : ℤ) → (reading +ℤ adjustment) <ℤ value → (value -ℤ adjustment) ≤ℤ reading → ⊥
 not_ahead reading adjustment value ahead due = omega (arith, ints, ahead, due)
 
-no_more_points : (network : Network) (device : DeviceId) (node : Node) (moment : Moment) (heard : Summary) (cycle n : ℕ) (verdict : Verdict)
-    → next_point node.standing ≡ Some cycle → next_point node.standing ≡ Some n
-    → IsPending network device (called moment acting (after_correction node moment heard cycle verdict)) (doing (correcting n))
-    → reading_for network (called moment acting (after_correction node moment heard cycle verdict)) (doing (correcting n)) ≤ℤ moment.reading.0 → ⊥
-no_more_points network device node moment heard cycle n (Corrected by) next own p due = not_ahead moment.reading.0 _ (correction_value network n) p.1.ahead due
-no_more_points network device node moment heard cycle n SyncClique next own p due = integrating_point (node.standing.number + 1) n p.1.own
-no_more_points network device node moment heard cycle n AsyncClique next own p due = integrating_point (node.standing.number + 1) n p.1.own
-no_more_points network device node moment heard cycle n Cleared next own p due =
-    p.1.not_yet (subst (λ (k : ℕ). Contains (node.done ++ correcting cycle ∷ []) (correcting k)) (same_next (next_point node.standing) cycle n next own)
-    (Contains-append_right node.done (correcting cycle ∷ []) (correcting cycle) (in_head (correcting cycle) [])))
+module _ (network : Network) (device : DeviceId) (node : Node) (moment : Moment) where
+  no_more_points : (heard : Summary) (cycle n : ℕ) (verdict : Verdict) → next_point node.standing ≡ Some cycle
+      → next_point node.standing ≡ Some n → IsPending network device
+      (called moment acting (after_correction node moment heard cycle verdict)) (doing (correcting n))
+      → reading_for network (called moment acting (after_correction node moment heard cycle verdict))
+      (doing (correcting n)) ≤ℤ moment.reading.0 → ⊥
+  no_more_points heard cycle n (Corrected by) next own p due =
+      not_ahead moment.reading.0 _ (correction_value network n) p.1.ahead due
+  no_more_points heard cycle n SyncClique next own p due = integrating_point (node.standing.number + 1) n p.1.own
+  no_more_points heard cycle n AsyncClique next own p due = integrating_point (node.standing.number + 1) n p.1.own
+  no_more_points heard cycle n Cleared next own p due =
+      p.1.not_yet (subst (λ (k : ℕ). Contains (node.done ++ correcting cycle ∷ []) (correcting k))
+      (same_next (next_point node.standing) cycle n next own)
+      (Contains-append_right node.done (correcting cycle ∷ []) (correcting cycle) (in_head (correcting cycle) [])))
 
--- a row is not due where a correction is
-no_row_due : (network : Network) (device : DeviceId) (node : Node) (moment : Moment) (number cycle : ℕ) (row : RowId) → IsInRange network
-    → KeepsRules network → MayCall network device node moment acting → IsPending network device node (doing (correcting number))
-    → reading_for network node (doing (correcting number)) ≤ℤ moment.reading.0 → IsPending network device node (doing (dispatching row cycle))
-    → reading_for network node (doing (dispatching row cycle)) ≤ℤ moment.reading.0 → ⊥
-no_row_due network device node moment number cycle row range rules may corrects one dispatches two =
-    let frame = dispatches.1.own.1 in
-    let value = value_is network row frame.entry cycle frame.is in
-    let a = node.standing.adjustment.0 in
-    let whole = whole_precision network range in
-    let first : ShowsAt (moment.reading.0 +ℤ a) (correction_value network number) (amount network.precision) =
-    due_shows (correction_value network number) a moment.reading.0 network.precision.0 (amount network.precision) whole one
-    (may.in_time (doing (correcting number)) corrects) in
-    let second : ShowsAt (moment.reading.0 +ℤ a) (value_of network (dispatching row cycle)) (amount network.precision) =
-    due_shows (value_of network (dispatching row cycle)) a moment.reading.0 network.precision.0 (amount network.precision) whole two
-    (may.in_time (doing (dispatching row cycle)) dispatches) in
-    apart_so network (amount frame.entry.row.offset) (amount network.correction) number cycle (moment.reading.0 +ℤ a)
-    (row_apart network row.0 frame.entry rules frame.is) (omega arith) (precise network range) first
-    (subst (λ (v : ℤ). ShowsAt (moment.reading.0 +ℤ a) v (amount network.precision)) value second)
+  -- a row is not due where a correction is
+  no_row_due : (number cycle : ℕ) (row : RowId) → IsInRange network → KeepsRules network
+      → MayCall network device node moment acting → IsPending network device node (doing (correcting number))
+      → reading_for network node (doing (correcting number)) ≤ℤ moment.reading.0
+      → IsPending network device node (doing (dispatching row cycle))
+      → reading_for network node (doing (dispatching row cycle)) ≤ℤ moment.reading.0 → ⊥
+  no_row_due number cycle row range rules may corrects one dispatches two =
+      let frame = dispatches.1.own.1 in
+      let value = value_is row cycle frame.is in
+      let a = node.standing.adjustment.0 in
+      let whole = whole_precision range in
+      let first : ShowsAt (moment.reading.0 +ℤ a) (correction_value network number) (amount network.precision) =
+      due_shows (correction_value network number) a moment.reading.0 network.precision.0 (amount network.precision)
+      whole one
+      (may.in_time (doing (correcting number)) corrects) in
+      let second : ShowsAt (moment.reading.0 +ℤ a) (value_of network (dispatching row cycle))
+      (amount network.precision) =
+      due_shows (value_of network (dispatching row cycle)) a moment.reading.0 network.precision.0
+      (amount network.precision) whole two
+      (may.in_time (doing (dispatching row cycle)) dispatches) in
+      apart_so (amount network.correction) number cycle (row_apart rules frame.is) (omega arith) (precise range) first
+      (subst (λ v. ShowsAt (moment.reading.0 +ℤ a) v (amount network.precision)) value second)
 
-behind_correction : (network : Network) (device : DeviceId) (node : Node) (moment : Moment) (heard : Summary) (cycle : ℕ) (verdict : Verdict) (task : Task)
-    → IsInRange network → KeepsRules network → MayCall network device node moment acting
-    → IsFirstTask network device node moment.reading.0 (doing (correcting cycle))
-    → IsPending network device (called moment acting (after_correction node moment heard cycle verdict)) task
-    → reading_for network (called moment acting (after_correction node moment heard cycle verdict)) task ≤ℤ moment.reading.0
-    → IsPending network device node task → reading_for network node task ≤ℤ moment.reading.0 → ⊥
-behind_correction network device node moment heard cycle verdict (emitting other) range rules may first p due q was =
-    first.first (emitting other) q was (inl (omega arith))
-behind_correction network device node moment heard cycle verdict (doing (sending n)) range rules may first p due q was =
-    first.first (doing (sending n)) q was (inl (omega arith))
-behind_correction network device node moment heard cycle verdict (doing (correcting n)) range rules may first p due q was =
-    no_more_points network device node moment heard cycle n verdict first.pending.1.own q.1.own p due
-behind_correction network device node moment heard cycle verdict (doing (dispatching row n)) range rules may first p due q was =
-    no_row_due network device node moment cycle n row range rules may first.pending first.due q was
+  behind_correction : (heard : Summary) (cycle : ℕ) (verdict : Verdict) (task : Task) → IsInRange network
+      → KeepsRules network → MayCall network device node moment acting
+      → IsFirstTask network device node moment.reading.0 (doing (correcting cycle))
+      → IsPending network device (called moment acting (after_correction node moment heard cycle verdict)) task
+      → reading_for network
+      (called moment acting (after_correction node moment heard cycle verdict)) task ≤ℤ moment.reading.0
+      → IsPending network device node task → reading_for network node task ≤ℤ moment.reading.0 → ⊥
+  behind_correction heard cycle verdict (emitting other) range rules may first p due q was =
+      first.first (emitting other) q was (inl (omega arith))
+  behind_correction heard cycle verdict (doing (sending n)) range rules may first p due q was =
+      first.first (doing (sending n)) q was (inl (omega arith))
+  behind_correction heard cycle verdict (doing (correcting n)) range rules may first p due q was =
+      no_more_points heard cycle n verdict first.pending.1.own q.1.own p due
+  behind_correction heard cycle verdict (doing (dispatching row n)) range rules may first p due q was =
+      no_row_due cycle n row range rules may first.pending first.due q was
 
--- where a device has come to a correction point, nothing more is due at the moment
-pub nothing_behind_correction : (network : Network) (device : DeviceId) (node : Node) (moment : Moment) (cycle : ℕ) (verdict : Verdict) (new : Node)
-    (task : Task) → IsInRange network → KeepsRules network → MayCall network device node moment acting
-    → IsActOf network device node moment (acts.Correct cycle verdict) new → IsPending network device new task
-    → reading_for network new task ≤ℤ moment.reading.0 → ⊥
-nothing_behind_correction network device node moment cycle verdict new task range rules may (first, (heard, comes, is)) p due =
-    elim (acted network device node moment (acts.Correct cycle verdict) new may (wide network range rules) (first, (heard, comes, is)) task p) [
-      | inr far ↦ omega (arith, ints, far, due)
-      | inl old ↦
-          behind_correction network device node moment heard cycle verdict task range rules may first
-          (subst (λ (n : Node). IsPending network device n task) is p)
-          (subst (λ (n : Node). reading_for network n task ≤ℤ moment.reading.0) is due) old.0
-          (subst (λ (z : ℤ). z ≤ℤ moment.reading.0) old.1 due)
-    ]
+  -- where a device has come to a correction point, nothing more is due at the moment
+  pub nothing_behind_correction : (cycle : ℕ) (verdict : Verdict) (new : Node) (task : Task) → IsInRange network
+      → KeepsRules network → MayCall network device node moment acting
+      → IsActOf network device node moment (acts.Correct cycle verdict) new → IsPending network device new task
+      → reading_for network new task ≤ℤ moment.reading.0 → ⊥
+  nothing_behind_correction cycle verdict new task range rules may (first, (heard, comes, is)) p due =
+      elim (acted network device node moment (acts.Correct cycle verdict) new may (wide range rules)
+      (first, (heard, comes, is)) task p) [
+        | inr far ↦ omega (arith, ints, far, due)
+        | inl old ↦
+            behind_correction heard cycle verdict task range rules may first
+            (subst (λ n. IsPending network device n task) is p)
+            (subst (λ n. reading_for network n task ≤ℤ moment.reading.0) is due) old.0
+            (subst (λ z. z ≤ℤ moment.reading.0) old.1 due)
+      ]
 
 -- ---- no sending is behind a sending
 
-two_sendings : (network : Network) (node : Node) (reading : ℤ) (m n : ℕ) → IsInRange network → KeepsRules network → m < n
-    → reading <ℤ (reading_for network node (doing (sending m)) +ℤ network.precision.0) → reading_for network node (doing (sending n)) ≤ℤ reading → ⊥
-two_sendings network node reading m n range rules lt late due =
+two_sendings : {network : Network} (node : Node) (reading : ℤ) (m n : ℕ) → IsInRange network → KeepsRules network
+    → m < n → reading <ℤ (reading_for network node (doing (sending m)) +ℤ network.precision.0)
+    → reading_for network node (doing (sending n)) ≤ℤ reading → ⊥
+two_sendings {network} node reading m n range rules lt late due =
     let far = cycles_apart m n (amount network.cycle) lt in
-    let size = wide network range rules in
+    let size = wide range rules in
     omega (arith, ints, far, size, late, due)
 
--- where a device has sent the frame of a cycle, that of no other is due at the moment
-pub nothing_sent_behind_sending : (network : Network) (device : DeviceId) (node : Node) (moment : Moment) (frame : Pcf) (new : Node) (n : ℕ)
-    → IsInRange network → KeepsRules network → MayCall network device node moment acting → IsActOf network device node moment (acts.Send frame) new
-    → IsPending network device new (doing (sending n)) → reading_for network new (doing (sending n)) ≤ℤ moment.reading.0 → ⊥
-nothing_sent_behind_sending network device node moment frame new n range rules may (cycle, first, of_frame, is) p due =
-    elim (acted network device node moment (acts.Send frame) new may (wide network range rules) (cycle, first, of_frame, is) (doing (sending n)) p) [
-      | inr far ↦ omega (arith, ints, far, due)
-      | inl old ↦ was old.0 (subst (λ (z : ℤ). z ≤ℤ moment.reading.0) old.1 due) (cases_order n cycle)
-    ]
-  where
-    was : IsPending network device node (doing (sending n)) → reading_for network node (doing (sending n)) ≤ℤ moment.reading.0
-        → (n ≡ cycle) ⊎ ((n < cycle) ⊎ (cycle < n)) → ⊥
-    was q here (inl same) =
-        gone_deed network device node new moment (sending cycle) is (subst (λ (k : ℕ). IsPending network device new (doing (sending k))) same p)
-    was q here (inr (inl lt)) = two_sendings network node moment.reading.0 n cycle range rules lt (may.in_time (doing (sending n)) q) first.due
-    was q here (inr (inr gt)) = two_sendings network node moment.reading.0 cycle n range rules gt (may.in_time (doing (sending cycle)) first.pending) here
+module _ (network : Network) (device : DeviceId) (node : Node) (moment : Moment) where
+  -- where a device has sent the frame of a cycle, that of no other is due at the moment
+  pub nothing_sent_behind_sending : (frame : Pcf) (new : Node) (n : ℕ) → IsInRange network → KeepsRules network
+      → MayCall network device node moment acting → IsActOf network device node moment (acts.Send frame) new
+      → IsPending network device new (doing (sending n))
+      → reading_for network new (doing (sending n)) ≤ℤ moment.reading.0 → ⊥
+  nothing_sent_behind_sending frame new n range rules may (cycle, first, of_frame, is) p due =
+      elim (acted network device node moment (acts.Send frame) new may (wide range rules)
+      (cycle, first, of_frame, is) (doing (sending n)) p) [
+        | inr far ↦ omega (arith, ints, far, due)
+        | inl old ↦ was old.0 (subst (λ z. z ≤ℤ moment.reading.0) old.1 due) (cases_order n cycle)
+      ]
+    where
+      was : IsPending network device node (doing (sending n)) → reading_for network node
+          (doing (sending n)) ≤ℤ moment.reading.0
+          → (n ≡ cycle) ⊎ ((n < cycle) ⊎ (cycle < n)) → ⊥
+      was q here (inl same) =
+          gone_deed network device node new moment (sending cycle) is
+          (subst (λ (k : ℕ). IsPending network device new (doing (sending k))) same p)
+      was q here (inr (inl lt)) =
+          two_sendings node moment.reading.0 n cycle range rules lt (may.in_time (doing (sending n)) q) first.due
+      was q here (inr (inr gt)) = two_sendings node moment.reading.0 cycle n range rules gt
+          (may.in_time (doing (sending cycle)) first.pending) here
 
--- ---- all acts
+  -- ---- all acts
 
-grown : (network : Network) (device : DeviceId) (node : Node) (moment : Moment) (act : Act) (new : Node) (task : Task) → IsInRange network → KeepsRules network
-    → IsFromZero network device node → MayCall network device node moment acting → IsActOf network device node moment act new
-    → IsPending network device new task → reading_for network new task ≤ℤ moment.reading.0
-    → IsPending network device node task → reading_for network node task ≤ℤ moment.reading.0 → IsBefore (order_of_act network act) (order_of network task)
-grown network device node moment (acts.Emit sent heard) new task range rules zero_on may (first, so, is) p due q was =
-    behind_emission network device node new moment.reading.0 sent task zero_on first (gone_emission network device node new moment sent heard so is) p q was
-grown network device node moment (acts.Send frame) new task range rules zero_on may (cycle, first, of_frame, is) p due q was =
-    subst (λ (k : ℕ). IsBefore (1 ∷ k ∷ []) (order_of network task)) (sym (ap (λ (f : Pcf). f.cycle) of_frame))
-    (behind_sending network device node new moment.reading.0 cycle task first (gone_deed network device node new moment (sending cycle) is) p q was)
-grown network device node moment (acts.Correct cycle verdict) new task range rules zero_on may is p due q was =
-    absurd (nothing_behind_correction network device node moment cycle verdict new task range rules may is p due)
-grown network device node moment (acts.Dispatch row cycle) new task range rules zero_on may (first, is) p due q was =
-    behind_dispatch network device node new moment row cycle task range rules may first
-    (gone_deed network device node new moment (dispatching row cycle) is) p q was
+  grown : (act : Act) (new : Node) (task : Task) → IsInRange network → KeepsRules network
+      → IsFromZero network device node → MayCall network device node moment acting
+      → IsActOf network device node moment act new → IsPending network device new task
+      → reading_for network new task ≤ℤ moment.reading.0 → IsPending network device node task
+      → reading_for network node task ≤ℤ moment.reading.0
+      → IsBefore (order_of_act network act) (order_of network task)
+  grown (acts.Emit sent heard) new task range rules zero_on may (first, so, is) p due q was =
+      behind_emission network device node new moment.reading.0 sent task zero_on first
+      (gone_emission network device node new moment sent heard so is) p q was
+  grown (acts.Send frame) new task range rules zero_on may (cycle, first, of_frame, is) p due q was =
+      subst (λ (k : ℕ). IsBefore (1 ∷ k ∷ []) (order_of network task)) (sym (ap (λ (f : Pcf). f.cycle) of_frame))
+      (behind_sending network device node new moment.reading.0 cycle task first
+      (gone_deed network device node new moment (sending cycle) is) p q was)
+  grown (acts.Correct cycle verdict) new task range rules zero_on may is p due q was =
+      absurd (nothing_behind_correction network device node moment cycle verdict new task range rules may is p due)
+  grown (acts.Dispatch row cycle) new task range rules zero_on may (first, is) p due q was =
+      behind_dispatch new row cycle task range rules may first
+      (gone_deed network device node new moment (dispatching row cycle) is) p q was
 
 -- where a device has acted, each task that is still due at the moment stands behind what it did
 pub acts_grow : ActsGrow
 acts_grow network device node moment act new task range rules zero_on may is p due =
-    elim (acted network device node moment act new may (wide network range rules) is task p) [
+    elim (acted network device node moment act new may (wide range rules) is task p) [
       | inr far ↦ absurd (omega (arith, ints, far, due))
       | inl old ↦
-          grown network device node moment act new task range rules zero_on may is p due old.0 (subst (λ (z : ℤ). z ≤ℤ moment.reading.0) old.1 due)
+          grown network device node moment act new task range rules zero_on may is p due old.0 (subst (λ z. z ≤ℤ moment.reading.0) old.1 due)
     ]

@@ -33,9 +33,9 @@ one_opening ow (o ∷ ps) (k ∷ ks) some are c d at too same =
     ]
 
 -- so two frames that wait, whose collections opened at the same reading, are one
-pub one_waiting : (network : Network) (device : DeviceId) (node : Node) (a b : Compressed) → IsWaiting network device node a → IsWaiting network device node b
-    → a.opened.0 ≡ b.opened.0 → a ≡ b
-one_waiting network device node a b w x same =
+pub one_waiting : {network : Network} {device : DeviceId} {node : Node} {a b : Compressed}
+    → IsWaiting network device node a → IsWaiting network device node b → a.opened.0 ≡ b.opened.0 → a ≡ b
+one_waiting {network} {node} {a} {b} w x same =
     let ow = observation_window network in
     let lists : x.clusters ≡ w.clusters = AreClusters-unique ow node.points x.clusters w.clusters x.are w.are in
     let there : Contains w.clusters x.cluster = subst (λ (cs : List Cluster). Contains cs x.cluster) lists x.there in
@@ -49,9 +49,9 @@ above [] all = tt
 above (p ∷ ps) all = (omega (arith, ints, all.0), above ps all.1)
 
 -- a collection of points none of which lies before reading 0 does not open before it
-pub from_zero : (network : Network) (device : DeviceId) (node : Node) (a : Compressed) → IsFromZero network device node → IsWaiting network device node a
-    → a.opened.0 ≡ pos (amount a.opened)
-from_zero network device node a zero_on w =
+pub from_zero : {network : Network} {device : DeviceId} {node : Node} {a : Compressed}
+    → IsFromZero network device node → IsWaiting network device node a → a.opened.0 ≡ pos (amount a.opened)
+from_zero {network} {node} {a} zero_on w =
     let all = above node.points (recursion_from_All (λ (p : Point). pos 0 ≤ℤ p.reading) node.points (zero_on w.cm)) in
     let past : negsuc 0 <ℤ w.cluster.opened = all_at (λ (c : Cluster). negsuc 0 <ℤ c.opened) w.clusters w.cluster
     (open_beyond (observation_window network) (negsuc 0) node.points w.clusters w.are all) w.there in

@@ -79,7 +79,7 @@ first_span ow o ps some =
     let rest = firsts-start o (of_cycle_within o.cycle o.reading end ps) in
     let is : firsts held ≡ o ∷ rest.0 = ap firsts begins ∙ rest.1 in
     let all : AllByRecursion (LiesFrom o.reading (o.reading +ℤ k)) (firsts held) = firsts_all (LiesFrom o.reading (o.reading +ℤ k)) held
-    (subst (λ (z : ℤ). AllByRecursion (LiesFrom o.reading z) held) whole (held_from o.cycle o.reading end l)) in
+    (subst (λ z. AllByRecursion (LiesFrom o.reading z) held) whole (held_from o.cycle o.reading end l)) in
     let middle = middle_from o k (firsts held) rest.0 (omega (arith, ints, least, some)) is all in
     let high = middle.1 in
     record { one = least; two = most; low = middle.0; high = omega (arith, ints, high) }

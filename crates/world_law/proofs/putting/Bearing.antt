@@ -35,10 +35,10 @@ placed_on hs front back w h i =
     ]
 
 -- a record that moves no device that the network lacks is put in
-pub known_aside : (s : Scenario) (hs front back : List Happening) (w : Happening)
-    → ((device : DeviceId) → length s.network.device ≤ device.0 → moves device w.note.body ≡ false) → AreOfNetwork s (hs ++ (front ++ back))
-    → AreOfNetwork s (hs ++ (front ++ w ∷ back))
-known_aside s hs front back w still are = record {
+pub known_aside : {s : Scenario} (hs front back : List Happening) (w : Happening)
+    → ((device : DeviceId) → length s.network.device ≤ device.0 → moves device w.note.body ≡ false)
+    → AreOfNetwork s (hs ++ (front ++ back)) → AreOfNetwork s (hs ++ (front ++ w ∷ back))
+known_aside hs front back w still are = record {
   unmoved = λ device le h i.
       elim (placed_back hs front back w h i) [
         | inl e ↦ ap (λ (x : Happening). moves device x.note.body) e ∙ still device le
@@ -82,7 +82,7 @@ module _ (s : Scenario) (hs front back : List Happening) (w : Happening) (device
       ∙ ap (borne device) (append_assoc hs front (w ∷ back))
 
   pub left_aside : (t : ℕ) (node : Node) → IsLeft s (hs ++ (front ++ back)) device t node → IsLeft s (hs ++ (front ++ w ∷ back)) device t node
-  left_aside t node left = left_alike s (hs ++ (front ++ back)) (hs ++ (front ++ w ∷ back)) device t node borne_aside left
+  left_aside t node left = left_alike (hs ++ (front ++ w ∷ back)) borne_aside left
 
   tells_aside : (t : ℕ) → TellAlike s (hs ++ (front ++ back)) (hs ++ (front ++ w ∷ back)) device t
   tells_aside t = tell_alike s (hs ++ (front ++ back)) (hs ++ (front ++ w ∷ back)) device t borne_aside
@@ -99,25 +99,25 @@ module _ (s : Scenario) (hs front back : List Happening) (w : Happening) (device
 
   pub stated_aside : (t : ℕ) → state_after s (up_to t (hs ++ (front ++ back))) device ≡ state_after s (up_to t (hs ++ (front ++ w ∷ back))) device
   stated_aside t =
-      ap (λ (l : List Happening). state_after s (up_to t l) device) (sym (append_assoc hs front back))
+      ap (λ l. state_after s (up_to t l) device) (sym (append_assoc hs front back))
       ∙ sym (fold_skip (λ state h. state_with device state h.note.body) (λ h. nat_le (time_of h) t) (hs ++ front) back w
       (λ old. keeps_state device old w.note.body (moves_no_other device w.note.body misses)) _)
-      ∙ ap (λ (l : List Happening). state_after s (up_to t l) device) (append_assoc hs front (w ∷ back))
+      ∙ ap (λ l. state_after s (up_to t l) device) (append_assoc hs front (w ∷ back))
 
   pub adjusted_aside : (t : ℕ) → adjustment_after s (up_to t (hs ++ (front ++ back))) device
       ≡ adjustment_after s (up_to t (hs ++ (front ++ w ∷ back))) device
   adjusted_aside t =
-      ap (λ (l : List Happening). adjustment_after s (up_to t l) device) (sym (append_assoc hs front back))
+      ap (λ l. adjustment_after s (up_to t l) device) (sym (append_assoc hs front back))
       ∙ sym (fold_skip (λ adjustment h. adjustment_with s device (cycle_in h) adjustment h.note.body) (λ h. nat_le (time_of h) t) (hs ++ front) back w
       (λ old. keeps_adjustment s device (cycle_in w) old w.note.body (moves_no_other device w.note.body misses)) _)
-      ∙ ap (λ (l : List Happening). adjustment_after s (up_to t l) device) (append_assoc hs front (w ∷ back))
+      ∙ ap (λ l. adjustment_after s (up_to t l) device) (append_assoc hs front (w ∷ back))
 
   -- what the device took is told alike, where it takes nothing by the record
   pub frames_aside : IsNoTaking device w.note.body → frames_taken s (hs ++ (front ++ back)) device ≡ frames_taken s (hs ++ (front ++ w ∷ back)) device
   frames_aside takes =
       let old = (hs ++ front) ++ back in
       let new = (hs ++ front) ++ w ∷ back in
-      ap (λ (l : List Happening). frames_taken s l device) (sym (append_assoc hs front back))
+      ap (λ l. frames_taken s l device) (sym (append_assoc hs front back))
       ∙ taken_same device (local_before s old device) (local_before s new device) old
       (λ h i. ap (λ (u : Units). pos (s.reading device (time_of h)) +ℤ u.0)
       (tell_alike s old new device (time_of h) (sym (drop_one (λ g. bears_on device g.note.body) (hs ++ front) back w misses))).adjustment)
@@ -125,7 +125,7 @@ module _ (s : Scenario) (hs front back : List Happening) (w : Happening) (device
       ∙ ap (λ (l : List TakenFrame). taken_by device (local_before s new device) (hs ++ front) ++ (l ++ taken_by device (local_before s new device) back))
       (sym (takes (local_before s new device (time_of w))))
       ∙ sym (taken_parts device (local_before s new device) (hs ++ front) (w ∷ back))
-      ∙ ap (λ (l : List Happening). frames_taken s l device) (append_assoc hs front (w ∷ back))
+      ∙ ap (λ l. frames_taken s l device) (append_assoc hs front (w ∷ back))
 
   -- ---- the device
 
@@ -145,7 +145,7 @@ module _ (s : Scenario) (hs front back : List Happening) (w : Happening) (device
     ];
     left = left_aside k.up k.node k.left;
     taken = k.taken ∙ frames;
-    worked = worked_on s device k.node _ _ k.up cursor cursor (changed_aside k.up) (λ p b. b) k.worked;
+    worked = worked_on _ cursor (changed_aside k.up) (λ p b. b) k.worked;
     bare = k.bare;
     ready = k.ready;
     still = λ same. still_aside s hs front back w device now (moves_no_other device w.note.body misses) (k.still same);

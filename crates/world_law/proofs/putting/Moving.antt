@@ -21,9 +21,10 @@ pub record IsMoving (s : Scenario) (hs coming : List Happening) (mark cursor : L
   pub ahead : (p : List ℕ) → IsBefore p mark → IsBefore p cursor
 
 -- what is before the cursor stays so
-pub stays : (s : Scenario) (hs coming : List Happening) (mark cursor : List ℕ) (now r : ℕ) (more : List ℕ) → IsMoving s hs coming mark cursor now r more
-    → (p : List ℕ) → IsBefore p cursor → IsBefore p (behind (now ∷ r ∷ more))
-stays s hs coming mark cursor now r more m p b =
+pub stays : {s : Scenario} {hs coming : List Happening} {mark cursor : List ℕ} {now r : ℕ} {more : List ℕ}
+    → IsMoving s hs coming mark cursor now r more → (p : List ℕ) → IsBefore p cursor
+    → IsBefore p (behind (now ∷ r ∷ more))
+stays {cursor} {now} {r} {more} m p b =
     chain p (now ∷ r ∷ more) (behind (now ∷ r ∷ more)) (before_later p (now ∷ r ∷ more) cursor b m.waits) (before_behind (now ∷ r ∷ more))
 
 -- what is to come then does not stand at its source
@@ -35,26 +36,28 @@ off_source {cursor} {now} {r} {more} m z i = elim (cases_Bool (is_at_source z.no
 ]
 
 -- a source by the records given, up to that place, was worked off, or is there
-by_given : (s : Scenario) (hs coming : List Happening) (mark cursor : List ℕ) (now r : ℕ) (more : List ℕ) → IsMoving s hs coming mark cursor now r more
-    → (w : List ℕ) → IsSource s hs w → (w ≡ now ∷ r ∷ more) ⊎ IsBefore w (now ∷ r ∷ more) → IsBefore w cursor ⊎ (w ≡ now ∷ r ∷ more)
-by_given s hs coming mark cursor now r more m w source (inl e) = inr e
-by_given s hs coming mark cursor now r more m w source (inr lt) =
+by_given : {s : Scenario} {hs coming : List Happening} {mark cursor : List ℕ} {now r : ℕ} {more : List ℕ}
+    → IsMoving s hs coming mark cursor now r more → {w : List ℕ} → IsSource s hs w
+    → (w ≡ now ∷ r ∷ more) ⊎ IsBefore w (now ∷ r ∷ more) → IsBefore w cursor ⊎ (w ≡ now ∷ r ∷ more)
+by_given m source (inl e) = inr e
+by_given {cursor} m {w} source (inr lt) =
     elim (before_or_not w cursor) [ inl yet ↦ inl yet | inr not ↦ absurd (m.first w source not lt) ]
 
-pub worked_or_here : (s : Scenario) (hs coming front back : List Happening) (mark cursor : List ℕ) (now r : ℕ) (more : List ℕ)
-    → IsMoving s hs coming mark cursor now r more → coming ≡ front ++ back
-    → (w : List ℕ) → IsSource s (hs ++ front) w → IsBefore w (behind (now ∷ r ∷ more)) → IsBefore w cursor ⊎ (w ≡ now ∷ r ∷ more)
-worked_or_here s hs coming [] back mark cursor now r more m e w source under =
-    by_given s hs coming mark cursor now r more m w (subst (λ (l : List Happening). IsSource s l w) (append-nil hs) source)
+pub worked_or_here : {s : Scenario} {hs coming : List Happening} (front back : List Happening) {mark cursor : List ℕ}
+    {now r : ℕ} {more : List ℕ} → IsMoving s hs coming mark cursor now r more → coming ≡ front ++ back → {w : List ℕ}
+    → IsSource s (hs ++ front) w → IsBefore w (behind (now ∷ r ∷ more)) → IsBefore w cursor ⊎ (w ≡ now ∷ r ∷ more)
+worked_or_here {s} {hs} [] back {now} {r} {more} m e {w} source under =
+    by_given m (subst (λ l. IsSource s l w) (append-nil hs) source)
     (up_to_place w (now ∷ r ∷ more) under)
-worked_or_here s hs coming (f ∷ front) back mark cursor now r more m e w source under =
-    let inside : (y : Happening) → IsIn y (f ∷ front) → IsIn y coming = λ y i. subst (λ (l : List Happening). IsIn y l) (sym e) (in_left y (f ∷ front) back i)
+worked_or_here {hs} {coming} (f ∷ front) back {cursor} {now} {r} {more} m e {w} source under =
+    let inside : (y : Happening) → IsIn y (f ∷ front) → IsIn y coming = λ y i. subst (λ l. IsIn y l) (sym e) (in_left y (f ∷ front) back i)
     in
     let le = up_to_place w (now ∷ r ∷ more) under in
-    elim (source_back s hs (f ∷ front) now r more m.forward (λ y i. m.are.of_now y (inside y i)) (λ y i. m.after y (inside y i)) w source le) [
-      | inl old ↦ by_given s hs coming mark cursor now r more m w old le
+    elim (source_back hs (f ∷ front) now r more m.forward (λ y i. m.are.of_now y (inside y i))
+    (λ y i. m.after y (inside y i)) source le) [
+      | inl old ↦ by_given m old le
       | inr (inl early) ↦ inl (m.past w early)
-      | inr (inr same) ↦ inl (subst (λ (p : List ℕ). IsBefore p cursor) (sym same) (m.are.begun f (inside f (inl refl))))
+      | inr (inr same) ↦ inl (subst (λ p. IsBefore p cursor) (sym same) (m.are.begun f (inside f (inl refl))))
     ]
 
 -- ---- what is settled
@@ -66,183 +69,196 @@ IsAllOfIt s hs coming p =
     → IsDueAs s (hs ++ front) y → IsOwnSource s (hs ++ front) (time_of y) (members_in y) y.note.body p → (z : Happening) × IsIn z coming
     × (place_of z ≡ place_of y)
 
-pub settled_moves : (s : Scenario) (hs coming : List Happening) (mark cursor : List ℕ) (now r : ℕ) (more : List ℕ) → IsMoving s hs coming mark cursor now r more
-    → IsAllOfIt s hs coming (now ∷ r ∷ more) → AreSettled s hs coming mark (behind (now ∷ r ∷ more)) now
-settled_moves s hs coming mark cursor now r more m all = record {
-  of_now = m.are.of_now;
-  behind_mark = m.are.behind_mark;
-  founded = m.are.founded;
-  by = λ front rest z e. let was = m.are.by front rest z e in (was.0, was.1, was.2, stays s hs coming mark cursor now r more m was.0 was.3);
-  full = λ front back y e before none not due worked.
-      elim (worked_or_here s hs coming front back mark cursor now r more m e worked.0 worked.2 worked.3) [
-        | inl yet ↦ m.are.full front back y e before none not due (worked.0, worked.1, worked.2, yet)
-        | inr here ↦ all front back y e before none due (subst (λ (w : List ℕ). IsOwnSource s (hs ++ front) (time_of y) (members_in y) y.note.body w) here
-            worked.1)
-      ];
-  not_past = λ z i p b.
-      let p_at = now ∷ r ∷ more in
-      let least : (p_at ≡ place_of z) ⊎ IsBefore p_at (place_of z) = elim (either_way p_at (place_of z))
-      [ inl lt ↦ inr lt | inr (inl e) ↦ inl e | inr (inr gt) ↦ absurd (m.after z i gt) ] in
-      elim (up_to_place p p_at b) [
-        | inl e ↦ elim least [
-          | inl same ↦ subst (λ (q : List ℕ). IsBefore q (behind (place_of z))) (sym (e ∙ same)) (before_behind (place_of z))
-          | inr lt ↦ subst (λ (q : List ℕ). IsBefore q (behind (place_of z))) (sym e)
-              (chain p_at (place_of z) (behind (place_of z)) lt (before_behind (place_of z)))
-        ]
-        | inr under ↦ elim least [
-          | inl same ↦ chain p (place_of z) (behind (place_of z)) (subst (λ (q : List ℕ). IsBefore p q) same under) (before_behind (place_of z))
-          | inr lt ↦ chain p (place_of z) (behind (place_of z)) (chain p p_at (place_of z) under lt) (before_behind (place_of z))
-        ]
-      ];
-  worked = λ z i is. stays s hs coming mark cursor now r more m (place_of z) (m.are.worked z i is);
-  begun = λ z i. stays s hs coming mark cursor now r more m (now ∷ 2 ∷ []) (m.are.begun z i);
-}
+module _ (s : Scenario) (hs coming : List Happening) (mark cursor : List ℕ) (now r : ℕ) (more : List ℕ) where
+  pub settled_moves : IsMoving s hs coming mark cursor now r more → IsAllOfIt s hs coming (now ∷ r ∷ more)
+      → AreSettled s hs coming mark (behind (now ∷ r ∷ more)) now
+  settled_moves m all = record {
+    of_now = m.are.of_now;
+    behind_mark = m.are.behind_mark;
+    founded = m.are.founded;
+    by = λ front rest z e. let was = m.are.by front rest z e in (was.0, was.1, was.2, stays m was.0 was.3);
+    full = λ front back y e before none not due worked.
+        elim (worked_or_here front back m e worked.2 worked.3) [
+          | inl yet ↦ m.are.full front back y e before none not due (worked.0, worked.1, worked.2, yet)
+          | inr here ↦ all front back y e before none due
+              (subst (λ w. IsOwnSource s (hs ++ front) (time_of y) (members_in y) y.note.body w) here
+              worked.1)
+        ];
+    not_past = λ z i p b.
+        let p_at = now ∷ r ∷ more in
+        let least : (p_at ≡ place_of z) ⊎ IsBefore p_at (place_of z) = elim (either_way p_at (place_of z))
+        [ inl lt ↦ inr lt | inr (inl e) ↦ inl e | inr (inr gt) ↦ absurd (m.after z i gt) ] in
+        elim (up_to_place p p_at b) [
+          | inl e ↦ elim least [
+            | inl same ↦ subst (λ q. IsBefore q (behind (place_of z))) (sym (e ∙ same))
+                (before_behind (place_of z))
+            | inr lt ↦ subst (λ q. IsBefore q (behind (place_of z))) (sym e)
+                (chain p_at (place_of z) (behind (place_of z)) lt (before_behind (place_of z)))
+          ]
+          | inr under ↦ elim least [
+            | inl same ↦ chain p (place_of z) (behind (place_of z)) (subst (λ q. IsBefore p q) same under)
+                (before_behind (place_of z))
+            | inr lt ↦ chain p (place_of z) (behind (place_of z)) (chain p p_at (place_of z) under lt)
+                (before_behind (place_of z))
+          ]
+        ];
+    worked = λ z i is. stays m (place_of z) (m.are.worked z i is);
+    begun = λ z i. stays m (now ∷ 2 ∷ []) (m.are.begun z i);
+  }
 
--- ---- what is under way
+  -- ---- what is under way
 
-pub wires_move : (s : Scenario) (hs coming : List Happening) (mark cursor : List ℕ) (now r : ℕ) (more : List ℕ) (wires new : List OnWire)
-    → IsMoving s hs coming mark cursor now r more → AreOnWires s hs cursor now false wires → IsWithout wire_place (now ∷ r ∷ more) wires new
-    → AreOnWires s hs (behind (now ∷ r ∷ more)) now false new
-wires_move s hs coming mark cursor now r more wires new m are without = record {
-  real = λ e i.
-      let was = (without e).0 i in
-      let it = are.real e was.0 in (
-        it.0,
-        λ open_. absurd cc,
-        λ b.
-            elim (by_given s hs coming mark cursor now r more m (wire_place e)
-            (IsSource.arriving e.at e.device e.link e.cause
-            (record { putting = it.0.putting; there = it.0.there; signal = e.signal; arrives = it.0.arrives }))
-            (up_to_place (wire_place e) (now ∷ r ∷ more) b)) [
-              | inl yet ↦ it.2 yet
-              | inr here ↦ was.1 here
-            ],
-      );
-  all = λ t device link cause a told not.
-      let found = are.all t device link cause a told (λ b. not (stays s hs coming mark cursor now r more m _ b)) in (
-        found.0,
-        (without found.0).1
-            (found.1, λ here. not (subst (λ (p : List ℕ). IsBefore p (behind (now ∷ r ∷ more))) (sym here ∙ found.2) (before_behind (now ∷ r ∷ more)))),
-        found.2,
-      );
-}
+  pub wires_move : {wires : List OnWire} (new : List OnWire) → IsMoving s hs coming mark cursor now r more
+      → AreOnWires s hs cursor now false wires → IsWithout wire_place (now ∷ r ∷ more) wires new
+      → AreOnWires s hs (behind (now ∷ r ∷ more)) now false new
+  wires_move new m are without = record {
+    real = λ e i.
+        let was = (without e).0 i in
+        let it = are.real e was.0 in (
+          it.0,
+          λ open_. absurd cc,
+          λ b.
+              elim (by_given m
+              (IsSource.arriving e.at e.device e.link e.cause
+              (record { putting = it.0.putting; there = it.0.there; signal = e.signal; arrives = it.0.arrives }))
+              (up_to_place (wire_place e) (now ∷ r ∷ more) b)) [
+                | inl yet ↦ it.2 yet
+                | inr here ↦ was.1 here
+              ],
+        );
+    all = λ t device link cause a told not.
+        let found = are.all t device link cause a told (λ b. not (stays m _ b)) in (
+          found.0,
+          (without found.0).1
+              (found.1, λ here. not (subst (λ p. IsBefore p (behind (now ∷ r ∷ more))) (sym here ∙ found.2) (before_behind (now ∷ r ∷ more)))),
+          found.2,
+        );
+  }
 
-pub ports_move : (s : Scenario) (hs coming : List Happening) (mark cursor : List ℕ) (now r : ℕ) (more : List ℕ) (ports new : List AtPort)
-    → IsMoving s hs coming mark cursor now r more → AreAtPorts s hs cursor ports → IsWithout port_place (now ∷ r ∷ more) ports new
-    → AreAtPorts s hs (behind (now ∷ r ∷ more)) new
-ports_move s hs coming mark cursor now r more ports new m are without = record {
-  real = λ e i.
-      let was = (without e).0 i in
-      let it = are.real e was.0 in (
-        it.0,
-        λ b.
-            elim (by_given s hs coming mark cursor now r more m (port_place e)
-            (IsSource.departing e.at e.device e.link e.cause
-            (record { giving = it.0.giving; there = it.0.there; gives = it.0.gave.gives; held = it.0.gave.held }))
-            (up_to_place (port_place e) (now ∷ r ∷ more) b)) [
-              | inl yet ↦ it.1 yet
-              | inr here ↦ was.1 here
-            ],
-      );
-  all = λ t device link cause d not.
-      let found = are.all t device link cause d (λ b. not (stays s hs coming mark cursor now r more m _ b)) in (
-        found.0,
-        (without found.0).1
-            (found.1, λ here. not (subst (λ (p : List ℕ). IsBefore p (behind (now ∷ r ∷ more))) (sym here ∙ found.2) (before_behind (now ∷ r ∷ more)))),
-        found.2,
-      );
-}
+  pub ports_move : {ports : List AtPort} (new : List AtPort) → IsMoving s hs coming mark cursor now r more
+      → AreAtPorts s hs cursor ports → IsWithout port_place (now ∷ r ∷ more) ports new
+      → AreAtPorts s hs (behind (now ∷ r ∷ more)) new
+  ports_move new m are without = record {
+    real = λ e i.
+        let was = (without e).0 i in
+        let it = are.real e was.0 in (
+          it.0,
+          λ b.
+              elim (by_given m
+              (IsSource.departing e.at e.device e.link e.cause
+              (record { giving = it.0.giving; there = it.0.there; gives = it.0.gave.gives; held = it.0.gave.held }))
+              (up_to_place (port_place e) (now ∷ r ∷ more) b)) [
+                | inl yet ↦ it.1 yet
+                | inr here ↦ was.1 here
+              ],
+        );
+    all = λ t device link cause d not.
+        let found = are.all t device link cause d (λ b. not (stays m _ b)) in (
+          found.0,
+          (without found.0).1
+              (found.1, λ here. not (subst (λ p. IsBefore p (behind (now ∷ r ∷ more))) (sym here ∙ found.2) (before_behind (now ∷ r ∷ more)))),
+          found.2,
+        );
+  }
 
 -- no entry is at the place, which is that of a source of another kind
 pub all_without : {X : Type 0} (place : X → List ℕ) (p : List ℕ) (xs : List X) → ((e : X) → place e ≡ p → ⊥) → IsWithout place p xs xs
 all_without place p xs never e = (λ i. (i, never e), λ both. both.0)
 
--- the frames that wait, where the source is of a higher rank
-pub waiting_moves : (s : Scenario) (hs coming : List Happening) (mark cursor : List ℕ) (now r : ℕ) (more : List ℕ) (waiting : List Waiting)
-    → IsMoving s hs coming mark cursor now r more → (3 ≡ r → ⊥) → AreWaiting s hs cursor now waiting → AreWaiting s hs (behind (now ∷ r ∷ more)) now waiting
-waiting_moves s hs coming mark cursor now r more waiting m other are = record {
-  real = are.real;
-  later = λ e i t x b.
-      let it = are.real e i in
-      let p = x.permanent in
-      let arrival : it.arrival ≡ p.arrival = Rattle.world_law.proofs.giving.GivenParts.some_same it.arrival p.arrival _ it.there p.there in
-      let frame : x.frame ≡ e.frame = Rattle.world_law.proofs.giving.GivenParts.some_same x.frame e.frame _ p.of_frame (ap (λ (h : Happening). h.frame) (sym arrival)
-      ∙ it.awaited.of_frame) in
-      let at : t ∷ 3 ∷ e.device.0 ∷ amount e.point ∷ x.frame.members.0 ∷ e.link.0 ∷ e.cause
-      ∷ [] ≡ ripe_place t e = ap (λ (f : Pcf). t ∷ 3 ∷ e.device.0 ∷ amount e.point ∷ f.members.0 ∷ e.link.0 ∷ e.cause ∷ []) frame in
-      elim (by_given s hs coming mark cursor now r more m _ (IsSource.ripening t e.device e.link e.cause e.point x)
-      (up_to_place _ (now ∷ r ∷ more) (subst (λ (q : List ℕ). IsBefore q (behind (now ∷ r ∷ more))) (sym at) b))) [
-        | inl yet ↦ are.later e i t x (subst (λ (q : List ℕ). IsBefore q cursor) at yet)
-        | inr here ↦ other (let f : 3 ≡ r = cc in f)
-      ];
-  sound = are.sound;
-  all = λ e it sound not. are.all e it sound (λ t x b. not t x (stays s hs coming mark cursor now r more m (ripe_place t e) b));
-}
+module _ (s : Scenario) (hs coming : List Happening) (mark cursor : List ℕ) (now r : ℕ) (more : List ℕ) where
+  -- the frames that wait, where the source is of a higher rank
+  pub waiting_moves : {waiting : List Waiting} → IsMoving s hs coming mark cursor now r more → (3 ≡ r → ⊥)
+      → AreWaiting s hs cursor now waiting → AreWaiting s hs (behind (now ∷ r ∷ more)) now waiting
+  waiting_moves m other are = record {
+    real = are.real;
+    later = λ e i t x b.
+        let it = are.real e i in
+        let p = x.permanent in
+        let arrival : it.arrival ≡ p.arrival =
+        Rattle.world_law.proofs.giving.GivenParts.some_same it.arrival p.arrival _ it.there p.there in
+        let frame : x.frame ≡ e.frame = Rattle.world_law.proofs.giving.GivenParts.some_same x.frame e.frame _
+        p.of_frame (ap (λ (h : Happening). h.frame) (sym arrival)
+        ∙ it.awaited.of_frame) in
+        let at : t ∷ 3 ∷ e.device.0 ∷ amount e.point ∷ x.frame.members.0 ∷ e.link.0 ∷ e.cause
+        ∷ [] ≡ ripe_place t e =
+        ap (λ (f : Pcf). t ∷ 3 ∷ e.device.0 ∷ amount e.point ∷ f.members.0 ∷ e.link.0 ∷ e.cause ∷ []) frame in
+        elim (by_given m (IsSource.ripening t e.device e.link e.cause e.point x)
+        (up_to_place _ (now ∷ r ∷ more) (subst (λ q. IsBefore q (behind (now ∷ r ∷ more))) (sym at) b))) [
+          | inl yet ↦ are.later e i t x (subst (λ q. IsBefore q cursor) at yet)
+          | inr here ↦ other (let f : 3 ≡ r = cc in f)
+        ];
+    sound = are.sound;
+    all = λ e it sound not. are.all e it sound (λ t x b. not t x (stays m (ripe_place t e) b));
+  }
 
--- ---- a device, which is not the one that acts
+  -- ---- a device, which is not the one that acts
 
-pub turned_moves : (s : Scenario) (hs coming : List Happening) (mark cursor : List ℕ) (now r : ℕ) (more : List ℕ) (device : DeviceId)
-    → IsMoving s hs coming mark cursor now r more → HasTurnedOn s hs coming cursor device now → HasTurnedOn s hs coming (behind (now ∷ r ∷ more)) device now
-turned_moves s hs coming mark cursor now r more device m it = record {
-  off = it.off;
-  number = it.number;
-  event = it.event;
-  befell = it.befell;
-  turned = λ b.
-      elim (by_given s hs coming mark cursor now r more m (now ∷ 2 ∷ []) (IsSource.following now it.number it.event it.befell)
-      (up_to_place (now ∷ 2 ∷ []) (now ∷ r ∷ more) b)) [
-        | inl yet ↦ it.turned yet
-        | inr here ↦ absurd (m.longer here)
-      ];
-}
+  pub turned_moves : {device : DeviceId} → IsMoving s hs coming mark cursor now r more
+      → HasTurnedOn s hs coming cursor device now → HasTurnedOn s hs coming (behind (now ∷ r ∷ more)) device now
+  turned_moves m it = record {
+    off = it.off;
+    number = it.number;
+    event = it.event;
+    befell = it.befell;
+    turned = λ b.
+        elim (by_given m (IsSource.following now it.number it.event it.befell)
+        (up_to_place (now ∷ 2 ∷ []) (now ∷ r ∷ more) b)) [
+          | inl yet ↦ it.turned yet
+          | inr here ↦ absurd (m.longer here)
+        ];
+  }
 
-pub kept_moves : {M : Type 0} (stands : M → Network → DeviceId → Node → Type 0) (s : Scenario) (hs coming : List Happening) (mark cursor : List ℕ) (now r : ℕ)
-    (more : List ℕ) (device : DeviceId) (machine : M) → IsMoving s hs coming mark cursor now r more
-    → ((task : Task) → task_place s.network now device task ≡ now ∷ r ∷ more → ⊥) → IsKept stands s hs coming cursor now device machine
-    → IsKept stands s hs coming (behind (now ∷ r ∷ more)) now device machine
-kept_moves stands s hs coming mark cursor now r more device machine m other k = record {
-  node = k.node;
-  is = k.is;
-  sound = k.sound;
-  up = k.up;
-  acted = elim k.acted [
-    | inr over ↦ inr (over.0, λ p b. stays s hs coming mark cursor now r more m p (over.1 p b))
-    | inl still ↦
-        inl (
-          still.0,
-          λ task b a.
-              elim (by_given s hs coming mark cursor now r more m (task_place s.network now device task) (IsSource.acting now device task a)
-              (up_to_place (task_place s.network now device task) (now ∷ r ∷ more) b)) [
-                | inl yet ↦ still.1 task yet a
-                | inr here ↦ absurd (other task here)
-              ],
-        )
-  ];
-  told = λ over. elim (k.told over) [
-    | inl past ↦ inl (out_on s hs now device cursor (behind (now ∷ r ∷ more)) (stays s hs coming mark cursor now r more m) past)
-    | inr just ↦ inr just
-  ];
-  left = k.left;
-  taken = k.taken;
-  worked = worked_on s device k.node _ _ k.up cursor (behind (now ∷ r ∷ more)) refl (stays s hs coming mark cursor now r more m) k.worked;
-  bare = k.bare;
-  ready = k.ready;
-  still = k.still;
-  turned = λ on. turned_moves s hs coming mark cursor now r more device m (k.turned on);
-  cleared = k.cleared;
-  phase = λ at p b. stays s hs coming mark cursor now r more m p (k.phase at p b);
-}
+module _ {M : Type 0} (stands : M → Network → DeviceId → Node → Type 0) (s : Scenario)
+    (hs coming : List Happening) where
+  pub kept_moves : {mark cursor : List ℕ} {now r : ℕ} {more : List ℕ} {device : DeviceId} {machine : M}
+      → IsMoving s hs coming mark cursor now r more → ((task : Task)
+      → task_place s.network now device task ≡ now ∷ r ∷ more → ⊥)
+      → IsKept stands s hs coming cursor now device machine
+      → IsKept stands s hs coming (behind (now ∷ r ∷ more)) now device machine
+  kept_moves {mark} {cursor} {now} {r} {more} {device} m other k = record {
+    node = k.node;
+    is = k.is;
+    sound = k.sound;
+    up = k.up;
+    acted = elim k.acted [
+      | inr over ↦ inr (over.0, λ p b. stays m p (over.1 p b))
+      | inl still ↦
+          inl (
+            still.0,
+            λ task b a.
+                elim (by_given m (IsSource.acting now device task a)
+                (up_to_place (task_place s.network now device task) (now ∷ r ∷ more) b)) [
+                  | inl yet ↦ still.1 task yet a
+                  | inr here ↦ absurd (other task here)
+                ],
+          )
+    ];
+    told = λ over. elim (k.told over) [
+      | inl past ↦ inl (out_on (behind (now ∷ r ∷ more)) (stays m) past)
+      | inr just ↦ inr just
+    ];
+    left = k.left;
+    taken = k.taken;
+    worked = worked_on _ (behind (now ∷ r ∷ more)) refl (stays m) k.worked;
+    bare = k.bare;
+    ready = k.ready;
+    still = k.still;
+    turned = λ on. turned_moves s hs coming mark cursor now r more m (k.turned on);
+    cleared = k.cleared;
+    phase = λ at p b. stays m p (k.phase at p b);
+  }
 
-pub out_moves : {M : Type 0} (stands : M → Network → DeviceId → Node → Type 0) (s : Scenario) (hs coming : List Happening) (cursor then_ : List ℕ) (now : ℕ)
-    (device : DeviceId) (machine : M) → ((p : List ℕ) → IsBefore p cursor → IsBefore p then_)
-    → IsOut stands s hs coming cursor now device machine → IsOut stands s hs coming then_ now device machine
-out_moves stands s hs coming cursor then_ now device machine over k = grind arith
+  pub out_moves : {cursor : List ℕ} (then_ : List ℕ) {now : ℕ} {device : DeviceId} {machine : M}
+      → ((p : List ℕ) → IsBefore p cursor → IsBefore p then_) → IsOut stands s hs coming cursor now device machine
+      → IsOut stands s hs coming then_ now device machine
+  out_moves then_ over k = grind arith
 
-pub held_moves : {M : Type 0} (stands : M → Network → DeviceId → Node → Type 0) (s : Scenario) (hs coming : List Happening) (mark cursor : List ℕ) (now r : ℕ)
-    (more : List ℕ) (device : DeviceId) (machine : M) → IsMoving s hs coming mark cursor now r more
-    → ((task : Task) → task_place s.network now device task ≡ now ∷ r ∷ more → ⊥) → IsHeld stands s hs coming cursor now device machine
-    → IsHeld stands s hs coming (behind (now ∷ r ∷ more)) now device machine
-held_moves stands s hs coming mark cursor now r more device machine m other (inl k) =
-    inl (kept_moves stands s hs coming mark cursor now r more device machine m other k)
-held_moves stands s hs coming mark cursor now r more device machine m other (inr k) =
-    inr (out_moves stands s hs coming cursor (behind (now ∷ r ∷ more)) now device machine (stays s hs coming mark cursor now r more m) k)
+  pub held_moves : {mark cursor : List ℕ} {now r : ℕ} {more : List ℕ} {device : DeviceId} {machine : M}
+      → IsMoving s hs coming mark cursor now r more → ((task : Task)
+      → task_place s.network now device task ≡ now ∷ r ∷ more → ⊥)
+      → IsHeld stands s hs coming cursor now device machine
+      → IsHeld stands s hs coming (behind (now ∷ r ∷ more)) now device machine
+  held_moves m other (inl k) =
+      inl (kept_moves m other k)
+  held_moves {now} {r} {more} m other (inr k) =
+      inr (out_moves (behind (now ∷ r ∷ more)) (stays m) k)

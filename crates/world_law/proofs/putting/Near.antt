@@ -4,7 +4,7 @@ use Rattle.{run_law.specs.control.{Corrections.standing_before, Permanence.IsJud
 use Rattle.world_law.proofs.Words.{◌++◌, ◌+ℤ◌, ◌<◌, ◌==◌, ◌∙◌, ◌∷◌, ◌≡◌, ◌≤◌, ◌⊎◌, Arrival, ArrivesAs, BecomesPermanent, Bool, ChangesState}
 use Rattle.world_law.proofs.Words.{ComesToCorrection, Compressed, Departs, Departure, DeviceId, Dispatches, Emits, Happening, Integrating, IsActing, IsBefore}
 use Rattle.world_law.proofs.Words.{IsCaused, IsDropped, IsDue, IsForward, IsFounded, IsIn, IsLost, IsOfThisTime, IsOwnSource, IsSendLost, IsSource, Joining}
-use Rattle.world_law.proofs.Words.{Judgement, LinkId, List, None, NoteBody, Pcf, Reason, Ripe, Scenario, Signal, Some, Standing, State}
+use Rattle.world_law.proofs.Words.{Judgement, LinkId, List, None, NoteBody, Pcf, Reason, Ripe, Scenario, Signal, Some, State}
 use Rattle.world_law.proofs.Words.{Units, Verdict, VlId, Why, [], adjustment_after, adjustment_at_hearing, amount, ap, arith, arrival_of, bears_on}
 use Rattle.world_law.proofs.Words.{before_permanence, by_number, cases_lt, cause_of, chain, control, control_arrival, correcting, dispatching}
 use Rattle.world_law.proofs.Words.{doing, earlier, emitting, eq-eqb, false, filter, heard_as, heard_since, if◌then◌else◌, in_filter, inl, inr}
@@ -86,69 +86,77 @@ near_back s t n at put js gs a = grind arith
 
 -- ---- each kind
 
-comes_near : (s : Scenario) (js gs : List Happening) (t : ℕ) (device : DeviceId) (cycle : ℕ) (verdict : Verdict) → earlier t js ≡ earlier t gs
-    → HearsAlike s js gs device t → ComesToCorrection s js device t cycle verdict → ComesToCorrection s gs device t cycle verdict
-comes_near s js gs t device cycle verdict before h d =
-    let same : standing_before s js device t ≡ standing_before s gs device t = ap (standing_in s device t) before in
+module _ (s : Scenario) (js gs : List Happening) (t : ℕ) (device : DeviceId) where
+  comes_near : {cycle : ℕ} {verdict : Verdict} → earlier t js ≡ earlier t gs → HearsAlike s js gs device t
+      → ComesToCorrection s js device t cycle verdict → ComesToCorrection s gs device t cycle verdict
+  comes_near {cycle} {verdict} before h d =
+      let same : standing_before s js device t ≡ standing_before s gs device t = ap (standing_in s device t) before in
+      record {
+        next = subst (λ x. next_point x ≡ Some cycle) same d.next;
+        reached = reaches_back s js gs t device before d.reached;
+        correct = d.correct;
+        summary = d.summary;
+        heard = subst (Summarizes d.summary) h.heard d.heard;
+        comes = subst (λ x. HasVerdict x d.summary verdict) same d.comes;
+      }
+
+  emits_near : {sent : Compressed} {verdict : Judgement} → HearsAlike s js gs device t
+      → Emits s js device t sent verdict → Emits s gs device t sent verdict
+  emits_near h e = grind (arith, observation_window, heard_as, plan_of, adjustment_at_hearing, state_at_hearing)
+
+  departs_near : {link : LinkId} {cause : ℕ} {is : Departure} → numbered js cause ≡ numbered gs cause
+      → Departs s js device t link cause is → Departs s gs device t link cause is
+  departs_near same d = grind arith
+
+  pub arrival_near : (link : LinkId) (cause : ℕ) (signal : Signal) → earlier t js ≡ earlier t gs
+      → ((vl : VlId) → last_taken js device t link cause vl ≡ last_taken gs device t link cause vl)
+      → arrival_of s js device t link cause signal ≡ arrival_of s gs device t link cause signal
+  arrival_near link cause (control frame) before taken =
+      ap (λ w. control_arrival s.network device link (standpoint_in s device t w) frame) before
+  arrival_near link cause (timed octets) before taken =
+      ap (λ w. timed_arrival s.network device link (standpoint_in s device t w) octets
+      (last_taken js device t link cause)) before
+      ∙ timed_by s device link (standpoint_in s device t (earlier t gs)) octets (last_taken js device t link cause)
+      (last_taken gs device t link cause) taken
+
+module _ (s : Scenario) (t n : ℕ) (at : List ℕ) (put : NoteBody) (js gs : List Happening) (device : DeviceId)
+    (link : LinkId) (cause : ℕ) where
+  arrives_near : (is : Arrival) → AreNear s t n at put js gs → cause ≤ n
+      → (IsBefore at (t ∷ 2 ∷ device.0 ∷ link.0 ∷ cause ∷ []) → ⊥) → ArrivesAs s js device t link cause is
+      → ArrivesAs s gs device t link cause is
+  arrives_near is a le under x = record {
+    putting = x.putting;
+    there = sym (a.first cause le) ∙ x.there;
+    signal = x.signal;
+    arrives = x.arrives;
+    becomes = x.becomes ∙ arrival_near s js gs t device link cause x.signal a.before
+        (λ vl. a.taken device link cause vl under);
+  }
+
+  ripens_near : (point : Units) (is : Ripe) → AreNear s t n at put js gs → cause ≤ n
+      → (r : BecomesPermanent s js device t link cause point is)
+      → (IsBefore at (t ∷ 3 ∷ device.0 ∷ amount point ∷ r.frame.members.0 ∷ link.0 ∷ cause ∷ []) → ⊥)
+      → (other : BecomesPermanent s gs device t link cause point is) × (other.frame ≡ r.frame)
+  ripens_near point is a le r under = (
     record {
-      next = subst (λ (x : Standing). next_point x ≡ Some cycle) same d.next;
-      reached = reaches_back s js gs t device _ before d.reached;
-      correct = d.correct;
-      summary = d.summary;
-      heard = subst (Summarizes d.summary) h.heard d.heard;
-      comes = subst (λ (x : Standing). HasVerdict x d.summary verdict) same d.comes;
-    }
+      frame = r.frame;
+      permanent = same_permanent gs r.permanent (sym (a.first cause le) ∙ r.permanent.there);
+      becomes = subst (λ l. IsJudgedBy s l device t r.frame point is)
+          (a.judged device link cause r.frame point under) r.becomes;
+    },
+    refl,
+  )
 
-emits_near : (s : Scenario) (js gs : List Happening) (t : ℕ) (device : DeviceId) (sent : Compressed) (verdict : Judgement) → HearsAlike s js gs device t
-    → Emits s js device t sent verdict → Emits s gs device t sent verdict
-emits_near s js gs t device sent verdict h e = grind (arith, observation_window, heard_as, plan_of, adjustment_at_hearing, state_at_hearing)
+module _ (s : Scenario) (js gs : List Happening) (t : ℕ) (device : DeviceId) (link : LinkId) (cause : ℕ) where
+  send_near : numbered js cause ≡ numbered gs cause → IsSendLost s js device t link cause
+      → IsSendLost s gs device t link cause
+  send_near same l = grind arith
 
-departs_near : (s : Scenario) (js gs : List Happening) (t : ℕ) (device : DeviceId) (link : LinkId) (cause : ℕ) (is : Departure)
-    → numbered js cause ≡ numbered gs cause → Departs s js device t link cause is → Departs s gs device t link cause is
-departs_near s js gs t device link cause is same d = grind arith
-
-pub arrival_near : (s : Scenario) (js gs : List Happening) (t : ℕ) (device : DeviceId) (link : LinkId) (cause : ℕ) (signal : Signal)
-    → earlier t js ≡ earlier t gs → ((vl : VlId) → last_taken js device t link cause vl ≡ last_taken gs device t link cause vl)
-    → arrival_of s js device t link cause signal ≡ arrival_of s gs device t link cause signal
-arrival_near s js gs t device link cause (control frame) before taken =
-    ap (λ (w : List Happening). control_arrival s.network device link (standpoint_in s device t w) frame) before
-arrival_near s js gs t device link cause (timed octets) before taken =
-    ap (λ (w : List Happening). timed_arrival s.network device link (standpoint_in s device t w) octets (last_taken js device t link cause)) before
-    ∙ timed_by s device link (standpoint_in s device t (earlier t gs)) octets (last_taken js device t link cause) (last_taken gs device t link cause) taken
-
-arrives_near : (s : Scenario) (t n : ℕ) (at : List ℕ) (put : NoteBody) (js gs : List Happening) (device : DeviceId) (link : LinkId) (cause : ℕ) (is : Arrival)
-    → AreNear s t n at put js gs → cause ≤ n → (IsBefore at (t ∷ 2 ∷ device.0 ∷ link.0 ∷ cause ∷ []) → ⊥) → ArrivesAs s js device t link cause is
-    → ArrivesAs s gs device t link cause is
-arrives_near s t n at put js gs device link cause is a le under x = record {
-  putting = x.putting;
-  there = sym (a.first cause le) ∙ x.there;
-  signal = x.signal;
-  arrives = x.arrives;
-  becomes = x.becomes ∙ arrival_near s js gs t device link cause x.signal a.before (λ vl. a.taken device link cause vl under);
-}
-
-ripens_near : (s : Scenario) (t n : ℕ) (at : List ℕ) (put : NoteBody) (js gs : List Happening) (device : DeviceId) (link : LinkId) (cause : ℕ) (point : Units)
-    (is : Ripe) → AreNear s t n at put js gs → cause ≤ n → (r : BecomesPermanent s js device t link cause point is)
-    → (IsBefore at (t ∷ 3 ∷ device.0 ∷ amount point ∷ r.frame.members.0 ∷ link.0 ∷ cause ∷ []) → ⊥)
-    → (other : BecomesPermanent s gs device t link cause point is) × (other.frame ≡ r.frame)
-ripens_near s t n at put js gs device link cause point is a le r under = (
-  record {
-    frame = r.frame;
-    permanent = same_permanent s gs js t device link cause r.frame point r.permanent (sym (a.first cause le) ∙ r.permanent.there);
-    becomes = subst (λ (l : List Happening). IsJudgedBy s l device t r.frame point is) (a.judged device link cause r.frame point under) r.becomes;
-  },
-  refl,
-)
-
-send_near : (s : Scenario) (js gs : List Happening) (t : ℕ) (device : DeviceId) (link : LinkId) (cause : ℕ) → numbered js cause ≡ numbered gs cause
-    → IsSendLost s js device t link cause → IsSendLost s gs device t link cause
-send_near s js gs t device link cause same l = grind arith
-
-lost_near : (s : Scenario) (js gs : List Happening) (t : ℕ) (device : DeviceId) (link : LinkId) (cause : ℕ) → earlier t js ≡ earlier t gs
-    → numbered js cause ≡ numbered gs cause → IsLost s js device t link cause → IsLost s gs device t link cause
-lost_near s js gs t device link cause before same (inl d) = inl (departs_near s js gs t device link cause _ same d)
-lost_near s js gs t device link cause before same (inr (inl d)) = inr (inl (d.0, d.1, dispatches_back s js gs t device link cause d.0 d.1 before d.2, d.3))
-lost_near s js gs t device link cause before same (inr (inr l)) = inr (inr (send_near s js gs t device link cause same l))
+  lost_near : earlier t js ≡ earlier t gs → numbered js cause ≡ numbered gs cause → IsLost s js device t link cause
+      → IsLost s gs device t link cause
+  lost_near before same (inl d) = inl (departs_near s js gs t device same d)
+  lost_near before same (inr (inl d)) = inr (inl (d.0, d.1, dispatches_back gs before d.2, d.3))
+  lost_near before same (inr (inr l)) = inr (inr (send_near same l))
 
 -- a place of a lower rank is not behind the source either
 pub lower_rank : (at : List ℕ) (t k r : ℕ) (us ws : List ℕ) → k < r → (IsBefore at (t ∷ r ∷ ws) → ⊥) → IsBefore at (t ∷ k ∷ us) → ⊥
@@ -158,66 +166,73 @@ dropped_near : (s : Scenario) (t n m : ℕ) (at : List ℕ) (put : NoteBody) (js
     (reason : Reason) (p : List ℕ) → AreNear s t n at put js gs → cause ≤ n → IsOwnSource s js t m (notes.Dropped device link cause reason) p
     → (IsBefore at p → ⊥) → IsDropped s js device t link cause reason → IsDropped s gs device t link cause reason
 dropped_near s t n m at put js gs device link cause reason p a le (inl o) under c =
-    inl (arrives_near s t n at put js gs device link cause _ a le (subst (λ (q : List ℕ). IsBefore at q → ⊥) o.0 under) o.1)
+    inl (arrives_near s t n at put js gs device link cause _ a le (subst (λ q. IsBefore at q → ⊥) o.0 under) o.1)
 dropped_near s t n m at put js gs device link cause reason p a le (inr (inl o)) under c =
-    inr (inl (o.0, (ripens_near s t n at put js gs device link cause o.0 _ a le o.1 (subst (λ (q : List ℕ). IsBefore at q → ⊥) o.2 under)).0))
+    inr (inl (o.0, (ripens_near s t n at put js gs device link cause o.0 _ a le o.1 (subst (λ q. IsBefore at q → ⊥) o.2 under)).0))
 dropped_near s t n m at put js gs device link cause reason p a le (inr (inr o)) under (inl c) = grind (arith, arrives_near, lower_rank)
 dropped_near s t n m at put js gs device link cause reason p a le (inr (inr o)) under (inr (inl c)) = grind (arith, ripens_near, lower_rank, amount)
 dropped_near s t n m at put js gs device link cause reason p a le (inr (inr o)) under (inr (inr c)) =
-    inr (inr (departs_near s js gs t device link cause _ (a.first cause le) c.0, c.1))
+    inr (inr (departs_near s js gs t device (a.first cause le) c.0, c.1))
 
 -- ---- what causes a record whose source is not behind the place
 
-pub caused_near : (s : Scenario) (n m : ℕ) (at : List ℕ) (put : NoteBody) (js gs : List Happening) (time : Units) (body : NoteBody) (p : List ℕ)
-    → AreNear s (amount time) n at put js gs → is_at_source body ≡ false → is_follower body ≡ false
-    → ((device : DeviceId) → hears device body ≡ true → bears_on device put ≡ false) → cause_of body ≤ n → IsOwnSource s js (amount time) m body p
-    → (IsBefore at p → ⊥) → IsCaused s js time body → IsCaused s gs time body
-caused_near s n m at put js gs time (notes.Event line what) p a there follows free le o under c = c
-caused_near s n m at put js gs time (notes.Arrived device link cause clock) p a there follows free le o under c = absurd cc
-caused_near s n m at put js gs time (notes.Permanent device link cause point verdict) p a there follows free le o under c = absurd cc
-caused_near s n m at put js gs time (notes.Left device link cause clock) p a there follows free le o under c = absurd cc
-caused_near s n m at put js gs time (notes.Clock device reading adjustment state) p a there follows free le o under c = absurd cc
-caused_near s n m at put js gs time (notes.Compressed device opened on cycle members verdict) p a there follows free le o under c =
-    emits_near s js gs (amount time) device _ verdict (a.hearing device (free device (eq-eqb device.0 device.0 refl))) c
-caused_near s n m at put js gs time (notes.Sent device cycle) p a there follows free le o under c = grind (arith, up_back, amount, reaches_back)
-caused_near s n m at put js gs time (notes.Corrected device cycle by adjustment) p a there follows free le o under c = record {
-  corrected = comes_near s js gs (amount time) device cycle _ a.before (a.hearing device (free device (eq-eqb device.0 device.0 refl))) c.corrected;
-  sum = subst (λ (w : List Happening). adjustment.0 ≡ ((adjustment_after s w device).0 +ℤ by.0)) a.before c.sum;
-}
-caused_near s n m at put js gs time (notes.State device state cause whys.SyncClique) p a there follows free le o under c =
-    grind (arith, comes_near, amount, eq-eqb)
-caused_near s n m at put js gs time (notes.State device state cause whys.AsyncClique) p a there follows free le o under c =
-    grind (arith, comes_near, amount, eq-eqb)
-caused_near s n m at put js gs time (notes.State device state cause whys.On) p a there follows free le o under c = absurd cc
-caused_near s n m at put js gs time (notes.State device state cause whys.Frame) p a there follows free le o under c = absurd cc
-caused_near s n m at put js gs time (notes.State device state cause whys.Correction) p a there follows free le o under c = absurd cc
-caused_near s n m at put js gs time (notes.Lost device link cause) p a there follows free le o under c =
-    lost_near s js gs (amount time) device link cause a.before (a.first cause le) c
-caused_near s n m at put js gs time (notes.TtSent device link cause vl cycle) p a there follows free le o under c =
-    record { dispatches = dispatches_back s js gs (amount time) device link cause vl cycle a.before c.dispatches; whole = c.whole }
-caused_near s n m at put js gs time (notes.Accepted device link cause vl cycle) p a there follows free le o under c =
-    arrives_near s (amount time) n at put js gs device link cause _ a le (subst (λ (q : List ℕ). IsBefore at q → ⊥) o under) c
-caused_near s n m at put js gs time (notes.Delivered device link cause vl cycle) p a there follows free le o under c =
-    arrives_near s (amount time) n at put js gs device link cause _ a le (subst (λ (q : List ℕ). IsBefore at q → ⊥) o under) c
-caused_near s n m at put js gs time (notes.Dropped device link cause reason) p a there follows free le o under c =
-    dropped_near s (amount time) n m at put js gs device link cause reason p a le o under c
+module _ (s : Scenario) (n m : ℕ) (at : List ℕ) (put : NoteBody) (js gs : List Happening) (time : Units) where
+  pub caused_near : (body : NoteBody) (p : List ℕ) → AreNear s (amount time) n at put js gs
+      → is_at_source body ≡ false → is_follower body ≡ false
+      → ((device : DeviceId) → hears device body ≡ true → bears_on device put ≡ false) → cause_of body ≤ n
+      → IsOwnSource s js (amount time) m body p → (IsBefore at p → ⊥) → IsCaused s js time body
+      → IsCaused s gs time body
+  caused_near (notes.Event line what) p a there follows free le o under c = c
+  caused_near (notes.Arrived device link cause clock) p a there follows free le o under c = absurd cc
+  caused_near (notes.Permanent device link cause point verdict) p a there follows free le o under c = absurd cc
+  caused_near (notes.Left device link cause clock) p a there follows free le o under c = absurd cc
+  caused_near (notes.Clock device reading adjustment state) p a there follows free le o under c = absurd cc
+  caused_near (notes.Compressed device opened on cycle members verdict) p a there follows free le o under c =
+      emits_near s js gs (amount time) device (a.hearing device (free device (eq-eqb device.0 device.0 refl))) c
+  caused_near (notes.Sent device cycle) p a there follows free le o under c =
+      grind (arith, up_back, amount, reaches_back)
+  caused_near (notes.Corrected device cycle by adjustment) p a there follows free le o under c = record {
+    corrected = comes_near s js gs (amount time) device a.before
+        (a.hearing device (free device (eq-eqb device.0 device.0 refl))) c.corrected;
+    sum = subst (λ w. adjustment.0 ≡ ((adjustment_after s w device).0 +ℤ by.0)) a.before c.sum;
+  }
+  caused_near (notes.State device state cause whys.SyncClique) p a there follows free le o under c =
+      grind (arith, comes_near, amount, eq-eqb)
+  caused_near (notes.State device state cause whys.AsyncClique) p a there follows free le o under c =
+      grind (arith, comes_near, amount, eq-eqb)
+  caused_near (notes.State device state cause whys.On) p a there follows free le o under c = absurd cc
+  caused_near (notes.State device state cause whys.Frame) p a there follows free le o under c = absurd cc
+  caused_near (notes.State device state cause whys.Correction) p a there follows free le o under c = absurd cc
+  caused_near (notes.Lost device link cause) p a there follows free le o under c =
+      lost_near s js gs (amount time) device link cause a.before (a.first cause le) c
+  caused_near (notes.TtSent device link cause vl cycle) p a there follows free le o under c =
+      record { dispatches = dispatches_back gs a.before c.dispatches; whole = c.whole }
+  caused_near (notes.Accepted device link cause vl cycle) p a there follows free le o under c =
+      arrives_near s (amount time) n at put js gs device link cause _ a le
+      (subst (λ q. IsBefore at q → ⊥) o under) c
+  caused_near (notes.Delivered device link cause vl cycle) p a there follows free le o under c =
+      arrives_near s (amount time) n at put js gs device link cause _ a le
+      (subst (λ q. IsBefore at q → ⊥) o under) c
+  caused_near (notes.Dropped device link cause reason) p a there follows free le o under c =
+      dropped_near s (amount time) n m at put js gs device link cause reason p a le o under c
 
 -- and its own source
 pub own_near : (s : Scenario) (t n m : ℕ) (at : List ℕ) (put : NoteBody) (js gs : List Happening) (body : NoteBody) (p : List ℕ)
     → AreNear s t n at put js gs → cause_of body ≤ n → (IsBefore at p → ⊥) → IsOwnSource s js t m body p → IsOwnSource s gs t m body p
-own_near s t n m at put js gs (notes.Lost device link cause) p a le under (inl d) = inl (d.0, departs_near s js gs t device link cause _ (a.first cause le) d.1)
+own_near s t n m at put js gs (notes.Lost device link cause) p a le under (inl d) =
+    inl (d.0, departs_near s js gs t device (a.first cause le) d.1)
 own_near s t n m at put js gs (notes.Lost device link cause) p a le under (inr (inl d)) =
     let e = dispatches_same s js gs t device link cause d.0 d.1 a.before d.2 in
     inr (inl (d.0, d.1, e.0, d.3, d.4 ∙ ap (λ (n : ℕ). task_place s.network t device (doing (dispatching (record { 0 = n }) d.1))) (sym e.1)))
 own_near s t n m at put js gs (notes.Lost device link cause) p a le under (inr (inr l)) =
     inr (inr (l.0, send_near s js gs t device link cause (a.first cause le) l.1))
 own_near s t n m at put js gs (notes.Dropped device link cause reason) p a le under (inl x) =
-    inl (x.0, arrives_near s t n at put js gs device link cause _ a le (subst (λ (q : List ℕ). IsBefore at q → ⊥) x.0 under) x.1)
+    inl (x.0, arrives_near s t n at put js gs device link cause _ a le (subst (λ q. IsBefore at q → ⊥) x.0 under) x.1)
 own_near s t n m at put js gs (notes.Dropped device link cause reason) p a le under (inr (inl x)) =
-    let r = ripens_near s t n at put js gs device link cause x.0 _ a le x.1 (subst (λ (q : List ℕ). IsBefore at q → ⊥) x.2 under) in
+    let r = ripens_near s t n at put js gs device link cause x.0 _ a le x.1 (subst (λ q. IsBefore at q → ⊥) x.2 under) in
     inr (inl (x.0, r.0, x.2 ∙ ap (λ (f : Pcf). t ∷ 3 ∷ device.0 ∷ amount x.0 ∷ f.members.0 ∷ link.0 ∷ cause ∷ []) (sym r.1)))
 own_near s t n m at put js gs (notes.Dropped device link cause reason) p a le under (inr (inr x)) =
-    inr (inr (x.0, departs_near s js gs t device link cause _ (a.first cause le) x.1))
+    inr (inr (x.0, departs_near s js gs t device (a.first cause le) x.1))
 own_near s t n m at put js gs (notes.State device state cause whys.On) p a le under o = o
 own_near s t n m at put js gs (notes.State device state cause whys.Frame) p a le under o = o
 own_near s t n m at put js gs (notes.State device state cause whys.Correction) p a le under o = o
@@ -231,26 +246,29 @@ own_near s t n m at put js gs other p a le under o = o
 -- the own source of a record that is caused is a source
 pub own_source : (s : Scenario) (js : List Happening) (time : Units) (m : ℕ) (body : NoteBody) (p : List ℕ) → is_at_source body ≡ false
     → IsCaused s js time body → IsOwnSource s js (amount time) m body p → IsSource s js p
-own_source s js time m (notes.Event line what) p there c o = at_place s js p _ o (IsSource.befalling time line what c)
+own_source s js time m (notes.Event line what) p there c o = at_place s js p o (IsSource.befalling time line what c)
 own_source s js time m (notes.Arrived device link cause clock) p there c o = absurd cc
 own_source s js time m (notes.Permanent device link cause point verdict) p there c o = absurd cc
 own_source s js time m (notes.Left device link cause clock) p there c o = absurd cc
 own_source s js time m (notes.Clock device reading adjustment state) p there c o = absurd cc
 own_source s js time m (notes.Compressed device opened at cycle members verdict) p there c o =
-    at_place s js p _ o (IsSource.acting (amount time) device (emitting _) (IsActing.emits _ verdict c))
+    at_place s js p o (IsSource.acting (amount time) device (emitting _) (IsActing.emits _ verdict c))
 own_source s js time m (notes.Sent device cycle) p there c o =
-    at_place s js p _ o (IsSource.acting (amount time) device (doing (sending cycle)) (IsActing.sends cycle c))
+    at_place s js p o (IsSource.acting (amount time) device (doing (sending cycle)) (IsActing.sends cycle c))
 own_source s js time m (notes.Corrected device cycle by adjustment) p there c o =
-    at_place s js p _ o (IsSource.acting (amount time) device (doing (correcting _))
+    at_place s js p o (IsSource.acting (amount time) device (doing (correcting _))
     (IsActing.corrects cycle (record { next = c.corrected.next; reached = c.corrected.reached; correct = c.corrected.correct })))
-own_source s js time m (notes.State device state cause whys.On) p there c o = at_place s js p _ o (IsSource.following (amount time) cause c.2.1 c.2.2)
-own_source s js time m (notes.State device state cause whys.Frame) p there c o = at_place s js p _ o (IsSource.following (amount time) cause c.1.0 c.1.1)
-own_source s js time m (notes.State device state cause whys.Correction) p there c o = at_place s js p _ o (IsSource.following (amount time) cause c.2.3 c.2.4)
+own_source s js time m (notes.State device state cause whys.On) p there c o =
+    at_place s js p o (IsSource.following (amount time) cause c.2.1 c.2.2)
+own_source s js time m (notes.State device state cause whys.Frame) p there c o =
+    at_place s js p o (IsSource.following (amount time) cause c.1.0 c.1.1)
+own_source s js time m (notes.State device state cause whys.Correction) p there c o =
+    at_place s js p o (IsSource.following (amount time) cause c.2.3 c.2.4)
 own_source s js time m (notes.State device state cause whys.SyncClique) p there c o =
-    at_place s js p _ o.1 (IsSource.acting (amount time) device (doing (correcting _))
+    at_place s js p o.1 (IsSource.acting (amount time) device (doing (correcting _))
     (IsActing.corrects c.2.0 (record { next = c.2.1.next; reached = c.2.1.reached; correct = c.2.1.correct })))
 own_source s js time m (notes.State device state cause whys.AsyncClique) p there c o =
-    at_place s js p _ o.1 (IsSource.acting (amount time) device (doing (correcting _))
+    at_place s js p o.1 (IsSource.acting (amount time) device (doing (correcting _))
     (IsActing.corrects c.2.0 (record { next = c.2.1.next; reached = c.2.1.reached; correct = c.2.1.correct })))
 own_source s js time m (notes.Lost device link cause) p there c o = late_source s js time m (notes.Lost device link cause) p (omega arith) c o
 own_source s js time m (notes.TtSent device link cause vl cycle) p there c o =
@@ -271,100 +289,117 @@ AreFrom now r zs = (z : Happening) → IsIn z zs → (time_of z ≡ now) × (r �
 rank_up_to : (t r k : ℕ) (more ws : List ℕ) → (IsBefore (t ∷ r ∷ more) (t ∷ k ∷ ws) → ⊥) → k ≤ r
 rank_up_to t r k more ws not = elim (cases_lt r k) [ inl lt ↦ absurd (not (inr (refl, inl lt))) | inr le ↦ le ]
 
-departs_given : (s : Scenario) (hs zs : List Happening) (now r t : ℕ) (device : DeviceId) (link : LinkId) (cause : ℕ) (is : Departure) → AreFrom now r zs
-    → 8 ≤ r → Departs s (hs ++ zs) device t link cause is → cause ≤ length hs
-departs_given s hs zs now r t device link cause is from high d =
-    elim (numbered_parts hs zs d.giving cause d.there) [
-      | inl old ↦ let lt = numbered_within hs cause d.giving old in omega (arith, lt)
-      | inr new ↦ let it = from d.giving new in let low = gives_rank s.network d.giving.note.body device link d.gives in absurd (omega (arith, it.1, low, high))
-    ]
+module _ (s : Scenario) (hs zs : List Happening) (now r : ℕ) where
+  departs_given : {t : ℕ} {device : DeviceId} {link : LinkId} {cause : ℕ} {is : Departure} → AreFrom now r zs → 8 ≤ r
+      → Departs s (hs ++ zs) device t link cause is → cause ≤ length hs
+  departs_given {device} {link} {cause} from high d =
+      elim (numbered_parts hs zs d.giving cause d.there) [
+        | inl old ↦ let lt = numbered_within hs cause d.giving old in omega (arith, lt)
+        | inr new ↦ let it = from d.giving new in let low = gives_rank s.network d.giving.note.body device link
+            d.gives in absurd (omega (arith, it.1, low, high))
+      ]
 
-arrives_given : (s : Scenario) (hs zs : List Happening) (now r : ℕ) (device : DeviceId) (link : LinkId) (cause : ℕ) (is : Arrival) → IsForward s
-    → AreFrom now r zs → ArrivesAs s (hs ++ zs) device now link cause is → cause ≤ length hs
-arrives_given s hs zs now r device link cause is forward from a =
-    elim (numbered_parts hs zs a.putting cause a.there) [
-      | inl old ↦ let lt = numbered_within hs cause a.putting old in omega (arith, lt)
-      | inr new ↦
-          let it = from a.putting new in
-          let later = arrives_later s a.putting device link now a.signal forward a.arrives in absurd (omega (arith, it.0, later))
-    ]
+  arrives_given : {device : DeviceId} {link : LinkId} {cause : ℕ} {is : Arrival} → IsForward s → AreFrom now r zs
+      → ArrivesAs s (hs ++ zs) device now link cause is → cause ≤ length hs
+  arrives_given {cause} forward from a =
+      elim (numbered_parts hs zs a.putting cause a.there) [
+        | inl old ↦ let lt = numbered_within hs cause a.putting old in omega (arith, lt)
+        | inr new ↦
+            let it = from a.putting new in
+            let later = arrives_later forward a.arrives in absurd (omega (arith, it.0, later))
+      ]
 
-ripens_given : (s : Scenario) (hs zs : List Happening) (now r t : ℕ) (device : DeviceId) (link : LinkId) (cause : ℕ) (point : Units) (is : Ripe)
-    → AreFrom now r zs → 3 ≤ r → BecomesPermanent s (hs ++ zs) device t link cause point is → cause ≤ length hs
-ripens_given s hs zs now r t device link cause point is from high x =
-    let p = x.permanent in
-    elim (numbered_parts hs zs p.arrival cause p.there) [
-      | inl old ↦ let lt = numbered_within hs cause p.arrival old in omega (arith, lt)
-      | inr new ↦ let it = from p.arrival new in let two : rank p.arrival.note.body ≡ 2 = ap rank p.arrived in absurd (omega (arith, it.1, two, high))
-    ]
+  ripens_given : {t : ℕ} {device : DeviceId} {link : LinkId} {cause : ℕ} {point : Units} {is : Ripe}
+      → AreFrom now r zs → 3 ≤ r → BecomesPermanent s (hs ++ zs) device t link cause point is → cause ≤ length hs
+  ripens_given {cause} from high x =
+      let p = x.permanent in
+      elim (numbered_parts hs zs p.arrival cause p.there) [
+        | inl old ↦ let lt = numbered_within hs cause p.arrival old in omega (arith, lt)
+        | inr new ↦ let it = from p.arrival new in let two : rank p.arrival.note.body ≡ 2 = ap rank p.arrived in
+            absurd (omega (arith, it.1, two, high))
+      ]
 
-send_given : (s : Scenario) (hs zs : List Happening) (now r t : ℕ) (device : DeviceId) (link : LinkId) (cause : ℕ) → AreFrom now r zs → 2 ≤ r
-    → IsSendLost s (hs ++ zs) device t link cause → cause ≤ length hs
-send_given s hs zs now r t device link cause from high l =
-    elim (numbered_parts hs zs l.event cause l.is.there) [
-      | inl old ↦ let lt = numbered_within hs cause l.event old in omega (arith, lt)
-      | inr new ↦ let it = from l.event new in let one : rank l.event.note.body ≡ 1 = ap rank l.sends in absurd (omega (arith, it.1, one, high))
-    ]
+  send_given : {t : ℕ} {device : DeviceId} {link : LinkId} {cause : ℕ} → AreFrom now r zs → 2 ≤ r
+      → IsSendLost s (hs ++ zs) device t link cause → cause ≤ length hs
+  send_given {cause} from high l =
+      elim (numbered_parts hs zs l.event cause l.is.there) [
+        | inl old ↦ let lt = numbered_within hs cause l.event old in omega (arith, lt)
+        | inr new ↦ let it = from l.event new in let one : rank l.event.note.body ≡ 1 = ap rank l.sends in
+            absurd (omega (arith, it.1, one, high))
+      ]
 
-pub dispatches_given : (s : Scenario) (hs zs : List Happening) (now r : ℕ) (device : DeviceId) (link : LinkId) (cause : ℕ) (vl : VlId) (cycle : ℕ)
-    → IsFounded place_of (IsDue s) hs → AreFrom now r zs → Dispatches s (hs ++ zs) device now link cause vl cycle → cause ≤ length hs
-dispatches_given s hs zs now r device link cause vl cycle founded from d =
-    elim d.at_hand [
-      | inl sender ↦ omega (arith, sender.1)
-      | inr took ↦
-          let same = earlier_still now hs zs (λ z i. let it = from z i in omega (arith, it.0)) in
-          let last = subst (λ (l : List Happening). last_or None (filter (λ h. is_accepted device d.entry.row.vl h.note.body) l) ≡ Some took.1.taken) same
-          took.1.last in
-          elim (last_in None (filter (λ h. is_accepted device d.entry.row.vl h.note.body) (earlier now hs)) took.1.taken last) [
-            | inl none ↦ absurd cc
-            | inr i ↦
-                let there = in_filter _ hs took.1.taken (in_filter _ (earlier now hs) took.1.taken i) in
-                let lt = numbered_within hs took.1.taken.note.number took.1.taken (by_number s hs took.1.taken founded there) in
-                omega (arith, lt, took.1.number)
-          ]
-    ]
+  pub dispatches_given : {device : DeviceId} {link : LinkId} {cause : ℕ} {vl : VlId} {cycle : ℕ}
+      → IsFounded place_of (IsDue s) hs → AreFrom now r zs → Dispatches s (hs ++ zs) device now link cause vl cycle
+      → cause ≤ length hs
+  dispatches_given {device} founded from d =
+      elim d.at_hand [
+        | inl sender ↦ omega (arith, sender.1)
+        | inr took ↦
+            let same = earlier_still now hs zs (λ z i. let it = from z i in omega (arith, it.0)) in
+            let last = subst (λ (l : List Happening). last_or None
+            (filter (λ h. is_accepted device d.entry.row.vl h.note.body) l) ≡ Some took.1.taken) same
+            took.1.last in
+            elim (last_in None (filter (λ h. is_accepted device d.entry.row.vl h.note.body) (earlier now hs))
+            took.1.taken last) [
+              | inl none ↦ absurd cc
+              | inr i ↦
+                  let there = in_filter _ hs took.1.taken (in_filter _ (earlier now hs) took.1.taken i) in
+                  let lt = numbered_within hs took.1.taken.note.number took.1.taken
+                  (by_number s hs took.1.taken founded there) in
+                  omega (arith, lt, took.1.number)
+            ]
+      ]
 
--- the cause of a record whose source is not behind the place is given, if it does not follow a record of the instant
-pub known_near : (s : Scenario) (hs zs : List Happening) (time : Units) (m r : ℕ) (more : List ℕ) (body : NoteBody) (p : List ℕ) → IsForward s
-    → IsFounded place_of (IsDue s) hs → AreFrom (amount time) r zs → 2 ≤ r → is_at_source body ≡ false → is_follower body ≡ false
-    → IsOwnSource s (hs ++ zs) (amount time) m body p → (IsBefore (amount time ∷ r ∷ more) p → ⊥) → IsCaused s (hs ++ zs) time body → cause_of body ≤ length hs
-known_near s hs zs time m r more (notes.Event line what) p forward founded from late there follows o under c = omega arith
-known_near s hs zs time m r more (notes.Arrived device link cause clock) p forward founded from late there follows o under c = absurd cc
-known_near s hs zs time m r more (notes.Permanent device link cause point verdict) p forward founded from late there follows o under c = absurd cc
-known_near s hs zs time m r more (notes.Left device link cause clock) p forward founded from late there follows o under c = absurd cc
-known_near s hs zs time m r more (notes.Clock device reading adjustment state) p forward founded from late there follows o under c = absurd cc
-known_near s hs zs time m r more (notes.Compressed device opened at cycle members verdict) p forward founded from late there follows o under c = omega arith
-known_near s hs zs time m r more (notes.Sent device cycle) p forward founded from late there follows o under c = omega arith
-known_near s hs zs time m r more (notes.Corrected device cycle by adjustment) p forward founded from late there follows o under c = omega arith
-known_near s hs zs time m r more (notes.State device state cause whys.SyncClique) p forward founded from late there follows o under c =
-    let e = c.1 in omega (arith, e)
-known_near s hs zs time m r more (notes.State device state cause whys.AsyncClique) p forward founded from late there follows o under c =
-    let e = c.1 in omega (arith, e)
-known_near s hs zs time m r more (notes.State device state cause whys.On) p forward founded from late there follows o under c = absurd cc
-known_near s hs zs time m r more (notes.State device state cause whys.Frame) p forward founded from late there follows o under c = absurd cc
-known_near s hs zs time m r more (notes.State device state cause whys.Correction) p forward founded from late there follows o under c = absurd cc
-known_near s hs zs time m r more (notes.Lost device link cause) p forward founded from late there follows (inl o) under c =
-    let high = rank_up_to (amount time) r 8 more (device.0 ∷ link.0 ∷ cause ∷ []) (subst (λ (q : List ℕ). IsBefore (amount time ∷ r ∷ more) q → ⊥) o.0 under) in
-    departs_given s hs zs (amount time) r (amount time) device link cause _ from high o.1
-known_near s hs zs time m r more (notes.Lost device link cause) p forward founded from late there follows (inr (inl o)) under c =
-    dispatches_given s hs zs (amount time) r device link cause o.0 o.1 founded from o.2
-known_near s hs zs time m r more (notes.Lost device link cause) p forward founded from late there follows (inr (inr o)) under c =
-    send_given s hs zs (amount time) r (amount time) device link cause from late o.1
-known_near s hs zs time m r more (notes.TtSent device link cause vl cycle) p forward founded from late there follows o under c =
-    dispatches_given s hs zs (amount time) r device link cause vl cycle founded from c.dispatches
-known_near s hs zs time m r more (notes.Accepted device link cause vl cycle) p forward founded from late there follows o under c =
-    arrives_given s hs zs (amount time) r device link cause _ forward from c
-known_near s hs zs time m r more (notes.Delivered device link cause vl cycle) p forward founded from late there follows o under c =
-    arrives_given s hs zs (amount time) r device link cause _ forward from c
-known_near s hs zs time m r more (notes.Dropped device link cause reason) p forward founded from late there follows (inl o) under c =
-    arrives_given s hs zs (amount time) r device link cause _ forward from o.1
-known_near s hs zs time m r more (notes.Dropped device link cause reason) p forward founded from late there follows (inr (inl o)) under c =
-    let high = rank_up_to (amount time) r 3 more (device.0 ∷ amount o.0 ∷ o.1.frame.members.0 ∷ link.0 ∷ cause ∷ [])
-    (subst (λ (q : List ℕ). IsBefore (amount time ∷ r ∷ more) q → ⊥) o.2 under) in
-    ripens_given s hs zs (amount time) r (amount time) device link cause o.0 _ from high o.1
-known_near s hs zs time m r more (notes.Dropped device link cause reason) p forward founded from late there follows (inr (inr o)) under c =
-    let high = rank_up_to (amount time) r 8 more (device.0 ∷ link.0 ∷ cause ∷ []) (subst (λ (q : List ℕ). IsBefore (amount time ∷ r ∷ more) q → ⊥) o.0 under) in
-    departs_given s hs zs (amount time) r (amount time) device link cause _ from high o.1
+module _ (s : Scenario) (hs zs : List Happening) (time : Units) (m r : ℕ) (more : List ℕ) where
+  -- the cause of a record whose source is not behind the place is given, if it does not follow a record of the instant
+  pub known_near : (body : NoteBody) (p : List ℕ) → IsForward s → IsFounded place_of (IsDue s) hs
+      → AreFrom (amount time) r zs → 2 ≤ r → is_at_source body ≡ false → is_follower body ≡ false
+      → IsOwnSource s (hs ++ zs) (amount time) m body p → (IsBefore (amount time ∷ r ∷ more) p → ⊥)
+      → IsCaused s (hs ++ zs) time body → cause_of body ≤ length hs
+  known_near (notes.Event line what) p forward founded from late there follows o under c = omega arith
+  known_near (notes.Arrived device link cause clock) p forward founded from late there follows o under c = absurd cc
+  known_near (notes.Permanent device link cause point verdict) p forward founded from late there follows o under c =
+      absurd cc
+  known_near (notes.Left device link cause clock) p forward founded from late there follows o under c = absurd cc
+  known_near (notes.Clock device reading adjustment state) p forward founded from late there follows o under c =
+      absurd cc
+  known_near (notes.Compressed device opened at cycle members verdict) p forward founded from late there follows o
+      under c = omega arith
+  known_near (notes.Sent device cycle) p forward founded from late there follows o under c = omega arith
+  known_near (notes.Corrected device cycle by adjustment) p forward founded from late there follows o under c =
+      omega arith
+  known_near (notes.State device state cause whys.SyncClique) p forward founded from late there follows o under c =
+      let e = c.1 in omega (arith, e)
+  known_near (notes.State device state cause whys.AsyncClique) p forward founded from late there follows o under c =
+      let e = c.1 in omega (arith, e)
+  known_near (notes.State device state cause whys.On) p forward founded from late there follows o under c = absurd cc
+  known_near (notes.State device state cause whys.Frame) p forward founded from late there follows o under c = absurd cc
+  known_near (notes.State device state cause whys.Correction) p forward founded from late there follows o under c =
+      absurd cc
+  known_near (notes.Lost device link cause) p forward founded from late there follows (inl o) under c =
+      let high = rank_up_to (amount time) r 8 more (device.0 ∷ link.0 ∷ cause ∷ [])
+      (subst (λ q. IsBefore (amount time ∷ r ∷ more) q → ⊥) o.0 under) in
+      departs_given s hs zs (amount time) r from high o.1
+  known_near (notes.Lost device link cause) p forward founded from late there follows (inr (inl o)) under c =
+      dispatches_given s hs zs (amount time) r founded from o.2
+  known_near (notes.Lost device link cause) p forward founded from late there follows (inr (inr o)) under c =
+      send_given s hs zs (amount time) r from late o.1
+  known_near (notes.TtSent device link cause vl cycle) p forward founded from late there follows o under c =
+      dispatches_given s hs zs (amount time) r founded from c.dispatches
+  known_near (notes.Accepted device link cause vl cycle) p forward founded from late there follows o under c =
+      arrives_given s hs zs (amount time) r forward from c
+  known_near (notes.Delivered device link cause vl cycle) p forward founded from late there follows o under c =
+      arrives_given s hs zs (amount time) r forward from c
+  known_near (notes.Dropped device link cause reason) p forward founded from late there follows (inl o) under c =
+      arrives_given s hs zs (amount time) r forward from o.1
+  known_near (notes.Dropped device link cause reason) p forward founded from late there follows (inr (inl o)) under c =
+      let high = rank_up_to (amount time) r 3 more (device.0 ∷ amount o.0 ∷ o.1.frame.members.0 ∷ link.0 ∷ cause ∷ [])
+      (subst (λ q. IsBefore (amount time ∷ r ∷ more) q → ⊥) o.2 under) in
+      ripens_given s hs zs (amount time) r from high o.1
+  known_near (notes.Dropped device link cause reason) p forward founded from late there follows (inr (inr o)) under c =
+      let high = rank_up_to (amount time) r 8 more (device.0 ∷ link.0 ∷ cause ∷ [])
+      (subst (λ q. IsBefore (amount time ∷ r ∷ more) q → ⊥) o.0 under) in
+      departs_given s hs zs (amount time) r from high o.1
 
 -- ---- what follows a record of the instant
 
@@ -378,7 +413,7 @@ changes_near s js gs device t state cause whys.On before same f c = (c.0, c.1, (
 changes_near s js gs device t state cause whys.Frame before same f c = (c.0, (c.1.0, this_near same c.1.1, c.1.2))
 changes_near s js gs device t state cause whys.Correction before same f c = (
   c.0,
-  subst (λ (w : List Happening). (if is_turned_on_at s device t then Integrating else state_after s w device) ≡ Joining) before c.1,
+  subst (λ w. (if is_turned_on_at s device t then Integrating else state_after s w device) ≡ Joining) before c.1,
   (c.2.0, c.2.1, c.2.2, c.2.3, this_near same c.2.4, c.2.5),
 )
 changes_near s js gs device t state cause whys.SyncClique before same f c = absurd cc
@@ -401,10 +436,10 @@ module _ {s : Scenario} {n : ℕ} {at : List ℕ} {put : NoteBody} {js gs : List
   caused_aside {m} {time} {body} a i c = elim (follower_or_not body) [
     | inr plain ↦ caused_near s n m at put js gs time body p a i.not_there plain i.free i.few i.own i.under c
     | inl f ↦
-        let few : f.cause ≤ n = subst (λ (b : NoteBody). cause_of b ≤ n) f.is i.few in
-        subst (λ (b : NoteBody). IsCaused s gs time b) (sym f.is)
+        let few : f.cause ≤ n = subst (λ b. cause_of b ≤ n) f.is i.few in
+        subst (λ b. IsCaused s gs time b) (sym f.is)
         (changes_near s js gs f.device (amount time) f.state f.cause f.why a.before (a.first f.cause few) f.following
-        (subst (λ (b : NoteBody). IsCaused s js time b) f.is c))
+        (subst (λ b. IsCaused s js time b) f.is c))
   ]
 
   pub own_aside : {m : ℕ} {time : Units} {body : NoteBody} → AreNear s (amount time) n at put js gs → IsAsideOf s js n at put time m body p

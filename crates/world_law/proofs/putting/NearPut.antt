@@ -49,11 +49,11 @@ none_judged : (at p : List ℕ) (w : Happening) (xs : List Happening) → (IsBef
 none_judged at p w xs least under over =
     let from : IsBefore (place_of w) p → ⊥ = λ b. elim (Rattle.run_law.proofs.runs.Places.either_way at (place_of w)) [
       | inl lt ↦ under (chain at (place_of w) p lt b)
-      | inr (inl e) ↦ under (subst (λ (q : List ℕ). IsBefore q p) (sym e) b)
+      | inr (inl e) ↦ under (subst (λ q. IsBefore q p) (sym e) b)
       | inr (inr gt) ↦ least gt
     ] in
     filter_none (λ h. is_before (place_of h) p) xs (λ h i. not_is (place_of h) p (λ b. elim (over h i) [
-      | inl e ↦ from (subst (λ (g : Happening). IsBefore (place_of g) p) e b)
+      | inl e ↦ from (subst (λ g. IsBefore (place_of g) p) e b)
       | inr lt ↦ from (chain (place_of w) (place_of h) p lt b)
     ]))
 
@@ -71,7 +71,7 @@ hearing_placed s t ps c w device before misses =
       points = points_alike js gs device bear;
       state =
           ap (λ (b : Bool). if b then Joining else state_before s js device t) joined
-          ∙ ap (λ (l : List Happening). if has_joined_at gs device t then Joining else (if is_turned_on_at s device t then Integrating
+          ∙ ap (λ l. if has_joined_at gs device t then Joining else (if is_turned_on_at s device t then Integrating
           else state_after s l device)) before;
       adjustment =
           sym (fold_skip (λ adjustment h. adjustment_with s device (cycle_in h) adjustment h.note.body)

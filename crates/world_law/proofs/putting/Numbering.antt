@@ -3,7 +3,7 @@ use Rattle.net_plan.specs.declared.event.What.TheVariants.{End}
 use Rattle.run_law.specs.records.Happenings.{frame_by, happening, octets_by}
 use Rattle.world_law.proofs.Words.{◌++◌, ◌∙◌, ◌∷◌, ◌≡◌, ◌≤◌, ChangesState, DeviceId, Happening, Integrating, IsBefore, IsCaused}
 use Rattle.world_law.proofs.Words.{IsDue, IsForward, IsFounded, IsIn, IsOwnSource, Joining, List, Network, Note}
-use Rattle.world_law.proofs.Words.{NoteBody, Option, Pcf, Scenario, Some, State, Why, [], adjustment_at_hearing, amount, ap, arith}
+use Rattle.world_law.proofs.Words.{Option, Pcf, Scenario, Some, State, Why, [], adjustment_at_hearing, amount, ap, arith}
 use Rattle.world_law.proofs.Words.{cause_of, earlier, false, heard_since, if◌then◌else◌, inl, inr, is_at_source, is_before}
 use Rattle.world_law.proofs.Words.{is_joined_by, is_turned_on_at, key, last_taken, length, members_in, numbered, place_of, plain, plains, points_of}
 use Rattle.world_law.proofs.Words.{rank, refl, state_after, state_at_hearing, subst, suc, sym, time_of, true, zero, ℕ}
@@ -51,21 +51,21 @@ near_given s hs f z g now one at others =
       first = λ i le. numbered_prefix hs (z ∷ f) i le ∙ sym (numbered_prefix hs (g ∷ f) i le);
       before = earlier_still now hs (z ∷ f) (of_now f z now at others) ∙ sym (earlier_still now hs (g ∷ f) (of_now f g now at_g others));
       taken = λ device link cause vl under.
-          sym (last_taken_plain js device now link cause vl) ∙ ap (λ (l : List Happening). last_taken l device now link cause vl) same
+          sym (last_taken_plain js device now link cause vl) ∙ ap (λ l. last_taken l device now link cause vl) same
           ∙ last_taken_plain gs device now link cause vl;
       judged = λ device link cause frame point under.
           let p = now ∷ 3 ∷ device.0 ∷ amount point ∷ frame.members.0 ∷ link.0 ∷ cause ∷ [] in
           let not_z : is_before (place_of z) p ≡ false = not_is (place_of z) p under in
           drop_one (λ h. is_before (place_of h) p) hs f z not_z
-          ∙ sym (drop_one (λ h. is_before (place_of h) p) hs f g (ap (λ (q : List ℕ). is_before q p) (sym (same_place z g one)) ∙ not_z));
+          ∙ sym (drop_one (λ h. is_before (place_of h) p) hs f g (ap (λ q. is_before q p) (sym (same_place z g one)) ∙ not_z));
       hearing = λ device misses. record {
-        heard = sym (heard_plain s js device now) ∙ ap (λ (l : List Happening). heard_since s l device now) same ∙ heard_plain s gs device now;
-        points = sym (points_plain js device) ∙ ap (λ (l : List Happening). points_of l device) same ∙ points_plain gs device;
+        heard = sym (heard_plain s js device now) ∙ ap (λ l. heard_since s l device now) same ∙ heard_plain s gs device now;
+        points = sym (points_plain js device) ∙ ap (λ l. points_of l device) same ∙ points_plain gs device;
         state =
-            sym (hearing_state_plain s js device now) ∙ ap (λ (l : List Happening). state_at_hearing s l device now) same
+            sym (hearing_state_plain s js device now) ∙ ap (λ l. state_at_hearing s l device now) same
             ∙ hearing_state_plain s gs device now;
         adjustment =
-            sym (hearing_adjustment_plain s js device now) ∙ ap (λ (l : List Happening). adjustment_at_hearing s l device now) same
+            sym (hearing_adjustment_plain s js device now) ∙ ap (λ l. adjustment_at_hearing s l device now) same
             ∙ hearing_adjustment_plain s gs device now;
       };
     }
@@ -98,7 +98,7 @@ changes_given s js gs device t state cause whys.Frame before there f c =
 changes_given s js gs device t state cause whys.Correction before there f c =
     let x = there c.2.3 c.2.4.there in (
       c.0,
-      subst (λ (w : List Happening). (if is_turned_on_at s device t then Integrating else state_after s w device) ≡ Joining) before c.1,
+      subst (λ w. (if is_turned_on_at s device t then Integrating else state_after s w device) ≡ Joining) before c.1,
       (c.2.0, c.2.1, c.2.2, x.0, record { there = x.1; same_time = x.3 ∙ c.2.4.same_time }, x.2 ∙ c.2.5),
     )
 changes_given s js gs device t state cause whys.SyncClique before there f c = absurd cc
@@ -118,7 +118,7 @@ made note frame octets = record { note = note; frame = frame; octets = octets }
 -- a change of state has no frame
 follower_same : (network : Network) (js gs : List Happening) (note : Note) → AsFollower note.body → happening network js note ≡ happening network gs note
 follower_same network js gs note f =
-    ap (λ (x : Option Pcf). made note x (octets_by network js note.body)) (ap (frame_by network js) f.is ∙ sym (ap (frame_by network gs) f.is))
+    ap (λ x. made note x (octets_by network js note.body)) (ap (frame_by network js) f.is ∙ sym (ap (frame_by network gs) f.is))
     ∙ ap (made note (frame_by network gs note.body)) (ap (octets_by network js) f.is ∙ sym (ap (octets_by network gs) f.is))
 
 -- ---- so what is due by the one is due by the other, and of the same source
@@ -134,14 +134,14 @@ module _ (s : Scenario) (hs f : List Happening) (z g : Happening) (one : AreOne 
     (high : 2 ≤ rank z.note.body) (from : AreFrom (time_of z) (rank z.note.body) (z ∷ f)) where
   near_at : (t : ℕ) → t ≡ time_of z → AreNear s t (length hs) (place_of z) (notes.Event 0 End) (hs ++ z ∷ f) (hs ++ g ∷ f)
   near_at t e =
-      subst (λ (u : ℕ). AreNear s u (length hs) (place_of z) (notes.Event 0 End) (hs ++ z ∷ f) (hs ++ g ∷ f)) (sym e)
+      subst (λ u. AreNear s u (length hs) (place_of z) (notes.Event 0 End) (hs ++ z ∷ f) (hs ++ g ∷ f)) (sym e)
       (near_given s hs f z g (time_of z) one refl (λ y i. (from y (inr i)).0))
 
   few_given : {y : Happening} {p : List ℕ} → IsBehindIt s (hs ++ z ∷ f) z y p → IsDueAs s (hs ++ z ∷ f) y → is_follower y.note.body ≡ false
       → cause_of y.note.body ≤ length hs
   few_given {y} {p} b due plain =
       known_near s hs (z ∷ f) y.note.time (members_in y) (rank z.note.body) (key (members_in z) z.note.body) y.note.body p forward given
-      (subst (λ (t : ℕ). AreFrom t (rank z.note.body) (z ∷ f)) (sym b.at) from) high b.not_there plain b.own
+      (subst (λ t. AreFrom t (rank z.note.body) (z ∷ f)) (sym b.at) from) high b.not_there plain b.own
       (subst (λ (t : ℕ). IsBefore (t ∷ rank z.note.body ∷ key (members_in z) z.note.body) p → ⊥) (sym b.at) b.under) due.cause
 
   pub due_given : {y : Happening} {p : List ℕ} → IsBehindIt s (hs ++ z ∷ f) z y p → IsDueAs s (hs ++ z ∷ f) y → IsDueAs s (hs ++ g ∷ f) y
@@ -158,9 +158,9 @@ module _ (s : Scenario) (hs f : List Happening) (z g : Happening) (one : AreOne 
     | inl x ↦ record {
       same = due.same ∙ follower_same s.network (hs ++ z ∷ f) (hs ++ g ∷ f) y.note x;
       begun = due.begun;
-      cause = subst (λ (c : NoteBody). IsCaused s (hs ++ g ∷ f) y.note.time c) (sym x.is)
+      cause = subst (λ c. IsCaused s (hs ++ g ∷ f) y.note.time c) (sym x.is)
           (changes_given s (hs ++ z ∷ f) (hs ++ g ∷ f) x.device (time_of y) x.state x.cause x.why (near_at (time_of y) b.at).before
-          (numbers_given hs f z g one x.cause) x.following (subst (λ (c : NoteBody). IsCaused s (hs ++ z ∷ f) y.note.time c) x.is due.cause));
+          (numbers_given hs f z g one x.cause) x.following (subst (λ c. IsCaused s (hs ++ z ∷ f) y.note.time c) x.is due.cause));
     }
   ]
 
@@ -169,7 +169,7 @@ module _ (s : Scenario) (hs f : List Happening) (z g : Happening) (one : AreOne 
   own_given {y} {p} b due = elim (follower_or_not y.note.body) [
     | inr plain ↦ own_near s (time_of y) (length hs) (members_in y) (place_of z) (notes.Event 0 End) (hs ++ z ∷ f) (hs ++ g ∷ f) y.note.body p
         (near_at (time_of y) b.at) (few_given b due plain) b.under b.own
-    | inl x ↦ subst (λ (c : NoteBody). IsOwnSource s (hs ++ g ∷ f) (time_of y) (members_in y) c p) (sym x.is)
+    | inl x ↦ subst (λ c. IsOwnSource s (hs ++ g ∷ f) (time_of y) (members_in y) c p) (sym x.is)
         (own_follower s (hs ++ z ∷ f) (hs ++ g ∷ f) (time_of y) (members_in y) x.device x.state x.cause x.why p x.following
-        (subst (λ (c : NoteBody). IsOwnSource s (hs ++ z ∷ f) (time_of y) (members_in y) c p) x.is b.own))
+        (subst (λ c. IsOwnSource s (hs ++ z ∷ f) (time_of y) (members_in y) c p) x.is b.own))
   ]

@@ -37,57 +37,67 @@ higher t k r ks rs lt (inr (e, inl b)) = omega (arith, lt, b)
 higher t k r ks rs lt (inr (e, inr b)) = let f = b.0 in omega (arith, lt, f)
 
 above : (t k r : ℕ) (ks rs q : List ℕ) → r < k → q ≡ t ∷ r ∷ rs → IsBefore (t ∷ k ∷ ks) q → ⊥
-above t k r ks rs q lt o b = higher t k r ks rs lt (subst (λ (p : List ℕ). IsBefore (t ∷ k ∷ ks) p) o b)
+above t k r ks rs q lt o b = higher t k r ks rs lt (subst (λ p. IsBefore (t ∷ k ∷ ks) p) o b)
 
 same_place : (p q : List ℕ) → q ≡ p → IsBefore p q → ⊥
-same_place p q o b = never_self p (subst (λ (u : List ℕ). IsBefore p u) o b)
+same_place p q o b = never_self p (subst (λ u. IsBefore p u) o b)
 
 none_below : (t k : ℕ) (ks q : List ℕ) → q ≡ t ∷ k ∷ [] → IsBefore (t ∷ k ∷ ks) q → ⊥
 none_below t k ks q o b = grind arith
 
--- for all kinds
-pub least_of_own : (s : Scenario) (js : List Happening) (t m : ℕ) (body : NoteBody) (q : List ℕ) → IsOwnSource s js t m body q
-    → IsBefore (t ∷ rank body ∷ key m body) q → ⊥
-least_of_own s js t m (notes.Event line what) q o b = none_below t 1 (line ∷ []) q o b
-least_of_own s js t m (notes.Compressed device opened at cycle members verdict) q o b = same_place _ q o b
-least_of_own s js t m (notes.Sent device cycle) q o b = same_place _ q o b
-least_of_own s js t m (notes.Corrected device cycle by adjustment) q o b = same_place _ q o b
-least_of_own s js t m (notes.State device state cause whys.On) q o b = above t 7 2 (device.0 ∷ cause ∷ []) [] q (omega arith) o b
-least_of_own s js t m (notes.State device state cause whys.Frame) q o b = above t 7 2 (device.0 ∷ cause ∷ []) [] q (omega arith) o b
-least_of_own s js t m (notes.State device state cause whys.Correction) q o b = above t 7 2 (device.0 ∷ cause ∷ []) [] q (omega arith) o b
-least_of_own s js t m (notes.State device state cause whys.SyncClique) q o b = above t 7 6 (device.0 ∷ cause ∷ []) (device.0 ∷ []) q (omega arith) o.1 b
-least_of_own s js t m (notes.State device state cause whys.AsyncClique) q o b = above t 7 6 (device.0 ∷ cause ∷ []) (device.0 ∷ []) q (omega arith) o.1 b
-least_of_own s js t m (notes.Lost device link cause) q (inl o) b =
-    above t 9 8 (device.0 ∷ link.0 ∷ cause ∷ []) (device.0 ∷ link.0 ∷ cause ∷ []) q (omega arith) o.0 b
-least_of_own s js t m (notes.Lost device link cause) q (inr (inl o)) b =
-    above t 9 6 (device.0 ∷ link.0 ∷ cause ∷ []) (device.0 ∷ dispatch_order s.network (record { 0 = o.2.place })) q (omega arith) o.4 b
-least_of_own s js t m (notes.Lost device link cause) q (inr (inr o)) b = above t 9 2 (device.0 ∷ link.0 ∷ cause ∷ []) [] q (omega arith) o.0 b
-least_of_own s js t m (notes.TtSent device link cause vl cycle) q o b =
-    above t 10 6 (device.0 ∷ link.0 ∷ cause ∷ vl.0 ∷ cycle ∷ []) (device.0 ∷ dispatch_order s.network (record { 0 = o.0.place })) q (omega arith) o.1 b
-least_of_own s js t m (notes.Accepted device link cause vl cycle) q o b =
-    above t 11 2 (device.0 ∷ link.0 ∷ cause ∷ []) (device.0 ∷ link.0 ∷ cause ∷ []) q (omega arith) o b
-least_of_own s js t m (notes.Delivered device link cause vl cycle) q o b =
-    above t 12 2 (device.0 ∷ link.0 ∷ cause ∷ []) (device.0 ∷ link.0 ∷ cause ∷ []) q (omega arith) o b
-least_of_own s js t m (notes.Dropped device link cause reason) q (inl o) b =
-    above t 13 2 (device.0 ∷ link.0 ∷ cause ∷ []) (device.0 ∷ link.0 ∷ cause ∷ []) q (omega arith) o.0 b
-least_of_own s js t m (notes.Dropped device link cause reason) q (inr (inl o)) b =
-    above t 13 3 (device.0 ∷ link.0 ∷ cause ∷ []) (device.0 ∷ amount o.0 ∷ o.1.frame.members.0 ∷ link.0 ∷ cause ∷ []) q (omega arith) o.2 b
-least_of_own s js t m (notes.Dropped device link cause reason) q (inr (inr o)) b =
-    above t 13 8 (device.0 ∷ link.0 ∷ cause ∷ []) (device.0 ∷ link.0 ∷ cause ∷ []) q (omega arith) o.0 b
-least_of_own s js t m other q o b = same_place _ q o b
+module _ (s : Scenario) (js : List Happening) (t m : ℕ) where
+  -- for all kinds
+  pub least_of_own : (body : NoteBody) (q : List ℕ) → IsOwnSource s js t m body q
+      → IsBefore (t ∷ rank body ∷ key m body) q → ⊥
+  least_of_own (notes.Event line what) q o b = none_below t 1 (line ∷ []) q o b
+  least_of_own (notes.Compressed device opened at cycle members verdict) q o b = same_place _ q o b
+  least_of_own (notes.Sent device cycle) q o b = same_place _ q o b
+  least_of_own (notes.Corrected device cycle by adjustment) q o b = same_place _ q o b
+  least_of_own (notes.State device state cause whys.On) q o b =
+      above t 7 2 (device.0 ∷ cause ∷ []) [] q (omega arith) o b
+  least_of_own (notes.State device state cause whys.Frame) q o b =
+      above t 7 2 (device.0 ∷ cause ∷ []) [] q (omega arith) o b
+  least_of_own (notes.State device state cause whys.Correction) q o b =
+      above t 7 2 (device.0 ∷ cause ∷ []) [] q (omega arith) o b
+  least_of_own (notes.State device state cause whys.SyncClique) q o b =
+      above t 7 6 (device.0 ∷ cause ∷ []) (device.0 ∷ []) q (omega arith) o.1 b
+  least_of_own (notes.State device state cause whys.AsyncClique) q o b =
+      above t 7 6 (device.0 ∷ cause ∷ []) (device.0 ∷ []) q (omega arith) o.1 b
+  least_of_own (notes.Lost device link cause) q (inl o) b =
+      above t 9 8 (device.0 ∷ link.0 ∷ cause ∷ []) (device.0 ∷ link.0 ∷ cause ∷ []) q (omega arith) o.0 b
+  least_of_own (notes.Lost device link cause) q (inr (inl o)) b =
+      above t 9 6 (device.0 ∷ link.0 ∷ cause ∷ []) (device.0 ∷ dispatch_order s.network (record { 0 = o.2.place })) q
+      (omega arith) o.4 b
+  least_of_own (notes.Lost device link cause) q (inr (inr o)) b =
+      above t 9 2 (device.0 ∷ link.0 ∷ cause ∷ []) [] q (omega arith) o.0 b
+  least_of_own (notes.TtSent device link cause vl cycle) q o b =
+      above t 10 6 (device.0 ∷ link.0 ∷ cause ∷ vl.0 ∷ cycle ∷ [])
+      (device.0 ∷ dispatch_order s.network (record { 0 = o.0.place })) q (omega arith) o.1 b
+  least_of_own (notes.Accepted device link cause vl cycle) q o b =
+      above t 11 2 (device.0 ∷ link.0 ∷ cause ∷ []) (device.0 ∷ link.0 ∷ cause ∷ []) q (omega arith) o b
+  least_of_own (notes.Delivered device link cause vl cycle) q o b =
+      above t 12 2 (device.0 ∷ link.0 ∷ cause ∷ []) (device.0 ∷ link.0 ∷ cause ∷ []) q (omega arith) o b
+  least_of_own (notes.Dropped device link cause reason) q (inl o) b =
+      above t 13 2 (device.0 ∷ link.0 ∷ cause ∷ []) (device.0 ∷ link.0 ∷ cause ∷ []) q (omega arith) o.0 b
+  least_of_own (notes.Dropped device link cause reason) q (inr (inl o)) b =
+      above t 13 3 (device.0 ∷ link.0 ∷ cause ∷ [])
+      (device.0 ∷ amount o.0 ∷ o.1.frame.members.0 ∷ link.0 ∷ cause ∷ []) q (omega arith) o.2 b
+  least_of_own (notes.Dropped device link cause reason) q (inr (inr o)) b =
+      above t 13 8 (device.0 ∷ link.0 ∷ cause ∷ []) (device.0 ∷ link.0 ∷ cause ∷ []) q (omega arith) o.0 b
+  least_of_own other q o b = same_place _ q o b
 
--- ---- what a device hears
+  -- ---- what a device hears
 
--- what a device hears at the instant bears, behind its source, only on what its own correction point brings
-pub hears_source : (s : Scenario) (js : List Happening) (t m : ℕ) (device : DeviceId) (body : NoteBody) (p : List ℕ) → is_at_source body ≡ false
-    → hears device body ≡ true → IsOwnSource s js t m body p → p ≡ t ∷ 6 ∷ device.0 ∷ []
-hears_source s js t m device (notes.Compressed other opened at cycle members verdict) p there e o = absurd cc
-hears_source s js t m device (notes.Corrected other cycle by adjustment) p there e o = absurd cc
-hears_source s js t m device (notes.State other state cause whys.SyncClique) p there e o =
-    o.1 ∙ ap (λ (i : ℕ). t ∷ 6 ∷ i ∷ []) (sym (eqb-true device.0 other.0 e))
-hears_source s js t m device (notes.State other state cause whys.AsyncClique) p there e o =
-    o.1 ∙ ap (λ (i : ℕ). t ∷ 6 ∷ i ∷ []) (sym (eqb-true device.0 other.0 e))
-hears_source s js t m device other p there e o = absurd cc
+  -- what a device hears at the instant bears, behind its source, only on what its own correction point brings
+  pub hears_source : (device : DeviceId) (body : NoteBody) (p : List ℕ) → is_at_source body ≡ false
+      → hears device body ≡ true → IsOwnSource s js t m body p → p ≡ t ∷ 6 ∷ device.0 ∷ []
+  hears_source device (notes.Compressed other opened at cycle members verdict) p there e o = absurd cc
+  hears_source device (notes.Corrected other cycle by adjustment) p there e o = absurd cc
+  hears_source device (notes.State other state cause whys.SyncClique) p there e o =
+      o.1 ∙ ap (λ (i : ℕ). t ∷ 6 ∷ i ∷ []) (sym (eqb-true device.0 other.0 e))
+  hears_source device (notes.State other state cause whys.AsyncClique) p there e o =
+      o.1 ∙ ap (λ (i : ℕ). t ∷ 6 ∷ i ∷ []) (sym (eqb-true device.0 other.0 e))
+  hears_source device other p there e o = absurd cc
 
 pub at_or_behind : (at q : List ℕ) → (IsBefore q at → ⊥) → (at ≡ q) ⊎ IsBefore at q
 at_or_behind at q not = elim (either_way at q) [ inl lt ↦ inr lt | inr (inl e) ↦ inl e | inr (inr gt) ↦ absurd (not gt) ]
@@ -114,9 +124,9 @@ pub record IsWell (s : Scenario) (hs coming : List Happening) (mark : List ℕ) 
       → IsOwnSource s (hs ++ f) (time_of y) (members_in y) y.note.body p → IsSource s (hs ++ f) p → IsBefore p (now ∷ r ∷ more) → IsFound coming y ⊎ Yet y
 
 -- where the source comes first, what is to come is so
-pub well_of : (s : Scenario) (hs coming : List Happening) (mark cursor : List ℕ) (now r : ℕ) (more : List ℕ) → IsMoving s hs coming mark cursor now r more
-    → IsWell s hs coming mark now r more (λ y. ⊥)
-well_of s hs coming mark cursor now r more m =
+pub well_of : {s : Scenario} {hs coming : List Happening} {mark cursor : List ℕ} {now r : ℕ} {more : List ℕ}
+    → IsMoving s hs coming mark cursor now r more → IsWell s hs coming mark now r more (λ y. ⊥)
+well_of {cursor} {now} {r} {more} m =
     let at = now ∷ r ∷ more in
     record {
       of_now = m.are.of_now;
@@ -126,9 +136,9 @@ well_of s hs coming mark cursor now r more m =
           let was = m.are.by f rest z e in
           (was.0, was.1, was.2, inl (before_later was.0 at cursor was.3 m.waits));
       full = λ f rest y e before none not due now_is p own source under.
-          elim (worked_or_here s hs coming f rest mark cursor now r more m e p source (chain p at (behind at) under (before_behind at))) [
+          elim (worked_or_here f rest m e source (chain p at (behind at) under (before_behind at))) [
             | inl yet ↦ inl (m.are.full f rest y e before none not due (p, own, source, yet))
-            | inr here ↦ absurd (never_self at (subst (λ (q : List ℕ). IsBefore q at) here under))
+            | inr here ↦ absurd (never_self at (subst (λ q. IsBefore q at) here under))
           ];
     }
 
@@ -166,23 +176,25 @@ not_at_source s js now r more w y q least over under own = elim (cases_Bool (is_
   | inr no_it ↦ no_it
   | inl is ↦
       let here = own_here s js (time_of y) (members_in y) y.note.body q is own in
-      let far : IsBefore (place_of w) q = subst (λ (u : List ℕ). IsBefore (place_of w) u) (sym here) over in
+      let far : IsBefore (place_of w) q = subst (λ u. IsBefore (place_of w) u) (sym here) over in
       absurd (elim (at_or_behind (now ∷ r ∷ more) (place_of w) least) [
-        | inl e ↦ under (subst (λ (u : List ℕ). IsBefore u q) (sym e) far)
+        | inl e ↦ under (subst (λ u. IsBefore u q) (sym e) far)
         | inr lt ↦ under (chain (now ∷ r ∷ more) (place_of w) q lt far)
       ])
 ]
 
 pub under_at : {at q : List ℕ} → IsBefore q at ⊎ (q ≡ at) → IsBefore at q → ⊥
 under_at {at} {q} (inl yet) lt = never_self at (chain at q at lt yet)
-under_at {at} (inr up) lt = never_self at (subst (λ (u : List ℕ). IsBefore at u) up lt)
+under_at {at} (inr up) lt = never_self at (subst (λ u. IsBefore at u) up lt)
 
 -- where the cause does not follow a record of the instant, it is given
-few_at : (s : Scenario) (hs front zs : List Happening) (now r : ℕ) (more : List ℕ) (y : Happening) (q : List ℕ) → IsForward s → 2 ≤ r
-    → IsFounded place_of (IsDue s) hs → AreFrom now r zs → time_of y ≡ now → is_at_source y.note.body ≡ false → (IsBefore (now ∷ r ∷ more) q → ⊥)
-    → IsOwnSource s (hs ++ zs) (time_of y) (members_in y) y.note.body q → IsDueAs s (hs ++ zs) y → is_follower y.note.body ≡ false
-    → cause_of y.note.body ≤ before_it hs front
-few_at s hs front zs now r more y q forward late given from now_is not_there under own due plain = grind (arith, known_near, members_in, length-append)
+few_at : {s : Scenario} (hs front zs : List Happening) (now r : ℕ) (more : List ℕ) {y : Happening} (q : List ℕ)
+    → IsForward s → 2 ≤ r → IsFounded place_of (IsDue s) hs → AreFrom now r zs → time_of y ≡ now
+    → is_at_source y.note.body ≡ false → (IsBefore (now ∷ r ∷ more) q → ⊥)
+    → IsOwnSource s (hs ++ zs) (time_of y) (members_in y) y.note.body q → IsDueAs s (hs ++ zs) y
+    → is_follower y.note.body ≡ false → cause_of y.note.body ≤ before_it hs front
+few_at hs front zs now r more q forward late given from now_is not_there under own due plain =
+    grind (arith, known_near, members_in, length-append)
 
 joined_there : (device : DeviceId) (body : NoteBody) → is_joined_by device body ≡ true → is_at_source body ≡ true
 joined_there device (notes.Permanent other link cause point verdict) e = refl
@@ -200,11 +212,11 @@ change_cause s js device t state cause whys.SyncClique f c = absurd cc
 change_cause s js device t state cause whys.AsyncClique f c = absurd cc
 
 -- so it follows one of the first, where those behind are of no event and stand behind their sources
-few_first : (s : Scenario) (ps zs : List Happening) (time : Units) (body : NoteBody)
-    → ((h : Happening) → IsIn h zs → (2 ≤ rank h.note.body) × (is_at_source h.note.body ≡ false)) → AsFollower body → IsCaused s (ps ++ zs) time body
-    → cause_of body ≤ length ps
-few_first s ps zs time body late f c =
-    let it = change_cause s (ps ++ zs) f.device (amount time) f.state f.cause f.why f.following (subst (λ (b : NoteBody). IsCaused s (ps ++ zs) time b) f.is c)
+few_first : (s : Scenario) (ps zs : List Happening) (time : Units) {body : NoteBody}
+    → ((h : Happening) → IsIn h zs → (2 ≤ rank h.note.body) × (is_at_source h.note.body ≡ false)) → AsFollower body
+    → IsCaused s (ps ++ zs) time body → cause_of body ≤ length ps
+few_first s ps zs time {body} late f c =
+    let it = change_cause s (ps ++ zs) f.device (amount time) f.state f.cause f.why f.following (subst (λ b. IsCaused s (ps ++ zs) time b) f.is c)
     in
     let e : cause_of body ≡ f.cause = ap cause_of f.is in
     elim (numbered_parts ps zs it.0 f.cause it.1) [
@@ -229,18 +241,18 @@ pub causes_given : {s : Scenario} {hs coming : List Happening} {mark cursor : Li
 causes_given {s} {hs} {coming} {now} {r} {more} m some z i it =
     let split = parted z coming i in
     let due = (m.are.founded split.0 split.1 z split.2).1 in
-    let inside : (h : Happening) → IsIn h split.0 → IsIn h coming = λ h j. subst (λ (l : List Happening). IsIn h l) (sym split.2)
+    let inside : (h : Happening) → IsIn h split.0 → IsIn h coming = λ h j. subst (λ l. IsIn h l) (sym split.2)
     (in_left h split.0 (z ∷ split.1) j) in
     let late : (h : Happening) → IsIn h split.0 → (2 ≤ rank h.note.body) × (is_at_source h.note.body ≡ false) = λ h j.
     let low = at_least h now r more (m.are.of_now h (inside h j)) (m.after h (inside h j)) in
     (omega (arith, low, some), off_source m h (inside h j)) in
     elim (follower_or_not z.note.body) [
       | inl f ↦
-          let few = few_first s hs split.0 z.note.time z.note.body late f due.cause in
+          let few = few_first s hs split.0 z.note.time late f due.cause in
           let e : cause_of z.note.body ≡ it.cause = ap cause_of it.is in omega (arith, few, e)
       | inr other ↦
           let none = no_cause s (hs ++ split.0) it.device (amount z.note.time) it.state it.cause it.why (ap is_follower (sym it.is) ∙ other)
-          (subst (λ (b : NoteBody). IsCaused s (hs ++ split.0) z.note.time b) it.is due.cause) in
+          (subst (λ b. IsCaused s (hs ++ split.0) z.note.time b) it.is due.cause) in
           omega (arith, none)
     ]
 
@@ -272,7 +284,7 @@ module _ {s : Scenario} {hs front back : List Happening} {mark : List ℕ} {now 
   two_at t c d e now_is =
       let n = before_it hs front in
       let at = now ∷ r ∷ more in
-      let inside : (y : Happening) → IsIn y c → IsIn y back = λ y i. subst (λ (l : List Happening). IsIn y l) (sym e) (in_left y c d i) in
+      let inside : (y : Happening) → IsIn y c → IsIn y back = λ y i. subst (λ l. IsIn y l) (sym e) (in_left y c d i) in
       let it : IsPlaced now at c w = record {
         now = p.at;
         of_time = λ y i. well.of_now y (in_right y front back (inside y i));
@@ -280,9 +292,9 @@ module _ {s : Scenario} {hs front back : List Happening} {mark : List ℕ} {now 
         least = p.least;
         takes = p.takes;
       } in
-      subst (λ (u : ℕ). AreNear s u n at w.note.body (hs ++ (front ++ c)) (hs ++ (front ++ w ∷ c))) (sym now_is)
-      (subst (λ (l : List Happening). AreNear s now n at w.note.body l (hs ++ (front ++ w ∷ c))) (append_assoc hs front c)
-      (subst (λ (l : List Happening). AreNear s now n at w.note.body ((hs ++ front) ++ c) l) (append_assoc hs front (w ∷ c)) (two_placed s (hs ++ front) it)))
+      subst (λ u. AreNear s u n at w.note.body (hs ++ (front ++ c)) (hs ++ (front ++ w ∷ c))) (sym now_is)
+      (subst (λ l. AreNear s now n at w.note.body l (hs ++ (front ++ w ∷ c))) (append_assoc hs front c)
+      (subst (λ l. AreNear s now n at w.note.body ((hs ++ front) ++ c) l) (append_assoc hs front (w ∷ c)) (two_placed s (hs ++ front) it)))
 
   -- each that is behind it is of no event, and stands behind its source
   late_back : (h : Happening) → IsIn h back → (2 ≤ rank h.note.body) × (is_at_source h.note.body ≡ false)
@@ -302,19 +314,19 @@ module _ {s : Scenario} {hs front back : List Happening} {mark : List ℕ} {now 
       → IsDueAs s (hs ++ (front ++ c)) x → IsAsideOf s (hs ++ (front ++ c)) (before_it hs front) (now ∷ r ∷ more) w.note.body x.note.time
       (members_in x) x.note.body by.0
   aside_back c d x e by due =
-      let here : IsIn x back = subst (λ (l : List Happening). IsIn x l) (sym e) (in_right x c (x ∷ d) (inl refl)) in
+      let here : IsIn x back = subst (λ l. IsIn x l) (sym e) (in_right x c (x ∷ d) (inl refl)) in
       let whole : front ++ back ≡ (front ++ c) ++ x ∷ d = ap (λ (l : List Happening). front ++ l) e ∙ sym (append_assoc front c (x ∷ d)) in
       let from : AreFrom now r (front ++ c) = λ z i. all_from well z
-      (subst (λ (l : List Happening). IsIn z l) (sym whole) (in_left z (front ++ c) (x ∷ d) i)) in
+      (subst (λ l. IsIn z l) (sym whole) (in_left z (front ++ c) (x ∷ d) i)) in
       let not_there = (late_back x here).1 in
       record {
         not_there = not_there;
         free = p.aside x here;
         few = elim (follower_or_not x.note.body) [
-          | inl f ↦ few_first s (hs ++ front) c x.note.time x.note.body
-              (λ h i. late_back h (subst (λ (l : List Happening). IsIn h l) (sym e) (in_left h c (x ∷ d) i))) f
-              (subst (λ (l : List Happening). IsCaused s l x.note.time x.note.body) (sym (append_assoc hs front c)) due.cause)
-          | inr plain ↦ few_at s hs front (front ++ c) now r more x by.0 p.forward p.late p.given from (well.of_now x (in_right x front back here)) not_there
+          | inl f ↦ few_first s (hs ++ front) c x.note.time
+              (λ h i. late_back h (subst (λ l. IsIn h l) (sym e) (in_left h c (x ∷ d) i))) f
+              (subst (λ l. IsCaused s l x.note.time x.note.body) (sym (append_assoc hs front c)) due.cause)
+          | inr plain ↦ few_at hs front (front ++ c) now r more by.0 p.forward p.late p.given from (well.of_now x (in_right x front back here)) not_there
               (under_at by.3) by.1 due plain
         ];
         own = by.1;
@@ -326,7 +338,7 @@ module _ {s : Scenario} {hs front back : List Happening} {mark : List ℕ} {now 
   put_from z i =
       elim (in_parts z front (w ∷ back) i) [
         | inl f ↦ (well.of_now z (in_left z front back f), well.after z (in_left z front back f))
-        | inr (inl e) ↦ subst (λ (h : Happening). (time_of h ≡ now) × (IsBefore (place_of h) (now ∷ r ∷ more) → ⊥)) (sym e) (p.at, p.least)
+        | inr (inl e) ↦ subst (λ h. (time_of h ≡ now) × (IsBefore (place_of h) (now ∷ r ∷ more) → ⊥)) (sym e) (p.at, p.least)
         | inr (inr b) ↦ (well.of_now z (in_right z front back b), well.after z (in_right z front back b))
       ]
 
@@ -340,7 +352,7 @@ module _ {s : Scenario} {hs front back : List Happening} {mark : List ℕ} {now 
       let js = hs ++ (front ++ w ∷ c) in
       let under : IsBefore at q → ⊥ = λ lt. never_self at (chain at q at lt before) in
       let not_there = not_at_source s js now r more w y q p.least over under own in
-      let inside : (z : Happening) → IsIn z c → IsIn z back = λ z i. subst (λ (l : List Happening). IsIn z l) (sym e) (in_left z c d i) in
+      let inside : (z : Happening) → IsIn z c → IsIn z back = λ z i. subst (λ l. IsIn z l) (sym e) (in_left z c d i) in
       let from : AreFrom now r (front ++ w ∷ c) = λ z i.
       let it = put_from z (elim (in_parts z front (w ∷ c) i) [
         | inl f ↦ in_left z front (w ∷ back) f
@@ -353,14 +365,14 @@ module _ {s : Scenario} {hs front back : List Happening} {mark : List ℕ} {now 
         free = λ device yes_it.
             let act = hears_source s js (time_of y) (members_in y) device y.note.body q not_there yes_it own
             ∙ ap (λ (t : ℕ). t ∷ 6 ∷ device.0 ∷ []) now_is in
-            p.apart device (subst (λ (u : List ℕ). IsBefore u at) act before);
+            p.apart device (subst (λ u. IsBefore u at) act before);
         few = elim (follower_or_not y.note.body) [
-          | inr plain ↦ few_at s hs front (front ++ w ∷ c) now r more y q p.forward p.late p.given from now_is not_there under own due plain
+          | inr plain ↦ few_at hs front (front ++ w ∷ c) now r more q p.forward p.late p.given from now_is not_there under own due plain
           | inl f ↦
               let ps = (hs ++ front) ++ w ∷ [] in
               let parts : js ≡ ps ++ c = sym (append_assoc hs front (w ∷ c)) ∙ sym (append_assoc (hs ++ front) (w ∷ []) c) in
-              let most = few_first s ps c y.note.time y.note.body (λ h i. late_back h (inside h i)) f
-              (subst (λ (l : List Happening). IsCaused s l y.note.time y.note.body) parts due.cause) in
+              let most = few_first s ps c y.note.time (λ h i. late_back h (inside h i)) f
+              (subst (λ l. IsCaused s l y.note.time y.note.body) parts due.cause) in
               let long = length-append (hs ++ front) (w ∷ []) in
               let one : length (w ∷ []) ≡ 1 = refl in
               elim (cases_order (cause_of y.note.body) (before_it hs front + 1)) [
@@ -385,15 +397,15 @@ module _ {s : Scenario} {hs front back : List Happening} {mark : List ℕ} {now 
             let was = well.stands f (it.0 ++ back) y whole in
             (was.0, was.1, well.by f (it.0 ++ back) y whole)
         | inr (inl it) ↦
-            subst (λ (h : Happening). AllBefore place_of f (place_of h) × IsDueAs s (hs ++ f) h × ComesUpTo s (hs ++ f) at h) it.1
-            (subst (λ (l : List Happening). AllBefore place_of l (place_of w) × IsDueAs s (hs ++ l) w × ComesUpTo s (hs ++ l) at w) it.0
+            subst (λ h. AllBefore place_of f (place_of h) × IsDueAs s (hs ++ f) h × ComesUpTo s (hs ++ f) at h) it.1
+            (subst (λ l. AllBefore place_of l (place_of w) × IsDueAs s (hs ++ l) w × ComesUpTo s (hs ++ l) at w) it.0
             (p.before, p.due, p.taken))
         | inr (inr it) ↦
             let c = it.0 in
             let whole : front ++ back ≡ (front ++ c) ++ y ∷ rest = ap (λ (l : List Happening). front ++ l) it.2 ∙ sym (append_assoc front c (y ∷ rest)) in
             let was = well.stands (front ++ c) rest y whole in
             let by = well.by (front ++ c) rest y whole in
-            let here : IsIn y back = subst (λ (l : List Happening). IsIn y l) (sym it.2) (in_right y c (y ∷ rest) (inl refl)) in
+            let here : IsIn y back = subst (λ l. IsIn y l) (sym it.2) (in_right y c (y ∷ rest) (inl refl)) in
             let two = two_at (time_of y) c (y ∷ rest) it.2 (well.of_now y (in_right y front back here)) in
             let aside = aside_back c rest y it.2 by was.1 in
             let due = due_aside two aside was.1 in
@@ -401,10 +413,10 @@ module _ {s : Scenario} {hs front back : List Happening} {mark : List ℕ} {now 
             let source = own_source s (hs ++ (front ++ w ∷ c)) y.note.time (members_in y) y.note.body by.0 aside.not_there due.cause own in
             let all : AllBefore place_of (front ++ w ∷ c) (place_of y) = λ h i. elim (in_parts h front (w ∷ c) i) [
               | inl g ↦ was.0 h (in_left h front c g)
-              | inr (inl same) ↦ subst (λ (g : Happening). IsBefore (place_of g) (place_of y)) (sym same) (over_it y here)
+              | inr (inl same) ↦ subst (λ g. IsBefore (place_of g) (place_of y)) (sym same) (over_it y here)
               | inr (inr b) ↦ was.0 h (in_right h front c b)
             ] in
-            subst (λ (l : List Happening). AllBefore place_of l (place_of y) × IsDueAs s (hs ++ l) y × ComesUpTo s (hs ++ l) at y) (sym it.1)
+            subst (λ l. AllBefore place_of l (place_of y) × IsDueAs s (hs ++ l) y × ComesUpTo s (hs ++ l) at y) (sym it.1)
             (all, due, (by.0, own, source, by.3))
       ]
 
@@ -420,9 +432,9 @@ module _ {s : Scenario} {hs front back : List Happening} {mark : List ℕ} {now 
         | inl it ↦
             let whole : front ++ back ≡ f ++ (it.0 ++ back) = ap (λ (l : List Happening). l ++ back) it.1 ∙ append_assoc f it.0 back in
             let not_w : IsBefore (place_of w) (place_of y) → ⊥ = none w
-            (subst (λ (l : List Happening). IsIn w l) (sym it.2) (in_right w it.0 (w ∷ back) (inl refl))) in
+            (subst (λ l. IsIn w l) (sym it.2) (in_right w it.0 (w ∷ back) (inl refl))) in
             let least : NoneBefore place_of (it.0 ++ back) (place_of y) = λ h i. elim (in_parts h it.0 back i) [
-              | inl g ↦ none h (subst (λ (l : List Happening). IsIn h l) (sym it.2) (in_left h it.0 (w ∷ back) g))
+              | inl g ↦ none h (subst (λ l. IsIn h l) (sym it.2) (in_left h it.0 (w ∷ back) g))
               | inr b ↦ λ lt. not_w (chain (place_of w) (place_of h) (place_of y) (over_it h b) lt)
             ] in
             elim (well.full f (it.0 ++ back) y whole before least not due now_is q own source under) [
@@ -433,7 +445,7 @@ module _ {s : Scenario} {hs front back : List Happening} {mark : List ℕ} {now 
             let c = it.0 in
             let due_c = subst (λ (l : List Happening). IsDueAs s (hs ++ l) y) it.1 due in
             let own_c = subst (λ (l : List Happening). IsOwnSource s (hs ++ l) (time_of y) (members_in y) y.note.body q) it.1 own in
-            let all : AllBefore place_of (front ++ w ∷ c) (place_of y) = subst (λ (l : List Happening). AllBefore place_of l (place_of y)) it.1 before in
+            let all : AllBefore place_of (front ++ w ∷ c) (place_of y) = subst (λ l. AllBefore place_of l (place_of y)) it.1 before in
             elim (follows_it y.note.body (n + 1)) [
               | inl it_follows ↦ carry.new c rest y it.2 due_c now_is it_follows.0 it_follows.1
               | inr other ↦
@@ -470,16 +482,18 @@ of_the_instant : (s : Scenario) (js : List Happening) (mark : List ℕ) (now r :
 of_the_instant s js mark now r more y q marked own under not = grind (arith, own_time, time_of, members_in, no_higher, place_of)
 
 -- all that is due from the source itself is there too
-pub settled_by : (s : Scenario) (hs coming : List Happening) (mark : List ℕ) (now r : ℕ) (more : List ℕ) → IsWell s hs coming mark now r more (λ y. ⊥)
-    → ((p : List ℕ) → IsBefore p (now ∷ []) → IsBefore p mark) → (IsBefore (now ∷ r ∷ more) mark → ⊥) → IsBefore (now ∷ 2 ∷ []) (now ∷ r ∷ more)
-    → ((z : Happening) → IsIn z coming → is_at_source z.note.body ≡ true → IsBefore (place_of z) (behind (now ∷ r ∷ more)))
-    → IsAllOfIt s hs coming (now ∷ r ∷ more) → AreSettled s hs coming mark (behind (now ∷ r ∷ more)) now
-settled_by s hs coming mark now r more well marked up_to begun worked all =
+pub settled_by : {s : Scenario} {hs coming : List Happening} {mark : List ℕ} {now r : ℕ} {more : List ℕ}
+    → IsWell s hs coming mark now r more (λ y. ⊥) → ((p : List ℕ) → IsBefore p (now ∷ []) → IsBefore p mark)
+    → (IsBefore (now ∷ r ∷ more) mark → ⊥) → IsBefore (now ∷ 2 ∷ []) (now ∷ r ∷ more)
+    → ((z : Happening) → IsIn z coming → is_at_source z.note.body ≡ true
+    → IsBefore (place_of z) (behind (now ∷ r ∷ more))) → IsAllOfIt s hs coming (now ∷ r ∷ more)
+    → AreSettled s hs coming mark (behind (now ∷ r ∷ more)) now
+settled_by {s} {hs} {mark} {now} {r} {more} well marked up_to begun worked all =
     let at = now ∷ r ∷ more in
     record {
       of_now = well.of_now;
       behind_mark = λ z i lt. elim (at_or_behind at (place_of z) (well.after z i)) [
-        | inl e ↦ up_to (subst (λ (q : List ℕ). IsBefore q mark) (sym e) lt)
+        | inl e ↦ up_to (subst (λ q. IsBefore q mark) (sym e) lt)
         | inr far ↦ up_to (chain at (place_of z) mark far lt)
       ];
       founded = well.stands;
@@ -490,23 +504,23 @@ settled_by s hs coming mark now r more well marked up_to begun worked all =
             was.2,
             elim was.3 [
               | inl lt ↦ chain was.0 at (behind at) lt (before_behind at)
-              | inr same ↦ subst (λ (q : List ℕ). IsBefore q (behind at)) (sym same) (before_behind at)
+              | inr same ↦ subst (λ q. IsBefore q (behind at)) (sym same) (before_behind at)
             ],
           );
       full = λ f rest y e before none not due off. elim (up_to_place off.0 at off.3) [
         | inl here ↦ all f rest y e before none due
-            (subst (λ (u : List ℕ). IsOwnSource s (hs ++ f) (time_of y) (members_in y) y.note.body u) here off.1)
+            (subst (λ u. IsOwnSource s (hs ++ f) (time_of y) (members_in y) y.note.body u) here off.1)
         | inr under ↦
             elim (well.full f rest y e before none not due (of_the_instant s (hs ++ f) mark now r more y off.0 marked off.1 under not) off.0 off.1 off.2 under)
             [ inl found ↦ found | inr never ↦ absurd never ]
       ];
       not_past = λ z i q lt.
           let far : IsBefore at (behind (place_of z)) = elim (at_or_behind at (place_of z) (well.after z i)) [
-            | inl e ↦ subst (λ (u : List ℕ). IsBefore u (behind (place_of z))) (sym e) (before_behind (place_of z))
+            | inl e ↦ subst (λ u. IsBefore u (behind (place_of z))) (sym e) (before_behind (place_of z))
             | inr less ↦ chain at (place_of z) (behind (place_of z)) less (before_behind (place_of z))
           ] in
           elim (up_to_place q at lt) [
-            | inl e ↦ subst (λ (u : List ℕ). IsBefore u (behind (place_of z))) (sym e) far
+            | inl e ↦ subst (λ u. IsBefore u (behind (place_of z))) (sym e) far
             | inr under ↦ chain q at (behind (place_of z)) under far
           ];
       worked = worked;

@@ -8,7 +8,7 @@ use Rattle.world_law.proofs.Words.{numbered, parted, place_of, rank, refl, subst
 use Rattle.world_law.proofs.runs.TaskPlaces.{second}
 use Rattle.run_law.{proofs.runs.Determined.due_is_determined, specs.records.Causes.device_of}
 use Rattle.world_law.proofs.putting.{Moving.IsMoving, Near.hears, PutOne.IsOne}
-use Rattle.world_law.proofs.{putting.{PutShown.{IsShownPair, due_of, record_of}, PutTwo.IsPair}}
+use Rattle.world_law.proofs.putting.{PutShown.{IsShownPair, due_of, record_of}, PutTwo.IsPair}
 use Rattle.run_law.specs.declared.judgement.Why.TheVariants as whys
 use Rattle.run_law.specs.declared.note.NoteBody.TheVariants as notes
 
@@ -37,8 +37,8 @@ there_already {s} {hs} front back {w} y m due none i same =
     let whole : front ++ back ≡ (front ++ c) ++ y ∷ split.1 = ap (λ (l : List Happening). front ++ l) split.2 ∙ sym (append_assoc front c (y ∷ split.1)) in
     let was = m.are.founded (front ++ c) split.1 y whole in
     let empty : c ≡ [] = none_between c (place_of y) (λ h j. was.0 h (in_right h front c j))
-    (λ h j b. none h (subst (λ (l : List Happening). IsIn h l) (sym split.2) (in_left h c (y ∷ split.1) j))
-    (subst (λ (q : List ℕ). IsBefore (place_of h) q) (sym same) b)) in
+    (λ h j b. none h (subst (λ l. IsIn h l) (sym split.2) (in_left h c (y ∷ split.1) j))
+    (subst (λ q. IsBefore (place_of h) q) (sym same) b)) in
     let front_is : front ++ c ≡ front = ap (λ (l : List Happening). front ++ l) empty ∙ Rattle.std.proofs.lemmas.List.append-nil front in
     one_at due (subst (λ (l : List Happening). IsDueAs s (hs ++ l) y) front_is was.1) same
 
@@ -66,9 +66,10 @@ same_rows : (now : ℕ) (device other : DeviceId) → rows_place now device ≡ 
 same_rows now device other e =
     let n : other.0 ≡ device.0 = cc in ap (λ (k : ℕ). let d : DeviceId = record { 0 = k } in d) n
 
-pub act_one : (s : Scenario) (hs front back : List Happening) (mark cursor : List ℕ) (now r : ℕ) (more : List ℕ) (device : DeviceId) (body : NoteBody)
-    → IsActSo s hs front back mark cursor now r more device body → IsOne s hs front back mark cursor now r more (record_of s.network hs front now body)
-act_one s hs front back mark cursor now r more device body a =
+pub act_one : {s : Scenario} {hs front back : List Happening} {mark cursor : List ℕ} {now r : ℕ} {more : List ℕ}
+    {device : DeviceId} {body : NoteBody} → IsActSo s hs front back mark cursor now r more device body
+    → IsOne s hs front back mark cursor now r more (record_of s.network hs front now body)
+act_one {s} {hs} {front} {back} {now} {r} {device} {body} a =
     let w = record_of s.network hs front now body in
     let due = due_of s hs front now body a.cause in
     let late = a.late in
@@ -86,44 +87,45 @@ act_one s hs front back mark cursor now r more device body a =
       here = a.here;
       aside = λ x i other e yes_it.
           let six : 6 ≡ r = sym (ap second e) in
-          a.aside x i (subst (λ (d : DeviceId). hears d x.note.body ≡ true) (same_rows now device other (sym (a.acts six) ∙ e)) yes_it);
+          a.aside x i (subst (λ d. hears d x.note.body ≡ true) (same_rows now device other (sym (a.acts six) ∙ e)) yes_it);
     }
 
 -- ---- where a change of state follows it
 
 -- the two records of an act, which come first, the second a change of state that follows the first
-pub act_pair : (s : Scenario) (hs coming settled : List Happening) (mark cursor : List ℕ) (now r : ℕ) (more : List ℕ) (device : DeviceId) (body : NoteBody)
-    (state : State) (why : Why) → (shown : IsShownPair s.network hs now body device state why coming settled)
+pub act_pair : {s : Scenario} {hs coming settled : List Happening} {mark cursor : List ℕ} {now r : ℕ} {more : List ℕ}
+    {device : DeviceId} {body : NoteBody} {state : State} {why : Why}
+    (shown : IsShownPair s.network hs now body device state why coming settled)
     → IsActSo s hs [] coming mark cursor now r more device body → (rank body ≡ 1 → ⊥) → device_of body ≡ Some device
-    → (why ≡ whys.Frame) ⊎ (why ≡ whys.Correction)
-    → ((h : Happening) → IsOfThisTime (hs ++ shown.front2) now (length hs + 1) h → h.note.body ≡ body
+    → (why ≡ whys.Frame) ⊎ (why ≡ whys.Correction) → ((h : Happening)
+    → IsOfThisTime (hs ++ shown.front2) now (length hs + 1) h → h.note.body ≡ body
     → ChangesState s (hs ++ shown.front2) device now state (length hs + 1) why)
     → ((x : Happening) → IsIn x shown.back2 → hears device x.note.body ≡ true → ⊥)
     → IsPair s hs [] coming shown.front2 shown.back2 mark cursor now r more (record_of s.network hs [] now body)
     (change_of s.network hs shown.front2 now device state why) device state why
-act_pair s hs coming settled mark cursor now r more device body state why shown a no_event of_it follows changes aside =
+act_pair {s} {hs} {coming} {now} {device} {body} {state} {why} shown a no_event of_it follows changes aside =
     let n = length hs in
     let w = record_of s.network hs [] now body in
     let far = shown.far in
     let bare : length (hs ++ []) ≡ n = ap length (Rattle.std.proofs.lemmas.List.append-nil hs) in
     let there : numbered (hs ++ shown.front2) (suc n) ≡ Some w =
     sym (Rattle.world_law.proofs.putting.Idle.numbered_prefix (hs ++ shown.front2) shown.back2 (suc n) (omega (arith, far)))
-    ∙ ap (λ (l : List Happening). numbered l (suc n)) (append_assoc hs shown.front2 shown.back2 ∙ ap (λ (l : List Happening). hs ++ l) (sym shown.parts2))
+    ∙ ap (λ l. numbered l (suc n)) (append_assoc hs shown.front2 shown.back2 ∙ ap (λ (l : List Happening). hs ++ l) (sym shown.parts2))
     ∙ Rattle.world_law.proofs.putting.AsStates.numbered_here hs coming w in
     let next : suc n ≡ n + 1 = omega arith in
     record {
-      one = act_one s hs [] coming mark cursor now r more device body a;
+      one = act_one a;
       no_event = no_event;
       low = a.low;
       acts = a.acts;
       is_of = of_it;
       parts = shown.parts2;
       far = omega (arith, far, bare);
-      body = ap (λ (k : ℕ). notes.State device state (k + 1) why) (sym bare);
+      body = ap (λ k. notes.State device state (k + 1) why) (sym bare);
       follows = follows;
       at = refl;
       due = due_of s hs shown.front2 now (notes.State device state (n + 1) why)
-          (changes w (subst (λ (k : ℕ). IsOfThisTime (hs ++ shown.front2) now k w) next (record { there = there; same_time = refl })) refl);
+          (changes w (subst (λ k. IsOfThisTime (hs ++ shown.front2) now k w) next (record { there = there; same_time = refl })) refl);
       before = shown.before2;
       none = shown.none2;
       fresh = shown.fresh2;

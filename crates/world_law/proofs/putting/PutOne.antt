@@ -25,32 +25,38 @@ none_before : (now : ℕ) (device other : DeviceId) (vl of_vl : VlId) (link by :
     → (device.0 == other.0 && vl.0 == of_vl.0 && (nat_lt now now || (now == now && comes_before by from link cause))) ≡ false
 none_before now device other vl of_vl link by cause from not = grind (arith, nat_lt, cases_Bool, and_left, eqb-true, and_right, le-ltb, order_not)
 
--- no arrival up to its source comes after it
-takes_not : (s : Scenario) (js : List Happening) (now m : ℕ) (body : NoteBody) (at : List ℕ) → IsOwnSource s js now m body at
-    → (device : DeviceId) (vl : VlId) (link : LinkId) (cause : ℕ) → (IsBefore at (now ∷ 2 ∷ device.0 ∷ link.0 ∷ cause ∷ []) → ⊥)
-    → is_taken_before device vl now link cause now body ≡ false
-takes_not s js now m (notes.Accepted other by from of_vl cycle) at o device vl link cause under =
-    none_before now device other vl of_vl link by cause from (subst (λ (q : List ℕ). IsBefore q (now ∷ 2 ∷ device.0 ∷ link.0 ∷ cause ∷ []) → ⊥) o under)
-takes_not s js now m (notes.Delivered other by from of_vl cycle) at o device vl link cause under =
-    none_before now device other vl of_vl link by cause from (subst (λ (q : List ℕ). IsBefore q (now ∷ 2 ∷ device.0 ∷ link.0 ∷ cause ∷ []) → ⊥) o under)
-takes_not s js now m other at o device vl link cause under = refl
+module _ (s : Scenario) (js : List Happening) (now m : ℕ) where
+  -- no arrival up to its source comes after it
+  takes_not : (body : NoteBody) (at : List ℕ) → IsOwnSource s js now m body at
+      → (device : DeviceId) (vl : VlId) (link : LinkId) (cause : ℕ)
+      → (IsBefore at (now ∷ 2 ∷ device.0 ∷ link.0 ∷ cause ∷ []) → ⊥)
+      → is_taken_before device vl now link cause now body ≡ false
+  takes_not (notes.Accepted other by from of_vl cycle) at o device vl link cause under =
+      none_before now device other vl of_vl link by cause from
+      (subst (λ q. IsBefore q (now ∷ 2 ∷ device.0 ∷ link.0 ∷ cause ∷ []) → ⊥) o under)
+  takes_not (notes.Delivered other by from of_vl cycle) at o device vl link cause under =
+      none_before now device other vl of_vl link by cause from
+      (subst (λ q. IsBefore q (now ∷ 2 ∷ device.0 ∷ link.0 ∷ cause ∷ []) → ⊥) o under)
+  takes_not other at o device vl link cause under = refl
 
--- it bears on no device whose correction point is before its source
-apart_of : (s : Scenario) (js : List Happening) (now m r : ℕ) (more : List ℕ) (body : NoteBody) → IsOwnSource s js now m body (now ∷ r ∷ more)
-    → (now ∷ 2 ∷ [] ≡ now ∷ r ∷ more → ⊥) → (device : DeviceId) → IsBefore (rows_place now device) (now ∷ r ∷ more) → bears_on device body ≡ false
-apart_of s js now m r more (notes.Permanent other link cause point verdict) o longer device b = absurd
-    (let three : r ≡ 3 = cc in elim b [ inl lt ↦ omega (arith, lt) | inr (e, inl lt) ↦ omega (arith, lt, three) | inr (e, inr f) ↦ omega (arith, f.0, three) ])
-apart_of s js now m r more (notes.Compressed other opened at cycle members verdict) o longer device b = absurd
-    (let four : r ≡ 4 = cc in elim b [ inl lt ↦ omega (arith, lt) | inr (e, inl lt) ↦ omega (arith, lt, four) | inr (e, inr f) ↦ omega (arith, f.0, four) ])
-apart_of s js now m r more (notes.Corrected other cycle by adjustment) o longer device b = grind (arith, false_from_ne_true, never_self, rows_place, eqb-true)
-apart_of s js now m r more (notes.State other state cause whys.SyncClique) o longer device b =
-    grind (arith, false_from_ne_true, never_self, rows_place, eqb-true)
-apart_of s js now m r more (notes.State other state cause whys.AsyncClique) o longer device b =
-    grind (arith, false_from_ne_true, never_self, rows_place, eqb-true)
-apart_of s js now m r more (notes.State other state cause whys.On) o longer device b = absurd (longer (sym o))
-apart_of s js now m r more (notes.State other state cause whys.Frame) o longer device b = absurd (longer (sym o))
-apart_of s js now m r more (notes.State other state cause whys.Correction) o longer device b = absurd (longer (sym o))
-apart_of s js now m r more other o longer device b = refl
+  -- it bears on no device whose correction point is before its source
+  apart_of : (r : ℕ) (more : List ℕ) (body : NoteBody) → IsOwnSource s js now m body (now ∷ r ∷ more)
+      → (now ∷ 2 ∷ [] ≡ now ∷ r ∷ more → ⊥) → (device : DeviceId) → IsBefore (rows_place now device) (now ∷ r ∷ more)
+      → bears_on device body ≡ false
+  apart_of r more (notes.Permanent other link cause point verdict) o longer device b = absurd
+      (let three : r ≡ 3 = cc in elim b [ inl lt ↦ omega (arith, lt) | inr (e, inl lt) ↦ omega (arith, lt, three) | inr (e, inr f) ↦ omega (arith, f.0, three) ])
+  apart_of r more (notes.Compressed other opened at cycle members verdict) o longer device b = absurd
+      (let four : r ≡ 4 = cc in elim b [ inl lt ↦ omega (arith, lt) | inr (e, inl lt) ↦ omega (arith, lt, four) | inr (e, inr f) ↦ omega (arith, f.0, four) ])
+  apart_of r more (notes.Corrected other cycle by adjustment) o longer device b =
+      grind (arith, false_from_ne_true, never_self, rows_place, eqb-true)
+  apart_of r more (notes.State other state cause whys.SyncClique) o longer device b =
+      grind (arith, false_from_ne_true, never_self, rows_place, eqb-true)
+  apart_of r more (notes.State other state cause whys.AsyncClique) o longer device b =
+      grind (arith, false_from_ne_true, never_self, rows_place, eqb-true)
+  apart_of r more (notes.State other state cause whys.On) o longer device b = absurd (longer (sym o))
+  apart_of r more (notes.State other state cause whys.Frame) o longer device b = absurd (longer (sym o))
+  apart_of r more (notes.State other state cause whys.Correction) o longer device b = absurd (longer (sym o))
+  apart_of r more other o longer device b = refl
 
 -- ---- what follows it
 
@@ -89,43 +95,47 @@ pub record Follows (s : Scenario) (js : List Happening) (now : ℕ) (w : Happeni
       ⊎ ((state_before s js device now ≡ Joining) × ((cycle : ℕ) × (by : Units) × (adjustment : Units)
       × (w.note.body ≡ notes.Corrected device cycle by adjustment)))
 
-follower_of : (s : Scenario) (js : List Happening) (now k : ℕ) (w : Happening) (device : DeviceId) (state : State) (why : Why)
-    → numbered js (suc k) ≡ Some w → ((line : ℕ) (what : What) → w.note.body ≡ notes.Event line what → ⊥)
-    → ChangesState s js device now state (suc k) why → Follows s js now w device
-follower_of s js now k w device state whys.On there event c =
-    let same = some_same c.2.1 w _ c.2.2.there there in absurd (event c.2.0 _ (ap (λ (h : Happening). h.note.body) (sym same) ∙ c.2.3))
-follower_of s js now k w device state whys.Frame there event c =
-    let same = some_same c.1.0 w _ c.1.1.there there in
-    record { event = event; of_it = inl (ap (λ (h : Happening). is_joined_by device h.note.body) (sym same) ∙ c.1.2) }
-follower_of s js now k w device state whys.Correction there event c =
-    let same = some_same c.2.3 w _ c.2.4.there there in
-    record { event = event; of_it = inr (c.1, (c.2.0, c.2.1, c.2.2, ap (λ (h : Happening). h.note.body) (sym same) ∙ c.2.5)) }
-follower_of s js now k w device state whys.SyncClique there event c = absurd (let e = c.1 in omega (arith, e))
-follower_of s js now k w device state whys.AsyncClique there event c = absurd (let e = c.1 in omega (arith, e))
+module _ (s : Scenario) (js : List Happening) (now k : ℕ) (w : Happening) where
+  follower_of : (device : DeviceId) (state : State) (why : Why) → numbered js (suc k) ≡ Some w
+      → ((line : ℕ) (what : What) → w.note.body ≡ notes.Event line what → ⊥)
+      → ChangesState s js device now state (suc k) why → Follows s js now w device
+  follower_of device state whys.On there event c =
+      let same = some_same c.2.1 w _ c.2.2.there there in
+      absurd (event c.2.0 _ (ap (λ (h : Happening). h.note.body) (sym same) ∙ c.2.3))
+  follower_of device state whys.Frame there event c =
+      let same = some_same c.1.0 w _ c.1.1.there there in
+      record { event = event; of_it = inl (ap (λ (h : Happening). is_joined_by device h.note.body) (sym same) ∙ c.1.2) }
+  follower_of device state whys.Correction there event c =
+      let same = some_same c.2.3 w _ c.2.4.there there in
+      record { event = event; of_it = inr (c.1, (c.2.0, c.2.1, c.2.2, ap (λ (h : Happening). h.note.body) (sym same) ∙ c.2.5)) }
+  follower_of device state whys.SyncClique there event c = absurd (let e = c.1 in omega (arith, e))
+  follower_of device state whys.AsyncClique there event c = absurd (let e = c.1 in omega (arith, e))
 
--- so is one that is due with that cause
-pub due_follows : (s : Scenario) (js : List Happening) (now k : ℕ) (w y : Happening) → numbered js (suc k) ≡ Some w
-    → ((line : ℕ) (what : What) → w.note.body ≡ notes.Event line what → ⊥) → IsDueAs s js y → time_of y ≡ now → rank y.note.body ≡ 7
-    → cause_of y.note.body ≡ k + 1 → (it : AsState y.note.body) × (it.cause ≡ k + 1) × Follows s js now w it.device
-due_follows s js now k w y there event due now_is of_rank cause = elim (seven y.note.body) [
-  | inr none ↦ absurd (none of_rank)
-  | inl it ↦
-      let c : it.cause ≡ k + 1 = ap cause_of (sym it.is) ∙ cause in
-      let next : it.cause ≡ suc k = omega (arith, c) in
-      let changes = subst (λ (b : NoteBody). IsCaused s js y.note.time b) it.is due.cause in
-      let at : ChangesState s js it.device now it.state it.cause it.why = subst (λ (t : ℕ). ChangesState s js it.device t it.state it.cause it.why) now_is
-      changes
-      in (
-        it,
-        c,
-        follower_of s js now k w it.device it.state it.why there event
-            (subst (λ (n : ℕ). ChangesState s js it.device now it.state n it.why) next at),
-      )
-]
+  -- so is one that is due with that cause
+  pub due_follows : {y : Happening} → numbered js (suc k) ≡ Some w
+      → ((line : ℕ) (what : What) → w.note.body ≡ notes.Event line what → ⊥) → IsDueAs s js y → time_of y ≡ now
+      → rank y.note.body ≡ 7 → cause_of y.note.body ≡ k + 1
+      → (it : AsState y.note.body) × (it.cause ≡ k + 1) × Follows s js now w it.device
+  due_follows {y} there event due now_is of_rank cause = elim (seven y.note.body) [
+    | inr none ↦ absurd (none of_rank)
+    | inl it ↦
+        let c : it.cause ≡ k + 1 = ap cause_of (sym it.is) ∙ cause in
+        let next : it.cause ≡ suc k = omega (arith, c) in
+        let changes = subst (λ b. IsCaused s js y.note.time b) it.is due.cause in
+        let at : ChangesState s js it.device now it.state it.cause it.why =
+        subst (λ t. ChangesState s js it.device t it.state it.cause it.why) now_is
+        changes
+        in (
+          it,
+          c,
+          follower_of it.device it.state it.why there event
+              (subst (λ n. ChangesState s js it.device now it.state n it.why) next at),
+        )
+  ]
 
 -- the record has its number in the list
 pub at_number : (hs front c : List Happening) (w : Happening) → numbered (hs ++ (front ++ w ∷ c)) (suc (before_it hs front)) ≡ Some w
-at_number hs front c w = ap (λ (l : List Happening). numbered l (suc (before_it hs front))) (sym (append_assoc hs front (w ∷ c))) ∙ numbered_here (hs ++ front) c w
+at_number hs front c w = ap (λ l. numbered l (suc (before_it hs front))) (sym (append_assoc hs front (w ∷ c))) ∙ numbered_here (hs ++ front) c w
 
 -- ---- one record
 
@@ -150,35 +160,36 @@ from_two now r more (inl lt) = absurd (omega (arith, lt))
 from_two now r more (inr (e, inl lt)) = omega (arith, lt)
 from_two now r more (inr (e, inr b)) = omega (arith, b.0)
 
-pub unmarked : (s : Scenario) (hs coming : List Happening) (mark cursor : List ℕ) (now r : ℕ) (more : List ℕ) → IsMoving s hs coming mark cursor now r more
-    → IsBefore (now ∷ r ∷ more) mark → ⊥
-unmarked s hs coming mark cursor now r more m b = m.waits (m.ahead (now ∷ r ∷ more) b)
+pub unmarked : {s : Scenario} {hs coming : List Happening} {mark cursor : List ℕ} {now r : ℕ} {more : List ℕ}
+    → IsMoving s hs coming mark cursor now r more → IsBefore (now ∷ r ∷ more) mark → ⊥
+unmarked {now} {r} {more} m b = m.waits (m.ahead (now ∷ r ∷ more) b)
 
 -- what hears at the instant is aside of what comes from another source
-hears_aside : (s : Scenario) (hs coming f rest : List Happening) (mark cursor : List ℕ) (now r : ℕ) (more : List ℕ) (x : Happening) (device : DeviceId)
-    → IsMoving s hs coming mark cursor now r more → coming ≡ f ++ x ∷ rest → hears device x.note.body ≡ true
+hears_aside : {s : Scenario} {hs coming : List Happening} (f rest : List Happening) {mark cursor : List ℕ}
+    {now r : ℕ} {more : List ℕ} (x : Happening) (device : DeviceId) → IsMoving s hs coming mark cursor now r more
+    → coming ≡ f ++ x ∷ rest → hears device x.note.body ≡ true
     → IsBefore (rows_place now device) (now ∷ r ∷ more) ⊎ (now ∷ r ∷ more ≡ rows_place now device)
-hears_aside s hs coming f rest mark cursor now r more x device m e yes_it =
-    let by = (well_of s hs coming mark cursor now r more m).by f rest x e in
-    let now_is = m.are.of_now x (subst (λ (l : List Happening). IsIn x l) (sym e) (Rattle.run_law.proofs.runs.Places.in_right x f (x ∷ rest) (inl refl))) in
-    let i : IsIn x coming = subst (λ (l : List Happening). IsIn x l) (sym e) (Rattle.run_law.proofs.runs.Places.in_right x f (x ∷ rest) (inl refl)) in
+hears_aside {s} {hs} {coming} f rest {now} {r} {more} x device m e yes_it =
+    let by = (well_of m).by f rest x e in
+    let now_is = m.are.of_now x (subst (λ l. IsIn x l) (sym e) (Rattle.run_law.proofs.runs.Places.in_right x f (x ∷ rest) (inl refl))) in
+    let i : IsIn x coming = subst (λ l. IsIn x l) (sym e) (Rattle.run_law.proofs.runs.Places.in_right x f (x ∷ rest) (inl refl)) in
     let act = hears_source s (hs ++ f) (time_of x) (members_in x) device x.note.body by.0 (off_source m x i) yes_it by.1
     ∙ ap (λ (t : ℕ). t ∷ 6 ∷ device.0 ∷ []) now_is in
     elim by.3 [
-      | inl lt ↦ inl (subst (λ (q : List ℕ). IsBefore q (now ∷ r ∷ more)) act lt)
+      | inl lt ↦ inl (subst (λ q. IsBefore q (now ∷ r ∷ more)) act lt)
       | inr same ↦ inr (sym same ∙ act)
     ]
 
-pub placing_one : (s : Scenario) (hs front back : List Happening) (mark cursor : List ℕ) (now r : ℕ) (more : List ℕ) (w : Happening)
-    → IsOne s hs front back mark cursor now r more w → IsPlacing s hs front back mark now r more w
-placing_one s hs front back mark cursor now r more w p =
+pub placing_one : {s : Scenario} {hs front back : List Happening} {mark cursor : List ℕ} {now r : ℕ} {more : List ℕ}
+    {w : Happening} → IsOne s hs front back mark cursor now r more w → IsPlacing s hs front back mark now r more w
+placing_one {s} {hs} {front} {back} {now} {r} {more} {w} p =
     let mine : IsOwnSource s (hs ++ front) now (members_in w) w.note.body (now ∷ r ∷ more) = subst
-    (λ (t : ℕ). IsOwnSource s (hs ++ front) t (members_in w) w.note.body (now ∷ r ∷ more)) p.at p.mine in
+    (λ t. IsOwnSource s (hs ++ front) t (members_in w) w.note.body (now ∷ r ∷ more)) p.at p.mine in
     record {
       forward = p.moving.forward;
       late = from_two now r more p.later;
       given = p.given;
-      up_to = unmarked s hs (front ++ back) mark cursor now r more p.moving;
+      up_to = unmarked p.moving;
       at = p.at;
       due = p.due;
       before = p.before;
@@ -187,50 +198,53 @@ placing_one s hs front back mark cursor now r more w p =
       least = least_of_own s (hs ++ front) (time_of w) (members_in w) w.note.body (now ∷ r ∷ more) p.mine;
       taken = (now ∷ r ∷ more, p.mine, p.here, inr refl);
       takes = λ device vl link cause under.
-          subst (λ (t : ℕ). is_taken_before device vl now link cause t w.note.body ≡ false) (sym p.at)
+          subst (λ t. is_taken_before device vl now link cause t w.note.body ≡ false) (sym p.at)
           (takes_not s (hs ++ front) now (members_in w) w.note.body (now ∷ r ∷ more) mine device vl link cause under);
       apart = apart_of s (hs ++ front) now (members_in w) r more w.note.body mine p.moving.longer;
       aside = λ x i device yes_it.
           let split = Rattle.run_law.proofs.runs.Places.parted x back i in
           let whole : front ++ back ≡ (front ++ split.0) ++ x ∷ split.1 = ap (λ (l : List Happening). front ++ l) split.2
           ∙ sym (append_assoc front split.0 (x ∷ split.1)) in
-          elim (hears_aside s hs (front ++ back) (front ++ split.0) split.1 mark cursor now r more x device p.moving whole yes_it) [
+          elim (hears_aside (front ++ split.0) split.1 x device p.moving whole yes_it) [
             | inl lt ↦ apart_of s (hs ++ front) now (members_in w) r more w.note.body mine p.moving.longer device lt
             | inr own ↦ absurd (p.aside x i device own yes_it)
           ];
     }
 
-pub put_now : {s : Scenario} {hs front back : List Happening} {mark cursor : List ℕ} {now r : ℕ} {more : List ℕ} {w : Happening}
-    → IsOne s hs front back mark cursor now r more w → (c d : List Happening) → back ≡ c ++ d → (z : Happening) → IsIn z (front ++ w ∷ c) → time_of z ≡ now
-put_now {front} {back} {w} p c d e z i =
-    elim (in_parts z front (w ∷ c) i) [
-      | inl f ↦ p.moving.are.of_now z (in_left z front back f)
-      | inr (inl same) ↦ ap time_of same ∙ p.at
-      | inr (inr b) ↦ p.moving.are.of_now z (in_right z front back (subst (λ (l : List Happening). IsIn z l) (sym e) (in_left z c d b)))
-    ]
+module _ {s : Scenario} {hs front back : List Happening} {mark cursor : List ℕ} {now r : ℕ} {more : List ℕ}
+    {w : Happening} (p : IsOne s hs front back mark cursor now r more w) where
+  pub put_now : (c d : List Happening) → back ≡ c ++ d → (z : Happening) → IsIn z (front ++ w ∷ c) → time_of z ≡ now
+  put_now c d e z i =
+      elim (in_parts z front (w ∷ c) i) [
+        | inl f ↦ p.moving.are.of_now z (in_left z front back f)
+        | inr (inl same) ↦ ap time_of same ∙ p.at
+        | inr (inr b) ↦ p.moving.are.of_now z (in_right z front back
+            (subst (λ l. IsIn z l) (sym e) (in_left z c d b)))
+      ]
 
--- nothing is to be put in yet, and nothing follows it
-none_follows : {s : Scenario} {hs front back : List Happening} {mark cursor : List ℕ} {now r : ℕ} {more : List ℕ} {w : Happening}
-    → IsOne s hs front back mark cursor now r more w → IsUnfollowed s hs now w.note.body → IsCarried s hs front back now w (λ y. ⊥) (λ y. ⊥)
-none_follows {s} {hs} {front} {back} {mark} {cursor} {now} {r} {more} {w} p last = record {
-  same = λ f rest y e due now_is yet. absurd yet;
-  moved = λ c d y e due now_is other yet. absurd yet;
-  new = λ c d y e due now_is of_rank cause.
-      let it = due_follows s (hs ++ (front ++ w ∷ c)) now (before_it hs front) w y (at_number hs front c w) last.no_event due now_is of_rank cause in
-      absurd (elim it.2.of_it [
-        | inl joins ↦ let bad : false ≡ true = sym (last.no_join it.0.device) ∙ joins in cc
-        | inr first ↦
-            let late : (z : Happening) → IsIn z (front ++ w ∷ c) → now ≤ time_of z = λ z i. let at = put_now p c d e z i in omega (arith, at) in
-            last.no_first it.0.device first.1.0 first.1.1 first.1.2 first.1.3
-            (ap (λ (l : List Happening). if is_turned_on_at s it.0.device now then Integrating else state_after s l it.0.device)
-            (sym (earlier_still now hs (front ++ w ∷ c) late)) ∙ first.0)
-      ]);
-}
+  -- nothing is to be put in yet, and nothing follows it
+  none_follows : IsUnfollowed s hs now w.note.body → IsCarried s hs front back now w (λ y. ⊥) (λ y. ⊥)
+  none_follows last = record {
+    same = λ f rest y e due now_is yet. absurd yet;
+    moved = λ c d y e due now_is other yet. absurd yet;
+    new = λ c d y e due now_is of_rank cause.
+        let it = due_follows s (hs ++ (front ++ w ∷ c)) now (before_it hs front) w (at_number hs front c w)
+        last.no_event due now_is of_rank cause in
+        absurd (elim it.2.of_it [
+          | inl joins ↦ let bad : false ≡ true = sym (last.no_join it.0.device) ∙ joins in cc
+          | inr first ↦
+              let late : (z : Happening) → IsIn z (front ++ w ∷ c) → now ≤ time_of z =
+              λ z i. let at = put_now c d e z i in omega (arith, at) in
+              last.no_first it.0.device first.1.0 first.1.1 first.1.2 first.1.3
+              (ap (λ l. if is_turned_on_at s it.0.device now then Integrating else state_after s l
+              it.0.device)
+              (sym (earlier_still now hs (front ++ w ∷ c) late)) ∙ first.0)
+        ]);
+  }
 
-pub one_well : {s : Scenario} {hs front back : List Happening} {mark cursor : List ℕ} {now r : ℕ} {more : List ℕ} {w : Happening}
-    → IsOne s hs front back mark cursor now r more w → IsUnfollowed s hs now w.note.body → IsWell s hs (front ++ w ∷ back) mark now r more (λ y. ⊥)
-one_well {s} {hs} {front} {back} {mark} {cursor} {now} {r} {more} {w} p last =
-    placed_well (well_of s hs (front ++ back) mark cursor now r more p.moving) (placing_one s hs front back mark cursor now r more w p) (none_follows p last)
+  pub one_well : IsUnfollowed s hs now w.note.body → IsWell s hs (front ++ w ∷ back) mark now r more (λ y. ⊥)
+  one_well last =
+      placed_well (well_of p.moving) (placing_one p) (none_follows last)
 
 -- what may stand at its source was worked off, or is this record
 pub worked_then : {s : Scenario} {hs front back : List Happening} {mark cursor : List ℕ} (then_ : List ℕ) {now r : ℕ} {more : List ℕ} {w : Happening}
@@ -240,19 +254,19 @@ pub worked_then : {s : Scenario} {hs front back : List Happening} {mark cursor :
 worked_then {front} {back} then_ {w} p on at z i is =
     elim (in_parts z front (w ∷ back) i) [
       | inl f ↦ on (place_of z) (p.moving.are.worked z (in_left z front back f) is)
-      | inr (inl e) ↦ subst (λ (h : Happening). IsBefore (place_of h) then_) (sym e) (at (ap (λ (h : Happening). is_at_source h.note.body) (sym e) ∙ is))
+      | inr (inl e) ↦ subst (λ h. IsBefore (place_of h) then_) (sym e) (at (ap (λ (h : Happening). is_at_source h.note.body) (sym e) ∙ is))
       | inr (inr b) ↦ on (place_of z) (p.moving.are.worked z (in_right z front back b) is)
     ]
 
 -- THE RECORD IS PUT IN, AND THE CURSOR GOES BEHIND ITS SOURCE (all sources but events and their outcomes). All that is
 -- due from the source is at the record's place, whatever else is to come
-pub one_by : (s : Scenario) (hs front back : List Happening) (mark cursor : List ℕ) (now r : ℕ) (more : List ℕ) (w : Happening)
-    → IsOne s hs front back mark cursor now r more w → IsUnfollowed s hs now w.note.body
-    → IsAllOfIt s hs (front ++ w ∷ back) (now ∷ r ∷ more) → AreSettled s hs (front ++ w ∷ back) mark (behind (now ∷ r ∷ more)) now
-one_by s hs front back mark cursor now r more w p last all =
+pub one_by : {s : Scenario} {hs front back : List Happening} {mark cursor : List ℕ} {now r : ℕ} {more : List ℕ}
+    {w : Happening} → IsOne s hs front back mark cursor now r more w → IsUnfollowed s hs now w.note.body
+    → IsAllOfIt s hs (front ++ w ∷ back) (now ∷ r ∷ more)
+    → AreSettled s hs (front ++ w ∷ back) mark (behind (now ∷ r ∷ more)) now
+one_by {s} {hs} {front} {now} {r} {more} {w} p last all =
     let at = now ∷ r ∷ more in
-    settled_by s hs (front ++ w ∷ back) mark now r more (one_well p last) p.marked
-    (unmarked s hs (front ++ back) mark cursor now r more p.moving) p.later
-    (worked_then (behind at) p (stays s hs (front ++ back) mark cursor now r more p.moving)
-    (λ is. subst (λ (q : List ℕ). IsBefore q (behind at))
+    settled_by (one_well p last) p.marked (unmarked p.moving) p.later
+    (worked_then (behind at) p (stays p.moving)
+    (λ is. subst (λ q. IsBefore q (behind at))
     (own_here s (hs ++ front) (time_of w) (members_in w) w.note.body at is p.mine) (before_behind at))) all

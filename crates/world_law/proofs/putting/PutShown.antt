@@ -36,9 +36,10 @@ pub record IsShownPut (network : Network) (hs : List Happening) (now : ℕ) (bod
   pub none : NoneBefore place_of back (place_of (record_of network hs front now body))
   pub shows : settled ≡ front ++ record_of network hs front now body ∷ back
 
-pub one_shown : (network : Network) (hs : List Happening) (now : ℕ) (body : NoteBody) (coming settled : List Happening) → cause_of body ≤ length hs
+pub one_shown : (network : Network) (hs : List Happening) (now : ℕ) (body : NoteBody)
+    {coming settled : List Happening} → cause_of body ≤ length hs
     → IsPutIn (settled_as network hs now body) coming settled → IsShownPut network hs now body coming settled
-one_shown network hs now body coming settled few put =
+one_shown network hs now body few put =
     let same = same_record network hs put.front now body few in
     let place : place_of (settled_as network hs now body) ≡ place_of (record_of network hs put.front now body) = ap place_of (sym same) in
     record {
@@ -73,25 +74,26 @@ first_of [] back p before above = refl
 first_of (x ∷ front) back p before above = absurd (above x (inl refl) (before x (inl refl)))
 
 -- what is put in first stands first where nothing to come is before it; and no change of the device has its number as its cause yet
-pub two_shown : (network : Network) (hs : List Happening) (now : ℕ) (body : NoteBody) (device : DeviceId) (state : State) (why : Why)
-    (coming mid settled : List Happening) → cause_of body ≤ length hs → rank body < 7
+pub two_shown : (network : Network) (hs : List Happening) (now : ℕ) (body : NoteBody) (device : DeviceId)
+    (state : State) (why : Why) {coming mid settled : List Happening} → cause_of body ≤ length hs → rank body < 7
     → ((z : Happening) → IsIn z coming → IsBefore (place_of z) (place_of (settled_as network hs now body)) → ⊥)
     → ((z : Happening) → IsIn z coming → (it : AsState z.note.body) → it.cause ≤ length hs)
-    → IsPutIn (settled_as network hs now body) coming mid → IsPutIn (settled_as network hs now (notes.State device state (length hs + 1) why)) mid settled
+    → IsPutIn (settled_as network hs now body) coming mid
+    → IsPutIn (settled_as network hs now (notes.State device state (length hs + 1) why)) mid settled
     → IsShownPair network hs now body device state why coming settled
-two_shown network hs now body device state why coming mid settled few low above sole put put2 =
+two_shown network hs now body device state why {coming} {mid} few low above sole put put2 =
     let w = record_of network hs [] now body in
     let same = same_record network hs [] now body few in
     let none_first : put.front ≡ [] = first_of put.front put.back (place_of (settled_as network hs now body)) put.before
-    (λ z i. above z (subst (λ (l : List Happening). IsIn z l) (sym put.was) i)) in
+    (λ z i. above z (subst (λ l. IsIn z l) (sym put.was) i)) in
     let rest : put.back ≡ coming = sym (put.was ∙ ap (λ (l : List Happening). l ++ put.back) none_first) in
     let mid_is : mid ≡ w ∷ coming = put.is ∙ ap (λ (l : List Happening). l ++ settled_as network hs now body ∷ put.back) none_first
     ∙ ap (λ (h : Happening). h ∷ put.back) (sym same) ∙ ap (λ (l : List Happening). w ∷ l) rest in
     let parts : w ∷ coming ≡ put2.front ++ put2.back = sym mid_is ∙ put2.was in
-    let in_back : (y : Happening) → IsIn y put2.back → IsIn y (w ∷ coming) = λ y i. subst (λ (l : List Happening). IsIn y l) (sym parts)
+    let in_back : (y : Happening) → IsIn y put2.back → IsIn y (w ∷ coming) = λ y i. subst (λ l. IsIn y l) (sym parts)
     (in_right y put2.front put2.back i) in
     record {
-      none = λ z i b. above z i (subst (λ (q : List ℕ). IsBefore (place_of z) q) (ap place_of same) b);
+      none = λ z i b. above z i (subst (λ q. IsBefore (place_of z) q) (ap place_of same) b);
       front2 = put2.front;
       back2 = put2.back;
       parts2 = parts;
@@ -106,7 +108,7 @@ two_shown network hs now body device state why coming mid settled few low above 
               | inr none ↦ none (sym of_rank)
               | inl it ↦
                   let places : now ∷ 7 ∷ device.0 ∷ (length hs + 1) ∷ [] ≡ time_of y ∷ 7 ∷ it.device.0 ∷ it.cause ∷ [] = at_now ∙ e
-                  ∙ ap (λ (b : NoteBody). time_of y ∷ rank b ∷ Rattle.run_law.specs.records.Ranks.key (Rattle.run_law.specs.records.Ranks.members_in y) b) it.is in
+                  ∙ ap (λ b. time_of y ∷ rank b ∷ Rattle.run_law.specs.records.Ranks.key (Rattle.run_law.specs.records.Ranks.members_in y) b) it.is in
                   let cause : length hs + 1 ≡ it.cause = cc in
                   let most = sole y i it in omega (arith, cause, most)
             ]
@@ -121,5 +123,5 @@ two_shown network hs now body device state why coming mid settled few low above 
     longer : (front back : List Happening) → record_of network hs [] now body ∷ coming ≡ front ++ back
         → NoneBefore place_of back (place_of (settled_as network hs now (notes.State device state (length hs + 1) why))) → length hs < length (hs ++ front)
     longer [] back e none = absurd (none (record_of network hs [] now body)
-        (subst (λ (l : List Happening). IsIn (record_of network hs [] now body) l) e (inl refl)) (inr (refl, inl low)))
+        (subst (λ l. IsIn (record_of network hs [] now body) l) e (inl refl)) (inr (refl, inl low)))
     longer (x ∷ front) back e none = let long = length-append hs (x ∷ front) in let one : length (x ∷ front) ≡ length front + 1 = omega arith in omega (arith, long, one)

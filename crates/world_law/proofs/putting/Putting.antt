@@ -78,22 +78,24 @@ module _ {s : Scenario} {hs front back : List Happening} {mark cursor : List ℕ
       let low = at.3 in
       let high : 8 ≤ rank y.note.body = omega (arith, same, late, low) in
       let few = known_cause s hs f y.note.time y.note.body p.moving.forward p.founded
-      (λ h i. let it = put_late h (subst (λ (l : List Happening). IsIn h l) (sym e) (in_left h f rest i)) in (it.0 ∙ now_is, it.1)) high due.cause in
+      (λ h i. let it = put_late h (subst (λ l. IsIn h l) (sym e) (in_left h f rest i)) in (it.0 ∙ now_is, it.1)) high due.cause in
       (w, in_right w front (w ∷ back) (inl refl), p.own f y due few (sym now_is) own)
 
   pub settled_put : AreSettled s hs (front ++ w ∷ back) mark (behind (now ∷ r ∷ more)) now
-  settled_put = one_by s hs front back mark cursor now r more w one_of (last_unfollowed s hs now w.note.body (idle_last w.note.body p.idle)) all_of_it
+  settled_put = one_by one_of (last_unfollowed s hs now w.note.body (idle_last w.note.body p.idle)) all_of_it
 
 -- ---- a device stands with the record as without it
 
-pub known_put : (s : Scenario) (hs front back : List Happening) (w : Happening) → IsIdle w.note.body → AreOfNetwork s (hs ++ (front ++ back))
-    → AreOfNetwork s (hs ++ (front ++ w ∷ back))
-known_put s hs front back w idle =
-    known_aside s hs front back w (λ device le. moves_no_other device w.note.body (idle_bears device w.note.body idle))
+pub known_put : {s : Scenario} (hs front back : List Happening) (w : Happening) → IsIdle w.note.body
+    → AreOfNetwork s (hs ++ (front ++ back)) → AreOfNetwork s (hs ++ (front ++ w ∷ back))
+known_put {s} hs front back w idle =
+    known_aside {s = s} hs front back w (λ device le. moves_no_other device w.note.body
+    (idle_bears device w.note.body idle))
 
-pub held_put : {M : Type 0} (stands : M → Network → DeviceId → Node → Type 0) (s : Scenario) (hs front back : List Happening) (cursor : List ℕ) (now : ℕ)
-    (device : DeviceId) (machine : M) (w : Happening) → IsIdle w.note.body → time_of w ≡ now → IsHeld stands s hs (front ++ back) cursor now device machine
+pub held_put : {M : Type 0} {stands : M → Network → DeviceId → Node → Type 0} {s : Scenario} {hs : List Happening}
+    (front back : List Happening) {cursor : List ℕ} {now : ℕ} {device : DeviceId} {machine : M} (w : Happening)
+    → IsIdle w.note.body → time_of w ≡ now → IsHeld stands s hs (front ++ back) cursor now device machine
     → IsHeld stands s hs (front ++ w ∷ back) cursor now device machine
-held_put stands s hs front back cursor now device machine w idle at held =
+held_put {s} {hs} front back {device} w idle at held =
     let misses = idle_bears device w.note.body idle in
     held_aside s hs front back w device misses at (frames_aside s hs front back w device misses (idle_taking device w.note.body idle)) held

@@ -32,7 +32,7 @@ pub hearing_adjustment_plain : (s : Scenario) (hs : List Happening) (device : De
     → adjustment_at_hearing s (plains hs) device t ≡ adjustment_at_hearing s hs device t
 hearing_adjustment_plain s hs device t =
     let p = λ (h : Happening). nat_lt (time_of h) t || is_joined_by device h.note.body in
-    ap (λ (l : List Happening). adjustment_after s l device)
+    ap (λ l. adjustment_after s l device)
     (filter_plain p p (λ h. refl) hs)
     ∙ adjustments_plain s (filter p hs) device
 

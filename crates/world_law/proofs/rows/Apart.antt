@@ -3,7 +3,7 @@ use Rattle.schedule_tables.{proofs.Entries.begun_below, specs.Delays.pcf_port_ti
 use Rattle.tte_units.proofs.general_lemmas.{Integers.{whole as not_negative}, Lists.in_all}
 use Rattle.{schedule_tables.specs.declared.rule.Rule.TheVariants.ScheduleStart, world_law.proofs.rows.Reached.{ShowsAt, cycles_apart, row_ends, shows_at}}
 use Rattle.world_law.proofs.Words.{◌*◌, ◌+◌, ◌≤◌, DeviceId, Dispatches, Entry, Happening, IsAtCorrection, IsEntry, IsInRange, IsSteady, KeepsRules, Link}
-use Rattle.world_law.proofs.Words.{LinkId, List, Network, Reaches, Scenario, VlId, amount, arith, cases_lt, ints, local_before, pos, ℕ, ℤ}
+use Rattle.world_law.proofs.Words.{LinkId, List, Network, Reaches, Scenario, VlId, amount, arith, cases_lt, ints, pos, ℕ, ℤ}
 
 -- ---- where a row's offset lies in the cycle
 
@@ -13,40 +13,43 @@ pub record IsApart (network : Network) (offset : ℕ) : Type 0 where
   pub ends : offset + 4 * amount network.precision ≤ amount network.cycle
 
 -- so each row's offset is
-pub row_apart : (network : Network) (place : ℕ) (entry : Entry) → KeepsRules network → IsEntry network place entry → IsApart network (amount entry.row.offset)
-row_apart network place entry rules is =
+pub row_apart : {network : Network} {place : ℕ} {entry : Entry} → KeepsRules network → IsEntry network place entry
+    → IsApart network (amount entry.row.offset)
+row_apart {network} {place} {entry} rules is =
     let begun = begun_below network (amount entry.row.offset + 1) place entry rules is (omega arith) in
     let start = in_all
     (λ (l : Link). amount network.correction + amount network.dmax + 4 * amount network.precision + pcf_port_time l ≤ amount network.tt_start)
     network.link entry.row.link.0 entry.link (rules ScheduleStart 0).begins is.link in
-    record { begins = omega (arith, begun, start); ends = row_ends network place entry rules is }
+    record { begins = omega (arith, begun, start); ends = row_ends rules is }
 
 -- the precision is not 0
-pub precise : (network : Network) → IsInRange network → 1 ≤ amount network.precision
-precise network range = grind (arith, not_negative, ints)
+pub precise : {network : Network} → IsInRange network → 1 ≤ amount network.precision
+precise range = grind (arith, not_negative, ints)
 
 -- so a clock that shows the one does not show the other; `point` is a place from the beginning of a cycle up to the correction
-pub apart_so : (network : Network) (offset point a b : ℕ) (z : ℤ) → IsApart network offset → point ≤ amount network.correction → 1 ≤ amount network.precision
+pub apart_so : {network : Network} {offset : ℕ} (point a b : ℕ) {z : ℤ} → IsApart network offset
+    → point ≤ amount network.correction → 1 ≤ amount network.precision
     → ShowsAt z (pos (a * amount network.cycle + point)) (amount network.precision)
     → ShowsAt z (pos (b * amount network.cycle + offset)) (amount network.precision) → ⊥
-apart_so network offset point a b z apart early some one two = grind (arith, amount, cases_lt, cycles_apart, ints)
+apart_so point a b apart early some one two = grind (arith, amount, cases_lt, cycles_apart, ints)
 
 -- ---- by the records
 
 -- a clock does not reach a row's value where it reaches a value from the beginning of a cycle up to its correction point
-pub no_row_with : (s : Scenario) (hs : List Happening) (device : DeviceId) (t point of_point place cycle : ℕ) (entry : Entry) → IsInRange s.network
-    → KeepsRules s.network → IsSteady (s.reading device) (amount s.network.precision) → IsEntry s.network place entry → point ≤ amount s.network.correction
-    → Reaches s hs device (pos (of_point * amount s.network.cycle + point)) t
+pub no_row_with : {s : Scenario} {hs : List Happening} {device : DeviceId} {t : ℕ} (point of_point : ℕ) {place : ℕ}
+    (cycle : ℕ) {entry : Entry} → IsInRange s.network → KeepsRules s.network
+    → IsSteady (s.reading device) (amount s.network.precision) → IsEntry s.network place entry
+    → point ≤ amount s.network.correction → Reaches s hs device (pos (of_point * amount s.network.cycle + point)) t
     → Reaches s hs device (pos (cycle * amount s.network.cycle + amount entry.row.offset)) t → ⊥
-no_row_with s hs device t point of_point place cycle entry range rules steady is early one two =
+no_row_with {s} point of_point cycle range rules steady is early one two =
     let n = s.network in
-    apart_so n (amount entry.row.offset) point of_point cycle (local_before s hs device t) (row_apart n place entry rules is) early (precise n range)
-    (shows_at s hs device (pos (of_point * amount n.cycle + point)) t (amount n.precision) steady one)
-    (shows_at s hs device (pos (cycle * amount n.cycle + amount entry.row.offset)) t (amount n.precision) steady two)
+    apart_so point of_point cycle (row_apart rules is) early (precise range) (shows_at steady one)
+    (shows_at steady two)
 
 -- a device that comes to a correction point dispatches no row
-pub no_row_at_correction : (s : Scenario) (hs : List Happening) (device : DeviceId) (t number : ℕ) (link : LinkId) (cause : ℕ) (vl : VlId) (cycle : ℕ)
-    → IsInRange s.network → KeepsRules s.network → IsSteady (s.reading device) (amount s.network.precision) → IsAtCorrection s hs t device number
+pub no_row_at_correction : {s : Scenario} {hs : List Happening} {device : DeviceId} {t number : ℕ} {link : LinkId}
+    {cause : ℕ} {vl : VlId} {cycle : ℕ} → IsInRange s.network → KeepsRules s.network
+    → IsSteady (s.reading device) (amount s.network.precision) → IsAtCorrection s hs t device number
     → Dispatches s hs device t link cause vl cycle → ⊥
-no_row_at_correction s hs device t number link cause vl cycle range rules steady c d =
-    no_row_with s hs device t (amount s.network.correction) number d.place cycle d.entry range rules steady d.row (omega arith) c.reached d.reached
+no_row_at_correction {s} {number} {cycle} range rules steady c d =
+    no_row_with (amount s.network.correction) number cycle range rules steady d.row (omega arith) c.reached d.reached

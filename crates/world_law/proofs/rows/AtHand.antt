@@ -80,7 +80,7 @@ last_by device vl at (h ∷ hs) o p last none =
     ap (last_or o) (filter-append (is_of vl) here more) ∙ last_more o (filter (is_of vl) here) (filter (is_of vl) more) in
     let records = last_if (is_accepted device vl h.note.body) p h (filter (λ g. is_accepted device vl g.note.body) hs) in
     subst (λ (x : Option TakenFrame). IsLastBy device vl at x (last_or p (filter (λ g. is_accepted device vl g.note.body) (h ∷ hs)))) (sym frames)
-    (subst (λ (x : Option Happening). IsLastBy device vl at (last_or (last_or o (filter (is_of vl) here)) (filter (is_of vl) more)) x) (sym records) rest)
+    (subst (λ x. IsLastBy device vl at (last_or (last_or o (filter (is_of vl) here)) (filter (is_of vl) more)) x) (sym records) rest)
 
 -- ---- records that are all earlier
 
@@ -119,54 +119,59 @@ pub record IsReaching (s : Scenario) (hs : List Happening) (device : DeviceId) (
   pub reached : Reaches s hs device (pos (cycle * amount s.network.cycle + amount entry.row.offset)) t
 
 -- the row's value
-pub value_is : (network : Network) (row : RowId) (entry : Entry) (cycle : ℕ) → IsEntry network row.0 entry
+pub value_is : {network : Network} (row : RowId) {entry : Entry} (cycle : ℕ) → IsEntry network row.0 entry
     → value_of network (dispatching row cycle) ≡ pos (cycle * amount network.cycle + amount entry.row.offset)
-value_is network row entry cycle is = ap (λ (o : Option Row). pos (cycle * amount network.cycle + option_map_or (λ (r : Row). amount r.offset) o 0)) is.row
+value_is {network} row cycle is = ap (λ (o : Option Row). pos
+    (cycle * amount network.cycle + option_map_or (λ (r : Row). amount r.offset) o 0)) is.row
 
--- at a device that does not send the frame, each record of a taking is of an earlier time
-pub taken_sooner : (s : Scenario) (hs : List Happening) (device : DeviceId) (node : Node) (row : RowId) (entry : Entry) (cycle t : ℕ)
-    → IsReaching s hs device node row entry cycle t → IsForwarded s.network device row.0 entry
-    → (h : Happening) → IsIn h hs → is_accepted device entry.row.vl h.note.body ≡ true → time_of h < t
-taken_sooner s hs device node row entry cycle t r f h i e =
-    elim (cases_lt (time_of h) t) [
-      | inl lt ↦ lt
-      | inr ge ↦
-          let it = accepts device entry.row.vl h.note.body e in
-          let le = r.past h i in
-          absurd (none_at_value s hs device row.0 cycle t entry r.range r.rules r.steady r.founded f r.reached h it.0 it.1 it.2 i (omega (arith, ge, le)) it.3)
-    ]
+module _ {s : Scenario} {hs : List Happening} {device : DeviceId} {node : Node} {row : RowId} {entry : Entry}
+    {cycle t : ℕ} (r : IsReaching s hs device node row entry cycle t)
+    (f : IsForwarded s.network device row.0 entry) where
+  -- at a device that does not send the frame, each record of a taking is of an earlier time
+  pub taken_sooner : (h : Happening) → IsIn h hs → is_accepted device entry.row.vl h.note.body ≡ true → time_of h < t
+  taken_sooner h i e =
+      elim (cases_lt (time_of h) t) [
+        | inl lt ↦ lt
+        | inr ge ↦
+            let it = accepts device entry.row.vl h.note.body e in
+            let le = r.past h i in
+            absurd (none_at_value cycle r.range r.rules r.steady r.founded f r.reached h it.0 it.1 it.2 i
+            (omega (arith, ge, le)) it.3)
+      ]
 
--- at a switch, the last record of a taking is of an earlier time, and the node's frame is that of the record
-last_at : (s : Scenario) (hs : List Happening) (device : DeviceId) (node : Node) (row : RowId) (entry : Entry) (cycle t : ℕ)
-    → IsReaching s hs device node row entry cycle t → IsForwarded s.network device row.0 entry → is_end s.network device ≡ false
-    → IsLastBy device entry.row.vl (local_before s hs device) (last_taken_frame node entry.row.vl) (last_accepted hs device entry.row.vl t)
-last_at s hs device node row entry cycle t r f switch =
-    let vl = entry.row.vl in
-    let at = local_before s hs device in
-    let sooner = taken_sooner s hs device node row entry cycle t r f in
-    let same = filter_earlier (λ h. is_accepted device vl h.note.body) t hs sooner in
-    let last = last_by device vl at hs None None tt (λ h i link from of_vl of_cycle e.
-    (let bad : false ≡ true = sym switch ∙ delivered_at s hs h device link from of_vl of_cycle r.founded i e in cc)) in
-    subst (λ (l : List TakenFrame). IsLastBy device vl at (last_or None (filter (is_of vl) l)) (last_accepted hs device vl t)) (sym r.taken)
-    (subst (λ (l : List Happening). IsLastBy device vl at (last_or None (filter (is_of vl) (frames_taken s hs device))) (last_or None l)) (sym same) last)
+  -- at a switch, the last record of a taking is of an earlier time, and the node's frame is that of the record
+  last_at : is_end s.network device ≡ false → IsLastBy device entry.row.vl (local_before s hs device)
+      (last_taken_frame node entry.row.vl) (last_accepted hs device entry.row.vl t)
+  last_at switch =
+      let vl = entry.row.vl in
+      let at = local_before s hs device in
+      let sooner = taken_sooner in
+      let same = filter_earlier (λ h. is_accepted device vl h.note.body) t hs sooner in
+      let last = last_by device vl at hs None None tt (λ h i link from of_vl of_cycle e.
+      (let bad : false ≡ true = sym switch ∙ delivered_at s hs h device link from of_vl of_cycle r.founded i e in
+      cc)) in
+      subst (λ l. IsLastBy device vl at (last_or None (filter (is_of vl) l))
+      (last_accepted hs device vl t)) (sym r.taken)
+      (subst (λ (l : List Happening). IsLastBy device
+      vl at (last_or None (filter (is_of vl) (frames_taken s hs device))) (last_or None l)) (sym same) last)
 
 -- two ids are one device's or not
 pub sender_or : (d e : DeviceId) → (d ≡ e) ⊎ (d ≡ e → ⊥)
 sender_or d e = grind (arith, cases_eq)
 
 -- what is at hand by the records the node has
-pub has_frame : (s : Scenario) (hs : List Happening) (device : DeviceId) (node : Node) (row : RowId) (entry : Entry) (cycle cause t : ℕ)
-    → IsReaching s hs device node row entry cycle t → OccursIn entry.vl cycle → HasAtHand s.network hs device entry t cause cycle
-    → HasFrame s.network device node row cycle
-has_frame s hs device node row entry cycle cause t r occurs (inl sender) =
+pub has_frame : {s : Scenario} {hs : List Happening} {device : DeviceId} {node : Node} {row : RowId} {entry : Entry}
+    {cycle cause t : ℕ} → IsReaching s hs device node row entry cycle t → OccursIn entry.vl cycle
+    → HasAtHand s.network hs device entry t cause cycle → HasFrame s.network device node row cycle
+has_frame {entry} r occurs (inl sender) =
     record { entry = entry; is = r.is; leaves = r.leaves; occurs = occurs; has = inl sender.0 }
-has_frame s hs device node row entry cycle cause t r occurs (inr took) =
+has_frame {s} {hs} {device} {node} {row} {entry} {cycle} {t} r occurs (inr took) =
     elim (sender_or entry.vl.sender device) [
       | inl sender ↦ record { entry = entry; is = r.is; leaves = r.leaves; occurs = occurs; has = inl sender }
       | inr other ↦
           let f : IsForwarded s.network device row.0 entry = record { is = r.is; leaves = r.leaves; other = other } in
-          let last = subst (λ (o : Option Happening). IsLastBy device entry.row.vl (local_before s hs device) (last_taken_frame node entry.row.vl) o)
-          took.1.last (last_at s hs device node row entry cycle t r f took.0) in
+          let last = subst (λ o. IsLastBy device entry.row.vl (local_before s hs device) (last_taken_frame node entry.row.vl) o)
+          took.1.last (last_at r f took.0) in
           record {
             entry = entry;
             is = r.is;
@@ -188,24 +193,26 @@ has_frame s hs device node row entry cycle cause t r occurs (inr took) =
           | inr i ↦ in_filter _ hs took.1.taken (in_filter _ (earlier t hs) took.1.taken i)
         ] in
         let at = accepted_at s hs took.1.taken device took.1.link took.1.from entry.row.vl cycle r.founded i took.1.is in
-        let below = below_value s.network device row.0 cycle entry (local_before s hs device (time_of took.1.taken)) r.range r.rules f at in (
+        let below = below_value {cycle = cycle} {z = local_before s hs device (time_of took.1.taken)} r.range r.rules
+        f at in (
           number,
-          subst (λ (z : ℤ). z <ℤ value_of s.network (dispatching row cycle)) (sym last.3)
-              (subst (λ (z : ℤ). local_before s hs device (time_of took.1.taken) <ℤ z) (sym (value_is s.network row entry cycle r.is)) below),
+          subst (λ z. z <ℤ value_of s.network (dispatching row cycle)) (sym last.3)
+              (subst (λ z. local_before s hs device (time_of took.1.taken) <ℤ z)
+              (sym (value_is row cycle r.is)) below),
         )
 
 -- and what the node has is at hand by them
-pub at_hand : (s : Scenario) (hs : List Happening) (device : DeviceId) (node : Node) (row : RowId) (cycle t : ℕ)
-    → (has : HasFrame s.network device node row cycle) → IsReaching s hs device node row has.entry cycle t
+pub at_hand : {s : Scenario} {hs : List Happening} {device : DeviceId} {node : Node} {row : RowId} {cycle t : ℕ}
+    (has : HasFrame s.network device node row cycle) → IsReaching s hs device node row has.entry cycle t
     → (cause : ℕ) × HasAtHand s.network hs device has.entry t cause cycle
-at_hand s hs device node row cycle t has r =
+at_hand {s} {hs} {device} {node} {row} {cycle} {t} has r =
     elim (sender_or has.entry.vl.sender device) [
       | inl sender ↦ (0, inl (sender, refl))
       | inr other ↦ elim has.has [
         | inl sender ↦ absurd (other sender)
         | inr took ↦
             let f : IsForwarded s.network device row.0 has.entry = record { is = r.is; leaves = r.leaves; other = other } in
-            let last = last_at s hs device node row has.entry cycle t r f took.0 in
+            let last = last_at r f took.0 in
             by took.0 (last_taken_frame node has.entry.row.vl) took.1.last (last_accepted hs device has.entry.row.vl t) refl last
       ]
     ]

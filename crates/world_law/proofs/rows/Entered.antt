@@ -75,115 +75,136 @@ none_passed false parent frame point = ((λ vl cycle e. cc), (λ vl cycle e. cc)
 none_dropped : (reason : Reason) → IsNone (arrivals.Dropped reason)
 none_dropped reason = ((λ vl cycle e. cc), (λ vl cycle e. cc))
 
-none_judged : (network : Network) (device : DeviceId) (link : LinkId) (at : Standpoint) (frame : Pcf) (fault : Option Reason)
-    → IsNone (frame_or_fault network device link at frame fault)
-none_judged network device link at frame (Some reason) = none_dropped reason
-none_judged network device link at frame None = none_passed (is_relay network device) (is_parent_of network device link) _ _
+module _ (network : Network) (device : DeviceId) (link : LinkId) where
+  none_judged : (at : Standpoint) (frame : Pcf) (fault : Option Reason)
+      → IsNone (frame_or_fault network device link at frame fault)
+  none_judged at frame (Some reason) = none_dropped reason
+  none_judged at frame None = none_passed (is_relay network device) (is_parent_of network device link) _ _
 
-none_control : (network : Network) (device : DeviceId) (link : LinkId) (at : Standpoint) (frame : Result Pcf PcfRefusal)
-    → IsNone (control_arrival network device link at frame)
-none_control network device link at (Err refusal) = none_dropped _
-none_control network device link at (Ok frame) = none_judged network device link at frame (frame_fault network device link at frame)
+  none_control : (at : Standpoint) (frame : Result Pcf PcfRefusal)
+      → IsNone (control_arrival network device link at frame)
+  none_control at (Err refusal) = none_dropped _
+  none_control at (Ok frame) = none_judged at frame (frame_fault network device link at frame)
 
--- ---- what is taken
+  -- ---- what is taken
 
-accepted_so : (network : Network) (device : DeviceId) (link : LinkId) (way : Way) (at : Standpoint) (octets : List ℕ) (last : VlId → Option ℕ) (vl : VlId)
-    (cycle : ℕ) → receiver_of network link way ≡ Some device → timed_arrival network device link at octets last ≡ arrivals.Accepted vl cycle
-    → IsTakenAt network device vl cycle (clock_of at)
-accepted_so network device link way at octets last vl cycle received takes = by (octets_fault network at octets) takes
-  where
-    by_row : (entry : Entry) → entry_entering network device link (field 4 2 octets) ≡ Some entry → (o : Option Reason)
-        → row_fault network at entry (length octets) (last entry.row.vl) ≡ o → taken_or_fault network device at entry o ≡ arrivals.Accepted vl cycle
-        → IsTakenAt network device vl cycle (clock_of at)
-    by_row entry found (Some reason) e t = absurd ((none_dropped reason).0 vl cycle t)
-    by_row entry found None e t =
-        let so = taken_apart (is_end network device) entry.row.vl vl (cycle_at network (clock_of at)) cycle t in
-        let it = entering network device link way (field 4 2 octets) entry received found in
-        let lies = in_window network at entry (length octets) (last entry.row.vl) e in
-        record {
-          place = it.place;
-          entry = entry;
-          is = it.is;
-          of_vl = so.0;
-          target = it.target;
-          begun = subst (λ (n : ℕ). 1 ≤ n) so.1 lies.0;
-          in_cycle = so.1;
-          in_time = lies.1;
-        }
+  accepted_so : (way : Way) (at : Standpoint) (octets : List ℕ) (last : VlId → Option ℕ) (vl : VlId) (cycle : ℕ)
+      → receiver_of network link way ≡ Some device → timed_arrival network device link at octets last
+      ≡ arrivals.Accepted vl cycle → IsTakenAt network device vl cycle (clock_of at)
+  accepted_so way at octets last vl cycle received takes = by (octets_fault network at octets) takes
+    where
+      by_row : (entry : Entry) → entry_entering network device link (field 4 2 octets) ≡ Some entry
+          → (o : Option Reason)
+          → row_fault network at entry (length octets) (last entry.row.vl) ≡ o → taken_or_fault network
+          device at entry o ≡ arrivals.Accepted vl cycle
+          → IsTakenAt network device vl cycle (clock_of at)
+      by_row entry found (Some reason) e t = absurd ((none_dropped reason).0 vl cycle t)
+      by_row entry found None e t =
+          let so = taken_apart (is_end network device) entry.row.vl vl (cycle_at network (clock_of at)) cycle t in
+          let it = entering network device link way (field 4 2 octets) entry received found in
+          let lies = in_window network at entry (length octets) (last entry.row.vl) e in
+          record {
+            place = it.place;
+            entry = entry;
+            is = it.is;
+            of_vl = so.0;
+            target = it.target;
+            begun = subst (λ n. 1 ≤ n) so.1 lies.0;
+            in_cycle = so.1;
+            in_time = lies.1;
+          }
 
-    by_entry : (o : Option Entry) → entry_entering network device link (field 4 2 octets) ≡ o
-        → entry_arrival network device at (length octets) last o ≡ arrivals.Accepted vl cycle → IsTakenAt network device vl cycle (clock_of at)
-    by_entry None found t = absurd ((none_dropped _).0 vl cycle t)
-    by_entry (Some entry) found t = by_row entry found (row_fault network at entry (length octets) (last entry.row.vl)) refl t
+      by_entry : (o : Option Entry) → entry_entering network device link (field 4 2 octets) ≡ o
+          → entry_arrival network device at (length octets) last o ≡ arrivals.Accepted vl cycle → IsTakenAt network
+          device vl cycle (clock_of at)
+      by_entry None found t = absurd ((none_dropped _).0 vl cycle t)
+      by_entry (Some entry) found t =
+          by_row entry found (row_fault network at entry (length octets) (last entry.row.vl)) refl t
 
-    by : (o : Option Reason) → octets_or_fault network device link at octets last o ≡ arrivals.Accepted vl cycle
-        → IsTakenAt network device vl cycle (clock_of at)
-    by (Some reason) t = absurd ((none_dropped reason).0 vl cycle t)
-    by None t = by_entry (entry_entering network device link (field 4 2 octets)) refl t
+      by : (o : Option Reason) → octets_or_fault network device link at octets last o ≡ arrivals.Accepted vl cycle
+          → IsTakenAt network device vl cycle (clock_of at)
+      by (Some reason) t = absurd ((none_dropped reason).0 vl cycle t)
+      by None t = by_entry (entry_entering network device link (field 4 2 octets)) refl t
 
-delivered_so : (network : Network) (device : DeviceId) (link : LinkId) (at : Standpoint) (octets : List ℕ) (last : VlId → Option ℕ) (vl : VlId) (cycle : ℕ)
-    → timed_arrival network device link at octets last ≡ arrivals.Delivered vl cycle → is_end network device ≡ true
-delivered_so network device link at octets last vl cycle takes = by (octets_fault network at octets) takes
-  where
-    by_row : (entry : Entry) (o : Option Reason) → taken_or_fault network device at entry o ≡ arrivals.Delivered vl cycle → is_end network device ≡ true
-    by_row entry (Some reason) t = absurd ((none_dropped reason).1 vl cycle t)
-    by_row entry None t = delivered_apart (is_end network device) entry.row.vl vl _ cycle t
+  delivered_so : (at : Standpoint) (octets : List ℕ) (last : VlId → Option ℕ) (vl : VlId) (cycle : ℕ)
+      → timed_arrival network device link at octets last ≡ arrivals.Delivered vl cycle → is_end network device ≡ true
+  delivered_so at octets last vl cycle takes = by (octets_fault network at octets) takes
+    where
+      by_row : (entry : Entry) (o : Option Reason) → taken_or_fault network device at entry o ≡ arrivals.Delivered vl
+          cycle → is_end network device ≡ true
+      by_row entry (Some reason) t = absurd ((none_dropped reason).1 vl cycle t)
+      by_row entry None t = delivered_apart (is_end network device) entry.row.vl vl _ cycle t
 
-    by_entry : (o : Option Entry) → entry_arrival network device at (length octets) last o ≡ arrivals.Delivered vl cycle → is_end network device ≡ true
-    by_entry None t = absurd ((none_dropped _).1 vl cycle t)
-    by_entry (Some entry) t = by_row entry (row_fault network at entry (length octets) (last entry.row.vl)) t
+      by_entry : (o : Option Entry) → entry_arrival network device at (length octets) last o ≡ arrivals.Delivered vl
+          cycle → is_end network device ≡ true
+      by_entry None t = absurd ((none_dropped _).1 vl cycle t)
+      by_entry (Some entry) t = by_row entry (row_fault network at entry (length octets) (last entry.row.vl)) t
 
-    by : (o : Option Reason) → octets_or_fault network device link at octets last o ≡ arrivals.Delivered vl cycle → is_end network device ≡ true
-    by (Some reason) t = absurd ((none_dropped reason).1 vl cycle t)
-    by None t = by_entry (entry_entering network device link (field 4 2 octets)) t
+      by : (o : Option Reason) → octets_or_fault network device link at octets last o ≡ arrivals.Delivered vl cycle
+          → is_end network device ≡ true
+      by (Some reason) t = absurd ((none_dropped reason).1 vl cycle t)
+      by None t = by_entry (entry_entering network device link (field 4 2 octets)) t
 
--- a frame that is delivered is of a virtual link of the network
-delivered_vl : (network : Network) (device : DeviceId) (link : LinkId) (way : Way) (at : Standpoint) (octets : List ℕ) (last : VlId → Option ℕ) (vl : VlId)
-    (cycle : ℕ) → receiver_of network link way ≡ Some device → timed_arrival network device link at octets last ≡ arrivals.Delivered vl cycle
-    → vl.0 < length network.vl
-delivered_vl network device link way at octets last vl cycle received takes = by (octets_fault network at octets) takes
-  where
-    own : (end : Bool) (mine : VlId) (number : ℕ)
-        → (if end then arrivals.Delivered mine number else arrivals.Accepted mine number) ≡ arrivals.Delivered vl cycle → mine ≡ vl
-    own true mine number e = cc
-    own false mine number e = absurd cc
+  -- a frame that is delivered is of a virtual link of the network
+  delivered_vl : (way : Way) (at : Standpoint) (octets : List ℕ) (last : VlId → Option ℕ) (vl : VlId) (cycle : ℕ)
+      → receiver_of network link way ≡ Some device → timed_arrival network device link at octets last
+      ≡ arrivals.Delivered vl cycle → vl.0 < length network.vl
+  delivered_vl way at octets last vl cycle received takes = by (octets_fault network at octets) takes
+    where
+      own : (end : Bool) (mine : VlId) (number : ℕ)
+          → (if end then arrivals.Delivered mine number else arrivals.Accepted mine number) ≡ arrivals.Delivered vl
+          cycle → mine ≡ vl
+      own true mine number e = cc
+      own false mine number e = absurd cc
 
-    by_row : (entry : Entry) → entry_entering network device link (field 4 2 octets) ≡ Some entry → (o : Option Reason)
-        → taken_or_fault network device at entry o ≡ arrivals.Delivered vl cycle → vl.0 < length network.vl
-    by_row entry found (Some reason) t = absurd ((none_dropped reason).1 vl cycle t)
-    by_row entry found None t =
-        let it = entering network device link way (field 4 2 octets) entry received found in
-        subst (λ (v : VlId). v.0 < length network.vl) (own (is_end network device) entry.row.vl _ t)
-        (slice_get_within network.vl entry.row.vl.0 entry.vl it.is.vl)
+      by_row : (entry : Entry) → entry_entering network device link (field 4 2 octets) ≡ Some entry
+          → (o : Option Reason)
+          → taken_or_fault network device at entry o ≡ arrivals.Delivered vl cycle → vl.0 < length network.vl
+      by_row entry found (Some reason) t = absurd ((none_dropped reason).1 vl cycle t)
+      by_row entry found None t =
+          let it = entering network device link way (field 4 2 octets) entry received found in
+          subst (λ (v : VlId). v.0 < length network.vl) (own (is_end network device) entry.row.vl _ t)
+          (slice_get_within network.vl entry.row.vl.0 entry.vl it.is.vl)
 
-    by_entry : (o : Option Entry) → entry_entering network device link (field 4 2 octets) ≡ o
-        → entry_arrival network device at (length octets) last o ≡ arrivals.Delivered vl cycle → vl.0 < length network.vl
-    by_entry None found t = absurd ((none_dropped _).1 vl cycle t)
-    by_entry (Some entry) found t = by_row entry found (row_fault network at entry (length octets) (last entry.row.vl)) t
+      by_entry : (o : Option Entry) → entry_entering network device link (field 4 2 octets) ≡ o
+          → entry_arrival network device at (length octets) last o ≡ arrivals.Delivered vl cycle → vl.0 < length
+          network.vl
+      by_entry None found t = absurd ((none_dropped _).1 vl cycle t)
+      by_entry (Some entry) found t =
+          by_row entry found (row_fault network at entry (length octets) (last entry.row.vl)) t
 
-    by : (o : Option Reason) → octets_or_fault network device link at octets last o ≡ arrivals.Delivered vl cycle → vl.0 < length network.vl
-    by (Some reason) t = absurd ((none_dropped reason).1 vl cycle t)
-    by None t = by_entry (entry_entering network device link (field 4 2 octets)) refl t
+      by : (o : Option Reason) → octets_or_fault network device link at octets last o ≡ arrivals.Delivered vl cycle
+          → vl.0 < length network.vl
+      by (Some reason) t = absurd ((none_dropped reason).1 vl cycle t)
+      by None t = by_entry (entry_entering network device link (field 4 2 octets)) refl t
 
--- a switch that accepts a frame found so
-pub taken_at : (s : Scenario) (front : List Happening) (device : DeviceId) (t : ℕ) (link : LinkId) (cause : ℕ) (vl : VlId) (cycle : ℕ)
-    → ArrivesAs s front device t link cause (arrivals.Accepted vl cycle) → IsTakenAt s.network device vl cycle (local_before s front device t)
-taken_at s front device t link cause vl cycle a = by a.signal a.arrives.receiver a.becomes
-  where
-    by : (signal : Signal) → receiver_of s.network link a.arrives.way ≡ Some device → arrivals.Accepted vl cycle ≡ arrival_of s front device t link cause signal
-        → IsTakenAt s.network device vl cycle (local_before s front device t)
-    by (control frame) received e = absurd ((none_control s.network device link (standpoint s front device t) frame).0 vl cycle (sym e))
-    by (timed octets) received e =
-        accepted_so s.network device link a.arrives.way (standpoint s front device t) octets (last_taken front device t link cause) vl cycle received (sym e)
+module _ (s : Scenario) (front : List Happening) (device : DeviceId) (t : ℕ) (link : LinkId) (cause : ℕ) (vl : VlId)
+    (cycle : ℕ) where
+  -- a switch that accepts a frame found so
+  pub taken_at : ArrivesAs s front device t link cause (arrivals.Accepted vl cycle)
+      → IsTakenAt s.network device vl cycle (local_before s front device t)
+  taken_at a = by a.signal a.arrives.receiver a.becomes
+    where
+      by : (signal : Signal) → receiver_of s.network link a.arrives.way ≡ Some device → arrivals.Accepted vl cycle
+          ≡ arrival_of s front device t link cause signal
+          → IsTakenAt s.network device vl cycle (local_before s front device t)
+      by (control frame) received e =
+          absurd ((none_control s.network device link (standpoint s front device t) frame).0 vl cycle (sym e))
+      by (timed octets) received e =
+          accepted_so s.network device link a.arrives.way (standpoint s front device t) octets
+          (last_taken front device t link cause) vl cycle received (sym e)
 
--- and what is delivered is so to an end system
-pub delivered_end : (s : Scenario) (front : List Happening) (device : DeviceId) (t : ℕ) (link : LinkId) (cause : ℕ) (vl : VlId) (cycle : ℕ)
-    → ArrivesAs s front device t link cause (arrivals.Delivered vl cycle) → is_end s.network device ≡ true
-delivered_end s front device t link cause vl cycle a = by a.signal a.becomes
-  where
-    by : (signal : Signal) → arrivals.Delivered vl cycle ≡ arrival_of s front device t link cause signal → is_end s.network device ≡ true
-    by (control frame) e = absurd ((none_control s.network device link (standpoint s front device t) frame).1 vl cycle (sym e))
-    by (timed octets) e = delivered_so s.network device link (standpoint s front device t) octets (last_taken front device t link cause) vl cycle (sym e)
+  -- and what is delivered is so to an end system
+  pub delivered_end : ArrivesAs s front device t link cause (arrivals.Delivered vl cycle)
+      → is_end s.network device ≡ true
+  delivered_end a = by a.signal a.becomes
+    where
+      by : (signal : Signal) → arrivals.Delivered vl cycle ≡ arrival_of s front device t link cause signal → is_end
+          s.network device ≡ true
+      by (control frame) e =
+          absurd ((none_control s.network device link (standpoint s front device t) frame).1 vl cycle (sym e))
+      by (timed octets) e = delivered_so s.network device link (standpoint s front device t) octets
+          (last_taken front device t link cause) vl cycle (sym e)
 
 -- ---- the value that the clock showed
 
@@ -192,8 +213,8 @@ pub value_in : (z : ℤ) (size cycle : ℕ) → 1 ≤ size → 1 ≤ cycle → n
     × (z ≡ pos (cycle * size + place)) × (int_rem_euclid z (pos size) ≡ pos place)
 value_in (pos a) size cycle some begun e =
     let parts = div-add-mod a size in
-    let turned : size * (a / size) ≡ cycle * size = ap (λ (n : ℕ). size * n) e ∙ omega arith in
-    (a % size, mod-lt a {m = size} some, ap (λ (n : ℕ). pos n) (omega (arith, parts, turned)), refl)
+    let turned : size * (a / size) ≡ cycle * size = ap (λ n. size * n) e ∙ omega arith in
+    (a % size, mod-lt a {m = size} some, ap (λ n. pos n) (omega (arith, parts, turned)), refl)
 value_in (negsuc a) size cycle some begun e = absurd (let none : 0 ≡ cycle = e in omega (arith, none, begun))
 
 -- the virtual link of a frame that is delivered is the network's

@@ -35,46 +35,48 @@ same_way network link l m Down Up device rules a b c d =
 
 -- ---- one row at an instant
 
-fine : (reading : ℕ → ℕ) (precision : ℕ) → IsSteady reading precision → IsSteady reading (2 ^ 22)
-fine reading precision steady =
+fine : {reading : ℕ → ℕ} {precision : ℕ} → IsSteady reading precision → IsSteady reading (2 ^ 22)
+fine steady =
     record { never_falls = steady.never_falls; no_jump = steady.no_leap; no_leap = steady.no_leap; low = steady.low }
 
 -- values that a clock shows at once, in two cycles, are not those of rows
-one_cycle : (size a b x y p : ℕ) (z : ℤ) → x + 4 * p ≤ size → 1 ≤ p → ShowsAt z (pos (a * size + x)) p → ShowsAt z (pos (b * size + y)) p → a < b → ⊥
-one_cycle size a b x y p z ends some first second lt = grind (arith, cycles_apart, ints)
+one_cycle : (size a b x y : ℕ) {p : ℕ} {z : ℤ} → x + 4 * p ≤ size → 1 ≤ p → ShowsAt z (pos (a * size + x)) p
+    → ShowsAt z (pos (b * size + y)) p → a < b → ⊥
+one_cycle size a b x y ends some first second lt = grind (arith, cycles_apart, ints)
 
-close : (size a x y : ℕ) (z : ℤ) → ShowsAt z (pos (a * size + x)) (2 ^ 22) → ShowsAt z (pos (a * size + y)) (2 ^ 22) → y < x + 2 ^ 22
-close size a x y z first second = grind (arith, ints)
+close : (size a x y : ℕ) {z : ℤ} → ShowsAt z (pos (a * size + x)) (2 ^ 22) → ShowsAt z (pos (a * size + y)) (2 ^ 22)
+    → y < x + 2 ^ 22
+close size a x y first second = grind (arith, ints)
 
-pub one_row : (s : Scenario) (js : List Happening) (device : DeviceId) (t : ℕ) (link other : LinkId) (cause from : ℕ) (vl with : VlId) (cycle number : ℕ)
-    → IsLawful s js device → link ≡ other → (d : Dispatches s js device t link cause vl cycle) → (e : Dispatches s js device t other from with number)
+pub one_row : {s : Scenario} {js : List Happening} {device : DeviceId} {t : ℕ} {link : LinkId} (other : LinkId)
+    {cause : ℕ} (from : ℕ) {vl : VlId} (with : VlId) {cycle : ℕ} (number : ℕ) → IsLawful s js device → link ≡ other
+    → (d : Dispatches s js device t link cause vl cycle) (e : Dispatches s js device t other from with number)
     → (d.place ≡ e.place) × (cycle ≡ number)
-one_row s js device t link other cause from vl with cycle number law same d e =
+one_row {s} {js} {device} {t} other from with {cycle} number law same d e =
     let n = s.network in
     let size = amount n.cycle in
     let p = amount n.precision in
     let z = local_before s js device t in
-    let some = precise n law.range in
+    let some = precise law.range in
     let x = amount d.entry.row.offset in
     let y = amount e.entry.row.offset in
-    let first = shows_at s js device (pos (cycle * size + x)) t p law.steady d.reached in
-    let second = shows_at s js device (pos (number * size + y)) t p law.steady e.reached in
+    let first = shows_at law.steady d.reached in
+    let second = shows_at law.steady e.reached in
     let cycles : cycle ≡ number = elim (cases_lt cycle number) [
-      | inl lt ↦ absurd (one_cycle size cycle number x y p z (row_apart n d.place d.entry law.rules d.row).ends some first second lt)
+      | inl lt ↦ absurd (one_cycle size cycle number x y (row_apart law.rules d.row).ends some first second lt)
       | inr ge ↦ elim (cases_lt number cycle) [
-        | inl gt ↦ absurd (one_cycle size number cycle y x p z (row_apart n e.place e.entry law.rules e.row).ends some second first gt)
+        | inl gt ↦ absurd (one_cycle size number cycle y x (row_apart law.rules e.row).ends some second first gt)
         | inr le ↦ omega (arith, ge, le)
       ]
     ] in
-    let near = fine (s.reading device) p law.steady in
-    let one = shows_at s js device (pos (cycle * size + x)) t (2 ^ 22) near d.reached in
-    let two = subst (λ (k : ℕ). ShowsAt z (pos (k * size + y)) (2 ^ 22)) (sym cycles)
-    (shows_at s js device (pos (number * size + y)) t (2 ^ 22) near e.reached) in
-    let less = close size cycle x y z one two in
-    let more = close size cycle y x z two one in
+    let near = fine law.steady in
+    let one = shows_at near d.reached in
+    let two = subst (λ k. ShowsAt z (pos (k * size + y)) (2 ^ 22)) (sym cycles) (shows_at near e.reached) in
+    let less = close size cycle x y one two in
+    let more = close size cycle y x two one in
     let links : d.entry.row.link ≡ e.entry.row.link = d.by ∙ same ∙ sym e.by in
     let ways : d.entry.row.way ≡ e.entry.row.way = same_way n e.entry.row.link d.entry.link e.entry.link d.entry.row.way e.entry.row.way device law.rules
-    (subst (λ (l : LinkId). link_at n l ≡ Some d.entry.link) links d.row.link) e.row.link d.leaves e.leaves in
+    (subst (λ l. link_at n l ≡ Some d.entry.link) links d.row.link) e.row.link d.leaves e.leaves in
     let occurs = subst (λ (k : ℕ). Rattle.schedule_tables.specs.Windows.OccursIn e.entry.vl k) (sym cycles) e.occurs in
     let a = (law.rules Periods d.entry.row.vl.0 d.entry.vl d.row.vl).0 in
     let b = (law.rules Periods e.entry.row.vl.0 e.entry.vl e.row.vl).0 in (
@@ -103,29 +105,32 @@ some_end None x = absurd x
 some_end (Some d) x = x
 
 -- what a device has at hand of a row's frame has one cause
-pub one_hand : (network : Network) (js : List Happening) (device : DeviceId) (place : ℕ) (entry : Entry) (t cause from cycle : ℕ) → KeepsRules network
-    → IsEntry network place entry → HasAtHand network js device entry t cause cycle → HasAtHand network js device entry t from cycle → cause ≡ from
-one_hand network js device place entry t cause from cycle rules is (inl a) (inl b) = a.1 ∙ sym b.1
-one_hand network js device place entry t cause from cycle rules is (inl a) (inr b) =
-    absurd (both_ways (is_end network device) b.0 (subst (λ (d : DeviceId). is_end network d ≡ true) a.0
+pub one_hand : {network : Network} {js : List Happening} {device : DeviceId} {place : ℕ} {entry : Entry}
+    {t cause from cycle : ℕ} → KeepsRules network → IsEntry network place entry
+    → HasAtHand network js device entry t cause cycle → HasAtHand network js device entry t from cycle → cause ≡ from
+one_hand rules is (inl a) (inl b) = a.1 ∙ sym b.1
+one_hand {network} {device} {entry} rules is (inl a) (inr b) =
+    absurd (both_ways (is_end network device) b.0 (subst (λ d. is_end network d ≡ true) a.0
     (some_end (device_at network entry.vl.sender) (rules Senders entry.row.vl.0 entry.vl is.vl))))
-one_hand network js device place entry t cause from cycle rules is (inr a) (inl b) =
-    absurd (both_ways (is_end network device) a.0 (subst (λ (d : DeviceId). is_end network d ≡ true) b.0
+one_hand {network} {device} {entry} rules is (inr a) (inl b) =
+    absurd (both_ways (is_end network device) a.0 (subst (λ d. is_end network d ≡ true) b.0
     (some_end (device_at network entry.vl.sender) (rules Senders entry.row.vl.0 entry.vl is.vl))))
-one_hand network js device place entry t cause from cycle rules is (inr a) (inr b) = grind arith
+one_hand rules is (inr a) (inr b) = grind arith
 
 -- one row of one cycle is told alike
-pub told_alike : (s : Scenario) (js : List Happening) (device : DeviceId) (t : ℕ) (link other : LinkId) (cause from : ℕ) (vl with : VlId) (cycle number : ℕ)
-    → KeepsRules s.network → (d : Dispatches s js device t link cause vl cycle) → (e : Dispatches s js device t other from with number)
-    → d.place ≡ e.place → cycle ≡ number → dispatch_body s device t link cause vl cycle ≡ dispatch_body s device t other from with number
-told_alike s js device t link other cause from vl with cycle number rules d e place cycles =
-    let entries : d.entry ≡ e.entry = one_entry s.network e.place d.entry e.entry (subst (λ (k : ℕ). IsEntry s.network k d.entry) place d.row) e.row in
+pub told_alike : {s : Scenario} {js : List Happening} {device : DeviceId} {t : ℕ} {link : LinkId} (other : LinkId)
+    {cause : ℕ} (from : ℕ) {vl : VlId} (with : VlId) {cycle : ℕ} (number : ℕ) → KeepsRules s.network
+    → (d : Dispatches s js device t link cause vl cycle) (e : Dispatches s js device t other from with number)
+    → d.place ≡ e.place → cycle ≡ number → dispatch_body s device t link cause vl cycle
+    ≡ dispatch_body s device t other from with number
+told_alike {s} {js} {device} {t} {link} other {cause} from {vl} with {cycle} number rules d e place cycles =
+    let entries : d.entry ≡ e.entry = one_entry s.network e.place d.entry e.entry (subst (λ k. IsEntry s.network k d.entry) place d.row) e.row in
     let links : link ≡ other = sym d.by ∙ ap (λ (x : Entry). x.row.link) entries ∙ e.by in
     let vls : vl ≡ with = sym d.of_vl ∙ ap (λ (x : Entry). x.row.vl) entries ∙ e.of_vl in
-    let hand : HasAtHand s.network js device e.entry t cause number = subst (λ (x : Entry). HasAtHand s.network js device x t cause number) entries
-    (subst (λ (k : ℕ). HasAtHand s.network js device d.entry t cause k) cycles d.at_hand) in
-    let causes : cause ≡ from = one_hand s.network js device e.place e.entry t cause from number rules e.row hand e.at_hand in
-    ap (λ (l : LinkId). dispatch_body s device t l cause vl cycle) links
-    ∙ ap (λ (c : ℕ). dispatch_body s device t other c vl cycle) causes
-    ∙ ap (λ (v : VlId). dispatch_body s device t other from v cycle) vls
-    ∙ ap (λ (k : ℕ). dispatch_body s device t other from with k) cycles
+    let hand : HasAtHand s.network js device e.entry t cause number = subst (λ x. HasAtHand s.network js device x t cause number) entries
+    (subst (λ k. HasAtHand s.network js device d.entry t cause k) cycles d.at_hand) in
+    let causes : cause ≡ from = one_hand rules e.row hand e.at_hand in
+    ap (λ l. dispatch_body s device t l cause vl cycle) links
+    ∙ ap (λ c. dispatch_body s device t other c vl cycle) causes
+    ∙ ap (λ v. dispatch_body s device t other from v cycle) vls
+    ∙ ap (λ k. dispatch_body s device t other from with k) cycles

@@ -20,9 +20,10 @@ shown_so : (v a : ℤ) (r q precision : ℕ) → (v -ℤ a) ≤ℤ pos r → pos
 shown_so v a r q precision reached before jump = record { least = omega (arith, ints, reached); most = omega (arith, ints, before, jump) }
 
 -- so it does where its clock reaches the value
-pub shows_at : (s : Scenario) (hs : List Happening) (device : DeviceId) (v : ℤ) (t precision : ℕ) → IsSteady (s.reading device) precision
-    → Reaches s hs device v t → ShowsAt (local_before s hs device t) v precision
-shows_at s hs device v t precision steady r =
+pub shows_at : {s : Scenario} {hs : List Happening} {device : DeviceId} {v : ℤ} {t precision : ℕ}
+    → IsSteady (s.reading device) precision → Reaches s hs device v t
+    → ShowsAt (local_before s hs device t) v precision
+shows_at {s} {hs} {device} {v} {t} {precision} steady r =
     let c = changed_at hs device t in
     let a = (adjustment_before s hs device t).0 in
     let from = r.reach.from_on in
@@ -42,39 +43,42 @@ shows_at s hs device v t precision steady r =
 -- ---- the records of takings
 
 -- the adjustment before the time of a record, by the records before it
-same_clock : (s : Scenario) (hs : List Happening) (h : Happening) (device : DeviceId) → AreFoundedAs s hs → (at : IsFoundedAs s hs h)
-    → local_before s at.front device (time_of h) ≡ local_before s hs device (time_of h)
-same_clock s hs h device founded at =
+same_clock : {s : Scenario} {hs : List Happening} {h : Happening} (device : DeviceId) → AreFoundedAs s hs
+    → (at : IsFoundedAs s hs h) → local_before s at.front device (time_of h) ≡ local_before s hs device (time_of h)
+same_clock {s} {hs} {h} device founded at =
     let later : (g : Happening) → IsIn g (h ∷ at.rest) → time_of h ≤ time_of g = λ g i. elim i [
       | inl e ↦ let same : time_of g ≡ time_of h = ap time_of e in omega (arith, same)
       | inr more ↦ in_order hs (λ front rest x e. (founded front rest x e).0) at.front at.rest h at.whole g more
     ] in
-    ap (λ (l : List Happening). pos (s.reading device (time_of h)) +ℤ (adjustment_after s l device).0)
+    ap (λ l. pos (s.reading device (time_of h)) +ℤ (adjustment_after s l device).0)
     (sym (earlier_still (time_of h) at.front (h ∷ at.rest) later) ∙ ap (earlier (time_of h)) (sym at.whole))
 
--- a frame that was accepted came in the window of a row that enters the device
-pub accepted_at : (s : Scenario) (hs : List Happening) (h : Happening) (device : DeviceId) (link : _) (cause : ℕ) (vl : VlId) (cycle : ℕ)
-    → AreFoundedAs s hs → IsIn h hs → h.note.body ≡ notes.Accepted device link cause vl cycle
-    → IsTakenAt s.network device vl cycle (local_before s hs device (time_of h))
-accepted_at s hs h device link cause vl cycle founded i body =
-    let at = founded_as s hs h founded i in
-    let caused : IsCaused s at.front h.note.time (notes.Accepted device link cause vl cycle) = subst (IsCaused s at.front h.note.time) body at.due.cause in
-    subst (λ (z : ℤ). IsTakenAt s.network device vl cycle z) (same_clock s hs h device founded at)
-    (taken_at s at.front device (time_of h) link cause vl cycle caused)
+module _ (s : Scenario) (hs : List Happening) (h : Happening) (device : DeviceId) (link : _) (cause : ℕ) (vl : VlId)
+    (cycle : ℕ) (founded : AreFoundedAs s hs) (i : IsIn h hs) where
+  -- a frame that was accepted came in the window of a row that enters the device
+  pub accepted_at : h.note.body ≡ notes.Accepted device link cause vl cycle
+      → IsTakenAt s.network device vl cycle (local_before s hs device (time_of h))
+  accepted_at body =
+      let at = founded_as s hs h founded i in
+      let caused : IsCaused s at.front h.note.time (notes.Accepted device link cause vl cycle) =
+      subst (IsCaused s at.front h.note.time) body at.due.cause in
+      subst (λ z. IsTakenAt s.network device vl cycle z) (same_clock {s = s} {hs = hs} {h = h} device founded at)
+      (taken_at s at.front device (time_of h) link cause vl cycle caused)
 
--- and one that was delivered came to an end system
-pub delivered_at : (s : Scenario) (hs : List Happening) (h : Happening) (device : DeviceId) (link : _) (cause : ℕ) (vl : VlId) (cycle : ℕ)
-    → AreFoundedAs s hs → IsIn h hs → h.note.body ≡ notes.Delivered device link cause vl cycle → is_end s.network device ≡ true
-delivered_at s hs h device link cause vl cycle founded i body =
-    let at = founded_as s hs h founded i in
-    let caused : IsCaused s at.front h.note.time (notes.Delivered device link cause vl cycle) = subst (IsCaused s at.front h.note.time) body at.due.cause in
-    delivered_end s at.front device (time_of h) link cause vl cycle caused
+  -- and one that was delivered came to an end system
+  pub delivered_at : h.note.body ≡ notes.Delivered device link cause vl cycle → is_end s.network device ≡ true
+  delivered_at body =
+      let at = founded_as s hs h founded i in
+      let caused : IsCaused s at.front h.note.time (notes.Delivered device link cause vl cycle) =
+      subst (IsCaused s at.front h.note.time) body at.due.cause in
+      delivered_end s at.front device (time_of h) link cause vl cycle caused
 
 -- ---- cycles
 
 -- a cycle of a network is not empty
-pub cycle_is : (network : Network) → IsInRange network → (network.cycle.0 ≡ pos (amount network.cycle)) × (1 ≤ amount network.cycle)
-cycle_is network range = grind (arith, amount, not_negative, ints)
+pub cycle_is : {network : Network} → IsInRange network
+    → (network.cycle.0 ≡ pos (amount network.cycle)) × (1 ≤ amount network.cycle)
+cycle_is range = grind (arith, amount, not_negative, ints)
 
 -- what a taking says of the clock
 pub record IsShownAt (network : Network) (entry : Entry) (cycle : ℕ) (z : ℤ) : Type 0 where
@@ -84,10 +88,10 @@ pub record IsShownAt (network : Network) (entry : Entry) (cycle : ℕ) (z : ℤ)
   pub in_time : place ≤ window_end network entry
 
 -- so a taking does
-pub shown_at : (network : Network) (device : DeviceId) (vl : VlId) (cycle : ℕ) (z : ℤ) → IsInRange network → (it : IsTakenAt network device vl cycle z)
-    → IsShownAt network it.entry cycle z
-shown_at network device vl cycle z range it =
-    let sized = cycle_is network range in
+pub shown_at : {network : Network} {device : DeviceId} {vl : VlId} {cycle : ℕ} {z : ℤ} → IsInRange network
+    → (it : IsTakenAt network device vl cycle z) → IsShownAt network it.entry cycle z
+shown_at {network} {cycle} {z} range it =
+    let sized = cycle_is range in
     let number : natural (int_div_euclid z (pos (amount network.cycle))) ≡ cycle = ap (λ (y : ℤ). natural (int_div_euclid z y)) (sym sized.0) ∙ it.in_cycle in
     let v = value_in z (amount network.cycle) cycle sized.1 it.begun number in
     let place : offset_in_cycle network z ≡ pos v.0 = ap (int_rem_euclid z) sized.0 ∙ v.3 in
@@ -107,33 +111,38 @@ pub record IsForwarded (network : Network) (device : DeviceId) (place : ℕ) (en
   pub other : entry.vl.sender ≡ device → ⊥
 
 -- what was taken in the cycle was taken below the row's value in the cycle
-pub below_value : (network : Network) (device : DeviceId) (place cycle : ℕ) (entry : Entry) (z : ℤ) → IsInRange network → KeepsRules network
-    → IsForwarded network device place entry → IsTakenAt network device entry.row.vl cycle z → z <ℤ pos (cycle * amount network.cycle + amount entry.row.offset)
-below_value network device place cycle entry z range rules f it =
-    let shown = shown_at network device entry.row.vl cycle z range it in
+pub below_value : {network : Network} {device : DeviceId} {place cycle : ℕ} {entry : Entry} {z : ℤ}
+    → IsInRange network → KeepsRules network → IsForwarded network device place entry
+    → IsTakenAt network device entry.row.vl cycle z → z <ℤ pos
+    (cycle * amount network.cycle + amount entry.row.offset)
+below_value {place} {entry} range rules f it =
+    let shown = shown_at range it in
     let behind = (rules Forwarding place).from_switch it.place it.entry entry it.is f.is (sym it.of_vl) (λ e. f.other (sym e ∙ f.leaves))
     (it.target ∙ sym f.leaves) in
     omega (arith, ints, shown.shows, shown.in_time, behind)
 
 -- a row's window ends in the cycle, with room for the precision
-pub row_ends : (network : Network) (place : ℕ) (entry : Entry) → KeepsRules network → IsEntry network place entry
+pub row_ends : {network : Network} {place : ℕ} {entry : Entry} → KeepsRules network → IsEntry network place entry
     → amount entry.row.offset + 4 * amount network.precision ≤ amount network.cycle
-row_ends network place entry rules is = let ends = rules WindowEnds place entry is in omega (arith, ends)
+row_ends {place} {entry} rules is = let ends = rules WindowEnds place entry is in omega (arith, ends)
 
 -- where the clock reaches the row's value in a cycle, it takes no frame of the virtual link
-pub none_at_value : (s : Scenario) (hs : List Happening) (device : DeviceId) (place cycle t : ℕ) (entry : Entry) → IsInRange s.network → KeepsRules s.network
-    → IsSteady (s.reading device) (amount s.network.precision) → AreFoundedAs s hs → IsForwarded s.network device place entry
-    → Reaches s hs device (pos (cycle * amount s.network.cycle + amount entry.row.offset)) t
-    → (h : Happening) (link : _) (cause of_cycle : ℕ) → IsIn h hs → time_of h ≡ t → h.note.body ≡ notes.Accepted device link cause entry.row.vl of_cycle → ⊥
-none_at_value s hs device place cycle t entry range rules steady founded f r h link cause of_cycle i at body =
+pub none_at_value : {s : Scenario} {hs : List Happening} {device : DeviceId} {place : ℕ} (cycle : ℕ) {t : ℕ}
+    {entry : Entry} → IsInRange s.network → KeepsRules s.network
+    → IsSteady (s.reading device) (amount s.network.precision) → AreFoundedAs s hs
+    → IsForwarded s.network device place entry → Reaches s hs device
+    (pos (cycle * amount s.network.cycle + amount entry.row.offset)) t
+    → (h : Happening) (link : _) (cause of_cycle : ℕ) → IsIn h hs → time_of h ≡ t
+    → h.note.body ≡ notes.Accepted device link cause entry.row.vl of_cycle → ⊥
+none_at_value {s} {hs} {device} cycle {t} {entry} range rules steady founded f r h link cause of_cycle i at body =
     let n = s.network in
     let z = local_before s hs device t in
-    let it : IsTakenAt n device entry.row.vl of_cycle z = subst (λ (u : ℕ). IsTakenAt n device entry.row.vl of_cycle (local_before s hs device u)) at
+    let it : IsTakenAt n device entry.row.vl of_cycle z = subst (λ u. IsTakenAt n device entry.row.vl of_cycle (local_before s hs device u)) at
     (accepted_at s hs h device link cause entry.row.vl of_cycle founded i body) in
-    let shown = shown_at n device entry.row.vl of_cycle z range it in
-    let shows = shows_at s hs device (pos (cycle * amount n.cycle + amount entry.row.offset)) t (amount n.precision) steady r in
-    let ends = row_ends n place entry rules f.is in
-    let sized = cycle_is n range in
+    let shown = shown_at range it in
+    let shows = shows_at steady r in
+    let ends = row_ends rules f.is in
+    let sized = cycle_is range in
     let off = shown.place + of_cycle * amount n.cycle - cycle * amount n.cycle in
     let least : cycle * amount n.cycle + amount entry.row.offset ≤ of_cycle * amount n.cycle + shown.place = omega
     (arith, ints, shows.least, shown.shows) in
@@ -141,7 +150,7 @@ none_at_value s hs device place cycle t entry range rules steady founded f r h l
     (arith, ints, shows.most, shown.shows) in
     let same : of_cycle ≡ cycle = same_heads of_cycle cycle (amount n.cycle) shown.place off shown.less (omega (arith, least, most, ends, sized.1)) (omega
     (arith, least)) in
-    let low = below_value n device place of_cycle entry z range rules f it in
-    let moved : z <ℤ pos (cycle * amount n.cycle + amount entry.row.offset) = subst (λ (c : ℕ). z <ℤ pos (c * amount n.cycle + amount entry.row.offset)) same
+    let low = below_value range rules f it in
+    let moved : z <ℤ pos (cycle * amount n.cycle + amount entry.row.offset) = subst (λ c. z <ℤ pos (c * amount n.cycle + amount entry.row.offset)) same
     low in
     omega (arith, ints, shows.least, moved)

@@ -21,7 +21,7 @@ pub taken_same : (device : DeviceId) (at other : ℕ → ℤ) (hs : List Happeni
     → taken_by device at hs ≡ taken_by device other hs
 taken_same device at other [] same = refl
 taken_same device at other (h ∷ hs) same =
-    ap (λ (z : ℤ). taken_in device z h.note.body ++ taken_by device at hs) (same h (inl refl))
+    ap (λ z. taken_in device z h.note.body ++ taken_by device at hs) (same h (inl refl))
     ∙ ap (λ (l : List TakenFrame). taken_in device (other (time_of h)) h.note.body ++ l) (taken_same device at other hs (λ g i. same g (inr i)))
 
 -- records by which it takes none
@@ -40,7 +40,7 @@ taken_plain device at (h ∷ hs) = ap (λ (l : List TakenFrame). taken_in device
 local_plain : (s : Scenario) (hs : List Happening) (device : DeviceId) (t : ℕ) → local_before s (plains hs) device t ≡ local_before s hs device t
 local_plain s hs device t =
     ap (λ (u : Units). pos (s.reading device t) +ℤ u.0)
-    (ap (λ (l : List Happening). adjustment_after s l device) (earlier_plain t hs) ∙ adjustments_plain s (earlier t hs) device)
+    (ap (λ l. adjustment_after s l device) (earlier_plain t hs) ∙ adjustments_plain s (earlier t hs) device)
 
 -- the frames that the device took, by the records without numbers
 pub frames_plain : (s : Scenario) (hs : List Happening) (device : DeviceId) → frames_taken s (plains hs) device ≡ frames_taken s hs device
@@ -50,7 +50,7 @@ frames_plain s hs device =
 
 -- so records that differ in these alone say the same
 pub frames_by_others : (s : Scenario) (hs gs : List Happening) (device : DeviceId) → plains hs ≡ plains gs → frames_taken s hs device ≡ frames_taken s gs device
-frames_by_others s hs gs device same = sym (frames_plain s hs device) ∙ ap (λ (l : List Happening). frames_taken s l device) same ∙ frames_plain s gs device
+frames_by_others s hs gs device same = sym (frames_plain s hs device) ∙ ap (λ l. frames_taken s l device) same ∙ frames_plain s gs device
 
 -- ---- one more record
 
@@ -58,7 +58,7 @@ frames_by_others s hs gs device same = sym (frames_plain s hs device) ∙ ap (λ
 before_put : (s : Scenario) (ps bs : List Happening) (w : Happening) (device : DeviceId) (t : ℕ) → t ≤ time_of w
     → adjustment_before s (ps ++ w ∷ bs) device t ≡ adjustment_before s (ps ++ bs) device t
 before_put s ps bs w device t le =
-    ap (λ (l : List Happening). adjustment_after s l device) (drop_one (λ h. nat_lt (time_of h) t) ps bs w (le-ltb (time_of w) t le))
+    ap (λ l. adjustment_after s l device) (drop_one (λ h. nat_lt (time_of h) t) ps bs w (le-ltb (time_of w) t le))
 
 -- what the device takes by a record that leaves its adjustment as it was before the time of each other
 frames_among : (s : Scenario) (ps bs : List Happening) (w : Happening) (device : DeviceId)
@@ -76,7 +76,7 @@ frames_among s ps bs w device same sooner =
     ∙ ap (λ (l : List TakenFrame). l ++ taken_by device new (w ∷ bs)) (taken_same device new old ps (λ h i. shows (time_of h) (sooner h (in_front h i))))
     ∙ ap (λ (l : List TakenFrame). taken_by device old ps ++ (taken_in device (new (time_of w)) w.note.body ++ l))
     (taken_same device new old bs (λ h i. shows (time_of h) (sooner h (in_back h i))))
-    ∙ ap (λ (z : ℤ). taken_by device old ps ++ (taken_in device z w.note.body ++ taken_by device old bs)) (shows (time_of w) (omega arith))
+    ∙ ap (λ z. taken_by device old ps ++ (taken_in device z w.note.body ++ taken_by device old bs)) (shows (time_of w) (omega arith))
   where
     front_in : (h : Happening) (xs ys : List Happening) → IsIn h xs → IsIn h (xs ++ ys)
     front_in h [] ys i = absurd i
@@ -112,7 +112,7 @@ pub frames_end : (s : Scenario) (hs : List Happening) (w : Happening) (device : 
     → ((h : Happening) → IsIn h hs → time_of h ≤ time_of w) → frames_taken s (hs ++ w ∷ []) device ≡ frames_taken s hs device
 frames_end s hs w device none sooner =
     frames_put s hs [] w device none (λ h i. elim (in_parts h hs [] i) [ inl front ↦ sooner h front | inr back ↦ absurd back ])
-    ∙ ap (λ (l : List Happening). frames_taken s l device) (append-nil hs)
+    ∙ ap (λ l. frames_taken s l device) (append-nil hs)
 
 -- ---- a record that bears on nothing, put in with those behind it renumbered
 

@@ -4,7 +4,7 @@ use Rattle.world_law.proofs.Words.{◌++◌, ◌+◌, ◌∷◌, ◌≡◌, ◌�
 use Rattle.world_law.proofs.Words.{chain, in_front, inl, inr, length, numbered, subst, suc, sym, time_of, way_from, zero, ℕ}
 
 pub source_before : (w q p : List ℕ) → (w ≡ q) ⊎ IsBefore w q → IsBefore q p → IsBefore w p
-source_before w q p (inl e) b = subst (λ (l : List ℕ). IsBefore l p) (sym e) b
+source_before w q p (inl e) b = subst (λ l. IsBefore l p) (sym e) b
 source_before w q p (inr lt) b = chain w q p lt b
 
 -- ---- one more record
@@ -19,26 +19,29 @@ pub numbered_still : (hs : List Happening) (x g : Happening) (cause : ℕ) → n
 numbered_still hs x g zero e = absurd cc
 numbered_still hs x g (suc before) e = in_front hs (x ∷ []) before g e
 
--- what arrives was under way before, or is what the new record puts on a wire
-pub arriving_more : (s : Scenario) (hs : List Happening) (x : Happening) (t : ℕ) (device : DeviceId) (link : LinkId) (cause : ℕ)
-    → IsArriving s (hs ++ x ∷ []) t device link cause
-    → IsArriving s hs t device link cause ⊎ ((cause ≡ length hs + 1) × ((signal : Signal) × Arrives s x device link t signal))
-arriving_more s hs x t device link cause a =
-    elim (numbered_more hs x a.putting cause a.there) [
-      | inl old ↦ inl (record { putting = a.putting; there = old; signal = a.signal; arrives = a.arrives })
-      | inr new ↦ inr (new.0, (a.signal, subst (λ (g : Happening). Arrives s g device link t a.signal) (sym new.1) a.arrives))
-    ]
+module _ (s : Scenario) (hs : List Happening) (x : Happening) (t : ℕ) (device : DeviceId) (link : LinkId)
+    (cause : ℕ) where
+  -- what arrives was under way before, or is what the new record puts on a wire
+  pub arriving_more : IsArriving s (hs ++ x ∷ []) t device link cause
+      → IsArriving s hs t device link cause ⊎ ((cause ≡ length hs + 1)
+      × ((signal : Signal) × Arrives s x device link t signal))
+  arriving_more a =
+      elim (numbered_more hs x a.putting cause a.there) [
+        | inl old ↦ inl (record { putting = a.putting; there = old; signal = a.signal; arrives = a.arrives })
+        | inr new ↦ inr (new.0, (a.signal, subst (λ g. Arrives s g device link t a.signal) (sym new.1) a.arrives))
+      ]
 
--- what leaves was given before, or is the frame that the new record gives
-pub departing_more : (s : Scenario) (hs : List Happening) (x : Happening) (t : ℕ) (device : DeviceId) (link : LinkId) (cause : ℕ)
-    → IsDeparting s (hs ++ x ∷ []) t device link cause → IsDeparting s hs t device link cause
-    ⊎ ((cause ≡ length hs + 1) × Gives s.network x.note.body device link × (t ≡ time_of x + hold_at s link (way_from s.network device link) (time_of x)))
-departing_more s hs x t device link cause d =
-    elim (numbered_more hs x d.giving cause d.there) [
-      | inl old ↦ inl (record { giving = d.giving; there = old; gives = d.gives; held = d.held })
-      | inr new ↦ inr (
-        new.0,
-        subst (λ (g : Happening). Gives s.network g.note.body device link) (sym new.1) d.gives,
-        subst (λ (g : Happening). t ≡ time_of g + hold_at s link (way_from s.network device link) (time_of g)) (sym new.1) d.held,
-      )
-    ]
+  -- what leaves was given before, or is the frame that the new record gives
+  pub departing_more : IsDeparting s (hs ++ x ∷ []) t device link cause
+      → IsDeparting s hs t device link cause ⊎ ((cause ≡ length hs + 1) × Gives s.network x.note.body device link
+      × (t ≡ time_of x + hold_at s link (way_from s.network device link) (time_of x)))
+  departing_more d =
+      elim (numbered_more hs x d.giving cause d.there) [
+        | inl old ↦ inl (record { giving = d.giving; there = old; gives = d.gives; held = d.held })
+        | inr new ↦ inr (
+          new.0,
+          subst (λ (g : Happening). Gives s.network g.note.body device link) (sym new.1) d.gives,
+          subst (λ g. t ≡ time_of g + hold_at s link (way_from s.network device link) (time_of g))
+              (sym new.1) d.held,
+        )
+      ]

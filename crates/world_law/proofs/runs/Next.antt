@@ -9,9 +9,9 @@ behind_mark : {N : Type 0} (place : N → List ℕ) (IsDue : List N → N → Ty
     → (IsBefore (place y) mark → ⊥) → ⊥
 behind_mark {N} place IsDue mark ns p within none ps [] y e before rest due here not =
     let all : ps ≡ ns = sym (append-nil ps) ∙ sym e in
-    none y (subst (λ (l : List N). IsDue l y) all due) not here
+    none y (subst (λ l. IsDue l y) all due) not here
 behind_mark {N} place IsDue mark ns p within none ps (q ∷ qs) y e before rest due here not =
-    let there : IsIn q ns = subst (λ (l : List N). IsIn q l) (sym e) (in_right q ps (q ∷ qs) (inl refl)) in
+    let there : IsIn q ns = subst (λ l. IsIn q l) (sym e) (in_right q ps (q ∷ qs) (inl refl)) in
     rest q (inl refl) (before_later (place q) (place y) mark (within q there) not)
 
 -- where none that is due behind the mark is before the place, none is due up to it
@@ -26,6 +26,7 @@ none_due {N} place IsDue mark ns p within none = record {
 }
 
 -- a record that is due behind the mark is next, where none is due before it
-pub is_next : {N : Type 0} (place : N → List ℕ) (IsDue : List N → N → Type 0) (mark : List ℕ) (ns : List N) (x : N) → IsRun place IsDue mark ns
-    → (IsBefore (place x) mark → ⊥) → IsDue ns x → NoneDueBefore place IsDue mark ns (place x) → IsNextOf place IsDue mark ns x
-is_next place IsDue mark ns x run not due none = grind (arith, before_later, none_due)
+pub is_next : {N : Type 0} {place : N → List ℕ} (IsDue : List N → N → Type 0) {mark : List ℕ} {ns : List N} (x : N)
+    → IsRun place IsDue mark ns → (IsBefore (place x) mark → ⊥) → IsDue ns x
+    → NoneDueBefore place IsDue mark ns (place x) → IsNextOf place IsDue mark ns x
+is_next IsDue x run not due none = grind (arith, before_later, none_due)

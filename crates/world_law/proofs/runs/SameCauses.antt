@@ -1,10 +1,10 @@
 -- What causes a record at a time causes it in each scenario that agrees up to then.
 use Rattle.{drift_clock.specs.transparent.Points.point_of, run_law.proofs.law.FirstPlaces.numbered_in, std.proofs.Common.arith}
-use Rattle.run_law.specs.{control.Leaving.{departure, on_cut_way, too_old}, scenario.Ways.{cut_set, delay_at, hold_at, hold_set, wire_of, wire_set}}
+use Rattle.run_law.specs.{control.Leaving.departure, scenario.Ways.{cut_set, delay_at, hold_at, hold_set, wire_of, wire_set}}
 use Rattle.{run_law.specs.control.Permanence.IsPermanenceOutcome, world_law.proofs.Words.{state_before, subst, sym, time_of, timed, timed_arrival, way_from, ℕ}}
 use Rattle.world_law.proofs.Words.{◌∙◌, ◌≡◌, ◌≤◌, Agree, Arrival, Arrives, ArrivesAs, BecomesPermanent, Bool, ChangesState, Compressed, Departs, Departure}
 use Rattle.world_law.proofs.Words.{DeviceId, Dispatches, Emits, Event, Happening, IsArrivedRecord, IsCaused, IsDropped, IsIn, IsLost, Joining, Judgement}
-use Rattle.world_law.proofs.Words.{Launch, LinkId, List, Network, None, NoteBody, Option, Pcf, Reason, Ripe, Send, Signal, Some, Standpoint, State, Units, Up}
+use Rattle.world_law.proofs.Words.{Launch, LinkId, List, Network, None, NoteBody, Option, Pcf, Reason, Ripe, Send, Signal, Some, State, Units, Up}
 use Rattle.world_law.proofs.Words.{VlId, Way, Why, adjustment_at_hearing, adjustment_before, amount, ap, arrival_of, before_permanence, control}
 use Rattle.world_law.proofs.Words.{control_arrival, false, has_joined_at, heard_as, if◌then◌else◌, inl, inr, is_broken, is_cut, last_taken, launched, nat_lt}
 use Rattle.world_law.proofs.Words.{not, numbered, observation_window, plan_of, points_of, pos, refl, scenario, signal_of, standpoint, state_at_hearing}
@@ -21,149 +21,165 @@ sooner t hs number h all there = all h (numbered_in hs number h there)
 
 -- ---- ways
 
-cut_same : (n : Network) (f g : DeviceId → ℕ → ℕ) (events more : List Event) (t u : ℕ) (link : LinkId) (way : Way) → Agree n f g events more t → u ≤ t
-    → is_cut (scenario n f events) link way u ≡ is_cut (scenario n g more) link way u
-cut_same n f g events more t u link way a le = setting_same n f g events more t u (cut_set link way) false a le
+module _ (n : Network) (f g : DeviceId → ℕ → ℕ) (events more : List Event) (t u : ℕ) where
+  cut_same : (link : LinkId) (way : Way) → Agree n f g events more t → u ≤ t
+      → is_cut (scenario n f events) link way u ≡ is_cut (scenario n g more) link way u
+  cut_same link way a le = setting_same u (cut_set link way) false a le
 
-pub hold_same : (n : Network) (f g : DeviceId → ℕ → ℕ) (events more : List Event) (t u : ℕ) (link : LinkId) (way : Way) → Agree n f g events more t → u ≤ t
-    → hold_at (scenario n f events) link way u ≡ hold_at (scenario n g more) link way u
-hold_same n f g events more t u link way a le = setting_same n f g events more t u (hold_set link way) 0 a le
+  pub hold_same : (link : LinkId) (way : Way) → Agree n f g events more t → u ≤ t
+      → hold_at (scenario n f events) link way u ≡ hold_at (scenario n g more) link way u
+  hold_same link way a le = setting_same u (hold_set link way) 0 a le
 
-delay_same : (n : Network) (f g : DeviceId → ℕ → ℕ) (events more : List Event) (t u : ℕ) (link : LinkId) (way : Way) → Agree n f g events more t → u ≤ t
-    → delay_at (scenario n f events) link way u ≡ delay_at (scenario n g more) link way u
-delay_same n f g events more t u link way a le = setting_same n f g events more t u (wire_set link way) (wire_of n link) a le
+  delay_same : (link : LinkId) (way : Way) → Agree n f g events more t → u ≤ t
+      → delay_at (scenario n f events) link way u ≡ delay_at (scenario n g more) link way u
+  delay_same link way a le = setting_same u (wire_set link way) (wire_of n link) a le
 
-launched_same : (n : Network) (f g : DeviceId → ℕ → ℕ) (events more : List Event) (t u : ℕ) (h : Happening) (body : NoteBody) → Agree n f g events more t
-    → u ≤ t → launched (scenario n f events) h u body ≡ launched (scenario n g more) h u body
-launched_same n f g events more t u h (notes.Event line (Send link octets)) a le =
-    ap (λ (b : Bool). let o : Option Launch = if b then None else Some (record { link = link; way = Up; signal = signal_of octets }) in o)
-    (cut_same n f g events more t u link Up a le)
-launched_same n f g events more t u h (notes.Left device link cause clock) a le = refl
-launched_same n f g events more t u h (notes.TtSent device link cause vl cycle) a le = refl
-launched_same n f g events more t u h other a le = refl
+  launched_same : (h : Happening) (body : NoteBody) → Agree n f g events more t → u ≤ t
+      → launched (scenario n f events) h u body ≡ launched (scenario n g more) h u body
+  launched_same h (notes.Event line (Send link octets)) a le =
+      ap (λ (b : Bool). let o : Option Launch = if b then None else Some
+      (record { link = link; way = Up; signal = signal_of octets }) in o)
+      (cut_same link Up a le)
+  launched_same h (notes.Left device link cause clock) a le = refl
+  launched_same h (notes.TtSent device link cause vl cycle) a le = refl
+  launched_same h other a le = refl
 
-pub arrives_same : (n : Network) (f g : DeviceId → ℕ → ℕ) (events more : List Event) (t : ℕ) (h : Happening) (device : DeviceId) (link : LinkId) (at : ℕ)
-    (signal : Signal) → Agree n f g events more t → time_of h ≤ t → Arrives (scenario n f events) h device link at signal
-    → Arrives (scenario n g more) h device link at signal
-arrives_same n f g events more t h device link at signal a le x = grind (arith, launched_same, time_of, delay_same)
+pub arrives_same : {n : Network} {f g : DeviceId → ℕ → ℕ} {events more : List Event} {t : ℕ} (h : Happening)
+    (device : DeviceId) (link : LinkId) (at : ℕ) (signal : Signal) → Agree n f g events more t → time_of h ≤ t
+    → Arrives (scenario n f events) h device link at signal → Arrives (scenario n g more) h device link at signal
+arrives_same h device link at signal a le x = grind (arith, launched_same, time_of, delay_same)
 
 -- ---- what arrives
 
-standpoint_same : (n : Network) (f g : DeviceId → ℕ → ℕ) (events more : List Event) (hs : List Happening) (t u : ℕ) (device : DeviceId)
-    → Agree n f g events more t → u ≤ t → standpoint (scenario n f events) hs device u ≡ standpoint (scenario n g more) hs device u
-standpoint_same n f g events more hs t u device a le = grind (arith, not, adjustment_before, scenario, is_broken, state_same, state_before, broken_same)
+module _ (n : Network) (f g : DeviceId → ℕ → ℕ) (events more : List Event) (hs : List Happening) (t u : ℕ)
+    (device : DeviceId) where
+  standpoint_same : Agree n f g events more t → u ≤ t → standpoint (scenario n f events) hs device u
+      ≡ standpoint (scenario n g more) hs device u
+  standpoint_same a le =
+      grind (arith, not, adjustment_before, scenario, is_broken, state_same, state_before, broken_same)
 
-judged_same : (n : Network) (f g : DeviceId → ℕ → ℕ) (events more : List Event) (hs : List Happening) (t u : ℕ) (device : DeviceId) (link : LinkId) (cause : ℕ)
-    (signal : Signal) → Agree n f g events more t → u ≤ t
-    → arrival_of (scenario n f events) hs device u link cause signal ≡ arrival_of (scenario n g more) hs device u link cause signal
-judged_same n f g events more hs t u device link cause (control frame) a le =
-    ap (λ (p : Standpoint). control_arrival n device link p frame) (standpoint_same n f g events more hs t u device a le)
-judged_same n f g events more hs t u device link cause (timed octets) a le =
-    ap (λ (p : Standpoint). timed_arrival n device link p octets (last_taken hs device u link cause)) (standpoint_same n f g events more hs t u device a le)
+  judged_same : (link : LinkId) (cause : ℕ) (signal : Signal) → Agree n f g events more t → u ≤ t
+      → arrival_of (scenario n f events) hs device u link cause signal
+      ≡ arrival_of (scenario n g more) hs device u link cause signal
+  judged_same link cause (control frame) a le =
+      ap (λ p. control_arrival n device link p frame) (standpoint_same a le)
+  judged_same link cause (timed octets) a le =
+      ap (λ p. timed_arrival n device link p octets (last_taken hs device u link cause))
+      (standpoint_same a le)
 
-arrival_same : (n : Network) (f g : DeviceId → ℕ → ℕ) (events more : List Event) (hs : List Happening) (t u : ℕ) (device : DeviceId) (link : LinkId) (cause : ℕ)
-    (is : Arrival) → Agree n f g events more t → u ≤ t → AreUpTo t hs
-    → ArrivesAs (scenario n f events) hs device u link cause is → ArrivesAs (scenario n g more) hs device u link cause is
-arrival_same n f g events more hs t u device link cause is a le all x = grind (arith, arrives_same, sooner, judged_same)
+module _ (n : Network) (f g : DeviceId → ℕ → ℕ) (events more : List Event) (hs : List Happening) (t u : ℕ)
+    (device : DeviceId) where
+  arrival_same : {link : LinkId} {cause : ℕ} {is : Arrival} → Agree n f g events more t → u ≤ t → AreUpTo t hs
+      → ArrivesAs (scenario n f events) hs device u link cause is
+      → ArrivesAs (scenario n g more) hs device u link cause is
+  arrival_same a le all x = grind (arith, arrives_same, sooner, judged_same)
 
--- ---- what ripens
+  -- ---- what ripens
 
-hearing_state_same : (n : Network) (f g : DeviceId → ℕ → ℕ) (events more : List Event) (hs : List Happening) (t u : ℕ) (device : DeviceId)
-    → Agree n f g events more t → u ≤ t → state_at_hearing (scenario n f events) hs device u ≡ state_at_hearing (scenario n g more) hs device u
-hearing_state_same n f g events more hs t u device a le =
-    ap (λ (x : State). if has_joined_at hs device u then Joining else x) (state_same n f g events more hs t u device a le)
+  hearing_state_same : Agree n f g events more t → u ≤ t
+      → state_at_hearing (scenario n f events) hs device u ≡ state_at_hearing (scenario n g more) hs device u
+  hearing_state_same a le =
+      ap (λ (x : State). if has_joined_at hs device u then Joining else x)
+      (state_same n f g events more hs u device a le)
 
-ripens_same : (n : Network) (f g : DeviceId → ℕ → ℕ) (events more : List Event) (hs : List Happening) (t u : ℕ) (device : DeviceId) (link : LinkId) (cause : ℕ)
-    (point : Units) (is : Ripe) → Agree n f g events more t → u ≤ t → AreUpTo t hs
-    → BecomesPermanent (scenario n f events) hs device u link cause point is → BecomesPermanent (scenario n g more) hs device u link cause point is
-ripens_same n f g events more hs t u device link cause point is a le all x =
-    let p = x.permanent in
-    record {
-      frame = x.frame;
-      permanent = record {
-        arrival = p.arrival;
-        there = p.there;
-        from = p.from;
-        clock = p.clock;
-        arrived = p.arrived;
-        of_frame = p.of_frame;
-        waits = p.waits;
-        at_point =
-            p.at_point ∙ ap (λ (m : ℕ). point_of (pos m) p.clock n.dmax.0) (a.reads device (time_of p.arrival) (sooner t hs cause p.arrival all p.there));
-        reached = reach_same n f g events more t u device _ _ a le p.reached;
-        correct = sym (broken_same n f g events more t u device a le) ∙ p.correct;
-      };
-      becomes =
-          let judged = before_permanence hs device u link cause x.frame point in
-          subst (λ (y : State). IsPermanenceOutcome n device y (adjustment_at_hearing (scenario n f events) judged device u).0 (points_of judged device) x.frame
-          point.0
-          is) (hearing_state_same n f g events more judged t u device a le) x.becomes;
-    }
+module _ (n : Network) (f g : DeviceId → ℕ → ℕ) (events more : List Event) (hs : List Happening) (t u : ℕ)
+    (device : DeviceId) where
+  ripens_same : {link : LinkId} {cause : ℕ} {point : Units} {is : Ripe} → Agree n f g events more t → u ≤ t
+      → AreUpTo t hs → BecomesPermanent (scenario n f events) hs device u link cause point is
+      → BecomesPermanent (scenario n g more) hs device u link cause point is
+  ripens_same {link} {cause} {point} {is} a le all x =
+      let p = x.permanent in
+      record {
+        frame = x.frame;
+        permanent = record {
+          arrival = p.arrival;
+          there = p.there;
+          from = p.from;
+          clock = p.clock;
+          arrived = p.arrived;
+          of_frame = p.of_frame;
+          waits = p.waits;
+          at_point =
+              p.at_point ∙ ap (λ m. point_of (pos m) p.clock n.dmax.0)
+              (a.reads device (time_of p.arrival) (sooner t hs cause p.arrival all p.there));
+          reached = reach_same n f g events more u device a le p.reached;
+          correct = sym (broken_same u device a le) ∙ p.correct;
+        };
+        becomes =
+            let judged = before_permanence hs device u link cause x.frame point in
+            subst (λ y. IsPermanenceOutcome n device y
+            (adjustment_at_hearing (scenario n f events) judged device u).0 (points_of judged device) x.frame
+            point.0
+            is) (hearing_state_same n f g events more judged t u device a le) x.becomes;
+      }
 
-emits_same : (n : Network) (f g : DeviceId → ℕ → ℕ) (events more : List Event) (hs : List Happening) (t u : ℕ) (device : DeviceId) (sent : Compressed)
-    (verdict : Judgement) → Agree n f g events more t → u ≤ t
-    → Emits (scenario n f events) hs device u sent verdict → Emits (scenario n g more) hs device u sent verdict
-emits_same n f g events more hs t u device sent verdict a le x =
-    grind (arith, broken_same, reach_same, heard_as, plan_of, observation_window, adjustment_at_hearing, scenario, hearing_state_same)
+  emits_same : {sent : Compressed} {verdict : Judgement} → Agree n f g events more t → u ≤ t
+      → Emits (scenario n f events) hs device u sent verdict → Emits (scenario n g more) hs device u sent verdict
+  emits_same a le x =
+      grind (arith, broken_same, reach_same, heard_as, plan_of, observation_window, adjustment_at_hearing, scenario, hearing_state_same)
 
 -- ---- what leaves, and what is dispatched
 
-departure_same : (n : Network) (f g : DeviceId → ℕ → ℕ) (events more : List Event) (t given u : ℕ) (device : DeviceId) (link : LinkId) (frame : Pcf)
-    → Agree n f g events more t → given ≤ t → u ≤ t
-    → departure (scenario n f events) device link frame given u ≡ departure (scenario n g more) device link frame given u
-departure_same n f g events more t given u device link frame a from le = grind (arith, nat_lt, amount, is_cut, scenario, way_from, cut_same)
+departure_same : {n : Network} {f g : DeviceId → ℕ → ℕ} {events more : List Event} {t : ℕ} (given u : ℕ)
+    (device : DeviceId) (link : LinkId) (frame : Pcf) → Agree n f g events more t → given ≤ t → u ≤ t
+    → departure (scenario n f events) device link frame given u
+    ≡ departure (scenario n g more) device link frame given u
+departure_same given u device link frame a from le = grind (arith, nat_lt, amount, is_cut, scenario, way_from, cut_same)
 
-departs_same : (n : Network) (f g : DeviceId → ℕ → ℕ) (events more : List Event) (hs : List Happening) (t u : ℕ) (device : DeviceId) (link : LinkId) (cause : ℕ)
-    (is : Departure) → Agree n f g events more t → u ≤ t → AreUpTo t hs
-    → Departs (scenario n f events) hs device u link cause is → Departs (scenario n g more) hs device u link cause is
-departs_same n f g events more hs t u device link cause is a le all x = grind (arith, sooner, time_of, hold_same, way_from, broken_same, departure_same)
+module _ (n : Network) (f g : DeviceId → ℕ → ℕ) (events more : List Event) (hs : List Happening) (t u : ℕ)
+    (device : DeviceId) where
+  departs_same : {link : LinkId} {cause : ℕ} {is : Departure} → Agree n f g events more t → u ≤ t → AreUpTo t hs
+      → Departs (scenario n f events) hs device u link cause is
+      → Departs (scenario n g more) hs device u link cause is
+  departs_same a le all x = grind (arith, sooner, time_of, hold_same, way_from, broken_same, departure_same)
 
-dispatches_same : (n : Network) (f g : DeviceId → ℕ → ℕ) (events more : List Event) (hs : List Happening) (t u : ℕ) (device : DeviceId) (link : LinkId)
-    (cause : ℕ) (vl : VlId) (cycle : ℕ) → Agree n f g events more t → u ≤ t
-    → Dispatches (scenario n f events) hs device u link cause vl cycle → Dispatches (scenario n g more) hs device u link cause vl cycle
-dispatches_same n f g events more hs t u device link cause vl cycle a le x = grind (arith, state_same, broken_same, reaches_same)
+  dispatches_same : {link : LinkId} {cause : ℕ} {vl : VlId} {cycle : ℕ} → Agree n f g events more t → u ≤ t
+      → Dispatches (scenario n f events) hs device u link cause vl cycle
+      → Dispatches (scenario n g more) hs device u link cause vl cycle
+  dispatches_same a le x = grind (arith, state_same, broken_same, reaches_same)
 
-changes_same : (n : Network) (f g : DeviceId → ℕ → ℕ) (events more : List Event) (hs : List Happening) (t u : ℕ) (device : DeviceId) (state : State) (cause : ℕ)
-    (why : Why) → Agree n f g events more t → u ≤ t → AreUpTo t hs
-    → ChangesState (scenario n f events) hs device u state cause why → ChangesState (scenario n g more) hs device u state cause why
-changes_same n f g events more hs t u device state cause whys.On a le all c = (c.0, sym (broken_same n f g events more t u device a le) ∙ c.1, c.2)
-changes_same n f g events more hs t u device state cause whys.Frame a le all c = c
-changes_same n f g events more hs t u device state cause whys.Correction a le all c = (c.0, sym (state_same n f g events more hs t u device a le) ∙ c.1, c.2)
-changes_same n f g events more hs t u device state cause whys.SyncClique a le all c =
-    (c.0, c.1, (c.2.0, comes_same n f g events more hs t u device c.2.0 _ a le all c.2.1))
-changes_same n f g events more hs t u device state cause whys.AsyncClique a le all c =
-    (c.0, c.1, (c.2.0, comes_same n f g events more hs t u device c.2.0 _ a le all c.2.1))
+  changes_same : (state : State) (cause : ℕ) (why : Why) → Agree n f g events more t → u ≤ t → AreUpTo t hs
+      → ChangesState (scenario n f events) hs device u state cause why
+      → ChangesState (scenario n g more) hs device u state cause why
+  changes_same state cause whys.On a le all c = (c.0, sym (broken_same u device a le) ∙ c.1, c.2)
+  changes_same state cause whys.Frame a le all c = c
+  changes_same state cause whys.Correction a le all c =
+      (c.0, sym (state_same n f g events more hs u device a le) ∙ c.1, c.2)
+  changes_same state cause whys.SyncClique a le all c =
+      (c.0, c.1, (c.2.0, comes_same n f g events more hs t u device a le all c.2.1))
+  changes_same state cause whys.AsyncClique a le all c =
+      (c.0, c.1, (c.2.0, comes_same n f g events more hs t u device a le all c.2.1))
 
-lost_same : (n : Network) (f g : DeviceId → ℕ → ℕ) (events more : List Event) (hs : List Happening) (t u : ℕ) (device : DeviceId) (link : LinkId) (cause : ℕ)
-    → Agree n f g events more t → u ≤ t → AreUpTo t hs → IsLost (scenario n f events) hs device u link cause → IsLost (scenario n g more) hs device u link cause
-lost_same n f g events more hs t u device link cause a le all (inl d) = inl (departs_same n f g events more hs t u device link cause on_cut_way a le all d)
-lost_same n f g events more hs t u device link cause a le all (inr (inl d)) =
-    inr (inl (d.0, d.1, dispatches_same n f g events more hs t u device link cause d.0 d.1 a le d.2, sym (cut_same n f g events more t u link _ a le) ∙ d.3))
-lost_same n f g events more hs t u device link cause a le all (inr (inr l)) = grind (arith, cut_same)
+  lost_same : {link : LinkId} {cause : ℕ} → Agree n f g events more t → u ≤ t → AreUpTo t hs
+      → IsLost (scenario n f events) hs device u link cause → IsLost (scenario n g more) hs device u link cause
+  lost_same a le all (inl d) = inl (departs_same a le all d)
+  lost_same {link} a le all (inr (inl d)) =
+      inr (inl (d.0, d.1, dispatches_same a le d.2, sym (cut_same n f g events more t u link _ a le) ∙ d.3))
+  lost_same a le all (inr (inr l)) = grind (arith, cut_same)
 
-dropped_same : (n : Network) (f g : DeviceId → ℕ → ℕ) (events more : List Event) (hs : List Happening) (t u : ℕ) (device : DeviceId) (link : LinkId) (cause : ℕ)
-    (reason : Reason) → Agree n f g events more t → u ≤ t → AreUpTo t hs
-    → IsDropped (scenario n f events) hs device u link cause reason → IsDropped (scenario n g more) hs device u link cause reason
-dropped_same n f g events more hs t u device link cause reason a le all (inl x) = inl (arrival_same n f g events more hs t u device link cause _ a le all x)
-dropped_same n f g events more hs t u device link cause reason a le all (inr (inl x)) =
-    inr (inl (x.0, ripens_same n f g events more hs t u device link cause x.0 _ a le all x.1))
-dropped_same n f g events more hs t u device link cause reason a le all (inr (inr x)) =
-    inr (inr (departs_same n f g events more hs t u device link cause too_old a le all x.0, x.1))
+  dropped_same : {link : LinkId} {cause : ℕ} (reason : Reason) → Agree n f g events more t → u ≤ t → AreUpTo t hs
+      → IsDropped (scenario n f events) hs device u link cause reason
+      → IsDropped (scenario n g more) hs device u link cause reason
+  dropped_same reason a le all (inl x) = inl (arrival_same n f g events more hs t u device a le all x)
+  dropped_same reason a le all (inr (inl x)) =
+      inr (inl (x.0, ripens_same n f g events more hs t u device a le all x.1))
+  dropped_same reason a le all (inr (inr x)) =
+      inr (inr (departs_same a le all x.0, x.1))
 
-arrived_same : (n : Network) (f g : DeviceId → ℕ → ℕ) (events more : List Event) (hs : List Happening) (t u : ℕ) (device : DeviceId) (link : LinkId)
-    (cause clock : ℕ) → Agree n f g events more t → u ≤ t → AreUpTo t hs
-    → IsArrivedRecord (scenario n f events) hs device u link cause clock → IsArrivedRecord (scenario n g more) hs device u link cause clock
-arrived_same n f g events more hs t u device link cause clock a le all x = record {
-  frame = x.frame;
-  point = x.point;
-  way = x.way;
-  taken = elim x.taken [
-    | inl w ↦ inl (arrival_same n f g events more hs t u device link cause _ a le all w)
-    | inr (inl p) ↦ inr (inl (arrival_same n f g events more hs t u device link cause _ a le all p))
-    | inr (inr b) ↦ inr (inr (arrival_same n f g events more hs t u device link cause _ a le all b))
-  ];
-  shows = x.shows;
-}
+  arrived_same : {link : LinkId} {cause clock : ℕ} → Agree n f g events more t → u ≤ t → AreUpTo t hs
+      → IsArrivedRecord (scenario n f events) hs device u link cause clock
+      → IsArrivedRecord (scenario n g more) hs device u link cause clock
+  arrived_same a le all x = record {
+    frame = x.frame;
+    point = x.point;
+    way = x.way;
+    taken = elim x.taken [
+      | inl w ↦ inl (arrival_same n f g events more hs t u device a le all w)
+      | inr (inl p) ↦ inr (inl (arrival_same n f g events more hs t u device a le all p))
+      | inr (inr b) ↦ inr (inr (arrival_same n f g events more hs t u device a le all b))
+    ];
+    shows = x.shows;
+  }
 
 -- it is no record of an event, nor of a clock
 abbrev pub IsOwn : NoteBody → Type 0
@@ -171,30 +187,31 @@ IsOwn (notes.Event line what) = ⊥
 IsOwn (notes.Clock device reading adjustment state) = ⊥
 IsOwn other = Unit {0}
 
--- what causes a record, but of an event and of a clock, up to the time, causes it in each scenario that agrees
-pub caused_same : (n : Network) (f g : DeviceId → ℕ → ℕ) (events more : List Event) (hs : List Happening) (t : ℕ) (time : Units) (body : NoteBody)
-    → Agree n f g events more t → amount time ≤ t → AreUpTo t hs → IsOwn body
-    → IsCaused (scenario n f events) hs time body → IsCaused (scenario n g more) hs time body
-caused_same n f g events more hs t time (notes.Event line what) a le all it c = absurd it
-caused_same n f g events more hs t time (notes.Clock device reading adjustment state) a le all it c = absurd it
-caused_same n f g events more hs t time (notes.Arrived device link cause clock) a le all it c =
-    arrived_same n f g events more hs t _ device link cause clock a le all c
-caused_same n f g events more hs t time (notes.Permanent device link cause point verdict) a le all it c =
-    ripens_same n f g events more hs t _ device link cause point _ a le all c
-caused_same n f g events more hs t time (notes.Compressed device opened at cycle members verdict) a le all it c =
-    emits_same n f g events more hs t _ device _ verdict a le c
-caused_same n f g events more hs t time (notes.Sent device cycle) a le all it c = sends_same n f g events more hs t _ device cycle a le c
-caused_same n f g events more hs t time (notes.Corrected device cycle by adjustment) a le all it c =
-    record { corrected = comes_same n f g events more hs t _ device cycle _ a le all c.corrected; sum = c.sum }
-caused_same n f g events more hs t time (notes.State device state cause why) a le all it c =
-    changes_same n f g events more hs t _ device state cause why a le all c
-caused_same n f g events more hs t time (notes.Left device link cause clock) a le all it c =
-    departs_same n f g events more hs t _ device link cause _ a le all c
-caused_same n f g events more hs t time (notes.Lost device link cause) a le all it c = lost_same n f g events more hs t _ device link cause a le all c
-caused_same n f g events more hs t time (notes.TtSent device link cause vl cycle) a le all it c = grind (arith, dispatches_same, cut_same)
-caused_same n f g events more hs t time (notes.Accepted device link cause vl cycle) a le all it c =
-    arrival_same n f g events more hs t _ device link cause _ a le all c
-caused_same n f g events more hs t time (notes.Delivered device link cause vl cycle) a le all it c =
-    arrival_same n f g events more hs t _ device link cause _ a le all c
-caused_same n f g events more hs t time (notes.Dropped device link cause reason) a le all it c =
-    dropped_same n f g events more hs t _ device link cause reason a le all c
+module _ (n : Network) (f g : DeviceId → ℕ → ℕ) (events more : List Event) (hs : List Happening) (t : ℕ)
+    (time : Units) where
+  -- what causes a record, but of an event and of a clock, up to the time, causes it in each scenario that agrees
+  pub caused_same : (body : NoteBody) → Agree n f g events more t → amount time ≤ t → AreUpTo t hs → IsOwn body
+      → IsCaused (scenario n f events) hs time body → IsCaused (scenario n g more) hs time body
+  caused_same (notes.Event line what) a le all it c = absurd it
+  caused_same (notes.Clock device reading adjustment state) a le all it c = absurd it
+  caused_same (notes.Arrived device link cause clock) a le all it c =
+      arrived_same n f g events more hs t _ device a le all c
+  caused_same (notes.Permanent device link cause point verdict) a le all it c =
+      ripens_same n f g events more hs t _ device a le all c
+  caused_same (notes.Compressed device opened at cycle members verdict) a le all it c =
+      emits_same n f g events more hs t _ device a le c
+  caused_same (notes.Sent device cycle) a le all it c = sends_same n f g events more hs t _ device a le c
+  caused_same (notes.Corrected device cycle by adjustment) a le all it c =
+      record { corrected = comes_same n f g events more hs t _ device a le all c.corrected; sum = c.sum }
+  caused_same (notes.State device state cause why) a le all it c =
+      changes_same n f g events more hs t _ device state cause why a le all c
+  caused_same (notes.Left device link cause clock) a le all it c =
+      departs_same n f g events more hs t _ device a le all c
+  caused_same (notes.Lost device link cause) a le all it c = lost_same n f g events more hs t _ device a le all c
+  caused_same (notes.TtSent device link cause vl cycle) a le all it c = grind (arith, dispatches_same, cut_same)
+  caused_same (notes.Accepted device link cause vl cycle) a le all it c =
+      arrival_same n f g events more hs t _ device a le all c
+  caused_same (notes.Delivered device link cause vl cycle) a le all it c =
+      arrival_same n f g events more hs t _ device a le all c
+  caused_same (notes.Dropped device link cause reason) a le all it c =
+      dropped_same n f g events more hs t _ device reason a le all c

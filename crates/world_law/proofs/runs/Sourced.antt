@@ -12,71 +12,78 @@ use Rattle.run_law.specs.declared.note.NoteBody.TheVariants as notes
 abbrev IsSourcedAt : Scenario → List Happening → ℕ → ℕ → NoteBody → List ℕ → Type 0
 IsSourcedAt s hs t members body at = (place : List ℕ) × IsOwnSource s hs t members body place × IsSource s hs place × ((place ≡ at) ⊎ IsBefore place at)
 
-arrival_of_it : (s : Scenario) (hs : List Happening) (t : ℕ) (device : DeviceId) (link : LinkId) (cause : ℕ) (is : Arrival)
-    → ArrivesAs s hs device t link cause is → IsArriving s hs t device link cause
-arrival_of_it s hs t device link cause is a = record { putting = a.putting; there = a.there; signal = a.signal; arrives = a.arrives }
+module _ (s : Scenario) (hs : List Happening) (t : ℕ) (device : DeviceId) where
+  arrival_of_it : {link : LinkId} {cause : ℕ} {is : Arrival} → ArrivesAs s hs device t link cause is
+      → IsArriving s hs t device link cause
+  arrival_of_it a = record { putting = a.putting; there = a.there; signal = a.signal; arrives = a.arrives }
 
-departure_of_it : (s : Scenario) (hs : List Happening) (t : ℕ) (device : DeviceId) (link : LinkId) (cause : ℕ) (is : Departure)
-    → Departs s hs device t link cause is → IsDeparting s hs t device link cause
-departure_of_it s hs t device link cause is d = record { giving = d.giving; there = d.there; gives = d.gives; held = d.held }
+  departure_of_it : {link : LinkId} {cause : ℕ} {is : Departure} → Departs s hs device t link cause is
+      → IsDeparting s hs t device link cause
+  departure_of_it d = record { giving = d.giving; there = d.there; gives = d.gives; held = d.held }
 
-point_of_it : (s : Scenario) (hs : List Happening) (t : ℕ) (device : DeviceId) (cycle : ℕ) (verdict : Verdict) → ComesToCorrection s hs device t cycle verdict
-    → IsAtCorrection s hs t device cycle
-point_of_it s hs t device cycle verdict c = record { next = c.next; reached = c.reached; correct = c.correct }
+  point_of_it : {cycle : ℕ} {verdict : Verdict} → ComesToCorrection s hs device t cycle verdict
+      → IsAtCorrection s hs t device cycle
+  point_of_it c = record { next = c.next; reached = c.reached; correct = c.correct }
 
 abbrev ripening_of_it : (s : Scenario) (hs : List Happening) (t : ℕ) (device : DeviceId) (link : LinkId) (cause : ℕ) (point : Units) (is : Ripe)
     → BecomesPermanent s hs device t link cause point is → IsRipening s hs t device link cause point
 ripening_of_it s hs t device link cause point is r = record { frame = r.frame; permanent = r.permanent }
 
-taken_of_it : (s : Scenario) (hs : List Happening) (t : ℕ) (device : DeviceId) (link : LinkId) (cause clock : ℕ)
-    → IsArrivedRecord s hs device t link cause clock → IsArriving s hs t device link cause
-taken_of_it s hs t device link cause clock a =
-    elim a.taken [
-      | inl waits ↦ arrival_of_it s hs t device link cause _ waits
-      | inr (inl passes) ↦ arrival_of_it s hs t device link cause _ passes
-      | inr (inr both) ↦ arrival_of_it s hs t device link cause _ both
-    ]
+module _ (s : Scenario) (hs : List Happening) (t : ℕ) (device : DeviceId) where
+  taken_of_it : {link : LinkId} {cause clock : ℕ} → IsArrivedRecord s hs device t link cause clock
+      → IsArriving s hs t device link cause
+  taken_of_it a =
+      elim a.taken [
+        | inl waits ↦ arrival_of_it s hs t device waits
+        | inr (inl passes) ↦ arrival_of_it s hs t device passes
+        | inr (inr both) ↦ arrival_of_it s hs t device both
+      ]
 
-by_state : (s : Scenario) (hs : List Happening) (t : ℕ) (device : DeviceId) (state : State) (cause : ℕ) (why : Why) → (members : ℕ)
-    → ChangesState s hs device t state cause why → (more : List ℕ) → IsSourcedAt s hs t members (notes.State device state cause why) (t ∷ 7 ∷ more)
-by_state s hs t device state cause whys.On m c more = (t ∷ 2 ∷ [], refl, IsSource.following t cause c.2.1 c.2.2, inr (inr (refl, inl (omega arith))))
-by_state s hs t device state cause whys.Frame m c more = (t ∷ 2 ∷ [], refl, IsSource.following t cause c.1.0 c.1.1, inr (inr (refl, inl (omega arith))))
-by_state s hs t device state cause whys.Correction m c more = (t ∷ 2 ∷ [], refl, IsSource.following t cause c.2.3 c.2.4, inr (inr (refl, inl (omega arith))))
-by_state s hs t device state cause whys.SyncClique m c more = (
-  t ∷ 6 ∷ device.0 ∷ [],
-  (c.2.0, refl),
-  IsSource.acting t device (doing (correcting c.2.0)) (IsActing.corrects c.2.0 (point_of_it s hs t device c.2.0 _ c.2.1)),
-  inr (inr (refl, inl (omega arith))),
-)
-by_state s hs t device state cause whys.AsyncClique m c more = (
-  t ∷ 6 ∷ device.0 ∷ [],
-  (c.2.0, refl),
-  IsSource.acting t device (doing (correcting c.2.0)) (IsActing.corrects c.2.0 (point_of_it s hs t device c.2.0 _ c.2.1)),
-  inr (inr (refl, inl (omega arith))),
-)
+  by_state : (state : State) (cause : ℕ) (why : Why) (members : ℕ) → ChangesState s hs device t state cause why
+      → (more : List ℕ) → IsSourcedAt s hs t members (notes.State device state cause why) (t ∷ 7 ∷ more)
+  by_state state cause whys.On m c more =
+      (t ∷ 2 ∷ [], refl, IsSource.following t cause c.2.1 c.2.2, inr (inr (refl, inl (omega arith))))
+  by_state state cause whys.Frame m c more =
+      (t ∷ 2 ∷ [], refl, IsSource.following t cause c.1.0 c.1.1, inr (inr (refl, inl (omega arith))))
+  by_state state cause whys.Correction m c more =
+      (t ∷ 2 ∷ [], refl, IsSource.following t cause c.2.3 c.2.4, inr (inr (refl, inl (omega arith))))
+  by_state state cause whys.SyncClique m c more = (
+    t ∷ 6 ∷ device.0 ∷ [],
+    (c.2.0, refl),
+    IsSource.acting t device (doing (correcting c.2.0)) (IsActing.corrects c.2.0 (point_of_it s hs t device c.2.1)),
+    inr (inr (refl, inl (omega arith))),
+  )
+  by_state state cause whys.AsyncClique m c more = (
+    t ∷ 6 ∷ device.0 ∷ [],
+    (c.2.0, refl),
+    IsSource.acting t device (doing (correcting c.2.0)) (IsActing.corrects c.2.0 (point_of_it s hs t device c.2.1)),
+    inr (inr (refl, inl (omega arith))),
+  )
 
-by_loss : (s : Scenario) (hs : List Happening) (t : ℕ) (device : DeviceId) (link : LinkId) (cause : ℕ) → (members : ℕ) → IsLost s hs device t link cause
-    → (more : List ℕ) → IsSourcedAt s hs t members (notes.Lost device link cause) (t ∷ 9 ∷ more)
-by_loss s hs t device link cause m (inl departs) more =
-    (_, inl (refl, departs), IsSource.departing t device link cause (departure_of_it s hs t device link cause _ departs), inr (inr (refl, inl (omega arith))))
-by_loss s hs t device link cause m (inr (inl d)) more =
-    let source = IsSource.acting t device (doing (dispatching (record { 0 = d.2.place }) d.1)) (IsActing.dispatches link cause d.0 d.1 d.2) in
-    (_, inr (inl (d.0, d.1, d.2, d.3, refl)), source, inr (inr (refl, inl (omega arith))))
-by_loss s hs t device link cause m (inr (inr send)) more =
-    (_, inr (inr (refl, send)), IsSource.following t cause send.event send.is, inr (inr (refl, inl (omega arith))))
+module _ (s : Scenario) (hs : List Happening) (t : ℕ) (device : DeviceId) (link : LinkId) (cause : ℕ) where
+  by_loss : (members : ℕ) → IsLost s hs device t link cause → (more : List ℕ)
+      → IsSourcedAt s hs t members (notes.Lost device link cause) (t ∷ 9 ∷ more)
+  by_loss m (inl departs) more =
+      (_, inl (refl, departs), IsSource.departing t device link cause (departure_of_it s hs t device departs), inr (inr (refl, inl (omega arith))))
+  by_loss m (inr (inl d)) more =
+      let source = IsSource.acting t device (doing (dispatching (record { 0 = d.2.place }) d.1))
+      (IsActing.dispatches link cause d.0 d.1 d.2) in
+      (_, inr (inl (d.0, d.1, d.2, d.3, refl)), source, inr (inr (refl, inl (omega arith))))
+  by_loss m (inr (inr send)) more =
+      (_, inr (inr (refl, send)), IsSource.following t cause send.event send.is, inr (inr (refl, inl (omega arith))))
 
-by_drop : (s : Scenario) (hs : List Happening) (t : ℕ) (device : DeviceId) (link : LinkId) (cause : ℕ) (reason : Reason) → (members : ℕ)
-    → IsDropped s hs device t link cause reason → (more : List ℕ) → IsSourcedAt s hs t members (notes.Dropped device link cause reason) (t ∷ 13 ∷ more)
-by_drop s hs t device link cause reason m (inl arrives) more =
-    (_, inl (refl, arrives), IsSource.arriving t device link cause (arrival_of_it s hs t device link cause _ arrives), inr (inr (refl, inl (omega arith))))
-by_drop s hs t device link cause reason m (inr (inl r)) more = (
-  _,
-  inr (inl (r.0, r.1, refl)),
-  IsSource.ripening t device link cause r.0 (ripening_of_it s hs t device link cause r.0 _ r.1),
-  inr (inr (refl, inl (omega arith))),
-)
-by_drop s hs t device link cause reason m (inr (inr d)) more =
-    (_, inr (inr (refl, d.0)), IsSource.departing t device link cause (departure_of_it s hs t device link cause _ d.0), inr (inr (refl, inl (omega arith))))
+  by_drop : (reason : Reason) (members : ℕ) → IsDropped s hs device t link cause reason → (more : List ℕ)
+      → IsSourcedAt s hs t members (notes.Dropped device link cause reason) (t ∷ 13 ∷ more)
+  by_drop reason m (inl arrives) more =
+      (_, inl (refl, arrives), IsSource.arriving t device link cause (arrival_of_it s hs t device arrives), inr (inr (refl, inl (omega arith))))
+  by_drop reason m (inr (inl r)) more = (
+    _,
+    inr (inl (r.0, r.1, refl)),
+    IsSource.ripening t device link cause r.0 (ripening_of_it s hs t device link cause r.0 _ r.1),
+    inr (inr (refl, inl (omega arith))),
+  )
+  by_drop reason m (inr (inr d)) more =
+      (_, inr (inr (refl, d.0)), IsSource.departing t device link cause (departure_of_it s hs t device d.0), inr (inr (refl, inl (omega arith))))
 
 -- the members of the frame of a record of this body, as a number
 abbrev members_by : Network → List Happening → NoteBody → ℕ
@@ -87,7 +94,7 @@ by_body : (s : Scenario) (hs : List Happening) (time : Units) (members : ℕ) (b
     → IsSourcedAt s hs (amount time) members body (amount time ∷ rank body ∷ key members body)
 by_body s hs time members (notes.Event line what) m c = (_, refl, IsSource.befalling time line what c, inr (inr (refl, inr (refl, tt))))
 by_body s hs time members (notes.Arrived device link cause clock) m c =
-    (_, refl, IsSource.arriving (amount time) device link cause (taken_of_it s hs (amount time) device link cause clock c), inl refl)
+    (_, refl, IsSource.arriving (amount time) device link cause (taken_of_it s hs (amount time) device c), inl refl)
 by_body s hs time members (notes.Permanent device link cause point verdict) m c =
     let r = ripening_of_it s hs (amount time) device link cause point _ c in
     let p = r.permanent in
@@ -106,21 +113,22 @@ by_body s hs time members (notes.Sent device cycle) m c =
 by_body s hs time members (notes.Corrected device cycle by adjustment) m c = (
   _,
   refl,
-  IsSource.acting (amount time) device (doing (correcting cycle)) (IsActing.corrects cycle (point_of_it s hs (amount time) device cycle _ c.corrected)),
+  IsSource.acting (amount time) device (doing (correcting cycle))
+      (IsActing.corrects cycle (point_of_it s hs (amount time) device c.corrected)),
   inl refl,
 )
 by_body s hs time members (notes.State device state cause why) m c = by_state s hs (amount time) device state cause why members c (device.0 ∷ cause ∷ [])
 by_body s hs time members (notes.Left device link cause clock) m c =
-    (_, refl, IsSource.departing (amount time) device link cause (departure_of_it s hs (amount time) device link cause _ c), inl refl)
+    (_, refl, IsSource.departing (amount time) device link cause (departure_of_it s hs (amount time) device c), inl refl)
 by_body s hs time members (notes.Lost device link cause) m c = by_loss s hs (amount time) device link cause members c (device.0 ∷ link.0 ∷ cause ∷ [])
 by_body s hs time members (notes.TtSent device link cause vl cycle) m c =
     let source = IsSource.acting (amount time) device (doing (dispatching (record { 0 = c.dispatches.place }) cycle))
     (IsActing.dispatches link cause vl cycle c.dispatches) in
     (_, (c.dispatches, refl), source, inr (inr (refl, inl (omega arith))))
 by_body s hs time members (notes.Accepted device link cause vl cycle) m c =
-    (_, refl, IsSource.arriving (amount time) device link cause (arrival_of_it s hs (amount time) device link cause _ c), inr (inr (refl, inl (omega arith))))
+    (_, refl, IsSource.arriving (amount time) device link cause (arrival_of_it s hs (amount time) device c), inr (inr (refl, inl (omega arith))))
 by_body s hs time members (notes.Delivered device link cause vl cycle) m c =
-    (_, refl, IsSource.arriving (amount time) device link cause (arrival_of_it s hs (amount time) device link cause _ c), inr (inr (refl, inl (omega arith))))
+    (_, refl, IsSource.arriving (amount time) device link cause (arrival_of_it s hs (amount time) device c), inr (inr (refl, inl (omega arith))))
 by_body s hs time members (notes.Dropped device link cause reason) m c =
     by_drop s hs (amount time) device link cause reason members c (device.0 ∷ link.0 ∷ cause ∷ [])
 by_body s hs time members (notes.Clock device reading adjustment state) m c = (_, refl, IsSource.ending time device c.is c.there c.ends, inl refl)

@@ -2,7 +2,7 @@
 use Rattle.world_law.proofs.runs.TaskPlaces.{placed_so}
 use Rattle.world_law.proofs.Words.{sym}
 use Rattle.world_law.proofs.Words.{◌++◌, ◌<◌, ◌∙◌, ◌∷◌, ◌≡◌, ◌≤◌, ◌⊎◌, AreClusters, Arrives, DeviceId, Dispatches, Emits, Gives, Happening, Integrating}
-use Rattle.world_law.proofs.Words.{IsActing, IsBefore, IsForward, IsIn, IsSource, LinkId, List, Network, None, NoneBefore, NoteBody, Point, Reaches, Scenario}
+use Rattle.world_law.proofs.Words.{IsActing, IsBefore, IsForward, IsIn, IsSource, LinkId, List, Network, None, NoneBefore, NoteBody, Reaches, Scenario}
 use Rattle.world_law.proofs.Words.{Signal, Some, Standing, Task, [], adjustment_after, adjustment_at_hearing, after_last, ap, append-nil, append_assoc, arith}
 use Rattle.world_law.proofs.Words.{cases_Bool, cases_lt, dispatching, doing, earlier, emitting, ends_stretch, filter, filter-append, heard_as, if◌then◌else◌}
 use Rattle.world_law.proofs.Words.{inl, inr, integration_cycle, ints, is_accepted, is_turned_on_at, last_or, nat_lt, next_point, no_cluster, numbered}
@@ -65,7 +65,7 @@ points_one hs z device high = grind (arith, ends_stretch, point_by, cases_Bool, 
 
 pub points_back : (zs hs : List Happening) (device : DeviceId) → ((z : Happening) → IsIn z zs → 4 ≤ rank z.note.body)
     → (points_of (hs ++ zs) device ≡ points_of hs device) ⊎ (points_of (hs ++ zs) device ≡ [])
-points_back [] hs device high = inl (ap (λ (l : List Happening). points_of l device) (append-nil hs))
+points_back [] hs device high = inl (ap (λ l. points_of l device) (append-nil hs))
 points_back (z ∷ zs) hs device high = grind (arith, points_of, append_assoc, points_one, (points_back zs (hs ++ z ∷ []) device (λ y i. high y (inr i))))
 
 abbrev pub standing_in : Scenario → DeviceId → ℕ → List Happening → Standing
@@ -77,27 +77,29 @@ standing_in s device t w = record {
   integrated = integration_cycle w device;
 }
 
-pub reaches_back : (s : Scenario) (js hs : List Happening) (t : ℕ) (device : DeviceId) (v : ℤ) → earlier t js ≡ earlier t hs → Reaches s js device v t
-    → Reaches s hs device v t
-reaches_back s js hs t device v same r = grind (arith, adjustment_after)
+module _ (s : Scenario) (js hs : List Happening) (t : ℕ) (device : DeviceId) where
+  pub reaches_back : {v : ℤ} → earlier t js ≡ earlier t hs → Reaches s js device v t → Reaches s hs device v t
+  reaches_back same r = grind (arith, adjustment_after)
 
-pub up_back : (s : Scenario) (js hs : List Happening) (t : ℕ) (device : DeviceId) → earlier t js ≡ earlier t hs → IsUp s js device t → IsUp s hs device t
-up_back s js hs t device same up = grind (arith, is_turned_on_at, state_after)
+  pub up_back : earlier t js ≡ earlier t hs → IsUp s js device t → IsUp s hs device t
+  up_back same up = grind (arith, is_turned_on_at, state_after)
 
-pub dispatches_back : (s : Scenario) (js hs : List Happening) (t : ℕ) (device : DeviceId) (link : LinkId) (cause : ℕ) (vl : _) (cycle : ℕ)
-    → earlier t js ≡ earlier t hs → Dispatches s js device t link cause vl cycle → Dispatches s hs device t link cause vl cycle
-dispatches_back s js hs t device link cause vl cycle same d = grind (arith, up_back, reaches_back, last_or, filter, is_accepted)
+pub dispatches_back : {s : Scenario} {js : List Happening} (hs : List Happening) {t : ℕ} {device : DeviceId}
+    {link : LinkId} {cause : ℕ} {vl : _} {cycle : ℕ} → earlier t js ≡ earlier t hs
+    → Dispatches s js device t link cause vl cycle → Dispatches s hs device t link cause vl cycle
+dispatches_back hs same d = grind (arith, up_back, reaches_back, last_or, filter, is_accepted)
 
 -- it is of the same row
 pub dispatches_same : (s : Scenario) (js hs : List Happening) (t : ℕ) (device : DeviceId) (link : LinkId) (cause : ℕ) (vl : _) (cycle : ℕ)
     → earlier t js ≡ earlier t hs → (d : Dispatches s js device t link cause vl cycle)
     → (e : Dispatches s hs device t link cause vl cycle) × (e.place ≡ d.place)
 unfolding dispatches_back
-dispatches_same s js hs t device link cause vl cycle same d = (dispatches_back s js hs t device link cause vl cycle same d, refl)
+dispatches_same s js hs t device link cause vl cycle same d = (dispatches_back hs same d, refl)
 
-emits_back : (s : Scenario) (hs zs : List Happening) (t : ℕ) (device : DeviceId) (sent : _) (verdict : _) → ((z : Happening) → IsIn z zs → 4 ≤ rank z.note.body)
-    → Emits s (hs ++ zs) device t sent verdict → IsActing s hs t device (emitting sent)
-emits_back s hs zs t device sent verdict high e =
+emits_back : {s : Scenario} (hs zs : List Happening) {t : ℕ} {device : DeviceId} {sent verdict : _}
+    → ((z : Happening) → IsIn z zs → 4 ≤ rank z.note.body) → Emits s (hs ++ zs) device t sent verdict
+    → IsActing s hs t device (emitting sent)
+emits_back {s} hs zs {t} {device} {sent} high e =
     elim (points_back zs hs device high) [
       | inl same ↦
           IsActing.emits sent (heard_as (plan_of s.network device) (observation_window s.network) (state_at_hearing s hs device t)
@@ -105,7 +107,7 @@ emits_back s hs zs t device sent verdict high e =
             cm = e.cm;
             correct = e.correct;
             clusters = e.clusters;
-            are = subst (λ (l : List Point). AreClusters (observation_window s.network) l e.clusters) same e.are;
+            are = subst (λ l. AreClusters (observation_window s.network) l e.clusters) same e.are;
             cluster = e.cluster;
             there = e.there;
             is = e.is;
@@ -113,33 +115,32 @@ emits_back s hs zs t device sent verdict high e =
             heard = refl;
           })
       | inr none ↦ absurd (no_cluster (observation_window s.network) e.clusters e.cluster
-          (subst (λ (l : List Point). AreClusters (observation_window s.network) l e.clusters) none e.are) e.there)
+          (subst (λ l. AreClusters (observation_window s.network) l e.clusters) none e.are) e.there)
     ]
 
 -- what acts by the records with those to come, where these have the rank of acts or a higher one, acts by those given
-pub acting_back : (s : Scenario) (hs zs : List Happening) (t : ℕ) (device : DeviceId) (task : Task) → ((z : Happening) → IsIn z zs → t ≤ time_of z)
-    → ((z : Happening) → IsIn z zs → 4 ≤ rank z.note.body) → IsActing s (hs ++ zs) t device task → IsActing s hs t device task
-acting_back s hs zs t device task of high (IsActing.sends cycle d) =
+pub acting_back : {s : Scenario} (hs zs : List Happening) {t : ℕ} {device : DeviceId} {task : Task}
+    → ((z : Happening) → IsIn z zs → t ≤ time_of z) → ((z : Happening) → IsIn z zs → 4 ≤ rank z.note.body)
+    → IsActing s (hs ++ zs) t device task → IsActing s hs t device task
+acting_back {s} hs zs {t} {device} of high (IsActing.sends cycle d) =
     let same = earlier_still t hs zs of in
     IsActing.sends cycle
     (record {
       master = d.master;
       up = up_back s (hs ++ zs) hs t device same d.up;
       begun = d.begun;
-      reached = reaches_back s (hs ++ zs) hs t device _ same
-          d.reached;
+      reached = reaches_back s (hs ++ zs) hs t device same d.reached;
     })
-acting_back s hs zs t device task of high (IsActing.emits sent verdict e) = emits_back s hs zs t device sent verdict high e
-acting_back s hs zs t device task of high (IsActing.corrects cycle d) =
+acting_back hs zs of high (IsActing.emits sent verdict e) = emits_back hs zs high e
+acting_back {s} hs zs {t} {device} of high (IsActing.corrects cycle d) =
     let same = earlier_still t hs zs of in
     IsActing.corrects cycle
     (record {
-      next = subst (λ (w : List Happening). next_point (standing_in s device t w) ≡ Some cycle) same d.next;
-      reached = reaches_back s (hs ++ zs) hs
-          t device _ same d.reached;
+      next = subst (λ w. next_point (standing_in s device t w) ≡ Some cycle) same d.next;
+      reached = reaches_back s (hs ++ zs) hs t device same d.reached;
       correct = d.correct;
     })
-acting_back s hs zs t device task of high (IsActing.dispatches link cause vl cycle d) =
+acting_back {s} hs zs {t} {device} of high (IsActing.dispatches link cause vl cycle d) =
     let e = dispatches_same s (hs ++ zs) hs t device link cause vl cycle (earlier_still t hs zs of) d in
     subst (λ (n : ℕ). IsActing s hs t device (doing (dispatching (record { 0 = n }) cycle))) e.1 (IsActing.dispatches link cause vl cycle e.0)
 
@@ -149,21 +150,23 @@ acting_back s hs zs t device task of high (IsActing.dispatches link cause vl cyc
 abbrev pub IsBack : Scenario → List Happening → ℕ → List ℕ → Type 0
 IsBack s hs now w = IsSource s hs w ⊎ (IsBefore w (now ∷ []) ⊎ (w ≡ now ∷ 2 ∷ []))
 
-pub arrives_later : (s : Scenario) (g : Happening) (device : DeviceId) (link : LinkId) (t : ℕ) (signal : Signal) → IsForward s
-    → Arrives s g device link t signal → time_of g < t
-arrives_later s g device link t signal forward a = let one = forward link a.way device (time_of g) a.receiver in omega (arith, one, a.at)
+pub arrives_later : {s : Scenario} {g : Happening} {device : DeviceId} {link : LinkId} {t : ℕ} {signal : Signal}
+    → IsForward s → Arrives s g device link t signal → time_of g < t
+arrives_later {g} {device} {link} forward a =
+    let one = forward link a.way device (time_of g) a.receiver in omega (arith, one, a.at)
 
-pub source_back : (s : Scenario) (hs zs : List Happening) (now r : ℕ) (more : List ℕ) → IsForward s → ((z : Happening) → IsIn z zs → time_of z ≡ now)
-    → NoneBefore place_of zs (now ∷ r ∷ more) → (w : List ℕ) → IsSource s (hs ++ zs) w → (w ≡ now ∷ r ∷ more) ⊎ IsBefore w (now ∷ r ∷ more) → IsBack s hs now w
-source_back s hs zs now r more forward of none w (IsSource.arriving t device link cause a) le =
+pub source_back : {s : Scenario} (hs zs : List Happening) (now r : ℕ) (more : List ℕ) → IsForward s
+    → ((z : Happening) → IsIn z zs → time_of z ≡ now) → NoneBefore place_of zs (now ∷ r ∷ more) → {w : List ℕ}
+    → IsSource s (hs ++ zs) w → (w ≡ now ∷ r ∷ more) ⊎ IsBefore w (now ∷ r ∷ more) → IsBack s hs now w
+source_back hs zs now r more forward of none (IsSource.arriving t device link cause a) le =
     elim (numbered_parts hs zs a.putting cause a.there) [
       | inl old ↦ inl (IsSource.arriving t device link cause (record { putting = a.putting; there = old; signal = a.signal; arrives = a.arrives }))
       | inr new ↦
-          let later = arrives_later s a.putting device link t a.signal forward a.arrives in
+          let later = arrives_later forward a.arrives in
           let at = of a.putting new in
           elim (no_higher t 2 now r _ more le) [ inl lt ↦ absurd (omega (arith, later, at, lt)) | inr same ↦ absurd (omega (arith, later, at, same.0)) ]
     ]
-source_back s hs zs now r more forward of none w (IsSource.ripening t device link cause point x) le =
+source_back hs zs now r more forward of none (IsSource.ripening t device link cause point x) le =
     let p = x.permanent in
     elim (numbered_parts hs zs p.arrival cause p.there) [
       | inl old ↦
@@ -189,16 +192,16 @@ source_back s hs zs now r more forward of none w (IsSource.ripening t device lin
           let from = p.reached.from_on in
           elim (no_higher t 3 now r _ more le) [ inl lt ↦ absurd (omega (arith, ints, from, at, lt)) | inr same ↦ absurd (omega (arith, low, two, same.1)) ]
     ]
-source_back s hs zs now r more forward of none w (IsSource.acting t device task a) le =
+source_back {s} hs zs now r more forward of none (IsSource.acting t device task a) le =
     let p = placed_so s.network t device task in
     let late = p.late in
-    elim (no_higher t p.rank now r (device.0 ∷ p.rest) more (subst (λ (q : List ℕ). (q ≡ now ∷ r ∷ more) ⊎ IsBefore q (now ∷ r ∷ more)) p.is le)) [
-      | inl lt ↦ inr (inl (subst (λ (q : List ℕ). IsBefore q (now ∷ [])) (sym p.is) (inl lt)))
+    elim (no_higher t p.rank now r (device.0 ∷ p.rest) more (subst (λ q. (q ≡ now ∷ r ∷ more) ⊎ IsBefore q (now ∷ r ∷ more)) p.is le)) [
+      | inl lt ↦ inr (inl (subst (λ q. IsBefore q (now ∷ [])) (sym p.is) (inl lt)))
       | inr same ↦
-          inl (IsSource.acting t device task (acting_back s hs zs t device task (λ z i. let at = of z i in omega (arith, at, same.0))
+          inl (IsSource.acting t device task (acting_back hs zs (λ z i. let at = of z i in omega (arith, at, same.0))
           (λ z i. let low = at_least z now r more (of z i) (none z i) in omega (arith, low, same.1, late)) a))
     ]
-source_back s hs zs now r more forward of none w (IsSource.departing t device link cause d) le =
+source_back {s} hs zs now r more forward of none (IsSource.departing t device link cause d) le =
     elim (numbered_parts hs zs d.giving cause d.there) [
       | inl old ↦ inl (IsSource.departing t device link cause (record { giving = d.giving; there = old; gives = d.gives; held = d.held }))
       | inr new ↦
@@ -208,7 +211,9 @@ source_back s hs zs now r more forward of none w (IsSource.departing t device li
           let held = d.held in
           elim (no_higher t 8 now r _ more le) [ inl lt ↦ absurd (omega (arith, held, at, lt)) | inr same ↦ absurd (omega (arith, low, few, same.1)) ]
     ]
-source_back s hs zs now r more forward of none w (IsSource.following t cause h it) le =
+source_back hs zs now r more forward of none (IsSource.following t cause h it) le =
     elim (no_higher t 2 now r _ more le) [ inl lt ↦ inr (inl (inl lt)) | inr same ↦ inr (inr (ap (λ (n : ℕ). n ∷ 2 ∷ []) same.0)) ]
-source_back s hs zs now r more forward of none w (IsSource.befalling time line what it) le = inl (IsSource.befalling time line what it)
-source_back s hs zs now r more forward of none w (IsSource.ending time device is there it) le = inl (IsSource.ending time device is there it)
+source_back hs zs now r more forward of none (IsSource.befalling time line what it) le =
+    inl (IsSource.befalling time line what it)
+source_back hs zs now r more forward of none (IsSource.ending time device is there it) le =
+    inl (IsSource.ending time device is there it)

@@ -27,50 +27,53 @@ pub record IsPlacedSo (network : Network) (t : ℕ) (device : DeviceId) (task : 
   pub late : 4 ≤ rank
   pub low : rank ≤ 6
 
-pub placed_so : (network : Network) (t : ℕ) (device : DeviceId) (task : Task) → IsPlacedSo network t device task
-placed_so network t device (emitting sent) = record {
-  rank = 4;
-  rest = amount sent.opened ∷ amount sent.at ∷ sent.cycle ∷ sent.members.0 ∷ sign sent.opened.0 ∷ sign sent.at.0 ∷ [];
-  is = refl;
-  late = omega arith;
-  low = omega arith;
-}
-placed_so network t device (doing (sending cycle)) = record { rank = 5; rest = cycle ∷ []; is = refl; late = omega arith; low = omega arith }
-placed_so network t device (doing (correcting cycle)) = record { rank = 6; rest = []; is = refl; late = omega arith; low = omega arith }
-placed_so network t device (doing (dispatching row cycle)) =
-    record { rank = 6; rest = dispatch_order network row; is = refl; late = omega arith; low = omega arith }
+module _ (network : Network) (t : ℕ) (device : DeviceId) where
+  pub placed_so : (task : Task) → IsPlacedSo network t device task
+  placed_so (emitting sent) = record {
+    rank = 4;
+    rest = amount sent.opened ∷ amount sent.at ∷ sent.cycle ∷ sent.members.0 ∷ sign sent.opened.0 ∷ sign sent.at.0 ∷ [];
+    is = refl;
+    late = omega arith;
+    low = omega arith;
+  }
+  placed_so (doing (sending cycle)) =
+      record { rank = 5; rest = cycle ∷ []; is = refl; late = omega arith; low = omega arith }
+  placed_so (doing (correcting cycle)) =
+      record { rank = 6; rest = []; is = refl; late = omega arith; low = omega arith }
+  placed_so (doing (dispatching row cycle)) =
+      record { rank = 6; rest = dispatch_order network row; is = refl; late = omega arith; low = omega arith }
 
--- it is of the device
-pub of_device : (network : Network) (t : ℕ) (device : DeviceId) (task : Task) (d : ℕ) (k : ℕ) (more : List ℕ)
-    → task_place network t device task ≡ t ∷ k ∷ d ∷ more → device.0 ≡ d
-of_device network t device task d k more e = let p = placed_so network t device task in ap third (sym p.is ∙ e)
+  -- it is of the device
+  pub of_device : (task : Task) (d k : ℕ) (more : List ℕ) → task_place network t device task ≡ t ∷ k ∷ d ∷ more
+      → device.0 ≡ d
+  of_device task d k more e = let p = placed_so task in ap third (sym p.is ∙ e)
 
--- no task stands at a place of another rank
-pub no_task_at : (network : Network) (t : ℕ) (device : DeviceId) (r : ℕ) (more : List ℕ) → (r < 4) ⊎ (6 < r) → (task : Task)
-    → task_place network t device task ≡ t ∷ r ∷ more → ⊥
-no_task_at network t device r more other task e =
-    let p = placed_so network t device task in
-    let same : p.rank ≡ r = ap second (sym p.is ∙ e) in
-    let late = p.late in
-    let low = p.low in
-    elim other [ inl less ↦ omega (arith, less, same, late) | inr more ↦ omega (arith, more, same, low) ]
+  -- no task stands at a place of another rank
+  pub no_task_at : (r : ℕ) (more : List ℕ) → (r < 4) ⊎ (6 < r) → (task : Task)
+      → task_place network t device task ≡ t ∷ r ∷ more → ⊥
+  no_task_at r more other task e =
+      let p = placed_so task in
+      let same : p.rank ≡ r = ap second (sym p.is ∙ e) in
+      let late = p.late in
+      let low = p.low in
+      elim other [ inl less ↦ omega (arith, less, same, late) | inr more ↦ omega (arith, more, same, low) ]
 
--- the place before all that the device does is before each task
-pub acts_first : (network : Network) (t : ℕ) (device : DeviceId) (task : Task) → IsBefore (act_place t device) (task_place network t device task)
-acts_first network t device (emitting sent) = inr (refl, inr (refl, inr (refl, tt)))
-acts_first network t device (doing (sending cycle)) = inr (refl, inl (omega arith))
-acts_first network t device (doing (correcting cycle)) = inr (refl, inl (omega arith))
-acts_first network t device (doing (dispatching row cycle)) = inr (refl, inl (omega arith))
+  -- the place before all that the device does is before each task
+  pub acts_first : (task : Task) → IsBefore (act_place t device) (task_place network t device task)
+  acts_first (emitting sent) = inr (refl, inr (refl, inr (refl, tt)))
+  acts_first (doing (sending cycle)) = inr (refl, inl (omega arith))
+  acts_first (doing (correcting cycle)) = inr (refl, inl (omega arith))
+  acts_first (doing (dispatching row cycle)) = inr (refl, inl (omega arith))
 
--- so where a task is before a place, that is
-pub acts_before : (network : Network) (t : ℕ) (device : DeviceId) (task : Task) (p : List ℕ) → IsBefore (task_place network t device task) p
-    → IsBefore (act_place t device) p
-acts_before network t device task p b = chain (act_place t device) (task_place network t device task) p (acts_first network t device task) b
+  -- so where a task is before a place, that is
+  pub acts_before : (task : Task) (p : List ℕ) → IsBefore (task_place network t device task) p
+      → IsBefore (act_place t device) p
+  acts_before task p b = chain (act_place t device) (task_place network t device task) p (acts_first task) b
 
 -- a task of a later time is not before a place up to which all is of a time
 pub task_time : (network : Network) (x t : ℕ) (device : DeviceId) (task : Task) → IsBefore (task_place network x device task) (t ∷ []) → x < t
 task_time network x t device task b =
-    let p = placed_so network x device task in at (p.rank ∷ device.0 ∷ p.rest) (subst (λ (u : List ℕ). IsBefore u (t ∷ [])) p.is b)
+    let p = placed_so network x device task in at (p.rank ∷ device.0 ∷ p.rest) (subst (λ u. IsBefore u (t ∷ [])) p.is b)
   where
     at : (ns : List ℕ) → IsBefore (x ∷ ns) (t ∷ []) → x < t
     at ns (inl lt) = lt
@@ -78,8 +81,9 @@ task_time network x t device task b =
 
 -- ---- the place of a dispatch
 
-pub row_order : (s : Scenario) (hs : List Happening) (device : DeviceId) (t : ℕ) (link : LinkId) (cause : ℕ) (vl : VlId) (cycle : ℕ)
-    → (d : Dispatches s hs device t link cause vl cycle)
-    → dispatch_order s.network (record { 0 = d.place }) ≡ amount d.entry.row.offset ∷ d.entry.row.link.0 ∷ d.place ∷ []
-row_order s hs device t link cause vl cycle d =
+pub row_order : {s : Scenario} {hs : List Happening} {device : DeviceId} {t : ℕ} {link : LinkId} {cause : ℕ}
+    {vl : VlId} {cycle : ℕ} (d : Dispatches s hs device t link cause vl cycle)
+    → dispatch_order s.network (record { 0 = d.place }) ≡ amount d.entry.row.offset ∷ d.entry.row.link.0 ∷ d.place
+    ∷ []
+row_order d =
     ap (λ (o : Option Row). option_map_or (λ (r : Row). amount r.offset ∷ r.link.0 ∷ d.place ∷ []) o []) d.row.row

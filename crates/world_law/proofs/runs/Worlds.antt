@@ -9,63 +9,68 @@ use Rattle.run_law.proofs.runs.{Grow.move_mark, NetworkRuns.{run_goes_on, same_n
 pub length_is : (s : Scenario) (ns : List Note) → length ns ≡ length (happenings s.network ns)
 length_is s ns = ap length (sym (same_notes s.network ns)) ∙ length-map (happenings s.network ns) (λ h. h.note)
 
-due_now : (s : Scenario) (hs : List Happening) (y : Happening) → IsDue s hs y → IsDueAs s (hs ++ []) y
-due_now s hs y due =
-    subst (λ (l : List Happening). IsDueAs s l y) (sym (append-nil hs)) (record { same = due.same; begun = due.begun; cause = due.cause })
+due_now : {s : Scenario} {hs : List Happening} {y : Happening} → IsDue s hs y → IsDueAs s (hs ++ []) y
+due_now {s} {hs} {y} due =
+    subst (λ l. IsDueAs s l y) (sym (append-nil hs)) (record { same = due.same; begun = due.begun; cause = due.cause })
 
-worked_now : (s : Scenario) (hs : List Happening) (cursor : List ℕ) (y : Happening) → IsWorkedOff s hs cursor y → IsWorkedOff s (hs ++ []) cursor y
-worked_now s hs cursor y worked = subst (λ (l : List Happening). IsWorkedOff s l cursor y) (sym (append-nil hs)) worked
+worked_now : {s : Scenario} {hs : List Happening} (cursor : List ℕ) (y : Happening) → IsWorkedOff s hs cursor y
+    → IsWorkedOff s (hs ++ []) cursor y
+worked_now {s} {hs} cursor y worked =
+    subst (λ l. IsWorkedOff s l cursor y) (sym (append-nil hs)) worked
 
--- what stands first is before all others
-pub first_before : (s : Scenario) (hs : List Happening) (z : Happening) (rest : List Happening) (mark cursor : List ℕ) (now : ℕ)
-    → AreSettled s hs (z ∷ rest) mark cursor now → (other : Happening) → IsIn other rest → IsBefore (place_of z) (place_of other)
-first_before s hs z rest mark cursor now settled other i =
-    let at = parted other rest i in
-    (settled.founded (z ∷ at.0) at.1 other (ap (λ (l : List Happening). z ∷ l) at.2)).0 z (inl refl)
+module _ {s : Scenario} {hs : List Happening} (z : Happening) (rest : List Happening) {mark cursor : List ℕ}
+    {now : ℕ} (settled : AreSettled s hs (z ∷ rest) mark cursor now) where
+  -- what stands first is before all others
+  pub first_before : (other : Happening) → IsIn other rest → IsBefore (place_of z) (place_of other)
+  first_before other i =
+      let at = parted other rest i in
+      (settled.founded (z ∷ at.0) at.1 other (ap (λ (l : List Happening). z ∷ l) at.2)).0 z (inl refl)
 
-none_under : (s : Scenario) (hs : List Happening) (z : Happening) (rest : List Happening) (mark cursor : List ℕ) (now : ℕ)
-    → AreSettled s hs (z ∷ rest) mark cursor now
-    → (other : Happening) → IsIn other (z ∷ rest) → (p : List ℕ) → IsBefore p (place_of z) → IsBefore (place_of other) p → ⊥
-none_under s hs z rest mark cursor now settled other (inl e) p here under =
-    never_self (place_of z) (chain (place_of z) p (place_of z) (subst (λ (h : Happening). IsBefore (place_of h) p) e under) here)
-none_under s hs z rest mark cursor now settled other (inr i) p here under =
-    let order = first_before s hs z rest mark cursor now settled other i in
-    never_self (place_of z) (chain (place_of z) (place_of other) (place_of z) order (chain (place_of other) p (place_of z) under here))
+  none_under : (other : Happening) → IsIn other (z ∷ rest) → (p : List ℕ) → IsBefore p (place_of z)
+      → IsBefore (place_of other) p → ⊥
+  none_under other (inl e) p here under =
+      never_self (place_of z) (chain (place_of z) p (place_of z)
+      (subst (λ h. IsBefore (place_of h) p) e under) here)
+  none_under other (inr i) p here under =
+      let order = first_before other i in
+      never_self (place_of z) (chain (place_of z) (place_of other) (place_of z) order
+      (chain (place_of other) p (place_of z) under here))
 
-not_at : (s : Scenario) (hs : List Happening) (z : Happening) (rest : List Happening) (mark cursor : List ℕ) (now : ℕ)
-    → AreSettled s hs (z ∷ rest) mark cursor now → (other : Happening) → IsIn other (z ∷ rest) → (p : List ℕ) → p ≡ place_of other → IsBefore p (place_of z) → ⊥
-not_at s hs z rest mark cursor now settled other (inl e) p at here =
-    never_self (place_of z) (subst (λ (q : List ℕ). IsBefore q (place_of z)) (at ∙ ap place_of e) here)
-not_at s hs z rest mark cursor now settled other (inr i) p at here =
-    let order = first_before s hs z rest mark cursor now settled other i in
-    never_self (place_of z) (chain (place_of z) (place_of other) (place_of z) order (subst (λ (q : List ℕ). IsBefore q (place_of z)) at here))
+  not_at : (other : Happening) → IsIn other (z ∷ rest) → (p : List ℕ) → p ≡ place_of other → IsBefore p (place_of z)
+      → ⊥
+  not_at other (inl e) p at here =
+      never_self (place_of z) (subst (λ q. IsBefore q (place_of z)) (at ∙ ap place_of e) here)
+  not_at other (inr i) p at here =
+      let order = first_before other i in
+      never_self (place_of z) (chain (place_of z) (place_of other) (place_of z) order
+      (subst (λ q. IsBefore q (place_of z)) at here))
 
-none_before : (s : Scenario) (hs : List Happening) (z : Happening) (rest : List Happening) (mark cursor : List ℕ) (now : ℕ)
-    → AreSettled s hs (z ∷ rest) mark cursor now → NoSourceBefore s hs cursor (place_of z) → NoneDueBefore place_of (IsDue s) mark hs (place_of z)
-none_before s hs z rest mark cursor now settled none y due not here =
-    let from = sourced s hs y due in
-    elim (before_or_not from.place cursor) [
-      | inl worked ↦
-          let under = λ (o : Happening) (i : IsIn o (z ∷ rest)) (b : IsBefore (place_of o) (place_of y)). none_under s hs z rest mark cursor now settled o i
-          (place_of y) here b in
-          let found = settled.full [] (z ∷ rest) y refl (λ n i. absurd i) under not (due_now s hs y due)
-          (worked_now s hs cursor y (from.place, from.own, from.source, worked)) in
-          not_at s hs z rest mark cursor now settled found.0 found.1 (place_of y) (sym found.2) here
-      | inr waits ↦ none from.place from.source waits (source_before from.place (place_of y) (place_of z) from.no_later here)
-    ]
+  none_before : NoSourceBefore s hs cursor (place_of z) → NoneDueBefore place_of (IsDue s) mark hs (place_of z)
+  none_before none y due not here =
+      let from = sourced s hs y due in
+      elim (before_or_not from.place cursor) [
+        | inl worked ↦
+            let under = λ (o : Happening) (i : IsIn o (z ∷ rest)) (b : IsBefore (place_of o) (place_of y)). none_under o i
+            (place_of y) here b in
+            let found = settled.full [] (z ∷ rest) y refl (λ n i. absurd i) under not (due_now due)
+            (worked_now {s = s} {hs = hs} cursor y (from.place, from.own, from.source, worked)) in
+            not_at found.0 found.1 (place_of y) (sym found.2) here
+        | inr waits ↦ none from.place from.source waits
+            (source_before from.place (place_of y) (place_of z) from.no_later here)
+      ]
 
 pub first_settled_is_next : FirstSettledIsNext
 first_settled_is_next s notes z rest mark cursor now run settled none =
     let hs = happenings s.network notes in
     let x = happening s.network hs (note_of notes z) in
-    let first : IsDueAs s hs z = subst (λ (l : List Happening). IsDueAs s l z) (append-nil hs) (settled.founded [] rest z refl).1 in
+    let first : IsDueAs s hs z = subst (λ l. IsDueAs s l z) (append-nil hs) (settled.founded [] rest z refl).1 in
     let place : place_of x ≡ place_of z = ap place_of (sym first.same) in
-    let due : IsDue s hs x = record { number = ap (λ (n : ℕ). n + 1) (length_is s notes); same = refl; begun = first.begun; cause = first.cause } in
-    let not : IsBefore (place_of x) mark → ⊥ = λ b. settled.behind_mark z (inl refl) (subst (λ (p : List ℕ). IsBefore p mark) place b) in
+    let due : IsDue s hs x = record { number = ap (λ n. n + 1) (length_is s notes); same = refl; begun = first.begun; cause = first.cause } in
+    let not : IsBefore (place_of x) mark → ⊥ = λ b. settled.behind_mark z (inl refl) (subst (λ p. IsBefore p mark) place b) in
     let free : NoneDueBefore place_of (IsDue s) mark hs (place_of x) = subst (NoneDueBefore place_of (IsDue s) mark hs) (sym place)
-    (none_before s hs z rest mark cursor now settled none) in
-    subst (λ (p : List ℕ). IsScenarioRun s (behind p) (notes ++ note_of notes z ∷ [])) place
-    (run_goes_on s mark notes (note_of notes z) x run refl (is_next place_of (IsDue s) mark hs x run not due free))
+    (none_before z rest settled none) in
+    subst (λ p. IsScenarioRun s (behind p) (notes ++ note_of notes z ∷ [])) place
+    (run_goes_on s mark notes (note_of notes z) x run refl (is_next (IsDue s) x run not due free))
 
 pub nothing_settled_is_all : NothingSettledIsAll
 nothing_settled_is_all s notes mark cursor now until run settled within none =
@@ -73,8 +78,8 @@ nothing_settled_is_all s notes mark cursor now until run settled within none =
     let free : NoneDueBefore place_of (IsDue s) mark hs (until ∷ []) = λ y due not here.
     let from = sourced s hs y due in
     elim (before_or_not from.place cursor) [
-      | inl worked ↦ absurd (settled.full [] [] y refl (λ n i. absurd i) (λ n i. absurd i) not (due_now s hs y due)
-          (worked_now s hs cursor y (from.place, from.own, from.source, worked))).1
+      | inl worked ↦ absurd (settled.full [] [] y refl (λ n i. absurd i) (λ n i. absurd i) not (due_now due)
+          (worked_now {s = s} {hs = hs} cursor y (from.place, from.own, from.source, worked))).1
       | inr waits ↦ none from.place from.source waits (source_before from.place (place_of y) (until ∷ []) from.no_later here)
     ] in
     move_mark place_of (IsDue s) mark (until ∷ []) hs run (λ n i. within (place_of n) (run.within n i))

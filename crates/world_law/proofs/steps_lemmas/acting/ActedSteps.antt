@@ -35,13 +35,15 @@ heard_so plan precision Synchronised adjustment point cycle members =
     [ true ↦ tt | false ↦ tt ]
 
 -- how it heard its frame
-pub heard_by_it : {C M : Type 0} (reading : C → ℕ → ℕ) (stands : M → Network → DeviceId → Node → Type 0) (s : Scenario) (world : World C M) (notes : List Note)
-    (device : DeviceId) (after : M) (bodies : List NoteBody) (old : Stands reading stands s world notes)
-    (a : Acts reading stands s world notes old device after bodies)
-    (sent : _) (heard : Ripe) → ComesFirst reading stands s world notes old (place_of_act world.now device (acts.Emit sent heard))
+pub heard_by_it : {C M : Type 0} {reading : C → ℕ → ℕ} {stands : M → Network → DeviceId → Node → Type 0}
+    {s : Scenario} {world : World C M} {notes : List Note} {device : DeviceId} {after : M} {bodies : List NoteBody}
+    {old : Stands reading stands s world notes} (a : Acts reading stands s world notes old device after bodies)
+    (sent : _) (heard : Ripe) → ComesFirst reading stands s world notes old
+    (place_of_act world.now device (acts.Emit sent heard))
     → ((z : Happening) → IsIn z world.settled → 4 < rank z.note.body)
-    → HasActed stands s.network device (moment_of s device world.now) (acts.Emit sent heard) a.machine after → IsHeardSo heard
-heard_by_it reading stands s world notes device after bodies old a sent heard first apart acted =
+    → HasActed stands s.network device (moment_of s device world.now) (acts.Emit sent heard) a.machine after
+    → IsHeardSo heard
+heard_by_it {reading} {stands} {s} {world} {notes} {device} {after} {old} a sent heard first apart acted =
     let stage = stage_of reading stands s world notes old device a.machine after (acts.Emit sent heard) a.of_it first apart a.there a.due acted in
     let node = stage.0 in
     let st = stage.1 in
@@ -63,61 +65,73 @@ ActsBy {C} {M} reading stands act =
     → StandsBehind reading stands s (record world { early = false; machines = machines; settled = settled }) notes
     (behind (task_place s.network world.now device (task_of act)))
 
-emission_by : {C M : Type 0} (reading : C → ℕ → ℕ) (stands : M → Network → DeviceId → Node → Type 0) (sent : Compressed) (heard : Ripe)
-    → ActsBy reading stands (acts.Emit sent heard)
-emission_by reading stands sent ripe.Within s world notes device after bodies machines settled old a first apart acted are set put =
-    act_goes_by reading stands s world notes old device a.machine after machines settled (acts.Emit sent ripe.Within)
-    (emits_one reading stands s world notes old device after bodies machines settled sent ripe.Within tt a first apart acted set
-    (subst (λ (l : List NoteBody). ArePutIn s.network (happenings s.network notes) world.now l world.settled settled) are put))
-emission_by reading stands sent ripe.Outside s world notes device after bodies machines settled old a first apart acted are set put =
-    act_goes_by reading stands s world notes old device a.machine after machines settled (acts.Emit sent ripe.Outside)
-    (emits_one reading stands s world notes old device after bodies machines settled sent ripe.Outside tt a first apart acted set
-    (subst (λ (l : List NoteBody). ArePutIn s.network (happenings s.network notes) world.now l world.settled settled) are put))
-emission_by reading stands sent ripe.Ignored s world notes device after bodies machines settled old a first apart acted are set put =
-    act_goes_by reading stands s world notes old device a.machine after machines settled (acts.Emit sent ripe.Ignored)
-    (emits_one reading stands s world notes old device after bodies machines settled sent ripe.Ignored tt a first apart acted set
-    (subst (λ (l : List NoteBody). ArePutIn s.network (happenings s.network notes) world.now l world.settled settled) are put))
-emission_by reading stands sent ripe.Integrates s world notes device after bodies machines settled old a first apart acted are set put =
-    join_goes_by reading stands s world notes old device a.machine after sent machines settled (record {
-      of_it = a.of_it;
-      first = first;
-      apart = apart;
-      there = a.there;
-      due = a.due;
-      acted = acted;
-      set = set;
-      put = subst (λ (l : List NoteBody). ArePutIn s.network (happenings s.network notes) world.now l world.settled settled) are put;
-    })
-emission_by reading stands sent heard s world notes device after bodies machines settled old a first apart acted are set put =
-    absurd (heard_by_it reading stands s world notes device after bodies old a sent heard first apart acted)
+module _ {C M : Type 0} (reading : C → ℕ → ℕ) (stands : M → Network → DeviceId → Node → Type 0) where
+  emission_by : (sent : Compressed) (heard : Ripe) → ActsBy reading stands (acts.Emit sent heard)
+  emission_by sent ripe.Within s world notes device after bodies machines settled old a first apart acted are set put =
+      act_goes_by
+      (emits_one settled sent ripe.Within tt a first apart acted set
+      (subst (λ l. ArePutIn s.network (happenings s.network notes) world.now l world.settled
+      settled) are put))
+  emission_by sent ripe.Outside s world notes device after bodies machines settled old a first apart acted are set put =
+      act_goes_by
+      (emits_one settled sent ripe.Outside tt a first apart acted set
+      (subst (λ l. ArePutIn s.network (happenings s.network notes) world.now l world.settled
+      settled) are put))
+  emission_by sent ripe.Ignored s world notes device after bodies machines settled old a first apart acted are set put =
+      act_goes_by
+      (emits_one settled sent ripe.Ignored tt a first apart acted set
+      (subst (λ l. ArePutIn s.network (happenings s.network notes) world.now l world.settled
+      settled) are put))
+  emission_by sent ripe.Integrates s world notes device after bodies machines settled old a first apart acted are set
+      put =
+      join_goes_by {reading = reading} {stands = stands} {s = s} {world = world} {notes = notes} {old = old} {device = device} {machine = a.machine} {after = after} {sent = sent} {machines = machines} {settled = settled} (record {
+        of_it = a.of_it;
+        first = first;
+        apart = apart;
+        there = a.there;
+        due = a.due;
+        acted = acted;
+        set = set;
+        put = subst (λ l. ArePutIn s.network (happenings s.network notes) world.now l world.settled
+            settled) are put;
+      })
+  emission_by sent heard s world notes device after bodies machines settled old a first apart acted are set put =
+      absurd (heard_by_it a sent heard first apart acted)
 
-acts_by : {C M : Type 0} (reading : C → ℕ → ℕ) (stands : M → Network → DeviceId → Node → Type 0) (act : Act) → ActsBy reading stands act
-acts_by reading stands (acts.Send frame) s world notes device after bodies machines settled old a first apart acted are set put =
-    act_goes_by reading stands s world notes old device a.machine after machines settled (acts.Send frame)
-    (sends_one reading stands s world notes old device after bodies machines settled frame a first apart acted set
-    (subst (λ (l : List NoteBody). ArePutIn s.network (happenings s.network notes) world.now l world.settled settled) are put))
-acts_by reading stands (acts.Emit sent heard) s world notes device after bodies machines settled old a first apart acted are set put =
-    emission_by reading stands sent heard s world notes device after bodies machines settled old a first apart acted are set put
-acts_by reading stands (acts.Correct cycle verdict) s world notes device after bodies machines settled old a first apart acted are set put =
-    correct_goes_by reading stands s world notes old device a.machine after cycle verdict a.was a.adjustment machines settled (record {
-      of_it = a.of_it;
-      first = first;
-      apart = apart;
-      there = a.there;
-      due = a.due;
-      acted = acted;
-      before = a.before;
-      stood = a.stood;
-      state = a.is;
-      stands_then = a.stands_then;
-      set = set;
-      put = subst (λ (l : List NoteBody). ArePutIn s.network (happenings s.network notes) world.now l world.settled settled) are put;
-    })
-acts_by reading stands (acts.Dispatch row cycle) s world notes device after bodies machines settled old a first apart acted are set put =
-    act_goes_by reading stands s world notes old device a.machine after machines settled (acts.Dispatch row cycle)
-    (dispatches_one reading stands s world notes old device after bodies machines settled row cycle are.0 are.1 a first apart acted are.2 are.3 set
-    (subst (λ (l : List NoteBody). ArePutIn s.network (happenings s.network notes) world.now l world.settled settled) are.4 put))
+  acts_by : (act : Act) → ActsBy reading stands act
+  acts_by (acts.Send frame) s world notes device after bodies machines settled old a first apart acted are set put =
+      act_goes_by
+      (sends_one settled frame a first apart acted set
+      (subst (λ l. ArePutIn s.network (happenings s.network notes) world.now l world.settled
+      settled) are put))
+  acts_by (acts.Emit sent heard) s world notes device after bodies machines settled old a first apart acted are set
+      put =
+      emission_by sent heard s world notes device after bodies machines settled old a first apart acted are set put
+  acts_by (acts.Correct cycle verdict) s world notes device after bodies machines settled old a first apart acted are
+      set put =
+      correct_goes_by old device a.machine {after = after} {cycle = cycle} verdict
+      a.was {adjustment = a.adjustment} {machines = machines} {settled = settled} (record {
+        of_it = a.of_it;
+        first = first;
+        apart = apart;
+        there = a.there;
+        due = a.due;
+        acted = acted;
+        before = a.before;
+        stood = a.stood;
+        state = a.is;
+        stands_then = a.stands_then;
+        set = set;
+        put = subst (λ l. ArePutIn s.network (happenings s.network notes) world.now l world.settled
+            settled) are put;
+      })
+  acts_by (acts.Dispatch row cycle) s world notes device after bodies machines settled old a first apart acted are
+      set put =
+      act_goes_by
+      (dispatches_one settled row a first apart acted are.2 are.3 set
+      (subst (λ l. ArePutIn s.network (happenings s.network notes) world.now l world.settled
+      settled) are.4 put))
 
-pub acted_step : {C M : Type 0} (reading : C → ℕ → ℕ) (stands : M → Network → DeviceId → Node → Type 0) → ActedStep reading stands
-acted_step reading stands s world notes device after bodies machines settled old a set put =
-    acts_by reading stands a.act s world notes device after bodies machines settled old a a.first a.apart a.acted a.are set put
+  pub acted_step : ActedStep reading stands
+  acted_step s world notes device after bodies machines settled old a set put =
+      acts_by a.act s world notes device after bodies machines settled old a a.first a.apart a.acted a.are set put

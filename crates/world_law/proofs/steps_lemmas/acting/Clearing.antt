@@ -17,9 +17,9 @@ pub in_behind : (p : Happening → Bool) (js : List Happening) (h : Happening) �
 in_behind p js =
     by_last (λ (l : List Happening). (h : Happening) → IsIn h (after_last p l) → IsIn h l) (λ h i. i) (λ l x same h i.
     elim (cases_Bool (p x)) [
-      | inl passes ↦ absurd (subst (λ (k : List Happening). IsIn h k) (behind_yes p l x passes) i)
+      | inl passes ↦ absurd (subst (λ k. IsIn h k) (behind_yes p l x passes) i)
       | inr stays ↦ elim
-          (Rattle.run_law.proofs.runs.Places.in_parts h (after_last p l) (x ∷ []) (subst (λ (k : List Happening). IsIn h k) (behind_no p l x stays) i)) [
+          (Rattle.run_law.proofs.runs.Places.in_parts h (after_last p l) (x ∷ []) (subst (λ k. IsIn h k) (behind_no p l x stays) i)) [
             | inl old ↦ in_left h l (x ∷ []) (same h old)
             | inr new ↦ Rattle.run_law.proofs.runs.Places.in_right h l (x ∷ []) new
           ]
@@ -34,9 +34,10 @@ number_is : (b : Bool) (number recorded : ℕ) → number ≡ (if b then recorde
 number_is true number recorded e le = absurd (omega (arith, e, le))
 number_is false number recorded e le = e
 
-pub is_clearing : (s : Scenario) (js : List Happening) (now : ℕ) (device : DeviceId) (node : Node) → IsLeft s js device now node → IsAtIntegration node.standing
-    → IsClearing s js now device node
-is_clearing s js now device node left at = grind (arith, is_timed, integration_cycle, earlier, recorded_cycle, number_is, has_cleared, option_map_or, eq-eqb)
+pub is_clearing : {s : Scenario} {js : List Happening} {now : ℕ} {device : DeviceId} {node : Node}
+    → IsLeft s js device now node → IsAtIntegration node.standing → IsClearing s js now device node
+is_clearing left at =
+    grind (arith, is_timed, integration_cycle, earlier, recorded_cycle, number_is, has_cleared, option_map_or, eq-eqb)
 
 back_there : (v a : ℤ) (r : ℕ) → (v -ℤ a) ≤ℤ pos r → v ≤ℤ (pos r +ℤ a)
 back_there v a r le = omega (arith, ints, le)
@@ -47,27 +48,30 @@ below_there v a r lt = omega (arith, ints, lt)
 below_more : (v a : ℤ) (r m : ℕ) → (pos m +ℤ a) <ℤ v → r ≤ m → (pos r +ℤ a) <ℤ v
 below_more v a r m lt le = omega (arith, ints, lt, le)
 
-pub cleared_over : (s : Scenario) (hs zs : List Happening) (now : ℕ) (device : DeviceId) (node : Node) (cycle : ℕ) (moment : Moment) (heard : Summary)
-    → IsAtWork s hs zs now device node → is_turned_on_at s device now ≡ false → is_turned_on_at s device (now + 1) ≡ false
-    → is_broken s device (now + 1) ≡ is_broken s device now → ((x y : ℕ) → x ≤ y → s.reading device x ≤ s.reading device y)
-    → HasCleared node → IsAtIntegration node.standing → IsUndone s.network device node (correcting cycle)
+pub cleared_over : {s : Scenario} {hs zs : List Happening} {now : ℕ} {device : DeviceId} {node : Node} (cycle : ℕ)
+    (moment : Moment) (heard : Summary) → IsAtWork s hs zs now device node → is_turned_on_at s device now ≡ false
+    → is_turned_on_at s device (now + 1) ≡ false → is_broken s device (now + 1) ≡ is_broken s device now
+    → ((x y : ℕ) → x ≤ y → s.reading device x ≤ s.reading device y) → HasCleared node → IsAtIntegration node.standing
+    → IsUndone s.network device node (correcting cycle)
     → reading_for s.network node (doing (correcting cycle)) ≤ℤ pos (s.reading device now)
     → pos (s.reading device now) <ℤ (reading_for s.network node (doing (correcting cycle)) +ℤ s.network.precision.0)
-    → s.network.precision.0 ≤ℤ pos (amount s.network.cycle) → ((c : Compressed) → IsWaiting s.network device node c → pos (s.reading device now) <ℤ c.at.0)
+    → s.network.precision.0 ≤ℤ pos (amount s.network.cycle)
+    → ((c : Compressed) → IsWaiting s.network device node c → pos (s.reading device now) <ℤ c.at.0)
     → IsOver s (hs ++ zs) now device (called moment acting (after_correction node moment heard cycle Cleared))
-cleared_over s hs zs now device node cycle moment heard w off later same falls has at u due in_time wide quiet =
+cleared_over {s} {hs} {zs} {now} {device} {node} cycle moment heard w off later same falls has at u due in_time wide
+    quiet =
     let js = hs ++ zs in
     let le : now ≤ now + 1 = omega arith in
-    let still = still_now s hs zs now device node w off in
-    let base = base_then s hs zs now device node w off same in
-    let c = is_clearing s js now device node w.left at in
+    let still = still_now w off in
+    let base = base_then w off same in
+    let c = is_clearing w.left at in
     let number : node.standing.number ≡ cycle = (point_number node.standing.state node.standing.number cycle u.own).1 in
     let v = correction_value s.network (recorded_cycle (earlier now js) device) in
     let same_v : correction_value s.network cycle ≡ v = ap (correction_value s.network) (sym number ∙ c.number) in
     let adjustment = (adjustment_before s js device now).0 in
-    let ahead : local_at_change s js device now <ℤ v = subst (λ (z : ℤ). local_at_change s js device now <ℤ z) same_v
-    (subst (λ (z : ℤ). z <ℤ correction_value s.network cycle) w.left.counted.changed u.ahead) in
-    let reached : v ≤ℤ (pos (s.reading device now) +ℤ adjustment) = subst (λ (z : ℤ). z ≤ℤ (pos (s.reading device now) +ℤ adjustment)) same_v
+    let ahead : local_at_change s js device now <ℤ v = subst (λ z. local_at_change s js device now <ℤ z) same_v
+    (subst (λ z. z <ℤ correction_value s.network cycle) w.left.counted.changed u.ahead) in
+    let reached : v ≤ℤ (pos (s.reading device now) +ℤ adjustment) = subst (λ z. z ≤ℤ (pos (s.reading device now) +ℤ adjustment)) same_v
     (back_there (correction_value s.network cycle) adjustment (s.reading device now)
     (subst (λ (a : Units). (correction_value s.network cycle -ℤ a.0) ≤ℤ pos (s.reading device now)) w.left.counted.adjustment due)) in
     let here : now + 1 - 1 ≡ now = omega arith in
@@ -80,7 +84,7 @@ cleared_over s hs zs now device node cycle moment heard w off later same falls h
           (falls x (changed_at js device now) (omega (arith, sooner)))
       | inr from ↦ elim early [
         | inr upto ↦ below_more v adjustment (s.reading device x) (s.reading device (changed_at js device now)) ahead (falls x (changed_at js device now) upto)
-        | inl lt ↦ subst (λ (z : ℤ). (pos (s.reading device x) +ℤ adjustment) <ℤ z) same_v
+        | inl lt ↦ subst (λ z. (pos (s.reading device x) +ℤ adjustment) <ℤ z) same_v
             (below_there (correction_value s.network cycle) adjustment (s.reading device x)
             (subst (λ (a : Units). pos (s.reading device x) <ℤ (correction_value s.network cycle -ℤ a.0)) w.left.counted.adjustment
             (w.done.undone (correcting cycle) u x from lt)))
@@ -101,7 +105,7 @@ cleared_over s hs zs now device node cycle moment heard w off later same falls h
     ∙ cleared_still s js device now (now + 1) (time_of h) le still ∙ not_then (time_of h) (w.past h (in_behind p js h i))) in
     let next : next_cycle s js device (now + 1) ≡ node.standing.number + 1 =
     ap (λ (b : Bool). if b then recorded_cycle (earlier (now + 1) js) device + 1 else recorded_cycle (earlier (now + 1) js) device) cleared
-    ∙ ap (λ (n : ℕ). n + 1) (cycle_still js device now (now + 1) le still ∙ sym c.number) in
+    ∙ ap (λ n. n + 1) (cycle_still js device now (now + 1) le still ∙ sym c.number) in
     let after = called moment acting (after_correction node moment heard cycle Cleared) in
     let change : changed_at js device (now + 1) ≡ changed_at js device now = change_still js device now (now + 1) le still in
     let upto = Rattle.world_law.proofs.steps_lemmas.acting.Starts.changed_soon js device now in
@@ -128,13 +132,13 @@ cleared_over s hs zs now device node cycle moment heard w off later same falls h
             now,
             omega (arith, change, upto),
             omega arith,
-            subst (λ (d : ClockTask). (value_of s.network d -ℤ node.standing.adjustment.0) ≤ℤ pos (s.reading device now)) is due,
+            subst (λ d. (value_of s.network d -ℤ node.standing.adjustment.0) ≤ℤ pos (s.reading device now)) is due,
           )
         ];
       };
       sent = record {
         unsent = λ d wa x lt.
-            let waits = waiting_alike s.network device node after d refl (λ e there. there) wa in
+            let waits = waiting_alike s.network device node after refl (λ e there. there) wa in
             elim (cases_lt x now) [
               | inl before ↦ w.sent.unsent d waits x before
               | inr ge ↦ let at_now : x ≡ now = omega (arith, ge, lt) in subst (λ (n : ℕ). pos (s.reading device n) <ℤ d.at.0) (sym at_now) (quiet d waits)

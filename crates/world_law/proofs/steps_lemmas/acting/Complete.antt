@@ -39,50 +39,55 @@ elsewhere : (now t d k : ℕ) (ws : List ℕ) → now ∷ 6 ∷ d ∷ [] ≡ t �
 elsewhere now t d k ws e not = not (sym (ap second e))
 
 -- a row has a place of its own
-no_row : (s : Scenario) (js : List Happening) (now t : ℕ) (device other : DeviceId) (link : _) (cause : ℕ) (vl : _) (cycle : ℕ)
-    → (d : Dispatches s js other t link cause vl cycle)
+no_row : {s : Scenario} {js : List Happening} (now : ℕ) {t : ℕ} (device : DeviceId) {other : DeviceId} {link : _}
+    {cause : ℕ} {vl : _} {cycle : ℕ} (d : Dispatches s js other t link cause vl cycle)
     → now ∷ 6 ∷ device.0 ∷ [] ≡ t ∷ 6 ∷ other.0 ∷ dispatch_order s.network (record { 0 = d.place }) → ⊥
-no_row s js now t device other link cause vl cycle d e =
+no_row now device d e =
     let long = ap length e in
-    let order = ap length (row_order s js other t link cause vl cycle d) in
+    let order = ap length (row_order d) in
     omega (arith, long, order)
 
--- what comes from the correction point of the device is of the instant, and caused by it
-pub point_cause_of : (s : Scenario) (js : List Happening) (now : ℕ) (device : DeviceId) (time : Units) (m : ℕ) (body : NoteBody)
-    → IsOwnSource s js (amount time) m body (rows_place now device) → IsCaused s js time body → (amount time ≡ now) × IsPointCause s js now device body
-point_cause_of s js now device time m (kinds.Corrected other cycle by adjustment) own c =
-    at_it now (amount time) device other (λ d n. IsCorrectedRecord s js d n cycle by adjustment) own c
-point_cause_of s js now device time m (kinds.State other state cause whys.SyncClique) own c =
-    let x = at_it now (amount time) device other (λ d n. (cycle : ℕ) × ComesToCorrection s js d n cycle SyncClique) own.1 c.2 in
-    (x.0, (x.1.0, c.0, c.1, x.1.1))
-point_cause_of s js now device time m (kinds.State other state cause whys.AsyncClique) own c =
-    let x = at_it now (amount time) device other (λ d n. (cycle : ℕ) × ComesToCorrection s js d n cycle AsyncClique) own.1 c.2 in
-    (x.0, (x.1.0, c.0, c.1, x.1.1))
-point_cause_of s js now device time m (kinds.Lost other link cause) (inl own) c =
-    absurd (elsewhere now (amount time) device.0 8 _ own.0 (λ k. omega (arith, k)))
-point_cause_of s js now device time m (kinds.Lost other link cause) (inr (inl own)) c =
-    absurd (no_row s js now (amount time) device other link cause own.0 own.1 own.2 own.4)
-point_cause_of s js now device time m (kinds.Lost other link cause) (inr (inr own)) c =
-    absurd (elsewhere now (amount time) device.0 2 _ own.0 (λ k. omega (arith, k)))
-point_cause_of s js now device time m (kinds.TtSent other link cause vl cycle) own c =
-    absurd (no_row s js now (amount time) device other link cause vl cycle own.0 own.1)
-point_cause_of s js now device time m (kinds.Compressed other opened at cycle members verdict) own c =
-    absurd (elsewhere now (amount time) device.0 4 _ own (λ k. omega (arith, k)))
-point_cause_of s js now device time m (kinds.Sent other cycle) own c = absurd (elsewhere now (amount time) device.0 5 _ own (λ k. omega (arith, k)))
-point_cause_of s js now device time m (kinds.Event line what) own c = absurd (elsewhere now (amount time) device.0 1 _ own (λ k. omega (arith, k)))
-point_cause_of s js now device time m (kinds.Permanent other link cause point verdict) own c =
-    absurd (elsewhere now (amount time) device.0 3 _ own (λ k. omega (arith, k)))
-point_cause_of s js now device time m (kinds.Left other link cause clock) own c =
-    absurd (elsewhere now (amount time) device.0 8 _ own (λ k. omega (arith, k)))
-point_cause_of s js now device time m (kinds.Dropped other link cause reason) (inl own) c =
-    absurd (elsewhere now (amount time) device.0 2 _ own.0 (λ k. omega (arith, k)))
-point_cause_of s js now device time m (kinds.Dropped other link cause reason) (inr (inl own)) c =
-    absurd (elsewhere now (amount time) device.0 3 _ own.2 (λ k. omega (arith, k)))
-point_cause_of s js now device time m (kinds.Dropped other link cause reason) (inr (inr own)) c =
-    absurd (elsewhere now (amount time) device.0 8 _ own.0 (λ k. omega (arith, k)))
-point_cause_of s js now device time m (kinds.Clock other reading adjustment state) own c =
-    absurd (elsewhere now (amount time) device.0 14 _ own (λ k. omega (arith, k)))
-point_cause_of s js now device time m rest own c = absurd (elsewhere now (amount time) device.0 2 _ own (λ k. omega (arith, k)))
+module _ (s : Scenario) (js : List Happening) (now : ℕ) (device : DeviceId) (time : Units) (m : ℕ) where
+  -- what comes from the correction point of the device is of the instant, and caused by it
+  pub point_cause_of : (body : NoteBody) → IsOwnSource s js (amount time) m body (rows_place now device)
+      → IsCaused s js time body → (amount time ≡ now) × IsPointCause s js now device body
+  point_cause_of (kinds.Corrected other cycle by adjustment) own c =
+      at_it now (amount time) device other (λ d n. IsCorrectedRecord s js d n cycle by adjustment) own c
+  point_cause_of (kinds.State other state cause whys.SyncClique) own c =
+      let x = at_it now (amount time) device other (λ d n. (cycle : ℕ) × ComesToCorrection s js d n cycle SyncClique)
+      own.1 c.2 in
+      (x.0, (x.1.0, c.0, c.1, x.1.1))
+  point_cause_of (kinds.State other state cause whys.AsyncClique) own c =
+      let x = at_it now (amount time) device other
+      (λ d n. (cycle : ℕ) × ComesToCorrection s js d n cycle AsyncClique) own.1 c.2 in
+      (x.0, (x.1.0, c.0, c.1, x.1.1))
+  point_cause_of (kinds.Lost other link cause) (inl own) c =
+      absurd (elsewhere now (amount time) device.0 8 _ own.0 (λ k. omega (arith, k)))
+  point_cause_of (kinds.Lost other link cause) (inr (inl own)) c =
+      absurd (no_row now device own.2 own.4)
+  point_cause_of (kinds.Lost other link cause) (inr (inr own)) c =
+      absurd (elsewhere now (amount time) device.0 2 _ own.0 (λ k. omega (arith, k)))
+  point_cause_of (kinds.TtSent other link cause vl cycle) own c =
+      absurd (no_row now device own.0 own.1)
+  point_cause_of (kinds.Compressed other opened at cycle members verdict) own c =
+      absurd (elsewhere now (amount time) device.0 4 _ own (λ k. omega (arith, k)))
+  point_cause_of (kinds.Sent other cycle) own c =
+      absurd (elsewhere now (amount time) device.0 5 _ own (λ k. omega (arith, k)))
+  point_cause_of (kinds.Event line what) own c =
+      absurd (elsewhere now (amount time) device.0 1 _ own (λ k. omega (arith, k)))
+  point_cause_of (kinds.Permanent other link cause point verdict) own c =
+      absurd (elsewhere now (amount time) device.0 3 _ own (λ k. omega (arith, k)))
+  point_cause_of (kinds.Left other link cause clock) own c =
+      absurd (elsewhere now (amount time) device.0 8 _ own (λ k. omega (arith, k)))
+  point_cause_of (kinds.Dropped other link cause reason) (inl own) c =
+      absurd (elsewhere now (amount time) device.0 2 _ own.0 (λ k. omega (arith, k)))
+  point_cause_of (kinds.Dropped other link cause reason) (inr (inl own)) c =
+      absurd (elsewhere now (amount time) device.0 3 _ own.2 (λ k. omega (arith, k)))
+  point_cause_of (kinds.Dropped other link cause reason) (inr (inr own)) c =
+      absurd (elsewhere now (amount time) device.0 8 _ own.0 (λ k. omega (arith, k)))
+  point_cause_of (kinds.Clock other reading adjustment state) own c =
+      absurd (elsewhere now (amount time) device.0 14 _ own (λ k. omega (arith, k)))
+  point_cause_of rest own c = absurd (elsewhere now (amount time) device.0 2 _ own (λ k. omega (arith, k)))
 
 -- ---- what is done, or is not due, is told
 
@@ -94,11 +99,11 @@ pub same_told : (s : Scenario) (now : ℕ) (device : DeviceId) (link : LinkId) (
 same_told s now device link cause vl cycle x y told e at_x at =
     let lost : (h : Happening) → h.note.body ≡ kinds.Lost device link cause → time_of h ≡ now → place_of h ≡ now ∷ 9 ∷ device.0 ∷ link.0 ∷ cause ∷ [] =
     λ h body time.
-    ap (λ (b : NoteBody). time_of h ∷ rank b ∷ Rattle.run_law.specs.records.Ranks.key (members_in h) b) body
+    ap (λ b. time_of h ∷ rank b ∷ Rattle.run_law.specs.records.Ranks.key (members_in h) b) body
     ∙ ap (λ (n : ℕ). n ∷ 9 ∷ device.0 ∷ link.0 ∷ cause ∷ []) time in
     let sent : (h : Happening) → h.note.body ≡ kinds.TtSent device link cause vl cycle → time_of h ≡ now
     → place_of h ≡ now ∷ 10 ∷ device.0 ∷ link.0 ∷ cause ∷ vl.0 ∷ cycle ∷ [] = λ h body time.
-    ap (λ (b : NoteBody). time_of h ∷ rank b ∷ Rattle.run_law.specs.records.Ranks.key (members_in h) b) body
+    ap (λ b. time_of h ∷ rank b ∷ Rattle.run_law.specs.records.Ranks.key (members_in h) b) body
     ∙ ap (λ (n : ℕ). n ∷ 10 ∷ device.0 ∷ link.0 ∷ cause ∷ vl.0 ∷ cycle ∷ []) time in
     let by_cut : (b : Bool) → is_cut s link (way_from s.network device link) now ≡ b
     → dispatch_body s device now link cause vl cycle ≡ (if b then kinds.Lost device link cause else kinds.TtSent device link cause vl cycle) = λ b is.

@@ -5,36 +5,41 @@ use Rattle.world_law.proofs.steps_lemmas.Words.{Scenario, Stands, StandsBehind, 
 use Rattle.world_law.proofs.steps_lemmas.{Words.{false, is_timed, point_number, true, ℕ}, acting.{FirstStep.first_goes_by, Kept.may_act_now, Stage.stage_of}}
 use Rattle.world_law.proofs.steps_lemmas.acting.CorrectSteps.{IsCorrecting, alone_goes_by, cleared_goes_by, corrected_goes_by, outnumbered_goes_by}
 
--- it had a next correction point
-was_timed : {C M : Type 0} (reading : C → ℕ → ℕ) (stands : M → Network → DeviceId → Node → Type 0) (s : Scenario) (world : World C M) (notes : List Note)
-    (old : Stands reading stands s world notes) (device : DeviceId) (machine after : M) (cycle : ℕ) (verdict : Verdict) (was : State) (adjustment : Units)
-    (machines : List M) (settled : List Happening)
-    → IsCorrecting reading stands s world notes old device machine after cycle verdict was adjustment machines settled → is_timed was ≡ true
-was_timed reading stands s world notes old device machine after cycle verdict was adjustment machines settled x =
-    let stage = stage_of reading stands s world notes old device machine after (acts.Correct cycle verdict) x.of_it x.first x.apart x.there x.due x.acted in
-    let node = stage.0 in
-    let st = stage.1 in
-    let act = x.acted node st.is (may_act_now s device node world.now st.work.ready st.steady st.limit) st.task in
-    ap is_timed (x.stood node st.is).0 ∙ (point_number node.standing.state node.standing.number cycle act.1.0.pending.1.own).0
+module _ {C M : Type 0} {reading : C → ℕ → ℕ} {stands : M → Network → DeviceId → Node → Type 0} {s : Scenario}
+    {world : World C M} {notes : List Note} (old : Stands reading stands s world notes) (device : DeviceId)
+    (machine : M) where
+  -- it had a next correction point
+  was_timed : {after : M} {cycle : ℕ} {verdict : Verdict} {was : State} {adjustment : Units} {machines : List M}
+      {settled : List Happening}
+      → IsCorrecting reading stands s world notes old device machine after cycle verdict was adjustment machines
+      settled → is_timed was ≡ true
+  was_timed {after} {cycle} {verdict} x =
+      let stage = stage_of reading stands s world notes old device machine after (acts.Correct cycle verdict) x.of_it
+      x.first x.apart x.there x.due x.acted in
+      let node = stage.0 in
+      let st = stage.1 in
+      let act = x.acted node st.is (may_act_now s device node world.now st.work.ready st.steady st.limit) st.task in
+      ap is_timed (x.stood node st.is).0 ∙ (point_number node.standing.state node.standing.number cycle
+      act.1.0.pending.1.own).0
 
-pub correct_goes_by : {C M : Type 0} (reading : C → ℕ → ℕ) (stands : M → Network → DeviceId → Node → Type 0) (s : Scenario) (world : World C M)
-    (notes : List Note) (old : Stands reading stands s world notes) (device : DeviceId) (machine after : M) (cycle : ℕ) (verdict : Verdict) (was : State)
-    (adjustment : Units) (machines : List M) (settled : List Happening)
-    → IsCorrecting reading stands s world notes old device machine after cycle verdict was adjustment machines settled
-    → StandsBehind reading stands s (record world { early = false; machines = machines; settled = settled }) notes (behind (rows_place world.now device))
-correct_goes_by reading stands s world notes old device machine after cycle Cleared was adjustment machines settled x =
-    cleared_goes_by reading stands s world notes old device machine after cycle was adjustment machines settled x
-correct_goes_by reading stands s world notes old device machine after cycle SyncClique was adjustment machines settled x =
-    alone_goes_by reading stands s world notes old device machine after cycle was adjustment machines settled x
-correct_goes_by reading stands s world notes old device machine after cycle AsyncClique was adjustment machines settled x =
-    outnumbered_goes_by reading stands s world notes old device machine after cycle was adjustment machines settled x
-correct_goes_by reading stands s world notes old device machine after cycle (Corrected by) Joining adjustment machines settled x =
-    first_goes_by reading stands s world notes old device machine after cycle by adjustment machines settled x
-correct_goes_by reading stands s world notes old device machine after cycle (Corrected by) Synchronised adjustment machines settled x =
-    corrected_goes_by reading stands s world notes old device machine after cycle by adjustment machines settled x
-correct_goes_by reading stands s world notes old device machine after cycle (Corrected by) Off adjustment machines settled x =
-    absurd (let bad : false ≡ true = was_timed reading stands s world notes old device machine after cycle (Corrected by) Off adjustment machines settled
-    x in cc)
-correct_goes_by reading stands s world notes old device machine after cycle (Corrected by) Integrating adjustment machines settled x =
-    absurd (let bad : false ≡ true = was_timed reading stands s world notes old device machine after cycle (Corrected by) Integrating adjustment machines
-    settled x in cc)
+  pub correct_goes_by : {after : M} {cycle : ℕ} (verdict : Verdict) (was : State) {adjustment : Units}
+      {machines : List M} {settled : List Happening}
+      → IsCorrecting reading stands s world notes old device machine after cycle verdict was adjustment machines
+      settled
+      → StandsBehind reading stands s (record world { early = false; machines = machines; settled = settled }) notes
+      (behind (rows_place world.now device))
+  correct_goes_by Cleared was x =
+      cleared_goes_by old device machine x
+  correct_goes_by SyncClique was x =
+      alone_goes_by old device machine x
+  correct_goes_by AsyncClique was x =
+      outnumbered_goes_by old device machine x
+  correct_goes_by (Corrected by) Joining x =
+      first_goes_by by x
+  correct_goes_by (Corrected by) Synchronised x =
+      corrected_goes_by by x
+  correct_goes_by (Corrected by) Off x =
+      absurd (let bad : false ≡ true = was_timed
+      x in cc)
+  correct_goes_by (Corrected by) Integrating x =
+      absurd (let bad : false ≡ true = was_timed x in cc)

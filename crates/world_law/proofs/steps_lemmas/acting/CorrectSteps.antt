@@ -17,7 +17,6 @@ use Rattle.world_law.proofs.steps_lemmas.acting.Points.{IsClique, at_point, cliq
 use Rattle.world_law.proofs.steps_lemmas.Words.{◌⊎◌, Bool, ClockTask, Compressed, Contains-push_cases, HadComeTo, HasDoneTask, Moment, Task, before_behind}
 use Rattle.world_law.proofs.steps_lemmas.Words.{change_still, changed_at, emitting, is_synchronised, rows_place, task_place}
 use Rattle.std.proofs.Common.{Contains}
-use Rattle.run_law.specs.declared.judgement.Why.TheVariants as whys
 use Rattle.run_law.specs.declared.note.NoteBody.TheVariants as kinds
 use Rattle.run_law.specs.declared.steps.Act.TheVariants as acts
 
@@ -55,37 +54,42 @@ pub record IsThen {M : Type 0} (stands : M → Network → DeviceId → Node →
 
 -- ---- with one record
 
-one_point_step : {C M : Type 0} (reading : C → ℕ → ℕ) (stands : M → Network → DeviceId → Node → Type 0) (s : Scenario) (world : World C M) (notes : List Note)
-    (old : Stands reading stands s world notes) (device : DeviceId) (machine after : M) (node then_ : Node) (machines : List M) (settled : List Happening)
-    (body : NoteBody) (cycle : ℕ) (heard : Summary) (verdict : Verdict)
-    → StageAt stands s (happenings s.network notes) world.settled old.mark old.cursor world.now device machine node 6 (device.0 ∷ [])
-    → (p : IsShownPut s.network (happenings s.network notes) world.now body world.settled settled)
+one_point_step : {C M : Type 0} {reading : C → ℕ → ℕ} {stands : M → Network → DeviceId → Node → Type 0}
+    {s : Scenario} {world : World C M} {notes : List Note} (old : Stands reading stands s world notes)
+    {device : DeviceId} {machine after : M} {node then_ : Node} {machines : List M} {settled : List Happening}
+    {body : NoteBody} {cycle : ℕ} {heard : Summary} {verdict : Verdict}
+    → StageAt stands s (happenings s.network notes) world.settled old.mark old.cursor world.now device machine node 6
+    (device.0 ∷ []) → (p : IsShownPut s.network (happenings s.network notes) world.now body world.settled settled)
     → length notes + length world.settled + 2 < numbers_end → 5 ≤ rank body
-    → IsActRecordAt s (happenings s.network notes) p.front p.back world.now device body (rows_place world.now device) → IsNoTaking device body
-    → IsAtPoint s device world.now node cycle heard verdict
-    → HasOutcome (p.front ++ record_of s.network (happenings s.network notes) p.front world.now body ∷ p.back) world.now device verdict
-    → IsThen stands s (happenings s.network notes) (p.front ++ record_of s.network (happenings s.network notes) p.front world.now body ∷ p.back)
-    world.now device after node then_
-    → IsSet device.0 after world.machines machines
-    → StandsBehind reading stands s (record world { early = false; machines = machines; settled = settled }) notes (behind (rows_place world.now device))
-one_point_step reading stands s world notes old device machine after node then_ machines settled body cycle heard verdict st p room late a takes point out it
+    → IsActRecordAt s (happenings s.network notes) p.front p.back world.now device body (rows_place world.now device)
+    → IsNoTaking device body → IsAtPoint s device world.now node cycle heard verdict
+    → HasOutcome (p.front ++ record_of s.network (happenings s.network notes) p.front world.now body
+    ∷ p.back) world.now device verdict → IsThen stands s (happenings s.network notes)
+    (p.front ++ record_of s.network (happenings s.network notes) p.front world.now body
+    ∷ p.back) world.now device after node then_ → IsSet device.0 after world.machines machines
+    → StandsBehind reading stands s (record world { early = false; machines = machines; settled = settled }) notes
+    (behind (rows_place world.now device))
+one_point_step {stands} {s} {world} {notes} old {device} {machine} {after} {node} {body} {cycle} st p room late a
+    takes point out it
     set =
     let hs = happenings s.network notes in
     let now = world.now in
     let w = record_of s.network hs p.front now body in
     let new = p.front ++ w ∷ p.back in
     let st2 : StageAt stands s hs (p.front ++ p.back) old.mark old.cursor now device machine node 6 (device.0 ∷ []) =
-    subst (λ (l : List Happening). StageAt stands s hs l old.mark old.cursor now device machine node 6 (device.0 ∷ [])) p.parts st in
+    subst (λ l. StageAt stands s hs l old.mark old.cursor now device machine node 6 (device.0 ∷ [])) p.parts st in
     let put = as_put now w refl (omega (arith, late)) in
     let here = behind (rows_place now device) in
     let none = none_at_point s hs (p.front ++ p.back) now device node cycle old.range old.rules st2.steady st2.work point.pending point.due in
-    one_goes_by reading stands s world notes old device machine after node machines settled body 6 (device.0 ∷ []) st p (omega (arith, room)) a
-    (all_point s hs (p.front ++ p.back) new now device node cycle heard verdict st2.work point
-    (grown_one s hs p.front p.back now device node w st2.work put late) out) set
-    (kept_over stands s hs new here now device after then_ it.is st2.work.sound it.over it.ready it.cleared
-    (it.taken ∙ taken_then stands s hs p.front p.back old.mark old.cursor now device machine node w 6 (device.0 ∷ []) st2 refl takes) it.bare
-    (turned_then stands s hs p.front p.back old.mark old.cursor now device machine node w here 6 (device.0 ∷ []) st2 put
-    (λ t. turned_moves s hs (p.front ++ p.back) old.mark old.cursor now 6 (device.0 ∷ []) device st2.moving t)) it.phase st.calm.falls it.worked st.reach
+    one_goes_by old st p (omega (arith, room)) a
+    (all_point st2.work point
+    (grown_one p.front p.back st2.work put late) out) set
+    (kept_over stands {hs = hs} {new = new} {cursor = here} after it.is st2.work.sound it.over it.ready it.cleared
+    (it.taken ∙ taken_then stands s hs p.front p.back old.mark old.cursor now device machine node w st2 refl takes)
+    it.bare
+    (turned_then stands s hs p.front p.back old.mark old.cursor now device machine node here st2 put
+    (λ t. turned_moves s hs (p.front ++ p.back) old.mark old.cursor now 6 (device.0 ∷ []) st2.moving t)) it.phase
+    st.calm.falls it.worked st.reach
     (inl (out_by_acts s hs now device none)))
 
 -- ---- what it has done then
@@ -102,18 +106,19 @@ corrected_done node moment heard by (emitting c) has = (c, refl, kept_of (is_syn
 corrected_done node moment heard by (doing deed) has = absurd (none_in deed has)
 
 -- so it had come to it sooner, or that is worked off
-pub corrected_worked : {M : Type 0} (stands : M → Network → DeviceId → Node → Type 0) (s : Scenario) (hs coming : List Happening) (mark cursor : List ℕ)
-    (now : ℕ) (device : DeviceId) (machine : M) (node after : Node) (heard : Summary) (by : Units) (changed : ℕ)
-    → StageAt stands s hs coming mark cursor now device machine node 6 (device.0 ∷ [])
-    → after ≡ called (moment_of s device now) acting (after_correction node (moment_of s device now) heard 0 (Corrected by)) → (task : Task)
-    → HasDoneTask after task
-    → HadComeTo s device after changed now task ⊎ IsBefore (task_place s.network now device task) (behind (rows_place now device))
-corrected_worked stands s hs coming mark cursor now device machine node after heard by changed st is task has =
-    let x = corrected_done node (moment_of s device now) heard by task (subst (λ (n : Node). HasDoneTask n task) is has) in
-    subst (λ (t : Task). HadComeTo s device after changed now t ⊎ IsBefore (task_place s.network now device t) (behind (rows_place now device))) (sym x.1)
+pub corrected_worked : {M : Type 0} {stands : M → Network → DeviceId → Node → Type 0} {s : Scenario}
+    {hs coming : List Happening} {mark cursor : List ℕ} {now : ℕ} {device : DeviceId} {machine : M} {node : Node}
+    (after : Node) (heard : Summary) (by : Units) (changed : ℕ)
+    → StageAt stands s hs coming mark cursor now device machine node 6 (device.0 ∷ []) → after
+    ≡ called (moment_of s device now) acting (after_correction node (moment_of s device now) heard 0 (Corrected by))
+    → (task : Task) → HasDoneTask after task → HadComeTo s device after changed now task
+    ⊎ IsBefore (task_place s.network now device task) (behind (rows_place now device))
+corrected_worked {s} {now} {device} {node} after heard by changed st is task has =
+    let x = corrected_done node (moment_of s device now) heard by task (subst (λ n. HasDoneTask n task) is has) in
+    subst (λ t. HadComeTo s device after changed now t ⊎ IsBefore (task_place s.network now device t) (behind (rows_place now device))) (sym x.1)
     (elim (st.worked (emitting x.0) x.2) [
       | inl sooner ↦ inl sooner
-      | inr gone ↦ inr (stays s hs coming mark cursor now 6 (device.0 ∷ []) st.moving (task_place s.network now device (emitting x.0)) gone)
+      | inr gone ↦ inr (stays st.moving (task_place s.network now device (emitting x.0)) gone)
     ])
 
 -- a device that clears what it has heard, has done that too
@@ -133,184 +138,217 @@ clique_done node moment heard verdict (emitting c) has = absurd (none_in c has)
 clique_done node moment heard verdict (doing deed) has = has
 
 -- what it had done is so still
-still_worked : {M : Type 0} (stands : M → Network → DeviceId → Node → Type 0) (s : Scenario) (hs coming : List Happening) (mark cursor : List ℕ) (now : ℕ)
-    (device : DeviceId) (machine : M) (node after : Node) (changed : ℕ) → StageAt stands s hs coming mark cursor now device machine node 6 (device.0 ∷ [])
-    → after.standing.adjustment ≡ node.standing.adjustment → changed_at (hs ++ coming) device now ≡ changed → (task : Task) → HasDoneTask node task
-    → HadComeTo s device after changed now task ⊎ IsBefore (task_place s.network now device task) (behind (rows_place now device))
-still_worked stands s hs coming mark cursor now device machine node after changed st adjustment same task has = elim (st.worked task has) [
-  | inl sooner ↦ inl (still_came s device node after (changed_at (hs ++ coming) device now) changed now task adjustment same sooner)
-  | inr gone ↦ inr (stays s hs coming mark cursor now 6 (device.0 ∷ []) st.moving (task_place s.network now device task) gone)
-]
+still_worked : {M : Type 0} {stands : M → Network → DeviceId → Node → Type 0} {s : Scenario}
+    {hs coming : List Happening} {mark cursor : List ℕ} {now : ℕ} {device : DeviceId} {machine : M} {node : Node}
+    (after : Node) (changed : ℕ) → StageAt stands s hs coming mark cursor now device machine node 6 (device.0 ∷ [])
+    → after.standing.adjustment ≡ node.standing.adjustment → changed_at (hs ++ coming) device now ≡ changed
+    → (task : Task) → HasDoneTask node task → HadComeTo s device after changed now task
+    ⊎ IsBefore (task_place s.network now device task) (behind (rows_place now device))
+still_worked {s} {hs} {coming} {now} {device} {node} after changed st adjustment same task has =
+    elim (st.worked task has) [
+      | inl sooner ↦ inl (still_came s device node after (changed_at (hs ++ coming) device now) changed now task adjustment same sooner)
+      | inr gone ↦ inr (stays st.moving (task_place s.network now device task) gone)
+    ]
 
 -- ---- with none: a joiner clears what it has heard
 
-pub cleared_goes_by : {C M : Type 0} (reading : C → ℕ → ℕ) (stands : M → Network → DeviceId → Node → Type 0) (s : Scenario) (world : World C M)
-    (notes : List Note)
-    (old : Stands reading stands s world notes) (device : DeviceId) (machine after : M) (cycle : ℕ) (was : State) (adjustment : Units) (machines : List M)
-    (settled : List Happening) → IsCorrecting reading stands s world notes old device machine after cycle Cleared was adjustment machines settled
-    → StandsBehind reading stands s (record world { early = false; machines = machines; settled = settled }) notes (behind (rows_place world.now device))
-cleared_goes_by {C} {M} reading stands s world notes old device machine after cycle was adjustment machines settled x =
-    let hs = happenings s.network notes in
-    let now = world.now in
-    let stage = stage_of reading stands s world notes old device machine after (acts.Correct cycle Cleared) x.of_it x.first x.apart x.there x.due x.acted in
-    let node = stage.0 in
-    let st = stage.1 in
-    let may = may_act_now s device node now st.work.ready st.steady st.limit in
-    let act = x.acted node st.is may st.task in
-    let first = act.1.0 in
-    let heard = act.1.1.0 in
-    let to = act.1.1.1 in
-    let is = act.1.1.2 in
-    let timed = (point_number node.standing.state node.standing.number cycle first.pending.1.own).0 in
-    let off = not_on s hs world.settled now device node st.work timed in
-    let point = at_point s device now node cycle heard Cleared first to in
-    let sound : node.broken ≡ false = first.pending.0 in
-    let quiet = no_frames s device now node cycle heard Cleared sound point in
-    let ready = ready_after s device node act.0 now (acts.Correct cycle Cleared) st.work.ready st.steady st.precise st.wide may act.1
-    (ap (λ (n : Node). n.last) is) in
-    let there = called (moment_of s device now) acting (after_correction node (moment_of s device now) heard cycle Cleared) in
-    let over : IsOver s (hs ++ world.settled) now device act.0 = subst (λ (n : Node). IsOver s (hs ++ world.settled) now device n) (sym is)
-    (cleared_over s hs world.settled now device node cycle (moment_of s device now) heard st.work off st.calm.off st.calm.broken st.calm.falls st.cleared
-    to.verdict_is
-    first.pending.1 first.due (st.work.ready.in_time (doing (correcting cycle)) first.pending) st.wide quiet) in
-    let cleared : HasCleared act.0 = subst HasCleared (sym is)
-    (cleared_more node cycle (moment_of s device now) heard (point_number node.standing.state node.standing.number cycle first.pending.1.own).1 st.cleared) in
-    let more = device.0 ∷ [] in
-    let here = now ∷ 6 ∷ more in
-    let later : IsBefore (now ∷ 2 ∷ []) here = inr (refl, inl (omega arith)) in
-    let none = none_at_point s hs world.settled now device node cycle old.range old.rules st.steady st.work first.pending first.due in
-    let kept = kept_over stands s hs world.settled (behind here) now device after act.0 act.2 st.work.sound over ready cleared (ap (λ (n : Node). n.taken) is ∙ st.taken)
-    (bare_act s.network device node (moment_of s device now) (acts.Correct cycle Cleared) act.0 act.1 st.bare)
-    (λ on. turned_moves s hs world.settled old.mark old.cursor now 6 more device st.moving (st.turned on)) (ap (λ (n : Node). n.phase) is) st.calm.falls
-    (λ task has. elim (cleared_done s now device node (moment_of s device now) heard cycle task (subst (λ (n : Node). HasDoneTask n task) is has)) [
-      | inl did ↦ still_worked stands s hs world.settled old.mark old.cursor now device machine node act.0 (changed_at (hs ++ world.settled) device (now + 1)) st
-          (ap (λ (n : Node). n.standing.adjustment) is)
-          (sym (change_still (hs ++ world.settled) device now (now + 1) (omega arith) (still_now s hs world.settled now device node st.work off))) task did
-      | inr at ↦ inr (subst (λ (q : List ℕ). IsBefore q (behind here)) (sym at) (before_behind here))
-    ])
-    st.reach (inl (out_by_acts s hs now device none)) in
-    subst (λ (l : List Happening). StandsBehind reading stands s (record world { early = false; machines = machines; settled = l }) notes (behind here))
-    (sym x.put)
-    (stands_on reading stands s world notes old 6 more here machines world.wires world.ports world.waiting world.settled world.shown st.moving refl old.room
-    (settled_moves s hs world.settled old.mark old.cursor now 6 more st.moving
-    (all_point s hs world.settled world.settled now device node cycle heard Cleared st.work point
-    (grown_none s hs world.settled now device (λ z i. (st.work.of_now z i).0)) tt))
-    old.known
-    (λ other lt. elim (cases_eq other.0 device.0) [
-      | inl e ↦
-          let same : device ≡ other = ap (λ (k : ℕ). let d : DeviceId = record { 0 = k } in d) (sym e) in
-          subst (λ (d : DeviceId). (m : M) × (slice_get machines d.0 ≡ Some m) × IsHeld stands s hs world.settled (behind here) now d m) same
-          (after, x.set.there, inl kept)
-      | inr not ↦
-          let m = old.devices other lt in (
-            m.0,
-            others_so device other after m.0 world.machines machines x.set not m.1,
-            held_moves stands s hs world.settled old.mark old.cursor now 6 more other m.0 st.moving (λ task same. not (st.own other task same)) m.2,
-          )
-    ])
-    later
-    (wires_move s hs world.settled old.mark old.cursor now 6 more world.wires world.wires st.moving
-    (told_wires reading stands s world notes old 6 more st.moving later)
-    (all_without wire_place here world.wires (λ e same. (let two : ◌≡◌ {A = ℕ} 2 6 = cc in omega (arith, two)))))
-    (ports_move s hs world.settled old.mark old.cursor now 6 more world.ports world.ports st.moving old.ports
-    (all_without port_place here world.ports (λ e same. (let two : ◌≡◌ {A = ℕ} 8 6 = cc in omega (arith, two)))))
-    (waiting_moves s hs world.settled old.mark old.cursor now 6 more world.waiting st.moving (λ three. omega (arith, three)) old.waiting)
-    (shown_still reading stands s world notes old 6 more (omega arith) st.moving))
+module _ {C M : Type 0} {reading : C → ℕ → ℕ} {stands : M → Network → DeviceId → Node → Type 0} {s : Scenario}
+    {world : World C M} {notes : List Note} (old : Stands reading stands s world notes) (device : DeviceId)
+    (machine : M) where
+  pub cleared_goes_by : {after : M} {cycle : ℕ} {was : State} {adjustment : Units} {machines : List M}
+      {settled : List Happening}
+      → IsCorrecting reading stands s world notes old device machine after cycle Cleared was adjustment machines
+      settled
+      → StandsBehind reading stands s (record world { early = false; machines = machines; settled = settled }) notes
+      (behind (rows_place world.now device))
+  cleared_goes_by {after} {cycle} {machines} {settled} x =
+      let hs = happenings s.network notes in
+      let now = world.now in
+      let stage = stage_of reading stands s world notes old device machine after (acts.Correct cycle Cleared) x.of_it
+      x.first x.apart x.there x.due x.acted in
+      let node = stage.0 in
+      let st = stage.1 in
+      let may = may_act_now s device node now st.work.ready st.steady st.limit in
+      let act = x.acted node st.is may st.task in
+      let first = act.1.0 in
+      let heard = act.1.1.0 in
+      let to = act.1.1.1 in
+      let is = act.1.1.2 in
+      let timed = (point_number node.standing.state node.standing.number cycle first.pending.1.own).0 in
+      let off = not_on s hs world.settled now device node st.work timed in
+      let point = at_point s device now node cycle heard Cleared first to in
+      let sound : node.broken ≡ false = first.pending.0 in
+      let quiet = no_frames s device now node cycle heard Cleared sound point in
+      let ready = ready_after s act.0 (acts.Correct cycle Cleared) st.work.ready st.steady st.precise st.wide may act.1
+      (ap (λ (n : Node). n.last) is) in
+      let there = called (moment_of s device now) acting
+      (after_correction node (moment_of s device now) heard cycle Cleared) in
+      let over : IsOver s (hs ++ world.settled) now device act.0 =
+      subst (λ n. IsOver s (hs ++ world.settled) now device n) (sym is)
+      (cleared_over cycle (moment_of s device now) heard st.work off st.calm.off st.calm.broken st.calm.falls st.cleared
+      to.verdict_is
+      first.pending.1 first.due (st.work.ready.in_time (doing (correcting cycle)) first.pending) st.wide quiet) in
+      let cleared : HasCleared act.0 = subst HasCleared (sym is)
+      (cleared_more node cycle (moment_of s device now) heard
+      (point_number node.standing.state node.standing.number cycle first.pending.1.own).1 st.cleared) in
+      let more = device.0 ∷ [] in
+      let here = now ∷ 6 ∷ more in
+      let later : IsBefore (now ∷ 2 ∷ []) here = inr (refl, inl (omega arith)) in
+      let none = none_at_point s hs world.settled now device node cycle old.range old.rules st.steady st.work
+      first.pending first.due in
+      let kept = kept_over stands {hs = hs} {new = world.settled} {cursor = behind here} after act.2 st.work.sound
+      over ready cleared (ap (λ (n : Node). n.taken) is ∙ st.taken)
+      (bare_act s.network device node (moment_of s device now) (acts.Correct cycle Cleared) act.0 act.1 st.bare)
+      (λ on. turned_moves s hs world.settled old.mark old.cursor now 6 more st.moving (st.turned on))
+      (ap (λ (n : Node). n.phase) is) st.calm.falls
+      (λ task has. elim (cleared_done s now device node (moment_of s device now) heard cycle task
+      (subst (λ n. HasDoneTask n task) is has)) [
+        | inl did ↦ still_worked act.0 (changed_at (hs ++ world.settled) device (now + 1)) st
+            (ap (λ (n : Node). n.standing.adjustment) is)
+            (sym (change_still (hs ++ world.settled) device now (now + 1) (omega arith) (still_now st.work off)))
+            task did
+        | inr at ↦ inr (subst (λ q. IsBefore q (behind here)) (sym at) (before_behind here))
+      ])
+      st.reach (inl (out_by_acts s hs now device none)) in
+      subst (λ (l : List Happening). StandsBehind reading stands s
+      (record world { early = false; machines = machines; settled = l }) notes (behind here))
+      (sym x.put)
+      (stands_on old 6 more here machines world.shown st.moving refl old.room
+      (settled_moves s hs world.settled old.mark old.cursor now 6 more st.moving
+      (all_point st.work point
+      (grown_none s hs world.settled now device (λ z i. (st.work.of_now z i).0)) tt))
+      old.known
+      (λ other lt. elim (cases_eq other.0 device.0) [
+        | inl e ↦
+            let same : device ≡ other = ap (λ (k : ℕ). let d : DeviceId = record { 0 = k } in d) (sym e) in
+            subst (λ (d : DeviceId). (m : M) × (slice_get machines d.0 ≡ Some m) × IsHeld stands s hs world.settled
+            (behind here) now d m) same
+            (after, x.set.there, inl kept)
+        | inr not ↦
+            let m = old.devices other lt in (
+              m.0,
+              others_so device other m.0 x.set not m.1,
+              held_moves stands s hs world.settled st.moving (λ task same. not (st.own other task same)) m.2,
+            )
+      ])
+      later
+      (wires_move s hs world.settled old.mark old.cursor now 6 more world.wires st.moving
+      (told_wires old 6 more st.moving later)
+      (all_without wire_place here world.wires (λ e same. (let two : ◌≡◌ {A = ℕ} 2 6 = cc in omega (arith, two)))))
+      (ports_move s hs world.settled old.mark old.cursor now 6 more world.ports st.moving old.ports
+      (all_without port_place here world.ports (λ e same. (let two : ◌≡◌ {A = ℕ} 8 6 = cc in omega (arith, two)))))
+      (waiting_moves s hs world.settled old.mark old.cursor now 6 more st.moving (λ three. omega (arith, three))
+      old.waiting)
+      (shown_still old 6 more (omega arith) st.moving))
 
--- ---- it finds itself outside the others
+  -- ---- it finds itself outside the others
 
-clique_step : {C M : Type 0} (reading : C → ℕ → ℕ) (stands : M → Network → DeviceId → Node → Type 0) (s : Scenario) (world : World C M) (notes : List Note)
-    (old : Stands reading stands s world notes) (device : DeviceId) (machine after : M) (cycle : ℕ) (was : State) (adjustment : Units) (machines : List M)
-    (settled : List Happening) (verdict : Verdict) (why : Why)
-    → IsCorrecting reading stands s world notes old device machine after cycle verdict was adjustment machines settled → IsClique verdict why
-    → ArePutIn s.network (happenings s.network notes) world.now (kinds.State device Integrating 0 why ∷ []) world.settled settled
-    → ((new : List Happening) (z : Happening) → IsIn z new → place_of z ≡ world.now ∷ 7 ∷ device.0 ∷ 0 ∷ [] → HasOutcome new world.now device verdict)
-    → ((node then_ : Node) (heard : Summary) → then_ ≡ called (moment_of s device world.now) acting
-    (after_correction node (moment_of s device world.now) heard cycle verdict)
-    → then_ ≡ called (moment_of s device world.now) acting (with_clique node heard verdict))
-    → ((x : State) → state_by x verdict ≡ Integrating) → ((a : Units) → adjustment_by a verdict ≡ a)
-    → ends_stretch device (kinds.State device Integrating 0 why) ≡ true
-    → StandsBehind reading stands s (record world { early = false; machines = machines; settled = settled }) notes (behind (rows_place world.now device))
-clique_step reading stands s world notes old device machine after cycle was adjustment machines settled verdict why x clique put outcome node_is lost kept ends
-    =
-    let hs = happenings s.network notes in
-    let now = world.now in
-    let stage = stage_of reading stands s world notes old device machine after (acts.Correct cycle verdict) x.of_it x.first x.apart x.there x.due x.acted in
-    let node = stage.0 in
-    let st = stage.1 in
-    let may = may_act_now s device node now st.work.ready st.steady st.limit in
-    let act = x.acted node st.is may st.task in
-    let first = act.1.0 in
-    let heard = act.1.1.0 in
-    let to = act.1.1.1 in
-    let is = node_is node act.0 heard act.1.1.2 in
-    let timed = (point_number node.standing.state node.standing.number cycle first.pending.1.own).0 in
-    let off = not_on s hs world.settled now device node st.work timed in
-    let point = at_point s device now node cycle heard verdict first to in
-    let ready = ready_after s device node act.0 now (acts.Correct cycle verdict) st.work.ready st.steady st.precise st.wide may act.1
-    (ap (λ (n : Node). n.last) is) in
-    let room = x.first.room in
-    let body = kinds.State device Integrating 0 why in
-    let p : IsShownPut s.network hs now body world.settled settled = subst (λ (l : List Happening). IsShownPut s.network hs now body world.settled l) (sym put.2)
-    (one_shown s.network hs now body world.settled put.0 (omega arith) put.1) in
-    let w = record_of s.network hs p.front now body in
-    let new = p.front ++ w ∷ p.back in
-    let st2 : StageAt stands s hs (p.front ++ p.back) old.mark old.cursor now device machine node 6 (device.0 ∷ []) =
-    subst (λ (l : List Happening). StageAt stands s hs l old.mark old.cursor now device machine node 6 (device.0 ∷ [])) p.parts st in
-    let as_it = as_put now w refl (omega arith) in
-    let over : IsOver s (hs ++ new) now device act.0 = subst (λ (n : Node). IsOver s (hs ++ new) now device n) (sym is)
-    (clique_over s hs p.front p.back now device node w 0 why (moment_of s device now) heard verdict st2.work off st2.calm.off st2.calm.broken
-    as_it p.none (lost node.standing.state) (kept node.standing.adjustment) refl ends) in
-    let cleared : HasCleared act.0 = subst HasCleared (sym is) (λ n there. let less = st.cleared n there in omega (arith, less)) in
-    one_point_step reading stands s world notes old device machine after node act.0 machines settled body cycle heard verdict st p room (omega arith)
-    (clique_record stands s hs p.front p.back old.mark old.cursor now device machine node cycle heard verdict why st2 off point clique p.none) (λ at. refl)
-    point
-    (outcome new w (in_right w p.front (w ∷ p.back) (inl refl)) refl)
-    (record {
-      is = act.2;
-      over = over;
-      ready = ready;
-      cleared = cleared;
-      taken = ap (λ (n : Node). n.taken) is;
-      bare = bare_act s.network device node (moment_of s device now) (acts.Correct cycle verdict) act.0 act.1 st.bare;
-      phase = ap (λ (n : Node). n.phase) is;
-      worked = λ task has.
-          still_worked stands s hs (p.front ++ p.back) old.mark old.cursor now device machine node act.0 (changed_at (hs ++ new) device (now + 1)) st2
-          (ap (λ (n : Node). n.standing.adjustment) is ∙ kept node.standing.adjustment)
-          (sym (clique_change s hs p.front p.back now device node w 0 why st2.work off as_it p.none refl)) task
-          (clique_done node (moment_of s device now) heard verdict task (subst (λ (n : Node). HasDoneTask n task) is has));
-    }) x.set
+  clique_step : {after : M} {cycle : ℕ} {was : State} {adjustment : Units} {machines : List M}
+      {settled : List Happening} {verdict : Verdict} {why : Why}
+      → IsCorrecting reading stands s world notes old device machine after cycle verdict was adjustment machines
+      settled → IsClique verdict why → ArePutIn s.network (happenings s.network notes) world.now
+      (kinds.State device Integrating 0 why ∷ []) world.settled settled
+      → ((new : List Happening) (z : Happening) → IsIn z new → place_of z ≡ world.now ∷ 7 ∷ device.0 ∷ 0 ∷ []
+      → HasOutcome new world.now device verdict) → ((node then_ : Node) (heard : Summary) → then_
+      ≡ called (moment_of s device world.now) acting (after_correction node (moment_of s device world.now) heard
+      cycle verdict) → then_ ≡ called (moment_of s device world.now) acting (with_clique node heard verdict))
+      → ((x : State) → state_by x verdict ≡ Integrating) → ((a : Units) → adjustment_by a verdict ≡ a)
+      → ends_stretch device (kinds.State device Integrating 0 why) ≡ true
+      → StandsBehind reading stands s (record world { early = false; machines = machines; settled = settled }) notes
+      (behind (rows_place world.now device))
+  clique_step {after} {cycle} {settled} {verdict} {why} x clique put outcome node_is lost kept ends
+      =
+      let hs = happenings s.network notes in
+      let now = world.now in
+      let stage = stage_of reading stands s world notes old device machine after (acts.Correct cycle verdict) x.of_it
+      x.first x.apart x.there x.due x.acted in
+      let node = stage.0 in
+      let st = stage.1 in
+      let may = may_act_now s device node now st.work.ready st.steady st.limit in
+      let act = x.acted node st.is may st.task in
+      let first = act.1.0 in
+      let heard = act.1.1.0 in
+      let to = act.1.1.1 in
+      let is = node_is node act.0 heard act.1.1.2 in
+      let timed = (point_number node.standing.state node.standing.number cycle first.pending.1.own).0 in
+      let off = not_on s hs world.settled now device node st.work timed in
+      let point = at_point s device now node cycle heard verdict first to in
+      let ready = ready_after s act.0 (acts.Correct cycle verdict) st.work.ready st.steady st.precise st.wide may act.1
+      (ap (λ (n : Node). n.last) is) in
+      let room = x.first.room in
+      let body = kinds.State device Integrating 0 why in
+      let p : IsShownPut s.network hs now body world.settled settled =
+      subst (λ l. IsShownPut s.network hs now body world.settled l) (sym put.2)
+      (one_shown s.network hs now body (omega arith) put.1) in
+      let w = record_of s.network hs p.front now body in
+      let new = p.front ++ w ∷ p.back in
+      let st2 : StageAt stands s hs (p.front ++ p.back) old.mark old.cursor now device machine node 6 (device.0 ∷ []) =
+      subst (λ l. StageAt stands s hs l old.mark old.cursor now device machine
+      node 6 (device.0 ∷ [])) p.parts st in
+      let as_it = as_put now w refl (omega arith) in
+      let over : IsOver s (hs ++ new) now device act.0 =
+      subst (λ n. IsOver s (hs ++ new) now device n) (sym is)
+      (clique_over s hs p.front p.back now device node w 0 why (moment_of s device now) heard verdict st2.work off
+      st2.calm.off st2.calm.broken
+      as_it p.none (lost node.standing.state) (kept node.standing.adjustment) refl ends) in
+      let cleared : HasCleared act.0 =
+      subst HasCleared (sym is) (λ n there. let less = st.cleared n there in omega (arith, less)) in
+      one_point_step old {then_ = act.0} st p room (omega arith)
+      (clique_record stands s hs p.front p.back old.mark old.cursor now device machine node cycle verdict why st2 off
+      point clique p.none) (λ at. refl)
+      point
+      (outcome new w (in_right w p.front (w ∷ p.back) (inl refl)) refl)
+      (record {
+        is = act.2;
+        over = over;
+        ready = ready;
+        cleared = cleared;
+        taken = ap (λ (n : Node). n.taken) is;
+        bare = bare_act s.network device node (moment_of s device now) (acts.Correct cycle verdict) act.0 act.1 st.bare;
+        phase = ap (λ (n : Node). n.phase) is;
+        worked = λ task has.
+            still_worked act.0 (changed_at (hs ++ new) device (now + 1)) st2
+            (ap (λ (n : Node). n.standing.adjustment) is ∙ kept node.standing.adjustment)
+            (sym (clique_change s hs p.front p.back now device node w 0 why st2.work off as_it p.none refl)) task
+            (clique_done node (moment_of s device now) heard verdict task
+            (subst (λ n. HasDoneTask n task) is has));
+      }) x.set
 
-pub alone_goes_by : {C M : Type 0} (reading : C → ℕ → ℕ) (stands : M → Network → DeviceId → Node → Type 0) (s : Scenario) (world : World C M)
-    (notes : List Note)
-    (old : Stands reading stands s world notes) (device : DeviceId) (machine after : M) (cycle : ℕ) (was : State) (adjustment : Units) (machines : List M)
-    (settled : List Happening) → IsCorrecting reading stands s world notes old device machine after cycle SyncClique was adjustment machines settled
-    → StandsBehind reading stands s (record world { early = false; machines = machines; settled = settled }) notes (behind (rows_place world.now device))
-alone_goes_by reading stands s world notes old device machine after cycle was adjustment machines settled x =
-    clique_step reading stands s world notes old device machine after cycle was adjustment machines settled SyncClique whys.SyncClique x IsClique.alone x.put
-    (λ new z i e. (z, i, e)) (λ node then_ heard e. e) (λ y. refl) (λ a. refl) (Rattle.std.proofs.lemmas.Bool.eq-eqb device.0 device.0 refl)
+  pub alone_goes_by : {after : M} {cycle : ℕ} {was : State} {adjustment : Units} {machines : List M}
+      {settled : List Happening}
+      → IsCorrecting reading stands s world notes old device machine after cycle SyncClique was adjustment machines
+      settled
+      → StandsBehind reading stands s (record world { early = false; machines = machines; settled = settled }) notes
+      (behind (rows_place world.now device))
+  alone_goes_by x =
+      clique_step x IsClique.alone x.put
+      (λ new z i e. (z, i, e)) (λ node then_ heard e. e) (λ y. refl) (λ a. refl)
+      (Rattle.std.proofs.lemmas.Bool.eq-eqb device.0 device.0 refl)
 
-pub outnumbered_goes_by : {C M : Type 0} (reading : C → ℕ → ℕ) (stands : M → Network → DeviceId → Node → Type 0) (s : Scenario) (world : World C M)
-    (notes : List Note) (old : Stands reading stands s world notes) (device : DeviceId) (machine after : M) (cycle : ℕ) (was : State) (adjustment : Units)
-    (machines : List M) (settled : List Happening)
-    → IsCorrecting reading stands s world notes old device machine after cycle AsyncClique was adjustment machines settled
-    → StandsBehind reading stands s (record world { early = false; machines = machines; settled = settled }) notes (behind (rows_place world.now device))
-outnumbered_goes_by reading stands s world notes old device machine after cycle was adjustment machines settled x =
-    clique_step reading stands s world notes old device machine after cycle was adjustment machines settled AsyncClique whys.AsyncClique x IsClique.outnumbered
-    x.put
-    (λ new z i e. (z, i, e)) (λ node then_ heard e. e) (λ y. refl) (λ a. refl) (Rattle.std.proofs.lemmas.Bool.eq-eqb device.0 device.0 refl)
+  pub outnumbered_goes_by : {after : M} {cycle : ℕ} {was : State} {adjustment : Units} {machines : List M}
+      {settled : List Happening}
+      → IsCorrecting reading stands s world notes old device machine after cycle AsyncClique was adjustment machines
+      settled
+      → StandsBehind reading stands s (record world { early = false; machines = machines; settled = settled }) notes
+      (behind (rows_place world.now device))
+  outnumbered_goes_by x =
+      clique_step x IsClique.outnumbered x.put
+      (λ new z i e. (z, i, e)) (λ node then_ heard e. e) (λ y. refl) (λ a. refl)
+      (Rattle.std.proofs.lemmas.Bool.eq-eqb device.0 device.0 refl)
 
 -- ---- it corrects its clock
 
 not_joining : Synchronised ≡ Joining → ⊥
 not_joining e = cc
 
-pub corrected_goes_by : {C M : Type 0} (reading : C → ℕ → ℕ) (stands : M → Network → DeviceId → Node → Type 0) (s : Scenario) (world : World C M)
-    (notes : List Note) (old : Stands reading stands s world notes) (device : DeviceId) (machine after : M) (cycle : ℕ) (by adjustment : Units)
-    (machines : List M) (settled : List Happening)
-    → IsCorrecting reading stands s world notes old device machine after cycle (Corrected by) Synchronised adjustment machines settled
-    → StandsBehind reading stands s (record world { early = false; machines = machines; settled = settled }) notes (behind (rows_place world.now device))
-corrected_goes_by reading stands s world notes old device machine after cycle by adjustment machines settled x =
+pub corrected_goes_by : {C M : Type 0} {reading : C → ℕ → ℕ} {stands : M → Network → DeviceId → Node → Type 0}
+    {s : Scenario} {world : World C M} {notes : List Note} {old : Stands reading stands s world notes}
+    {device : DeviceId} {machine after : M} {cycle : ℕ} (by : Units) {adjustment : Units} {machines : List M}
+    {settled : List Happening} → IsCorrecting reading stands s world notes old device machine after cycle
+    (Corrected by) Synchronised adjustment machines settled
+    → StandsBehind reading stands s (record world { early = false; machines = machines; settled = settled }) notes
+    (behind (rows_place world.now device))
+corrected_goes_by {reading} {stands} {s} {world} {notes} {old} {device} {machine} {after} {cycle} by {adjustment} {settled} x =
     let hs = happenings s.network notes in
     let now = world.now in
     let stage = stage_of reading stands s world notes old device machine after (acts.Correct cycle (Corrected by)) x.of_it x.first x.apart x.there x.due x.acted in
@@ -328,29 +366,31 @@ corrected_goes_by reading stands s world notes old device machine after cycle by
     let sum_is : adjustment.0 ≡ (node.standing.adjustment.0 +ℤ by.0) = ap (λ (u : Units). u.0) sum ∙ ap (λ (n : Node). n.standing.adjustment.0) is in
     let off = not_on s hs world.settled now device node st.work point_is.0 in
     let point = at_point s device now node cycle heard (Corrected by) first to in
-    let ready = ready_after s device node act.0 now (acts.Correct cycle (Corrected by)) st.work.ready st.steady st.precise st.wide may act.1
+    let ready = ready_after s act.0 (acts.Correct cycle (Corrected by)) st.work.ready st.steady st.precise st.wide
+    may act.1
     (ap (λ (n : Node). n.last) is) in
     let room = x.first.room in
     let body = kinds.Corrected device cycle by adjustment in
-    let p : IsShownPut s.network hs now body world.settled settled = subst (λ (l : List Happening). IsShownPut s.network hs now body world.settled l) (sym x.put.2)
-    (one_shown s.network hs now body world.settled x.put.0 (omega arith) x.put.1) in
+    let p : IsShownPut s.network hs now body world.settled settled = subst (λ l. IsShownPut s.network hs now body world.settled l) (sym x.put.2)
+    (one_shown s.network hs now body (omega arith) x.put.1) in
     let w = record_of s.network hs p.front now body in
     let new = p.front ++ w ∷ p.back in
     let st2 : StageAt stands s hs (p.front ++ p.back) old.mark old.cursor now device machine node 6 (device.0 ∷ []) =
-    subst (λ (l : List Happening). StageAt stands s hs l old.mark old.cursor now device machine node 6 (device.0 ∷ [])) p.parts st in
+    subst (λ l. StageAt stands s hs l old.mark old.cursor now device machine node 6 (device.0 ∷ [])) p.parts st in
     let so : IsCorrectedSo s device (now + 1) node w cycle by adjustment (moment_of s device now) =
     record { body = refl; before = omega arith; timed = point_is.0; number = point_is.1; sum = sym sum_is; reads = refl } in
     let quiet = no_frames s device now node cycle heard (Corrected by) first.pending.0 point in
-    let over : IsOver s (hs ++ new) now device act.0 = subst (λ (n : Node). IsOver s (hs ++ new) now device n) (sym is)
-    (corrected_over s hs p.front p.back now device node w cycle by adjustment (moment_of s device now) heard st2.work off st2.calm.off st2.calm.broken
+    let over : IsOver s (hs ++ new) now device act.0 = subst (λ n. IsOver s (hs ++ new) now device n) (sym is)
+    (corrected_over p.front p.back heard st2.work off st2.calm.off st2.calm.broken
     (as_put now w refl (omega arith)) p.none so synchronised quiet) in
     let cleared : HasCleared act.0 = subst HasCleared (sym is) (λ n there. absurd (none_in (correcting n) there)) in
     let lone : IsUnfollowed s hs now body = corrected_unfollowed s hs now device cycle by adjustment (λ joining.
     let same = earlier_still now hs world.settled (λ z i. let at = (st.work.of_now z i).0 in omega (arith, at)) in
     not_joining (sym synchronised ∙ st.work.left.state
-    ∙ ap (λ (l : List Happening). if is_turned_on_at s device now then Integrating else state_after s l device) same ∙ joining)) in
-    one_point_step reading stands s world notes old device machine after node act.0 machines settled body cycle heard (Corrected by) st p room (omega arith)
-    (corrected_record stands s hs p.front p.back old.mark old.cursor now device machine node cycle heard by adjustment st2 off point sum_is p.none lone)
+    ∙ ap (λ l. if is_turned_on_at s device now then Integrating else state_after s l device) same ∙ joining)) in
+    one_point_step old {then_ = act.0} st p room (omega arith)
+    (corrected_record stands s hs p.front p.back old.mark old.cursor now device machine node cycle by adjustment st2
+    off point sum_is p.none lone)
     (λ at. refl) point
     (w, in_right w p.front (w ∷ p.back) (inl refl), refl)
     (record {
@@ -361,6 +401,5 @@ corrected_goes_by reading stands s world notes old device machine after cycle by
       taken = ap (λ (n : Node). n.taken) is;
       bare = bare_act s.network device node (moment_of s device now) (acts.Correct cycle (Corrected by)) act.0 act.1 st.bare;
       phase = ap (λ (n : Node). n.phase) is;
-      worked = corrected_worked stands s hs (p.front ++ p.back) old.mark old.cursor now device machine node act.0 heard by
-          (changed_at (hs ++ new) device (now + 1)) st2 is;
+      worked = corrected_worked act.0 heard by (changed_at (hs ++ new) device (now + 1)) st2 is;
     }) x.set

@@ -21,13 +21,16 @@ next_least : (b : Bool) (n : ℕ) → n ≤ (if b then n + 1 else n)
 next_least true n = omega arith
 next_least false n = omega arith
 
-pub still_now : (s : Scenario) (hs zs : List Happening) (now : ℕ) (device : DeviceId) (node : Node) → IsAtWork s hs zs now device node
-    → is_turned_on_at s device now ≡ false → IsStill (hs ++ zs) device now (now + 1)
-still_now s hs zs now device node w off h i from lt = unmoved_by s device now h.note.body off (w.still h i (omega (arith, from, lt)))
+pub still_now : {s : Scenario} {hs zs : List Happening} {now : ℕ} {device : DeviceId} {node : Node}
+    → IsAtWork s hs zs now device node → is_turned_on_at s device now ≡ false
+    → IsStill (hs ++ zs) device now (now + 1)
+still_now {s} {now} {device} w off h i from lt =
+    unmoved_by s device now h.note.body off (w.still h i (omega (arith, from, lt)))
 
-pub base_then : (s : Scenario) (hs zs : List Happening) (now : ℕ) (device : DeviceId) (node : Node) → IsAtWork s hs zs now device node
-    → is_turned_on_at s device now ≡ false → is_broken s device (now + 1) ≡ is_broken s device now → IsBase s (hs ++ zs) device (now + 1) node
-base_then s hs zs now device node w off same =
+pub base_then : {s : Scenario} {hs zs : List Happening} {now : ℕ} {device : DeviceId} {node : Node}
+    → IsAtWork s hs zs now device node → is_turned_on_at s device now ≡ false
+    → is_broken s device (now + 1) ≡ is_broken s device now → IsBase s (hs ++ zs) device (now + 1) node
+base_then w off same =
     grind (
       arith,
       still_now,
@@ -53,10 +56,11 @@ bears_none device (kinds.Corrected other cycle by adjustment) late still = still
 bears_none device (kinds.State other state cause why) late still = still
 bears_none device other late still = refl
 
-pub none_bear : (s : Scenario) (hs front back : List Happening) (now : ℕ) (device : DeviceId) (node : Node) (w : Happening)
-    → IsAtWork s hs (front ++ back) now device node → is_turned_on_at s device now ≡ false → time_of w ≡ now → 5 ≤ rank w.note.body
+pub none_bear : {s : Scenario} {hs : List Happening} (front back : List Happening) {now : ℕ} {device : DeviceId}
+    {node : Node} (w : Happening) → IsAtWork s hs (front ++ back) now device node
+    → is_turned_on_at s device now ≡ false → time_of w ≡ now → 5 ≤ rank w.note.body
     → NoneBefore place_of back (place_of w) → (z : Happening) → IsIn z back → bears_on device z.note.body ≡ false
-none_bear s hs front back now device node w work off at late none z i = grind (arith, in_right, bears_none, cases_lt, rank, unmoved_by)
+none_bear front back w work off at late none z i = grind (arith, in_right, bears_none, cases_lt, rank, unmoved_by)
 
 pub one_in : (q : Happening → Bool) (w : Happening) (back : List Happening) → filter q back ≡ [] → filter q (w ∷ back) ≡ filter q (w ∷ [])
 one_in q w back none = filter-append q (w ∷ []) back ∙ ap (λ (l : List Happening). filter q (w ∷ []) ++ l) none ∙ append-nil (filter q (w ∷ []))
@@ -93,9 +97,9 @@ borne_two hs front mid rest device w f none =
 
 -- ---- what it has done and sent then
 
-pub left_called : (s : Scenario) (js : List Happening) (device : DeviceId) (u : ℕ) (node : Node) (moment : Moment) → IsLeft s js device u node
-    → IsLeft s js device u (called moment acting node)
-left_called s js device u node moment left = grind arith
+pub left_called : {s : Scenario} {js : List Happening} {device : DeviceId} {u : ℕ} {node : Node} (moment : Moment)
+    → IsLeft s js device u node → IsLeft s js device u (called moment acting node)
+left_called moment left = grind arith
 
 -- it corrects its clock at the time: all counts from then on
 pub corrects_it : (network : Network) (reading : ℕ → ℕ) (device : DeviceId) (node : Node) (t : ℕ) (moment : Moment) (heard : Summary) (by : Units)
@@ -103,64 +107,73 @@ pub corrects_it : (network : Network) (reading : ℕ → ℕ) (device : DeviceId
 corrects_it network reading device node t moment heard by reads = record {
   undone = λ deed u x from lt.
       let same : t ≡ x = omega (arith, from, lt) in
-      let here = subst (λ (z : ℤ). z <ℤ (value_of network deed -ℤ (node.standing.adjustment.0 +ℤ by.0))) reads
+      let here = subst (λ z. z <ℤ (value_of network deed -ℤ (node.standing.adjustment.0 +ℤ by.0))) reads
       (ahead_yet moment.reading.0 (node.standing.adjustment.0 +ℤ by.0) _ (value_of network deed) refl u.ahead) in
       subst (λ (n : ℕ). pos (reading n) <ℤ (value_of network deed -ℤ (node.standing.adjustment.0 +ℤ by.0))) same here;
   done = λ deed there. absurd (none_in deed there);
 }
 
-kept_so : (s : Scenario) (device : DeviceId) (node : Node) (b : Bool) (now : ℕ) (sent : Compressed) (clusters : List _) (cluster : _)
-    → is_cm s.network device ≡ true → AreClusters (observation_window s.network) (if b then node.points else []) clusters → Contains clusters cluster
-    → sent ≡ Rattle.compression.specs.Emission.compressed (observation_window s.network) (pos (Rattle.tte_units.specs.Amount.amount s.network.calc)) cluster
-    → (Contains (if b then node.emitted else []) sent → ⊥)
-    → ((c : Compressed) → IsWaiting s.network device node c → pos (s.reading device now) <ℤ c.at.0) → HasSentFrom s device node now (now + 1)
-    → (x : ℕ) → x < now + 1 → pos (s.reading device x) <ℤ sent.at.0
-kept_so s device node true now sent clusters cluster cm are there is not_yet none has x lt =
-    let waits : IsWaiting s.network device node sent = record {
-      cm = cm;
-      clusters = clusters;
-      are = are;
-      cluster = cluster;
-      there = there;
-      is = is;
-      not_yet = not_yet;
-    } in
-    elim (cases_lt x now) [
-      | inl before ↦ has.unsent sent waits x before
-      | inr ge ↦ let at : x ≡ now = omega (arith, ge, lt) in subst (λ (n : ℕ). pos (s.reading device n) <ℤ sent.at.0) (sym at) (none sent waits)
-    ]
-kept_so s device node false now sent clusters cluster cm are there is not_yet none has x lt =
-    absurd (no_cluster (observation_window s.network) clusters cluster are there)
+module _ (s : Scenario) (device : DeviceId) (node : Node) where
+  kept_so : (b : Bool) {now : ℕ} (sent : Compressed) (clusters : List _) (cluster : _)
+      → is_cm s.network device ≡ true → AreClusters (observation_window s.network)
+      (if b then node.points else []) clusters → Contains clusters cluster
+      → sent ≡ Rattle.compression.specs.Emission.compressed (observation_window s.network)
+      (pos (Rattle.tte_units.specs.Amount.amount s.network.calc)) cluster
+      → (Contains (if b then node.emitted else []) sent → ⊥)
+      → ((c : Compressed) → IsWaiting s.network device node c → pos (s.reading device now) <ℤ c.at.0)
+      → HasSentFrom s device node now (now + 1) → (x : ℕ) → x < now + 1 → pos (s.reading device x) <ℤ sent.at.0
+  kept_so true {now} sent clusters cluster cm are there is not_yet none has x lt =
+      let waits : IsWaiting s.network device node sent = record {
+        cm = cm;
+        clusters = clusters;
+        are = are;
+        cluster = cluster;
+        there = there;
+        is = is;
+        not_yet = not_yet;
+      } in
+      elim (cases_lt x now) [
+        | inl before ↦ has.unsent sent waits x before
+        | inr ge ↦ let at : x ≡ now = omega (arith, ge, lt) in subst
+            (λ (n : ℕ). pos (s.reading device n) <ℤ sent.at.0) (sym at) (none sent waits)
+      ]
+  kept_so false sent clusters cluster cm are there is not_yet none has x lt =
+      absurd (no_cluster (observation_window s.network) clusters cluster are there)
 
-kept_sent : (s : Scenario) (device : DeviceId) (node : Node) (b : Bool) (now : ℕ) (sent : Compressed) → HasSentFrom s device node now (now + 1)
-    → Contains (if b then node.emitted else []) sent → (x : ℕ) × (x < now + 1) × (sent.at.0 ≤ℤ pos (s.reading device x))
-kept_sent s device node true now sent has there = has.sent sent there
-kept_sent s device node false now sent has there = absurd (none_in sent there)
+  kept_sent : (b : Bool) {now : ℕ} (sent : Compressed) → HasSentFrom s device node now (now + 1)
+      → Contains (if b then node.emitted else []) sent → (x : ℕ) × (x < now + 1)
+      × (sent.at.0 ≤ℤ pos (s.reading device x))
+  kept_sent true sent has there = has.sent sent there
+  kept_sent false sent has there = absurd (none_in sent there)
 
--- none of its frames is due, as those come before a correction
-pub corrected_sent : (s : Scenario) (device : DeviceId) (node : Node) (now : ℕ) (moment : Moment) (heard : Summary) (by : Units)
-    → HasSentFrom s device node now (now + 1) → ((c : Compressed) → IsWaiting s.network device node c → pos (s.reading device now) <ℤ c.at.0)
-    → HasSentFrom s device (called moment acting (with_corrected node moment heard by)) (now + 1) (now + 1)
-corrected_sent s device node now moment heard by has none = record {
-  unsent = λ c u x lt. kept_so s device node (is_synchronised node.standing.state) now c u.clusters u.cluster u.cm u.are u.there u.is u.not_yet none has x lt;
-  sent = λ c there. kept_sent s device node (is_synchronised node.standing.state) now c has there;
-}
+  -- none of its frames is due, as those come before a correction
+  pub corrected_sent : {now : ℕ} (moment : Moment) (heard : Summary) (by : Units)
+      → HasSentFrom s device node now (now + 1) → ((c : Compressed) → IsWaiting s.network device node c
+      → pos (s.reading device now) <ℤ c.at.0) → HasSentFrom s device
+      (called moment acting (with_corrected node moment heard by)) (now + 1) (now + 1)
+  corrected_sent moment heard by has none = record {
+    unsent = λ c u x lt. kept_so (is_synchronised node.standing.state) c u.clusters u.cluster u.cm u.are u.there u.is
+        u.not_yet none has x lt;
+    sent = λ c there. kept_sent (is_synchronised node.standing.state) c has there;
+  }
 
 -- ---- it has corrected its clock
 
-pub corrected_over : (s : Scenario) (hs front back : List Happening) (now : ℕ) (device : DeviceId) (node : Node) (w : Happening) (cycle : ℕ)
-    (by adjustment : Units) (moment : Moment) (heard : Summary)
-    → IsAtWork s hs (front ++ back) now device node → is_turned_on_at s device now ≡ false → is_turned_on_at s device (now + 1) ≡ false
-    → is_broken s device (now + 1) ≡ is_broken s device now → IsPutAs now w → NoneBefore place_of back (place_of w)
+pub corrected_over : {s : Scenario} {hs : List Happening} (front back : List Happening) {now : ℕ} {device : DeviceId}
+    {node : Node} {w : Happening} {cycle : ℕ} {by adjustment : Units} {moment : Moment} (heard : Summary)
+    → IsAtWork s hs (front ++ back) now device node → is_turned_on_at s device now ≡ false
+    → is_turned_on_at s device (now + 1) ≡ false → is_broken s device (now + 1) ≡ is_broken s device now
+    → IsPutAs now w → NoneBefore place_of back (place_of w)
     → IsCorrectedSo s device (now + 1) node w cycle by adjustment moment → node.standing.state ≡ Synchronised
     → ((c : Compressed) → IsWaiting s.network device node c → pos (s.reading device now) <ℤ c.at.0)
     → IsOver s (hs ++ (front ++ w ∷ back)) now device (called moment acting (with_corrected node moment heard by))
-corrected_over s hs front back now device node w cycle by adjustment moment heard work off later same p none so synchronised quiet =
+corrected_over {s} {hs} front back {now} {device} {node} {w} {cycle} {by} {adjustment} {moment} heard work off later
+    same p none so synchronised quiet =
     let after = called moment acting (with_corrected node moment heard by) in
     let old = hs ++ (front ++ back) in
-    let base = base_then s hs (front ++ back) now device node work off same in
-    let five : 5 ≤ rank w.note.body = subst (λ (b : NoteBody). 5 ≤ rank b) (sym so.body) (omega arith) in
-    let bears = none_bear s hs front back now device node w work off p.at five none in
+    let base = base_then work off same in
+    let five : 5 ≤ rank w.note.body = subst (λ b. 5 ≤ rank b) (sym so.body) (omega arith) in
+    let bears = none_bear front back w work off p.at five none in
     let borne_so = borne_in hs front back device w bears in
     let changes : Rattle.run_law.specs.device.LocalClocks.changes_adjustment device w.note.body ≡ true =
     ap (Rattle.run_law.specs.device.LocalClocks.changes_adjustment device) so.body ∙ Rattle.std.proofs.lemmas.Bool.eq-eqb device.0 device.0 refl in
@@ -170,31 +183,35 @@ corrected_over s hs front back now device node w cycle by adjustment moment hear
     ∙ changed_by device (earlier (now + 1) old) w changes ∙ p.at in
     let reads : moment.reading.0 ≡ pos (s.reading device now) = so.reads ∙ ap (λ (n : ℕ). pos (s.reading device n)) p.at in
     record {
-      left = left_called s (hs ++ (front ++ w ∷ back)) device (now + 1) (with_corrected node moment heard by) moment
-          (left_alike s (old ++ w ∷ []) (hs ++ (front ++ w ∷ back)) device (now + 1) (with_corrected node moment heard by) borne_so
+      left = left_called moment
+          (left_alike (hs ++ (front ++ w ∷ back)) borne_so
           (corrects s old device (now + 1) node w cycle by adjustment moment heard so synchronised later base));
-      done = subst (λ (n : ℕ). HasDoneFrom s.network (s.reading device) device after n (now + 1) (now + 1)) (sym at)
+      done = subst (λ n. HasDoneFrom s.network (s.reading device) device after n (now + 1) (now + 1)) (sym at)
           (corrects_it s.network (s.reading device) device node now moment heard by reads);
-      sent = corrected_sent s device node now moment heard by work.sent quiet;
+      sent = corrected_sent s device node moment heard by work.sent quiet;
     }
 
 -- ---- a joiner has its first correction
 
-pub joiner_over : (s : Scenario) (hs front mid rest : List Happening) (now : ℕ) (device : DeviceId) (node : Node) (w f : Happening) (cycle cause : ℕ)
-    (by adjustment : Units) (moment : Moment) (heard : Summary)
-    → IsAtWork s hs (front ++ (mid ++ rest)) now device node → is_turned_on_at s device now ≡ false → is_turned_on_at s device (now + 1) ≡ false
+pub joiner_over : {s : Scenario} {hs : List Happening} (front mid rest : List Happening) {now : ℕ}
+    {device : DeviceId} {node : Node} {w : Happening} (f : Happening) {cycle : ℕ} (cause : ℕ) {by adjustment : Units}
+    {moment : Moment} (heard : Summary) → IsAtWork s hs (front ++ (mid ++ rest)) now device node
+    → is_turned_on_at s device now ≡ false → is_turned_on_at s device (now + 1) ≡ false
     → is_broken s device (now + 1) ≡ is_broken s device now → time_of w ≡ now
-    → NoneBefore place_of (mid ++ rest) (place_of w) → IsCorrectedSo s device (now + 1) node w cycle by adjustment moment → node.standing.state ≡ Joining
+    → NoneBefore place_of (mid ++ rest) (place_of w) → IsCorrectedSo s device
+    (now + 1) node w cycle by adjustment moment → node.standing.state ≡ Joining
     → f.note.body ≡ kinds.State device Synchronised cause whys.Correction → time_of f < now + 1
     → ((c : Compressed) → IsWaiting s.network device node c → pos (s.reading device now) <ℤ c.at.0)
-    → IsOver s (hs ++ (front ++ w ∷ (mid ++ f ∷ rest))) now device (called moment acting (with_corrected node moment heard by))
-joiner_over s hs front mid rest now device node w f cycle cause by adjustment moment heard work off later same at none so joining e lt quiet =
+    → IsOver s (hs ++ (front ++ w ∷ (mid ++ f ∷ rest))) now device
+    (called moment acting (with_corrected node moment heard by))
+joiner_over {s} {hs} front mid rest {now} {device} {node} {w} f cause {by} {moment} heard work off later same at none
+    so joining e lt quiet =
     let after = called moment acting (with_corrected node moment heard by) in
     let old = hs ++ (front ++ (mid ++ rest)) in
     let whole = hs ++ (front ++ w ∷ (mid ++ f ∷ rest)) in
-    let base = base_then s hs (front ++ (mid ++ rest)) now device node work off same in
-    let five : 5 ≤ rank w.note.body = subst (λ (b : NoteBody). 5 ≤ rank b) (sym so.body) (omega arith) in
-    let bears = none_bear s hs front (mid ++ rest) now device node w work off at five none in
+    let base = base_then work off same in
+    let five : 5 ≤ rank w.note.body = subst (λ b. 5 ≤ rank b) (sym so.body) (omega arith) in
+    let bears = none_bear front (mid ++ rest) w work off at five none in
     let borne_so = borne_two hs front mid rest device w f bears in
     let changes : Rattle.run_law.specs.device.LocalClocks.changes_adjustment device w.note.body ≡ true =
     ap (Rattle.run_law.specs.device.LocalClocks.changes_adjustment device) so.body ∙ Rattle.std.proofs.lemmas.Bool.eq-eqb device.0 device.0 refl in
@@ -210,12 +227,12 @@ joiner_over s hs front mid rest now device node w f cycle cause by adjustment mo
     ∙ changed_by device (earlier (now + 1) old) w changes ∙ at in
     let reads : moment.reading.0 ≡ pos (s.reading device now) = so.reads ∙ ap (λ (n : ℕ). pos (s.reading device n)) at in
     record {
-      left = left_called s whole device (now + 1) (with_corrected node moment heard by) moment
-          (left_alike s ((old ++ w ∷ []) ++ f ∷ []) whole device (now + 1) (with_corrected node moment heard by) borne_so
-          (joiner_corrects s old device (now + 1) node w f cycle cause by adjustment moment heard so joining later e lt base));
-      done = subst (λ (n : ℕ). HasDoneFrom s.network (s.reading device) device after n (now + 1) (now + 1)) (sym changed)
+      left = left_called moment
+          (left_alike whole borne_so
+          (joiner_corrects s old device (now + 1) node f cause heard so joining later e lt base));
+      done = subst (λ n. HasDoneFrom s.network (s.reading device) device after n (now + 1) (now + 1)) (sym changed)
           (corrects_it s.network (s.reading device) device node now moment heard by reads);
-      sent = corrected_sent s device node now moment heard by work.sent quiet;
+      sent = corrected_sent s device node moment heard by work.sent quiet;
     }
 
 -- ---- it has found itself outside the others
@@ -226,55 +243,59 @@ no_deed network device node (sending cycle) is own = no_longer (sym is ∙ own.1
 no_deed network device node (correcting cycle) is own = no_point node.standing.state node.standing.number cycle is own
 no_deed network device node (dispatching row cycle) is own = no_longer (sym is ∙ own.0)
 
--- its adjustment changed last when it did before
-pub clique_change : (s : Scenario) (hs front back : List Happening) (now : ℕ) (device : DeviceId) (node : Node) (w : Happening) (cause : ℕ) (why : Why)
-    → IsAtWork s hs (front ++ back) now device node → is_turned_on_at s device now ≡ false → IsPutAs now w
-    → NoneBefore place_of back (place_of w) → w.note.body ≡ kinds.State device Integrating cause why
-    → changed_at (hs ++ (front ++ w ∷ back)) device (now + 1) ≡ changed_at (hs ++ (front ++ back)) device now
-clique_change s hs front back now device node w cause why work off p none e =
-    let old = hs ++ (front ++ back) in
-    let five : 5 ≤ rank w.note.body = subst (λ (b : NoteBody). 5 ≤ rank b) (sym e) (omega arith) in
-    let bears = none_bear s hs front back now device node w work off p.at five none in
-    let lt : time_of w < now + 1 = let at = p.at in omega (arith, at) in
-    sym (tell_alike s (old ++ w ∷ []) (hs ++ (front ++ w ∷ back)) device (now + 1) (borne_in hs front back device w bears)).change
-    ∙ ap (Rattle.world_law.specs.device.Told.change_in device) (one_earlier (now + 1) old w lt)
-    ∙ ap (λ (l : List Happening). Rattle.std.specs.Option.option_map_or time_of (Rattle.std.specs.List.last_or None l) 0)
-    (Rattle.world_law.proofs.lists.Lists.filter_no (λ g. Rattle.run_law.specs.device.LocalClocks.changes_adjustment device g.note.body)
-    (earlier (now + 1) old) w (ap (Rattle.run_law.specs.device.LocalClocks.changes_adjustment device) e))
-    ∙ change_still old device now (now + 1) (omega arith) (still_now s hs (front ++ back) now device node work off)
+module _ (s : Scenario) (hs front back : List Happening) (now : ℕ) (device : DeviceId) (node : Node) (w : Happening)
+    (cause : ℕ) (why : Why) where
+  -- its adjustment changed last when it did before
+  pub clique_change : IsAtWork s hs (front ++ back) now device node → is_turned_on_at s device now ≡ false
+      → IsPutAs now w → NoneBefore place_of back (place_of w) → w.note.body ≡ kinds.State device Integrating cause why
+      → changed_at (hs ++ (front ++ w ∷ back)) device (now + 1) ≡ changed_at (hs ++ (front ++ back)) device now
+  clique_change work off p none e =
+      let old = hs ++ (front ++ back) in
+      let five : 5 ≤ rank w.note.body = subst (λ b. 5 ≤ rank b) (sym e) (omega arith) in
+      let bears = none_bear front back w work off p.at five none in
+      let lt : time_of w < now + 1 = let at = p.at in omega (arith, at) in
+      sym (tell_alike s (old ++ w ∷ []) (hs ++ (front ++ w ∷ back)) device (now + 1)
+      (borne_in hs front back device w bears)).change
+      ∙ ap (Rattle.world_law.specs.device.Told.change_in device) (one_earlier (now + 1) old w lt)
+      ∙ ap (λ (l : List Happening). Rattle.std.specs.Option.option_map_or time_of
+      (Rattle.std.specs.List.last_or None l) 0)
+      (Rattle.world_law.proofs.lists.Lists.filter_no
+      (λ g. Rattle.run_law.specs.device.LocalClocks.changes_adjustment device g.note.body)
+      (earlier (now + 1) old) w (ap (Rattle.run_law.specs.device.LocalClocks.changes_adjustment device) e))
+      ∙ change_still old device now (now + 1) (omega arith) (still_now work off)
 
-pub clique_over : (s : Scenario) (hs front back : List Happening) (now : ℕ) (device : DeviceId) (node : Node) (w : Happening) (cause : ℕ) (why : Why)
-    (moment : Moment) (heard : Summary) (verdict : Verdict)
-    → IsAtWork s hs (front ++ back) now device node → is_turned_on_at s device now ≡ false → is_turned_on_at s device (now + 1) ≡ false
-    → is_broken s device (now + 1) ≡ is_broken s device now → IsPutAs now w → NoneBefore place_of back (place_of w)
-    → state_by node.standing.state verdict ≡ Integrating → adjustment_by node.standing.adjustment verdict ≡ node.standing.adjustment
-    → w.note.body ≡ kinds.State device Integrating cause why → ends_stretch device (kinds.State device Integrating cause why) ≡ true
-    → IsOver s (hs ++ (front ++ w ∷ back)) now device (called moment acting (with_clique node heard verdict))
-clique_over s hs front back now device node w cause why moment heard verdict work off later same p none lost kept e ends =
-    let after = called moment acting (with_clique node heard verdict) in
-    let old = hs ++ (front ++ back) in
-    let base = base_then s hs (front ++ back) now device node work off same in
-    let five : 5 ≤ rank w.note.body = subst (λ (b : NoteBody). 5 ≤ rank b) (sym e) (omega arith) in
-    let bears = none_bear s hs front back now device node w work off p.at five none in
-    let lt : time_of w < now + 1 = let at = p.at in omega (arith, at) in
-    let change = clique_change s hs front back now device node w cause why work off p none e in
-    record {
-      left = left_called s (hs ++ (front ++ w ∷ back)) device (now + 1) (with_clique node heard verdict) moment
-          (left_alike s (old ++ w ∷ []) (hs ++ (front ++ w ∷ back)) device (now + 1) (with_clique node heard verdict)
-          (borne_in hs front back device w bears)
-          (cliques s old device (now + 1) node w cause why heard verdict lost kept e ends lt later base));
-      done = record {
-        undone = λ deed u x from lt. absurd (no_deed s.network device after deed lost u.own);
-        done = λ deed there.
-            let x = work.done.done deed there in (
-              x.0,
-              omega (arith, x.1, change),
-              x.2,
-              subst (λ (a : Units). (value_of s.network deed -ℤ a.0) ≤ℤ pos (s.reading device x.0)) (sym kept) x.3,
-            );
-      };
-      sent = record {
-        unsent = λ c u x lt. absurd (no_cluster (observation_window s.network) u.clusters u.cluster u.are u.there);
-        sent = λ c there. absurd (none_in c there);
-      };
-    }
+  pub clique_over : (moment : Moment) (heard : Summary) (verdict : Verdict)
+      → IsAtWork s hs (front ++ back) now device node → is_turned_on_at s device now ≡ false
+      → is_turned_on_at s device (now + 1) ≡ false → is_broken s device (now + 1) ≡ is_broken s device now
+      → IsPutAs now w → NoneBefore place_of back (place_of w) → state_by node.standing.state verdict ≡ Integrating
+      → adjustment_by node.standing.adjustment verdict ≡ node.standing.adjustment
+      → w.note.body ≡ kinds.State device Integrating cause why
+      → ends_stretch device (kinds.State device Integrating cause why) ≡ true
+      → IsOver s (hs ++ (front ++ w ∷ back)) now device (called moment acting (with_clique node heard verdict))
+  clique_over moment heard verdict work off later same p none lost kept e ends =
+      let after = called moment acting (with_clique node heard verdict) in
+      let old = hs ++ (front ++ back) in
+      let base = base_then work off same in
+      let five : 5 ≤ rank w.note.body = subst (λ b. 5 ≤ rank b) (sym e) (omega arith) in
+      let bears = none_bear front back w work off p.at five none in
+      let lt : time_of w < now + 1 = let at = p.at in omega (arith, at) in
+      let change = clique_change work off p none e in
+      record {
+        left = left_called moment
+            (left_alike (hs ++ (front ++ w ∷ back)) (borne_in hs front back device w bears)
+            (cliques s old device (now + 1) node w cause why heard verdict lost kept e ends lt later base));
+        done = record {
+          undone = λ deed u x from lt. absurd (no_deed s.network device after deed lost u.own);
+          done = λ deed there.
+              let x = work.done.done deed there in (
+                x.0,
+                omega (arith, x.1, change),
+                x.2,
+                subst (λ (a : Units). (value_of s.network deed -ℤ a.0) ≤ℤ pos (s.reading device x.0)) (sym kept) x.3,
+              );
+        };
+        sent = record {
+          unsent = λ c u x lt. absurd (no_cluster (observation_window s.network) u.clusters u.cluster u.are u.there);
+          sent = λ c there. absurd (none_in c there);
+        };
+      }

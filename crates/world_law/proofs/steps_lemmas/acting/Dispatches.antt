@@ -24,33 +24,37 @@ pub record TellsRow (s : Scenario) (js : List Happening) (now : ℕ) (device : D
   pub at : dispatch_order s.network (record { 0 = dispatches.place }) ≡ order
   pub is : body ≡ dispatch_body s device now link cause vl cycle
 
-order_is : (network : Network) (place : ℕ) (entry : Entry) → IsEntry network place entry
+order_is : {network : Network} {place : ℕ} {entry : Entry} → IsEntry network place entry
     → dispatch_order network (record { 0 = place }) ≡ amount entry.row.offset ∷ entry.row.link.0 ∷ place ∷ []
-order_is network place entry is = ap (λ (o : Option Row). option_map_or (λ (r : Row). amount r.offset ∷ r.link.0 ∷ place ∷ []) o []) is.row
+order_is {place} is =
+    ap (λ (o : Option Row). option_map_or (λ (r : Row). amount r.offset ∷ r.link.0 ∷ place ∷ []) o []) is.row
 
 -- a place in the order tells the link
-one_link : (s : Scenario) (js : List Happening) (device : DeviceId) (now : ℕ) (link other : LinkId) (cause from : ℕ) (vl with : VlId) (cycle number : ℕ)
-    (order : List ℕ) (d : Dispatches s js device now link cause vl cycle) (e : Dispatches s js device now other from with number)
-    → dispatch_order s.network (record { 0 = d.place }) ≡ order → dispatch_order s.network (record { 0 = e.place }) ≡ order → link ≡ other
-one_link s js device now link other cause from vl with cycle number order d e one two =
+one_link : {s : Scenario} {js : List Happening} {device : DeviceId} {now : ℕ} {link : LinkId} (other : LinkId)
+    {cause : ℕ} (from : ℕ) {vl : VlId} (with : VlId) {cycle : ℕ} (number : ℕ) (order : List ℕ)
+    (d : Dispatches s js device now link cause vl cycle) (e : Dispatches s js device now other from with number)
+    → dispatch_order s.network (record { 0 = d.place }) ≡ order
+    → dispatch_order s.network (record { 0 = e.place }) ≡ order → link ≡ other
+one_link other from with number order d e one two =
     let both : amount d.entry.row.offset ∷ d.entry.row.link.0 ∷ d.place ∷ [] ≡ amount e.entry.row.offset ∷ e.entry.row.link.0 ∷ e.place ∷ [] =
-    sym (order_is s.network d.place d.entry d.row) ∙ one ∙ sym two ∙ order_is s.network e.place e.entry e.row in
+    sym (order_is d.row) ∙ one ∙ sym two ∙ order_is e.row in
     let links : d.entry.row.link.0 ≡ e.entry.row.link.0 = cc in
     sym d.by ∙ ap (λ (n : ℕ). let l : LinkId = record { 0 = n } in l) links ∙ e.by
 
 -- so what is dispatched from the same place by records of the instant is told by the same
-same_row : (s : Scenario) (hs new front : List Happening) (now : ℕ) (device : DeviceId) (order : List ℕ) (body : NoteBody) (link : LinkId) (cause : ℕ)
-    (vl : VlId) (cycle : ℕ) → IsLawful s (hs ++ new) device → ((z : Happening) → IsIn z new → time_of z ≡ now)
-    → ((z : Happening) → IsIn z front → time_of z ≡ now) → TellsRow s (hs ++ new) now device order body
-    → (d : Dispatches s (hs ++ front) device now link cause vl cycle) → dispatch_order s.network (record { 0 = d.place }) ≡ order
+same_row : {s : Scenario} (hs new front : List Happening) {now : ℕ} {device : DeviceId} {order : List ℕ}
+    {body : NoteBody} {link : LinkId} {cause : ℕ} {vl : VlId} {cycle : ℕ} → IsLawful s (hs ++ new) device
+    → ((z : Happening) → IsIn z new → time_of z ≡ now) → ((z : Happening) → IsIn z front → time_of z ≡ now)
+    → TellsRow s (hs ++ new) now device order body → (d : Dispatches s (hs ++ front) device now link cause vl cycle)
+    → dispatch_order s.network (record { 0 = d.place }) ≡ order
     → body ≡ dispatch_body s device now link cause vl cycle
-same_row s hs new front now device order body link cause vl cycle law of_now also t d place =
+same_row {s} hs new front {now} {device} {order} {link} {cause} {vl} {cycle} law of_now also t d place =
     let x = dispatches_same s (hs ++ front) (hs ++ new) now device link cause vl cycle (all_earlier s hs front new now also of_now) d in
     let at : dispatch_order s.network (record { 0 = x.0.place }) ≡ order =
     ap (λ (n : ℕ). dispatch_order s.network (let row : RowId = record { 0 = n } in row)) x.1 ∙ place in
-    let links = one_link s (hs ++ new) device now t.link link t.cause cause t.vl vl t.cycle cycle order t.dispatches x.0 t.at at in
-    let one = one_row s (hs ++ new) device now t.link link t.cause cause t.vl vl t.cycle cycle law links t.dispatches x.0 in
-    t.is ∙ told_alike s (hs ++ new) device now t.link link t.cause cause t.vl vl t.cycle cycle law.rules t.dispatches x.0 one.0 one.1
+    let links = one_link link cause vl cycle order t.dispatches x.0 t.at at in
+    let one = one_row link cause vl cycle law links t.dispatches x.0 in
+    t.is ∙ told_alike link cause vl cycle law.rules t.dispatches x.0 one.0 one.1
 
 -- ---- what comes from the place of a row
 
@@ -80,80 +84,91 @@ no_row now t d e order long same =
     let none : 0 ≡ length order = ap length (at_row now t d e order [] same).2 in
     omega (arith, none, long)
 
-row_cause : (s : Scenario) (js : List Happening) (now : ℕ) (device : DeviceId) (order : List ℕ) (time : Units) (m : ℕ) (body : NoteBody)
-    → 1 ≤ length order → IsOwnSource s js (amount time) m body (now ∷ 6 ∷ device.0 ∷ order) → IsCaused s js time body
-    → (amount time ≡ now) × IsRowCause s js now device order body
-row_cause s js now device order time m (kinds.Lost other link cause) long (inr (inl own)) c =
-    let e = at_row now (amount time) device.0 other.0 order _ own.4 in
-    let same = same_device other device e.1 in (
-      e.0,
-      (
-        same,
-        subst (λ (n : ℕ). IsOfRow s js order link cause true device n) e.0
-            (subst (λ (d : DeviceId). IsOfRow s js order link cause true d (amount time)) same (own.0, own.1, own.2, own.3, e.2)),
-      ),
-    )
-row_cause s js now device order time m (kinds.TtSent other link cause vl cycle) long own c =
-    let e = at_row now (amount time) device.0 other.0 order _ own.1 in
-    let same = same_device other device e.1 in (
-      e.0,
-      (
-        same,
-        subst (λ (n : ℕ). (d : Dispatches s js device n link cause vl cycle) × (is_cut s link (way_from s.network device link) n ≡ false)
-            × (dispatch_order s.network (record { 0 = d.place }) ≡ order)) e.0
-            (subst (λ (a : DeviceId). (d : Dispatches s js a (amount time) link cause vl cycle)
-            × (is_cut s link (way_from s.network a link) (amount time) ≡ false) × (dispatch_order s.network (record { 0 = d.place }) ≡ order)) same
-            (own.0, c.whole, e.2)),
-      ),
-    )
-row_cause s js now device order time m (kinds.Lost other link cause) long (inl own) c = absurd (wrong now (amount time) 8 _ _ own.0 (λ k. omega (arith, k)))
-row_cause s js now device order time m (kinds.Lost other link cause) long (inr (inr own)) c = absurd (wrong now (amount time) 2 _ _ own.0 (λ k. omega (arith, k)))
-row_cause s js now device order time m (kinds.Compressed other opened at cycle members verdict) long own c =
-    absurd (wrong now (amount time) 4 _ _ own (λ k. omega (arith, k)))
-row_cause s js now device order time m (kinds.Sent other cycle) long own c = absurd (wrong now (amount time) 5 _ _ own (λ k. omega (arith, k)))
-row_cause s js now device order time m (kinds.Corrected other cycle by adjustment) long own c =
-    absurd (no_row now (amount time) device.0 other.0 order long own)
-row_cause s js now device order time m (kinds.State other state cause whys.SyncClique) long own c =
-    absurd (no_row now (amount time) device.0 other.0 order long own.1)
-row_cause s js now device order time m (kinds.State other state cause whys.AsyncClique) long own c =
-    absurd (no_row now (amount time) device.0 other.0 order long own.1)
-row_cause s js now device order time m (kinds.Event line what) long own c = absurd (wrong now (amount time) 1 _ _ own (λ k. omega (arith, k)))
-row_cause s js now device order time m (kinds.Permanent other link cause point verdict) long own c =
-    absurd (wrong now (amount time) 3 _ _ own (λ k. omega (arith, k)))
-row_cause s js now device order time m (kinds.Left other link cause clock) long own c = absurd (wrong now (amount time) 8 _ _ own (λ k. omega (arith, k)))
-row_cause s js now device order time m (kinds.Dropped other link cause reason) long (inl own) c =
-    absurd (wrong now (amount time) 2 _ _ own.0 (λ k. omega (arith, k)))
-row_cause s js now device order time m (kinds.Dropped other link cause reason) long (inr (inl own)) c =
-    absurd (wrong now (amount time) 3 _ _ own.2 (λ k. omega (arith, k)))
-row_cause s js now device order time m (kinds.Dropped other link cause reason) long (inr (inr own)) c =
-    absurd (wrong now (amount time) 8 _ _ own.0 (λ k. omega (arith, k)))
-row_cause s js now device order time m (kinds.Clock other reading adjustment state) long own c = absurd (wrong now (amount time) 14 _ _ own (λ k. omega (arith, k)))
-row_cause s js now device order time m rest long own c = absurd (wrong now (amount time) 2 _ _ own (λ k. omega (arith, k)))
+module _ (s : Scenario) (js : List Happening) (now : ℕ) (device : DeviceId) (order : List ℕ) (time : Units)
+    (m : ℕ) where
+  row_cause : (body : NoteBody) → 1 ≤ length order → IsOwnSource s js (amount time) m body
+      (now ∷ 6 ∷ device.0 ∷ order) → IsCaused s js time body
+      → (amount time ≡ now) × IsRowCause s js now device order body
+  row_cause (kinds.Lost other link cause) long (inr (inl own)) c =
+      let e = at_row now (amount time) device.0 other.0 order _ own.4 in
+      let same = same_device other device e.1 in (
+        e.0,
+        (
+          same,
+          subst (λ n. IsOfRow s js order link cause true device n) e.0
+              (subst (λ d. IsOfRow s js order link cause true d (amount time)) same
+              (own.0, own.1, own.2, own.3, e.2)),
+        ),
+      )
+  row_cause (kinds.TtSent other link cause vl cycle) long own c =
+      let e = at_row now (amount time) device.0 other.0 order _ own.1 in
+      let same = same_device other device e.1 in (
+        e.0,
+        (
+          same,
+          subst (λ (n : ℕ). (d : Dispatches s js device n link cause vl cycle)
+              × (is_cut s link (way_from s.network device link) n ≡ false)
+              × (dispatch_order s.network (record { 0 = d.place }) ≡ order)) e.0
+              (subst (λ (a : DeviceId). (d : Dispatches s js a (amount time) link cause vl cycle)
+              × (is_cut s link (way_from s.network a link) (amount time) ≡ false)
+              × (dispatch_order s.network (record { 0 = d.place }) ≡ order)) same
+              (own.0, c.whole, e.2)),
+        ),
+      )
+  row_cause (kinds.Lost other link cause) long (inl own) c =
+      absurd (wrong now (amount time) 8 _ _ own.0 (λ k. omega (arith, k)))
+  row_cause (kinds.Lost other link cause) long (inr (inr own)) c =
+      absurd (wrong now (amount time) 2 _ _ own.0 (λ k. omega (arith, k)))
+  row_cause (kinds.Compressed other opened at cycle members verdict) long own c =
+      absurd (wrong now (amount time) 4 _ _ own (λ k. omega (arith, k)))
+  row_cause (kinds.Sent other cycle) long own c = absurd (wrong now (amount time) 5 _ _ own (λ k. omega (arith, k)))
+  row_cause (kinds.Corrected other cycle by adjustment) long own c =
+      absurd (no_row now (amount time) device.0 other.0 order long own)
+  row_cause (kinds.State other state cause whys.SyncClique) long own c =
+      absurd (no_row now (amount time) device.0 other.0 order long own.1)
+  row_cause (kinds.State other state cause whys.AsyncClique) long own c =
+      absurd (no_row now (amount time) device.0 other.0 order long own.1)
+  row_cause (kinds.Event line what) long own c = absurd (wrong now (amount time) 1 _ _ own (λ k. omega (arith, k)))
+  row_cause (kinds.Permanent other link cause point verdict) long own c =
+      absurd (wrong now (amount time) 3 _ _ own (λ k. omega (arith, k)))
+  row_cause (kinds.Left other link cause clock) long own c =
+      absurd (wrong now (amount time) 8 _ _ own (λ k. omega (arith, k)))
+  row_cause (kinds.Dropped other link cause reason) long (inl own) c =
+      absurd (wrong now (amount time) 2 _ _ own.0 (λ k. omega (arith, k)))
+  row_cause (kinds.Dropped other link cause reason) long (inr (inl own)) c =
+      absurd (wrong now (amount time) 3 _ _ own.2 (λ k. omega (arith, k)))
+  row_cause (kinds.Dropped other link cause reason) long (inr (inr own)) c =
+      absurd (wrong now (amount time) 8 _ _ own.0 (λ k. omega (arith, k)))
+  row_cause (kinds.Clock other reading adjustment state) long own c =
+      absurd (wrong now (amount time) 14 _ _ own (λ k. omega (arith, k)))
+  row_cause rest long own c = absurd (wrong now (amount time) 2 _ _ own (λ k. omega (arith, k)))
 
 -- ---- all of it is there
 
 -- what comes from the place of the row stands where the record that tells of it does
-row_found : (s : Scenario) (hs new front : List Happening) (now : ℕ) (device : DeviceId) (order : List ℕ) (w y : Happening) → IsLawful s (hs ++ new) device
-    → ((z : Happening) → IsIn z new → time_of z ≡ now) → ((z : Happening) → IsIn z front → time_of z ≡ now)
-    → TellsRow s (hs ++ new) now device order w.note.body → time_of w ≡ now → time_of y ≡ now → (body : NoteBody) → y.note.body ≡ body
+row_found : {s : Scenario} (hs new front : List Happening) {now : ℕ} {device : DeviceId} {order : List ℕ}
+    (w y : Happening) → IsLawful s (hs ++ new) device → ((z : Happening) → IsIn z new → time_of z ≡ now)
+    → ((z : Happening) → IsIn z front → time_of z ≡ now) → TellsRow s (hs ++ new) now device order w.note.body
+    → time_of w ≡ now → time_of y ≡ now → (body : NoteBody) → y.note.body ≡ body
     → IsRowCause s (hs ++ front) now device order body → place_of w ≡ place_of y
-row_found s hs new front now device order w y law of_now also t at_w at (kinds.Lost other link cause) is c =
+row_found {s} hs new front {now} {device} w y law of_now also t at_w at (kinds.Lost other link cause) is c =
     let x = c.1 in
-    same_told s now device link cause x.0 x.1 w y (same_row s hs new front now device order w.note.body link cause x.0 x.1 law of_now also t x.2 x.4)
+    same_told s now device link cause x.0 x.1 w y (same_row hs new front law of_now also t x.2 x.4)
     (is ∙ ap (λ (d : DeviceId). kinds.Lost d link cause) c.0
     ∙ sym (ap (λ (b : Bool). if b then kinds.Lost device link cause else kinds.TtSent device link cause x.0 x.1) x.3)) at_w at
-row_found s hs new front now device order w y law of_now also t at_w at (kinds.TtSent other link cause vl cycle) is c =
+row_found {s} hs new front {now} {device} w y law of_now also t at_w at (kinds.TtSent other link cause vl cycle) is c =
     let x = c.1 in
-    same_told s now device link cause vl cycle w y (same_row s hs new front now device order w.note.body link cause vl cycle law of_now also t x.0 x.2)
+    same_told s now device link cause vl cycle w y (same_row hs new front law of_now also t x.0 x.2)
     (is ∙ ap (λ (d : DeviceId). kinds.TtSent d link cause vl cycle) c.0
     ∙ sym (ap (λ (b : Bool). if b then kinds.Lost device link cause else kinds.TtSent device link cause vl cycle) x.1)) at_w at
-row_found s hs new front now device order w y law of_now also t at_w at rest is c = absurd c
+row_found hs new front w y law of_now also t at_w at rest is c = absurd c
 
-pub all_row : (s : Scenario) (hs new : List Happening) (now : ℕ) (device : DeviceId) (order : List ℕ) (w : Happening) → IsLawful s (hs ++ new) device
-    → ((z : Happening) → IsIn z new → time_of z ≡ now) → TellsRow s (hs ++ new) now device order w.note.body → IsIn w new → 1 ≤ length order
+pub all_row : {s : Scenario} (hs new : List Happening) {now : ℕ} {device : DeviceId} {order : List ℕ} (w : Happening)
+    → IsLawful s (hs ++ new) device → ((z : Happening) → IsIn z new → time_of z ≡ now)
+    → TellsRow s (hs ++ new) now device order w.note.body → IsIn w new → 1 ≤ length order
     → IsAllOfIt s hs new (now ∷ 6 ∷ device.0 ∷ order)
-all_row s hs new now device order w law of_now t there long front back y e all none due own =
+all_row {s} hs new {now} {device} {order} w law of_now t there long front back y e all none due own =
     let c = row_cause s (hs ++ front) now device order y.note.time (members_in y) y.note.body long own due.cause in
     let also : (z : Happening) → IsIn z front → time_of z ≡ now = λ z i.
-    of_now z (subst (λ (l : List Happening). IsIn z l) (sym e) (in_left z front back i)) in
-    (w, there, row_found s hs new front now device order w y law of_now also t (of_now w there) c.0 y.note.body refl c.1)
+    of_now z (subst (λ l. IsIn z l) (sym e) (in_left z front back i)) in
+    (w, there, row_found hs new front w y law of_now also t (of_now w there) c.0 y.note.body refl c.1)

@@ -1,7 +1,7 @@
 -- A device dispatches a row's frame: its record, and how the device stands then.
 use Rattle.{net_plan.proofs.SameIds.{same_link, same_vl}, run_law.proofs.law.FirstPlaces.in_filter, schedule_tables.specs.Windows.OccursIn}
 use Rattle.{run_law.proofs.timed.Rows.at_hand_by, std.proofs.Common.{◌*◌, Contains}}
-use Rattle.{schedule_tables.{proofs.EntryLemmas.one_entry, specs.Entries.{IsEntry, source_of}}}
+use Rattle.schedule_tables.{proofs.EntryLemmas.one_entry, specs.Entries.{IsEntry, source_of}}
 use Rattle.schedule_tables.specs.Dispatches.{dispatch_order}
 use Rattle.run_law.proofs.law.FirstPlaces.{numbered_front}
 use Rattle.world_law.proofs.{Words.{AreSettled, IsBefore, IsOwnSource, Some, append_assoc, chain, numbered, parted}, acts.Dispatched.{dispatch_told, send_apart}}
@@ -12,7 +12,7 @@ use Rattle.world_law.proofs.steps_lemmas.Words.{◌++◌, ◌+◌, ◌∙◌, �
 use Rattle.world_law.proofs.steps_lemmas.Words.{Contains-push_cases, DeviceId, Dispatches, Entry, Happening, HasAtHand, HasCleared, Hearing, IsActOf, IsActing}
 use Rattle.world_law.proofs.steps_lemmas.Words.{IsDue, IsFirstTask, IsFounded, IsIn, IsLawful, IsPending, IsReadyAt, LinkId, List, Moment, Network, Node, None}
 use Rattle.world_law.proofs.steps_lemmas.Words.{NoteBody, Option, Reaches, RowId, Scenario, VlId, [], acting, amount, ap, append-nil, arith}
-use Rattle.world_law.proofs.steps_lemmas.Words.{by_number, called, cause_of, changed_at, changed_before, correcting, dispatch_body, dispatch_late}
+use Rattle.world_law.proofs.steps_lemmas.Words.{by_number, called, cause_of, changed_before, correcting, dispatch_body, dispatch_late}
 use Rattle.world_law.proofs.steps_lemmas.Words.{dispatches_same, dispatching, doing, earlier, false, filter, hearing_by, if◌then◌else◌, in_left, in_right, inl}
 use Rattle.world_law.proofs.steps_lemmas.Words.{inr, is_accepted, is_cut, key, last_in, last_unfollowed, length, members_in, moment_of, moves, nat_lt}
 use Rattle.world_law.proofs.steps_lemmas.Words.{numbered_within, option_to_list, place_of, pos, rank, reaches_back, reading_for, record_of}
@@ -26,10 +26,10 @@ use Rattle.run_law.specs.declared.steps.Act.TheVariants as acts
 -- ---- it is a dispatch
 
 -- its cause is one of the records
-pub hand_within : (s : Scenario) (hs : List Happening) (device : DeviceId) (entry : Entry) (t cause cycle : ℕ) → IsFounded place_of (IsDue s) hs
-    → HasAtHand s.network hs device entry t cause cycle → cause ≤ length hs
-hand_within s hs device entry t cause cycle founded (inl sender) = let none = sender.1 in omega (arith, none)
-hand_within s hs device entry t cause cycle founded (inr took) =
+pub hand_within : (s : Scenario) {hs : List Happening} {device : DeviceId} (entry : Entry) {t cause cycle : ℕ}
+    → IsFounded place_of (IsDue s) hs → HasAtHand s.network hs device entry t cause cycle → cause ≤ length hs
+hand_within s entry founded (inl sender) = let none = sender.1 in omega (arith, none)
+hand_within s {hs} {device} entry {t} founded (inr took) =
     elim (last_in None (filter (λ h. is_accepted device entry.row.vl h.note.body) (earlier t hs)) took.1.taken took.1.last) [
       | inl none ↦ absurd cc
       | inr i ↦
@@ -48,31 +48,32 @@ dispatch_cause s device now link cause vl cycle =
     else kinds.TtSent device link cause vl cycle) ≡ cause) [ true ↦ refl | false ↦ refl ]
 
 -- a device that has to dispatch a row, whose frame it has at hand by the records given, dispatches it by any records of the instant
-pub dispatches_it : (s : Scenario) (hs coming other : List Happening) (now : ℕ) (device : DeviceId) (node : Node) (row : RowId) (entry : Entry)
-    (cause cycle : ℕ) → IsAtWork s hs coming now device node → ((z : Happening) → IsIn z other → time_of z ≡ now)
+pub dispatches_it : {s : Scenario} {hs coming : List Happening} (other : List Happening) {now : ℕ}
+    {device : DeviceId} {node : Node} (row : RowId) {entry : Entry} {cause cycle : ℕ}
+    → IsAtWork s hs coming now device node → ((z : Happening) → IsIn z other → time_of z ≡ now)
     → IsPending s.network device node (doing (dispatching row cycle))
-    → reading_for s.network node (doing (dispatching row cycle)) ≤ℤ pos (s.reading device now) → IsEntry s.network row.0 entry
-    → HasAtHand s.network hs device entry now cause cycle
+    → reading_for s.network node (doing (dispatching row cycle)) ≤ℤ pos (s.reading device now)
+    → IsEntry s.network row.0 entry → HasAtHand s.network hs device entry now cause cycle
     → (d : Dispatches s (hs ++ other) device now entry.row.link cause entry.row.vl cycle) × (d.place ≡ row.0)
-dispatches_it s hs coming other now device node row entry cause cycle w also p due is hand =
+dispatches_it {s} {hs} {coming} other {now} {device} row {entry} {cause} {cycle} w also p due is hand =
     let same = all_earlier s hs coming other now (λ z i. (w.of_now z i).0) also in
     let given : earlier now hs ≡ earlier now (hs ++ other) =
     sym (Rattle.world_law.proofs.runs.SourcesBack.earlier_still now hs other (λ z i. let at = also z i in omega (arith, at))) in
     let frame = p.1.own.1 in
     let one : frame.entry ≡ entry = one_entry s.network row.0 frame.entry entry frame.is is in
     let reached : Reaches s (hs ++ coming) device (pos (cycle * amount s.network.cycle + amount entry.row.offset)) now =
-    subst (λ (z : ℤ). Reaches s (hs ++ coming) device z now) (value_is s.network row entry cycle is)
-    (reaches s hs coming now device node (dispatching row cycle) w p.1 due) in (
+    subst (λ z. Reaches s (hs ++ coming) device z now) (value_is row cycle is)
+    (reaches w p.1 due) in (
       record {
         place = row.0;
         entry = entry;
         row = is;
         by = refl;
         of_vl = refl;
-        leaves = subst (λ (x : Entry). source_of x ≡ device) one frame.leaves;
+        leaves = subst (λ x. source_of x ≡ device) one frame.leaves;
         occurs = subst (λ (x : Entry). OccursIn x.vl cycle) one frame.occurs;
         up = up_back s (hs ++ coming) (hs ++ other) now device same (record { synchronised = sym w.left.state ∙ p.1.own.0; correct = w.sound });
-        reached = reaches_back s (hs ++ coming) (hs ++ other) now device _ same reached;
+        reached = reaches_back s (hs ++ coming) (hs ++ other) now device same reached;
         at_hand = at_hand_by s.network hs (hs ++ other) device entry now cause cycle given hand;
       },
       refl,
@@ -118,11 +119,13 @@ record IsRowRecord (s : Scenario) (hs front back : List Happening) (now : ℕ) (
   pub place : dispatches.place ≡ row.0
   pub new : (y : Happening) → IsIn y back → y.note.body ≡ body → ⊥
 
-row_record : (s : Scenario) (hs front back : List Happening) (now : ℕ) (device : DeviceId) (row : RowId) (link : LinkId) (cause : ℕ) (vl : VlId) (cycle : ℕ)
-    (cut : Bool) → is_cut s link (way_from s.network device link) now ≡ cut
+row_record : {s : Scenario} {hs front back : List Happening} {now : ℕ} {device : DeviceId} {row : RowId}
+    {link : LinkId} {cause : ℕ} {vl : VlId} {cycle : ℕ} (cut : Bool)
+    → is_cut s link (way_from s.network device link) now ≡ cut
     → IsRowRecord s hs front back now device row link cause vl cycle (body_by cut device link cause vl cycle)
-    → IsActRecordAt s hs front back now device (body_by cut device link cause vl cycle) (task_place s.network now device (doing (dispatching row cycle)))
-row_record s hs front back now device row link cause vl cycle true is r =
+    → IsActRecordAt s hs front back now device (body_by cut device link cause vl cycle)
+    (task_place s.network now device (doing (dispatching row cycle)))
+row_record {s} {hs} {front} {now} {device} {link} {cause} {vl} {cycle} true is r =
     let at = λ (n : ℕ). let place : RowId = record { 0 = n } in task_place s.network now device (doing (dispatching place cycle)) in
     record {
       own = λ m. inr (inl (vl, cycle, r.dispatches, is, ap at (sym r.place)));
@@ -133,7 +136,7 @@ row_record s hs front back now device row link cause vl cycle true is r =
       apart = λ other not. (refl, λ at. refl);
       lone = last_unfollowed s hs now (kinds.Lost device link cause) refl;
     }
-row_record s hs front back now device row link cause vl cycle false is r =
+row_record {s} {hs} {front} {now} {device} {link} {cause} {vl} {cycle} false is r =
     let at = λ (n : ℕ). let place : RowId = record { 0 = n } in task_place s.network now device (doing (dispatching place cycle)) in
     record {
       own = λ m. (r.dispatches, ap at (sym r.place));
@@ -146,163 +149,176 @@ row_record s hs front back now device row link cause vl cycle false is r =
     }
 
 -- where a row is not worked off, no record to come tells of its dispatch
-no_row_told : (s : Scenario) (hs coming : List Happening) (mark cursor : List ℕ) (now : ℕ) (device : DeviceId) → AreSettled s hs coming mark cursor now
-    → IsFounded place_of (IsDue s) hs → IsLawful s (hs ++ coming) device → (z : Happening) → IsIn z coming → (link : LinkId) (cause : ℕ) (vl : VlId)
-    (cycle : ℕ) (d : Dispatches s (hs ++ coming) device now link cause vl cycle)
+no_row_told : {s : Scenario} {hs coming : List Happening} {mark cursor : List ℕ} {now : ℕ} {device : DeviceId}
+    → AreSettled s hs coming mark cursor now → IsFounded place_of (IsDue s) hs → IsLawful s (hs ++ coming) device
+    → (z : Happening) → IsIn z coming → {link : LinkId} {cause : ℕ} {vl : VlId} {cycle : ℕ}
+    (d : Dispatches s (hs ++ coming) device now link cause vl cycle)
     → (IsBefore (now ∷ 6 ∷ device.0 ∷ dispatch_order s.network (record { 0 = d.place })) cursor → ⊥)
     → z.note.body ≡ dispatch_body s device now link cause vl cycle → ⊥
-no_row_told s hs coming mark cursor now device are founded law z i link cause vl cycle d waits e =
+no_row_told {s} {hs} {coming} {cursor} {now} {device} are founded law z i {link} {cause} {vl} {cycle} d waits e =
     let split = parted z coming i in
     let by = are.by split.0 split.1 z split.2 in
-    let inside : (h : Happening) → IsIn h split.0 → IsIn h coming = λ h j. subst (λ (l : List Happening). IsIn h l) (sym split.2)
+    let inside : (h : Happening) → IsIn h split.0 → IsIn h coming = λ h j. subst (λ l. IsIn h l) (sym split.2)
     (in_left h split.0 (z ∷ split.1) j) in
     let same : earlier now (hs ++ split.0) ≡ earlier now (hs ++ coming) = all_earlier s hs split.0 coming now (λ h j. are.of_now h (inside h j)) are.of_now in
     let whole : hs ++ coming ≡ (hs ++ split.0) ++ z ∷ split.1 =
     ap (λ (l : List Happening). hs ++ l) split.2 ∙ sym (append_assoc hs split.0 (z ∷ split.1)) in
     let place = λ (n : ℕ). now ∷ 6 ∷ device.0 ∷ dispatch_order s.network (let row : RowId = record { 0 = n } in row) in
     let own : IsOwnSource s (hs ++ split.0) now (members_in z) z.note.body by.0 = subst
-    (λ (t : ℕ). IsOwnSource s (hs ++ split.0) t (members_in z) z.note.body by.0) (are.of_now z i) by.1 in
+    (λ t. IsOwnSource s (hs ++ split.0) t (members_in z) z.note.body by.0) (are.of_now z i) by.1 in
     let none : (other : VlId) (number : ℕ) (x : Dispatches s (hs ++ split.0) device now link cause other number) → by.0 ≡ place x.place → ⊥ =
     λ other number x is.
     (let y = dispatches_same s (hs ++ split.0) (hs ++ coming) now device link cause other number same x in
-    let one = one_row s (hs ++ coming) device now link link cause cause other vl number cycle law refl y.0 d in
-    waits (subst (λ (q : List ℕ). IsBefore q cursor) (is ∙ ap place (sym y.1 ∙ one.0)) by.3)) in
+    let one = one_row link cause vl cycle law refl y.0 d in
+    waits (subst (λ q. IsBefore q cursor) (is ∙ ap place (sym y.1 ∙ one.0)) by.3)) in
     elim (dispatch_told s device now link cause vl cycle z.note.body e) [
       | inr sent ↦
-          let it = subst (λ (b : NoteBody). IsOwnSource s (hs ++ split.0) now (members_in z) b by.0) sent own in none vl cycle it.0 it.1
+          let it = subst (λ b. IsOwnSource s (hs ++ split.0) now (members_in z) b by.0) sent own in none vl cycle it.0 it.1
       | inl lost ↦
-          elim (subst (λ (b : NoteBody). IsOwnSource s (hs ++ split.0) now (members_in z) b by.0) lost own) [
+          elim (subst (λ b. IsOwnSource s (hs ++ split.0) now (members_in z) b by.0) lost own) [
             | inl leaves ↦
                 waits (chain (place d.place) (now ∷ 8 ∷ device.0 ∷ link.0 ∷ cause ∷ []) cursor (inr (refl, inl (omega arith)))
-                (subst (λ (q : List ℕ). IsBefore q cursor) leaves.0 by.3))
+                (subst (λ q. IsBefore q cursor) leaves.0 by.3))
             | inr other ↦ elim other [
               | inl mine ↦ none mine.0 mine.1 mine.2 mine.4
               | inr sends ↦
-                  send_apart s hs coming (hs ++ split.0) device now link link cause vl cycle founded are.of_now
-                  (λ h there. subst (λ (l : List Happening). numbered l cause ≡ Some h) (sym whole)
+                  send_apart hs coming founded are.of_now
+                  (λ h there. subst (λ l. numbered l cause ≡ Some h) (sym whole)
                   (numbered_front (hs ++ split.0) (z ∷ split.1) cause h there)) sends.1 d
             ]
           ]
     ]
 
-pub dispatching_record : {M : Type 0} (stands : M → Network → DeviceId → Node → Type 0) (s : Scenario) (hs front back : List Happening) (mark cursor : List ℕ)
-    (now : ℕ) (device : DeviceId) (machine : M) (node : Node) (row : RowId) (entry : Entry) (cause cycle : ℕ)
-    → StageAt stands s hs (front ++ back) mark cursor now device machine node 6 (device.0 ∷ dispatch_order s.network row)
-    → IsPending s.network device node (doing (dispatching row cycle))
-    → reading_for s.network node (doing (dispatching row cycle)) ≤ℤ pos (s.reading device now) → IsEntry s.network row.0 entry
-    → HasAtHand s.network hs device entry now cause cycle
+pub dispatching_record : {M : Type 0} {stands : M → Network → DeviceId → Node → Type 0} {s : Scenario}
+    {hs : List Happening} (front back : List Happening) {mark cursor : List ℕ} {now : ℕ} {device : DeviceId}
+    {machine : M} {node : Node} (row : RowId) {entry : Entry} {cause cycle : ℕ}
+    → StageAt stands s hs (front ++ back) mark cursor now device machine node 6
+    (device.0 ∷ dispatch_order s.network row) → IsPending s.network device node (doing (dispatching row cycle))
+    → reading_for s.network node (doing (dispatching row cycle)) ≤ℤ pos (s.reading device now)
+    → IsEntry s.network row.0 entry → HasAtHand s.network hs device entry now cause cycle
     → IsActRecordAt s hs front back now device (dispatch_body s device now entry.row.link cause entry.row.vl cycle)
     (task_place s.network now device (doing (dispatching row cycle)))
-dispatching_record stands s hs front back mark cursor now device machine node row entry cause cycle st pending due is hand =
+dispatching_record {s} {hs} front back {cursor} {now} {device} row {entry} {cause} {cycle} st pending due is hand =
     let link = entry.row.link in
     let vl = entry.row.vl in
-    let here = dispatches_it s hs (front ++ back) front now device node row entry cause cycle st.work (λ z i. (st.work.of_now z (in_left z front back i)).0)
+    let here = dispatches_it front row st.work (λ z i. (st.work.of_now z (in_left z front back i)).0)
     pending due is hand in
-    let whole = dispatches_it s hs (front ++ back) (front ++ back) now device node row entry cause cycle st.work (λ z i. (st.work.of_now z i).0)
-    pending due is hand in
-    row_record s hs front back now device row link cause vl cycle (is_cut s link (way_from s.network device link) now) refl (record {
+    let whole = dispatches_it (front ++ back) row st.work (λ z i. (st.work.of_now z i).0) pending due is hand in
+    row_record {s = s} {hs = hs} {front = front} {back = back} {now = now} {device = device} {row = row} {link = link} {cause = cause} {vl = vl} {cycle = cycle} (is_cut s link (way_from s.network device link) now) refl (record {
       dispatches = here.0;
       place = here.1;
       new = λ y i e.
-          no_row_told s hs (front ++ back) mark cursor now device st.moving.are st.given st.lawful y (in_right y front back i) link cause vl cycle whole.0
+          no_row_told st.moving.are st.given st.lawful y (in_right y front back i) whole.0
           (λ b. st.moving.waits (subst (λ (n : ℕ). IsBefore (now ∷ 6 ∷ device.0 ∷ dispatch_order s.network (let r : RowId = record { 0 = n } in r)) cursor)
           whole.1 b)) e;
     })
 
 -- ---- how it stands then
 
-none_heard_by : (s : Scenario) (device of : DeviceId) (now : ℕ) (link : LinkId) (cause : ℕ) (vl : VlId) (cycle : ℕ) (h : Happening)
-    → hearing_by s.network device h (dispatch_body s of now link cause vl cycle) ≡ None
-none_heard_by s device of now link cause vl cycle h =
-    elim (is_cut s link (way_from s.network of link) now) as (λ (b : Bool). hearing_by s.network device h (if b then kinds.Lost of link cause
-    else kinds.TtSent of link cause vl cycle) ≡ None) [ true ↦ refl | false ↦ refl ]
+module _ (s : Scenario) (device of : DeviceId) (now : ℕ) (link : LinkId) (cause : ℕ) (vl : VlId) (cycle : ℕ) where
+  none_heard_by : (h : Happening) → hearing_by s.network device h (dispatch_body s of now link cause vl cycle) ≡ None
+  none_heard_by h =
+      elim (is_cut s link (way_from s.network of link) now) as (λ (b : Bool). hearing_by s.network device h
+      (if b then kinds.Lost of link cause
+      else kinds.TtSent of link cause vl cycle) ≡ None) [ true ↦ refl | false ↦ refl ]
 
-none_moved : (s : Scenario) (device of : DeviceId) (now : ℕ) (link : LinkId) (cause : ℕ) (vl : VlId) (cycle : ℕ)
-    → moves device (dispatch_body s of now link cause vl cycle) ≡ false
-none_moved s device of now link cause vl cycle =
-    elim (is_cut s link (way_from s.network of link) now) as (λ (b : Bool). moves device (if b then kinds.Lost of link cause
-    else kinds.TtSent of link cause vl cycle) ≡ false) [ true ↦ refl | false ↦ refl ]
+  none_moved : moves device (dispatch_body s of now link cause vl cycle) ≡ false
+  none_moved =
+      elim (is_cut s link (way_from s.network of link) now) as (λ (b : Bool). moves device
+      (if b then kinds.Lost of link cause
+      else kinds.TtSent of link cause vl cycle) ≡ false) [ true ↦ refl | false ↦ refl ]
 
-none_taken : (s : Scenario) (device of : DeviceId) (now : ℕ) (link : LinkId) (cause : ℕ) (vl : VlId) (cycle : ℕ)
-    → Rattle.world_law.proofs.rows.Takings.IsNoTaking device (dispatch_body s of now link cause vl cycle)
-none_taken s device of now link cause vl cycle = grind (arith, is_cut, way_from)
+  none_taken : Rattle.world_law.proofs.rows.Takings.IsNoTaking device (dispatch_body s of now link cause vl cycle)
+  none_taken = grind (arith, is_cut, way_from)
 
-dispatches_on : (s : Scenario) (hs front back : List Happening) (now : ℕ) (device : DeviceId) (node : Node) (w : Happening) (row : RowId) (cycle : ℕ)
-    (moment : Moment) → IsAtWork s hs (front ++ back) now device node → IsPutAs now w → hearing_by s.network device w w.note.body ≡ None
-    → moves device w.note.body ≡ false → reading_for s.network node (doing (dispatching row cycle)) ≤ℤ pos (s.reading device now)
-    → IsReadyAt (s.reading device) s.network device (called moment acting (with_done node (dispatching row cycle))) now
+dispatches_on : {s : Scenario} {hs : List Happening} (front back : List Happening) {now : ℕ} {device : DeviceId}
+    {node : Node} {w : Happening} (row : RowId) (cycle : ℕ) (moment : Moment)
+    → IsAtWork s hs (front ++ back) now device node → IsPutAs now w
+    → hearing_by s.network device w w.note.body ≡ None → moves device w.note.body ≡ false
+    → reading_for s.network node (doing (dispatching row cycle)) ≤ℤ pos (s.reading device now)
+    → IsReadyAt (s.reading device) s.network device
+    (called moment acting (with_done node (dispatching row cycle))) now
     → IsAtWork s hs (front ++ w ∷ back) now device (called moment acting (with_done node (dispatching row cycle)))
-dispatches_on s hs front back now device node w row cycle moment work p none still due ready =
+dispatches_on {s} {hs} front back {now} {device} {node} row cycle moment work p none still due ready =
     let after = called moment acting (with_done node (dispatching row cycle)) in
-    goes_on s hs front back now device node after w work p
-    (left_on s hs front back now device node after w work p (record { standing = refl; broken = refl; changed = refl; points = refl }) still
+    goes_on s hs front back now device node work p
+    (left_on s hs front back now device node {after = after} work p
+    (record { standing = refl; broken = refl; changed = refl; points = refl }) still
     (sym (append-nil node.heard) ∙ ap (λ (o : Option Hearing). node.heard ++ option_to_list o) (sym none)) (inl none))
     still
-    (does s.network (s.reading device) device node (changed_at (hs ++ (front ++ back)) device now) now moment (dispatching row cycle) work.done
-    (changed_before (hs ++ (front ++ back)) device now) due)
-    (sent_alike s device node after now (now + 1) refl refl work.sent) ready
+    (does moment (dispatching row cycle) work.done
+    (changed_before (hs ++ (front ++ back)) device now) due) (sent_alike after refl refl work.sent) ready
 
--- its record tells of the row
-pub row_told : {M : Type 0} (stands : M → Network → DeviceId → Node → Type 0) (s : Scenario) (hs front back : List Happening) (mark cursor : List ℕ) (now : ℕ)
-    (device : DeviceId) (machine : M) (node : Node) (row : RowId) (entry : Entry) (cause cycle : ℕ)
-    → StageAt stands s hs (front ++ back) mark cursor now device machine node 6 (device.0 ∷ dispatch_order s.network row)
-    → IsPending s.network device node (doing (dispatching row cycle))
-    → reading_for s.network node (doing (dispatching row cycle)) ≤ℤ pos (s.reading device now) → IsEntry s.network row.0 entry
-    → HasAtHand s.network hs device entry now cause cycle → (order : List ℕ)
-    → now ∷ 6 ∷ device.0 ∷ dispatch_order s.network row ≡ now ∷ 6 ∷ device.0 ∷ order
-    → TellsRow s (hs ++ (front ++ record_of s.network hs front now (dispatch_body s device now entry.row.link cause entry.row.vl cycle) ∷ back)) now device
-    order (dispatch_body s device now entry.row.link cause entry.row.vl cycle)
-row_told stands s hs front back mark cursor now device machine node row entry cause cycle st pending due is hand order same =
-    let w = record_of s.network hs front now (dispatch_body s device now entry.row.link cause entry.row.vl cycle) in
-    let high = dispatch_late s device now entry.row.link cause entry.row.vl cycle in
-    let x = dispatches_it s hs (front ++ back) (front ++ w ∷ back) now device node row entry cause cycle st.work
-    (λ z i. (put_now s hs front back now device node w st.work (as_put now w refl (omega (arith, high))) z i).0) pending due is hand in
-    let rest : dispatch_order s.network row ≡ order = cc in
-    record {
-      link = entry.row.link;
-      cause = cause;
-      vl = entry.row.vl;
-      cycle = cycle;
-      dispatches = x.0;
-      at = ap (λ (n : ℕ). dispatch_order s.network (let r : RowId = record { 0 = n } in r)) x.1 ∙ rest;
-      is = refl;
-    }
+module _ {M : Type 0} (stands : M → Network → DeviceId → Node → Type 0) (s : Scenario)
+    (hs front back : List Happening) (mark cursor : List ℕ) (now : ℕ) (device : DeviceId) (machine : M) where
+  -- its record tells of the row
+  pub row_told : {node : Node} (row : RowId) {entry : Entry} {cause cycle : ℕ}
+      → StageAt stands s hs (front ++ back) mark cursor now device machine node 6
+      (device.0 ∷ dispatch_order s.network row) → IsPending s.network device node (doing (dispatching row cycle))
+      → reading_for s.network node (doing (dispatching row cycle)) ≤ℤ pos (s.reading device now)
+      → IsEntry s.network row.0 entry → HasAtHand s.network hs device entry now cause cycle → (order : List ℕ)
+      → now ∷ 6 ∷ device.0 ∷ dispatch_order s.network row ≡ now ∷ 6 ∷ device.0 ∷ order → TellsRow s
+      (hs
+      ++ (front
+      ++ record_of s.network hs front now (dispatch_body s device now entry.row.link cause entry.row.vl cycle)
+      ∷ back)) now device order (dispatch_body s device now entry.row.link cause entry.row.vl cycle)
+  row_told {node} row {entry} {cause} {cycle} st pending due is hand order same =
+      let w = record_of s.network hs front now (dispatch_body s device now entry.row.link cause entry.row.vl cycle) in
+      let high = dispatch_late s device now entry.row.link cause entry.row.vl cycle in
+      let x = dispatches_it (front ++ w ∷ back) row st.work
+      (λ z i. (put_now s hs front back now device node st.work (as_put now w refl (omega (arith, high))) z i).0)
+      pending due is hand in
+      let rest : dispatch_order s.network row ≡ order = cc in
+      record {
+        link = entry.row.link;
+        cause = cause;
+        vl = entry.row.vl;
+        cycle = cycle;
+        dispatches = x.0;
+        at = ap (λ (n : ℕ). dispatch_order s.network (let r : RowId = record { 0 = n } in r)) x.1 ∙ rest;
+        is = refl;
+      }
 
--- the node that has dispatched, among the records with its own
-pub has_dispatched_it : {M : Type 0} (stands : M → Network → DeviceId → Node → Type 0) (s : Scenario) (hs front back : List Happening) (mark cursor : List ℕ)
-    (now : ℕ) (device : DeviceId) (machine then_ : M) (node after : Node) (row : RowId) (entry : Entry) (cause cycle : ℕ)
-    → StageAt stands s hs (front ++ back) mark cursor now device machine node 6 (device.0 ∷ dispatch_order s.network row)
-    → IsFirstTask s.network device node (moment_of s device now).reading.0 (doing (dispatching row cycle))
-    → IsActOf s.network device node (moment_of s device now) (acts.Dispatch row cycle) after
-    → after ≡ called (moment_of s device now) acting (with_done node (dispatching row cycle)) → stands then_ s.network device after
-    → IsEntry s.network row.0 entry → HasAtHand s.network hs device entry now cause cycle
-    → HasSentIt stands s hs (front ++ record_of s.network hs front now (dispatch_body s device now entry.row.link cause entry.row.vl cycle) ∷ back) now
-    device then_ node after
-has_dispatched_it stands s hs front back mark cursor now device machine then_ node after row entry cause cycle st first act is stood entered hand =
-    let link = entry.row.link in
-    let vl = entry.row.vl in
-    let body = dispatch_body s device now link cause vl cycle in
-    let w = record_of s.network hs front now body in
-    let new = front ++ w ∷ back in
-    let moment = moment_of s device now in
-    let high = dispatch_late s device now link cause vl cycle in
-    let p = as_put now w refl (omega (arith, high)) in
-    let may = may_act_now s device node now st.work.ready st.steady st.limit in
-    let ready = ready_after s device node after now (acts.Dispatch row cycle) st.work.ready st.steady st.precise st.wide may act (ap (λ (n : Node). n.last) is)
-    in
-    let there = called moment acting (with_done node (dispatching row cycle)) in
-    let work : IsAtWork s hs new now device there = dispatches_on s hs front back now device node w row cycle moment st.work p
-    (none_heard_by s device device now link cause vl cycle w) (none_moved s device device now link cause vl cycle) first.due
-    (subst (λ (n : Node). IsReadyAt (s.reading device) s.network device n now) is ready) in
-    let cleared : HasCleared there = λ n has. elim (Contains-push_cases node.done (dispatching row cycle) (correcting n) has) [
-      | inl old ↦ st.cleared n old
-      | inr e ↦ absurd cc
-    ] in
-    record {
-      is = stood;
-      work = subst (λ (n : Node). IsAtWork s hs new now device n) (sym is) work;
-      cleared = subst HasCleared (sym is) cleared;
-      taken = ap (λ (n : Node). n.taken) is
-          ∙ taken_then stands s hs front back mark cursor now device machine node w 6 (device.0 ∷ dispatch_order s.network row) st refl (none_taken s device device now link cause vl cycle);
-      phase = ap (λ (n : Node). n.phase) is;
-    }
+  -- the node that has dispatched, among the records with its own
+  pub has_dispatched_it : (then_ : M) {node : Node} (after : Node) (row : RowId) {entry : Entry} {cause cycle : ℕ}
+      → StageAt stands s hs (front ++ back) mark cursor now device machine node 6
+      (device.0 ∷ dispatch_order s.network row) → IsFirstTask s.network device node
+      (moment_of s device now).reading.0 (doing (dispatching row cycle))
+      → IsActOf s.network device node (moment_of s device now) (acts.Dispatch row cycle) after
+      → after ≡ called (moment_of s device now) acting (with_done node (dispatching row cycle))
+      → stands then_ s.network device after → IsEntry s.network row.0 entry
+      → HasAtHand s.network hs device entry now cause cycle → HasSentIt stands s hs
+      (front ++ record_of s.network hs front now (dispatch_body s device now entry.row.link cause entry.row.vl cycle)
+      ∷ back) now device then_ node after
+  has_dispatched_it then_ {node} after row {entry} {cause} {cycle} st first act is stood entered hand =
+      let link = entry.row.link in
+      let vl = entry.row.vl in
+      let body = dispatch_body s device now link cause vl cycle in
+      let w = record_of s.network hs front now body in
+      let new = front ++ w ∷ back in
+      let moment = moment_of s device now in
+      let high = dispatch_late s device now link cause vl cycle in
+      let p = as_put now w refl (omega (arith, high)) in
+      let may = may_act_now s device node now st.work.ready st.steady st.limit in
+      let ready = ready_after s after (acts.Dispatch row cycle) st.work.ready st.steady st.precise st.wide may act
+      (ap (λ (n : Node). n.last) is)
+      in
+      let there = called moment acting (with_done node (dispatching row cycle)) in
+      let work : IsAtWork s hs new now device there = dispatches_on front back row cycle moment st.work p
+      (none_heard_by s device device now link cause vl cycle w) (none_moved s device device now link cause vl cycle)
+      first.due
+      (subst (λ n. IsReadyAt (s.reading device) s.network device n now) is ready) in
+      let cleared : HasCleared there =
+      λ n has. elim (Contains-push_cases node.done (dispatching row cycle) (correcting n) has) [
+        | inl old ↦ st.cleared n old
+        | inr e ↦ absurd cc
+      ] in
+      record {
+        is = stood;
+        work = subst (λ n. IsAtWork s hs new now device n) (sym is) work;
+        cleared = subst HasCleared (sym is) cleared;
+        taken = ap (λ (n : Node). n.taken) is
+            ∙ taken_then stands s hs front back mark cursor now device machine node w
+            st refl (none_taken s device device now link cause vl cycle);
+        phase = ap (λ (n : Node). n.phase) is;
+      }

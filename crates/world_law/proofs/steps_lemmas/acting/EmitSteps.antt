@@ -54,21 +54,24 @@ emission_body device c v = kinds.Compressed device c.opened c.at c.cycle c.membe
 abbrev pub emission_rest : DeviceId → Compressed → List ℕ
 emission_rest device c = device.0 ∷ amount c.opened ∷ amount c.at ∷ c.cycle ∷ c.members.0 ∷ sign c.opened.0 ∷ sign c.at.0 ∷ []
 
-emission_record : {M : Type 0} (stands : M → Network → DeviceId → Node → Type 0) (s : Scenario) (hs front back : List Happening) (mark cursor : List ℕ)
-    (now : ℕ) (device : DeviceId) (machine : M) (node : Node) (sent : Compressed)
-    → StageAt stands s hs (front ++ back) mark cursor now device machine node 4 (emission_rest device sent)
-    → IsPending s.network device node (emitting sent) → sent.at.0 ≤ℤ pos (s.reading device now) → StaysBy (own_judgement s.network device node sent)
-    → IsActRecordAt s hs front back now device (emission_body device sent (own_judgement s.network device node sent)) (now ∷ 4 ∷ emission_rest device sent)
-emission_record stands s hs front back mark cursor now device machine node sent st pending due stays =
+emission_record : {M : Type 0} {stands : M → Network → DeviceId → Node → Type 0} {s : Scenario} {hs : List Happening}
+    (front back : List Happening) {mark cursor : List ℕ} {now : ℕ} {device : DeviceId} {machine : M} {node : Node}
+    (sent : Compressed) → StageAt stands s hs (front ++ back) mark cursor now device machine node 4
+    (emission_rest device sent) → IsPending s.network device node (emitting sent)
+    → sent.at.0 ≤ℤ pos (s.reading device now) → StaysBy (own_judgement s.network device node sent)
+    → IsActRecordAt s hs front back now device (emission_body device sent (own_judgement s.network device node sent))
+    (now ∷ 4 ∷ emission_rest device sent)
+emission_record {stands} {s} {hs} front back {mark} {cursor} {now} {device} {machine} {node} sent st pending due stays =
     let v = own_judgement s.network device node sent in
     let body = emission_body device sent v in
-    let e = emits s hs (front ++ back) front back now device node sent st.work refl pending due in
+    let e = emits front back sent st.work refl pending due in
     record {
       own = λ m. refl;
       here = IsSource.acting now device (emitting sent)
           (IsActing.emits sent v e);
       caused = e;
-      fresh = fresh_above stands s hs front back mark cursor now device machine node 4 (emission_rest device sent) st (record_of s.network hs front now body)
+      fresh = fresh_above stands s hs front back mark cursor now device machine node st
+          (record_of s.network hs front now body)
           (omega arith);
       apart = λ other not. (ne_eqb other.0 device.0 not, λ at. refl);
       lone = last_unfollowed s hs now body (last_by device sent v stays);
@@ -80,31 +83,36 @@ hears_none s device y (kinds.Permanent other link cause point verdict) late = ab
 hears_none s device y (kinds.Compressed other opened at cycle members verdict) late = absurd (omega (arith, late))
 hears_none s device y other late = refl
 
-has_emitted_it : {M : Type 0} (stands : M → Network → DeviceId → Node → Type 0) (s : Scenario) (hs front back : List Happening) (mark cursor : List ℕ) (now : ℕ)
-    (device : DeviceId) (machine then_ : M) (node after : Node) (sent : Compressed) (heard : Ripe)
+has_emitted_it : {M : Type 0} {stands : M → Network → DeviceId → Node → Type 0} {s : Scenario} {hs : List Happening}
+    (front back : List Happening) {mark cursor : List ℕ} {now : ℕ} {device : DeviceId} {machine : M} (then_ : M)
+    {node : Node} (after : Node) (sent : Compressed) (heard : Ripe)
     → StageAt stands s hs (front ++ back) mark cursor now device machine node 4 (emission_rest device sent)
-    → IsFirstTask s.network device node (moment_of s device now).reading.0 (emitting sent) → IsActOf s.network device node (moment_of s device now)
-    (acts.Emit sent heard) after → after ≡ node_emitted s.network device node (moment_of s device now) sent (own_judgement s.network device node sent)
-    → StaysBy (own_judgement s.network device node sent) → stands then_ s.network device after
-    → HasSentIt stands s hs (front ++ (record_of s.network hs front now (emission_body device sent (own_judgement s.network device node sent))) ∷ back) now
-    device then_ node after
-has_emitted_it stands s hs front back mark cursor now device machine then_ node after sent heard st first act is stays stood =
+    → IsFirstTask s.network device node (moment_of s device now).reading.0 (emitting sent)
+    → IsActOf s.network device node (moment_of s device now) (acts.Emit sent heard) after
+    → after ≡ node_emitted s.network device node (moment_of s device now) sent
+    (own_judgement s.network device node sent) → StaysBy (own_judgement s.network device node sent)
+    → stands then_ s.network device after → HasSentIt stands s hs
+    (front
+    ++ (record_of s.network hs front now (emission_body device sent (own_judgement s.network device node sent)))
+    ∷ back) now device then_ node after
+has_emitted_it {stands} {s} {hs} front back {mark} {cursor} {now} {device} {machine} then_ {node} after sent heard st
+    first act is stays stood =
     let v = own_judgement s.network device node sent in
     let w = record_of s.network hs front now (emission_body device sent v) in
     let new = front ++ w ∷ back in
     let moment = moment_of s device now in
     let p = as_put now w refl (omega arith) in
-    let x : IsEmitted s.network device node after w sent = subst (λ (n : Node). IsEmitted s.network device node n w sent) (sym is)
+    let x : IsEmitted s.network device node after w sent = subst (λ n. IsEmitted s.network device node n w sent) (sym is)
     (is_emitted s.network device node moment w sent v stays refl refl) in
     let may = may_act_now s device node now st.work.ready st.steady st.limit in
     let last : after.last ≡ moment = ap (λ (n : Node). n.last) is ∙ called_last s.network device node moment sent v in
-    let ready = ready_after s device node after now (acts.Emit sent heard) st.work.ready st.steady st.precise st.wide may act last in
+    let ready = ready_after s after (acts.Emit sent heard) st.work.ready st.steady st.precise st.wide may act last in
     record {
       is = stood;
-      work = emits_on s hs front back now device node after w sent st.work p x
+      work = emits_on front back st.work p x
           (λ z i. hears_none s device z z.note.body (st.above z (in_right z front back i))) first.due ready;
       cleared = λ n has. subst (λ st2. n < st2.number) (sym x.but.standing) (st.cleared n (subst (λ l. Contains l (correcting n)) x.done has));
-      taken = x.taken ∙ taken_then stands s hs front back mark cursor now device machine node w 4 (emission_rest device sent) st refl (λ at. refl);
+      taken = x.taken ∙ taken_then stands s hs front back mark cursor now device machine node w st refl (λ at. refl);
       phase = ap (λ (n : Node). n.phase) is ∙ called_phase s.network device node moment sent v;
     }
   where
@@ -117,11 +125,11 @@ has_emitted_it stands s hs front back mark cursor now device machine then_ node 
     called_phase network device node moment sent v = refl
 
 -- it has done what it had done, and that emission
-did_emission : (s : Scenario) (now : ℕ) (device : DeviceId) (node after : Node) (w : Happening) (sent : Compressed) (task : Task)
-    → IsEmitted s.network device node after w sent → HasDoneTask after task
+did_emission : (s : Scenario) (now : ℕ) {device : DeviceId} {node after : Node} {w : Happening} {sent : Compressed}
+    (task : Task) → IsEmitted s.network device node after w sent → HasDoneTask after task
     → HasDoneTask node task ⊎ (task_place s.network now device task ≡ now ∷ 4 ∷ emission_rest device sent)
-did_emission s now device node after w sent (doing deed) x has = inl (subst (λ (l : List ClockTask). Contains l deed) x.done has)
-did_emission s now device node after w sent (emitting c) x has =
+did_emission s now (doing deed) x has = inl (subst (λ (l : List ClockTask). Contains l deed) x.done has)
+did_emission s now {device} {node} {sent} (emitting c) x has =
     elim (Contains-push_cases node.emitted sent c (subst (λ (l : List Compressed). Contains l c) x.emitted has)) [
       | inl old ↦ inl old
       | inr e ↦ inr (ap (λ (d : Compressed). task_place s.network now device (emitting d)) (sym e))
@@ -130,16 +138,19 @@ did_emission s now device node after w sent (emitting c) x has =
 -- ---- the step
 
 -- the master emits, and stays as it is
-pub emits_one : {C M : Type 0} (reading : C → ℕ → ℕ) (stands : M → Network → DeviceId → Node → Type 0) (s : Scenario) (world : World C M) (notes : List Note)
-    (old : Stands reading stands s world notes) (device : DeviceId) (after : M) (bodies : List NoteBody) (machines : List M) (settled : List Happening)
-    (sent : Compressed) (heard : Ripe) → KeepsBy heard → (a : Acts reading stands s world notes old device after bodies)
+pub emits_one : {C M : Type 0} {reading : C → ℕ → ℕ} {stands : M → Network → DeviceId → Node → Type 0} {s : Scenario}
+    {world : World C M} {notes : List Note} {old : Stands reading stands s world notes} {device : DeviceId}
+    {after : M} {bodies : List NoteBody} {machines : List M} (settled : List Happening) (sent : Compressed)
+    (heard : Ripe) → KeepsBy heard → (a : Acts reading stands s world notes old device after bodies)
     → ComesFirst reading stands s world notes old (place_of_act world.now device (acts.Emit sent heard))
     → ((z : Happening) → IsIn z world.settled → 4 < rank z.note.body)
-    → HasActed stands s.network device (moment_of s device world.now) (acts.Emit sent heard) a.machine after → IsSet device.0 after world.machines machines
-    → ArePutIn s.network (happenings s.network notes) world.now (kinds.Compressed device sent.opened sent.at sent.cycle sent.members (judged_as heard)
+    → HasActed stands s.network device (moment_of s device world.now) (acts.Emit sent heard) a.machine after
+    → IsSet device.0 after world.machines machines → ArePutIn s.network (happenings s.network notes) world.now
+    (kinds.Compressed device sent.opened sent.at sent.cycle sent.members (judged_as heard)
     ∷ joining_bodies (length (happenings s.network notes) + 1) device heard) world.settled settled
     → IsOneAct reading stands s world notes old device a.machine after machines settled (acts.Emit sent heard)
-emits_one reading stands s world notes old device after bodies machines settled sent heard keeps a first_of above acted set put =
+emits_one {reading} {stands} {s} {world} {notes} {old} {device} {after} settled sent heard keeps a first_of above
+    acted set put =
     let hs = happenings s.network notes in
     let now = world.now in
     let stage = stage_of reading stands s world notes old device a.machine after (acts.Emit sent heard) a.of_it first_of above a.there a.due acted in
@@ -150,11 +161,11 @@ emits_one reading stands s world notes old device after bodies machines settled 
     let first = act.1.0 in
     let v = own_judgement s.network device node sent in
     let is : act.0 ≡ node_emitted s.network device node (moment_of s device now) sent v = act.1.2
-    ∙ ap (λ (r : Ripe). called (moment_of s device now) acting (after_emission s.network device node (moment_of s device now) sent r)) act.1.1 in
+    ∙ ap (λ r. called (moment_of s device now) acting (after_emission s.network device node (moment_of s device now) sent r)) act.1.1 in
     let stays = stays_of v (subst KeepsBy act.1.1 keeps) in
     let body = emission_body device sent v in
     let w0 = record_of s.network hs [] now body in
-    let emitted : IsEmitted s.network device node act.0 w0 sent = subst (λ (n : Node). IsEmitted s.network device node n w0 sent) (sym is)
+    let emitted : IsEmitted s.network device node act.0 w0 sent = subst (λ n. IsEmitted s.network device node n w0 sent) (sym is)
     (is_emitted s.network device node (moment_of s device now) w0 sent v stays refl refl) in
     record {
       room = first_of.room;
@@ -165,7 +176,7 @@ emits_one reading stands s world notes old device after bodies machines settled 
       apart = λ x. x;
       acted = act.1;
       adjustment = ap (λ (st : Standing). st.adjustment) emitted.but.standing;
-      did = λ task has. did_emission s now device node act.0 w0 sent task emitted has;
+      did = λ task has. did_emission s now task emitted has;
       body = body;
       at_place = λ low front. refl;
       late = omega arith;
@@ -178,8 +189,8 @@ emits_one reading stands s world notes old device after bodies machines settled 
           (subst (λ (l : List NoteBody). ArePutIn s.network hs now (kinds.Compressed device sent.opened sent.at sent.cycle sent.members (judged_as heard) ∷ l)
           world.settled settled) (none_joined_by (length hs + 1) device heard keeps) put);
       makes = λ front back parts st2 none. record {
-        so = emission_record stands s hs front back old.mark old.cursor now device a.machine node sent st2 first.pending first.due stays;
+        so = emission_record front back sent st2 first.pending first.due stays;
         told = λ order e. (let four : 4 ≡ 6 = ap second e in absurd (omega (arith, four)));
-        it = has_emitted_it stands s hs front back old.mark old.cursor now device a.machine after node act.0 sent heard st2 first act.1 is stays act.2;
+        it = has_emitted_it front back after act.0 sent heard st2 first act.1 is stays act.2;
       };
     }

@@ -8,10 +8,11 @@ use Rattle.world_law.proofs.steps_lemmas.acting.{Clearing.cleared_over, Correcti
 use Rattle.world_law.proofs.steps_lemmas.acting.{Points.{at_point, no_frames, not_on}, Stage.stage_of, Starts.changed_soon, Work.not_over}
 use Rattle.run_law.specs.declared.steps.Act.TheVariants as acts
 
-none_due : (s : Scenario) (device : DeviceId) (now changed high : ℕ) (node : Node) → HasDoneFrom s.network (s.reading device) device node changed (now + 1) high
+none_due : {s : Scenario} {device : DeviceId} (now : ℕ) {changed high : ℕ} {node : Node}
+    → HasDoneFrom s.network (s.reading device) device node changed (now + 1) high
     → HasSentFrom s device node (now + 1) high → changed ≤ now → HasTaskBy s device node now → ⊥
-none_due s device now changed high node done sent le (emitting c, p, due) = never_both _ _ (sent.unsent c p.1 now (omega arith)) due
-none_due s device now changed high node done sent le (doing deed, p, due) = never_both _ _ (done.undone deed p.1 now le (omega arith)) due
+none_due now done sent le (emitting c, p, due) = never_both _ _ (sent.unsent c p.1 now (omega arith)) due
+none_due now done sent le (doing deed, p, due) = never_both _ _ (done.undone deed p.1 now le (omega arith)) due
 
 -- nor where it has lost the common time
 lost : (s : Scenario) (now : ℕ) (device : DeviceId) (n : Node) → n.standing.state ≡ Integrating
@@ -19,14 +20,15 @@ lost : (s : Scenario) (now : ℕ) (device : DeviceId) (n : Node) → n.standing.
 lost s now device n is none (emitting c, p, late) = none c p.1
 lost s now device n is none (doing deed, p, late) = no_deed s.network device n deed is p.1.own
 
-point_ends : {C M : Type 0} (reading : C → ℕ → ℕ) (stands : M → Network → DeviceId → Node → Type 0) (s : Scenario) (world : World C M) (notes : List Note)
-    (device : DeviceId) (after : M) (bodies : List NoteBody) (old : Stands reading stands s world notes)
-    (a : Acts reading stands s world notes old device after bodies)
-    (cycle : ℕ) (verdict : Verdict) → ComesFirst reading stands s world notes old (place_of_act world.now device (acts.Correct cycle verdict))
+point_ends : {C M : Type 0} {reading : C → ℕ → ℕ} {stands : M → Network → DeviceId → Node → Type 0} {s : Scenario}
+    {world : World C M} {notes : List Note} {device : DeviceId} {after : M} {bodies : List NoteBody}
+    {old : Stands reading stands s world notes} (a : Acts reading stands s world notes old device after bodies)
+    (cycle : ℕ) (verdict : Verdict) → ComesFirst reading stands s world notes old
+    (place_of_act world.now device (acts.Correct cycle verdict))
     → ((z : Happening) → IsIn z world.settled → 6 < rank z.note.body)
     → HasActed stands s.network device (moment_of s device world.now) (acts.Correct cycle verdict) a.machine after
     → IsDueNow stands s.network device (moment_of s device world.now) after → ⊥
-point_ends reading stands s world notes device after bodies old a cycle (Corrected by) first apart acted due =
+point_ends {reading} {stands} {s} {world} {notes} {device} {after} {old} a cycle (Corrected by) first apart acted due =
     let stage = stage_of reading stands s world notes old device a.machine after (acts.Correct cycle (Corrected by)) a.of_it first apart a.there a.due acted in
     let node = stage.0 in
     let st = stage.1 in
@@ -35,28 +37,28 @@ point_ends reading stands s world notes device after bodies old a cycle (Correct
     let heard = x.1.1.0 in
     let is = x.1.1.2 in
     let point = at_point s device now node cycle heard (Corrected by) x.1.0 x.1.1.1 in
-    let task = subst (λ (n : Node). HasTaskBy s device n now) is (due x.0 x.2) in
-    none_due s device now now (now + 1) _ (corrects_it s.network (s.reading device) device node now (moment_of s device now) heard by refl)
-    (corrected_sent s device node now (moment_of s device now) heard by st.work.sent
+    let task = subst (λ n. HasTaskBy s device n now) is (due x.0 x.2) in
+    none_due now (corrects_it s.network (s.reading device) device node now (moment_of s device now) heard by refl)
+    (corrected_sent s device node (moment_of s device now) heard by st.work.sent
     (no_frames s device now node cycle heard (Corrected by) x.1.0.pending.0 point))
     (omega arith) task
-point_ends reading stands s world notes device after bodies old a cycle SyncClique first apart acted due =
+point_ends {reading} {stands} {s} {world} {notes} {device} {after} {old} a cycle SyncClique first apart acted due =
     let stage = stage_of reading stands s world notes old device a.machine after (acts.Correct cycle SyncClique) a.of_it first apart a.there a.due acted in
     let node = stage.0 in
     let st = stage.1 in
     let now = world.now in
     let x = acted node st.is (may_act_now s device node now st.work.ready st.steady st.limit) st.task in
-    let task = subst (λ (n : Node). HasTaskBy s device n now) x.1.1.2 (due x.0 x.2) in
+    let task = subst (λ n. HasTaskBy s device n now) x.1.1.2 (due x.0 x.2) in
     lost s now device _ refl (λ c w. no_cluster (observation_window s.network) w.clusters w.cluster w.are w.there) task
-point_ends reading stands s world notes device after bodies old a cycle AsyncClique first apart acted due =
+point_ends {reading} {stands} {s} {world} {notes} {device} {after} {old} a cycle AsyncClique first apart acted due =
     let stage = stage_of reading stands s world notes old device a.machine after (acts.Correct cycle AsyncClique) a.of_it first apart a.there a.due acted in
     let node = stage.0 in
     let st = stage.1 in
     let now = world.now in
     let x = acted node st.is (may_act_now s device node now st.work.ready st.steady st.limit) st.task in
-    let task = subst (λ (n : Node). HasTaskBy s device n now) x.1.1.2 (due x.0 x.2) in
+    let task = subst (λ n. HasTaskBy s device n now) x.1.1.2 (due x.0 x.2) in
     lost s now device _ refl (λ c w. no_cluster (observation_window s.network) w.clusters w.cluster w.are w.there) task
-point_ends reading stands s world notes device after bodies old a cycle Cleared first apart acted due =
+point_ends {reading} {stands} {s} {world} {notes} {device} {after} {old} a cycle Cleared first apart acted due =
     let hs = happenings s.network notes in
     let stage = stage_of reading stands s world notes old device a.machine after (acts.Correct cycle Cleared) a.of_it first apart a.there a.due acted in
     let node = stage.0 in
@@ -68,15 +70,16 @@ point_ends reading stands s world notes device after bodies old a cycle Cleared 
     let to = x.1.1.1 in
     let point = at_point s device now node cycle heard Cleared task to in
     let off = not_on s hs world.settled now device node st.work (point_number node.standing.state node.standing.number cycle task.pending.1.own).0 in
-    let over = cleared_over s hs world.settled now device node cycle (moment_of s device now) heard st.work off st.calm.off st.calm.broken st.calm.falls st.cleared
+    let over = cleared_over cycle (moment_of s device now) heard st.work off st.calm.off st.calm.broken st.calm.falls
+    st.cleared
     to.verdict_is task.pending.1 task.due (st.work.ready.in_time (doing (correcting cycle)) task.pending) st.wide
     (no_frames s device now node cycle heard Cleared task.pending.0 point) in
-    not_over s (hs ++ world.settled) device now (now + 1) _ over.done over.sent (changed_soon (hs ++ world.settled) device now)
-    (subst (λ (n : Node). HasTaskBy s device n now) x.1.1.2 (due x.0 x.2))
+    not_over (hs ++ world.settled) now over.done over.sent (changed_soon (hs ++ world.settled) device now)
+    (subst (λ n. HasTaskBy s device n now) x.1.1.2 (due x.0 x.2))
 
 pub correction_ends : {C M : Type 0} (reading : C → ℕ → ℕ) (stands : M → Network → DeviceId → Node → Type 0) → CorrectionEnds reading stands
 correction_ends reading stands s world notes device after bodies cycle verdict old a is =
-    point_ends reading stands s world notes device after bodies old a cycle verdict
-    (subst (λ (act : Act). ComesFirst reading stands s world notes old (place_of_act world.now device act)) is a.first)
-    (subst (λ (act : Act). (z : Happening) → IsIn z world.settled → rank_of_act act < rank z.note.body) is a.apart)
-    (subst (λ (act : Act). HasActed stands s.network device (moment_of s device world.now) act a.machine after) is a.acted)
+    point_ends a cycle verdict
+    (subst (λ act. ComesFirst reading stands s world notes old (place_of_act world.now device act)) is a.first)
+    (subst (λ act. (z : Happening) → IsIn z world.settled → rank_of_act act < rank z.note.body) is a.apart)
+    (subst (λ act. HasActed stands s.network device (moment_of s device world.now) act a.machine after) is a.acted)

@@ -58,7 +58,7 @@ first_of network device node moment (acts.Dispatch row cycle) new is = is.0
 between : (t now k r d : ℕ) (ws more v : List ℕ) → v ≡ t ∷ k ∷ ws → IsBefore v (now ∷ r ∷ d ∷ more) → (IsBefore v (now ∷ r ∷ d ∷ []) → ⊥)
     → (t ≡ now) × (k ≡ r) × ((rest : List ℕ) × (ws ≡ d ∷ rest))
 between t now k r d ws more v is b not =
-    at ws (subst (λ (q : List ℕ). IsBefore q (now ∷ r ∷ d ∷ more)) is b) (λ x. not (subst (λ (q : List ℕ). IsBefore q (now ∷ r ∷ d ∷ [])) (sym is) x))
+    at ws (subst (λ q. IsBefore q (now ∷ r ∷ d ∷ more)) is b) (λ x. not (subst (λ q. IsBefore q (now ∷ r ∷ d ∷ [])) (sym is) x))
   where
     at : (ws : List ℕ) → IsBefore (t ∷ k ∷ ws) (now ∷ r ∷ d ∷ more) → (IsBefore (t ∷ k ∷ ws) (now ∷ r ∷ d ∷ []) → ⊥)
         → (t ≡ now) × (k ≡ r) × ((rest : List ℕ) × (ws ≡ d ∷ rest))
@@ -80,68 +80,73 @@ pub record IsActFirst {M : Type 0} (stands : M → Network → DeviceId → Node
   pub past : (h : Happening) → IsIn h (hs ++ coming) → time_of h ≤ now
   pub late : (z : Happening) → IsIn z coming → 4 ≤ rank z.note.body
 
--- no act of the device that is not worked off stands before it
-act_none : {M : Type 0} (stands : M → Network → DeviceId → Node → Type 0) (s : Scenario) (hs coming : List Happening) (mark cursor : List ℕ) (now : ℕ)
-    (device : DeviceId) (machine : M) (task other : Task) → IsActFirst stands s hs coming mark cursor now device machine task
-    → IsActing s hs now device other → IsBefore (task_place s.network now device other) (task_place s.network now device task)
-    → (IsBefore (task_place s.network now device other) cursor → ⊥) → ⊥
-act_none stands s hs coming mark cursor now device machine task other x a b not =
-    let js = hs ++ coming in
-    let k = x.kept in
-    let same : earlier now hs ≡ earlier now js = sym (earlier_still now hs coming (λ z i. let at = x.are.of_now z i in omega (arith, at))) in
-    let points : points_of hs device ≡ points_of js device = sym (points_same coming hs device
-    (λ z i. (quiet_rest s device now z.note.body (k.still x.up z (in_right z hs coming i) (x.are.of_now z i)), x.late z i))) in
-    let w = present stands s hs coming cursor now device machine k x.up in
-    elim (done_or k.node other) [
-      | inr undone ↦
-          let due = act_due s js hs now device k.node other w (record { taken = k.taken; past = x.past; lawful = x.lawful }) same points a undone in
-          place_first s.network now device k.node (pos (s.reading device now)) task other x.zero x.first due.0 due.1 b
-      | inl did ↦
-          came_not s js hs now device k.node other w same a
-          (subst (λ (n : ℕ). HadComeTo s device k.node (changed_at js device n) now other) x.up
-          (came_sooner s device k.node (changed_at js device k.up) k.up now cursor k.worked other did not))
-    ]
+module _ {M : Type 0} (stands : M → Network → DeviceId → Node → Type 0) (s : Scenario) (hs coming : List Happening)
+    (mark cursor : List ℕ) (now : ℕ) (device : DeviceId) (machine : M) (task : Task) where
+  -- no act of the device that is not worked off stands before it
+  act_none : {other : Task} → IsActFirst stands s hs coming mark cursor now device machine task
+      → IsActing s hs now device other → IsBefore (task_place s.network now device other)
+      (task_place s.network now device task) → (IsBefore (task_place s.network now device other) cursor → ⊥) → ⊥
+  act_none {other} x a b not =
+      let js = hs ++ coming in
+      let k = x.kept in
+      let same : earlier now hs ≡ earlier now js =
+      sym (earlier_still now hs coming (λ z i. let at = x.are.of_now z i in omega (arith, at))) in
+      let points : points_of hs device ≡ points_of js device = sym (points_same coming hs device
+      (λ z i. (quiet_rest s device now z.note.body (k.still x.up z (in_right z hs coming i) (x.are.of_now z i)), x.late z i))) in
+      let w = present k x.up in
+      elim (done_or k.node other) [
+        | inr undone ↦
+            let due = act_due w (record { taken = k.taken; past = x.past; lawful = x.lawful }) same points a undone in
+            place_first s.network now device other x.zero x.first due.0 due.1 b
+        | inl did ↦
+            came_not w same a
+            (subst (λ n. HadComeTo s device k.node (changed_at js device n) now other) x.up
+            (came_sooner now k.worked other did not))
+      ]
 
--- no source is between, that is not worked off
-act_sources : {M : Type 0} (stands : M → Network → DeviceId → Node → Type 0) (s : Scenario) (hs coming : List Happening) (mark cursor : List ℕ) (now : ℕ)
-    (device : DeviceId) (machine : M) (task : Task) (r : ℕ) (more : List ℕ) → IsActFirst stands s hs coming mark cursor now device machine task
-    → task_place s.network now device task ≡ now ∷ r ∷ device.0 ∷ more → 4 ≤ r → r ≤ 6 → (v : List ℕ) → IsSource s hs v → (IsBefore v cursor → ⊥)
-    → IsBefore v (now ∷ r ∷ device.0 ∷ more) → (IsBefore v (now ∷ r ∷ device.0 ∷ []) → ⊥) → ⊥
-act_sources stands s hs coming mark cursor now device machine task r more x place late low v (IsSource.arriving t d link cause a) not b from =
-    let at = between t now 2 r device.0 _ more v refl b from in let two = at.1 in omega (arith, two, late)
-act_sources stands s hs coming mark cursor now device machine task r more x place late low v (IsSource.ripening t d link cause point a) not b from =
-    let at = between t now 3 r device.0 _ more v refl b from in let three = at.1 in omega (arith, three, late)
-act_sources stands s hs coming mark cursor now device machine task r more x place late low v (IsSource.departing t d link cause a) not b from =
-    let at = between t now 8 r device.0 _ more v refl b from in let eight = at.1 in omega (arith, eight, low)
-act_sources stands s hs coming mark cursor now device machine task r more x place late low v (IsSource.following t cause h it) not b from =
-    let at = between t now 2 r device.0 [] more v refl b from in let two = at.1 in omega (arith, two, late)
-act_sources stands s hs coming mark cursor now device machine task r more x place late low v (IsSource.befalling time line what it) not b from =
-    let at = between _ now 1 r device.0 [] more v refl b from in let one = at.1 in omega (arith, one, late)
-act_sources stands s hs coming mark cursor now device machine task r more x place late low v (IsSource.ending time d is there it) not b from =
-    let at = between _ now 14 r device.0 _ more v refl b from in let high = at.1 in omega (arith, high, low)
-act_sources stands s hs coming mark cursor now device machine task r more x place late low v (IsSource.acting t d other a) not b from =
-    let p = placed_so s.network t d other in
-    let at = between t now p.rank r device.0 (d.0 ∷ p.rest) more v p.is b from in
-    let its : d.0 ≡ device.0 = let e = at.2.1 in cc in
-    let own : d ≡ device = same_device d device its in
-    let here : IsActing s hs now device other = subst (λ (e : DeviceId). IsActing s hs now e other) own
-    (subst (λ (n : ℕ). IsActing s hs n d other) at.0 a) in
-    let there : task_place s.network t d other ≡ task_place s.network now device other = ap (λ (n : ℕ). task_place s.network n d other) at.0
-    ∙ ap (λ (e : DeviceId). task_place s.network now e other) own in
-    act_none stands s hs coming mark cursor now device machine task other x here
-    (subst (λ (q : List ℕ). IsBefore (task_place s.network now device other) q) (sym place)
-    (subst (λ (q : List ℕ). IsBefore q (now ∷ r ∷ device.0 ∷ more)) there b))
-    (subst (λ (q : List ℕ). IsBefore q cursor → ⊥) there not)
+  -- no source is between, that is not worked off
+  act_sources : (r : ℕ) (more : List ℕ) → IsActFirst stands s hs coming mark cursor now device machine task
+      → task_place s.network now device task ≡ now ∷ r ∷ device.0 ∷ more → 4 ≤ r → r ≤ 6 → {v : List ℕ}
+      → IsSource s hs v → (IsBefore v cursor → ⊥) → IsBefore v (now ∷ r ∷ device.0 ∷ more)
+      → (IsBefore v (now ∷ r ∷ device.0 ∷ []) → ⊥) → ⊥
+  act_sources r more x place late low {v} (IsSource.arriving t d link cause a) not b from =
+      let at = between t now 2 r device.0 _ more v refl b from in let two = at.1 in omega (arith, two, late)
+  act_sources r more x place late low {v} (IsSource.ripening t d link cause point a) not b from =
+      let at = between t now 3 r device.0 _ more v refl b from in let three = at.1 in omega (arith, three, late)
+  act_sources r more x place late low {v} (IsSource.departing t d link cause a) not b from =
+      let at = between t now 8 r device.0 _ more v refl b from in let eight = at.1 in omega (arith, eight, low)
+  act_sources r more x place late low {v} (IsSource.following t cause h it) not b from =
+      let at = between t now 2 r device.0 [] more v refl b from in let two = at.1 in omega (arith, two, late)
+  act_sources r more x place late low {v} (IsSource.befalling time line what it) not b from =
+      let at = between _ now 1 r device.0 [] more v refl b from in let one = at.1 in omega (arith, one, late)
+  act_sources r more x place late low {v} (IsSource.ending time d is there it) not b from =
+      let at = between _ now 14 r device.0 _ more v refl b from in let high = at.1 in omega (arith, high, low)
+  act_sources r more x place late low {v} (IsSource.acting t d other a) not b from =
+      let p = placed_so s.network t d other in
+      let at = between t now p.rank r device.0 (d.0 ∷ p.rest) more v p.is b from in
+      let its : d.0 ≡ device.0 = let e = at.2.1 in cc in
+      let own : d ≡ device = same_device d device its in
+      let here : IsActing s hs now device other = subst (λ e. IsActing s hs now e other) own
+      (subst (λ n. IsActing s hs n d other) at.0 a) in
+      let there : task_place s.network t d other ≡ task_place s.network now device other =
+      ap (λ n. task_place s.network n d other) at.0
+      ∙ ap (λ e. task_place s.network now e other) own in
+      act_none x here
+      (subst (λ q. IsBefore (task_place s.network now device other) q) (sym place)
+      (subst (λ q. IsBefore q (now ∷ r ∷ device.0 ∷ more)) there b))
+      (subst (λ q. IsBefore q cursor → ⊥) there not)
 
 -- so it comes first
-pub act_moving : {C M : Type 0} (reading : C → ℕ → ℕ) (stands : M → Network → DeviceId → Node → Type 0) (s : Scenario) (world : World C M) (notes : List Note)
-    (old : Stands reading stands s world notes) (device : DeviceId) (machine : M) (act : Act)
-    → ComesFirst reading stands s world notes old (place_of_act world.now device act)
-    → ((z : Happening) → IsIn z world.settled → rank_of_act act < rank z.note.body)
-    → IsActFirst stands s (happenings s.network notes) world.settled old.mark old.cursor world.now device machine (task_of act)
+pub act_moving : {C M : Type 0} {reading : C → ℕ → ℕ} {stands : M → Network → DeviceId → Node → Type 0}
+    {s : Scenario} {world : World C M} {notes : List Note} {old : Stands reading stands s world notes}
+    {device : DeviceId} {machine : M} (act : Act) → ComesFirst reading stands s world notes old
+    (place_of_act world.now device act) → ((z : Happening) → IsIn z world.settled
+    → rank_of_act act < rank z.note.body) → IsActFirst stands s
+    (happenings s.network notes) world.settled old.mark old.cursor world.now device machine (task_of act)
     → (IsBefore (world.now ∷ rank_of_act act ∷ act_rest s.network device act) old.cursor → ⊥)
-    → IsMoving s (happenings s.network notes) world.settled old.mark old.cursor world.now (rank_of_act act) (act_rest s.network device act)
-act_moving reading stands s world notes old device machine act first apart x waits =
+    → IsMoving s (happenings s.network notes) world.settled old.mark old.cursor world.now (rank_of_act act)
+    (act_rest s.network device act)
+act_moving {stands} {s} {world} {notes} {old} {device} {machine} act first apart x waits =
     let high = late_rank act in
     record {
       longer = λ same. (let two : 2 ≡ rank_of_act act = ap second same in omega (arith, two, high));
@@ -153,7 +158,8 @@ act_moving reading stands s world notes old device machine act first apart x wai
             | inl sooner ↦ first.none v source not sooner
             | inr from ↦
                 act_sources stands s (happenings s.network notes) world.settled old.mark old.cursor world.now device machine (task_of act) (rank_of_act act)
-                (act_more s.network act) x (act_stands s.network world.now device act) high (low_rank act) v source not b from
+                (act_more s.network act) x (act_stands s.network world.now device act) high (low_rank act) source not
+                b from
           ];
       after = λ z i b.
           let more = apart z i in

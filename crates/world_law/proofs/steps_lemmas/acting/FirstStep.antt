@@ -50,20 +50,22 @@ pub record IsActPair (s : Scenario) (hs front2 : List Happening) (now r : ℕ) (
   pub changes : (h : Happening) → IsOfThisTime (hs ++ front2) now (length hs + 1) h → h.note.body ≡ body
       → ChangesState s (hs ++ front2) device now state (length hs + 1) why
 
-pub two_go_by : {C M : Type 0} (reading : C → ℕ → ℕ) (stands : M → Network → DeviceId → Node → Type 0) (s : Scenario) (world : World C M) (notes : List Note)
-    (old : Stands reading stands s world notes) (device : DeviceId) (machine after : M) (node : Node) (machines : List M) (settled : List Happening)
-    (body : NoteBody) (state : State) (why : Why) (r : ℕ) (more : List ℕ)
-    → StageAt stands s (happenings s.network notes) world.settled old.mark old.cursor world.now device machine node r more
+pub two_go_by : {C M : Type 0} {reading : C → ℕ → ℕ} {stands : M → Network → DeviceId → Node → Type 0} {s : Scenario}
+    {world : World C M} {notes : List Note} (old : Stands reading stands s world notes) {device : DeviceId}
+    {machine after : M} {node : Node} {machines : List M} {settled : List Happening} {body : NoteBody}
+    {state : State} {why : Why} {r : ℕ} {more : List ℕ} → StageAt stands s
+    (happenings s.network notes) world.settled old.mark old.cursor world.now device machine node r more
     → (q : IsShownPair s.network (happenings s.network notes) world.now body device state why world.settled settled)
     → length notes + length world.settled + 2 < numbers_end
     → IsActPair s (happenings s.network notes) q.front2 world.now r more device body state why
-    → IsAllOfIt s (happenings s.network notes)
-    (q.front2 ++ change_of s.network (happenings s.network notes) q.front2 world.now device state why ∷ q.back2) (world.now ∷ r ∷ more)
-    → IsKept stands s (happenings s.network notes)
-    (q.front2 ++ change_of s.network (happenings s.network notes) q.front2 world.now device state why ∷ q.back2) (behind (world.now ∷ r ∷ more)) world.now
-    device after → IsSet device.0 after world.machines machines
-    → StandsBehind reading stands s (record world { early = false; machines = machines; settled = settled }) notes (behind (world.now ∷ r ∷ more))
-two_go_by {C} {M} reading stands s world notes old device machine after node machines settled body state why r more st q room a all kept set =
+    → IsAllOfIt s (happenings s.network notes) (q.front2
+    ++ change_of s.network (happenings s.network notes) q.front2 world.now device state why ∷ q.back2)
+    (world.now ∷ r ∷ more) → IsKept stands s (happenings s.network notes)
+    (q.front2 ++ change_of s.network (happenings s.network notes) q.front2 world.now device state why ∷ q.back2)
+    (behind (world.now ∷ r ∷ more)) world.now device after → IsSet device.0 after world.machines machines
+    → StandsBehind reading stands s (record world { early = false; machines = machines; settled = settled }) notes
+    (behind (world.now ∷ r ∷ more))
+two_go_by {C} {M} {reading} {stands} {s} {world} {notes} old {device} {machine} {after} {node} {machines} {settled} {body} {state} {why} {r} {more} st q room a all kept set =
     let hs = happenings s.network notes in
     let now = world.now in
     let coming = world.settled in
@@ -75,7 +77,7 @@ two_go_by {C} {M} reading stands s world notes old device machine after node mac
     let low = st.low in
     let ranks : rank body ≡ r = ap second a.stands in
     let aside : (y : Happening) → IsIn y coming → hears device y.note.body ≡ true → ⊥ =
-    nothing_heard stands s hs [] coming old.mark old.cursor now device machine node r more st in
+    nothing_heard stands s hs [] coming old.mark old.cursor now device machine node st in
     let so : IsActSo s hs [] coming old.mark old.cursor now r more device body = record {
       moving = st.moving;
       late = high;
@@ -88,14 +90,14 @@ two_go_by {C} {M} reading stands s world notes old device machine after node mac
       cause = a.caused;
       before = λ z i. absurd i;
       none = q.none;
-      new = λ y i one. fresh_above stands s hs [] coming old.mark old.cursor now device machine node r more st w (omega (arith, ranks)) y i (ap place_of one);
+      new = λ y i one. fresh_above stands s hs [] coming old.mark old.cursor now device machine node st w
+          (omega (arith, ranks)) y i (ap place_of one);
       aside = aside;
     } in
     let x = pair_parts hs coming q.front2 q.back2 w q.parts2 q.far in
     let aside2 : (z : Happening) → IsIn z q.back2 → hears device z.note.body ≡ true → ⊥ = λ z i.
-    aside z (subst (λ (l : List Happening). IsIn z l) (sym x.2) (in_right z x.0 q.back2 i)) in
-    let pair = act_pair s hs coming settled old.mark old.cursor now r more device body state why q so (λ one. omega (arith, one, ranks, high)) a.of_it
-    a.follows a.changes aside2 in
+    aside z (subst (λ l. IsIn z l) (sym x.2) (in_right z x.0 q.back2 i)) in
+    let pair = act_pair q so (λ one. omega (arith, one, ranks, high)) a.of_it a.follows a.changes aside2 in
     let long = put_length q.front2 q.back2 v in
     let between : length (w ∷ coming) ≡ length (q.front2 ++ q.back2) = ap length q.parts2 in
     let one_more : length (w ∷ coming) ≡ length coming + 1 = omega arith in
@@ -103,12 +105,12 @@ two_go_by {C} {M} reading stands s world notes old device machine after node mac
     let apart_v : (other : DeviceId) → (other.0 ≡ device.0 → ⊥) → bears_on other v.note.body ≡ false = λ other not. ne_eqb other.0 device.0 not in
     subst (λ (l : List Happening). StandsBehind reading stands s (record world { early = false; machines = machines; settled = l }) notes (behind here))
     (sym q.shows)
-    (stands_on reading stands s world notes old r more here machines world.wires world.ports world.waiting new world.shown st.moving refl
-    (omega (arith, long, between, one_more, room))
-    (two_by s hs [] coming q.front2 q.back2 old.mark old.cursor now r more w v device state why pair all)
-    (known_aside s hs q.front2 q.back2 v (λ other le. moves_no_other other v.note.body (apart_v other (λ e. let lt = st.of_it in omega (arith, e, lt, le))))
+    (stands_on old r more here machines world.shown st.moving refl (omega (arith, long, between, one_more, room))
+    (two_by s hs [] coming q.front2 q.back2 old.mark old.cursor pair all)
+    (known_aside hs q.front2 q.back2 v (λ other le. moves_no_other other v.note.body
+    (apart_v other (λ e. let lt = st.of_it in omega (arith, e, lt, le))))
     (subst (λ (l : List Happening). AreOfNetwork s (hs ++ l)) q.parts2
-    (known_aside s hs [] coming w (λ other le. no_row_of s device other body st.of_it a.apart le) old.known)))
+    (known_aside hs [] coming w (λ other le. no_row_of s device other body st.of_it a.apart le) old.known)))
     (λ other lt. elim (cases_eq other.0 device.0) [
       | inl e ↦
           let same : device ≡ other = ap (λ (k : ℕ). let d : DeviceId = record { 0 = k } in d) (sym e) in
@@ -118,31 +120,34 @@ two_go_by {C} {M} reading stands s world notes old device machine after node mac
           let m = old.devices other lt in
           let y = a.apart other not in (
             m.0,
-            others_so device other after m.0 world.machines machines set not m.1,
+            others_so device other m.0 set not m.1,
             held_aside s hs q.front2 q.back2 v other (apart_v other not) refl
                 (frames_aside s hs q.front2 q.back2 v other (apart_v other not) (λ at. refl))
-                (subst (λ (l : List Happening). IsHeld stands s hs l (behind here) now other m.0) q.parts2
+                (subst (λ l. IsHeld stands s hs l (behind here) now other m.0) q.parts2
                 (held_aside s hs [] coming w other y.0 refl (frames_aside s hs [] coming w other y.0 y.1)
-                (held_moves stands s hs coming old.mark old.cursor now r more other m.0 st.moving (λ task same. not (st.own other task same)) m.2))),
+                (held_moves stands s hs coming st.moving (λ task same. not (st.own other task same)) m.2))),
           )
     ])
     later
-    (wires_move s hs coming old.mark old.cursor now r more world.wires world.wires st.moving
-    (told_wires reading stands s world notes old r more st.moving later)
+    (wires_move s hs coming old.mark old.cursor now r more world.wires st.moving
+    (told_wires old r more st.moving later)
     (all_without wire_place here world.wires (λ e same. at_now e.at now 2 r _ more (λ k. omega (arith, k, high)) same)))
-    (ports_move s hs coming old.mark old.cursor now r more world.ports world.ports st.moving old.ports
+    (ports_move s hs coming old.mark old.cursor now r more world.ports st.moving old.ports
     (all_without port_place here world.ports (λ e same. at_now e.at now 8 r _ more (λ k. omega (arith, k, low)) same)))
-    (waiting_moves s hs coming old.mark old.cursor now r more world.waiting st.moving (λ three. omega (arith, three, high)) old.waiting)
-    (shown_still reading stands s world notes old r more (omega (arith, low)) st.moving))
+    (waiting_moves s hs coming old.mark old.cursor now r more st.moving (λ three. omega (arith, three, high))
+    old.waiting)
+    (shown_still old r more (omega (arith, low)) st.moving))
 
 -- ---- a joiner's first correction
 
-pub first_goes_by : {C M : Type 0} (reading : C → ℕ → ℕ) (stands : M → Network → DeviceId → Node → Type 0) (s : Scenario) (world : World C M)
-    (notes : List Note) (old : Stands reading stands s world notes) (device : DeviceId) (machine after : M) (cycle : ℕ) (by adjustment : Units)
-    (machines : List M) (settled : List Happening)
-    → IsCorrecting reading stands s world notes old device machine after cycle (Corrected by) Joining adjustment machines settled
-    → StandsBehind reading stands s (record world { early = false; machines = machines; settled = settled }) notes (behind (rows_place world.now device))
-first_goes_by reading stands s world notes old device machine after cycle by adjustment machines settled x =
+pub first_goes_by : {C M : Type 0} {reading : C → ℕ → ℕ} {stands : M → Network → DeviceId → Node → Type 0}
+    {s : Scenario} {world : World C M} {notes : List Note} {old : Stands reading stands s world notes}
+    {device : DeviceId} {machine after : M} {cycle : ℕ} (by : Units) {adjustment : Units} {machines : List M}
+    {settled : List Happening} → IsCorrecting reading stands s world notes old device machine after cycle
+    (Corrected by) Joining adjustment machines settled → StandsBehind reading stands s
+    (record world { early = false; machines = machines; settled = settled }) notes
+    (behind (rows_place world.now device))
+first_goes_by {reading} {stands} {s} {world} {notes} {old} {device} {machine} {after} {cycle} by {adjustment} {settled} x =
     let hs = happenings s.network notes in
     let now = world.now in
     let stage = stage_of reading stands s world notes old device machine after (acts.Correct cycle (Corrected by)) x.of_it x.first x.apart x.there x.due x.acted in
@@ -160,14 +165,15 @@ first_goes_by reading stands s world notes old device machine after cycle by adj
     let sum_is : adjustment.0 ≡ (node.standing.adjustment.0 +ℤ by.0) = ap (λ (u : Units). u.0) sum ∙ ap (λ (n : Node). n.standing.adjustment.0) is in
     let off = not_on s hs world.settled now device node st.work point_is.0 in
     let point = at_point s device now node cycle heard (Corrected by) first to in
-    let ready = ready_after s device node act.0 now (acts.Correct cycle (Corrected by)) st.work.ready st.steady st.precise st.wide may act.1
+    let ready = ready_after s act.0 (acts.Correct cycle (Corrected by)) st.work.ready st.steady st.precise st.wide
+    may act.1
     (ap (λ (n : Node). n.last) is) in
     let body = kinds.Corrected device cycle by adjustment in
     let rests : (h : Happening) → IsIn h world.settled → moves device h.note.body ≡ true → ⊥ = λ h i e.
     not_moved s device now h.note.body off (st.work.still h (in_right h hs world.settled i) (st.work.of_now h i).0) e in
     let q : IsShownPair s.network hs now body device Synchronised whys.Correction world.settled settled = subst
-    (λ (l : List Happening). IsShownPair s.network hs now body device Synchronised whys.Correction world.settled l) (sym x.put.2.2)
-    (two_shown s.network hs now body device Synchronised whys.Correction world.settled x.put.0 x.put.2.0 (omega arith) (omega arith)
+    (λ l. IsShownPair s.network hs now body device Synchronised whys.Correction world.settled l) (sym x.put.2.2)
+    (two_shown s.network hs now body device Synchronised whys.Correction (omega arith) (omega arith)
     (λ z i b. st.moving.after z i b) (causes_given st.moving (omega arith)) x.put.1 x.put.2.1) in
     let w = record_of s.network hs [] now body in
     let v = change_of s.network hs q.front2 now device Synchronised whys.Correction in
@@ -175,7 +181,7 @@ first_goes_by reading stands s world notes old device machine after cycle by adj
     let new = q.front2 ++ v ∷ q.back2 in
     let parts = pair_parts hs world.settled q.front2 q.back2 w q.parts2 q.far in
     let st3 : StageAt stands s hs (parts.0 ++ q.back2) old.mark old.cursor now device machine node 6 (device.0 ∷ []) =
-    subst (λ (l : List Happening). StageAt stands s hs l old.mark old.cursor now device machine node 6 (device.0 ∷ [])) parts.2 st in
+    subst (λ l. StageAt stands s hs l old.mark old.cursor now device machine node 6 (device.0 ∷ [])) parts.2 st in
     let so : IsCorrectedSo s device (now + 1) node w cycle by adjustment (moment_of s device now) = record {
       body = refl;
       before = omega arith;
@@ -186,20 +192,21 @@ first_goes_by reading stands s world notes old device machine after cycle by adj
     } in
     let quiet = no_frames s device now node cycle heard (Corrected by) first.pending.0 point in
     let over : IsOver s (hs ++ new) now device act.0 = subst (λ (l : List Happening). IsOver s (hs ++ (l ++ v ∷ q.back2)) now device act.0) (sym parts.1)
-    (subst (λ (m : Node). IsOver s (hs ++ ((w ∷ parts.0) ++ v ∷ q.back2)) now device m) (sym is)
-    (joiner_over s hs [] parts.0 q.back2 now device node w v cycle (length hs + 1) by adjustment (moment_of s device now) heard st3.work off st.calm.off
-    st.calm.broken refl (subst (λ (l : List Happening). NoneBefore place_of l (place_of w)) parts.2 q.none) so joining refl (omega arith) quiet)) in
+    (subst (λ m. IsOver s (hs ++ ((w ∷ parts.0) ++ v ∷ q.back2)) now device m) (sym is)
+    (joiner_over [] parts.0 q.back2 v (length hs + 1) heard st3.work off st.calm.off
+    st.calm.broken refl (subst (λ l. NoneBefore place_of l (place_of w)) parts.2 q.none) so joining refl (omega arith) quiet)) in
     let cleared : HasCleared act.0 = subst HasCleared (sym is) (λ m there. absurd (none_in (correcting m) there)) in
     let six : 5 ≤ rank w.note.body = omega arith in
     let g1 : IsGrown s hs world.settled new1 now device =
-    grown_one s hs [] world.settled now device node w st.work (as_put now w refl (omega arith)) six in
-    let g2 : IsGrown s hs world.settled new now device = grown_more s hs world.settled q.front2 q.back2 now device v
-    (subst (λ (l : List Happening). IsGrown s hs world.settled l now device) q.parts2 g1)
+    grown_one [] world.settled st.work (as_put now w refl (omega arith)) six in
+    let g2 : IsGrown s hs world.settled new now device = grown_more q.front2 q.back2
+    (subst (λ l. IsGrown s hs world.settled l now device) q.parts2 g1)
     (as_put now v refl (omega arith)) (omega arith) in
     let front2_now : (z : Happening) → IsIn z q.front2 → time_of z ≡ now = λ z i.
-    g1.of_now z (subst (λ (l : List Happening). IsIn z l) (sym q.parts2) (in_left z q.front2 q.back2 i)) in
-    let c = corrected_cause stands s hs [] world.settled old.mark old.cursor now device machine node cycle heard by adjustment st point sum_is q.none in
-    two_go_by reading stands s world notes old device machine after node machines settled body Synchronised whys.Correction 6 (device.0 ∷ []) st q x.first.room
+    g1.of_now z (subst (λ l. IsIn z l) (sym q.parts2) (in_left z q.front2 q.back2 i)) in
+    let c = corrected_cause stands s hs [] world.settled old.mark old.cursor now device machine node cycle by
+    adjustment st point sum_is q.none in
+    two_go_by old st q x.first.room
     (record {
       own = λ m. refl;
       here = IsSource.acting now device (doing (correcting cycle))
@@ -213,28 +220,28 @@ first_goes_by reading stands s world notes old device machine after cycle by adj
       changes = λ h there e.
           let same = all_earlier s hs q.front2 world.settled now front2_now (λ z i. (st.work.of_now z i).0) in (
             refl,
-            ap (λ (l : List Happening). if is_turned_on_at s device now then Integrating else state_after s l device) same ∙ sym st.work.left.state ∙ joining,
+            ap (λ l. if is_turned_on_at s device now then Integrating else state_after s l device) same ∙ sym st.work.left.state ∙ joining,
             (cycle, by, adjustment, h, there, e),
           );
     })
-    (all_point s hs world.settled new now device node cycle heard (Corrected by) st.work point g2 (
+    (all_point st.work point g2 (
       w,
-      in_left w q.front2 (v ∷ q.back2) (subst (λ (l : List Happening). IsIn w l) (sym parts.1) (inl refl)),
+      in_left w q.front2 (v ∷ q.back2) (subst (λ l. IsIn w l) (sym parts.1) (inl refl)),
       refl,
     ))
-    (kept_over stands s hs new (behind (rows_place now device)) now device after act.0 act.2 st.work.sound over ready cleared
-    (ap (λ (m : Node). m.taken) is ∙ taken_then stands s hs [] world.settled old.mark old.cursor now device machine node w 6 (device.0 ∷ []) st refl
+    (kept_over stands {hs = hs} {new = new} {cursor = behind (rows_place now device)} after act.2 st.work.sound over
+    ready cleared
+    (ap (λ (m : Node). m.taken) is ∙ taken_then stands s hs [] world.settled old.mark old.cursor now device machine
+    node w st refl
     (λ at. refl) ∙ ap (λ (l : List Happening). frames_taken s (hs ++ l) device) q.parts2
     ∙ frames_put s hs q.front2 q.back2 now v device
     (λ h i. elim (in_parts h hs (q.front2 ++ q.back2) i) [
       | inl given ↦ st.work.past h (in_left h hs world.settled given)
-      | inr come ↦ let at = g1.of_now h (subst (λ (l : List Happening). IsIn h l) (sym q.parts2) come) in omega (arith, at)
+      | inr come ↦ let at = g1.of_now h (subst (λ l. IsIn h l) (sym q.parts2) come) in omega (arith, at)
     ]) refl (λ at. refl))
     (bare_act s.network device node (moment_of s device now) (acts.Correct cycle (Corrected by)) act.0 act.1 st.bare)
     (λ on. absurd (both_ways (is_turned_on_at s device now) off on)) (ap (λ (m : Node). m.phase) is)
-    st.calm.falls
-    (corrected_worked stands s hs world.settled old.mark old.cursor now device machine node act.0 heard by (changed_at (hs ++ new) device (now + 1)) st is)
-    st.reach
+    st.calm.falls (corrected_worked act.0 heard by (changed_at (hs ++ new) device (now + 1)) st is) st.reach
     (inl (out_by_acts s hs now device
     (none_at_point s hs world.settled now device node cycle old.range old.rules st.steady st.work point.pending point.due)))) x.set
   where

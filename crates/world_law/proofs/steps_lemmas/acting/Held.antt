@@ -20,9 +20,10 @@ numbered_some hs zero h e = absurd cc
 numbered_some hs (suc n) h e = omega arith
 
 -- what is stored of it is of the last taking
-stored_of : (hs : List Happening) (stored : List Stored) (device : DeviceId) (vl : VlId) (taking : Happening) (e : Stored) → AreStored hs stored
-    → last_taking hs device vl ≡ Some taking → IsIn e stored → e.device ≡ device → e.vl ≡ vl → (e.number ≡ taking.note.number) × (e.octets ≡ taking.octets)
-stored_of hs stored device vl taking e are last there of_device of_vl = grind arith
+stored_of : {hs : List Happening} {stored : List Stored} (device : DeviceId) (vl : VlId) (taking : Happening)
+    (e : Stored) → AreStored hs stored → last_taking hs device vl ≡ Some taking → IsIn e stored → e.device ≡ device
+    → e.vl ≡ vl → (e.number ≡ taking.note.number) × (e.octets ≡ taking.octets)
+stored_of device vl taking e are last there of_device of_vl = grind arith
 
 -- a switch that has to dispatch a row of which it is not the sender holds its frame
 pub held_frame : {M : Type 0} (stands : M → Network → DeviceId → Node → Type 0) (s : Scenario) (hs coming : List Happening) (mark cursor : List ℕ) (now : ℕ)
@@ -34,11 +35,10 @@ held_frame stands s hs coming mark cursor now device machine node row cycle stor
     let has : HasFrame s.network device node row cycle = p.1.own.1 in
     let entry = has.entry in
     let reached : Reaches s (hs ++ coming) device (pos (cycle * amount s.network.cycle + amount entry.row.offset)) now =
-    subst (λ (z : ℤ). Reaches s (hs ++ coming) device z now) (value_is s.network row entry cycle has.is)
-    (reaches s hs coming now device node (dispatching row cycle) st.work p.1 due) in
+    subst (λ z. Reaches s (hs ++ coming) device z now) (value_is row cycle has.is) (reaches st.work p.1 due) in
     let r : IsReaching s (hs ++ coming) device node row entry cycle now = grind (arith, has.is, has.leaves, reached) in
     let f : IsForwarded s.network device row.0 entry = record { is = has.is; leaves = has.leaves; other = other } in
-    let hand = at_hand s (hs ++ coming) device node row cycle now has r in
+    let hand = at_hand has r in
     by r f hand.0 hand.1
   where
     by : IsReaching s (hs ++ coming) device node row p.1.own.1.entry cycle now → IsForwarded s.network device row.0 p.1.own.1.entry → (cause : ℕ)
@@ -51,9 +51,9 @@ held_frame stands s hs coming mark cursor now device machine node row cycle stor
         let same : earlier now (hs ++ coming) ≡ earlier now hs = earlier_still now hs coming (λ z i. let at = (st.work.of_now z i).0 in omega (arith, at)) in
         let taken = took.1.taken in
         let last : last_accepted hs device vl now ≡ Some taken =
-        subst (λ (w : List Happening). last_or None (filter accepted w) ≡ Some taken) same took.1.last in
+        subst (λ w. last_or None (filter accepted w) ≡ Some taken) same took.1.last in
         let all : filter accepted (earlier now hs) ≡ filter accepted hs =
-        filter_earlier accepted now hs (λ h i e. taken_sooner s (hs ++ coming) device node row entry cycle now r f h (in_left h hs coming i) e) in
+        filter_earlier accepted now hs (λ h i e. taken_sooner r f h (in_left h hs coming i) e) in
         let taking : last_taking hs device vl ≡ Some taken = subst (λ (w : List Happening). last_or None w ≡ Some taken) all last in
         let there : IsIn taken hs = grind (arith, last_in, filter, accepted, taken, taking, in_filter) in
         let number = by_number s hs taken st.given there in
@@ -64,14 +64,14 @@ held_frame stands s hs coming mark cursor now device machine node row cycle stor
               let accepted : HasAccepted hs device vl now e.number cycle = record {
                 taken = taken;
                 last = last;
-                number = (stored_of hs stored device vl taken e are taking i of_device of_vl).0;
+                number = (stored_of device vl taken e are taking i of_device of_vl).0;
                 link = took.1.link;
                 from = took.1.from;
                 is = took.1.is;
               } in
               inr (took.0, accepted);
           some = λ e i of_device of_vl.
-              subst (λ (n : ℕ). 1 ≤ n) (sym (stored_of hs stored device vl taken e are taking i of_device of_vl).0)
+              subst (λ n. 1 ≤ n) (sym (stored_of device vl taken e are taking i of_device of_vl).0)
               (numbered_some hs taken.note.number taken number);
           octets = grind (arith, stored_of, vl, taken, taking, option_map_or, numbered, number);
         }

@@ -54,8 +54,9 @@ bears_so s device now y late at rest not bears = by_body y.note.body refl (subst
 -- ---- it looks for the time until then
 
 -- a device that looks for the common time neither sends nor comes to a correction, nor dispatches
-pub still_looking : (s : Scenario) (hs coming front : List Happening) (now : ℕ) (device : DeviceId) (node : Node) → IsAtWork s hs coming now device node
-    → node.standing.state ≡ Integrating → ((z : Happening) → IsIn z front → time_of z ≡ now) → state_before s (hs ++ front) device now ≡ Integrating
-still_looking s hs coming front now device node w looking also =
-    ap (λ (l : List Happening). if is_turned_on_at s device now then Integrating else state_after s l device)
+pub still_looking : {s : Scenario} {hs coming : List Happening} (front : List Happening) {now : ℕ}
+    {device : DeviceId} {node : Node} → IsAtWork s hs coming now device node → node.standing.state ≡ Integrating
+    → ((z : Happening) → IsIn z front → time_of z ≡ now) → state_before s (hs ++ front) device now ≡ Integrating
+still_looking {s} {hs} {coming} front {now} {device} w looking also =
+    ap (λ l. if is_turned_on_at s device now then Integrating else state_after s l device)
     (all_earlier s hs front coming now also (λ z i. (w.of_now z i).0)) ∙ sym w.left.state ∙ looking

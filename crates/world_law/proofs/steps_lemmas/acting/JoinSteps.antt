@@ -4,7 +4,7 @@ use Rattle.world_law.proofs.{putting.{Placing.causes_given, PutShown.IsShownPair
 use Rattle.world_law.proofs.steps_lemmas.Words.{IsSource}
 use Rattle.world_law.proofs.steps_lemmas.Words.{◌++◌, ◌+◌, ◌<◌, ◌∙◌, ◌∷◌, ◌≡◌, ◌≤◌, ArePutIn, AsState, ComesFirst, Compressed, DeviceId, Emits, Happening}
 use Rattle.world_law.proofs.steps_lemmas.Words.{HasActed, HasCleared, HasTurnedOn, Integrating, IsActing, IsAtRest, IsBefore, IsDueNow, IsIn, IsSet}
-use Rattle.world_law.proofs.steps_lemmas.Words.{Joining, Judgement, List, Network, Node, Note, NoteBody, Scenario, Some, Stands, StandsBehind, World, []}
+use Rattle.world_law.proofs.steps_lemmas.Words.{Joining, Judgement, List, Network, Node, Note, Scenario, Some, Stands, StandsBehind, World, []}
 use Rattle.world_law.proofs.steps_lemmas.Words.{ap, arith, bears_on, behind, both_ways, cases_Bool, correcting}
 use Rattle.world_law.proofs.steps_lemmas.Words.{earlier, emitting, eq-eqb, false, frames_taken, happenings, in_left, in_parts, in_right, inl, inr}
 use Rattle.world_law.proofs.steps_lemmas.Words.{is_joined_by, is_turned_on_at, key, length, members_in, moment_of, ne_eqb}
@@ -46,14 +46,15 @@ no_correction s device now cycle h by adjustment rest e = from (subst (IsAtRest 
     from (inr on) = let bad : false ≡ true = on.0 in cc
 
 -- a change of state whose cause is given stands before that which the frame brings
-early_change : (n now : ℕ) (device : DeviceId) (z v : Happening) (c : ChangesIt device (now + 1) z) → time_of z ≡ now → c.cause ≤ n
-    → place_of v ≡ now ∷ 7 ∷ device.0 ∷ (n + 1) ∷ [] → IsBefore (place_of z) (place_of v)
-early_change n now device z v c at le place =
-    let here : place_of z ≡ now ∷ 7 ∷ device.0 ∷ c.cause ∷ [] = ap (λ (b : NoteBody). time_of z ∷ rank b ∷ key (members_in z) b) c.is
+early_change : (n now : ℕ) {device : DeviceId} {z : Happening} (v : Happening) (c : ChangesIt device (now + 1) z)
+    → time_of z ≡ now → c.cause ≤ n → place_of v ≡ now ∷ 7 ∷ device.0 ∷ (n + 1) ∷ []
+    → IsBefore (place_of z) (place_of v)
+early_change n now {device} {z} v c at le place =
+    let here : place_of z ≡ now ∷ 7 ∷ device.0 ∷ c.cause ∷ [] = ap (λ b. time_of z ∷ rank b ∷ key (members_in z) b) c.is
     ∙ ap (λ (k : ℕ). k ∷ 7 ∷ device.0 ∷ c.cause ∷ []) at in
     let lt : c.cause < n + 1 = omega (arith, le) in
-    subst (λ (p : List ℕ). IsBefore p (place_of v)) (sym here)
-    (subst (λ (p : List ℕ). IsBefore (now ∷ 7 ∷ device.0 ∷ c.cause ∷ []) p) (sym place) (inr (refl, inr (refl, inr (refl, inl lt)))))
+    subst (λ p. IsBefore p (place_of v)) (sym here)
+    (subst (λ p. IsBefore (now ∷ 7 ∷ device.0 ∷ c.cause ∷ []) p) (sym place) (inr (refl, inr (refl, inr (refl, inl lt)))))
 
 -- then it has done nothing yet
 none_done : (network : Network) (device : DeviceId) (node : Node) (moment : Moment) (sent : Compressed) (task : Task)
@@ -61,12 +62,13 @@ none_done : (network : Network) (device : DeviceId) (node : Node) (moment : Mome
 none_done network device node moment sent (emitting c) has = none_in c has
 none_done network device node moment sent (doing deed) has = none_in deed has
 
-pub join_goes_by : {C M : Type 0} (reading : C → ℕ → ℕ) (stands : M → Network → DeviceId → Node → Type 0) (s : Scenario) (world : World C M)
-    (notes : List Note) (old : Stands reading stands s world notes) (device : DeviceId) (machine after : M) (sent : Compressed) (machines : List M)
-    (settled : List Happening) → IsJoining reading stands s world notes old device machine after sent machines settled
+pub join_goes_by : {C M : Type 0} {reading : C → ℕ → ℕ} {stands : M → Network → DeviceId → Node → Type 0}
+    {s : Scenario} {world : World C M} {notes : List Note} {old : Stands reading stands s world notes}
+    {device : DeviceId} {machine after : M} {sent : Compressed} {machines : List M} {settled : List Happening}
+    → IsJoining reading stands s world notes old device machine after sent machines settled
     → StandsBehind reading stands s (record world { early = false; machines = machines; settled = settled }) notes
     (behind (world.now ∷ 4 ∷ emission_rest device sent))
-join_goes_by reading stands s world notes old device machine after sent machines settled x =
+join_goes_by {reading} {stands} {s} {world} {notes} {old} {device} {machine} {after} {sent} {settled} x =
     let hs = happenings s.network notes in
     let now = world.now in
     let stage = stage_of reading stands s world notes old device machine after (acts.Emit sent ripe.Integrates) x.of_it x.first x.apart x.there x.due x.acted in
@@ -88,8 +90,8 @@ join_goes_by reading stands s world notes old device machine after sent machines
     st.work.still h (in_right h hs world.settled i) (st.work.of_now h i).0 in
     let sole = causes_given st.moving (omega arith) in
     let q : IsShownPair s.network hs now body device Joining whys.Frame world.settled settled = subst
-    (λ (l : List Happening). IsShownPair s.network hs now body device Joining whys.Frame world.settled l) (sym x.put.2.2)
-    (two_shown s.network hs now body device Joining whys.Frame world.settled x.put.0 x.put.2.0 (omega arith) (omega arith)
+    (λ l. IsShownPair s.network hs now body device Joining whys.Frame world.settled l) (sym x.put.2.2)
+    (two_shown s.network hs now body device Joining whys.Frame (omega arith) (omega arith)
     (λ z i b. st.moving.after z i b) sole x.put.1 x.put.2.1) in
     let n = length hs in
     let w = record_of s.network hs [] now body in
@@ -99,21 +101,22 @@ join_goes_by reading stands s world notes old device machine after sent machines
     let parts = pair_parts hs world.settled q.front2 q.back2 w q.parts2 q.far in
     let put1 = as_put now w refl (omega arith) in
     let new1_now : (z : Happening) → IsIn z (q.front2 ++ q.back2) → time_of z ≡ now = λ z i.
-    (put_now s hs [] world.settled now device node w st.work put1 z (subst (λ (l : List Happening). IsIn z l) (sym q.parts2) i)).0 in
-    let e : Emits s (hs ++ []) device now sent judgements.Integrates = subst (λ (j : Judgement). Emits s (hs ++ []) device now sent j) v_is
-    (emits s hs world.settled [] world.settled now device node sent st.work refl first.pending first.due) in
+    (put_now s hs [] world.settled now device node st.work put1 z
+    (subst (λ l. IsIn z l) (sym q.parts2) i)).0 in
+    let e : Emits s (hs ++ []) device now sent judgements.Integrates = subst (λ j. Emits s (hs ++ []) device now sent j) v_is
+    (emits [] world.settled sent st.work refl first.pending first.due) in
     let lone_frame : (y : Happening) → IsIn y world.settled → (c : Compressed) (u : Judgement) → y.note.body ≡ emission_body device c u → ⊥ = λ y i c u same.
     let high = st.above y i in
     let four : rank y.note.body ≡ 4 = ap rank same in
     omega (arith, high, four) in
-    let in_mid : (z : Happening) → IsIn z parts.0 → IsIn z world.settled = λ z i. subst (λ (l : List Happening). IsIn z l) (sym parts.2)
+    let in_mid : (z : Happening) → IsIn z parts.0 → IsIn z world.settled = λ z i. subst (λ l. IsIn z l) (sym parts.2)
     (in_left z parts.0 q.back2 i) in
-    let in_rest : (z : Happening) → IsIn z q.back2 → IsIn z world.settled = λ z i. subst (λ (l : List Happening). IsIn z l) (sym parts.2)
+    let in_rest : (z : Happening) → IsIn z q.back2 → IsIn z world.settled = λ z i. subst (λ l. IsIn z l) (sym parts.2)
     (in_right z parts.0 q.back2 i) in
     let changes_it : (z : Happening) → IsIn z world.settled → bears_on device z.note.body ≡ true → ChangesIt device (now + 1) z = λ z i b.
     (bears_so s device now z (st.work.of_now z i).1 (st.work.of_now z i).0 (resting z i) (lone_frame z i) b).0 in
     let over : IsOver s (hs ++ new) now device act.0 = subst (λ (l : List Happening). IsOver s (hs ++ (l ++ v ∷ q.back2)) now device act.0) (sym parts.1)
-    (subst (λ (m : Node). IsOver s (hs ++ ((w ∷ parts.0) ++ v ∷ q.back2)) now device m) (sym is)
+    (subst (λ m. IsOver s (hs ++ ((w ∷ parts.0) ++ v ∷ q.back2)) now device m) (sym is)
     (joined_over s hs [] parts.0 q.back2 now device node w v sent (n + 1) moment st.work.left.counted.plan
     (st.work.left.counted.broken ∙ sym st.calm.broken) st.calm.off st.calm.falls refl refl refl refl refl refl
     (λ z i b. changes_it z (in_mid z i) b)
@@ -122,9 +125,11 @@ join_goes_by reading stands s world notes old device machine after sent machines
       | inl b ↦
           let c = changes_it z (in_rest z i) b in
           let it : AsState z.note.body = record { device = device; state = c.state; cause = c.cause; why = c.why; is = c.is } in
-          absurd (q.none2 z i (early_change n now device z v c (st.work.of_now z (in_rest z i)).0 (sole z (in_rest z i) it) refl))
+          absurd (q.none2 z i (early_change n now v c
+          (st.work.of_now z (in_rest z i)).0 (sole z (in_rest z i) it) refl))
     ]))) in
-    let ready = ready_after s device node act.0 now (acts.Emit sent ripe.Integrates) st.work.ready st.steady st.precise st.wide may act.1
+    let ready = ready_after s act.0 (acts.Emit sent ripe.Integrates) st.work.ready st.steady st.precise st.wide may
+    act.1
     (ap (λ (m : Node). m.last) is) in
     let cleared : HasCleared act.0 = subst HasCleared (sym is) (λ m there. absurd (none_in (correcting m) there)) in
     let new_now : (z : Happening) → IsIn z new → time_of z ≡ now = λ z i. elim (in_parts z q.front2 (v ∷ q.back2) i) [
@@ -132,19 +137,20 @@ join_goes_by reading stands s world notes old device machine after sent machines
       | inr (inl same) ↦ ap time_of same
       | inr (inr b) ↦ new1_now z (in_right z q.front2 q.back2 b)
     ] in
-    let there : IsIn w new = in_left w q.front2 (v ∷ q.back2) (subst (λ (l : List Happening). IsIn w l) (sym parts.1) (inl refl)) in
+    let there : IsIn w new = in_left w q.front2 (v ∷ q.back2) (subst (λ l. IsIn w l) (sym parts.1) (inl refl)) in
     let here = behind at in
     let none_w : (at : _) → Rattle.world_law.specs.device.Takings.taken_in device at w.note.body ≡ [] = λ at. refl in
     let earlier2 : earlier now (hs ++ (q.front2 ++ q.back2)) ≡ earlier now (hs ++ new) =
     all_earlier s hs (q.front2 ++ q.back2) new now new1_now new_now in
     let turned : is_turned_on_at s device now ≡ true → HasTurnedOn s hs new here device now = λ on.
     turned_aside s hs q.front2 q.back2 v device
-    (subst (λ (l : List Happening). HasTurnedOn s hs l here device now) q.parts2
+    (subst (λ l. HasTurnedOn s hs l here device now) q.parts2
     (turned_aside s hs [] world.settled w device
-    (turned_moves s hs world.settled old.mark old.cursor now 4 more device st.moving (st.turned on))
-    (ap (λ (l : List Happening). state_after s l device) (earlier_put s hs [] world.settled now device node w st.work put1))))
-    (ap (λ (l : List Happening). state_after s l device) earlier2) in
-    two_go_by reading stands s world notes old device machine after node machines settled body Joining whys.Frame 4 more st q x.first.room
+    (turned_moves s hs world.settled old.mark old.cursor now 4 more st.moving (st.turned on))
+    (ap (λ l. state_after s l device)
+    (earlier_put s hs [] world.settled now device node st.work put1))))
+    (ap (λ l. state_after s l device) earlier2) in
+    two_go_by old st q x.first.room
     (record {
       own = λ m. refl;
       here = IsSource.acting now device (emitting sent) (IsActing.emits sent judgements.Integrates e);
@@ -157,8 +163,9 @@ join_goes_by reading stands s world notes old device machine after sent machines
       changes = λ h there e2. (refl, (h, there, ap (is_joined_by device) e2 ∙ eq-eqb device.0 device.0 refl));
     })
     (all_one s hs new now 4 more w (omega arith) (omega arith) there refl)
-    (kept_over stands s hs new here now device after act.0 act.2 st.work.sound over ready cleared
-    (ap (λ (m : Node). m.taken) is ∙ taken_then stands s hs [] world.settled old.mark old.cursor now device machine node w 4 more st refl none_w
+    (kept_over stands {hs = hs} {new = new} {cursor = here} after act.2 st.work.sound over ready cleared
+    (ap (λ (m : Node). m.taken) is ∙ taken_then stands s hs [] world.settled old.mark old.cursor now device machine
+    node w st refl none_w
     ∙ ap (λ (l : List Happening). frames_taken s (hs ++ l) device) q.parts2
     ∙ frames_put s hs q.front2 q.back2 now v device
     (λ h i. elim (in_parts h hs (q.front2 ++ q.back2) i) [
@@ -167,11 +174,11 @@ join_goes_by reading stands s world notes old device machine after sent machines
     ]) refl (λ at. refl))
     (bare_act s.network device node moment (acts.Emit sent ripe.Integrates) act.0 act.1 st.bare)
     turned (ap (λ (m : Node). m.phase) is) st.calm.falls
-    (λ task has. absurd (none_done s.network device node moment sent task (subst (λ (m : Node). HasDoneTask m task) is has)))
+    (λ task has. absurd (none_done s.network device node moment sent task (subst (λ m. HasDoneTask m task) is has)))
     st.reach
     (inr (record {
-      looking = ap (λ (l : List Happening). state_before s l device now) (sym (append-nil hs))
-          ∙ still_looking s hs world.settled [] now device node st.work looking (λ z i. absurd i);
+      looking = ap (λ l. state_before s l device now) (sym (append-nil hs))
+          ∙ still_looking [] st.work looking (λ z i. absurd i);
       by = w;
       there = there;
       sent = refl;

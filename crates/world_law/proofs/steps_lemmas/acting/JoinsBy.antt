@@ -21,14 +21,15 @@ pub record ChangesIt (device : DeviceId) (u : ℕ) (h : Happening) : Type 0 wher
   pub before : time_of h < u
 
 -- such records tell nothing else of it
-counts_on : (s : Scenario) (js : List Happening) (device : DeviceId) (u : ℕ) (node : Node) (ks : List Happening)
-    → ((k : Happening) → IsIn k ks → ChangesIt device u k) → IsCounted s js device u node → IsCounted s (js ++ ks) device u node
-counts_on s js device u node ks =
+counts_on : {s : Scenario} {js : List Happening} {device : DeviceId} {u : ℕ} {node : Node} (ks : List Happening)
+    → ((k : Happening) → IsIn k ks → ChangesIt device u k) → IsCounted s js device u node
+    → IsCounted s (js ++ ks) device u node
+counts_on {s} {js} {device} {u} {node} ks =
     by_last (λ (l : List Happening). ((k : Happening) → IsIn k l → ChangesIt device u k) → IsCounted s js device u node → IsCounted s (js ++ l) device u node)
-    (λ all c. subst (λ (l : List Happening). IsCounted s l device u node) (sym (append-nil js)) c)
+    (λ all c. subst (λ l. IsCounted s l device u node) (sym (append-nil js)) c)
     (λ l k same all c.
     let it = all k (Rattle.run_law.proofs.runs.Places.in_right k l (k ∷ []) (inl refl)) in
-    subst (λ (m : List Happening). IsCounted s m device u node) (append_assoc js l (k ∷ []))
+    subst (λ m. IsCounted s m device u node) (append_assoc js l (k ∷ []))
     (change_counts s (js ++ l) device u node k it.state it.cause it.why it.is it.before
     (same (λ y i. all y (Rattle.run_law.proofs.runs.Places.in_left y l (k ∷ []) i)) c))) ks
 
@@ -76,31 +77,31 @@ joined_over s hs front mid rest now device node w f sent cause moment plan sound
     let u = now + 1 in
     let lone = with_joined node moment frame sent.at in
     let first : IsLeft s ((hs ++ front) ++ w ∷ []) device u lone =
-    joins s (hs ++ front) device u node w sent.opened sent.cycle sent.members sent.at frame moment
+    joins {s = s} (hs ++ front) {device = device} {u = u} node {h = w} {opened = sent.opened} {cycle = sent.cycle} {members = sent.members} {point = sent.at} {frame = frame} {moment = moment}
     (record {
       body = e;
       same_cycle = refl;
       of_frame = of_frame;
-      before = ap (λ (n : ℕ). n + 1) (sym at);
+      before = ap (λ n. n + 1) (sym at);
       reads = reads ∙ ap (λ (n : ℕ). pos (s.reading device n)) (sym at);
     }) later plan sound in
     let ks = borne device mid in
     let changes : (k : Happening) → IsIn k ks → ChangesIt device u k = λ k i.
     between k (in_filter (λ h. bears_on device h.note.body) mid k i) (kept mid k i) in
-    let counted = counts_on s ((hs ++ front) ++ w ∷ []) device u lone ks changes first.counted in
+    let counted = counts_on ks changes first.counted in
     let lt : time_of f < u = omega (arith, f_at) in
     let whole : IsLeft s ((((hs ++ front) ++ w ∷ []) ++ ks) ++ f ∷ []) device u lone =
     change_leaves s (((hs ++ front) ++ w ∷ []) ++ ks) device u lone f Joining cause whys.Frame fe (self device) lt later refl (λ cm. refl)
     (change_counts s (((hs ++ front) ++ w ∷ []) ++ ks) device u lone f Joining cause whys.Frame fe lt counted) in
     record {
-      left = emitted_left (left_called s (hs ++ (front ++ w ∷ (mid ++ f ∷ rest))) device u lone moment
-          (left_alike s ((((hs ++ front) ++ w ∷ []) ++ ks) ++ f ∷ []) (hs ++ (front ++ w ∷ (mid ++ f ∷ rest))) device u lone
+      left = emitted_left (left_called moment
+          (left_alike (hs ++ (front ++ w ∷ (mid ++ f ∷ rest)))
           (borne_joined hs front mid rest device w f none) whole));
       done = record {
         undone = λ deed un x from lt_x.
             let here = beyond_it _ _ _ _ refl un.ahead in
             let now_too = subst
-            (λ (z : ℤ). z <ℤ (value_of s.network deed -ℤ (node_emitted s.network device node moment sent judgements.Integrates).standing.adjustment.0))
+            (λ z. z <ℤ (value_of s.network deed -ℤ (node_emitted s.network device node moment sent judgements.Integrates).standing.adjustment.0))
             reads here in
             let fell = falls x now (omega (arith, lt_x)) in
             later_below _ (s.reading device now) (s.reading device x) now_too fell;
@@ -118,11 +119,11 @@ joined_over s hs front mid rest now device node w f sent cause moment plan sound
     kept : (xs : List Happening) (k : Happening) → IsIn k (borne device xs) → bears_on device k.note.body ≡ true
     kept [] k i = absurd i
     kept (x ∷ xs) k i = elim (cases_Bool (bears_on device x.note.body)) [
-      | inl yes_it ↦ elim (subst (λ (l : List Happening). IsIn k l) (ap (λ (b : Bool). if b then x ∷ borne device xs else borne device xs) yes_it) i) [
+      | inl yes_it ↦ elim (subst (λ l. IsIn k l) (ap (λ (b : Bool). if b then x ∷ borne device xs else borne device xs) yes_it) i) [
         | inl same ↦ ap (λ (h : Happening). bears_on device h.note.body) same ∙ yes_it
         | inr more ↦ kept xs k more
       ]
-      | inr not ↦ kept xs k (subst (λ (l : List Happening). IsIn k l) (ap (λ (b : Bool). if b then x ∷ borne device xs else borne device xs) not) i)
+      | inr not ↦ kept xs k (subst (λ l. IsIn k l) (ap (λ (b : Bool). if b then x ∷ borne device xs else borne device xs) not) i)
     ]
 
     emitted_left : IsLeft s (hs ++ (front ++ w ∷ (mid ++ f ∷ rest))) device (now + 1)

@@ -20,11 +20,14 @@ pub may_act_now : (s : Scenario) (device : DeviceId) (node : Node) (now : ℕ) �
     → IsSteady (s.reading device) (amount s.network.precision) → now ≤ 2 ^ 60 → MayCall s.network device node (moment_of s device now) acting
 may_act_now s device node now ready steady limit = grind (arith, whole, amount, ints, acting_last, reading_for)
 
-pub ready_after : (s : Scenario) (device : DeviceId) (node new : Node) (now : ℕ) (act : Act) → IsReadyAt (s.reading device) s.network device node now
-    → IsSteady (s.reading device) (amount s.network.precision) → pos 0 ≤ℤ s.network.precision.0 → s.network.precision.0 ≤ℤ pos (amount s.network.cycle)
-    → MayCall s.network device node (moment_of s device now) acting → IsActOf s.network device node (moment_of s device now) act new
-    → new.last ≡ moment_of s device now → IsReadyAt (s.reading device) s.network device new now
-ready_after s device node new now act ready steady precise wide may is last =
+pub ready_after : (s : Scenario) {device : DeviceId} {node : Node} (new : Node) {now : ℕ} (act : Act)
+    → IsReadyAt (s.reading device) s.network device node now
+    → IsSteady (s.reading device) (amount s.network.precision) → pos 0 ≤ℤ s.network.precision.0
+    → s.network.precision.0 ≤ℤ pos (amount s.network.cycle)
+    → MayCall s.network device node (moment_of s device now) acting
+    → IsActOf s.network device node (moment_of s device now) act new → new.last ≡ moment_of s device now
+    → IsReadyAt (s.reading device) s.network device new now
+ready_after s {device} {node} new {now} act ready steady precise wide may is last =
     let carried = acted s.network device node (moment_of s device now) act new may wide is in
     let time : new.last.time.0 ≡ pos now = ap (λ (m : Moment). m.time.0) last in
     record {
@@ -33,12 +36,12 @@ ready_after s device node new now act ready steady precise wide may is last =
       last = ap (λ (m : Moment). m.reading.0) last ∙ ap (λ (n : ℕ). pos (s.reading device n)) (sym (ap unsigned_abs time));
       undone = λ task p x lt.
           elim (carried task p) [
-            | inl old ↦ subst (λ (z : ℤ). pos (s.reading device x) <ℤ z) (sym old.1) (ready.undone task old.0 x lt)
+            | inl old ↦ subst (λ z. pos (s.reading device x) <ℤ z) (sym old.1) (ready.undone task old.0 x lt)
             | inr far ↦ let fell = steady.never_falls x now (omega (arith, lt)) in omega (arith, ints, far, fell)
           ];
       in_time = λ task p.
           elim (carried task p) [
-            | inl old ↦ subst (λ (z : ℤ). pos (s.reading device now) <ℤ (z +ℤ s.network.precision.0)) (sym old.1) (ready.in_time task old.0)
+            | inl old ↦ subst (λ z. pos (s.reading device now) <ℤ (z +ℤ s.network.precision.0)) (sym old.1) (ready.in_time task old.0)
             | inr far ↦ omega (arith, ints, far, precise)
           ];
     }
@@ -55,16 +58,16 @@ pub frames_put : (s : Scenario) (hs front back : List Happening) (now : ℕ) (w 
 frames_put s hs front back now w device past at takes =
     let old = (hs ++ front) ++ back in
     let mid = (hs ++ front) ++ w ∷ back in
-    ap (λ (l : List Happening). frames_taken s l device) (sym (append_assoc hs front back))
+    ap (λ l. frames_taken s l device) (sym (append_assoc hs front back))
     ∙ taken_same device (local_before s old device) (local_before s mid device) old
-    (λ h i. let early = past h (subst (λ (l : List Happening). IsIn h l) (append_assoc hs front back) i) in
-    ap (λ (l : List Happening). pos (s.reading device (time_of h)) +ℤ (adjustment_after s l device).0)
+    (λ h i. let early = past h (subst (λ l. IsIn h l) (append_assoc hs front back) i) in
+    ap (λ l. pos (s.reading device (time_of h)) +ℤ (adjustment_after s l device).0)
     (sym (earlier_same (time_of h) (hs ++ front) back w (omega (arith, early, at)))))
     ∙ taken_parts device (local_before s mid device) (hs ++ front) back
     ∙ ap (λ (l : List TakenFrame). taken_by device (local_before s mid device) (hs ++ front) ++ (l ++ taken_by device (local_before s mid device) back))
     (sym (takes (local_before s mid device (time_of w))))
     ∙ sym (taken_parts device (local_before s mid device) (hs ++ front) (w ∷ back))
-    ∙ ap (λ (l : List Happening). frames_taken s l device) (append_assoc hs front (w ∷ back))
+    ∙ ap (λ l. frames_taken s l device) (append_assoc hs front (w ∷ back))
 
 -- ---- where it is no compression master
 
@@ -93,12 +96,13 @@ no_step : (now : ℕ) → now ≡ now + 1 → ⊥
 no_step now e = omega (arith, e)
 
 -- where it has done so by the times, and what it has done at the instant is before the frontier
-pub to_worked : (s : Scenario) (device : DeviceId) (node : Node) (changed up now : ℕ) (frontier : List ℕ)
-    → HasDoneFrom s.network (s.reading device) device node changed up (now + 1) → HasSentFrom s device node up (now + 1)
-    → ((task : Task) → HasDoneTask node task → HadComeTo s device node changed now task ⊎ IsBefore (task_place s.network now device task) frontier)
-    → changed ≤ now → ((x y : ℕ) → x ≤ y → s.reading device x ≤ s.reading device y) → IsBefore (act_place now device) frontier
-    → HasWorkedTo s device node changed up frontier
-to_worked s device node changed up now frontier done sent worked le falls past =
+pub to_worked : {s : Scenario} {device : DeviceId} {node : Node} {changed up : ℕ} (now : ℕ) (frontier : List ℕ)
+    → HasDoneFrom s.network (s.reading device) device node changed up (now + 1)
+    → HasSentFrom s device node up (now + 1) → ((task : Task) → HasDoneTask node task
+    → HadComeTo s device node changed now task ⊎ IsBefore (task_place s.network now device task) frontier)
+    → changed ≤ now → ((x y : ℕ) → x ≤ y → s.reading device x ≤ s.reading device y)
+    → IsBefore (act_place now device) frontier → HasWorkedTo s device node changed up frontier
+to_worked {s} {device} now frontier done sent worked le falls past =
     let over : (x : ℕ) (task : Task) → x < now → IsBefore (task_place s.network x device task) frontier = λ x task lt.
     chain (task_place s.network x device task) (act_place now device) frontier (inl lt) past in
     record {
@@ -129,34 +133,35 @@ acted_phase node device now cursor phase past p b =
     (subst (λ (f : _). IsBefore p (now ∷ Rattle.world_law.specs.world.World.rank_of_call f ∷ [])) phase b) (inr (refl, inr (refl, tt)))) past
 
 -- while the instant is not over for it
-pub kept_on : {M : Type 0} (stands : M → Network → DeviceId → Node → Type 0) (s : Scenario) (hs new : List Happening) (cursor : List ℕ) (now : ℕ)
-    (device : DeviceId) (machine : M) (after : Node) → stands machine s.network device after → IsAtWork s hs new now device after
-    → HasCleared after → after.taken ≡ frames_taken s (hs ++ new) device
-    → IsBare s.network device after
-    → (is_turned_on_at s device now ≡ true → HasTurnedOn s hs new cursor device now) → after.phase ≡ acting → IsBefore (act_place now device) cursor
-    → ((x y : ℕ) → x ≤ y → s.reading device x ≤ s.reading device y)
-    → ((task : Task) → IsBefore (task_place s.network now device task) cursor → IsActing s hs now device task → HasDoneTask after task)
-    → ((task : Task) → HasDoneTask after task
-    → HadComeTo s device after (changed_at (hs ++ new) device now) now task ⊎ IsBefore (task_place s.network now device task) cursor)
-    → IsKept stands s hs new cursor now device machine
-kept_on stands s hs new cursor now device machine after is work cleared taken bare turned phase past falls did worked = record {
-  node = after;
-  is = is;
-  sound = work.sound;
-  up = now;
-  acted = inl (refl, did);
-  told = λ over. absurd (no_step now over);
-  left = work.left;
-  taken = taken;
-  bare = bare;
-  worked = to_worked s device after (changed_at (hs ++ new) device now) now now cursor work.done work.sent worked (changed_before (hs ++ new) device now) falls
-      past;
-  ready = work.ready;
-  still = λ same. work.still;
-  turned = turned;
-  cleared = cleared;
-  phase = λ at. acted_phase after device now cursor phase past;
-}
+pub kept_on : {M : Type 0} (stands : M → Network → DeviceId → Node → Type 0) {s : Scenario} {hs new : List Happening}
+    (cursor : List ℕ) {now : ℕ} {device : DeviceId} (machine : M) {after : Node}
+    → stands machine s.network device after → IsAtWork s hs new now device after → HasCleared after
+    → after.taken ≡ frames_taken s (hs ++ new) device → IsBare s.network device after
+    → (is_turned_on_at s device now ≡ true → HasTurnedOn s hs new cursor device now) → after.phase ≡ acting
+    → IsBefore (act_place now device) cursor → ((x y : ℕ) → x ≤ y → s.reading device x ≤ s.reading device y)
+    → ((task : Task) → IsBefore (task_place s.network now device task) cursor → IsActing s hs now device task
+    → HasDoneTask after task) → ((task : Task) → HasDoneTask after task
+    → HadComeTo s device after (changed_at (hs ++ new) device now) now task
+    ⊎ IsBefore (task_place s.network now device task) cursor) → IsKept stands s hs new cursor now device machine
+kept_on stands {hs} {new} cursor {now} {device} machine {after} is work cleared taken bare turned phase past falls
+    did worked = record {
+      node = after;
+      is = is;
+      sound = work.sound;
+      up = now;
+      acted = inl (refl, did);
+      told = λ over. absurd (no_step now over);
+      left = work.left;
+      taken = taken;
+      bare = bare;
+      worked = to_worked now cursor work.done work.sent worked (changed_before (hs ++ new) device now) falls
+          past;
+      ready = work.ready;
+      still = λ same. work.still;
+      turned = turned;
+      cleared = cleared;
+      phase = λ at. acted_phase after device now cursor phase past;
+    }
 
 -- no row of it is dispatched at the instant
 abbrev pub NoneDispatched : Scenario → List Happening → ℕ → DeviceId → Type 0
@@ -175,34 +180,35 @@ out_by_acts s hs now device none = record { past = inr (refl, inl (omega arith))
     all_of task (IsActing.corrects cycle c) = before_behind (rows_place now device)
     all_of task (IsActing.dispatches link cause vl cycle d) =
         absurd (none [] (λ z i. absurd i) link cause vl cycle
-        (subst (λ (l : List Happening). Dispatches s l device now link cause vl cycle) (sym (append-nil hs)) d))
+        (subst (λ l. Dispatches s l device now link cause vl cycle) (sym (append-nil hs)) d))
 
 -- and where it is over: its acts are worked off, or its own frame tells it the time
-pub kept_over : {M : Type 0} (stands : M → Network → DeviceId → Node → Type 0) (s : Scenario) (hs new : List Happening) (cursor : List ℕ) (now : ℕ)
-    (device : DeviceId) (machine : M) (after : Node) → stands machine s.network device after → is_broken s device now ≡ false
-    → IsOver s (hs ++ new) now device after → IsReadyAt (s.reading device) s.network device after now → HasCleared after
+pub kept_over : {M : Type 0} (stands : M → Network → DeviceId → Node → Type 0) {s : Scenario}
+    {hs new : List Happening} {cursor : List ℕ} {now : ℕ} {device : DeviceId} (machine : M) {after : Node}
+    → stands machine s.network device after → is_broken s device now ≡ false → IsOver s (hs ++ new) now device after
+    → IsReadyAt (s.reading device) s.network device after now → HasCleared after
     → after.taken ≡ frames_taken s (hs ++ new) device → IsBare s.network device after
-    → (is_turned_on_at s device now ≡ true → HasTurnedOn s hs new cursor device now)
-    → after.phase ≡ acting → ((x y : ℕ) → x ≤ y → s.reading device x ≤ s.reading device y)
-    → ((task : Task) → HasDoneTask after task
-    → HadComeTo s device after (changed_at (hs ++ new) device (now + 1)) now task ⊎ IsBefore (task_place s.network now device task) cursor)
+    → (is_turned_on_at s device now ≡ true → HasTurnedOn s hs new cursor device now) → after.phase ≡ acting
+    → ((x y : ℕ) → x ≤ y → s.reading device x ≤ s.reading device y)
+    → ((task : Task) → HasDoneTask after task → HadComeTo s device after (changed_at (hs
+    ++ new) device (now + 1)) now task ⊎ IsBefore (task_place s.network now device task) cursor)
     → IsBefore (act_place now device) cursor → IsActedOut s hs now device cursor ⊎ IsJoiningNow s hs new device now
     → IsKept stands s hs new cursor now device machine
-kept_over stands s hs new cursor now device machine after is sound over ready cleared taken bare turned phase falls worked past out = record {
-  node = after;
-  is = is;
-  sound = sound;
-  up = now + 1;
-  acted = inr (refl, λ p b. chain p (act_place now device) cursor (chain p (now ∷ 3 ∷ []) (act_place now device) b (inr (refl, inl (omega arith)))) past);
-  told = λ same. elim out [ inl all ↦ inl all | inr joining ↦ inr (inr joining) ];
-  left = over.left;
-  taken = taken;
-  worked = to_worked s device after (changed_at (hs ++ new) device (now + 1)) (now + 1) now cursor over.done over.sent worked
-      (changed_soon (hs ++ new) device now) falls past;
-  bare = bare;
-  ready = ready;
-  still = λ same. absurd (no_step now (sym same));
-  turned = turned;
-  cleared = cleared;
-  phase = λ at. acted_phase after device now cursor phase past;
-}
+kept_over stands {hs} {new} {cursor} {now} {device} machine {after} is sound over ready cleared taken bare turned
+    phase falls worked past out = record {
+      node = after;
+      is = is;
+      sound = sound;
+      up = now + 1;
+      acted = inr (refl, λ p b. chain p (act_place now device) cursor (chain p (now ∷ 3 ∷ []) (act_place now device) b (inr (refl, inl (omega arith)))) past);
+      told = λ same. elim out [ inl all ↦ inl all | inr joining ↦ inr (inr joining) ];
+      left = over.left;
+      taken = taken;
+      worked = to_worked now cursor over.done over.sent worked (changed_soon (hs ++ new) device now) falls past;
+      bare = bare;
+      ready = ready;
+      still = λ same. absurd (no_step now (sym same));
+      turned = turned;
+      cleared = cleared;
+      phase = λ at. acted_phase after device now cursor phase past;
+    }

@@ -4,8 +4,8 @@ use Rattle.{run_law.specs.declared.judgement.Judgement.TheVariants.Integrates, t
 use Rattle.{sync_state.specs.Integration.joined_by, world_law.specs.device.{Left.IsCounted, Told.change_in}}
 use Rattle.world_law.proofs.{lists.Lists.map_none, steps_lemmas.{Words.{sym, time_of, true, with_clique, with_joined, ℕ, ℤ}, ripening.Judged.not_yet}}
 use Rattle.world_law.proofs.steps_lemmas.Words.{◌&&◌, ◌++◌, ◌+ℤ◌, ◌+◌, ◌-◌, ◌<◌, ◌==◌, ◌||◌, ◌∙◌, ◌∷◌, ◌≡◌, ◌≤◌, Bool, DeviceId, Happening, Hearing, IfSome}
-use Rattle.world_law.proofs.steps_lemmas.Words.{Integrating, IsLeft, Joining, List, Members, Moment, Node, None, NoteBody, Option, Pcf, Scenario, Some, State}
-use Rattle.world_law.proofs.steps_lemmas.Words.{Summary, SyncPlan, Synchronised, Units, Verdict, Why, [], adjustment_after, adjustment_by, adjustment_with}
+use Rattle.world_law.proofs.steps_lemmas.Words.{Integrating, IsLeft, Joining, List, Members, Moment, Node, None, Option, Pcf, Scenario, Some, State}
+use Rattle.world_law.proofs.steps_lemmas.Words.{Summary, Synchronised, Units, Verdict, Why, [], adjustment_after, adjustment_by, adjustment_with}
 use Rattle.world_law.proofs.steps_lemmas.Words.{after_last, and_right, ap, append-nil, arith, behind_no, behind_yes, both_ways, changes_adjustment, cleared_in}
 use Rattle.world_law.proofs.steps_lemmas.Words.{correction_value, cycle_after, cycle_in, earlier, ends_stretch, false, filter, filter-append, filter_map}
 use Rattle.world_law.proofs.steps_lemmas.Words.{filter_no, filter_yes, fold, fold-append, heard_since, hearing_by, if◌then◌else◌, int_le, int_lt}
@@ -62,24 +62,25 @@ started_on : (o : Option ℕ) (least cycle : ℕ) → least ≤ cycle → IfSome
 started_on None least cycle le h = h
 started_on (Some c) least cycle le h = omega (arith, h, le)
 
-state_corrected : (s : Scenario) (device : DeviceId) (w : List Happening) (h : Happening) (cycle : ℕ) (by adjustment : Units)
-    → h.note.body ≡ notes.Corrected device cycle by adjustment → state_after s (w ++ h ∷ []) device ≡ state_after s w device
-state_corrected s device w h cycle by adjustment e =
-    fold_more (λ state g. state_with device state g.note.body) _ w h ∙ ap (state_with device (state_after s w device)) e
+module _ (s : Scenario) (device : DeviceId) (w : List Happening) (h : Happening) (cycle : ℕ) (by adjustment : Units)
+    (e : h.note.body ≡ notes.Corrected device cycle by adjustment) where
+  state_corrected : state_after s (w ++ h ∷ []) device ≡ state_after s w device
+  state_corrected =
+      fold_more (λ state g. state_with device state g.note.body) _ w h ∙ ap
+      (state_with device (state_after s w device)) e
 
-adjustment_corrected : (s : Scenario) (device : DeviceId) (w : List Happening) (h : Happening) (cycle : ℕ) (by adjustment : Units)
-    → h.note.body ≡ notes.Corrected device cycle by adjustment → adjustment_after s (w ++ h ∷ []) device ≡ adjustment
-adjustment_corrected s device w h cycle by adjustment e = grind (arith, fold_more, adjustment_with, cycle_in, adjustment_after, self)
+  adjustment_corrected : adjustment_after s (w ++ h ∷ []) device ≡ adjustment
+  adjustment_corrected = grind (arith, fold_more, adjustment_with, cycle_in, adjustment_after, self)
 
-integration_corrected : (device : DeviceId) (w : List Happening) (h : Happening) (cycle : ℕ) (by adjustment : Units)
-    → h.note.body ≡ notes.Corrected device cycle by adjustment → integration_cycle (w ++ h ∷ []) device ≡ integration_cycle w device
-integration_corrected device w h cycle by adjustment e =
-    fold_more (λ last g. if is_joined_by device g.note.body then Some (cycle_in g) else last) None w h
-    ∙ ap (λ (b : NoteBody). if is_joined_by device b then Some (cycle_in h) else integration_cycle w device) e
+module _ (device : DeviceId) (w : List Happening) (h : Happening) (cycle : ℕ) (by adjustment : Units)
+    (e : h.note.body ≡ notes.Corrected device cycle by adjustment) where
+  integration_corrected : integration_cycle (w ++ h ∷ []) device ≡ integration_cycle w device
+  integration_corrected =
+      fold_more (λ last g. if is_joined_by device g.note.body then Some (cycle_in g) else last) None w h
+      ∙ ap (λ b. if is_joined_by device b then Some (cycle_in h) else integration_cycle w device) e
 
-cycle_corrected : (device : DeviceId) (w : List Happening) (h : Happening) (cycle : ℕ) (by adjustment : Units)
-    → h.note.body ≡ notes.Corrected device cycle by adjustment → recorded_cycle (w ++ h ∷ []) device ≡ cycle + 1
-cycle_corrected device w h cycle by adjustment e = grind (arith, fold_more, cycle_after, recorded_cycle, self)
+  cycle_corrected : recorded_cycle (w ++ h ∷ []) device ≡ cycle + 1
+  cycle_corrected = grind (arith, fold_more, cycle_after, recorded_cycle, self)
 
 change_corrected : (device : DeviceId) (h : Happening) (cycle : ℕ) (by adjustment : Units) → h.note.body ≡ notes.Corrected device cycle by adjustment
     → changes_adjustment device h.note.body ≡ true
@@ -95,58 +96,65 @@ pub record IsCorrectedSo (s : Scenario) (device : DeviceId) (u : ℕ) (node : No
   pub sum : (node.standing.adjustment.0 +ℤ by.0) ≡ adjustment.0
   pub reads : moment.reading.0 ≡ pos (s.reading device (time_of h))
 
-pub corrected_counts : (s : Scenario) (hs : List Happening) (device : DeviceId) (u : ℕ) (node : Node) (h : Happening) (cycle : ℕ) (by adjustment : Units)
-    (moment : Moment) (heard : Summary) → IsCorrectedSo s device u node h cycle by adjustment moment → IsBase s hs device u node
-    → IsCounted s (hs ++ h ∷ []) device u (with_corrected node moment heard by)
-corrected_counts s hs device u node h cycle by adjustment moment heard so left =
-    let w = earlier u hs in
-    let more = one_earlier u hs h so.before in
-    let e = so.body in
-    let changes = change_corrected device h cycle by adjustment e in
-    let recorded = cycle_corrected device w h cycle by adjustment e in
-    let integration = integration_corrected device w h cycle by adjustment e in
-    let adjusted = adjustment_corrected s device w h cycle by adjustment e in
-    let least : recorded_cycle w device ≤ cycle = omega (arith, left.least so.timed, so.number) in
-    let other : is_integration_cycle (w ++ h ∷ []) device ≡ false =
-    grind (arith, option_map_or, recorded_cycle, w, integration, integration_cycle, recorded, beyond, least) in
-    let none : cleared_in s device (w ++ h ∷ []) u ≡ false =
-    grind (arith, int_lt, local_in, w, correction_value, recorded_cycle, int_le, adjustment_after, other) in
-    let next : next_in s device (w ++ h ∷ []) u ≡ cycle + 1 =
-    ap (λ (b : Bool). if b then recorded_cycle (w ++ h ∷ []) device + 1 else recorded_cycle (w ++ h ∷ []) device) none ∙ recorded in
-    let local : local_in s device (w ++ h ∷ []) ≡ (pos (s.reading device (time_of h)) +ℤ adjustment.0) =
-    ap (λ (n : ℕ). pos (s.reading device n) +ℤ (adjustment_after s (w ++ h ∷ []) device).0) (changed_by device w h changes)
-    ∙ ap (λ (a : Units). pos (s.reading device (time_of h)) +ℤ a.0) adjusted in
-    record {
-      plan = left.plan;
-      adjustment = same_units _ adjustment so.sum ∙ sym adjusted ∙ ap (λ (l : List Happening). adjustment_after s l device) (sym more);
-      integrated = left.integrated ∙ sym integration ∙ ap (λ (l : List Happening). integration_cycle l device) (sym more);
-      number = λ timed. ap (λ (n : ℕ). n + 1) so.number ∙ sym next ∙ ap (λ (l : List Happening). next_in s device l u) (sym more);
-      changed = grind (arith, time_of, local, local_in, more);
-      heard = λ timed. sym (heard_anew s hs device u h so.before changes);
-      started = grind (arith, integration_cycle, recorded_cycle, more, w, recorded, integration, started_on, least);
-      broken = left.broken;
-    }
+module _ (s : Scenario) (hs : List Happening) (device : DeviceId) (u : ℕ) (node : Node) (h : Happening) (cycle : ℕ)
+    (by adjustment : Units) (moment : Moment) (heard : Summary) where
+  pub corrected_counts : IsCorrectedSo s device u node h cycle by adjustment moment → IsBase s hs device u node
+      → IsCounted s (hs ++ h ∷ []) device u (with_corrected node moment heard by)
+  corrected_counts so left =
+      let w = earlier u hs in
+      let more = one_earlier u hs h so.before in
+      let e = so.body in
+      let changes = change_corrected device h cycle by adjustment e in
+      let recorded = cycle_corrected device w h cycle by adjustment e in
+      let integration = integration_corrected device w h cycle by adjustment e in
+      let adjusted = adjustment_corrected s device w h cycle by adjustment e in
+      let least : recorded_cycle w device ≤ cycle = omega (arith, left.least so.timed, so.number) in
+      let other : is_integration_cycle (w ++ h ∷ []) device ≡ false =
+      grind (arith, option_map_or, recorded_cycle, w, integration, integration_cycle, recorded, beyond, least) in
+      let none : cleared_in s device (w ++ h ∷ []) u ≡ false =
+      grind (arith, int_lt, local_in, w, correction_value, recorded_cycle, int_le, adjustment_after, other) in
+      let next : next_in s device (w ++ h ∷ []) u ≡ cycle + 1 =
+      ap (λ (b : Bool). if b then recorded_cycle (w ++ h ∷ []) device + 1 else recorded_cycle (w ++ h ∷ []) device)
+      none ∙ recorded in
+      let local : local_in s device (w ++ h ∷ []) ≡ (pos (s.reading device (time_of h)) +ℤ adjustment.0) =
+      ap (λ (n : ℕ). pos (s.reading device n) +ℤ (adjustment_after s (w ++ h ∷ []) device).0)
+      (changed_by device w h changes)
+      ∙ ap (λ (a : Units). pos (s.reading device (time_of h)) +ℤ a.0) adjusted in
+      record {
+        plan = left.plan;
+        adjustment = same_units _ adjustment so.sum ∙ sym adjusted ∙ ap
+            (λ l. adjustment_after s l device) (sym more);
+        integrated =
+            left.integrated ∙ sym integration ∙ ap (λ l. integration_cycle l device) (sym more);
+        number = λ timed. ap (λ n. n + 1) so.number ∙ sym next ∙ ap
+            (λ l. next_in s device l u) (sym more);
+        changed = grind (arith, time_of, local, local_in, more);
+        heard = λ timed. sym (heard_anew s hs device u h so.before changes);
+        started = grind (arith, integration_cycle, recorded_cycle, more, w, recorded, integration, started_on, least);
+        broken = left.broken;
+      }
 
--- a synchronised device that has corrected its clock stands as the records leave it
-pub corrects : (s : Scenario) (hs : List Happening) (device : DeviceId) (u : ℕ) (node : Node) (h : Happening) (cycle : ℕ) (by adjustment : Units)
-    (moment : Moment) (heard : Summary)
-    → IsCorrectedSo s device u node h cycle by adjustment moment → node.standing.state ≡ Synchronised → is_turned_on_at s device u ≡ false
-    → IsBase s hs device u node → IsLeft s (hs ++ h ∷ []) device u (with_corrected node moment heard by)
-corrects s hs device u node h cycle by adjustment moment heard so synchronised off left =
-    let e = so.body in
-    record {
-      counted = corrected_counts s hs device u node h cycle by adjustment moment heard so left;
-      state =
-          sym synchronised ∙ left.state
-          ∙ sym (state_corrected s device (earlier u hs) h cycle by adjustment e)
-          ∙ ap (λ (l : List Happening). state_after s l device) (sym (one_earlier u hs h so.before))
-          ∙ sym (not_turned_on s (hs ++ h ∷ []) device u off);
-      points = λ cm.
-          ap (λ (x : State). if is_synchronised x then node.points else []) synchronised
-          ∙ left.points cm
-          ∙ sym (map_none (λ g. point_by device g g.note.body) (after_last (λ g. ends_stretch device g.note.body) hs) h (ap (point_by device h) e))
-          ∙ sym (ap (filter_map (λ g. point_by device g g.note.body)) (behind_no (λ g. ends_stretch device g.note.body) hs h (ap (ends_stretch device) e)));
-    }
+  -- a synchronised device that has corrected its clock stands as the records leave it
+  pub corrects : IsCorrectedSo s device u node h cycle by adjustment moment → node.standing.state ≡ Synchronised
+      → is_turned_on_at s device u ≡ false → IsBase s hs device u node
+      → IsLeft s (hs ++ h ∷ []) device u (with_corrected node moment heard by)
+  corrects so synchronised off left =
+      let e = so.body in
+      record {
+        counted = corrected_counts so left;
+        state =
+            sym synchronised ∙ left.state
+            ∙ sym (state_corrected s device (earlier u hs) h cycle by adjustment e)
+            ∙ ap (λ l. state_after s l device) (sym (one_earlier u hs h so.before))
+            ∙ sym (not_turned_on s (hs ++ h ∷ []) device u off);
+        points = λ cm.
+            ap (λ x. if is_synchronised x then node.points else []) synchronised
+            ∙ left.points cm
+            ∙ sym (map_none (λ g. point_by device g g.note.body)
+            (after_last (λ g. ends_stretch device g.note.body) hs) h (ap (point_by device h) e))
+            ∙ sym (ap (filter_map (λ g. point_by device g g.note.body))
+            (behind_no (λ g. ends_stretch device g.note.body) hs h (ap (ends_stretch device) e)));
+      }
 
 -- ---- a change of state
 
@@ -177,76 +185,93 @@ heard_none : (s : Scenario) (device : DeviceId) (w since : List Happening) (u : 
     → heard_in s device w u (since ++ h ∷ []) ≡ heard_in s device w u since
 heard_none s device w since u h none = grind (arith, filter_map, hearing_by, filter-append, not, cleared_in, time_of, heard_none_by, filter)
 
--- all but its state and its points is told by the other records
-pub change_counts : (s : Scenario) (hs : List Happening) (device : DeviceId) (u : ℕ) (node : Node) (h : Happening) (state : State) (cause : ℕ) (why : Why)
-    → h.note.body ≡ notes.State device state cause why → time_of h < u → IsCounted s hs device u node → IsCounted s (hs ++ h ∷ []) device u node
-change_counts s hs device u node h state cause why e lt left =
-    let w = earlier u hs in
-    let more = one_earlier u hs h lt in
-    let adjusted : adjustment_after s (w ++ h ∷ []) device ≡ adjustment_after s w device =
-    fold_more (λ old g. adjustment_with s device (cycle_in g) old g.note.body) _ w h ∙ ap (adjustment_with s device (cycle_in h) (adjustment_after s w device))
-    e in
-    let integration : integration_cycle (w ++ h ∷ []) device ≡ integration_cycle w device =
-    fold_more (λ last g. if is_joined_by device g.note.body then Some (cycle_in g) else last) None w h
-    ∙ ap (λ (b : NoteBody). if is_joined_by device b then Some (cycle_in h) else integration_cycle w device) e in
-    let recorded : recorded_cycle (w ++ h ∷ []) device ≡ recorded_cycle w device =
-    fold_more (λ next g. cycle_after device next g g.note.body) 1 w h ∙ ap (cycle_after device (recorded_cycle w device) h) e in
-    let changed : change_in device (w ++ h ∷ []) ≡ change_in device w = ap (λ (l : List Happening). option_map_or time_of (last_or None l) 0)
-    (filter_no (λ g. changes_adjustment device g.note.body) w h (ap (changes_adjustment device) e)) in
-    let told = told_by s device w h integration recorded changed adjusted in
-    let late : (nat_lt (time_of h) u && changes_adjustment device h.note.body) ≡ false = and_right _ _ (ap (changes_adjustment device) e) in
-    record {
-      plan = left.plan;
-      adjustment = left.adjustment ∙ sym adjusted ∙ ap (λ (l : List Happening). adjustment_after s l device) (sym more);
-      integrated = left.integrated ∙ sym integration ∙ ap (λ (l : List Happening). integration_cycle l device) (sym more);
-      number = λ timed. left.number timed ∙ sym (told.next u) ∙ ap (λ (l : List Happening). next_in s device l u) (sym more);
-      changed = left.changed ∙ sym told.local ∙ ap (local_in s device) (sym more);
-      heard = λ timed.
-          left.heard timed
-          ∙ sym (told.heard u (since_at device u hs))
-          ∙ ap (λ (l : List Happening). heard_in s device l u (since_at device u hs)) (sym more)
-          ∙ sym (heard_none s device (earlier u (hs ++ h ∷ [])) (since_at device u hs) u h (ap (hearing_by s.network device h) e))
-          ∙ sym (ap (heard_in s device (earlier u (hs ++ h ∷ [])) u) (behind_no (λ g. nat_lt (time_of g) u && changes_adjustment device g.note.body) hs h
-          late));
-      started = grind (arith, integration_cycle, recorded_cycle, more, w, recorded, integration);
-      broken = left.broken;
-    }
+module _ (s : Scenario) (hs : List Happening) (device : DeviceId) (u : ℕ) (node : Node) (h : Happening)
+    (state : State) (cause : ℕ) (why : Why) (e : h.note.body ≡ notes.State device state cause why) where
+  -- all but its state and its points is told by the other records
+  pub change_counts : time_of h < u → IsCounted s hs device u node → IsCounted s (hs ++ h ∷ []) device u node
+  change_counts lt left =
+      let w = earlier u hs in
+      let more = one_earlier u hs h lt in
+      let adjusted : adjustment_after s (w ++ h ∷ []) device ≡ adjustment_after s w device =
+      fold_more (λ old g. adjustment_with s device (cycle_in g) old g.note.body) _ w h ∙ ap
+      (adjustment_with s device (cycle_in h) (adjustment_after s w device))
+      e in
+      let integration : integration_cycle (w ++ h ∷ []) device ≡ integration_cycle w device =
+      fold_more (λ last g. if is_joined_by device g.note.body then Some (cycle_in g) else last) None w h
+      ∙ ap (λ b. if is_joined_by device b then Some (cycle_in h) else integration_cycle w device) e in
+      let recorded : recorded_cycle (w ++ h ∷ []) device ≡ recorded_cycle w device =
+      fold_more (λ next g. cycle_after device next g g.note.body) 1 w h ∙ ap
+      (cycle_after device (recorded_cycle w device) h) e in
+      let changed : change_in device (w ++ h ∷ []) ≡ change_in device w =
+      ap (λ (l : List Happening). option_map_or time_of (last_or None l) 0)
+      (filter_no (λ g. changes_adjustment device g.note.body) w h (ap (changes_adjustment device) e)) in
+      let told = told_by s device w h integration recorded changed adjusted in
+      let late : (nat_lt (time_of h) u && changes_adjustment device h.note.body) ≡ false =
+      and_right _ _ (ap (changes_adjustment device) e) in
+      record {
+        plan = left.plan;
+        adjustment =
+            left.adjustment ∙ sym adjusted ∙ ap (λ l. adjustment_after s l device) (sym more);
+        integrated =
+            left.integrated ∙ sym integration ∙ ap (λ l. integration_cycle l device) (sym more);
+        number = λ timed. left.number timed ∙ sym (told.next u) ∙ ap (λ l. next_in s device l u)
+            (sym more);
+        changed = left.changed ∙ sym told.local ∙ ap (local_in s device) (sym more);
+        heard = λ timed.
+            left.heard timed
+            ∙ sym (told.heard u (since_at device u hs))
+            ∙ ap (λ l. heard_in s device l u (since_at device u hs)) (sym more)
+            ∙ sym (heard_none s device (earlier u (hs ++ h ∷ [])) (since_at device u hs) u h
+            (ap (hearing_by s.network device h) e))
+            ∙ sym (ap (heard_in s device (earlier u (hs ++ h ∷ [])) u)
+            (behind_no (λ g. nat_lt (time_of g) u && changes_adjustment device g.note.body) hs h
+            late));
+        started = grind (arith, integration_cycle, recorded_cycle, more, w, recorded, integration);
+        broken = left.broken;
+      }
 
--- the state and the points are those of the record, which ends the stretch
-pub change_leaves : (s : Scenario) (hs : List Happening) (device : DeviceId) (u : ℕ) (node : Node) (h : Happening) (state : State) (cause : ℕ) (why : Why)
-    → h.note.body ≡ notes.State device state cause why → ends_stretch device (notes.State device state cause why) ≡ true → time_of h < u
-    → is_turned_on_at s device u ≡ false
-    → node.standing.state ≡ state → (is_cm s.network device ≡ true → node.points ≡ []) → IsCounted s (hs ++ h ∷ []) device u node
-    → IsLeft s (hs ++ h ∷ []) device u node
-change_leaves s hs device u node h state cause why e ends lt off is none counted =
-    grind (arith, state_changed, earlier, state_after, one_earlier, not_turned_on, filter_map, point_by, behind_yes, ends_stretch)
+  -- the state and the points are those of the record, which ends the stretch
+  pub change_leaves : ends_stretch device (notes.State device state cause why) ≡ true → time_of h < u
+      → is_turned_on_at s device u ≡ false → node.standing.state ≡ state
+      → (is_cm s.network device ≡ true → node.points ≡ []) → IsCounted s (hs ++ h ∷ []) device u node
+      → IsLeft s (hs ++ h ∷ []) device u node
+  change_leaves ends lt off is none counted =
+      grind (arith, state_changed, earlier, state_after, one_earlier, not_turned_on, filter_map, point_by, behind_yes, ends_stretch)
 
--- a joiner that has its first correction stands as both records leave it
-pub joiner_corrects : (s : Scenario) (hs : List Happening) (device : DeviceId) (u : ℕ) (node : Node) (h g : Happening) (cycle cause : ℕ) (by adjustment : Units)
-    (moment : Moment) (heard : Summary)
-    → IsCorrectedSo s device u node h cycle by adjustment moment → node.standing.state ≡ Joining → is_turned_on_at s device u ≡ false
-    → g.note.body ≡ notes.State device Synchronised cause whys.Correction → time_of g < u
-    → IsBase s hs device u node → IsLeft s ((hs ++ h ∷ []) ++ g ∷ []) device u (with_corrected node moment heard by)
-joiner_corrects s hs device u node h g cycle cause by adjustment moment heard so joining off e lt left =
-    change_leaves s (hs ++ h ∷ []) device u (with_corrected node moment heard by) g Synchronised cause whys.Correction e (self device) lt off refl
-    (λ cm. ap (λ (x : State). if is_synchronised x then node.points else []) joining)
-    (change_counts s (hs ++ h ∷ []) device u (with_corrected node moment heard by) g Synchronised cause whys.Correction e lt
-    (corrected_counts s hs device u node h cycle by adjustment moment heard so left))
+module _ (s : Scenario) (hs : List Happening) (device : DeviceId) (u : ℕ) (node : Node) where
+  -- a joiner that has its first correction stands as both records leave it
+  pub joiner_corrects : {h : Happening} (g : Happening) {cycle : ℕ} (cause : ℕ) {by adjustment : Units}
+      {moment : Moment} (heard : Summary) → IsCorrectedSo s device u node h cycle by adjustment moment
+      → node.standing.state ≡ Joining → is_turned_on_at s device u ≡ false
+      → g.note.body ≡ notes.State device Synchronised cause whys.Correction → time_of g < u
+      → IsBase s hs device u node → IsLeft s ((hs ++ h ∷ []) ++ g ∷ []) device u (with_corrected node moment heard by)
+  joiner_corrects {h} g {cycle} cause {by} {adjustment} {moment} heard so joining off e lt left =
+      change_leaves s (hs ++ h ∷ []) device u (with_corrected node moment heard by) g Synchronised cause
+      whys.Correction e (self device) lt off refl
+      (λ cm. ap (λ x. if is_synchronised x then node.points else []) joining)
+      (change_counts s (hs ++ h ∷ []) device u (with_corrected node moment heard by) g Synchronised cause
+      whys.Correction e lt
+      (corrected_counts s hs device u node h cycle by adjustment moment heard so left))
 
--- a clique verdict changes no part that counts in the state that it leads to
-clique_counts : (s : Scenario) (hs : List Happening) (device : DeviceId) (u : ℕ) (node : Node) (heard : Summary) (verdict : Verdict)
-    → state_by node.standing.state verdict ≡ Integrating → adjustment_by node.standing.adjustment verdict ≡ node.standing.adjustment → IsBase s hs device u node
-    → IsCounted s hs device u (with_clique node heard verdict)
-clique_counts s hs device u node heard verdict lost same left = grind (arith, is_timed, state_by, both_ways)
+  -- a clique verdict changes no part that counts in the state that it leads to
+  clique_counts : (heard : Summary) (verdict : Verdict) → state_by node.standing.state verdict ≡ Integrating
+      → adjustment_by node.standing.adjustment verdict ≡ node.standing.adjustment → IsBase s hs device u node
+      → IsCounted s hs device u (with_clique node heard verdict)
+  clique_counts heard verdict lost same left = grind (arith, is_timed, state_by, both_ways)
 
--- a device that found itself outside the others stands as the record of its state leaves it
-pub cliques : (s : Scenario) (hs : List Happening) (device : DeviceId) (u : ℕ) (node : Node) (h : Happening) (cause : ℕ) (why : Why) (heard : Summary)
-    (verdict : Verdict) → state_by node.standing.state verdict ≡ Integrating → adjustment_by node.standing.adjustment verdict ≡ node.standing.adjustment
-    → h.note.body ≡ notes.State device Integrating cause why → ends_stretch device (notes.State device Integrating cause why) ≡ true → time_of h < u
-    → is_turned_on_at s device u ≡ false → IsBase s hs device u node → IsLeft s (hs ++ h ∷ []) device u (with_clique node heard verdict)
-cliques s hs device u node h cause why heard verdict lost same e ends lt off left =
-    change_leaves s hs device u (with_clique node heard verdict) h Integrating cause why e ends lt off lost (λ cm. refl)
-    (change_counts s hs device u (with_clique node heard verdict) h Integrating cause why e lt (clique_counts s hs device u node heard verdict lost same left))
+  -- a device that found itself outside the others stands as the record of its state leaves it
+  pub cliques : (h : Happening) (cause : ℕ) (why : Why) (heard : Summary) (verdict : Verdict)
+      → state_by node.standing.state verdict ≡ Integrating
+      → adjustment_by node.standing.adjustment verdict ≡ node.standing.adjustment
+      → h.note.body ≡ notes.State device Integrating cause why
+      → ends_stretch device (notes.State device Integrating cause why) ≡ true → time_of h < u
+      → is_turned_on_at s device u ≡ false → IsBase s hs device u node
+      → IsLeft s (hs ++ h ∷ []) device u (with_clique node heard verdict)
+  cliques h cause why heard verdict lost same e ends lt off left =
+      change_leaves s hs device u (with_clique node heard verdict) h Integrating cause why e ends lt off lost
+      (λ cm. refl)
+      (change_counts s hs device u (with_clique node heard verdict) h Integrating cause why e lt
+      (clique_counts heard verdict lost same left))
 
 -- ---- a frame tells the time
 
@@ -259,11 +284,12 @@ pub record IsJoinedSo (s : Scenario) (device : DeviceId) (u : ℕ) (h : Happenin
   pub before : u ≡ time_of h + 1
   pub reads : moment.reading.0 ≡ pos (s.reading device (time_of h))
 
-pub joins : (s : Scenario) (hs : List Happening) (device : DeviceId) (u : ℕ) (node : Node) (h : Happening) (opened : Units) (cycle : ℕ) (members : Members)
-    (point : Units) (frame : Pcf) (moment : Moment) → IsJoinedSo s device u h opened cycle members point frame moment → is_turned_on_at s device u ≡ false
+pub joins : {s : Scenario} (hs : List Happening) {device : DeviceId} {u : ℕ} (node : Node) {h : Happening}
+    {opened : Units} {cycle : ℕ} {members : Members} {point : Units} {frame : Pcf} {moment : Moment}
+    → IsJoinedSo s device u h opened cycle members point frame moment → is_turned_on_at s device u ≡ false
     → node.standing.plan ≡ plan_of s.network device → node.broken ≡ is_broken s device u
     → IsLeft s (hs ++ h ∷ []) device u (with_joined node moment frame point)
-joins s hs device u node h opened cycle members point frame moment so off plan sound =
+joins {s} hs {device} {u} node {h} {cycle} {point} {frame} so off plan sound =
     let w = earlier u hs in
     let lt : time_of h < u = omega (arith, so.before) in
     let more = one_earlier u hs h lt in
@@ -287,13 +313,13 @@ joins s hs device u node h opened cycle members point frame moment so off plan s
     && int_le v (pos (s.reading device n) +ℤ (adjustment_after s (w ++ h ∷ []) device).0)) at
     ∙ not_yet (pos (s.reading device (time_of h)) +ℤ (adjustment_after s (w ++ h ∷ []) device).0) v) in
     let own : joined_adjustment s device cycle point ≡ (joined_by node.standing.plan frame point).adjustment =
-    ap (λ (n : ℕ). joined_adjustment s device n point) (sym so.same_cycle)
-    ∙ ap (λ (p : SyncPlan). (joined_by p frame point).adjustment) (sym plan) in
+    ap (λ n. joined_adjustment s device n point) (sym so.same_cycle)
+    ∙ ap (λ p. (joined_by p frame point).adjustment) (sym plan) in
     record {
       counted = record {
         plan = plan;
-        adjustment = sym own ∙ sym adjusted ∙ ap (λ (l : List Happening). adjustment_after s l device) (sym more);
-        integrated = sym (ap (λ (n : ℕ). Some n) of_cycle) ∙ sym integration ∙ ap (λ (l : List Happening). integration_cycle l device) (sym more);
+        adjustment = sym own ∙ sym adjusted ∙ ap (λ l. adjustment_after s l device) (sym more);
+        integrated = sym (ap (λ (n : ℕ). Some n) of_cycle) ∙ sym integration ∙ ap (λ l. integration_cycle l device) (sym more);
         number = grind (arith, of_cycle, recorded, recorded_cycle, w, none, next_in, more);
         changed = grind (arith, time_of, own, adjusted, local, local_in, more);
         heard = λ timed. sym (heard_anew s hs device u h lt changes);

@@ -54,53 +54,61 @@ pub record IsOneAct {C M : Type 0} (reading : C → ℕ → ℕ) (stands : M →
       → IsMadeSo stands s (happenings s.network notes) front back world.now device after node then_ body
       (world.now ∷ rank_of_act act ∷ act_rest s.network device act)
 
-shown_act : {C M : Type 0} (reading : C → ℕ → ℕ) (stands : M → Network → DeviceId → Node → Type 0) (s : Scenario) (world : World C M) (notes : List Note)
-    (old : Stands reading stands s world notes) (device : DeviceId) (machine after : M) (machines : List M) (settled : List Happening) (act : Act)
-    → (x : IsOneAct reading stands s world notes old device machine after machines settled act)
+shown_act : {C M : Type 0} {reading : C → ℕ → ℕ} {stands : M → Network → DeviceId → Node → Type 0} {s : Scenario}
+    {world : World C M} {notes : List Note} {old : Stands reading stands s world notes} {device : DeviceId}
+    {machine after : M} {machines : List M} {settled : List Happening} {act : Act}
+    (x : IsOneAct reading stands s world notes old device machine after machines settled act)
     → IsShownPut s.network (happenings s.network notes) world.now x.body world.settled settled
-shown_act reading stands s world notes old device machine after machines settled act x =
+shown_act {s} {world} {notes} x =
     let hs = happenings s.network notes in
-    subst (λ (l : List Happening). IsShownPut s.network hs world.now x.body world.settled l) (sym x.put.2)
-    (one_shown s.network hs world.now x.body world.settled x.put.0 x.causes x.put.1)
+    subst (λ l. IsShownPut s.network hs world.now x.body world.settled l) (sym x.put.2)
+    (one_shown s.network hs world.now x.body x.causes x.put.1)
 
 -- ---- all that is due at its place is to come
 
 at_time : (now t k : ℕ) (more ws : List ℕ) (r : ℕ) → now ∷ r ∷ more ≡ t ∷ k ∷ ws → r ≡ k
 at_time now t k more ws r e = ap second e
 
--- what comes from an emission or a sending is of its kind
-of_its_kind : (s : Scenario) (js : List Happening) (t m now r : ℕ) (more : List ℕ) (body : NoteBody) → IsOwnSource s js t m body (now ∷ r ∷ more) → 4 ≤ r
-    → r ≤ 5 → is_at_source body ≡ true
-of_its_kind s js t m now r more (kinds.Compressed device opened at cycle members verdict) o late low = refl
-of_its_kind s js t m now r more (kinds.Sent device cycle) o late low = refl
-of_its_kind s js t m now r more (kinds.Corrected device cycle by adjustment) o late low = refl
-of_its_kind s js t m now r more (kinds.Arrived device link cause clock) o late low = refl
-of_its_kind s js t m now r more (kinds.Permanent device link cause point verdict) o late low = refl
-of_its_kind s js t m now r more (kinds.Left device link cause clock) o late low = refl
-of_its_kind s js t m now r more (kinds.Clock device reading adjustment state) o late low = refl
-of_its_kind s js t m now r more (kinds.Event line what) o late low = absurd (let e = at_time now t 1 more _ r o in omega (arith, e, late))
-of_its_kind s js t m now r more (kinds.State device state cause whys.SyncClique) o late low =
-    absurd (let e = at_time now t 6 more _ r o.1 in omega (arith, e, low))
-of_its_kind s js t m now r more (kinds.State device state cause whys.AsyncClique) o late low =
-    absurd (let e = at_time now t 6 more _ r o.1 in omega (arith, e, low))
-of_its_kind s js t m now r more (kinds.State device state cause whys.On) o late low = absurd (let e = at_time now t 2 more _ r o in omega (arith, e, late))
-of_its_kind s js t m now r more (kinds.State device state cause whys.Frame) o late low = absurd (let e = at_time now t 2 more _ r o in omega (arith, e, late))
-of_its_kind s js t m now r more (kinds.State device state cause whys.Correction) o late low =
-    absurd (let e = at_time now t 2 more _ r o in omega (arith, e, late))
-of_its_kind s js t m now r more (kinds.Lost device link cause) (inl o) late low = absurd (let e = at_time now t 8 more _ r o.0 in omega (arith, e, low))
-of_its_kind s js t m now r more (kinds.Lost device link cause) (inr (inl o)) late low =
-    absurd (let e = at_time now t 6 more _ r o.4 in omega (arith, e, low))
-of_its_kind s js t m now r more (kinds.Lost device link cause) (inr (inr o)) late low =
-    absurd (let e = at_time now t 2 more _ r o.0 in omega (arith, e, late))
-of_its_kind s js t m now r more (kinds.TtSent device link cause vl cycle) o late low = absurd (let e = at_time now t 6 more _ r o.1 in omega (arith, e, low))
-of_its_kind s js t m now r more (kinds.Accepted device link cause vl cycle) o late low = absurd (let e = at_time now t 2 more _ r o in omega (arith, e, late))
-of_its_kind s js t m now r more (kinds.Delivered device link cause vl cycle) o late low = absurd (let e = at_time now t 2 more _ r o in omega (arith, e, late))
-of_its_kind s js t m now r more (kinds.Dropped device link cause reason) (inl o) late low =
-    absurd (let e = at_time now t 2 more _ r o.0 in omega (arith, e, late))
-of_its_kind s js t m now r more (kinds.Dropped device link cause reason) (inr (inl o)) late low =
-    absurd (let e = at_time now t 3 more _ r o.2 in omega (arith, e, late))
-of_its_kind s js t m now r more (kinds.Dropped device link cause reason) (inr (inr o)) late low =
-    absurd (let e = at_time now t 8 more _ r o.0 in omega (arith, e, low))
+module _ (s : Scenario) (js : List Happening) (t m now r : ℕ) (more : List ℕ) where
+  -- what comes from an emission or a sending is of its kind
+  of_its_kind : (body : NoteBody) → IsOwnSource s js t m body (now ∷ r ∷ more) → 4 ≤ r → r ≤ 5
+      → is_at_source body ≡ true
+  of_its_kind (kinds.Compressed device opened at cycle members verdict) o late low = refl
+  of_its_kind (kinds.Sent device cycle) o late low = refl
+  of_its_kind (kinds.Corrected device cycle by adjustment) o late low = refl
+  of_its_kind (kinds.Arrived device link cause clock) o late low = refl
+  of_its_kind (kinds.Permanent device link cause point verdict) o late low = refl
+  of_its_kind (kinds.Left device link cause clock) o late low = refl
+  of_its_kind (kinds.Clock device reading adjustment state) o late low = refl
+  of_its_kind (kinds.Event line what) o late low = absurd (let e = at_time now t 1 more _ r o in omega (arith, e, late))
+  of_its_kind (kinds.State device state cause whys.SyncClique) o late low =
+      absurd (let e = at_time now t 6 more _ r o.1 in omega (arith, e, low))
+  of_its_kind (kinds.State device state cause whys.AsyncClique) o late low =
+      absurd (let e = at_time now t 6 more _ r o.1 in omega (arith, e, low))
+  of_its_kind (kinds.State device state cause whys.On) o late low =
+      absurd (let e = at_time now t 2 more _ r o in omega (arith, e, late))
+  of_its_kind (kinds.State device state cause whys.Frame) o late low =
+      absurd (let e = at_time now t 2 more _ r o in omega (arith, e, late))
+  of_its_kind (kinds.State device state cause whys.Correction) o late low =
+      absurd (let e = at_time now t 2 more _ r o in omega (arith, e, late))
+  of_its_kind (kinds.Lost device link cause) (inl o) late low =
+      absurd (let e = at_time now t 8 more _ r o.0 in omega (arith, e, low))
+  of_its_kind (kinds.Lost device link cause) (inr (inl o)) late low =
+      absurd (let e = at_time now t 6 more _ r o.4 in omega (arith, e, low))
+  of_its_kind (kinds.Lost device link cause) (inr (inr o)) late low =
+      absurd (let e = at_time now t 2 more _ r o.0 in omega (arith, e, late))
+  of_its_kind (kinds.TtSent device link cause vl cycle) o late low =
+      absurd (let e = at_time now t 6 more _ r o.1 in omega (arith, e, low))
+  of_its_kind (kinds.Accepted device link cause vl cycle) o late low =
+      absurd (let e = at_time now t 2 more _ r o in omega (arith, e, late))
+  of_its_kind (kinds.Delivered device link cause vl cycle) o late low =
+      absurd (let e = at_time now t 2 more _ r o in omega (arith, e, late))
+  of_its_kind (kinds.Dropped device link cause reason) (inl o) late low =
+      absurd (let e = at_time now t 2 more _ r o.0 in omega (arith, e, late))
+  of_its_kind (kinds.Dropped device link cause reason) (inr (inl o)) late low =
+      absurd (let e = at_time now t 3 more _ r o.2 in omega (arith, e, late))
+  of_its_kind (kinds.Dropped device link cause reason) (inr (inr o)) late low =
+      absurd (let e = at_time now t 8 more _ r o.0 in omega (arith, e, low))
 
 -- so its record is all of it
 pub all_one : (s : Scenario) (hs new : List Happening) (now r : ℕ) (more : List ℕ) (w : Happening) → 4 ≤ r → r ≤ 5 → IsIn w new
@@ -116,20 +124,21 @@ row_long network device node row cycle own =
     ap (λ (o : Option Row). length (option_map_or (λ (r : Row). amount r.offset ∷ r.link.0 ∷ row.0 ∷ []) o [])) own.1.is.row in
     omega (arith, three)
 
-all_of_act : (s : Scenario) (hs new : List Happening) (now : ℕ) (device : DeviceId) (node then_ : Node) (act : Act) (w : Happening)
-    → IsActOf s.network device node (moment_of s device now) act then_ → IsLawful s (hs ++ new) device → ((z : Happening) → IsIn z new → time_of z ≡ now)
+all_of_act : {s : Scenario} (hs new : List Happening) (now : ℕ) {device : DeviceId} (node then_ : Node) (act : Act)
+    (w : Happening) → IsActOf s.network device node (moment_of s device now) act then_
+    → IsLawful s (hs ++ new) device → ((z : Happening) → IsIn z new → time_of z ≡ now)
     → ((order : List ℕ) → now ∷ rank_of_act act ∷ act_rest s.network device act ≡ now ∷ 6 ∷ device.0 ∷ order
     → TellsRow s (hs ++ new) now device order w.note.body) → (IsCorrection (task_of act) → ⊥) → IsIn w new
     → (rank_of_act act ≤ 5 → place_of w ≡ now ∷ rank_of_act act ∷ act_rest s.network device act)
     → IsAllOfIt s hs new (now ∷ rank_of_act act ∷ act_rest s.network device act)
-all_of_act s hs new now device node then_ (acts.Dispatch row cycle) w acted law of_now told apart there at =
-    all_row s hs new now device (dispatch_order s.network row) w law of_now (told (dispatch_order s.network row) refl) there
+all_of_act {s} hs new now {device} node then_ (acts.Dispatch row cycle) w acted law of_now told apart there at =
+    all_row hs new w law of_now (told (dispatch_order s.network row) refl) there
     (row_long s.network device node row cycle acted.0.pending.1.own)
-all_of_act s hs new now device node then_ (acts.Send frame) w acted law of_now told apart there at =
+all_of_act {s} hs new now {device} node then_ (acts.Send frame) w acted law of_now told apart there at =
     all_one s hs new now 5 (act_rest s.network device (acts.Send frame)) w (omega arith) (omega arith) there (at (omega arith))
-all_of_act s hs new now device node then_ (acts.Emit sent heard) w acted law of_now told apart there at =
+all_of_act {s} hs new now {device} node then_ (acts.Emit sent heard) w acted law of_now told apart there at =
     all_one s hs new now 4 (act_rest s.network device (acts.Emit sent heard)) w (omega arith) (omega arith) there (at (omega arith))
-all_of_act s hs new now device node then_ (acts.Correct cycle verdict) w acted law of_now told apart there at = absurd (apart tt)
+all_of_act hs new now node then_ (acts.Correct cycle verdict) w acted law of_now told apart there at = absurd (apart tt)
 
 -- ---- what it has done
 
@@ -139,7 +148,7 @@ pub still_came : (s : Scenario) (device : DeviceId) (node then_ : Node) (changed
 still_came s device node then_ changed again now (emitting sent) adjustment same x = x
 still_came s device node then_ changed again now (doing deed) adjustment same x = (
   x.0,
-  subst (λ (n : ℕ). n ≤ x.0) same x.1,
+  subst (λ n. n ≤ x.0) same x.1,
   x.2,
   subst (λ (a : Units). (value_of s.network deed -ℤ a.0) ≤ℤ pos (s.reading device x.0)) (sym adjustment) x.3,
 )
@@ -147,12 +156,13 @@ still_came s device node then_ changed again now (doing deed) adjustment same x 
 -- ---- the steps
 
 -- it acts, and the cursor goes by
-pub act_goes_by : {C M : Type 0} (reading : C → ℕ → ℕ) (stands : M → Network → DeviceId → Node → Type 0) (s : Scenario) (world : World C M) (notes : List Note)
-    (old : Stands reading stands s world notes) (device : DeviceId) (machine after : M) (machines : List M) (settled : List Happening) (act : Act)
+pub act_goes_by : {C M : Type 0} {reading : C → ℕ → ℕ} {stands : M → Network → DeviceId → Node → Type 0}
+    {s : Scenario} {world : World C M} {notes : List Note} {old : Stands reading stands s world notes}
+    {device : DeviceId} {machine after : M} {machines : List M} {settled : List Happening} {act : Act}
     → IsOneAct reading stands s world notes old device machine after machines settled act
     → StandsBehind reading stands s (record world { early = false; machines = machines; settled = settled }) notes
     (behind (world.now ∷ rank_of_act act ∷ act_rest s.network device act))
-act_goes_by {C} {M} reading stands s world notes old device machine after machines settled act x =
+act_goes_by {C} {M} {stands} {s} {world} {notes} {old} {device} {machine} {after} {act} x =
     let hs = happenings s.network notes in
     let now = world.now in
     let room = x.room in
@@ -160,44 +170,47 @@ act_goes_by {C} {M} reading stands s world notes old device machine after machin
     let more = act_rest s.network device act in
     let at = now ∷ r ∷ more in
     let here = behind at in
-    let p = shown_act reading stands s world notes old device machine after machines settled act x in
+    let p = shown_act x in
     let w = record_of s.network hs p.front now x.body in
     let new = p.front ++ w ∷ p.back in
     let st2 : StageOf stands s hs (p.front ++ p.back) old.mark old.cursor now device machine x.node act =
-    subst (λ (l : List Happening). StageOf stands s hs l old.mark old.cursor now device machine x.node act) p.parts x.st in
+    subst (λ l. StageOf stands s hs l old.mark old.cursor now device machine x.node act) p.parts x.st in
     let made = x.makes p.front p.back p.parts st2 p.none in
     let it = made.it in
     let put = as_put now w refl x.late in
-    let earlier_same = earlier_put s hs p.front p.back now device x.node w st2.work put in
-    let law = lawful_then stands s hs p.front p.back old.mark old.cursor now device machine x.node x.body r more st2 p.before p.none made.so old.run.within in
+    let earlier_same = earlier_put s hs p.front p.back now device x.node st2.work put in
+    let law = lawful_then stands s hs p.front p.back old.mark old.cursor now device machine x.node st2 p.before
+    p.none made.so old.run.within in
     let may = may_act_now s device x.node now x.st.work.ready x.st.steady x.st.limit in
     let none_due : (task : Task) → IsDueTask s device x.then_ now task → IsBefore (task_place s.network now device task) here → ⊥ = λ task due b.
-    let far = what_is_left s.network now device x.node x.then_ (moment_of s device now) act task old.range old.rules x.st.zero may x.acted x.apart due.0 due.1
+    let far = what_is_left s.network now device x.then_ act task old.range old.rules x.st.zero may x.acted x.apart
+    due.0 due.1
     in
     nothing_between at (task_place s.network now device task)
-    (subst (λ (q : List ℕ). IsBefore q (task_place s.network now device task)) (act_stands s.network now device act) far) b in
+    (subst (λ q. IsBefore q (task_place s.network now device task)) (act_stands s.network now device act) far) b in
     let turned : is_turned_on_at s device now ≡ true → HasTurnedOn s hs new here device now =
-    turned_then stands s hs p.front p.back old.mark old.cursor now device machine x.node w here r more st2 put
-    (λ t. turned_moves s hs (p.front ++ p.back) old.mark old.cursor now r more device st2.moving t) in
+    turned_then stands s hs p.front p.back old.mark old.cursor now device machine x.node here st2 put
+    (λ t. turned_moves s hs (p.front ++ p.back) old.mark old.cursor now r more st2.moving t) in
     let same : earlier now hs ≡ earlier now (hs ++ new) = sym (earlier_still now hs new (λ z i. let t = (it.work.of_now z i).0 in omega (arith, t))) in
     let points : points_of hs device ≡ points_of (hs ++ new) device = sym (points_same new hs device (λ z i. let t = it.work.of_now z i in
     (quiet_rest s device now z.note.body (it.work.still z (in_right z hs new i) t.0), t.1))) in
     let due_of_act : (task : Task) → IsActing s hs now device task → (HasDoneTask x.then_ task → ⊥) → IsDueTask s device x.then_ now task = λ task a not.
-    act_due s (hs ++ new) hs now device x.then_ task (record { left = it.work.left; sound = it.work.sound })
+    act_due {js = hs ++ new} {node = x.then_} (record { left = it.work.left; sound = it.work.sound })
     (record { taken = it.taken; past = it.work.past; lawful = law }) same points a not in
     let worked : (task : Task) → HasDoneTask x.then_ task
     → HadComeTo s device x.then_ (changed_at (hs ++ new) device now) now task ⊎ IsBefore (task_place s.network now device task) here = λ task has.
     elim (x.did task has) [
-      | inr e ↦ inr (subst (λ (q : List ℕ). IsBefore q here) (sym e) (before_behind at))
+      | inr e ↦ inr (subst (λ q. IsBefore q here) (sym e) (before_behind at))
       | inl before ↦ elim (st2.worked task before) [
         | inl sooner ↦ inl (still_came s device x.node x.then_ _ _ now task x.adjustment (ap (change_in device) earlier_same) sooner)
-        | inr gone ↦ inr (stays s hs (p.front ++ p.back) old.mark old.cursor now r more st2.moving _ gone)
+        | inr gone ↦ inr (stays st2.moving _ gone)
       ]
     ] in
     let there : IsIn w new = in_right w p.front (w ∷ p.back) (inl refl) in
-    one_goes_by reading stands s world notes old device machine after x.node machines settled x.body r more x.st p (omega (arith, room)) made.so
-    (all_of_act s hs new now device x.node x.then_ act w x.acted law (λ z i. (it.work.of_now z i).0) made.told x.apart there (λ low. x.at_place low p.front))
+    one_goes_by old x.st p (omega (arith, room)) made.so
+    (all_of_act hs new now x.node x.then_ act w x.acted law (λ z i. (it.work.of_now z i).0) made.told x.apart there
+    (λ low. x.at_place low p.front))
     x.set
-    (kept_on stands s hs new here now device after x.then_ it.is it.work it.cleared it.taken
+    (kept_on stands here after it.is it.work it.cleared it.taken
     (bare_act s.network device x.node (moment_of s device now) act x.then_ x.acted x.st.bare) turned it.phase x.st.reach x.st.calm.falls
     (λ task b a. elim (done_or x.then_ task) [ inl did ↦ did | inr not ↦ absurd (none_due task (due_of_act task a not) b) ]) worked)

@@ -10,15 +10,17 @@ use Rattle.run_law.specs.declared.note.NoteBody.TheVariants as kinds
 use Rattle.run_law.specs.declared.steps.Act.TheVariants as acts
 
 -- the device sends
-pub sends_one : {C M : Type 0} (reading : C → ℕ → ℕ) (stands : M → Network → DeviceId → Node → Type 0) (s : Scenario) (world : World C M) (notes : List Note)
-    (old : Stands reading stands s world notes) (device : DeviceId) (after : M) (bodies : List NoteBody) (machines : List M) (settled : List Happening)
-    (frame : Pcf) → (a : Acts reading stands s world notes old device after bodies)
+pub sends_one : {C M : Type 0} {reading : C → ℕ → ℕ} {stands : M → Network → DeviceId → Node → Type 0} {s : Scenario}
+    {world : World C M} {notes : List Note} {old : Stands reading stands s world notes} {device : DeviceId}
+    {after : M} {bodies : List NoteBody} {machines : List M} (settled : List Happening) (frame : Pcf)
+    (a : Acts reading stands s world notes old device after bodies)
     → ComesFirst reading stands s world notes old (place_of_act world.now device (acts.Send frame))
     → ((z : Happening) → IsIn z world.settled → 5 < rank z.note.body)
-    → HasActed stands s.network device (moment_of s device world.now) (acts.Send frame) a.machine after → IsSet device.0 after world.machines machines
-    → ArePutIn s.network (happenings s.network notes) world.now (kinds.Sent device frame.cycle ∷ []) world.settled settled
+    → HasActed stands s.network device (moment_of s device world.now) (acts.Send frame) a.machine after
+    → IsSet device.0 after world.machines machines → ArePutIn s.network (happenings s.network notes) world.now
+    (kinds.Sent device frame.cycle ∷ []) world.settled settled
     → IsOneAct reading stands s world notes old device a.machine after machines settled (acts.Send frame)
-sends_one reading stands s world notes old device after bodies machines settled frame a first_of apart acted set put =
+sends_one {reading} {stands} {s} {world} {notes} {old} {device} {after} settled frame a first_of apart acted set put =
     let hs = happenings s.network notes in
     let now = world.now in
     let stage = stage_of reading stands s world notes old device a.machine after (acts.Send frame) a.of_it first_of apart a.there a.due acted in
@@ -55,6 +57,6 @@ sends_one reading stands s world notes old device after bodies machines settled 
             so = subst (λ (n : ℕ). IsActRecordAt s hs front back now device (kinds.Sent device cycle) (now ∷ 5 ∷ device.0 ∷ n ∷ [])) (sym same_cycle)
                 (sending_record stands s hs front back old.mark old.cursor now device a.machine node cycle st3 first.pending first.due);
             told = λ order e. (let five : 5 ≡ 6 = ap second e in absurd (omega (arith, five)));
-            it = has_sent_it stands s hs front back old.mark old.cursor now device a.machine after node act.0 frame cycle st3 first act.1 act.1.3 act.2;
+            it = has_sent_it front back after act.0 frame cycle st3 first act.1 act.1.3 act.2;
           };
     }

@@ -18,44 +18,43 @@ use Rattle.run_law.specs.declared.steps.Act.TheVariants as acts
 pub as_put : (now : ℕ) (w : Happening) → time_of w ≡ now → 4 ≤ rank w.note.body → IsPutAs now w
 as_put now w at late = record { at = at; late = late }
 
--- what it took, and that it was turned on, are told by the records with the new one
-pub taken_then : {M : Type 0} (stands : M → Network → DeviceId → Node → Type 0) (s : Scenario) (hs front back : List Happening) (mark cursor : List ℕ) (now : ℕ)
-    (device : DeviceId) (machine : M) (node : Node) (w : Happening) (r : ℕ) (more : List ℕ)
-    → StageAt stands s hs (front ++ back) mark cursor now device machine node r more → time_of w ≡ now
-    → IsNoTaking device w.note.body → node.taken ≡ frames_taken s (hs ++ (front ++ w ∷ back)) device
-taken_then stands s hs front back mark cursor now device machine node w r more st at none =
-    st.taken ∙ frames_put s hs front back now w device st.work.past at none
+module _ {M : Type 0} (stands : M → Network → DeviceId → Node → Type 0) (s : Scenario)
+    (hs front back : List Happening) (mark cursor : List ℕ) (now : ℕ) (device : DeviceId) (machine : M)
+    (node : Node) where
+  -- what it took, and that it was turned on, are told by the records with the new one
+  pub taken_then : (w : Happening) {r : ℕ} {more : List ℕ}
+      → StageAt stands s hs (front ++ back) mark cursor now device machine node r more → time_of w ≡ now
+      → IsNoTaking device w.note.body → node.taken ≡ frames_taken s (hs ++ (front ++ w ∷ back)) device
+  taken_then w st at none =
+      st.taken ∙ frames_put s hs front back now w device st.work.past at none
 
-pub turned_then : {M : Type 0} (stands : M → Network → DeviceId → Node → Type 0) (s : Scenario) (hs front back : List Happening) (mark cursor : List ℕ)
-    (now : ℕ)
-    (device : DeviceId) (machine : M) (node : Node) (w : Happening) (then_ : List ℕ) (r : ℕ) (more : List ℕ)
-    → StageAt stands s hs (front ++ back) mark cursor now device machine node r more
-    → IsPutAs now w
-    → (HasTurnedOn s hs (front ++ back) cursor device now → HasTurnedOn s hs (front ++ back) then_ device now)
-    → is_turned_on_at s device now ≡ true → HasTurnedOn s hs (front ++ w ∷ back) then_ device now
-turned_then stands s hs front back mark cursor now device machine node w then_ r more st p goes on =
-    turned_aside s hs front back w device (goes (st.turned on))
-    (ap (λ (l : List Happening). state_after s l device) (earlier_put s hs front back now device node w st.work p))
+  pub turned_then : {w : Happening} (then_ : List ℕ) {r : ℕ} {more : List ℕ}
+      → StageAt stands s hs (front ++ back) mark cursor now device machine node r more → IsPutAs now w
+      → (HasTurnedOn s hs (front ++ back) cursor device now → HasTurnedOn s hs (front ++ back) then_ device now)
+      → is_turned_on_at s device now ≡ true → HasTurnedOn s hs (front ++ w ∷ back) then_ device now
+  turned_then {w} then_ st p goes on =
+      turned_aside s hs front back w device (goes (st.turned on))
+      (ap (λ l. state_after s l device) (earlier_put s hs front back now device node st.work p))
 
--- ---- it sends
+  -- ---- it sends
 
-pub sending_record : {M : Type 0} (stands : M → Network → DeviceId → Node → Type 0) (s : Scenario) (hs front back : List Happening) (mark cursor : List ℕ)
-    (now : ℕ) (device : DeviceId) (machine : M) (node : Node) (cycle : ℕ)
-    → StageAt stands s hs (front ++ back) mark cursor now device machine node 5 (device.0 ∷ cycle ∷ [])
-    → IsPending s.network device node (doing (sending cycle)) → reading_for s.network node (doing (sending cycle)) ≤ℤ pos (s.reading device now)
-    → IsActRecordAt s hs front back now device (kinds.Sent device cycle) (now ∷ 5 ∷ device.0 ∷ cycle ∷ [])
-sending_record stands s hs front back mark cursor now device machine node cycle st pending due =
-    let d = sends s hs (front ++ back) front now device node cycle st.work (λ z i. (st.work.of_now z (in_left z front back i)).0) pending due in
-    record {
-      own = λ m. refl;
-      here = IsSource.acting now device (doing (sending cycle))
-          (IsActing.sends cycle d);
-      caused = d;
-      fresh = fresh_above stands s hs front back mark cursor now device machine node 5 (device.0 ∷ cycle ∷ []) st
-          (record_of s.network hs front now (kinds.Sent device cycle)) (omega arith);
-      apart = λ other not. (refl, λ at. refl);
-      lone = last_unfollowed s hs now (kinds.Sent device cycle) refl;
-    }
+  pub sending_record : (cycle : ℕ) → StageAt stands s hs (front ++ back) mark cursor now device machine node 5
+      (device.0 ∷ cycle ∷ []) → IsPending s.network device node (doing (sending cycle))
+      → reading_for s.network node (doing (sending cycle)) ≤ℤ pos (s.reading device now)
+      → IsActRecordAt s hs front back now device (kinds.Sent device cycle) (now ∷ 5 ∷ device.0 ∷ cycle ∷ [])
+  sending_record cycle st pending due =
+      let d = sends s hs (front ++ back) front now device node cycle st.work
+      (λ z i. (st.work.of_now z (in_left z front back i)).0) pending due in
+      record {
+        own = λ m. refl;
+        here = IsSource.acting now device (doing (sending cycle))
+            (IsActing.sends cycle d);
+        caused = d;
+        fresh = fresh_above stands s hs front back mark cursor now device machine node st
+            (record_of s.network hs front now (kinds.Sent device cycle)) (omega arith);
+        apart = λ other not. (refl, λ at. refl);
+        lone = last_unfollowed s hs now (kinds.Sent device cycle) refl;
+      }
 
 -- the node that has sent, among the records with its own
 pub record HasSentIt {M : Type 0} (stands : M → Network → DeviceId → Node → Type 0) (s : Scenario) (hs new : List Happening) (now : ℕ) (device : DeviceId)
@@ -66,32 +65,37 @@ pub record HasSentIt {M : Type 0} (stands : M → Network → DeviceId → Node 
   pub taken : after.taken ≡ frames_taken s (hs ++ new) device
   pub phase : after.phase ≡ acting
 
-pub has_sent_it : {M : Type 0} (stands : M → Network → DeviceId → Node → Type 0) (s : Scenario) (hs front back : List Happening) (mark cursor : List ℕ)
-    (now : ℕ)
-    (device : DeviceId) (machine then_ : M) (node after : Node) (frame : Pcf) (cycle : ℕ)
+pub has_sent_it : {M : Type 0} {stands : M → Network → DeviceId → Node → Type 0} {s : Scenario} {hs : List Happening}
+    (front back : List Happening) {mark cursor : List ℕ} {now : ℕ} {device : DeviceId} {machine : M} (then_ : M)
+    {node : Node} (after : Node) (frame : Pcf) (cycle : ℕ)
     → StageAt stands s hs (front ++ back) mark cursor now device machine node 5 (device.0 ∷ cycle ∷ [])
-    → IsFirstTask s.network device node (moment_of s device now).reading.0 (doing (sending cycle)) → IsActOf s.network device node (moment_of s device now)
-    (acts.Send frame) after → after ≡ called (moment_of s device now) acting (with_done node (sending cycle)) → stands then_ s.network device after
-    → HasSentIt stands s hs (front ++ (record_of s.network hs front now (kinds.Sent device cycle)) ∷ back) now device then_ node after
-has_sent_it stands s hs front back mark cursor now device machine then_ node after frame cycle st first act is stood =
+    → IsFirstTask s.network device node (moment_of s device now).reading.0 (doing (sending cycle))
+    → IsActOf s.network device node (moment_of s device now) (acts.Send frame) after
+    → after ≡ called (moment_of s device now) acting (with_done node (sending cycle))
+    → stands then_ s.network device after → HasSentIt stands s hs
+    (front ++ (record_of s.network hs front now (kinds.Sent device cycle)) ∷ back) now device then_ node after
+has_sent_it {stands} {s} {hs} front back {mark} {cursor} {now} {device} {machine} then_ {node} after frame cycle st
+    first act is stood =
     let w = record_of s.network hs front now (kinds.Sent device cycle) in
     let new = front ++ w ∷ back in
     let moment = moment_of s device now in
     let p = as_put now w refl (omega arith) in
     let may = may_act_now s device node now st.work.ready st.steady st.limit in
-    let ready = ready_after s device node after now (acts.Send frame) st.work.ready st.steady st.precise st.wide may act (ap (λ (n : Node). n.last) is) in
+    let ready = ready_after s after (acts.Send frame) st.work.ready st.steady st.precise st.wide may act
+    (ap (λ (n : Node). n.last) is) in
     let there = called moment acting (with_done node (sending cycle)) in
-    let work : IsAtWork s hs new now device there = sends_on s hs front back now device node w cycle moment st.work p refl first.due
-    (subst (λ (n : Node). IsReadyAt (s.reading device) s.network device n now) is ready) in
+    let work : IsAtWork s hs new now device there = sends_on front back cycle moment st.work p refl first.due
+    (subst (λ n. IsReadyAt (s.reading device) s.network device n now) is ready) in
     let cleared : HasCleared there = λ n has. elim (Contains-push_cases node.done (sending cycle) (correcting n) has) [
       | inl old ↦ st.cleared n old
       | inr e ↦ absurd cc
     ] in
     record {
       is = stood;
-      work = subst (λ (n : Node). IsAtWork s hs new now device n) (sym is) work;
+      work = subst (λ n. IsAtWork s hs new now device n) (sym is) work;
       cleared = subst HasCleared (sym is) cleared;
-      taken = ap (λ (n : Node). n.taken) is ∙ taken_then stands s hs front back mark cursor now device machine node w 5 (device.0 ∷ cycle ∷ []) st refl (λ at. refl);
+      taken = ap (λ (n : Node). n.taken) is ∙ taken_then stands s hs front back mark cursor now device machine node w
+          st refl (λ at. refl);
       phase = ap (λ (n : Node). n.phase) is;
     }
 

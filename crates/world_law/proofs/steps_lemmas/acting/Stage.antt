@@ -66,7 +66,7 @@ reaches_acts : (network : Network) (now : ℕ) (device : DeviceId) (act : Act)
 reaches_acts network now device act =
     let here = now ∷ rank_of_act act ∷ act_rest network device act in
     chain (act_place now device) here (behind here)
-    (subst (λ (q : List ℕ). IsBefore (act_place now device) q) (act_stands network now device act) (acts_first network now device (task_of act)))
+    (subst (λ q. IsBefore (act_place now device) q) (act_stands network now device act) (acts_first network now device (task_of act)))
     (before_behind here)
 
 -- so it is where a world stands, and the device acts
@@ -81,14 +81,14 @@ stage_of {C} {M} reading stands s world notes old device machine after act lt fi
     let hs = happenings s.network notes in
     let m = old.devices device lt in
     let same : m.0 ≡ machine = same_Some m.0 machine (sym m.1 ∙ there) in
-    held (subst (λ (x : M). IsHeld stands s hs world.settled old.cursor world.now device x) same m.2)
+    held (subst (λ x. IsHeld stands s hs world.settled old.cursor world.now device x) same m.2)
   where
     late : (z : Happening) → IsIn z world.settled → 4 ≤ rank z.note.body
     late z i = let more = apart z i in let high = late_rank act in omega (arith, more, high)
 
     upto : (h : Happening) → IsIn h (happenings s.network notes ++ world.settled) → time_of h ≤ world.now
     upto h i =
-        let past = are_past reading stands s world notes old in
+        let past = are_past old in
         elim (in_parts h (happenings s.network notes) world.settled i) [
           | inl one ↦ past.past h one
           | inr two ↦ let at = old.are.of_now h two in omega (arith, at)
@@ -101,7 +101,7 @@ stage_of {C} {M} reading stands s world notes old device machine after act lt fi
         let hs = happenings s.network notes in
         let now = world.now in
         let task : HasTaskBy s device k.node now = due k.node k.is in
-        let past = are_past reading stands s world notes old in
+        let past = are_past old in
         let up = up_now stands s hs world.settled old.cursor now device machine k old.not_later task in
         let may = may_act_now s device k.node now k.ready (old.steady device) old.limit in
         let did = acted k.node k.is may task in
@@ -112,9 +112,9 @@ stage_of {C} {M} reading stands s world notes old device machine after act lt fi
         let high = late_rank act in
         let zero = kept_from_zero stands s hs world.settled old.cursor now device machine k law in
         let waits : IsBefore at old.cursor → ⊥ = λ b.
-        acts_wait stands s hs world.settled old.cursor now device machine k (task_of act) law old.not_later old.are.of_now upto late first_task.pending
-        first_task.due (subst (λ (q : List ℕ). IsBefore q old.cursor) (sym place) b) in
-        let m = act_moving reading stands s world notes old device machine act first apart (record {
+        acts_wait k (task_of act) law old.not_later old.are.of_now upto late first_task.pending
+        first_task.due (subst (λ q. IsBefore q old.cursor) (sym place) b) in
+        let m = act_moving {device = device} {machine = machine} act first apart (record {
           kept = k;
           up = up.0;
           first = first_task;
@@ -124,7 +124,8 @@ stage_of {C} {M} reading stands s world notes old device machine after act lt fi
           past = upto;
           late = late;
         }) waits in
-        let told = source_told reading stands s world notes old (rank_of_act act) (act_rest s.network device act) m (inr (refl, inl (omega (arith, high)))) in
+        let told = source_told old (rank_of_act act) (act_rest s.network device act) m
+        (inr (refl, inl (omega (arith, high)))) in
         let whole = natural s.network.precision.0 old.precise in
         let ends = (old.rules ScheduleStart 0).ends in (
           k.node,
@@ -148,13 +149,13 @@ stage_of {C} {M} reading stands s world notes old device machine after act lt fi
             work = at_work stands s hs world.settled old.cursor now device machine k old.not_later old.are.of_now upto late up.0;
             worked = λ other has. elim (before_or_not (task_place s.network now device other) old.cursor) [
               | inl gone ↦ inr gone
-              | inr not ↦ inl (subst (λ (n : ℕ). HadComeTo s device k.node (changed_at (hs ++ world.settled) device n) now other) up.0
-                  (came_sooner s device k.node (changed_at (hs ++ world.settled) device k.up) k.up now old.cursor k.worked other has not))
+              | inr not ↦ inl (subst (λ n. HadComeTo s device k.node (changed_at (hs ++ world.settled) device n) now other) up.0
+                  (came_sooner now k.worked other has not))
             ];
             zero = zero;
             calm = record {
               falls = (old.steady device).never_falls;
-              off = not_on_after s old.mark now (now + 1) device old.befallen (omega arith);
+              off = not_on_after (now + 1) device old.befallen (omega arith);
               broken = no_later_breaks s old.mark now (now + 1) device old.befallen (omega arith);
               turned = λ on. let was = k.turned on in was.turned (old.untold.done told was.number was.event was.befell);
             };
@@ -190,75 +191,78 @@ pub record IsActRecordAt (s : Scenario) (hs front back : List Happening) (now : 
   pub apart : (other : DeviceId) → (other.0 ≡ device.0 → ⊥) → (bears_on other body ≡ false) × IsNoTaking other body
   pub lone : IsUnfollowed s hs now body
 
--- nothing to come stands where a record of the act's own rank does
-pub fresh_above : {M : Type 0} (stands : M → Network → DeviceId → Node → Type 0) (s : Scenario) (hs front back : List Happening) (mark cursor : List ℕ) (now : ℕ)
-    (device : DeviceId) (machine : M) (node : Node) (r : ℕ) (more : List ℕ)
-    → StageAt stands s hs (front ++ back) mark cursor now device machine node r more → (w : Happening) → rank w.note.body ≤ r → (y : Happening) → IsIn y back
-    → place_of w ≡ place_of y → ⊥
-fresh_above stands s hs front back mark cursor now device machine node r more st w le y i e =
-    let high = st.above y (in_right y front back i) in
-    let same : rank w.note.body ≡ rank y.note.body = ap second e in
-    omega (arith, high, same, le)
+module _ {M : Type 0} (stands : M → Network → DeviceId → Node → Type 0) (s : Scenario)
+    (hs front back : List Happening) (mark cursor : List ℕ) (now : ℕ) (device : DeviceId) (machine : M)
+    (node : Node) where
+  -- nothing to come stands where a record of the act's own rank does
+  pub fresh_above : {r : ℕ} {more : List ℕ} → StageAt stands s hs
+      (front ++ back) mark cursor now device machine node r more → (w : Happening) → rank w.note.body ≤ r
+      → (y : Happening) → IsIn y back → place_of w ≡ place_of y → ⊥
+  fresh_above st w le y i e =
+      let high = st.above y (in_right y front back i) in
+      let same : rank w.note.body ≡ rank y.note.body = ap second e in
+      omega (arith, high, same, le)
 
--- nothing to come rests on what the device hears
-pub nothing_heard : {M : Type 0} (stands : M → Network → DeviceId → Node → Type 0) (s : Scenario) (hs front back : List Happening) (mark cursor : List ℕ)
-    (now : ℕ) (device : DeviceId) (machine : M) (node : Node) (r : ℕ) (more : List ℕ)
-    → StageAt stands s hs (front ++ back) mark cursor now device machine node r more → (y : Happening) → IsIn y back → hears device y.note.body ≡ true → ⊥
-nothing_heard stands s hs front back mark cursor now device machine node r more st y i e =
-    let there = in_right y front back i in
-    let high = st.above y there in
-    let late = st.late in
-    nothing_aside s device now y.note.body (omega (arith, high, late)) (st.work.still y (in_right y hs (front ++ back) there) (st.work.of_now y there).0) e
+  -- nothing to come rests on what the device hears
+  pub nothing_heard : {r : ℕ} {more : List ℕ} → StageAt stands s hs
+      (front ++ back) mark cursor now device machine node r more → (y : Happening) → IsIn y back
+      → hears device y.note.body ≡ true → ⊥
+  nothing_heard st y i e =
+      let there = in_right y front back i in
+      let high = st.above y there in
+      let late = st.late in
+      nothing_aside s device now y.note.body (omega (arith, high, late))
+      (st.work.still y (in_right y hs (front ++ back) there) (st.work.of_now y there).0) e
 
-one_act : {M : Type 0} (stands : M → Network → DeviceId → Node → Type 0) (s : Scenario) (hs front back : List Happening) (mark cursor : List ℕ) (now : ℕ)
-    (device : DeviceId) (machine : M) (node : Node) (body : NoteBody) (r : ℕ) (more : List ℕ)
-    → StageAt stands s hs (front ++ back) mark cursor now device machine node r more
-    → AllBefore place_of front (place_of (record_of s.network hs front now body)) → NoneBefore place_of back (place_of (record_of s.network hs front now body))
-    → IsActRecordAt s hs front back now device body (now ∷ r ∷ more)
-    → IsOne s hs front back mark cursor now r more (record_of s.network hs front now body)
-one_act stands s hs front back mark cursor now device machine node body r more st before none a = record {
-  moving = st.moving;
-  later = let high = st.late in inr (refl, inl (omega (arith, high)));
-  marked = st.marked;
-  given = st.given;
-  at = refl;
-  due = due_of s hs front now body a.caused;
-  before = before;
-  none = none;
-  fresh = a.fresh;
-  mine = a.own (members_in (record_of s.network hs front now body));
-  here = a.here;
-  aside = λ x i other same yes_it.
-      let e : other ≡ device = same_device other device (st.own other (doing (correcting 0)) (sym same)) in
-      nothing_heard stands s hs front back mark cursor now device machine node r more st x i (subst (λ (d : DeviceId). hears d x.note.body ≡ true) e yes_it);
-}
+  one_act : {body : NoteBody} {r : ℕ} {more : List ℕ} → StageAt stands s hs
+      (front ++ back) mark cursor now device machine node r more
+      → AllBefore place_of front (place_of (record_of s.network hs front now body))
+      → NoneBefore place_of back (place_of (record_of s.network hs front now body))
+      → IsActRecordAt s hs front back now device body (now ∷ r ∷ more)
+      → IsOne s hs front back mark cursor now r more (record_of s.network hs front now body)
+  one_act {body} st before none a = record {
+    moving = st.moving;
+    later = let high = st.late in inr (refl, inl (omega (arith, high)));
+    marked = st.marked;
+    given = st.given;
+    at = refl;
+    due = due_of s hs front now body a.caused;
+    before = before;
+    none = none;
+    fresh = a.fresh;
+    mine = a.own (members_in (record_of s.network hs front now body));
+    here = a.here;
+    aside = λ x i other same yes_it.
+        let e : other ≡ device = same_device other device (st.own other (doing (correcting 0)) (sym same)) in
+        nothing_heard st x i (subst (λ d. hears d x.note.body ≡ true) e yes_it);
+  }
 
--- the records with it are founded
-pub lawful_then : {M : Type 0} (stands : M → Network → DeviceId → Node → Type 0) (s : Scenario) (hs front back : List Happening) (mark cursor : List ℕ)
-    (now : ℕ)
-    (device : DeviceId) (machine : M) (node : Node) (body : NoteBody) (r : ℕ) (more : List ℕ)
-    → StageAt stands s hs (front ++ back) mark cursor now device machine node r more
-    → AllBefore place_of front (place_of (record_of s.network hs front now body)) → NoneBefore place_of back (place_of (record_of s.network hs front now body))
-    → IsActRecordAt s hs front back now device body (now ∷ r ∷ more) → AllBefore place_of hs mark
-    → IsLawful s (hs ++ (front ++ record_of s.network hs front now body ∷ back)) device
-lawful_then stands s hs front back mark cursor now device machine node body r more st before none a within =
-    let at = now ∷ r ∷ more in
-    let one = one_act stands s hs front back mark cursor now device machine node body r more st before none a in
-    let well = one_well one a.lone in
-    record {
-      range = st.lawful.range;
-      rules = st.lawful.rules;
-      steady = st.lawful.steady;
-      founded = founded_with s hs (front ++ record_of s.network hs front now body ∷ back) mark st.given within well.stands (λ z i b.
-          unmarked s hs (front ++ back) mark cursor now r more st.moving (before_later_than at (place_of z) mark (well.after z i) b));
-    }
-  where
-    before_later_than : (at p mark : List ℕ) → (IsBefore p at → ⊥) → IsBefore p mark → IsBefore at mark
-    before_later_than at p mark not b = elim (either_way at p) [
-      | inl lt ↦ chain at p mark lt b
-      | inr (inl e) ↦ subst (λ (q : List ℕ). IsBefore q mark) (sym e) b
-      | inr (inr gt) ↦ absurd (not gt)
-    ]
+  -- the records with it are founded
+  pub lawful_then : {body : NoteBody} {r : ℕ} {more : List ℕ}
+      → StageAt stands s hs (front ++ back) mark cursor now device machine node r more
+      → AllBefore place_of front (place_of (record_of s.network hs front now body))
+      → NoneBefore place_of back (place_of (record_of s.network hs front now body))
+      → IsActRecordAt s hs front back now device body (now ∷ r ∷ more) → AllBefore place_of hs mark
+      → IsLawful s (hs ++ (front ++ record_of s.network hs front now body ∷ back)) device
+  lawful_then {body} {r} {more} st before none a within =
+      let at = now ∷ r ∷ more in
+      let one = one_act st before none a in
+      let well = one_well one a.lone in
+      record {
+        range = st.lawful.range;
+        rules = st.lawful.rules;
+        steady = st.lawful.steady;
+        founded = founded_with s hs (front ++ record_of s.network hs front now body ∷ back) mark st.given within
+            well.stands (λ z i b.
+            unmarked st.moving (before_later_than at (place_of z) mark (well.after z i) b));
+      }
+    where
+      before_later_than : (at p mark : List ℕ) → (IsBefore p at → ⊥) → IsBefore p mark → IsBefore at mark
+      before_later_than at p mark not b = elim (either_way at p) [
+        | inl lt ↦ chain at p mark lt b
+        | inr (inl e) ↦ subst (λ q. IsBefore q mark) (sym e) b
+        | inr (inr gt) ↦ absurd (not gt)
+      ]
 
 -- ---- the world with the record put in
 
@@ -268,25 +272,30 @@ pub no_row_of : (s : Scenario) (device other : DeviceId) (body : NoteBody) → d
 no_row_of s device other body lt apart le = moves_no_other other body (apart other (λ e. omega (arith, e, lt, le))).0
 
 -- the machines of the other devices are as they were
-pub others_so : {M : Type 0} (device other : DeviceId) (after machine : M) (old new : List M) → IsSet device.0 after old new → (other.0 ≡ device.0 → ⊥)
-    → slice_get old other.0 ≡ Some machine → slice_get new other.0 ≡ Some machine
-others_so device other after machine old new set not there = set.same other.0 not ∙ there
+pub others_so : {M : Type 0} (device other : DeviceId) {after : M} (machine : M) {old new : List M}
+    → IsSet device.0 after old new → (other.0 ≡ device.0 → ⊥) → slice_get old other.0 ≡ Some machine
+    → slice_get new other.0 ≡ Some machine
+others_so device other machine set not there = set.same other.0 not ∙ there
 
 pub at_now : (t now k r : ℕ) (ws more : List ℕ) → (k ≡ r → ⊥) → t ∷ k ∷ ws ≡ now ∷ r ∷ more → ⊥
 at_now t now k r ws more not same = not (let e : k ≡ r = cc in e)
 
-pub one_goes_by : {C M : Type 0} (reading : C → ℕ → ℕ) (stands : M → Network → DeviceId → Node → Type 0) (s : Scenario) (world : World C M) (notes : List Note)
-    (old : Stands reading stands s world notes) (device : DeviceId) (machine after : M) (node : Node) (machines : List M) (settled : List Happening)
-    (body : NoteBody) (r : ℕ) (more : List ℕ)
-    → StageAt stands s (happenings s.network notes) world.settled old.mark old.cursor world.now device machine node r more
-    → (p : IsShownPut s.network (happenings s.network notes) world.now body world.settled settled) → length notes + length world.settled + 1 < numbers_end
+pub one_goes_by : {C M : Type 0} {reading : C → ℕ → ℕ} {stands : M → Network → DeviceId → Node → Type 0}
+    {s : Scenario} {world : World C M} {notes : List Note} (old : Stands reading stands s world notes)
+    {device : DeviceId} {machine after : M} {node : Node} {machines : List M} {settled : List Happening}
+    {body : NoteBody} {r : ℕ} {more : List ℕ} → StageAt stands s
+    (happenings s.network notes) world.settled old.mark old.cursor world.now device machine node r more
+    → (p : IsShownPut s.network (happenings s.network notes) world.now body world.settled settled)
+    → length notes + length world.settled + 1 < numbers_end
     → IsActRecordAt s (happenings s.network notes) p.front p.back world.now device body (world.now ∷ r ∷ more)
-    → IsAllOfIt s (happenings s.network notes) (p.front ++ record_of s.network (happenings s.network notes) p.front world.now body ∷ p.back)
-    (world.now ∷ r ∷ more) → IsSet device.0 after world.machines machines
-    → IsKept stands s (happenings s.network notes) (p.front ++ record_of s.network (happenings s.network notes) p.front world.now body ∷ p.back)
+    → IsAllOfIt s (happenings s.network notes) (p.front
+    ++ record_of s.network (happenings s.network notes) p.front world.now body ∷ p.back) (world.now ∷ r ∷ more)
+    → IsSet device.0 after world.machines machines → IsKept stands s (happenings s.network notes)
+    (p.front ++ record_of s.network (happenings s.network notes) p.front world.now body ∷ p.back)
     (behind (world.now ∷ r ∷ more)) world.now device after
-    → StandsBehind reading stands s (record world { early = false; machines = machines; settled = settled }) notes (behind (world.now ∷ r ∷ more))
-one_goes_by {C} {M} reading stands s world notes old device machine after node machines settled body r more st p room a all set kept =
+    → StandsBehind reading stands s (record world { early = false; machines = machines; settled = settled }) notes
+    (behind (world.now ∷ r ∷ more))
+one_goes_by {C} {M} {reading} {stands} {s} {world} {notes} old {device} {machine} {after} {node} {machines} {settled} {body} {r} {more} st p room a all set kept =
     let hs = happenings s.network notes in
     let now = world.now in
     let front = p.front in
@@ -297,17 +306,16 @@ one_goes_by {C} {M} reading stands s world notes old device machine after node m
     let high = st.late in
     let low = st.low in
     let st2 : StageAt stands s hs (front ++ back) old.mark old.cursor now device machine node r more =
-    subst (λ (l : List Happening). StageAt stands s hs l old.mark old.cursor now device machine node r more) p.parts st in
-    let one = one_act stands s hs front back old.mark old.cursor now device machine node body r more st2 p.before p.none a in
+    subst (λ l. StageAt stands s hs l old.mark old.cursor now device machine node r more) p.parts st in
+    let one = one_act stands s hs front back old.mark old.cursor now device machine node st2 p.before p.none a in
     let long = put_length front back w in
     let same_long : length world.settled ≡ length (front ++ back) = ap length p.parts in
     let later : IsBefore (now ∷ 2 ∷ []) here = inr (refl, inl (omega (arith, high))) in
     subst (λ (l : List Happening). StandsBehind reading stands s (record world { early = false; machines = machines; settled = l }) notes (behind here))
     (sym p.shows)
-    (stands_on reading stands s world notes old r more here machines world.wires world.ports world.waiting new world.shown st.moving refl
-    (omega (arith, long, same_long, room))
-    (one_by s hs front back old.mark old.cursor now r more w one a.lone all)
-    (known_aside s hs front back w (λ other le. no_row_of s device other body st.of_it a.apart le)
+    (stands_on old r more here machines world.shown st.moving refl (omega (arith, long, same_long, room))
+    (one_by one a.lone all)
+    (known_aside hs front back w (λ other le. no_row_of s device other body st.of_it a.apart le)
     (subst (λ (l : List Happening). AreOfNetwork s (hs ++ l)) p.parts old.known))
     (λ other lt. elim (cases_eq other.0 device.0) [
       | inl e ↦
@@ -318,17 +326,18 @@ one_goes_by {C} {M} reading stands s world notes old device machine after node m
           let m = old.devices other lt in
           let x = a.apart other not in (
             m.0,
-            others_so device other after m.0 world.machines machines set not m.1,
+            others_so device other m.0 set not m.1,
             held_aside s hs front back w other x.0 refl (frames_aside s hs front back w other x.0 x.1)
-                (subst (λ (l : List Happening). IsHeld stands s hs l (behind here) now other m.0) p.parts
-                (held_moves stands s hs world.settled old.mark old.cursor now r more other m.0 st.moving (λ task same. not (st.own other task same)) m.2)),
+                (subst (λ l. IsHeld stands s hs l (behind here) now other m.0) p.parts
+                (held_moves stands s hs world.settled st.moving (λ task same. not (st.own other task same)) m.2)),
           )
     ])
     later
-    (wires_move s hs world.settled old.mark old.cursor now r more world.wires world.wires st.moving
-    (told_wires reading stands s world notes old r more st.moving later)
+    (wires_move s hs world.settled old.mark old.cursor now r more world.wires st.moving
+    (told_wires old r more st.moving later)
     (all_without wire_place here world.wires (λ e same. at_now e.at now 2 r _ more (λ k. omega (arith, k, high)) same)))
-    (ports_move s hs world.settled old.mark old.cursor now r more world.ports world.ports st.moving old.ports
+    (ports_move s hs world.settled old.mark old.cursor now r more world.ports st.moving old.ports
     (all_without port_place here world.ports (λ e same. at_now e.at now 8 r _ more (λ k. omega (arith, k, low)) same)))
-    (waiting_moves s hs world.settled old.mark old.cursor now r more world.waiting st.moving (λ three. omega (arith, three, high)) old.waiting)
-    (shown_still reading stands s world notes old r more (omega (arith, low)) st.moving))
+    (waiting_moves s hs world.settled old.mark old.cursor now r more st.moving (λ three. omega (arith, three, high))
+    old.waiting)
+    (shown_still old r more (omega (arith, low)) st.moving))

@@ -15,71 +15,72 @@ changed_soon hs device now =
     last_within None (filter (λ h. changes_adjustment device h.note.body) (earlier (now + 1) hs)) now tt
     (λ h i. let lt = in_earlier (now + 1) hs h (in_filter _ (earlier (now + 1) hs) h i) in omega (arith, lt))
 
--- how a device stands that is kept, and has something due, is not that its instant is over
-pub up_now : {M : Type 0} (stands : M → Network → DeviceId → Node → Type 0) (s : Scenario) (hs coming : List Happening) (cursor : List ℕ) (now : ℕ)
-    (device : DeviceId) (machine : M) (k : IsKept stands s hs coming cursor now device machine)
-    → ((p : List ℕ) → IsBefore p cursor → IsBefore p ((now + 1) ∷ [])) → HasTaskBy s device k.node now
-    → (k.up ≡ now)
-    × ((task : Task) → IsBefore (task_place s.network now device task) cursor → IsActing s hs now device task → HasDoneTask k.node task)
-up_now stands s hs coming cursor now device machine k later due = elim k.acted [
-  | inl yet ↦ yet
-  | inr over ↦
-      let changed = changed_at (hs ++ coming) device k.up in
-      let le : now + 1 ≤ k.up = omega (arith, over.0) in
-      absurd (not_over s (hs ++ coming) device now (now + 1) k.node
-      (subst (λ (n : ℕ). HasDoneFrom s.network (s.reading device) device k.node (changed_at (hs ++ coming) device n) (now + 1) (now + 1)) over.0
-      (done_by s device k.node changed k.up now cursor k.worked later (now + 1) le))
-      (sent_by s device k.node changed k.up now cursor k.worked later (now + 1) le)
-      (changed_soon (hs ++ coming) device now) due)
-]
+module _ {M : Type 0} (stands : M → Network → DeviceId → Node → Type 0) (s : Scenario) (hs coming : List Happening)
+    (cursor : List ℕ) (now : ℕ) (device : DeviceId) (machine : M) where
+  -- how a device stands that is kept, and has something due, is not that its instant is over
+  pub up_now : (k : IsKept stands s hs coming cursor now device machine)
+      → ((p : List ℕ) → IsBefore p cursor → IsBefore p ((now + 1) ∷ [])) → HasTaskBy s device k.node now
+      → (k.up ≡ now) × ((task : Task) → IsBefore (task_place s.network now device task) cursor
+      → IsActing s hs now device task → HasDoneTask k.node task)
+  up_now k later due = elim k.acted [
+    | inl yet ↦ yet
+    | inr over ↦
+        let changed = changed_at (hs ++ coming) device k.up in
+        let le : now + 1 ≤ k.up = omega (arith, over.0) in
+        absurd (not_over (hs ++ coming) now
+        (subst (λ n. HasDoneFrom s.network (s.reading device) device k.node
+        (changed_at (hs ++ coming) device n) (now + 1) (now + 1)) over.0
+        (done_by now k.worked later (now + 1) le)) (sent_by now k.worked later (now + 1) le)
+        (changed_soon (hs ++ coming) device now) due)
+  ]
 
--- ---- it is at work
+  -- ---- it is at work
 
-pub at_work : {M : Type 0} (stands : M → Network → DeviceId → Node → Type 0) (s : Scenario) (hs coming : List Happening) (cursor : List ℕ) (now : ℕ)
-    (device : DeviceId) (machine : M) (k : IsKept stands s hs coming cursor now device machine)
-    → ((p : List ℕ) → IsBefore p cursor → IsBefore p ((now + 1) ∷ [])) → ((z : Happening) → IsIn z coming → time_of z ≡ now)
-    → ((h : Happening) → IsIn h (hs ++ coming) → time_of h ≤ now) → ((z : Happening) → IsIn z coming → 4 ≤ rank z.note.body)
-    → k.up ≡ now → IsAtWork s hs coming now device k.node
-at_work stands s hs coming cursor now device machine k later of past late up =
-    let js = hs ++ coming in
-    let changed = changed_at js device k.up in
-    let le : now ≤ k.up = omega (arith, up) in
-    let done : HasDoneFrom s.network (s.reading device) device k.node (changed_at js device now) now (now + 1) =
-    subst (λ (n : ℕ). HasDoneFrom s.network (s.reading device) device k.node (changed_at js device n) now (now + 1)) up
-    (done_by s device k.node changed k.up now cursor k.worked later now le) in
-    let sent = sent_by s device k.node changed k.up now cursor k.worked later now le in
-    record {
-      left = subst (λ (n : ℕ). IsLeft s js device n k.node) up k.left;
-      done = done;
-      sent = sent;
-      ready = k.ready;
-      still = k.still up;
-      past = past;
-      of_now = λ z i. (of z i, late z i);
-      sound = k.sound;
-    }
+  pub at_work : (k : IsKept stands s hs coming cursor now device machine)
+      → ((p : List ℕ) → IsBefore p cursor → IsBefore p ((now + 1) ∷ []))
+      → ((z : Happening) → IsIn z coming → time_of z ≡ now)
+      → ((h : Happening) → IsIn h (hs ++ coming) → time_of h ≤ now)
+      → ((z : Happening) → IsIn z coming → 4 ≤ rank z.note.body) → k.up ≡ now → IsAtWork s hs coming now device k.node
+  at_work k later of past late up =
+      let js = hs ++ coming in
+      let changed = changed_at js device k.up in
+      let le : now ≤ k.up = omega (arith, up) in
+      let done : HasDoneFrom s.network (s.reading device) device k.node (changed_at js device now) now (now + 1) =
+      subst (λ n. HasDoneFrom s.network (s.reading device) device k.node (changed_at js device n) now
+      (now + 1)) up
+      (done_by now k.worked later now le) in
+      let sent = sent_by now k.worked later now le in
+      record {
+        left = subst (λ n. IsLeft s js device n k.node) up k.left;
+        done = done;
+        sent = sent;
+        ready = k.ready;
+        still = k.still up;
+        past = past;
+        of_now = λ z i. (of z i, late z i);
+        sound = k.sound;
+      }
 
 -- ---- its acts are not worked off
 
 -- a task that is due is an act
-pub task_acts : (s : Scenario) (hs coming : List Happening) (now : ℕ) (device : DeviceId) (node : Node) (task : Task) → IsLawful s (hs ++ coming) device
-    → node.taken ≡ frames_taken s (hs ++ coming) device
-    → IsAtWork s hs coming now device node → IsPending s.network device node task → reading_for s.network node task ≤ℤ pos (s.reading device now)
-    → IsActing s hs now device task
-task_acts s hs coming now device node (emitting c) law taken w p due =
-    subst (λ (l : List Happening). IsActing s l now device (emitting c)) (append-nil hs)
-    (IsActing.emits c (own_judgement s.network device node c) (emits s hs coming [] coming now device node c w refl p due))
-task_acts s hs coming now device node (doing (sending cycle)) law taken w p due =
-    subst (λ (l : List Happening). IsActing s l now device (doing (sending cycle))) (append-nil hs)
+pub task_acts : {s : Scenario} {hs coming : List Happening} {now : ℕ} {device : DeviceId} {node : Node} (task : Task)
+    → IsLawful s (hs ++ coming) device → node.taken ≡ frames_taken s (hs ++ coming) device
+    → IsAtWork s hs coming now device node → IsPending s.network device node task
+    → reading_for s.network node task ≤ℤ pos (s.reading device now) → IsActing s hs now device task
+task_acts {s} {hs} {coming} {now} {device} {node} (emitting c) law taken w p due =
+    subst (λ l. IsActing s l now device (emitting c)) (append-nil hs)
+    (IsActing.emits c (own_judgement s.network device node c) (emits [] coming c w refl p due))
+task_acts {s} {hs} {coming} {now} {device} {node} (doing (sending cycle)) law taken w p due =
+    subst (λ l. IsActing s l now device (doing (sending cycle))) (append-nil hs)
     (IsActing.sends cycle (sends s hs coming [] now device node cycle w (λ z i. absurd i) p due))
-task_acts s hs coming now device node (doing (correcting cycle)) law taken w p due =
-    subst (λ (l : List Happening). IsActing s l now device (doing (correcting cycle))) (append-nil hs)
+task_acts {s} {hs} {coming} {now} {device} {node} (doing (correcting cycle)) law taken w p due =
+    subst (λ l. IsActing s l now device (doing (correcting cycle))) (append-nil hs)
     (IsActing.corrects cycle (at_correction s hs coming [] now device node cycle w (λ z i. absurd i) p due))
-task_acts s hs coming now device node (doing (dispatching row cycle)) law taken w p due =
+task_acts {s} {hs} {coming} {now} {device} (doing (dispatching row cycle)) law taken w p due =
     let frame = p.1.own.1 in
-    let d = dispatches_so s (hs ++ coming) device now node row cycle law w.past taken
-    (record { synchronised = sym w.left.state ∙ p.1.own.0; correct = w.sound })
-    frame (reaches s hs coming now device node (dispatching row cycle) w p.1 due) in
+    let d = dispatches_so law w.past taken (record { synchronised = sym w.left.state ∙ p.1.own.0; correct = w.sound })
+    frame (reaches w p.1 due) in
     let e = dispatches_same s (hs ++ coming) hs now device frame.entry.row.link d.0 frame.entry.row.vl cycle
     (earlier_still now hs coming (λ z i. let at = (w.of_now z i).0 in omega (arith, at))) d.2.0 in
     let of_row : RowId = record { 0 = e.0.place } in
@@ -93,13 +94,17 @@ undone_task network device node (emitting sent) p did = p.1.not_yet did
 undone_task network device node (doing deed) p did = p.1.not_yet did
 
 -- so a task that is due is not worked off
-pub acts_wait : {M : Type 0} (stands : M → Network → DeviceId → Node → Type 0) (s : Scenario) (hs coming : List Happening) (cursor : List ℕ) (now : ℕ)
-    (device : DeviceId) (machine : M) (k : IsKept stands s hs coming cursor now device machine) (task : Task) → IsLawful s (hs ++ coming) device
-    → ((p : List ℕ) → IsBefore p cursor → IsBefore p ((now + 1) ∷ [])) → ((z : Happening) → IsIn z coming → time_of z ≡ now)
-    → ((h : Happening) → IsIn h (hs ++ coming) → time_of h ≤ now) → ((z : Happening) → IsIn z coming → 4 ≤ rank z.note.body)
-    → IsPending s.network device k.node task → reading_for s.network k.node task ≤ℤ pos (s.reading device now)
+pub acts_wait : {M : Type 0} {stands : M → Network → DeviceId → Node → Type 0} {s : Scenario}
+    {hs coming : List Happening} {cursor : List ℕ} {now : ℕ} {device : DeviceId} {machine : M}
+    (k : IsKept stands s hs coming cursor now device machine) (task : Task) → IsLawful s (hs ++ coming) device
+    → ((p : List ℕ) → IsBefore p cursor → IsBefore p ((now + 1) ∷ []))
+    → ((z : Happening) → IsIn z coming → time_of z ≡ now)
+    → ((h : Happening) → IsIn h (hs ++ coming) → time_of h ≤ now)
+    → ((z : Happening) → IsIn z coming → 4 ≤ rank z.note.body) → IsPending s.network device k.node task
+    → reading_for s.network k.node task ≤ℤ pos (s.reading device now)
     → IsBefore (task_place s.network now device task) cursor → ⊥
-acts_wait stands s hs coming cursor now device machine k task law later of past late pending due b =
+acts_wait {stands} {s} {hs} {coming} {cursor} {now} {device} {machine} k task law later of past late pending due b =
     let up = up_now stands s hs coming cursor now device machine k later (task, pending, due) in
     undone_task s.network device k.node task pending
-    (up.1 task b (task_acts s hs coming now device k.node task law k.taken (at_work stands s hs coming cursor now device machine k later of past late up.0) pending due))
+    (up.1 task b (task_acts task law k.taken (at_work stands s hs coming cursor now device machine k later of past
+    late up.0) pending due))

@@ -23,14 +23,14 @@ one_heard s hs device t h at =
     let w = earlier t hs in
     let late : (nat_lt (time_of h) t && changes_adjustment device h.note.body) ≡ false = ap (λ (b : Bool). b && changes_adjustment device h.note.body)
     (le-ltb (time_of h) t le) in
-    let kept : (not (cleared_in s device w t) || cleared_in s device w (time_of h)) ≡ true = ap (λ (n : ℕ). not (cleared_in s device w t)
+    let kept : (not (cleared_in s device w t) || cleared_in s device w (time_of h)) ≡ true = ap (λ n. not (cleared_in s device w t)
     || cleared_in s device w n) at ∙ kept_flag (cleared_in s device w t) in
     let k = λ (g : Happening). not (cleared_in s device w t) || cleared_in s device w (time_of g) in
     let f = λ (g : Happening). hearing_by s.network device g g.note.body in
     ap (λ (v : List Happening). filter_map f
     (filter (λ g. not (cleared_in s device v t) || cleared_in s device v (time_of g)) (since_at device t (hs ++ h ∷ []))))
     (same_before t hs h le)
-    ∙ ap (λ (l : List Happening). filter_map f (filter k l)) (behind_no (λ g. nat_lt (time_of g) t && changes_adjustment device g.note.body) hs h late)
+    ∙ ap (λ l. filter_map f (filter k l)) (behind_no (λ g. nat_lt (time_of g) t && changes_adjustment device g.note.body) hs h late)
     ∙ ap (filter_map f) (filter_yes k (since_at device t hs) h kept)
     ∙ maps_on f (filter k (since_at device t hs)) h
 
@@ -43,9 +43,9 @@ pub heard_more : (s : Scenario) (hs : List Happening) (device : DeviceId) (t : �
 heard_more s hs device t zs =
     by_last (λ (l : List Happening). ((z : Happening) → IsIn z l → time_of z ≡ t)
     → heard_since s (hs ++ l) device t ≡ heard_since s hs device t ++ heard_by_these s device l)
-    (λ of. ap (λ (l : List Happening). heard_since s l device t) (append-nil hs) ∙ sym (append-nil (heard_since s hs device t)))
+    (λ of. ap (λ l. heard_since s l device t) (append-nil hs) ∙ sym (append-nil (heard_since s hs device t)))
     (λ l z same of.
-    ap (λ (k : List Happening). heard_since s k device t) (sym (append_assoc hs l (z ∷ [])))
+    ap (λ k. heard_since s k device t) (sym (append_assoc hs l (z ∷ [])))
     ∙ one_heard s (hs ++ l) device t z (of z (in_right z l (z ∷ []) (inl refl)))
     ∙ ap (λ (k : List Hearing). k ++ heard_by_these s device (z ∷ [])) (same (λ y i. of y (in_left y l (z ∷ []) i)))
     ∙ append_all (heard_since s hs device t) (heard_by_these s device l) (heard_by_these s device (z ∷ []))
@@ -89,10 +89,11 @@ pub record IsSameBut (node new : Node) : Type 0 where
   pub points : new.points ≡ node.points
 
 -- stands as it did, where the records differ only at the instant
-pub left_now : (s : Scenario) (hs gs : List Happening) (device : DeviceId) (now : ℕ) (node new : Node) → earlier now hs ≡ earlier now gs → IsSameBut node new
-    → (is_timed node.standing.state ≡ true → new.heard ≡ heard_since s gs device now) → points_of hs device ≡ points_of gs device
-    → IsLeft s hs device now node → IsLeft s gs device now new
-left_now s hs gs device now node new same but heard points left =
+pub left_now : {s : Scenario} {hs : List Happening} (gs : List Happening) {device : DeviceId} {now : ℕ}
+    {node new : Node} → earlier now hs ≡ earlier now gs → IsSameBut node new
+    → (is_timed node.standing.state ≡ true → new.heard ≡ heard_since s gs device now)
+    → points_of hs device ≡ points_of gs device → IsLeft s hs device now node → IsLeft s gs device now new
+left_now gs same but heard points left =
     grind (arith, is_timed, adjustment_after, integration_cycle, next_in, local_in, recorded_cycle, is_turned_on_at, state_after)
 
 -- the points are the same with one more record between those of the instant

@@ -1,11 +1,11 @@
 -- A device that has something due at the present instant: how it stands before it acts, and what is due then.
 use Rattle.sync_state.specs.{Verdicts.HasVerdict, membership.Summary.Summarizes}
 use Rattle.{run_law.specs.timed.Dispatching.Sends, world_law.{proofs.runs.SourcesBack.standing_in, specs.source.Sources.IsAtCorrection}}
-use Rattle.{sync_state.specs.Standing.{Standing, next_point}, world_law.proofs.{devices.TurnedOn.quiet_joins, steps_lemmas.Words.{up_back, value_of, ℕ, ℤ}}}
+use Rattle.{sync_state.specs.Standing.next_point, world_law.proofs.{devices.TurnedOn.quiet_joins, steps_lemmas.Words.{up_back, value_of, ℕ, ℤ}}}
 use Rattle.world_law.proofs.acts.Dues.{same_standing}
 use Rattle.world_law.proofs.steps_lemmas.Words.{◌++◌, ◌+◌, ◌-ℤ◌, ◌<ℤ◌, ◌||◌, ◌∙◌, ◌∷◌, ◌≡◌, ◌≤ℤ◌, ◌≤◌, AreClusters, Bool, ClockTask, ComesTo, ComesToCorrection}
 use Rattle.world_law.proofs.steps_lemmas.Words.{Compressed, DeviceId, Emits, Happening, HasDoneFrom, HasSentFrom, HasTaskBy, Integrating, IsAtRest, IsIn}
-use Rattle.world_law.proofs.steps_lemmas.Words.{IsLeft, IsPending, IsReadyAt, IsUndone, Joining, Judgement, List, Network, Node, Point, Reaches, Scenario, Some}
+use Rattle.world_law.proofs.steps_lemmas.Words.{IsLeft, IsPending, IsReadyAt, IsUndone, Joining, Judgement, List, Network, Node, Reaches, Scenario, Some}
 use Rattle.world_law.proofs.steps_lemmas.Words.{Summary, Units, Verdict, [], adjustment_after, adjustment_at_hearing, adjustment_before, and_right, ap}
 use Rattle.world_law.proofs.steps_lemmas.Words.{append_assoc, arith, cases_lt, changed_at, changed_before, correcting, doing, earlier, earlier_still, emitting}
 use Rattle.world_law.proofs.steps_lemmas.Words.{false, has_joined_at, heard_as, heard_since, if◌then◌else◌, in_left, in_right, inl, inr, ints, is_broken}
@@ -27,22 +27,24 @@ pub record IsAtWork (s : Scenario) (hs coming : List Happening) (now : ℕ) (dev
 -- ---- from what is kept of it
 
 -- the instant is not over for a device that has a task due at it
-pub not_over : (s : Scenario) (hs : List Happening) (device : DeviceId) (now high : ℕ) (node : Node)
-    → HasDoneFrom s.network (s.reading device) device node (changed_at hs device (now + 1)) (now + 1) high → HasSentFrom s device node (now + 1) high
-    → changed_at hs device (now + 1) ≤ now → HasTaskBy s device node now → ⊥
-not_over s hs device now high node done sent le (emitting c, p, due) = never_both _ _ (sent.unsent c p.1 now (omega arith)) due
-not_over s hs device now high node done sent le (doing deed, p, due) = never_both _ _ (done.undone deed p.1 now le (omega arith)) due
+pub not_over : {s : Scenario} (hs : List Happening) {device : DeviceId} (now : ℕ) {high : ℕ} {node : Node}
+    → HasDoneFrom s.network (s.reading device) device node (changed_at hs device (now + 1)) (now + 1) high
+    → HasSentFrom s device node (now + 1) high → changed_at hs device (now + 1) ≤ now → HasTaskBy s device node now
+    → ⊥
+not_over hs now done sent le (emitting c, p, due) = never_both _ _ (sent.unsent c p.1 now (omega arith)) due
+not_over hs now done sent le (doing deed, p, due) = never_both _ _ (done.undone deed p.1 now le (omega arith)) due
 
 -- ---- what is due is caused
 
 -- what the device has still to do, and at whose value its clock is, its clock reaches
-pub reaches : (s : Scenario) (hs coming : List Happening) (now : ℕ) (device : DeviceId) (node : Node) (deed : ClockTask) → IsAtWork s hs coming now device node
-    → IsUndone s.network device node deed → reading_for s.network node (doing deed) ≤ℤ pos (s.reading device now)
+pub reaches : {s : Scenario} {hs coming : List Happening} {now : ℕ} {device : DeviceId} {node : Node}
+    {deed : ClockTask} → IsAtWork s hs coming now device node → IsUndone s.network device node deed
+    → reading_for s.network node (doing deed) ≤ℤ pos (s.reading device now)
     → Reaches s (hs ++ coming) device (value_of s.network deed) now
-reaches s hs coming now device node deed w undone due =
+reaches {s} {hs} {coming} {now} {device} {deed} w undone due =
     let le = changed_before (hs ++ coming) device now in
     record {
-      below = subst (λ (z : ℤ). z <ℤ value_of s.network deed) w.left.counted.changed undone.ahead;
+      below = subst (λ z. z <ℤ value_of s.network deed) w.left.counted.changed undone.ahead;
       reach = record {
         from_on = omega (arith, ints, le);
         reached = subst (λ (a : Units). (value_of s.network deed -ℤ a.0) ≤ℤ pos (s.reading device now)) w.left.counted.adjustment due;
@@ -58,57 +60,62 @@ pub all_earlier : (s : Scenario) (hs coming other : List Happening) (now : ℕ) 
 all_earlier s hs coming other now of also =
     earlier_still now hs coming (λ z i. let at = of z i in omega (arith, at)) ∙ sym (earlier_still now hs other (λ z i. let at = also z i in omega (arith, at)))
 
--- a master that has to send, sends
-pub sends : (s : Scenario) (hs coming other : List Happening) (now : ℕ) (device : DeviceId) (node : Node) (cycle : ℕ) → IsAtWork s hs coming now device node
-    → ((z : Happening) → IsIn z other → time_of z ≡ now) → IsPending s.network device node (doing (sending cycle))
-    → reading_for s.network node (doing (sending cycle)) ≤ℤ pos (s.reading device now) → Sends s (hs ++ other) device now cycle
-sends s hs coming other now device node cycle w also pending due =
-    let same = all_earlier s hs coming other now (λ z i. (w.of_now z i).0) also in
-    record {
-      master = pending.1.own.0;
-      up = up_back s (hs ++ coming) (hs ++ other) now device same
-          (record { synchronised = sym w.left.state ∙ pending.1.own.1; correct = sym w.left.counted.broken ∙ pending.0 });
-      begun = pending.1.own.2;
-      reached = reaches_back s (hs ++ coming) (hs ++ other) now device _ same (reaches s hs coming now device node (sending cycle) w pending.1 due);
-    }
+module _ (s : Scenario) (hs coming other : List Happening) (now : ℕ) (device : DeviceId) (node : Node)
+    (cycle : ℕ) where
+  -- a master that has to send, sends
+  pub sends : IsAtWork s hs coming now device node → ((z : Happening) → IsIn z other → time_of z ≡ now)
+      → IsPending s.network device node (doing (sending cycle))
+      → reading_for s.network node (doing (sending cycle)) ≤ℤ pos (s.reading device now)
+      → Sends s (hs ++ other) device now cycle
+  sends w also pending due =
+      let same = all_earlier s hs coming other now (λ z i. (w.of_now z i).0) also in
+      record {
+        master = pending.1.own.0;
+        up = up_back s (hs ++ coming) (hs ++ other) now device same
+            (record { synchronised = sym w.left.state ∙ pending.1.own.1; correct = sym w.left.counted.broken ∙ pending.0 });
+        begun = pending.1.own.2;
+        reached = reaches_back s (hs ++ coming) (hs ++ other) now device same (reaches w pending.1 due);
+      }
 
--- ---- corrections
+  -- ---- corrections
 
--- a device that has its correction point before it is at it
-pub at_correction : (s : Scenario) (hs coming other : List Happening) (now : ℕ) (device : DeviceId) (node : Node) (cycle : ℕ)
-    → IsAtWork s hs coming now device node → ((z : Happening) → IsIn z other → time_of z ≡ now) → IsPending s.network device node (doing (correcting cycle))
-    → reading_for s.network node (doing (correcting cycle)) ≤ℤ pos (s.reading device now) → IsAtCorrection s (hs ++ other) now device cycle
-at_correction s hs coming other now device node cycle w also pending due =
-    let same = all_earlier s hs coming other now (λ z i. (w.of_now z i).0) also in
-    let timed = (point_number node.standing.state node.standing.number cycle pending.1.own).0 in
-    let standing = same_standing s (hs ++ coming) device now node w.left timed in
-    record {
-      next = subst (λ (l : List Happening). next_point (standing_in s device now l) ≡ Some cycle) same
-          (subst (λ (x : Standing). next_point x ≡ Some cycle) standing pending.1.own);
-      reached = reaches_back s (hs ++ coming) (hs ++ other) now device _ same (reaches s hs coming now device node (correcting cycle) w pending.1 due);
-      correct = w.sound;
-    }
+  -- a device that has its correction point before it is at it
+  pub at_correction : IsAtWork s hs coming now device node → ((z : Happening) → IsIn z other → time_of z ≡ now)
+      → IsPending s.network device node (doing (correcting cycle))
+      → reading_for s.network node (doing (correcting cycle)) ≤ℤ pos (s.reading device now)
+      → IsAtCorrection s (hs ++ other) now device cycle
+  at_correction w also pending due =
+      let same = all_earlier s hs coming other now (λ z i. (w.of_now z i).0) also in
+      let timed = (point_number node.standing.state node.standing.number cycle pending.1.own).0 in
+      let standing = same_standing w.left timed in
+      record {
+        next = subst (λ l. next_point (standing_in s device now l) ≡ Some cycle) same
+            (subst (λ x. next_point x ≡ Some cycle) standing pending.1.own);
+        reached = reaches_back s (hs ++ coming) (hs ++ other) now device same (reaches w pending.1 due);
+        correct = w.sound;
+      }
 
--- and it comes to what the device makes of it, by records by which it has heard the same
-pub comes : (s : Scenario) (hs coming other : List Happening) (now : ℕ) (device : DeviceId) (node : Node) (cycle : ℕ) (heard : Summary) (verdict : Verdict)
-    → IsAtWork s hs coming now device node → ((z : Happening) → IsIn z other → time_of z ≡ now)
-    → heard_since s (hs ++ coming) device now ≡ heard_since s (hs ++ other) device now → IsPending s.network device node (doing (correcting cycle))
-    → reading_for s.network node (doing (correcting cycle)) ≤ℤ pos (s.reading device now) → ComesTo node heard verdict
-    → ComesToCorrection s (hs ++ other) device now cycle verdict
-comes s hs coming other now device node cycle heard verdict w also hears pending due to =
-    let same = all_earlier s hs coming other now (λ z i. (w.of_now z i).0) also in
-    let timed = (point_number node.standing.state node.standing.number cycle pending.1.own).0 in
-    let standing = same_standing s (hs ++ coming) device now node w.left timed in
-    let at = at_correction s hs coming other now device node cycle w also pending due in
-    record {
-      next = at.next;
-      reached = at.reached;
-      correct = at.correct;
-      summary = heard;
-      heard = subst (Summarizes heard) (w.left.counted.heard timed ∙ hears) to.summary;
-      comes = subst (λ (l : List Happening). HasVerdict (standing_in s device now l) heard verdict) same
-          (subst (λ (x : Standing). HasVerdict x heard verdict) standing to.verdict_is);
-    }
+  -- and it comes to what the device makes of it, by records by which it has heard the same
+  pub comes : {heard : Summary} {verdict : Verdict} → IsAtWork s hs coming now device node
+      → ((z : Happening) → IsIn z other → time_of z ≡ now)
+      → heard_since s (hs ++ coming) device now ≡ heard_since s (hs ++ other) device now
+      → IsPending s.network device node (doing (correcting cycle))
+      → reading_for s.network node (doing (correcting cycle)) ≤ℤ pos (s.reading device now)
+      → ComesTo node heard verdict → ComesToCorrection s (hs ++ other) device now cycle verdict
+  comes {heard} {verdict} w also hears pending due to =
+      let same = all_earlier s hs coming other now (λ z i. (w.of_now z i).0) also in
+      let timed = (point_number node.standing.state node.standing.number cycle pending.1.own).0 in
+      let standing = same_standing w.left timed in
+      let at = at_correction w also pending due in
+      record {
+        next = at.next;
+        reached = at.reached;
+        correct = at.correct;
+        summary = heard;
+        heard = subst (Summarizes heard) (w.left.counted.heard timed ∙ hears) to.summary;
+        comes = subst (λ l. HasVerdict (standing_in s device now l) heard verdict) same
+            (subst (λ x. HasVerdict x heard verdict) standing to.verdict_is);
+      }
 
 -- ---- emissions
 
@@ -138,30 +145,31 @@ own_judgement network device node sent =
     heard_as (plan_of network device) (observation_window network) node.standing.state node.standing.adjustment.0 sent.at.0 sent.cycle sent.members
 
 -- a compression master that has to emit, emits, by the records given and a front of those to come
-pub emits : (s : Scenario) (hs coming front back : List Happening) (now : ℕ) (device : DeviceId) (node : Node) (sent : Compressed)
-    → IsAtWork s hs coming now device node → coming ≡ front ++ back → IsPending s.network device node (emitting sent)
-    → sent.at.0 ≤ℤ pos (s.reading device now) → Emits s (hs ++ front) device now sent (own_judgement s.network device node sent)
-emits s hs coming front back now device node sent w e pending due =
+pub emits : {s : Scenario} {hs coming : List Happening} (front back : List Happening) {now : ℕ} {device : DeviceId}
+    {node : Node} (sent : Compressed) → IsAtWork s hs coming now device node → coming ≡ front ++ back
+    → IsPending s.network device node (emitting sent) → sent.at.0 ≤ℤ pos (s.reading device now)
+    → Emits s (hs ++ front) device now sent (own_judgement s.network device node sent)
+emits {s} {hs} {coming} front back {now} {device} {node} sent w e pending due =
     let inside : (h : Happening) → IsIn h (hs ++ front) → IsIn h (hs ++ coming) = λ h i.
-    subst (λ (l : List Happening). IsIn h l) (append_assoc hs front back ∙ ap (λ (l : List Happening). hs ++ l) (sym e)) (in_left h (hs ++ front) back i) in
-    let behind_of : (z : Happening) → IsIn z back → IsIn z coming = λ z i. subst (λ (l : List Happening). IsIn z l) (sym e) (in_right z front back i) in
+    subst (λ l. IsIn h l) (append_assoc hs front back ∙ ap (λ (l : List Happening). hs ++ l) (sym e)) (in_left h (hs ++ front) back i) in
+    let behind_of : (z : Happening) → IsIn z back → IsIn z coming = λ z i. subst (λ l. IsIn z l) (sym e) (in_right z front back i) in
     let points : points_of (hs ++ coming) device ≡ points_of (hs ++ front) device =
     grind (arith, points_of, append_assoc, points_same, behind_of, quiet_rest, in_right) in
     let same = all_earlier s hs coming front now (λ z i. (w.of_now z i).0)
-    (λ z i. (w.of_now z (subst (λ (l : List Happening). IsIn z l) (sym e) (in_left z front back i))).0) in
+    (λ z i. (w.of_now z (subst (λ l. IsIn z l) (sym e) (in_left z front back i))).0) in
     let joins : (h : Happening) → IsIn h (hs ++ front) → time_of h ≡ now → is_joined_by device h.note.body ≡ false = λ h i at.
     quiet_joins device h.note.body (quiet_rest s device now h.note.body (w.still h (inside h i) at)) in
     let state : node.standing.state ≡ state_at_hearing s (hs ++ front) device now =
-    w.left.state ∙ ap (λ (l : List Happening). if is_turned_on_at s device now then Integrating else state_after s l device) same
+    w.left.state ∙ ap (λ l. if is_turned_on_at s device now then Integrating else state_after s l device) same
     ∙ sym (hears_state s (hs ++ front) device now joins) in
     let adjustment : node.standing.adjustment ≡ adjustment_at_hearing s (hs ++ front) device now =
-    w.left.counted.adjustment ∙ ap (λ (l : List Happening). adjustment_after s l device) same
+    w.left.counted.adjustment ∙ ap (λ l. adjustment_after s l device) same
     ∙ sym (hears_adjustment s (hs ++ front) device now (λ h i. w.past h (inside h i)) joins) in
     record {
       cm = pending.1.cm;
       correct = w.sound;
       clusters = pending.1.clusters;
-      are = subst (λ (ps : List Point). AreClusters (observation_window s.network) ps pending.1.clusters) (w.left.points pending.1.cm ∙ points) pending.1.are;
+      are = subst (λ ps. AreClusters (observation_window s.network) ps pending.1.clusters) (w.left.points pending.1.cm ∙ points) pending.1.are;
       cluster = pending.1.cluster;
       there = pending.1.there;
       is = pending.1.is;

@@ -52,7 +52,7 @@ heard_calm s hs z device t late calm =
     let k = λ (w : List Happening) (h : Happening). not (cleared_in s device w t) || cleared_in s device w (time_of h) in
     let p = λ (h : Happening). nat_lt (time_of h) t && changes_adjustment device h.note.body in
     let none : p z ≡ false = both_no (nat_lt (time_of z) t) (changes_adjustment device z.note.body) (calm_changes device z.note.body calm) in
-    ap (λ (l : List Happening). filter_map f (filter (k (earlier t (hs ++ z ∷ []))) l)) (behind_no p hs z none)
+    ap (λ l. filter_map f (filter (k (earlier t (hs ++ z ∷ []))) l)) (behind_no p hs z none)
     ∙ ap (λ (w : List Happening). filter_map f (filter (k w) (after_last p hs ++ z ∷ []))) (same_before t hs z late)
     ∙ filtered_none f (k (earlier t hs)) (after_last p hs) z (calm_hears s.network device z z.note.body calm)
   where
@@ -64,9 +64,9 @@ points_calm : (hs : List Happening) (z : Happening) (device : DeviceId) → is_c
 points_calm hs z device calm = grind (arith, point_by, ends_stretch, filter_map, behind_no, calm_ends, map_none, after_last, calm_point)
 
 -- what stood for the records before does so with such a record of the time, or of a later one
-left_calm : (s : Scenario) (hs : List Happening) (z : Happening) (device : DeviceId) (t : ℕ) (node : Node) → t ≤ time_of z → is_calm z.note.body ≡ true
-    → IsLeft s hs device t node → IsLeft s (hs ++ z ∷ []) device t node
-left_calm s hs z device t node late calm left =
+left_calm : {s : Scenario} {hs : List Happening} (z : Happening) {device : DeviceId} {t : ℕ} {node : Node}
+    → t ≤ time_of z → is_calm z.note.body ≡ true → IsLeft s hs device t node → IsLeft s (hs ++ z ∷ []) device t node
+left_calm z late calm left =
     grind (
       arith,
       earlier,
@@ -83,19 +83,22 @@ left_calm s hs z device t node late calm left =
     )
 
 -- the same with such records one after the other
-pub left_all_calm : (s : Scenario) (hs zs : List Happening) (device : DeviceId) (t : ℕ) (node : Node) → ((z : Happening) → IsIn z zs → t ≤ time_of z)
-    → ((z : Happening) → IsIn z zs → is_calm z.note.body ≡ true) → IsLeft s hs device t node → IsLeft s (hs ++ zs) device t node
-left_all_calm s hs [] device t node late calm left = subst (λ (l : List Happening). IsLeft s l device t node) (sym (append-nil hs)) left
-left_all_calm s hs (z ∷ zs) device t node late calm left =
-    subst (λ (l : List Happening). IsLeft s l device t node) (append_assoc hs (z ∷ []) zs)
-    (left_all_calm s (hs ++ z ∷ []) zs device t node (λ y i. late y (inr i)) (λ y i. calm y (inr i))
-    (left_calm s hs z device t node (late z (inl refl)) (calm z (inl refl)) left))
+pub left_all_calm : {s : Scenario} {hs : List Happening} (zs : List Happening) {device : DeviceId} {t : ℕ}
+    {node : Node} → ((z : Happening) → IsIn z zs → t ≤ time_of z)
+    → ((z : Happening) → IsIn z zs → is_calm z.note.body ≡ true) → IsLeft s hs device t node
+    → IsLeft s (hs ++ zs) device t node
+left_all_calm {s} {hs} [] {device} {t} {node} late calm left =
+    subst (λ l. IsLeft s l device t node) (sym (append-nil hs)) left
+left_all_calm {s} {hs} (z ∷ zs) {device} {t} {node} late calm left =
+    subst (λ l. IsLeft s l device t node) (append_assoc hs (z ∷ []) zs)
+    (left_all_calm zs (λ y i. late y (inr i)) (λ y i. calm y (inr i))
+    (left_calm z (late z (inl refl)) (calm z (inl refl)) left))
 
 -- ---- folds up to a time
 
 fold_up : {B : Type 0} (f : B → Happening → B) (b : B) (now : ℕ) (hs zs : List Happening) → ((z : Happening) → IsIn z zs → (y : B) → f y z ≡ y)
     → fold f b (up_to now (hs ++ zs)) ≡ fold f b (up_to now hs)
-fold_up f b now hs [] none = ap (λ (l : List Happening). fold f b (up_to now l)) (append-nil hs)
+fold_up f b now hs [] none = ap (λ l. fold f b (up_to now l)) (append-nil hs)
 fold_up f b now hs (z ∷ zs) none =
     grind (
       arith,
@@ -111,15 +114,16 @@ fold_up f b now hs (z ∷ zs) none =
       (fold_up f b now (hs ++ z ∷ []) zs (λ y i. none y (inr i))),
     )
 
--- records that do not move a device leave its state and its adjustment
-pub state_unmoved : (s : Scenario) (hs zs : List Happening) (device : DeviceId) (now : ℕ)
-    → ((z : Happening) → IsIn z zs → moves device z.note.body ≡ false) → state_after s (up_to now (hs ++ zs)) device ≡ state_after s (up_to now hs) device
-state_unmoved s hs zs device now none =
-    fold_up (λ (state : State) (h : Happening). state_with device state h.note.body) _ now hs zs (λ z i y. keeps_state device y z.note.body (none z i))
+module _ (s : Scenario) (hs zs : List Happening) (device : DeviceId) (now : ℕ)
+    (none : ((z : Happening) → IsIn z zs → moves device z.note.body ≡ false)) where
+  -- records that do not move a device leave its state and its adjustment
+  pub state_unmoved : state_after s (up_to now (hs ++ zs)) device ≡ state_after s (up_to now hs) device
+  state_unmoved =
+      fold_up (λ (state : State) (h : Happening). state_with device state h.note.body) _ now hs zs
+      (λ z i y. keeps_state device y z.note.body (none z i))
 
-pub adjustment_unmoved : (s : Scenario) (hs zs : List Happening) (device : DeviceId) (now : ℕ)
-    → ((z : Happening) → IsIn z zs → moves device z.note.body ≡ false) → adjustment_after s (up_to now (hs ++ zs)) device ≡ adjustment_after s (up_to now hs)
-    device
-adjustment_unmoved s hs zs device now none =
-    fold_up (λ (adjustment : Units) (h : Happening). adjustment_with s device (cycle_in h) adjustment h.note.body) _ now hs zs
-    (λ z i y. keeps_adjustment s device (cycle_in z) y z.note.body (none z i))
+  pub adjustment_unmoved : adjustment_after s (up_to now (hs ++ zs)) device ≡ adjustment_after s (up_to now hs) device
+  adjustment_unmoved =
+      fold_up (λ (adjustment : Units) (h : Happening). adjustment_with s device (cycle_in h) adjustment h.note.body)
+      _ now hs zs
+      (λ z i y. keeps_adjustment s device (cycle_in z) y z.note.body (none z i))

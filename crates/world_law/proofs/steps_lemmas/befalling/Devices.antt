@@ -2,7 +2,7 @@
 use Rattle.world_law.proofs.devices.Working.{rested, worked_by}
 use Rattle.world_law.proofs.steps_lemmas.Words.{before_behind, chain}
 use Rattle.{net_plan.proofs.SameIds.alike}
-use Rattle.world_law.proofs.{steps_lemmas.befalling.{CalmTakings.taken_calm, UnderWay.{IsTelling, goes_on}}}
+use Rattle.world_law.proofs.steps_lemmas.befalling.{CalmTakings.taken_calm, UnderWay.{IsTelling, goes_on}}
 use Rattle.world_law.proofs.steps_lemmas.Words.{◌++◌, ◌==◌, ◌∙◌, ◌∷◌, ◌≡◌, ◌≤◌, AreOfNetwork, Befell, DeviceId, Happening, HasDoneFrom}
 use Rattle.world_law.proofs.steps_lemmas.Words.{IsAtRest, IsBefore, IsDue, IsFounded, IsHeld, IsIn, IsKept, IsLeft, IsOfThisTime}
 use Rattle.world_law.proofs.steps_lemmas.Words.{IsTurnedOnBy, List, Network, Node, None, NoteBody, Scenario, [], act_place}
@@ -26,46 +26,47 @@ pub record AreToldOf (s : Scenario) (hs coming : List Happening) (cursor : List 
 -- ---- what such a record says of a device
 
 -- the device of which it speaks is turned on by an event
-on_so : (s : Scenario) (hs : List Happening) (now n line : ℕ) (d : DeviceId) (h : Happening) → IsFounded place_of (IsDue s) hs → (it : IsOfThisTime hs now n h)
-    → h.note.body ≡ kinds.Event line (events.On d) → is_turned_on_at s d now ≡ true
-on_so s hs now n line d h founded it is =
-    on_by_record s h.note.time line now d (event_due s hs h line (events.On d) founded (numbered_in hs n h it.there) is) it.same_time
+on_so : (s : Scenario) {hs : List Happening} {now n : ℕ} (line : ℕ) (d : DeviceId) {h : Happening}
+    → IsFounded place_of (IsDue s) hs → (it : IsOfThisTime hs now n h) → h.note.body ≡ kinds.Event line (events.On d)
+    → is_turned_on_at s d now ≡ true
+on_so s {hs} {now} {n} line d {h} founded it is =
+    on_by_record s now d (event_due s hs h line (events.On d) founded (numbered_in hs n h it.there) is) it.same_time
 
-pub rest_outcome : (s : Scenario) (hs : List Happening) (now : ℕ) (device : DeviceId) (body : NoteBody) → IsFounded place_of (IsDue s) hs
-    → IsOutcome s hs now body → IsAtRest s device now body
-rest_outcome s hs now device body founded (IsOutcome.losing d link n it) = inl refl
-rest_outcome s hs now device body founded (IsOutcome.turning d n line h sound it is) =
-    elim (cases_Bool (device.0 == d.0)) [
-      | inr other ↦ inl other
-      | inl same ↦ inr (
-        same,
-        ap (λ (x : DeviceId). is_turned_on_at s x now) (alike device d same) ∙ on_so s hs now n line d h founded it is,
-      )
-    ]
+module _ (s : Scenario) (hs : List Happening) (now : ℕ) (device : DeviceId) (body : NoteBody) where
+  pub rest_outcome : IsFounded place_of (IsDue s) hs → IsOutcome s hs now body → IsAtRest s device now body
+  rest_outcome founded (IsOutcome.losing d link n it) = inl refl
+  rest_outcome founded (IsOutcome.turning d n line h sound it is) =
+      elim (cases_Bool (device.0 == d.0)) [
+        | inr other ↦ inl other
+        | inl same ↦ inr (
+          same,
+          ap (λ x. is_turned_on_at s x now) (alike device d same) ∙ on_so s line d founded it is,
+        )
+      ]
 
--- it does not move a broken one
-out_unmoved : (s : Scenario) (hs : List Happening) (now : ℕ) (device : DeviceId) (body : NoteBody) → is_broken s device now ≡ true → IsOutcome s hs now body
-    → moves device body ≡ false
-out_unmoved s hs now device body broken (IsOutcome.losing d link n it) = refl
-out_unmoved s hs now device body broken (IsOutcome.turning d n line h sound it is) = grind (arith, cases_Bool, is_broken, alike)
+  -- it does not move a broken one
+  out_unmoved : is_broken s device now ≡ true → IsOutcome s hs now body → moves device body ≡ false
+  out_unmoved broken (IsOutcome.losing d link n it) = refl
+  out_unmoved broken (IsOutcome.turning d n line h sound it is) = grind (arith, cases_Bool, is_broken, alike)
 
--- nor one that no event turns on
-off_unmoved : (s : Scenario) (hs : List Happening) (now : ℕ) (device : DeviceId) (body : NoteBody) → IsFounded place_of (IsDue s) hs
-    → is_turned_on_at s device now ≡ false → IsOutcome s hs now body → moves device body ≡ false
-off_unmoved s hs now device body founded off (IsOutcome.losing d link n it) = refl
-off_unmoved s hs now device body founded off (IsOutcome.turning d n line h sound it is) =
-    elim (cases_Bool (device.0 == d.0)) [
-      | inr other ↦ other
-      | inl same ↦
-          absurd (let bad : false ≡ true = sym off ∙ ap (λ (x : DeviceId). is_turned_on_at s x now) (alike device d same)
-          ∙ on_so s hs now n line d h founded it is in cc)
-    ]
+  -- nor one that no event turns on
+  off_unmoved : IsFounded place_of (IsDue s) hs → is_turned_on_at s device now ≡ false → IsOutcome s hs now body
+      → moves device body ≡ false
+  off_unmoved founded off (IsOutcome.losing d link n it) = refl
+  off_unmoved founded off (IsOutcome.turning d n line h sound it is) =
+      elim (cases_Bool (device.0 == d.0)) [
+        | inr other ↦ other
+        | inl same ↦
+            absurd (let bad : false ≡ true = sym off ∙ ap (λ x. is_turned_on_at s x now)
+            (alike device d same)
+            ∙ on_so s line d founded it is in cc)
+      ]
 
-pub known_told : (s : Scenario) (hs coming : List Happening) (cursor : List ℕ) (now : ℕ) (befell : List Befell) → AreToldOf s hs coming cursor now befell
-    → AreOfNetwork s (hs ++ []) → AreOfNetwork s (hs ++ coming)
-known_told s hs coming cursor now befell m known = record {
+pub known_told : {s : Scenario} {hs coming : List Happening} {cursor : List ℕ} {now : ℕ} {befell : List Befell}
+    → AreToldOf s hs coming cursor now befell → AreOfNetwork s (hs ++ []) → AreOfNetwork s (hs ++ coming)
+known_told {s} {hs} {coming} {now} m known = record {
   unmoved = λ device le h i. elim (in_parts h hs coming i) [
-    | inl old ↦ known.unmoved device le h (subst (λ (l : List Happening). IsIn h l) (sym (append-nil hs)) old)
+    | inl old ↦ known.unmoved device le h (subst (λ l. IsIn h l) (sym (append-nil hs)) old)
     | inr new ↦ off_unmoved s hs now device h.note.body m.founded (known.never_on device le now) (m.out h new)
   ];
   never_on = known.never_on;
@@ -78,87 +79,95 @@ not_past_acts now device (inl lt) = omega (arith, lt)
 not_past_acts now device (inr (e, inl lt)) = omega (arith, lt)
 not_past_acts now device (inr (e, inr (two, b))) = omega (arith, two)
 
-early_not : (hs : List Happening) (cursor : List ℕ) (now : ℕ) (befell : List Befell) → IsTelling hs cursor now befell → IsBefore (now ∷ 2 ∷ []) cursor → ⊥
-early_not hs cursor now befell m b = never_self (now ∷ 2 ∷ []) (m.untold.early refl (now ∷ 2 ∷ []) b)
+module _ {hs : List Happening} {cursor : List ℕ} {now : ℕ} {befell : List Befell}
+    (m : IsTelling hs cursor now befell) where
+  early_not : IsBefore (now ∷ 2 ∷ []) cursor → ⊥
+  early_not b = never_self (now ∷ 2 ∷ []) (m.untold.early refl (now ∷ 2 ∷ []) b)
 
-past_told : (hs : List Happening) (cursor : List ℕ) (now : ℕ) (befell : List Befell) → IsTelling hs cursor now befell → (h : Happening) → IsIn h hs
-    → time_of h ≤ now
-past_told hs cursor now befell m h i = elim (m.sooner h i) [ inl lt ↦ omega (arith, lt) | inr it ↦ let at = it.0 in omega (arith, at) ]
+  past_told : (h : Happening) → IsIn h hs → time_of h ≤ now
+  past_told h i = elim (m.sooner h i) [ inl lt ↦ omega (arith, lt) | inr it ↦ let at = it.0 in omega (arith, at) ]
 
-kept_told : {M : Type 0} (stands : M → Network → DeviceId → Node → Type 0) (s : Scenario) (hs coming : List Happening) (cursor : List ℕ) (now : ℕ)
-    (befell : List Befell) (device : DeviceId) (machine : M) → AreToldOf s hs coming cursor now befell
-    → IsKept stands s hs [] cursor now device machine → IsKept stands s hs coming (behind (now ∷ 2 ∷ [])) now device machine
-kept_told stands s hs coming cursor now befell device machine m k =
-    let on = goes_on hs cursor now befell m.telling in
-    let at_now : k.up ≡ now = elim k.acted [
-      | inl yet ↦ yet.0
-      | inr over ↦ absurd (early_not hs cursor now befell m.telling (over.1 (now ∷ 2 ∷ []) (inr (refl, inl (omega arith)))))
-    ] in
-    let same : (t : ℕ) → t ≤ now → earlier t (hs ++ []) ≡ earlier t (hs ++ coming) = λ t le. ap (earlier t) (append-nil hs)
-    ∙ sym (earlier_still t hs coming (λ z i. let of = m.at z i in omega (arith, of, le))) in
-    let up_le : k.up ≤ now = omega (arith, at_now) in
-    let left_so : IsLeft s (hs ++ coming) device k.up k.node =
-    left_all_calm s hs coming device k.up k.node (λ z i. let of = m.at z i in omega (arith, of, at_now))
-    (λ z i. calm_outcome s hs now z.note.body (m.out z i)) (subst (λ (l : List Happening). IsLeft s l device k.up k.node) (append-nil hs) k.left) in
-    let rests = rested s device k.node (changed_at (hs ++ []) device k.up) k.up now cursor k.worked (omega (arith, at_now))
-    (λ b. not_past_acts now device (chain (act_place now device) (now ∷ 2 ∷ []) (behind (now ∷ 2 ∷ []))
-    (m.telling.untold.early refl (act_place now device) b) (before_behind (now ∷ 2 ∷ [])))) in
-    let done_so : HasDoneFrom s.network (s.reading device) device k.node (changed_at (hs ++ coming) device k.up) k.up k.up =
-    subst (λ (n : ℕ). HasDoneFrom s.network (s.reading device) device k.node n k.up k.up)
-    (ap (λ (l : List Happening). option_map_or time_of (last_or None (filter (λ h. changes_adjustment device h.note.body) l)) 0) (same k.up up_le))
-    rests.done in
-    record {
-      node = k.node;
-      is = k.is;
-      sound = k.sound;
-      up = k.up;
-      acted = inl (at_now, λ task b a. absurd (not_past_acts now device (acts_before s.network now device task (behind (now ∷ 2 ∷ [])) b)));
-      told = λ over. absurd (omega (arith, at_now, over));
-      left = left_so;
-      worked = worked_by s device k.node (changed_at (hs ++ coming) device k.up) k.up (behind (now ∷ 2 ∷ [])) (record { done = done_so; sent = rests.sent })
-          (λ x task lt. inl (omega (arith, lt, at_now)));
-      taken =
-          k.taken ∙ ap (λ (l : List Happening). frames_taken s l device) (append-nil hs)
-          ∙ sym (taken_calm s hs coming device now (past_told hs cursor now befell m.telling)
-          (λ z i. let of = m.at z i in omega (arith, of)) (λ z i. calm_outcome s hs now z.note.body (m.out z i)));
-      bare = k.bare;
-      ready = k.ready;
-      still = λ up h i at. elim (in_parts h hs coming i) [
-        | inl old ↦ k.still up h (subst (λ (l : List Happening). IsIn h l) (sym (append-nil hs)) old) at
-        | inr new ↦ rest_outcome s hs now device h.note.body m.founded (m.out h new)
-      ];
-      turned = λ on_now.
-          let was = k.turned on_now in
-          let it = m.turned device on_now k.sound in
-          record {
-            off = ap (λ (l : List Happening). state_after s l device) (sym (same now (omega arith))) ∙ was.off;
-            number = was.number;
-            event = was.event;
-            befell = was.befell;
-            turned = λ b. record { by = it.by; there = in_right it.by hs coming it.there; at = it.at; turning = it.turning };
-          };
-      cleared = k.cleared;
-      phase = λ at p b. on p (k.phase at p b);
-    }
+module _ {M : Type 0} (stands : M → Network → DeviceId → Node → Type 0) (s : Scenario) (hs coming : List Happening)
+    (cursor : List ℕ) (now : ℕ) (befell : List Befell) (device : DeviceId) (machine : M) where
+  kept_told : AreToldOf s hs coming cursor now befell → IsKept stands s hs [] cursor now device machine
+      → IsKept stands s hs coming (behind (now ∷ 2 ∷ [])) now device machine
+  kept_told m k =
+      let on = goes_on m.telling in
+      let at_now : k.up ≡ now = elim k.acted [
+        | inl yet ↦ yet.0
+        | inr over ↦ absurd (early_not m.telling (over.1 (now ∷ 2 ∷ []) (inr (refl, inl (omega arith)))))
+      ] in
+      let same : (t : ℕ) → t ≤ now → earlier t (hs ++ []) ≡ earlier t (hs ++ coming) =
+      λ t le. ap (earlier t) (append-nil hs)
+      ∙ sym (earlier_still t hs coming (λ z i. let of = m.at z i in omega (arith, of, le))) in
+      let up_le : k.up ≤ now = omega (arith, at_now) in
+      let left_so : IsLeft s (hs ++ coming) device k.up k.node =
+      left_all_calm coming (λ z i. let of = m.at z i in omega (arith, of, at_now))
+      (λ z i. calm_outcome (m.out z i)) (subst (λ l. IsLeft s l device k.up k.node)
+      (append-nil hs) k.left) in
+      let rests = rested now k.worked (omega (arith, at_now))
+      (λ b. not_past_acts now device (chain (act_place now device) (now ∷ 2 ∷ []) (behind (now ∷ 2 ∷ []))
+      (m.telling.untold.early refl (act_place now device) b) (before_behind (now ∷ 2 ∷ [])))) in
+      let done_so : HasDoneFrom s.network (s.reading device) device k.node (changed_at (hs ++ coming) device k.up)
+      k.up k.up =
+      subst (λ n. HasDoneFrom s.network (s.reading device) device k.node n k.up k.up)
+      (ap (λ (l : List Happening). option_map_or time_of
+      (last_or None (filter (λ h. changes_adjustment device h.note.body) l)) 0) (same k.up up_le))
+      rests.done in
+      record {
+        node = k.node;
+        is = k.is;
+        sound = k.sound;
+        up = k.up;
+        acted = inl (at_now, λ task b a. absurd (not_past_acts now device (acts_before s.network now device task (behind (now ∷ 2 ∷ [])) b)));
+        told = λ over. absurd (omega (arith, at_now, over));
+        left = left_so;
+        worked = worked_by {s = s} {device = device} {node = k.node} {changed = changed_at (hs ++ coming) device k.up} {t = k.up} (behind (now ∷ 2 ∷ [])) (record { done = done_so; sent = rests.sent })
+            (λ x task lt. inl (omega (arith, lt, at_now)));
+        taken =
+            k.taken ∙ ap (λ l. frames_taken s l device) (append-nil hs)
+            ∙ sym (taken_calm s hs coming device now (past_told m.telling)
+            (λ z i. let of = m.at z i in omega (arith, of)) (λ z i. calm_outcome (m.out z i)));
+        bare = k.bare;
+        ready = k.ready;
+        still = λ up h i at. elim (in_parts h hs coming i) [
+          | inl old ↦ k.still up h (subst (λ l. IsIn h l) (sym (append-nil hs)) old) at
+          | inr new ↦ rest_outcome s hs now device h.note.body m.founded (m.out h new)
+        ];
+        turned = λ on_now.
+            let was = k.turned on_now in
+            let it = m.turned device on_now k.sound in
+            record {
+              off = ap (λ l. state_after s l device) (sym (same now (omega arith))) ∙ was.off;
+              number = was.number;
+              event = was.event;
+              befell = was.befell;
+              turned = λ b. record { by = it.by; there = in_right it.by hs coming it.there; at = it.at; turning = it.turning };
+            };
+        cleared = k.cleared;
+        phase = λ at p b. on p (k.phase at p b);
+      }
 
--- ---- and each
+  -- ---- and each
 
-pub held_told : {M : Type 0} (stands : M → Network → DeviceId → Node → Type 0) (s : Scenario) (hs coming : List Happening) (cursor : List ℕ) (now : ℕ)
-    (befell : List Befell) (device : DeviceId) (machine : M) → AreToldOf s hs coming cursor now befell
-    → IsHeld stands s hs [] cursor now device machine → IsHeld stands s hs coming (behind (now ∷ 2 ∷ [])) now device machine
-held_told stands s hs coming cursor now befell device machine m (inl k) = inl (kept_told stands s hs coming cursor now befell device machine m k)
-held_told stands s hs coming cursor now befell device machine m (inr k) =
-    let none : (z : Happening) → IsIn z coming → moves device z.note.body ≡ false = λ z i. out_unmoved s hs now device z.note.body k.broken (m.out z i) in
-    let whole = append-nil hs in
-    inr (record {
-      node = k.node;
-      is = k.is;
-      broken = k.broken;
-      shows = k.shows;
-      state =
-          k.state ∙ ap (λ (l : List Happening). state_after s (up_to now l) device) whole ∙ sym (state_unmoved s hs coming device now none);
-      adjustment =
-          k.adjustment ∙ ap (λ (l : List Happening). adjustment_after s (up_to now l) device) whole ∙ sym (adjustment_unmoved s hs coming device now none);
-      ready = k.ready;
-      phase = λ at p b. goes_on hs cursor now befell m.telling p (k.phase at p b);
-    })
+  pub held_told : AreToldOf s hs coming cursor now befell → IsHeld stands s hs [] cursor now device machine
+      → IsHeld stands s hs coming (behind (now ∷ 2 ∷ [])) now device machine
+  held_told m (inl k) = inl (kept_told m k)
+  held_told m (inr k) =
+      let none : (z : Happening) → IsIn z coming → moves device z.note.body ≡ false =
+      λ z i. out_unmoved s hs now device z.note.body k.broken (m.out z i) in
+      let whole = append-nil hs in
+      inr (record {
+        node = k.node;
+        is = k.is;
+        broken = k.broken;
+        shows = k.shows;
+        state =
+            k.state ∙ ap (λ l. state_after s (up_to now l) device) whole ∙ sym
+            (state_unmoved s hs coming device now none);
+        adjustment =
+            k.adjustment ∙ ap (λ l. adjustment_after s (up_to now l) device) whole ∙ sym
+            (adjustment_unmoved s hs coming device now none);
+        ready = k.ready;
+        phase = λ at p b. goes_on m.telling p (k.phase at p b);
+      })

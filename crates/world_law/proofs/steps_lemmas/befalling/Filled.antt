@@ -17,21 +17,24 @@ pub record IsFilled (s : Scenario) (hs : List Happening) (now : ℕ) (settled : 
   pub sorted : (front rest : List Happening) (z : Happening) → settled ≡ front ++ z ∷ rest → AllBefore place_of front (place_of z)
 
 -- at one place they have one cause
-same_cause : (s : Scenario) (hs : List Happening) (now : ℕ) (b c : NoteBody) → IsOutcome s hs now b → IsOutcome s hs now c
-    → place_of (settled_as s.network hs now b) ≡ place_of (settled_as s.network hs now c) → cause_of b ≡ cause_of c
-same_cause s hs now b c (IsOutcome.turning d n line h sound it is) (IsOutcome.turning e k line_ g sound_ it_ is_) same = let at : n ≡ k = cc in at
-same_cause s hs now b c (IsOutcome.turning d n line h sound it is) (IsOutcome.losing e link k it_) same =
+same_cause : {s : Scenario} {hs : List Happening} {now : ℕ} {b c : NoteBody} → IsOutcome s hs now b
+    → IsOutcome s hs now c → place_of (settled_as s.network hs now b) ≡ place_of (settled_as s.network hs now c)
+    → cause_of b ≡ cause_of c
+same_cause (IsOutcome.turning d n line h sound it is) (IsOutcome.turning e k line_ g sound_ it_ is_) same =
+    let at : n ≡ k = cc in at
+same_cause (IsOutcome.turning d n line h sound it is) (IsOutcome.losing e link k it_) same =
     absurd (let bad : ◌≡◌ {A = ℕ} 7 9 = cc in omega (arith, bad))
-same_cause s hs now b c (IsOutcome.losing d link n it) (IsOutcome.turning e k line_ g sound_ it_ is_) same =
+same_cause (IsOutcome.losing d link n it) (IsOutcome.turning e k line_ g sound_ it_ is_) same =
     absurd (let bad : ◌≡◌ {A = ℕ} 9 7 = cc in omega (arith, bad))
-same_cause s hs now b c (IsOutcome.losing d link n it) (IsOutcome.losing e other k it_) same = let at : n ≡ k = cc in at
+same_cause (IsOutcome.losing d link n it) (IsOutcome.losing e other k it_) same = let at : n ≡ k = cc in at
 
 -- ---- one is put in
 
-filled_put : (s : Scenario) (hs : List Happening) (now : ℕ) (b : NoteBody) (old new : List Happening) → IsFilled s hs now old → IsOutcome s hs now b
-    → ((z : Happening) → IsIn z old → cause_of z.note.body < cause_of b) → IsPutIn (settled_as s.network hs now b) old new → IsFilled s hs now new
-filled_put s hs now b old new filled out less put = record {
-  each = λ z i. elim (in_parts z put.front (w ∷ put.back) (subst (λ (l : List Happening). IsIn z l) put.is i)) [
+filled_put : {s : Scenario} {hs : List Happening} {now : ℕ} {b : NoteBody} {old new : List Happening}
+    → IsFilled s hs now old → IsOutcome s hs now b → ((z : Happening) → IsIn z old
+    → cause_of z.note.body < cause_of b) → IsPutIn (settled_as s.network hs now b) old new → IsFilled s hs now new
+filled_put {s} {hs} {now} {b} {old} filled out less put = record {
+  each = λ z i. elim (in_parts z put.front (w ∷ put.back) (subst (λ l. IsIn z l) put.is i)) [
     | inl ahead ↦ filled.each z (from_old z (in_left z put.front put.back ahead))
     | inr (inl same) ↦ record { body = b; is = same; out = out }
     | inr (inr later) ↦ filled.each z (from_old z (in_right z put.front put.back later))
@@ -40,15 +43,15 @@ filled_put s hs now b old new filled out less put = record {
     | inl it ↦ filled.sorted f (it.0 ++ put.back) y
         (put.was ∙ ap (λ (l : List Happening). l ++ put.back) it.1 ∙ append_assoc f (y ∷ it.0) put.back)
     | inr (inl it) ↦
-        subst (λ (x : Happening). AllBefore place_of f (place_of x)) it.1
-        (subst (λ (l : List Happening). AllBefore place_of l (place_of w)) it.0 put.before)
+        subst (λ x. AllBefore place_of f (place_of x)) it.1
+        (subst (λ l. AllBefore place_of l (place_of w)) it.0 put.before)
     | inr (inr it) ↦ λ n i.
-        let y_in : IsIn y put.back = subst (λ (l : List Happening). IsIn y l) (sym it.2) (in_right y it.0 (y ∷ rest) (inl refl)) in
+        let y_in : IsIn y put.back = subst (λ l. IsIn y l) (sym it.2) (in_right y it.0 (y ∷ rest) (inl refl)) in
         let ahead : AllBefore place_of (put.front ++ it.0) (place_of y) = filled.sorted (put.front ++ it.0) rest y
         (put.was ∙ ap (λ (l : List Happening). put.front ++ l) it.2 ∙ sym (append_assoc put.front it.0 (y ∷ rest))) in
-        elim (in_parts n put.front (w ∷ it.0) (subst (λ (l : List Happening). IsIn n l) it.1 i)) [
+        elim (in_parts n put.front (w ∷ it.0) (subst (λ l. IsIn n l) it.1 i)) [
           | inl first ↦ ahead n (in_left n put.front it.0 first)
-          | inr (inl same) ↦ subst (λ (x : Happening). IsBefore (place_of x) (place_of y)) (sym same) (new_before y y_in)
+          | inr (inl same) ↦ subst (λ x. IsBefore (place_of x) (place_of y)) (sym same) (new_before y y_in)
           | inr (inr next) ↦ ahead n (in_right n put.front it.0 next)
         ]
   ];
@@ -58,14 +61,14 @@ filled_put s hs now b old new filled out less put = record {
     w = settled_as s.network hs now b
 
     from_old : (z : Happening) → IsIn z (put.front ++ put.back) → IsIn z old
-    from_old z i = subst (λ (l : List Happening). IsIn z l) (sym put.was) i
+    from_old z i = subst (λ l. IsIn z l) (sym put.was) i
 
     apart : (y : Happening) → IsIn y put.back → place_of w ≡ place_of y → ⊥
     apart y i e =
         let it = filled.each y (from_old y (in_right y put.front put.back i)) in
         let lt = less y (from_old y (in_right y put.front put.back i)) in
         let cause : cause_of y.note.body ≡ cause_of it.body = ap (λ (x : Happening). cause_of x.note.body) it.is in
-        let same = same_cause s hs now b it.body out it.out (e ∙ ap place_of it.is) in
+        let same = same_cause out it.out (e ∙ ap place_of it.is) in
         omega (arith, lt, cause, same)
 
     new_before : (y : Happening) → IsIn y put.back → IsBefore (place_of w) (place_of y)
@@ -75,60 +78,64 @@ filled_put s hs now b old new filled out less put = record {
       | inr (inr gt) ↦ absurd (put.none y i gt)
     ]
 
-put_old : (w : Happening) (old new : List Happening) → IsPutIn w old new → (z : Happening) → IsIn z old → IsIn z new
-put_old w old new put z i =
-    subst (λ (l : List Happening). IsIn z l) (sym put.is)
-    (elim (in_parts z put.front put.back (subst (λ (l : List Happening). IsIn z l) put.was i)) [
-      | inl ahead ↦ in_left z put.front (w ∷ put.back) ahead
-      | inr later ↦ in_right z put.front (w ∷ put.back) (inr later)
-    ])
+module _ {w : Happening} {old new : List Happening} (put : IsPutIn w old new) where
+  put_old : (z : Happening) → IsIn z old → IsIn z new
+  put_old z i =
+      subst (λ l. IsIn z l) (sym put.is)
+      (elim (in_parts z put.front put.back (subst (λ l. IsIn z l) put.was i)) [
+        | inl ahead ↦ in_left z put.front (w ∷ put.back) ahead
+        | inr later ↦ in_right z put.front (w ∷ put.back) (inr later)
+      ])
 
-put_new : (w : Happening) (old new : List Happening) → IsPutIn w old new → IsIn w new
-put_new w old new put = subst (λ (l : List Happening). IsIn w l) (sym put.is) (in_right w put.front (w ∷ put.back) (inl refl))
+  put_new : IsIn w new
+  put_new = subst (λ l. IsIn w l) (sym put.is) (in_right w put.front (w ∷ put.back) (inl refl))
 
-put_back : (w : Happening) (old new : List Happening) → IsPutIn w old new → (z : Happening) → IsIn z new → IsIn z old ⊎ (z ≡ w)
-put_back w old new put z i =
-    elim (in_parts z put.front (w ∷ put.back) (subst (λ (l : List Happening). IsIn z l) put.is i)) [
-      | inl ahead ↦ inl (subst (λ (l : List Happening). IsIn z l) (sym put.was) (in_left z put.front put.back ahead))
-      | inr (inl same) ↦ inr same
-      | inr (inr later) ↦ inl (subst (λ (l : List Happening). IsIn z l) (sym put.was) (in_right z put.front put.back later))
-    ]
+  put_back : (z : Happening) → IsIn z new → IsIn z old ⊎ (z ≡ w)
+  put_back z i =
+      elim (in_parts z put.front (w ∷ put.back) (subst (λ l. IsIn z l) put.is i)) [
+        | inl ahead ↦ inl (subst (λ l. IsIn z l) (sym put.was) (in_left z put.front put.back ahead))
+        | inr (inl same) ↦ inr same
+        | inr (inr later) ↦ inl (subst (λ l. IsIn z l) (sym put.was)
+            (in_right z put.front put.back later))
+      ]
 
-put_long : (w : Happening) (old new : List Happening) → IsPutIn w old new → length new ≡ length old + 1
-put_long w old new put = grind (arith, length, length-append)
+  put_long : length new ≡ length old + 1
+  put_long = grind (arith, length, length-append)
 
 -- ---- all are put in
 
-pub filled_all : (s : Scenario) (hs : List Happening) (now : ℕ) (bodies : List NoteBody) (old new : List Happening) → IsFilled s hs now old
-    → ((b : NoteBody) → IsIn b bodies → IsOutcome s hs now b) → AreRising bodies
-    → ((z : Happening) (b : NoteBody) → IsIn z old → IsIn b bodies → cause_of z.note.body < cause_of b) → ArePutIn s.network hs now bodies old new
-    → IsFilled s hs now new
-filled_all s hs now [] old new filled out rising less put = subst (IsFilled s hs now) (sym put) filled
-filled_all s hs now (b ∷ bodies) old new filled out rising less (mid, put, later) =
-    filled_all s hs now bodies mid new (filled_put s hs now b old mid filled (out b (inl refl)) (λ z i. less z b i (inl refl)) put) (λ c i. out c (inr i))
-    rising.1 (λ z c i j. elim (put_back (settled_as s.network hs now b) old mid put z i) [
-      | inl was ↦ less z c was (inr j)
-      | inr same ↦ subst (λ (x : Happening). cause_of x.note.body < cause_of c) (sym same) (rising.0 c j)
-    ]) later
+module _ (s : Scenario) (hs : List Happening) (now : ℕ) where
+  pub filled_all : (bodies : List NoteBody) {old : List Happening} (new : List Happening) → IsFilled s hs now old
+      → ((b : NoteBody) → IsIn b bodies → IsOutcome s hs now b) → AreRising bodies
+      → ((z : Happening) (b : NoteBody) → IsIn z old → IsIn b bodies → cause_of z.note.body < cause_of b)
+      → ArePutIn s.network hs now bodies old new → IsFilled s hs now new
+  filled_all [] new filled out rising less put = subst (IsFilled s hs now) (sym put) filled
+  filled_all (b ∷ bodies) new filled out rising less (mid, put, later) =
+      filled_all bodies new (filled_put filled (out b (inl refl)) (λ z i. less z b i (inl refl)) put)
+      (λ c i. out c (inr i))
+      rising.1 (λ z c i j. elim (put_back put z i) [
+        | inl was ↦ less z c was (inr j)
+        | inr same ↦ subst (λ (x : Happening). cause_of x.note.body < cause_of c) (sym same) (rising.0 c j)
+      ]) later
 
-pub all_old : (s : Scenario) (hs : List Happening) (now : ℕ) (bodies : List NoteBody) (old new : List Happening) → ArePutIn s.network hs now bodies old new
-    → (z : Happening) → IsIn z old → IsIn z new
-all_old s hs now [] old new put z i = subst (λ (l : List Happening). IsIn z l) (sym put) i
-all_old s hs now (b ∷ bodies) old new (mid, put, later) z i = all_old s hs now bodies mid new later z (put_old (settled_as s.network hs now b) old mid put z i)
+  pub all_old : (bodies : List NoteBody) (old new : List Happening) → ArePutIn s.network hs now bodies old new
+      → (z : Happening) → IsIn z old → IsIn z new
+  all_old [] old new put z i = subst (λ l. IsIn z l) (sym put) i
+  all_old (b ∷ bodies) old new (mid, put, later) z i = all_old bodies mid new later z (put_old put z i)
 
-pub all_new : (s : Scenario) (hs : List Happening) (now : ℕ) (bodies : List NoteBody) (old new : List Happening) → ArePutIn s.network hs now bodies old new
-    → (b : NoteBody) → IsIn b bodies → IsIn (settled_as s.network hs now b) new
-all_new s hs now [] old new put b i = absurd i
-all_new s hs now (c ∷ bodies) old new (mid, put, later) b (inl same) =
-    all_old s hs now bodies mid new later (settled_as s.network hs now b)
-    (subst (λ (x : NoteBody). IsIn (settled_as s.network hs now x) mid) (sym same) (put_new (settled_as s.network hs now c) old mid put))
-all_new s hs now (c ∷ bodies) old new (mid, put, later) b (inr i) = all_new s hs now bodies mid new later b i
+  pub all_new : (bodies : List NoteBody) (old new : List Happening) → ArePutIn s.network hs now bodies old new
+      → (b : NoteBody) → IsIn b bodies → IsIn (settled_as s.network hs now b) new
+  all_new [] old new put b i = absurd i
+  all_new (c ∷ bodies) old new (mid, put, later) b (inl same) =
+      all_old bodies mid new later (settled_as s.network hs now b)
+      (subst (λ x. IsIn (settled_as s.network hs now x) mid) (sym same) (put_new put))
+  all_new (c ∷ bodies) old new (mid, put, later) b (inr i) = all_new bodies mid new later b i
 
-pub all_long : (s : Scenario) (hs : List Happening) (now : ℕ) (bodies : List NoteBody) (old new : List Happening) → ArePutIn s.network hs now bodies old new
-    → length new ≡ length old + length bodies
-all_long s hs now [] old new put = let a = ap length put in omega (arith, a)
-all_long s hs now (b ∷ bodies) old new (mid, put, later) =
-    let a = put_long (settled_as s.network hs now b) old mid put in
-    let c = all_long s hs now bodies mid new later in
-    let d : length (b ∷ bodies) ≡ suc (length bodies) = refl in
-    omega (arith, a, c, d)
+  pub all_long : (bodies : List NoteBody) (old new : List Happening) → ArePutIn s.network hs now bodies old new
+      → length new ≡ length old + length bodies
+  all_long [] old new put = let a = ap length put in omega (arith, a)
+  all_long (b ∷ bodies) old new (mid, put, later) =
+      let a = put_long put in
+      let c = all_long bodies mid new later in
+      let d : length (b ∷ bodies) ≡ suc (length bodies) = refl in
+      omega (arith, a, c, d)

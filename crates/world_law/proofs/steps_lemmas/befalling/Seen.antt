@@ -2,7 +2,7 @@
 use Rattle.{run_law.specs.{control.Wires.time_on_port, scenario.Ways.{delay_at, receiver_of}}, std.proofs.Common.arith}
 use Rattle.world_law.proofs.steps_lemmas.Words.{◌++◌, ◌+◌, ◌<◌, ◌↔◌, ◌∙◌, ◌∷◌, ◌≡◌, ◌⊎◌, ArePutIn, Arrives, Befell, Bool, DeviceId, Happening, IsIn}
 use Rattle.world_law.proofs.steps_lemmas.Words.{IsOfThisTime, Launch, Link, LinkId, List, Network, Node, None, Note, NoteBody, OnWire, Option, Scenario, Signal}
-use Rattle.world_law.proofs.steps_lemmas.Words.{Some, Stands, Up, Way, What, World, [], ap, cases_lt, false, happenings, if◌then◌else◌, inl, inr, is_cut}
+use Rattle.world_law.proofs.steps_lemmas.Words.{Some, Stands, Up, What, World, [], ap, cases_lt, false, happenings, if◌then◌else◌, inl, inr, is_cut}
 use Rattle.world_law.proofs.steps_lemmas.Words.{launched, length, link_at, numbered_in, option_map, option_map_or, refl, signal_of, subst, sym, target_by}
 use Rattle.world_law.{proofs.steps_lemmas.{Words.{time_of, true, wire_place, ℕ}, befalling.Told.{event_due, on_by_record}}, specs.world.Moves.ArePut}
 use Rattle.net_plan.specs.declared.event.What.TheVariants as events
@@ -21,7 +21,7 @@ on_within reading stands s world notes old e device i on =
     elim (cases_lt device.0 (length s.network.device)) [
       | inl lt ↦ lt
       | inr ge ↦ absurd (let bad : false ≡ true = sym (old.known.never_on device ge world.now)
-          ∙ on_by_record s it.1.note.time it.0 world.now device due it.2.same_time in cc)
+          ∙ on_by_record s world.now device due it.2.same_time in cc)
     ]
 
 -- ---- what an event puts on wires
@@ -45,50 +45,57 @@ wires_of s now number other = []
 abbrev launch_on : Scenario → LinkId → List ℕ → ℕ → Option Launch
 launch_on s link octets t = if is_cut s link Up t then None else Some (record { link = link; way = Up; signal = signal_of octets })
 
-sent_real : (s : Scenario) (now number : ℕ) (link : LinkId) (octets : List ℕ) (h : Happening) (e : OnWire) (cut : Bool) (o : Option Link) → time_of h ≡ now
-    → is_cut s link Up now ≡ cut → link_at s.network link ≡ o → launched s h (time_of h) h.note.body ≡ launch_on s link octets (time_of h)
-    → IsIn e (if cut then [] else option_map_or (λ (l : Link). sent_on s now number link octets l ∷ []) o [])
-    → (e.cause ≡ number) × Arrives s h e.device e.link e.at e.signal
-sent_real s now number link octets h e true o at cut there put i = absurd i
-sent_real s now number link octets h e false None at cut there put i = absurd i
-sent_real s now number link octets h e false (Some l) at cut there put (inr none) = absurd none
-sent_real s now number link octets h e false (Some l) at cut there put (inl same) = grind (arith, signal_of, is_cut, option_map, target_by)
+module _ (s : Scenario) (now number : ℕ) (link : LinkId) (octets : List ℕ) (h : Happening) where
+  sent_real : (e : OnWire) (cut : Bool) (o : Option Link) → time_of h ≡ now → is_cut s link Up now ≡ cut
+      → link_at s.network link ≡ o → launched s h (time_of h) h.note.body ≡ launch_on s link octets (time_of h)
+      → IsIn e (if cut then [] else option_map_or (λ (l : Link). sent_on s now number link octets l ∷ []) o [])
+      → (e.cause ≡ number) × Arrives s h e.device e.link e.at e.signal
+  sent_real e true o at cut there put i = absurd i
+  sent_real e false None at cut there put i = absurd i
+  sent_real e false (Some l) at cut there put (inr none) = absurd none
+  sent_real e false (Some l) at cut there put (inl same) = grind (arith, signal_of, is_cut, option_map, target_by)
 
-sent_all : (s : Scenario) (now number : ℕ) (link : LinkId) (octets : List ℕ) (h : Happening) (cut : Bool) (o : Option Link) → time_of h ≡ now
-    → is_cut s link Up now ≡ cut → link_at s.network link ≡ o → launched s h (time_of h) h.note.body ≡ launch_on s link octets (time_of h)
-    → (device : DeviceId) (by : LinkId) (t : ℕ) (signal : Signal) → Arrives s h device by t signal
-    → (e : OnWire) × IsIn e (if cut then [] else option_map_or (λ (l : Link). sent_on s now number link octets l ∷ []) o [])
-    × (wire_place e ≡ t ∷ 2 ∷ device.0 ∷ by.0 ∷ number ∷ [])
-sent_all s now number link octets h true o at cut there put device by t signal a = grind (arith, signal_of, is_cut)
-sent_all s now number link octets h false o at cut there put device by t signal a =
-    let here : Launch = record { link = link; way = Up; signal = signal_of octets } in
-    let is : Some here ≡ Some (let y : Launch = record { link = by; way = a.way; signal = signal } in y) =
-    sym (put ∙ ap (λ (b : Bool). if b then None else Some here) (ap (is_cut s link Up) at ∙ cut)) ∙ a.put in
-    let same : here ≡ (let y : Launch = record { link = by; way = a.way; signal = signal } in y) = cc in
-    let link_is : link ≡ by = ap (λ (x : Launch). x.link) same in
-    let way_is : Up ≡ a.way = ap (λ (x : Launch). x.way) same in
-    let signal_is : signal_of octets ≡ signal = ap (λ (x : Launch). x.signal) same in
-    let receives : option_map (target_by Up) o ≡ Some device = ap (option_map (target_by Up)) (sym there)
-    ∙ ap (λ (w : Way). receiver_of s.network link w) way_is ∙ ap (λ (l : LinkId). receiver_of s.network l a.way) link_is ∙ a.receiver in
-    let time_is : t ≡ now + time_on_port s.network link (signal_of octets) + delay_at s link Up now =
-    a.at ∙ ap (λ (x : Signal). time_of h + time_on_port s.network by x + delay_at s by a.way (time_of h)) (sym signal_is)
-    ∙ ap (λ (w : Way). time_of h + time_on_port s.network by (signal_of octets) + delay_at s by w (time_of h)) (sym way_is)
-    ∙ ap (λ (l : LinkId). time_of h + time_on_port s.network l (signal_of octets) + delay_at s l Up (time_of h)) (sym link_is)
-    ∙ ap (λ (n : ℕ). n + time_on_port s.network link (signal_of octets) + delay_at s link Up n) at in
-    from o receives time_is link_is
-  where
-    from : (p : Option Link) → option_map (target_by Up) p ≡ Some device → t ≡ now + time_on_port s.network link (signal_of octets) + delay_at s link Up now
-        → link ≡ by → (e : OnWire) × IsIn e (option_map_or (λ (l : Link). sent_on s now number link octets l ∷ []) p [])
-        × (wire_place e ≡ t ∷ 2 ∷ device.0 ∷ by.0 ∷ number ∷ [])
-    from None receives time_is link_is = absurd cc
-    from (Some l) receives time_is link_is =
-        let device_is : l.parent ≡ device = cc in (
-          sent_on s now number link octets l,
-          inl refl,
-          ap (λ (n : ℕ). n ∷ 2 ∷ l.parent.0 ∷ link.0 ∷ number ∷ []) (sym time_is)
-              ∙ ap (λ (d : DeviceId). t ∷ 2 ∷ d.0 ∷ link.0 ∷ number ∷ []) device_is
-              ∙ ap (λ (k : LinkId). t ∷ 2 ∷ device.0 ∷ k.0 ∷ number ∷ []) link_is,
-        )
+  sent_all : (cut : Bool) (o : Option Link) → time_of h ≡ now → is_cut s link Up now ≡ cut
+      → link_at s.network link ≡ o → launched s h (time_of h) h.note.body ≡ launch_on s link octets (time_of h)
+      → (device : DeviceId) (by : LinkId) (t : ℕ) (signal : Signal) → Arrives s h device by t signal
+      → (e : OnWire) × IsIn e (if cut then [] else option_map_or (λ (l : Link). sent_on s now number link octets l
+      ∷ []) o []) × (wire_place e ≡ t ∷ 2 ∷ device.0 ∷ by.0 ∷ number ∷ [])
+  sent_all true o at cut there put device by t signal a = grind (arith, signal_of, is_cut)
+  sent_all false o at cut there put device by t signal a =
+      let here : Launch = record { link = link; way = Up; signal = signal_of octets } in
+      let is : Some here ≡ Some (let y : Launch = record { link = by; way = a.way; signal = signal } in y) =
+      sym (put ∙ ap (λ (b : Bool). if b then None else Some here) (ap (is_cut s link Up) at ∙ cut)) ∙ a.put in
+      let same : here ≡ (let y : Launch = record { link = by; way = a.way; signal = signal } in y) = cc in
+      let link_is : link ≡ by = ap (λ (x : Launch). x.link) same in
+      let way_is : Up ≡ a.way = ap (λ (x : Launch). x.way) same in
+      let signal_is : signal_of octets ≡ signal = ap (λ (x : Launch). x.signal) same in
+      let receives : option_map (target_by Up) o ≡ Some device = ap (option_map (target_by Up)) (sym there)
+      ∙ ap (λ w. receiver_of s.network link w) way_is ∙ ap (λ l. receiver_of s.network l a.way)
+      link_is ∙ a.receiver in
+      let time_is : t ≡ now + time_on_port s.network link (signal_of octets) + delay_at s link Up now =
+      a.at ∙ ap (λ x. time_of h + time_on_port s.network by x + delay_at s by a.way (time_of h))
+      (sym signal_is)
+      ∙ ap (λ w. time_of h + time_on_port s.network by (signal_of octets) + delay_at s by w (time_of h))
+      (sym way_is)
+      ∙ ap (λ l. time_of h + time_on_port s.network l (signal_of octets) + delay_at s l Up (time_of h))
+      (sym link_is)
+      ∙ ap (λ n. n + time_on_port s.network link (signal_of octets) + delay_at s link Up n) at in
+      from o receives time_is link_is
+    where
+      from : (p : Option Link) → option_map (target_by Up) p ≡ Some device → t ≡ now + time_on_port s.network link
+          (signal_of octets) + delay_at s link Up now
+          → link ≡ by → (e : OnWire) × IsIn e (option_map_or (λ (l : Link). sent_on s now number link octets l ∷ [])
+          p [])
+          × (wire_place e ≡ t ∷ 2 ∷ device.0 ∷ by.0 ∷ number ∷ [])
+      from None receives time_is link_is = absurd cc
+      from (Some l) receives time_is link_is =
+          let device_is : l.parent ≡ device = cc in (
+            sent_on s now number link octets l,
+            inl refl,
+            ap (λ (n : ℕ). n ∷ 2 ∷ l.parent.0 ∷ link.0 ∷ number ∷ []) (sym time_is)
+                ∙ ap (λ (d : DeviceId). t ∷ 2 ∷ d.0 ∷ link.0 ∷ number ∷ []) device_is
+                ∙ ap (λ (k : LinkId). t ∷ 2 ∷ device.0 ∷ k.0 ∷ number ∷ []) link_is,
+          )
 
 event_real : (s : Scenario) (now number line : ℕ) (what : What) (h : Happening) (e : OnWire) → time_of h ≡ now → h.note.body ≡ kinds.Event line what
     → IsIn e (wires_of s now number what) → (e.cause ≡ number) × Arrives s h e.device e.link e.at e.signal
@@ -96,12 +103,13 @@ event_real s now number line (events.Send link octets) h e at is i =
     sent_real s now number link octets h e (is_cut s link Up now) (link_at s.network link) at refl refl (ap (launched s h (time_of h)) is) i
 event_real s now number line other h e at is i = absurd i
 
-event_all : (s : Scenario) (now number line : ℕ) (what : What) (h : Happening) → time_of h ≡ now → h.note.body ≡ kinds.Event line what
-    → (device : DeviceId) (link : LinkId) (t : ℕ) (signal : Signal) → Arrives s h device link t signal
-    → (e : OnWire) × IsIn e (wires_of s now number what) × (wire_place e ≡ t ∷ 2 ∷ device.0 ∷ link.0 ∷ number ∷ [])
-event_all s now number line (events.Send by octets) h at is device link t signal a =
+event_all : {s : Scenario} (now number line : ℕ) (what : What) {h : Happening} → time_of h ≡ now
+    → h.note.body ≡ kinds.Event line what → {device : DeviceId} {link : LinkId} {t : ℕ} {signal : Signal}
+    → Arrives s h device link t signal → (e : OnWire) × IsIn e (wires_of s now number what)
+    × (wire_place e ≡ t ∷ 2 ∷ device.0 ∷ link.0 ∷ number ∷ [])
+event_all {s} now number line (events.Send by octets) {h} at is {device} {link} {t} {signal} a =
     sent_all s now number by octets h (is_cut s by Up now) (link_at s.network by) at refl refl (ap (launched s h (time_of h)) is) device link t signal a
-event_all s now number line other h at is device link t signal a =
+event_all {s} now number line other {h} at is {link} {signal} a =
     absurd (let bad : Option.None ≡ Some (let y : Launch = record { link = link; way = a.way; signal = signal } in y) =
     sym (ap (launched s h (time_of h)) is) ∙ a.put in cc)
 
@@ -112,7 +120,7 @@ put_event s hs now number line what h old new it is with_it = record {
   real = λ e i. elim ((with_it e).0 i) [ inl was ↦ inl was | inr fresh ↦ inr (event_real s now number line what h e it.same_time is fresh) ];
   kept = λ e i. (with_it e).1 (inl i);
   all = λ device link t signal a.
-      let found = event_all s now number line what h it.same_time is device link t signal a in
+      let found = event_all now number line what it.same_time is a in
       (found.0, (with_it found.0).1 (inr found.1), found.2);
 }
 
@@ -120,5 +128,5 @@ put_event s hs now number line what h old new it is with_it = record {
 
 pub put_in_more : (network : Network) (hs : List Happening) (now : ℕ) (bodies more : List NoteBody) (old mid new : List Happening)
     → ArePutIn network hs now bodies old mid → ArePutIn network hs now more mid new → ArePutIn network hs now (bodies ++ more) old new
-put_in_more network hs now [] more old mid new put then_ = subst (λ (l : List Happening). ArePutIn network hs now more l new) put then_
+put_in_more network hs now [] more old mid new put then_ = subst (λ l. ArePutIn network hs now more l new) put then_
 put_in_more network hs now (b ∷ bodies) more old mid new (next, one, later) then_ = (next, one, put_in_more network hs now bodies more next mid new later then_)

@@ -2,7 +2,7 @@
 use Rattle.run_law.{proofs.{law.FirstPlaces.{due_is_there, in_at, split}, records.Order.in_any, scenario.Devices.on_by}, specs.runs.DueRecords.IsEventRecord}
 use Rattle.{std.proofs.Common.arith, world_law.proofs.steps_lemmas.Words.{place_of, pos, refl, slice_get, subst, suc, sym, true, turns_on, ℕ}}
 use Rattle.world_law.proofs.steps_lemmas.Words.{◌&&◌, ◌+◌, ◌==◌, ◌||◌, ◌∙◌, ◌∷◌, ◌≡◌, ◌≤ℤ◌, Bool, DeviceId, Event, Happening, IsBefore, IsCaused, IsDue}
-use Rattle.world_law.proofs.steps_lemmas.Words.{IsFounded, IsIn, IsRun, List, Note, NoteBody, Scenario, Some, Units, What, [], amount, and_parts, ap, by_number}
+use Rattle.world_law.proofs.steps_lemmas.Words.{IsFounded, IsIn, IsRun, List, Note, Scenario, Some, Units, What, [], amount, and_parts, ap, by_number}
 use Rattle.world_law.proofs.steps_lemmas.Words.{cases_Bool, eq-eqb, eqb-true, founded_at, happening, inl, inr, is_turned_on_at, length, list_any, numbered}
 use Rattle.net_plan.specs.declared.event.What.TheVariants as events
 use Rattle.run_law.specs.declared.note.NoteBody.TheVariants as notes
@@ -24,12 +24,12 @@ pub event_due : (s : Scenario) (hs : List Happening) (h : Happening) (line : ℕ
     → h.note.body ≡ notes.Event line what → IsEventRecord s.events h.note.time line what
 event_due s hs h line what founded i is =
     let at = founded_at s hs h founded i in
-    subst (λ (b : NoteBody). IsCaused s at.front h.note.time b) is at.due.cause
+    subst (λ b. IsCaused s at.front h.note.time b) is at.due.cause
 
 -- by the record of its event the device is turned on at the time
-pub on_by_record : (s : Scenario) (time : Units) (line now : ℕ) (device : DeviceId) → IsEventRecord s.events time line (events.On device) → amount time ≡ now
-    → is_turned_on_at s device now ≡ true
-on_by_record s time line now device r at =
+pub on_by_record : (s : Scenario) {time : Units} {line : ℕ} (now : ℕ) (device : DeviceId)
+    → IsEventRecord s.events time line (events.On device) → amount time ≡ now → is_turned_on_at s device now ≡ true
+on_by_record s now device r at =
     let on : turns_on device r.event.what ≡ true = ap (turns_on device) (sym r.same) ∙ eq-eqb device.0 device.0 refl in
     let then_ : (amount r.event.time == now) ≡ true = eq-eqb (amount r.event.time) now (ap amount (sym r.at) ∙ at) in
     in_any (λ (e : Event). turns_on device e.what && amount e.time == now) s.events r.event (in_at s.events r.before r.event r.is)

@@ -14,9 +14,10 @@ pub record IsTelling (hs : List Happening) (cursor : List ℕ) (now : ℕ) (befe
   pub sooner : (h : Happening) → IsIn h hs → (time_of h < now) ⊎ ((time_of h ≡ now) × IsEventBody h.note.body)
 
 -- the cursor goes on
-pub goes_on : (hs : List Happening) (cursor : List ℕ) (now : ℕ) (befell : List Befell) → IsTelling hs cursor now befell → (p : List ℕ) → IsBefore p cursor
-    → IsBefore p (behind (now ∷ 2 ∷ []))
-goes_on hs cursor now befell m p b = chain p (now ∷ 2 ∷ []) (behind (now ∷ 2 ∷ [])) (m.untold.early refl p b) (before_behind (now ∷ 2 ∷ []))
+pub goes_on : {hs : List Happening} {cursor : List ℕ} {now : ℕ} {befell : List Befell}
+    → IsTelling hs cursor now befell → (p : List ℕ) → IsBefore p cursor → IsBefore p (behind (now ∷ 2 ∷ []))
+goes_on {now} m p b =
+    chain p (now ∷ 2 ∷ []) (behind (now ∷ 2 ∷ [])) (m.untold.early refl p b) (before_behind (now ∷ 2 ∷ []))
 
 -- what is of rank 2 or more, and no such place, it goes by only where it is of an earlier time
 pub earlier_only : (t k w now : ℕ) (ws : List ℕ) → 2 ≤ k → IsBefore (t ∷ k ∷ w ∷ ws) (behind (now ∷ 2 ∷ [])) → t < now
@@ -25,9 +26,10 @@ earlier_only t k w now ws high (inr (e, inl few)) = absurd (omega (arith, high, 
 earlier_only t k w now ws high (inr (e, inr (r, inl less))) = absurd (omega (arith, less))
 earlier_only t k w now ws high (inr (e, inr (r, inr (z, none)))) = absurd none
 
-pub not_gone_by : (hs : List Happening) (cursor : List ℕ) (now : ℕ) (befell : List Befell) (t k w : ℕ) (ws : List ℕ) → IsTelling hs cursor now befell → 2 ≤ k
-    → IsBefore (t ∷ k ∷ w ∷ ws) (behind (now ∷ 2 ∷ [])) → IsBefore (t ∷ k ∷ w ∷ ws) cursor
-not_gone_by hs cursor now befell t k w ws m high b = m.over (t ∷ k ∷ w ∷ ws) (inl (earlier_only t k w now ws high b))
+pub not_gone_by : {hs : List Happening} {cursor : List ℕ} {now : ℕ} {befell : List Befell} (t k w : ℕ) (ws : List ℕ)
+    → IsTelling hs cursor now befell → 2 ≤ k → IsBefore (t ∷ k ∷ w ∷ ws) (behind (now ∷ 2 ∷ []))
+    → IsBefore (t ∷ k ∷ w ∷ ws) cursor
+not_gone_by {now} t k w ws m high b = m.over (t ∷ k ∷ w ∷ ws) (inl (earlier_only t k w now ws high b))
 
 -- ---- wires
 
@@ -52,7 +54,7 @@ pub record IsPutByOne (s : Scenario) (hs : List Happening) (befell : List Befell
 
 put_real : (s : Scenario) (hs : List Happening) (befell : List Befell) (old new : List OnWire) → ArePutBy s hs befell old new → (e : OnWire) → IsIn e new
     → IsIn e old ⊎ IsPutByOne s hs befell e
-put_real s hs [] old new put e i = inl (subst (λ (l : List OnWire). IsIn e l) put i)
+put_real s hs [] old new put e i = inl (subst (λ l. IsIn e l) put i)
 put_real s hs (x ∷ befell) old new (mid, h, there, first, later) e i =
     elim (put_real s hs befell mid new later e i) [
       | inl before ↦ elim (first.real e before) [
@@ -64,74 +66,80 @@ put_real s hs (x ∷ befell) old new (mid, h, there, first, later) e i =
 
 put_kept : (s : Scenario) (hs : List Happening) (befell : List Befell) (old new : List OnWire) → ArePutBy s hs befell old new → (e : OnWire) → IsIn e old
     → IsIn e new
-put_kept s hs [] old new put e i = subst (λ (l : List OnWire). IsIn e l) (sym put) i
+put_kept s hs [] old new put e i = subst (λ l. IsIn e l) (sym put) i
 put_kept s hs (x ∷ befell) old new (mid, h, there, first, later) e i = put_kept s hs befell mid new later e (first.kept e i)
 
-put_all : (s : Scenario) (hs : List Happening) (befell : List Befell) (old new : List OnWire) → ArePutBy s hs befell old new → (x : Befell) → IsIn x befell
-    → (h : Happening) → numbered hs x.number ≡ Some h → (device : DeviceId) (link : LinkId) (t : ℕ) (signal : Signal) → Arrives s h device link t signal
+put_all : {s : Scenario} (hs : List Happening) (befell : List Befell) (old new : List OnWire)
+    → ArePutBy s hs befell old new → (x : Befell) → IsIn x befell → {h : Happening} → numbered hs x.number ≡ Some h
+    → {device : DeviceId} {link : LinkId} {t : ℕ} {signal : Signal} → Arrives s h device link t signal
     → (e : OnWire) × IsIn e new × (wire_place e ≡ t ∷ 2 ∷ device.0 ∷ link.0 ∷ x.number ∷ [])
-put_all s hs [] old new put x i h there device link t signal arrives = absurd i
-put_all s hs (y ∷ befell) old new (mid, g, at, first, later) x (inl same) h there device link t signal arrives =
+put_all hs [] old new put x i there arrives = absurd i
+put_all {s} hs (y ∷ befell) old new (mid, g, at, first, later) x
+    (inl same) {h} there {device} {link} {t} {signal} arrives =
     let one : h ≡ g = some_same h g _ (subst (λ (z : Befell). numbered hs z.number ≡ Some h) same there) at in
-    let it = first.all device link t signal (subst (λ (z : Happening). Arrives s z device link t signal) one arrives) in
+    let it = first.all device link t signal (subst (λ z. Arrives s z device link t signal) one arrives) in
     (it.0, put_kept s hs befell mid new later it.0 it.1, it.2 ∙ ap (λ (z : Befell). t ∷ 2 ∷ device.0 ∷ link.0 ∷ z.number ∷ []) (sym same))
-put_all s hs (y ∷ befell) old new (mid, g, at, first, later) x (inr i) h there device link t signal arrives =
-    put_all s hs befell mid new later x i h there device link t signal arrives
+put_all hs (y ∷ befell) old new (mid, g, at, first, later) x (inr i) there arrives =
+    put_all hs befell mid new later x i there arrives
 
-pub wires_told : (s : Scenario) (hs : List Happening) (cursor : List ℕ) (now : ℕ) (befell : List Befell) (wires new : List OnWire)
-    → IsTelling hs cursor now befell → IsForward s → AreOnWires s hs cursor now true wires → ArePutBy s hs befell wires new
-    → AreOnWires s hs (behind (now ∷ 2 ∷ [])) now false new
-wires_told s hs cursor now befell wires new m forward are put = record {
-  real = λ e i. elim (put_real s hs befell wires new put e i) [
-    | inl old ↦
-        let was = are.real e old in (
-          was.0,
-          λ open_. absurd cc,
-          λ b. was.2 (not_gone_by hs cursor now befell e.at 2 e.device.0 (e.link.0 ∷ e.cause ∷ []) m (omega arith) b),
-        )
-    | inr it ↦
-        let record_of = m.untold.real it.x it.one in
-        let same : it.h ≡ record_of.1 = some_same it.h record_of.1 _ it.there record_of.2.there in
-        let at : time_of it.h ≡ now = ap time_of same ∙ record_of.2.same_time in
-        let later = arrives_later s it.h e.device e.link e.at e.signal forward it.arrives in (
-          record { putting = it.h; there = ap (numbered hs) it.cause ∙ it.there; arrives = it.arrives },
-          λ open_. absurd cc,
-          λ b.
-              let lt = earlier_only e.at 2 e.device.0 now (e.link.0 ∷ e.cause ∷ []) (omega arith) b in
-              omega (arith, lt, later, at),
-        )
-  ];
-  all = λ t device link cause a told not.
-      elim (m.sooner a.putting (numbered_in hs cause a.putting a.there)) [
-        | inl lt ↦
-            let it = are.all t device link cause a (λ open_ at. (let bad = at in omega (arith, bad, lt))) (λ b. not (goes_on hs cursor now befell m _ b)) in
-            (it.0, put_kept s hs befell wires new put it.0 it.1, it.2)
-        | inr same ↦
-            let is = event_is a.putting.note.body same.1 in
-            let out = launch_out s a.putting (time_of a.putting) is.0 is.1 _
-            (subst (λ (b : NoteBody). launched s a.putting (time_of a.putting) b ≡ Some (record { link = link; way = a.arrives.way; signal = a.signal })) is.2
-            a.arrives.put) in
-            let one = m.untold.all refl cause is.0 is.1 a.putting (record { there = a.there; same_time = same.0 }) is.2 out in
-            put_all s hs befell wires new put (record { number = cause; what = is.1 }) one a.putting a.there device link t a.signal a.arrives
-      ];
-}
+module _ (s : Scenario) (hs : List Happening) (cursor : List ℕ) (now : ℕ) (befell : List Befell) where
+  pub wires_told : {wires : List OnWire} (new : List OnWire) → IsTelling hs cursor now befell → IsForward s
+      → AreOnWires s hs cursor now true wires → ArePutBy s hs befell wires new
+      → AreOnWires s hs (behind (now ∷ 2 ∷ [])) now false new
+  wires_told {wires} new m forward are put = record {
+    real = λ e i. elim (put_real s hs befell wires new put e i) [
+      | inl old ↦
+          let was = are.real e old in (
+            was.0,
+            λ open_. absurd cc,
+            λ b. was.2 (not_gone_by e.at 2 e.device.0 (e.link.0 ∷ e.cause ∷ []) m (omega arith) b),
+          )
+      | inr it ↦
+          let record_of = m.untold.real it.x it.one in
+          let same : it.h ≡ record_of.1 = some_same it.h record_of.1 _ it.there record_of.2.there in
+          let at : time_of it.h ≡ now = ap time_of same ∙ record_of.2.same_time in
+          let later = arrives_later forward it.arrives in (
+            record { putting = it.h; there = ap (numbered hs) it.cause ∙ it.there; arrives = it.arrives },
+            λ open_. absurd cc,
+            λ b.
+                let lt = earlier_only e.at 2 e.device.0 now (e.link.0 ∷ e.cause ∷ []) (omega arith) b in
+                omega (arith, lt, later, at),
+          )
+    ];
+    all = λ t device link cause a told not.
+        elim (m.sooner a.putting (numbered_in hs cause a.putting a.there)) [
+          | inl lt ↦
+              let it = are.all t device link cause a (λ open_ at. (let bad = at in omega (arith, bad, lt)))
+              (λ b. not (goes_on m _ b)) in
+              (it.0, put_kept s hs befell wires new put it.0 it.1, it.2)
+          | inr same ↦
+              let is = event_is a.putting.note.body same.1 in
+              let out = launch_out s a.putting (time_of a.putting) is.0 is.1 _
+              (subst (λ (b : NoteBody). launched s a.putting (time_of a.putting) b ≡ Some
+              (record { link = link; way = a.arrives.way; signal = a.signal })) is.2
+              a.arrives.put) in
+              let one = m.untold.all refl cause is.0 is.1 a.putting (record { there = a.there; same_time = same.0 })
+              is.2 out in
+              put_all hs befell wires new put (record { number = cause; what = is.1 }) one a.there a.arrives
+        ];
+  }
 
--- ---- ports, and what waits
+  -- ---- ports, and what waits
 
-pub ports_told : (s : Scenario) (hs : List Happening) (cursor : List ℕ) (now : ℕ) (befell : List Befell) (ports : List AtPort)
-    → IsTelling hs cursor now befell → AreAtPorts s hs cursor ports → AreAtPorts s hs (behind (now ∷ 2 ∷ [])) ports
-ports_told s hs cursor now befell ports m are = record {
-  real = λ e i.
-      let was = are.real e i in
-      (was.0, λ b. was.1 (not_gone_by hs cursor now befell e.at 8 e.device.0 (e.link.0 ∷ e.cause ∷ []) m (omega arith) b));
-  all = λ t device link cause d not. are.all t device link cause d (λ b. not (goes_on hs cursor now befell m _ b));
-}
+  pub ports_told : {ports : List AtPort} → IsTelling hs cursor now befell → AreAtPorts s hs cursor ports
+      → AreAtPorts s hs (behind (now ∷ 2 ∷ [])) ports
+  ports_told m are = record {
+    real = λ e i.
+        let was = are.real e i in
+        (was.0, λ b. was.1 (not_gone_by e.at 8 e.device.0 (e.link.0 ∷ e.cause ∷ []) m (omega arith) b));
+    all = λ t device link cause d not. are.all t device link cause d (λ b. not (goes_on m _ b));
+  }
 
-pub waiting_told : (s : Scenario) (hs : List Happening) (cursor : List ℕ) (now : ℕ) (befell : List Befell) (waiting : List Waiting)
-    → IsTelling hs cursor now befell → AreWaiting s hs cursor now waiting → AreWaiting s hs (behind (now ∷ 2 ∷ [])) now waiting
-waiting_told s hs cursor now befell waiting m are = record {
-  real = are.real;
-  later = λ e i t x b. are.later e i t x (not_gone_by hs cursor now befell t 3 e.device.0 _ m (omega arith) b);
-  sound = are.sound;
-  all = λ e it sound not. are.all e it sound (λ t x b. not t x (goes_on hs cursor now befell m (ripe_place t e) b));
-}
+  pub waiting_told : {waiting : List Waiting} → IsTelling hs cursor now befell → AreWaiting s hs cursor now waiting
+      → AreWaiting s hs (behind (now ∷ 2 ∷ [])) now waiting
+  waiting_told m are = record {
+    real = are.real;
+    later = λ e i t x b. are.later e i t x (not_gone_by t 3 e.device.0 _ m (omega arith) b);
+    sound = are.sound;
+    all = λ e it sound not. are.all e it sound (λ t x b. not t x (goes_on m (ripe_place t e) b));
+  }

@@ -15,9 +15,10 @@ point_natural : (reading clock : ℕ) (dmax point : Units) → point.0 ≡ point
 point_natural reading clock dmax point at le some = let whole = natural dmax.0 some in omega (arith, ints, at, le, whole)
 
 -- nor was any frame permanent at a point before it
-pub permanent_natural : (s : Scenario) (hs : List Happening) (device : DeviceId) (t : ℕ) (link : LinkId) (cause : ℕ) (frame : Pcf) (point : Units)
-    → IsInRange s.network → AreFoundedAs s hs → IsPermanent s hs device t link cause frame point → pos 0 ≤ℤ point.0
-permanent_natural s hs device t link cause frame point range founded p =
+pub permanent_natural : {s : Scenario} {hs : List Happening} {device : DeviceId} {t : ℕ} {link : LinkId} {cause : ℕ}
+    {frame : Pcf} {point : Units} → IsInRange s.network → AreFoundedAs s hs
+    → IsPermanent s hs device t link cause frame point → pos 0 ≤ℤ point.0
+permanent_natural {s} {hs} {device} {link} {cause} {point} range founded p =
     let at = founded_as s hs p.arrival founded (numbered_in hs cause p.arrival p.there) in
     let caused : IsCaused s at.front p.arrival.note.time (notes.Arrived device link p.from p.clock) = subst (IsCaused s at.front p.arrival.note.time) p.arrived
     at.due.cause in
@@ -30,7 +31,7 @@ by_record : (s : Scenario) (hs : List Happening) (device : DeviceId) (h : Happen
 by_record s hs device h range founded i (notes.Permanent other link cause point verdict) is =
     let at = founded_as s hs h founded i in
     let caused : IsCaused s at.front h.note.time (notes.Permanent other link cause point verdict) = subst (IsCaused s at.front h.note.time) is at.due.cause in
-    let low = permanent_natural s at.front other (amount h.note.time) link cause caused.frame point range at.founded caused.permanent in
+    let low = permanent_natural range at.founded caused.permanent in
     elim (device.0 == other.0) as (λ (b : Bool). IfSome (if b then Some (point_at point.0 (master_of (members_in h)) (cycle_in h)) else None)
     (λ p. pos 0 ≤ℤ p.reading)) [ true ↦ low | false ↦ tt ]
 by_record s hs device h range founded i other is = tt

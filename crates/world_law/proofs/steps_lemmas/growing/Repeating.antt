@@ -15,7 +15,7 @@ no_act_yet stands network device moment machine node is may = ([], node, refl, r
 pub acts_add_up : {M : Type 0} (stands : M → Network → DeviceId → Node → Type 0) → ActsAddUp stands
 acts_add_up stands network device moment result times old mid new range rules before due once node is may =
     let so = before node is may in
-    let may_now = may_act_then network device moment node so.0 so.1 range rules may so.3 in
+    let may_now = may_act_then network device moment so.0 so.1 range rules may so.3 in
     let then_is = once so.1 so.4 may_now (due so.1 so.4) in
     let many = so.2 in
     let counted : length (so.0 ++ result ∷ []) ≡ length so.0 + 1 = length-append so.0 (result ∷ []) in (
@@ -40,22 +40,25 @@ not_behind now more (inr (e, inl lt)) = omega (arith, lt)
 not_behind now more (inr (e, inr (f, b))) = b
 
 -- a device that is ready may act
-pub may_act_now : (s : Scenario) (now : ℕ) (device : DeviceId) (node : Node) → IsReadyAt (s.reading device) s.network device node now
-    → IsSteady (s.reading device) (amount s.network.precision) → now ≤ 2 ^ 60 → MayCall s.network device node (moment_of s device now) acting
-may_act_now s now device node ready steady limit = grind (arith, may_call, acting, cases_lt, rank_of_call, chain, up_to_acting, not_behind)
+pub may_act_now : (s : Scenario) {now : ℕ} {device : DeviceId} {node : Node}
+    → IsReadyAt (s.reading device) s.network device node now
+    → IsSteady (s.reading device) (amount s.network.precision) → now ≤ 2 ^ 60
+    → MayCall s.network device node (moment_of s device now) acting
+may_act_now s ready steady limit =
+    grind (arith, may_call, acting, cases_lt, rank_of_call, chain, up_to_acting, not_behind)
 
 pub acts_are_bounded : {C M : Type 0} (reading : C → ℕ → ℕ) (stands : M → Network → DeviceId → Node → Type 0) → ActsAreBounded reading stands
 acts_are_bounded {C} {M} reading stands s world notes device machine new times old of_it there due so =
     let held = old.devices device of_it in
     let one : held.0 ≡ machine = (let same = sym held.1 ∙ there in cc) in
-    by (subst (λ (m : M). IsHeld stands s (happenings s.network notes) world.settled old.cursor world.now device m) one held.2)
+    by (subst (λ m. IsHeld stands s (happenings s.network notes) world.settled old.cursor world.now device m) one held.2)
   where
     by : IsHeld stands s (happenings s.network notes) world.settled old.cursor world.now device machine → times ≤ 259
     by (inr k) =
         let has = due k.node k.is in
         absurd (no_task s.network device k.node has.0 k.shows has.1)
     by (inl k) =
-        let may = may_act_now s world.now device k.node k.ready (old.steady device) old.limit in
+        let may = may_act_now s k.ready (old.steady device) old.limit in
         let law = lawful reading stands s world notes old device in
         let zero_on = kept_from_zero stands s (happenings s.network notes) world.settled old.cursor world.now device machine k law in
         let chain_of = so k.node k.is may in
@@ -65,21 +68,22 @@ acts_are_bounded {C} {M} reading stands s world notes device machine new times o
 
 -- ---- what an act brings
 
-few_joining : (n : ℕ) (device : DeviceId) (heard : Ripe) → length (joining_bodies n device heard) ≤ 1
-few_joining n device ripe.Integrates = omega arith
-few_joining n device other = omega arith
+module _ (n : ℕ) (device : DeviceId) where
+  few_joining : (heard : Ripe) → length (joining_bodies n device heard) ≤ 1
+  few_joining ripe.Integrates = omega arith
+  few_joining other = omega arith
 
-few_first : (n : ℕ) (device : DeviceId) (was : State) → length (first_bodies n device was) ≤ 1
-few_first n device Joining = omega arith
-few_first n device other = omega arith
+  few_first : (was : State) → length (first_bodies n device was) ≤ 1
+  few_first Joining = omega arith
+  few_first other = omega arith
 
-few_corrected : (n : ℕ) (device : DeviceId) (was : State) (cycle : ℕ) (adjustment : Units) (verdict : Verdict)
-    → length (correction_bodies n device was cycle adjustment verdict) ≤ 2
-few_corrected n device was cycle adjustment (verdicts.Corrected by) = let few = few_first n device was in omega (arith, few)
-few_corrected n device was cycle adjustment other = omega arith
+  few_corrected : (was : State) (cycle : ℕ) (adjustment : Units) (verdict : Verdict)
+      → length (correction_bodies n device was cycle adjustment verdict) ≤ 2
+  few_corrected was cycle adjustment (verdicts.Corrected by) = let few = few_first was in omega (arith, few)
+  few_corrected was cycle adjustment other = omega arith
 
 of_length : (bodies others : List NoteBody) → bodies ≡ others → length others ≤ 2 → length bodies ≤ 2
-of_length bodies others is few = subst (λ (l : List NoteBody). length l ≤ 2) (sym is) few
+of_length bodies others is few = subst (λ l. length l ≤ 2) (sym is) few
 
 pub acts_bring_few : ActsBringFew
 acts_bring_few s hs now device was adjustment (acts.Send frame) bodies are = of_length bodies _ are (omega arith)

@@ -1,11 +1,10 @@
 -- A frame arrives at its device: it is judged as the records say, and each device is kept behind it.
 use Rattle.world_law.proofs.devices.Working.{rested}
-use Rattle.world_law.proofs.steps_lemmas.Words.{changed_at}
 use Rattle.world_law.proofs.putting.Bearing.{frames_aside}
 use Rattle.{run_law.specs.machines.{Answers.after_arrival, Calls.MayArrive}, world_law.specs.world.Calls.HasHeard}
 use Rattle.world_law.proofs.{putting.Moving.kept_moves, steps_lemmas.Words.{place_of, pos, rank, refl, signal_of, subst, sym, taken_in, time_of, ℕ, ℤ}}
 use Rattle.world_law.proofs.steps_lemmas.Words.{no_task_at, ◌++◌, ◌+◌, ◌==◌, ◌^◌, ◌∙◌, ◌∷◌, ◌≡◌, ◌≤ℤ◌, ◌≤◌, Arrival, Bool, DeviceId, Happening, IsBefore, IsHeld, IsKept}
-use Rattle.world_law.proofs.steps_lemmas.Words.{IsMoving, IsNoTaking, IsOut, IsSteady, LinkId, List, Network, Node, OnWire, Scenario, Signal, TakenFrame, VlId}
+use Rattle.world_law.proofs.steps_lemmas.Words.{IsMoving, IsNoTaking, IsOut, IsSteady, LinkId, List, Network, Node, OnWire, Scenario, TakenFrame, VlId}
 use Rattle.world_law.proofs.steps_lemmas.Words.{[], amount, ap, arith, arrival_at, arrival_body, arrival_of, arriving, bears_on, behind, called}
 use Rattle.world_law.proofs.steps_lemmas.Words.{chain, eq-eqb, false, held_aside, if◌then◌else◌, in_parts, in_right, inl, inr, is_end, moment_of}
 use Rattle.world_law.proofs.steps_lemmas.hearing.{Called.{After, kept_by, kept_called, out_called}, Timed.{IsAfterGiven, given_by_now, kept_judges, no_taking}}
@@ -32,69 +31,75 @@ pub record IsHearingIt {M : Type 0} (stands : M → Network → DeviceId → Nod
   pub may : MayArrive s.network e.device e.link octets
   pub hears : HasHeard stands s.network e.device (moment_of s e.device now) e.link octets result machine heard
 
--- a broken device drops it, as the records say, and is kept
-pub out_heard : {M : Type 0} (stands : M → Network → DeviceId → Node → Type 0) (s : Scenario) (hs coming : List Happening) (mark cursor : List ℕ) (now : ℕ)
-    (e : OnWire) (machine heard : M) (octets : List ℕ) (result : Arrival) → IsHearingIt stands s hs coming mark cursor now e machine heard octets result
-    → IsOut stands s hs coming cursor now e.device machine → (result ≡ arrival_of s (hs ++ coming) e.device now e.link e.cause e.signal)
-    × IsOut stands s hs coming (behind (now ∷ 2 ∷ e.device.0 ∷ e.link.0 ∷ e.cause ∷ [])) now e.device heard
-out_heard stands s hs coming mark cursor now e machine heard octets result h k =
-    let more = e.device.0 ∷ e.link.0 ∷ e.cause ∷ [] in
-    let m = moment_of s e.device now in
-    let call = may_call s cursor now e.device k.node arriving more k.ready k.phase h.steady h.limit h.moving.waits in
-    let so = h.hears k.node k.is call h.may in
-    let drops = so.0 ∙ out_drops s.network e.device k.node m e.link (signal_of octets) k.shows in
-    let is : stands heard s.network e.device (called m arriving k.node) = subst
-    (λ (a : Arrival). stands heard s.network e.device (called m arriving (after_arrival k.node m a))) drops so.1 in (
-      drops ∙ sym (broken_drops s (hs ++ coming) e.device now e.link e.cause e.signal k.broken),
-      out_called stands s hs coming cursor (behind (now ∷ 2 ∷ more)) now e.device machine heard arriving k is (after_here s now e),
-    )
+module _ {M : Type 0} (stands : M → Network → DeviceId → Node → Type 0) (s : Scenario) (hs coming : List Happening)
+    (mark cursor : List ℕ) (now : ℕ) (e : OnWire) (machine heard : M) (octets : List ℕ) (result : Arrival) where
+  -- a broken device drops it, as the records say, and is kept
+  pub out_heard : IsHearingIt stands s hs coming mark cursor now e machine heard octets result
+      → IsOut stands s hs coming cursor now e.device machine
+      → (result ≡ arrival_of s (hs ++ coming) e.device now e.link e.cause e.signal)
+      × IsOut stands s hs coming (behind (now ∷ 2 ∷ e.device.0 ∷ e.link.0 ∷ e.cause ∷ [])) now e.device heard
+  out_heard h k =
+      let more = e.device.0 ∷ e.link.0 ∷ e.cause ∷ [] in
+      let m = moment_of s e.device now in
+      let call = may_call s cursor now e.device k.node arriving more k.ready k.phase h.steady h.limit h.moving.waits in
+      let so = h.hears k.node k.is call h.may in
+      let drops = so.0 ∙ out_drops s.network e.device k.node m e.link (signal_of octets) k.shows in
+      let is : stands heard s.network e.device (called m arriving k.node) = subst
+      (λ a. stands heard s.network e.device (called m arriving (after_arrival k.node m a))) drops so.1 in (
+        drops ∙ sym (broken_drops s (hs ++ coming) e.device now e.link e.cause e.signal k.broken),
+        out_called stands s hs coming cursor (behind (now ∷ 2 ∷ more)) heard arriving k is (after_here s now e),
+      )
 
--- a sound device judges it as the records say
-pub kept_answers : {M : Type 0} (stands : M → Network → DeviceId → Node → Type 0) (s : Scenario) (hs coming : List Happening) (mark cursor : List ℕ) (now : ℕ)
-    (e : OnWire) (machine heard : M) (octets : List ℕ) (result : Arrival) → IsHearingIt stands s hs coming mark cursor now e machine heard octets result
-    → (k : IsKept stands s hs coming cursor now e.device machine) → (result ≡ arrival_of s (hs ++ coming) e.device now e.link e.cause e.signal)
-    × stands heard s.network e.device (called (moment_of s e.device now) arriving (after_arrival k.node (moment_of s e.device now) result))
-kept_answers stands s hs coming mark cursor now e machine heard octets result h k =
-    let m = moment_of s e.device now in
-    let call = may_call s cursor now e.device k.node arriving (e.device.0 ∷ e.link.0 ∷ e.cause ∷ []) k.ready k.phase h.steady h.limit h.moving.waits in
-    let so = h.hears k.node k.is call h.may in (
-      so.0
-          ∙ ap (λ (x : Signal). arrival_at s.network e.device k.node m e.link x) h.octets_of
-          ∙ kept_judges stands s hs coming mark cursor now e machine e.signal h.given k,
-      so.1,
-    )
+  -- a sound device judges it as the records say
+  pub kept_answers : IsHearingIt stands s hs coming mark cursor now e machine heard octets result
+      → (k : IsKept stands s hs coming cursor now e.device machine)
+      → (result ≡ arrival_of s (hs ++ coming) e.device now e.link e.cause e.signal) × stands heard s.network e.device
+      (called (moment_of s e.device now) arriving (after_arrival k.node (moment_of s e.device now) result))
+  kept_answers h k =
+      let m = moment_of s e.device now in
+      let call = may_call s cursor now e.device k.node arriving (e.device.0 ∷ e.link.0 ∷ e.cause ∷ []) k.ready
+      k.phase h.steady h.limit h.moving.waits in
+      let so = h.hears k.node k.is call h.may in (
+        so.0
+            ∙ ap (λ x. arrival_at s.network e.device k.node m e.link x) h.octets_of
+            ∙ kept_judges e.signal h.given k,
+        so.1,
+      )
 
--- and so does each that is held
-pub held_answers : {M : Type 0} (stands : M → Network → DeviceId → Node → Type 0) (s : Scenario) (hs coming : List Happening) (mark cursor : List ℕ) (now : ℕ)
-    (e : OnWire) (machine heard : M) (octets : List ℕ) (result : Arrival) → IsHearingIt stands s hs coming mark cursor now e machine heard octets result
-    → IsHeld stands s hs coming cursor now e.device machine → result ≡ arrival_of s (hs ++ coming) e.device now e.link e.cause e.signal
-held_answers stands s hs coming mark cursor now e machine heard octets result h (inl k) =
-    (kept_answers stands s hs coming mark cursor now e machine heard octets result h k).0
-held_answers stands s hs coming mark cursor now e machine heard octets result h (inr k) =
-    (out_heard stands s hs coming mark cursor now e machine heard octets result h k).0
+  -- and so does each that is held
+  pub held_answers : IsHearingIt stands s hs coming mark cursor now e machine heard octets result
+      → IsHeld stands s hs coming cursor now e.device machine
+      → result ≡ arrival_of s (hs ++ coming) e.device now e.link e.cause e.signal
+  held_answers h (inl k) =
+      (kept_answers h k).0
+  held_answers h (inr k) =
+      (out_heard h k).0
 
 -- ---- the record bears on no device
 
-quiet_body : (device of : DeviceId) (link : LinkId) (cause : ℕ) (is : Arrival) → bears_on device (arrival_body of link cause is) ≡ false
-quiet_body device of link cause (arrivals.Dropped reason) = refl
-quiet_body device of link cause other = refl
+module _ (device of : DeviceId) (link : LinkId) (cause : ℕ) where
+  quiet_body : (is : Arrival) → bears_on device (arrival_body of link cause is) ≡ false
+  quiet_body (arrivals.Dropped reason) = refl
+  quiet_body other = refl
 
--- and another device takes nothing by it
-pub others_take : (device of : DeviceId) (link : LinkId) (cause : ℕ) (is : Arrival) → (device.0 == of.0) ≡ false
-    → IsNoTaking device (arrival_body of link cause is)
-others_take device of link cause (arrivals.Accepted vl cycle) e = λ at. ap (λ (b : Bool). if b then record { vl = vl; cycle = cycle; at = at } ∷ [] else []) e
-others_take device of link cause (arrivals.Delivered vl cycle) e = λ at. ap (λ (b : Bool). if b then record { vl = vl; cycle = cycle; at = at } ∷ [] else []) e
-others_take device of link cause other e = λ at. refl
+  -- and another device takes nothing by it
+  pub others_take : (is : Arrival) → (device.0 == of.0) ≡ false → IsNoTaking device (arrival_body of link cause is)
+  others_take (arrivals.Accepted vl cycle) e =
+      λ at. ap (λ (b : Bool). if b then record { vl = vl; cycle = cycle; at = at } ∷ [] else []) e
+  others_take (arrivals.Delivered vl cycle) e =
+      λ at. ap (λ (b : Bool). if b then record { vl = vl; cycle = cycle; at = at } ∷ [] else []) e
+  others_take other e = λ at. refl
 
-pub quiet_for : {M : Type 0} (stands : M → Network → DeviceId → Node → Type 0) (s : Scenario) (hs front back : List Happening) (mark cursor : List ℕ) (now : ℕ)
-    (e : OnWire) (is : Arrival) (w : Happening) → IsAfterGiven s hs (front ++ back) mark cursor now e → IsReceiving s hs front back mark cursor now e is w
+pub quiet_for : {M : Type 0} (stands : M → Network → DeviceId → Node → Type 0) {s : Scenario}
+    {hs front back : List Happening} {mark cursor : List ℕ} {now : ℕ} {e : OnWire} {is : Arrival} {w : Happening}
+    → IsAfterGiven s hs (front ++ back) mark cursor now e → IsReceiving s hs front back mark cursor now e is w
     → (device : DeviceId) → IsQuiet hs front back w device
-quiet_for stands s hs front back mark cursor now e is w a r device = record {
+quiet_for stands {hs} {front} {back} {e} {is} a r device = record {
   bears = ap (bears_on device) r.body ∙ quiet_body device e.device e.link e.cause is;
   sooner = λ h i.
       let at = r.at in
       elim (in_parts h hs (front ++ back) i) [
-        | inl old ↦ let le = given_by_now s hs (front ++ back) mark cursor now e a h old in omega (arith, le, at)
+        | inl old ↦ let le = given_by_now a h old in omega (arith, le, at)
         | inr new ↦ let is_now = a.moving.are.of_now h new in omega (arith, is_now, at)
       ];
 }
@@ -108,20 +113,21 @@ four_after now d more (inr (e, inl lt)) = omega (arith, lt)
 four_after now d more (inr (e, inr (f, b))) = omega (arith, f)
 
 -- it takes nothing
-plain_there : {M : Type 0} (stands : M → Network → DeviceId → Node → Type 0) (s : Scenario) (hs front back : List Happening) (mark cursor : List ℕ)
-    (now : ℕ)
-    (e : OnWire) (machine heard : M) (w : Happening) → IsMoving s hs (front ++ back) mark cursor now 2 (e.device.0 ∷ e.link.0 ∷ e.cause ∷ [])
+plain_there : {M : Type 0} {stands : M → Network → DeviceId → Node → Type 0} {s : Scenario}
+    {hs front back : List Happening} {mark cursor : List ℕ} {now : ℕ} (e : OnWire) {machine : M} (heard : M)
+    {w : Happening} → IsMoving s hs (front ++ back) mark cursor now 2 (e.device.0 ∷ e.link.0 ∷ e.cause ∷ [])
     → IsQuiet hs front back w e.device → time_of w ≡ now → IsNoTaking e.device w.note.body
-    → (k : IsKept stands s hs (front ++ back) cursor now e.device machine) → stands heard s.network e.device (called (moment_of s e.device now) arriving k.node)
-    → IsHeld stands s hs (front ++ w ∷ back) (behind (now ∷ 2 ∷ e.device.0 ∷ e.link.0 ∷ e.cause ∷ [])) now e.device heard
-plain_there stands s hs front back mark cursor now e machine heard w moving quiet at none k is =
+    → (k : IsKept stands s hs (front ++ back) cursor now e.device machine)
+    → stands heard s.network e.device (called (moment_of s e.device now) arriving k.node)
+    → IsHeld stands s hs (front ++ w ∷ back) (behind (now ∷ 2 ∷ e.device.0 ∷ e.link.0 ∷ e.cause
+    ∷ [])) now e.device heard
+plain_there {stands} {s} {hs} {front} {back} {now} e heard {w} moving quiet at none k is =
     let more = e.device.0 ∷ e.link.0 ∷ e.cause ∷ [] in
     let by = After stands heard (called (moment_of s e.device now) arriving) in
-    let on = kept_moves by s hs (front ++ back) mark cursor now 2 more e.device machine moving
-    (no_task_at s.network now e.device 2 more (inl (omega arith)))
-    (kept_by stands by s hs (front ++ back) cursor now e.device machine k is) in
+    let on = kept_moves by s hs (front ++ back) moving (no_task_at s.network now e.device 2 more (inl (omega arith)))
+    (kept_by by k is) in
     held_aside s hs front back w e.device quiet.bears at (frames_aside s hs front back w e.device quiet.bears none)
-    (inl (kept_called stands s hs (front ++ back) (behind (now ∷ 2 ∷ more)) now e.device machine heard arriving on (after_here s now e)))
+    (inl (kept_called stands s hs (front ++ back) (behind (now ∷ 2 ∷ more)) heard arriving on (after_here s now e)))
 
 -- no place behind it, and before what acts, is before the cursor
 not_over : (now d : ℕ) (more : List ℕ) → IsBefore (now ∷ 2 ∷ (d + 1) ∷ []) (now ∷ 2 ∷ d ∷ more) → ⊥
@@ -130,43 +136,45 @@ not_over now d more (inr (e, inl lt)) = omega (arith, lt)
 not_over now d more (inr (e, inr (f, inl lt))) = omega (arith, lt)
 not_over now d more (inr (e, inr (f, inr (g, b)))) = omega (arith, g)
 
--- it takes a frame
-taken_there : {M : Type 0} (stands : M → Network → DeviceId → Node → Type 0) (s : Scenario) (hs front back : List Happening) (mark cursor : List ℕ)
-    (now : ℕ)
-    (e : OnWire) (machine heard : M) (w : Happening) (vl : VlId) (cycle : ℕ)
-    → IsMoving s hs (front ++ back) mark cursor now 2 (e.device.0 ∷ e.link.0 ∷ e.cause ∷ [])
-    → IsTakingBy s hs front back now w e.device vl cycle → IsSteady (s.reading e.device) (amount s.network.precision) → pos 0 ≤ℤ s.network.precision.0
-    → (k : IsKept stands s hs (front ++ back) cursor now e.device machine) → stands heard s.network e.device (took (moment_of s e.device now) vl cycle k.node)
-    → IsHeld stands s hs (front ++ w ∷ back) (behind (now ∷ 2 ∷ e.device.0 ∷ e.link.0 ∷ e.cause ∷ [])) now e.device heard
-taken_there stands s hs front back mark cursor now e machine heard w vl cycle moving taking steady precise k is =
-    let more = e.device.0 ∷ e.link.0 ∷ e.cause ∷ [] in
-    let over = e.link.0 ∷ e.cause ∷ 0 ∷ [] in
-    let by = After stands heard (took (moment_of s e.device now) vl cycle) in
-    let on = kept_moves by s hs (front ++ back) mark cursor now 2 more e.device machine moving
-    (no_task_at s.network now e.device 2 more (inl (omega arith)))
-    (kept_by stands by s hs (front ++ back) cursor now e.device machine k is) in
-    let up : on.up ≡ now = elim on.acted [
-      | inl still ↦ still.0
-      | inr gone ↦ absurd (not_over now e.device.0 over (gone.1 (now ∷ 2 ∷ (e.device.0 + 1) ∷ []) (inr (refl, inl (omega arith)))))
-    ] in
-    let rests = rested s e.device on.node (changed_at (hs ++ (front ++ back)) e.device on.up) on.up now (behind (now ∷ 2 ∷ more)) on.worked (omega (arith, up))
-    (four_after now e.device.0 (e.device.0 ∷ over)) in
-    inl (kept_taking stands s hs front back w (behind (now ∷ 2 ∷ more)) now e.device machine heard vl cycle taking steady precise (after_here s now e) on up
-    rests)
+module _ {M : Type 0} (stands : M → Network → DeviceId → Node → Type 0) (s : Scenario)
+    (hs front back : List Happening) (mark cursor : List ℕ) (now : ℕ) (e : OnWire) where
+  -- it takes a frame
+  taken_there : {machine : M} (heard : M) {w : Happening} {vl : VlId} {cycle : ℕ}
+      → IsMoving s hs (front ++ back) mark cursor now 2 (e.device.0 ∷ e.link.0 ∷ e.cause ∷ [])
+      → IsTakingBy s hs front back now w e.device vl cycle
+      → IsSteady (s.reading e.device) (amount s.network.precision) → pos 0 ≤ℤ s.network.precision.0
+      → (k : IsKept stands s hs (front ++ back) cursor now e.device machine)
+      → stands heard s.network e.device (took (moment_of s e.device now) vl cycle k.node)
+      → IsHeld stands s hs (front ++ w ∷ back) (behind (now ∷ 2 ∷ e.device.0 ∷ e.link.0 ∷ e.cause
+      ∷ [])) now e.device heard
+  taken_there heard {vl} {cycle} moving taking steady precise k is =
+      let more = e.device.0 ∷ e.link.0 ∷ e.cause ∷ [] in
+      let over = e.link.0 ∷ e.cause ∷ 0 ∷ [] in
+      let by = After stands heard (took (moment_of s e.device now) vl cycle) in
+      let on = kept_moves by s hs (front ++ back) moving
+      (no_task_at s.network now e.device 2 more (inl (omega arith))) (kept_by by k is) in
+      let up : on.up ≡ now = elim on.acted [
+        | inl still ↦ still.0
+        | inr gone ↦ absurd (not_over now e.device.0 over
+            (gone.1 (now ∷ 2 ∷ (e.device.0 + 1) ∷ []) (inr (refl, inl (omega arith)))))
+      ] in
+      let rests = rested now on.worked (omega (arith, up)) (four_after now e.device.0 (e.device.0 ∷ over)) in
+      inl (kept_taking stands heard taking steady precise (after_here s now e) on up
+      rests)
 
-taking_by : {M : Type 0} (stands : M → Network → DeviceId → Node → Type 0) (s : Scenario) (hs front back : List Happening) (mark cursor : List ℕ) (now : ℕ)
-    (e : OnWire) (is : Arrival) (w : Happening) (vl : VlId) (cycle : ℕ) → IsAfterGiven s hs (front ++ back) mark cursor now e
-    → IsReceiving s hs front back mark cursor now e is w → (if is_end s.network e.device then 12 else 11) ≤ rank (arrival_body e.device e.link e.cause is)
-    → ((z : _) → taken_in e.device z (arrival_body e.device e.link e.cause is) ≡ record { vl = vl; cycle = cycle; at = z } ∷ [])
-    → IsTakingBy s hs front back now w e.device vl cycle
-taking_by stands s hs front back mark cursor now e is w vl cycle a r high takes = record {
-  quiet = quiet_for stands s hs front back mark cursor now e is w a r e.device;
-  at = r.at;
-  takes = λ z. ap (taken_in e.device z) r.body ∙ takes z;
-  behind = λ h i.
-      no_taking s hs (front ++ back) mark cursor now e a h (in_right h front back i) (rank (arrival_body e.device e.link e.cause is))
-      (subst (λ (q : List ℕ). IsBefore (place_of h) q → ⊥) (placed_at now e is w r.at r.body) (r.none h i)) high;
-}
+  taking_by : {is : Arrival} {w : Happening} (vl : VlId) (cycle : ℕ)
+      → IsAfterGiven s hs (front ++ back) mark cursor now e → IsReceiving s hs front back mark cursor now e is w
+      → (if is_end s.network e.device then 12 else 11) ≤ rank (arrival_body e.device e.link e.cause is)
+      → ((z : _) → taken_in e.device z (arrival_body e.device e.link e.cause is)
+      ≡ record { vl = vl; cycle = cycle; at = z } ∷ []) → IsTakingBy s hs front back now w e.device vl cycle
+  taking_by {is} {w} vl cycle a r high takes = record {
+    quiet = quiet_for stands a r e.device;
+    at = r.at;
+    takes = λ z. ap (taken_in e.device z) r.body ∙ takes z;
+    behind = λ h i.
+        no_taking a h (in_right h front back i) (rank (arrival_body e.device e.link e.cause is))
+        (subst (λ q. IsBefore (place_of h) q → ⊥) (placed_at now e is w r.at r.body) (r.none h i)) high;
+  }
 
 abbrev frame_of : VlId → ℕ → ℤ → TakenFrame
 frame_of vl cycle z = record { vl = vl; cycle = cycle; at = z }
@@ -174,55 +182,58 @@ frame_of vl cycle z = record { vl = vl; cycle = cycle; at = z }
 self_takes : (device : DeviceId) (vl : VlId) (cycle : ℕ) (z : ℤ) → (if device.0 == device.0 then frame_of vl cycle z ∷ [] else []) ≡ frame_of vl cycle z ∷ []
 self_takes device vl cycle z = ap (λ (b : Bool). if b then frame_of vl cycle z ∷ [] else []) (eq-eqb device.0 device.0 refl)
 
-kept_there : {M : Type 0} (stands : M → Network → DeviceId → Node → Type 0) (s : Scenario) (hs front back : List Happening) (mark cursor : List ℕ)
-    (now : ℕ)
-    (e : OnWire) (machine heard : M) (octets : List ℕ) (result is : Arrival) (w : Happening)
-    → IsHearingIt stands s hs (front ++ back) mark cursor now e machine heard octets result → IsReceiving s hs front back mark cursor now e is w
-    → is ≡ arrival_of s (hs ++ (front ++ back)) e.device now e.link e.cause e.signal → (k : IsKept stands s hs (front ++ back) cursor now e.device machine)
-    → stands heard s.network e.device (called (moment_of s e.device now) arriving (after_arrival k.node (moment_of s e.device now) is))
-    → IsHeld stands s hs (front ++ w ∷ back) (behind (now ∷ 2 ∷ e.device.0 ∷ e.link.0 ∷ e.cause ∷ [])) now e.device heard
-kept_there stands s hs front back mark cursor now e machine heard octets result (arrivals.Accepted vl cycle) w h r so k is =
-    taken_there stands s hs front back mark cursor now e machine heard w vl cycle h.moving
-    (taking_by stands s hs front back mark cursor now e (arrivals.Accepted vl cycle) w vl cycle h.given r
-    (accepted_high s e.device now e.link e.cause e.signal (hs ++ (front ++ back)) vl cycle (sym so)) (self_takes e.device vl cycle))
-    h.steady h.precise k is
-kept_there stands s hs front back mark cursor now e machine heard octets result (arrivals.Delivered vl cycle) w h r so k is =
-    taken_there stands s hs front back mark cursor now e machine heard w vl cycle h.moving
-    (taking_by stands s hs front back mark cursor now e (arrivals.Delivered vl cycle) w vl cycle h.given r (delivered_high s.network e.device)
-    (self_takes e.device vl cycle)) h.steady h.precise k is
-kept_there stands s hs front back mark cursor now e machine heard octets result (arrivals.Dropped reason) w h r so k is =
-    plain_there stands s hs front back mark cursor now e machine heard w h.moving (quiet_for stands s hs front back mark cursor now e _ w h.given r e.device)
-    r.at
-    (λ at. ap (taken_in e.device at) r.body) k is
-kept_there stands s hs front back mark cursor now e machine heard octets result (arrivals.Waits frame point) w h r so k is =
-    plain_there stands s hs front back mark cursor now e machine heard w h.moving (quiet_for stands s hs front back mark cursor now e _ w h.given r e.device)
-    r.at
-    (λ at. ap (taken_in e.device at) r.body) k is
-kept_there stands s hs front back mark cursor now e machine heard octets result (arrivals.Passes frame way) w h r so k is =
-    plain_there stands s hs front back mark cursor now e machine heard w h.moving (quiet_for stands s hs front back mark cursor now e _ w h.given r e.device)
-    r.at
-    (λ at. ap (taken_in e.device at) r.body) k is
-kept_there stands s hs front back mark cursor now e machine heard octets result (arrivals.PassesAndWaits frame way point) w h r so k is =
-    plain_there stands s hs front back mark cursor now e machine heard w h.moving (quiet_for stands s hs front back mark cursor now e _ w h.given r e.device)
-    r.at
-    (λ at. ap (taken_in e.device at) r.body) k is
+module _ {M : Type 0} (stands : M → Network → DeviceId → Node → Type 0) (s : Scenario)
+    (hs front back : List Happening) (mark cursor : List ℕ) (now : ℕ) (e : OnWire) (machine heard : M)
+    (octets : List ℕ) (result : Arrival) where
+  kept_there : (is : Arrival) {w : Happening} → IsHearingIt stands s hs
+      (front ++ back) mark cursor now e machine heard octets result
+      → IsReceiving s hs front back mark cursor now e is w
+      → is ≡ arrival_of s (hs ++ (front ++ back)) e.device now e.link e.cause e.signal
+      → (k : IsKept stands s hs (front ++ back) cursor now e.device machine) → stands heard s.network e.device
+      (called (moment_of s e.device now) arriving (after_arrival k.node (moment_of s e.device now) is))
+      → IsHeld stands s hs (front ++ w ∷ back) (behind (now ∷ 2 ∷ e.device.0 ∷ e.link.0 ∷ e.cause
+      ∷ [])) now e.device heard
+  kept_there (arrivals.Accepted vl cycle) h r so k is =
+      taken_there stands s hs front back mark cursor now e heard h.moving
+      (taking_by stands s hs front back mark cursor now e vl cycle h.given r
+      (accepted_high s e.device now e.link e.cause e.signal (hs ++ (front ++ back)) vl cycle (sym so))
+      (self_takes e.device vl cycle))
+      h.steady h.precise k is
+  kept_there (arrivals.Delivered vl cycle) h r so k is =
+      taken_there stands s hs front back mark cursor now e heard h.moving
+      (taking_by stands s hs front back mark cursor now e vl cycle h.given r (delivered_high s.network e.device)
+      (self_takes e.device vl cycle)) h.steady h.precise k is
+  kept_there (arrivals.Dropped reason) h r so k is =
+      plain_there e heard h.moving (quiet_for stands h.given r e.device) r.at
+      (λ at. ap (taken_in e.device at) r.body) k is
+  kept_there (arrivals.Waits frame point) h r so k is =
+      plain_there e heard h.moving (quiet_for stands h.given r e.device) r.at
+      (λ at. ap (taken_in e.device at) r.body) k is
+  kept_there (arrivals.Passes frame way) h r so k is =
+      plain_there e heard h.moving (quiet_for stands h.given r e.device) r.at
+      (λ at. ap (taken_in e.device at) r.body) k is
+  kept_there (arrivals.PassesAndWaits frame way point) h r so k is =
+      plain_there e heard h.moving (quiet_for stands h.given r e.device) r.at
+      (λ at. ap (taken_in e.device at) r.body) k is
 
--- a broken device takes nothing, and is kept
-pub held_there : {M : Type 0} (stands : M → Network → DeviceId → Node → Type 0) (s : Scenario) (hs front back : List Happening) (mark cursor : List ℕ)
-    (now : ℕ)
-    (e : OnWire) (machine heard : M) (octets : List ℕ) (result is : Arrival) (w : Happening)
-    → IsHearingIt stands s hs (front ++ back) mark cursor now e machine heard octets result → IsReceiving s hs front back mark cursor now e is w
-    → is ≡ arrival_of s (hs ++ (front ++ back)) e.device now e.link e.cause e.signal → IsHeld stands s hs (front ++ back) cursor now e.device machine
-    → IsHeld stands s hs (front ++ w ∷ back) (behind (now ∷ 2 ∷ e.device.0 ∷ e.link.0 ∷ e.cause ∷ [])) now e.device heard
-held_there stands s hs front back mark cursor now e machine heard octets result is w h r so (inl k) =
-    let m = moment_of s e.device now in
-    let it = kept_answers stands s hs (front ++ back) mark cursor now e machine heard octets result h k in
-    kept_there stands s hs front back mark cursor now e machine heard octets result is w h r so k
-    (subst (λ (a : Arrival). stands heard s.network e.device (called m arriving (after_arrival k.node m a))) (it.0 ∙ sym so) it.1)
-held_there stands s hs front back mark cursor now e machine heard octets result is w h r so (inr k) =
-    let quiet = quiet_for stands s hs front back mark cursor now e is w h.given r e.device in
-    let dropped = so ∙ broken_drops s (hs ++ (front ++ back)) e.device now e.link e.cause e.signal k.broken in
-    held_aside s hs front back w e.device quiet.bears r.at
-    (frames_aside s hs front back w e.device quiet.bears
-    (λ at. ap (taken_in e.device at) (r.body ∙ ap (arrival_body e.device e.link e.cause) dropped)))
-    (inr (out_heard stands s hs (front ++ back) mark cursor now e machine heard octets result h k).1)
+  -- a broken device takes nothing, and is kept
+  pub held_there : {is : Arrival} {w : Happening} → IsHearingIt stands s hs
+      (front ++ back) mark cursor now e machine heard octets result
+      → IsReceiving s hs front back mark cursor now e is w
+      → is ≡ arrival_of s (hs ++ (front ++ back)) e.device now e.link e.cause e.signal
+      → IsHeld stands s hs (front ++ back) cursor now e.device machine
+      → IsHeld stands s hs (front ++ w ∷ back) (behind (now ∷ 2 ∷ e.device.0 ∷ e.link.0 ∷ e.cause
+      ∷ [])) now e.device heard
+  held_there {is} h r so (inl k) =
+      let m = moment_of s e.device now in
+      let it = kept_answers stands s hs (front ++ back) mark cursor now e machine heard octets result h k in
+      kept_there is h r so k
+      (subst (λ a. stands heard s.network e.device (called m arriving (after_arrival k.node m a)))
+      (it.0 ∙ sym so) it.1)
+  held_there {w} h r so (inr k) =
+      let quiet = quiet_for stands h.given r e.device in
+      let dropped = so ∙ broken_drops s (hs ++ (front ++ back)) e.device now e.link e.cause e.signal k.broken in
+      held_aside s hs front back w e.device quiet.bears r.at
+      (frames_aside s hs front back w e.device quiet.bears
+      (λ at. ap (taken_in e.device at) (r.body ∙ ap (arrival_body e.device e.link e.cause) dropped)))
+      (inr (out_heard stands s hs (front ++ back) mark cursor now e machine heard octets result h k).1)

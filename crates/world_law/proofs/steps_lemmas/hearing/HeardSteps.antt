@@ -1,6 +1,6 @@
 -- A frame on a wire arrives, and its device's machine hears it.
 use Rattle.world_law.proofs.steps_lemmas.Words.{arith, no_task_at, ◌++◌, ◌==◌, ◌∙◌, ◌∷◌, ◌≡◌, AreOfNetwork, ArePutIn}
-use Rattle.world_law.proofs.steps_lemmas.Words.{Arrival, DeviceId, Happening, IsHeld, List, Network, Node, Some, StandsBehind, []}
+use Rattle.world_law.proofs.steps_lemmas.Words.{DeviceId, Happening, IsHeld, List, Network, Node, Some, StandsBehind, []}
 use Rattle.world_law.proofs.steps_lemmas.Words.{ap, arrival_body, arrival_of, behind, cases_Bool, eq-eqb, eqb-true, false}
 use Rattle.world_law.proofs.steps_lemmas.Words.{happenings, held_aside, held_moves, inl, inr, known_aside, moves_no_other}
 use Rattle.world_law.proofs.steps_lemmas.Words.{same_device, slice_get, some_same, subst, sym, taken_in, true, wire_place, ℕ}
@@ -18,14 +18,14 @@ heard_step {C} {M} reading stands s world notes e machine heard octets result ma
     let now = world.now in
     let more = e.device.0 ∷ e.link.0 ∷ e.cause ∷ [] in
     let here = now ∷ 2 ∷ more in
-    let m = arriving_first reading stands s world notes e old i at first in
+    let m = arriving_first reading stands s world notes e {old = old} i at first in
     let a : IsAfterGiven s hs world.settled old.mark old.cursor now e =
     record { moving = m; within = old.run.within; not_later = old.not_later } in
     let is = arrival_of s (hs ++ world.settled) e.device now e.link e.cause e.signal in
     let own = old.devices e.device (device_there s hs e old.range (old.wires.real e i).0) in
     let one : own.0 ≡ machine = some_same own.0 machine _ own.1 got in
     let held : IsHeld stands s hs world.settled old.cursor now e.device machine =
-    subst (λ (x : M). IsHeld stands s hs world.settled old.cursor now e.device x) one own.2 in
+    subst (λ x. IsHeld stands s hs world.settled old.cursor now e.device x) one own.2 in
     let h : IsHearingIt stands s hs world.settled old.mark old.cursor now e machine heard octets result = record {
       moving = m;
       given = a;
@@ -37,20 +37,20 @@ heard_step {C} {M} reading stands s world notes e machine heard octets result ma
       hears = hears;
     } in
     let answer : result ≡ is = held_answers stands s hs world.settled old.mark old.cursor now e machine heard octets result h held in
-    let r = heard_put reading stands s world notes e settled is old i at first
-    (heard_as_all s hs world.settled old.mark old.cursor now e a) (rank_is s e.device now e.link e.cause e.signal)
-    (subst (λ (x : Arrival). ArePutIn s.network hs now (arrival_body e.device e.link e.cause x ∷ []) world.settled settled) answer
+    let r = heard_put reading stands s world notes e settled is {old = old} i at first
+    (heard_as_all a) (rank_is s e.device now e.link e.cause e.signal)
+    (subst (λ x. ArePutIn s.network hs now (arrival_body e.device e.link e.cause x ∷ []) world.settled settled) answer
     put) in
     let a2 : IsAfterGiven s hs (r.front ++ r.back) old.mark old.cursor now e =
-    subst (λ (l : List Happening). IsAfterGiven s hs l old.mark old.cursor now e) r.whole a in
-    let quiet = quiet_for stands s hs r.front r.back old.mark old.cursor now e is r.w a2 r.it in
+    subst (λ l. IsAfterGiven s hs l old.mark old.cursor now e) r.whole a in
+    let quiet = quiet_for stands a2 r.it in
     let then_ = r.front ++ r.w ∷ r.back in
     subst (λ (l : List Happening).
     StandsBehind reading stands s (record world { early = false; machines = machines; wires = wires; settled = l }) notes
     (behind (wire_place e))) (sym r.shows)
-    (heard_behind reading stands s world notes e machines wires then_ old i at first without r.long
+    (heard_behind reading stands s world notes e machines wires {settled = then_} {old = old} i at first without r.long
     (arrival_put s hs r.front r.back old.mark old.cursor now e is r.w r.it)
-    (known_aside s hs r.front r.back r.w (λ device le. moves_no_other device r.w.note.body (quiet device).bears)
+    (known_aside hs r.front r.back r.w (λ device le. moves_no_other device r.w.note.body (quiet device).bears)
     (subst (λ (l : List Happening). AreOfNetwork s (hs ++ l)) r.whole old.known))
     (λ device lt. elim (cases_Bool (device.0 == e.device.0)) [
       | inl mine ↦
@@ -58,10 +58,10 @@ heard_step {C} {M} reading stands s world notes e machine heard octets result ma
           subst (λ (d : DeviceId). (x : M) × (slice_get machines d.0 ≡ Some x) × IsHeld stands s hs then_ (behind here) now d x) it (
             heard,
             set.there,
-            held_there stands s hs r.front r.back old.mark old.cursor now e machine heard octets result is r.w
-                (subst (λ (l : List Happening). IsHearingIt stands s hs l old.mark old.cursor now e machine heard octets result)
+            held_there stands s hs r.front r.back old.mark old.cursor now e machine heard octets result
+                (subst (λ l. IsHearingIt stands s hs l old.mark old.cursor now e machine heard octets result)
                 r.whole h) r.it (ap (λ (l : List Happening). arrival_of s (hs ++ l) e.device now e.link e.cause e.signal) r.whole)
-                (subst (λ (l : List Happening). IsHeld stands s hs l old.cursor now e.device machine) r.whole held),
+                (subst (λ l. IsHeld stands s hs l old.cursor now e.device machine) r.whole held),
           )
       | inr other ↦
           let k = old.devices device lt in (
@@ -70,8 +70,8 @@ heard_step {C} {M} reading stands s world notes e machine heard octets result ma
             held_aside s hs r.front r.back r.w device (quiet device).bears r.it.at
                 (frames_aside s hs r.front r.back r.w device (quiet device).bears
                 (λ z. ap (taken_in device z) r.it.body ∙ others_take device e.device e.link e.cause is other z))
-                (held_moves stands s hs (r.front ++ r.back) old.mark old.cursor now 2 more device k.0 r.it.moving
+                (held_moves stands s hs (r.front ++ r.back) r.it.moving
                 (no_task_at s.network now device 2 more (inl (omega arith)))
-                (subst (λ (l : List Happening). IsHeld stands s hs l old.cursor now device k.0) r.whole k.2)),
+                (subst (λ l. IsHeld stands s hs l old.cursor now device k.0) r.whole k.2)),
           )
     ]))

@@ -17,17 +17,18 @@ pub record IsMomentOf (s : Scenario) (device : DeviceId) (t : ℕ) (moment : Mom
 amount_is : (u : Units) (n : ℕ) → u.0 ≡ pos n → amount u ≡ n
 amount_is u n e = ap unsigned_abs e
 
--- the node stands where the records say
-pub same_standpoint : (s : Scenario) (hs : List Happening) (device : DeviceId) (t : ℕ) (node : Node) (moment : Moment) → IsLeft s hs device t node
-    → IsMomentOf s device t moment → standpoint_at node moment ≡ standpoint s hs device t
-same_standpoint s hs device t node moment left at = grind (arith, not, is_off, amount, state_before, is_broken, amount_is)
+module _ (s : Scenario) (hs : List Happening) (device : DeviceId) (t : ℕ) (node : Node) (moment : Moment) where
+  -- the node stands where the records say
+  pub same_standpoint : IsLeft s hs device t node → IsMomentOf s device t moment
+      → standpoint_at node moment ≡ standpoint s hs device t
+  same_standpoint left at = grind (arith, not, is_off, amount, state_before, is_broken, amount_is)
 
--- what becomes of a control frame is what the records say
-pub control_judged : (s : Scenario) (hs : List Happening) (device : DeviceId) (t : ℕ) (node : Node) (moment : Moment) (link : LinkId) (cause : ℕ)
-    (frame : Result Pcf PcfRefusal) → IsLeft s hs device t node → IsMomentOf s device t moment
-    → arrival_at s.network device node moment link (control frame) ≡ arrival_of s hs device t link cause (control frame)
-control_judged s hs device t node moment link cause frame left at =
-    ap (λ (p : Standpoint). control_arrival s.network device link p frame) (same_standpoint s hs device t node moment left at)
+  -- what becomes of a control frame is what the records say
+  pub control_judged : (link : LinkId) (cause : ℕ) (frame : Result Pcf PcfRefusal) → IsLeft s hs device t node
+      → IsMomentOf s device t moment → arrival_at s.network device node moment link (control frame)
+      ≡ arrival_of s hs device t link cause (control frame)
+  control_judged link cause frame left at =
+      ap (λ p. control_arrival s.network device link p frame) (same_standpoint left at)
 
 -- ---- a device that takes no part drops all
 

@@ -28,17 +28,19 @@ of_link network link l P e h = subst (λ (o : Option Link). IsSomeAnd o P) e h
 relay_no_cm : (network : Network) (channel : Channel) (device : DeviceId) → IsRoleOf network Relay channel device → IsCmOf network channel device → ⊥
 relay_no_cm network channel device relay cm = grind (arith, at_some)
 
-no_way_up : (network : Network) → IsTree network → (channel : Channel) (device : DeviceId) (link : LinkId) (l : Link) → link_at network link ≡ Some l
-    → l.child ≡ device → l.parent ≡ device → IsUplink network channel device link → IsRoleOf network Relay channel device → (links : List LinkId)
-    → IsPath network channel device links → ⊥
-no_way_up network tree channel device link l e child parent up relay [] path = relay_no_cm network channel device relay path
-no_way_up network tree channel device link l e child parent up relay (first ∷ links) path =
+no_way_up : {network : Network} → IsTree network → (channel : Channel) (device : DeviceId) (link : LinkId) (l : Link)
+    → link_at network link ≡ Some l → l.child ≡ device → l.parent ≡ device → IsUplink network channel device link
+    → IsRoleOf network Relay channel device → (links : List LinkId) → IsPath network channel device links → ⊥
+no_way_up {network} tree channel device link l e child parent up relay [] path =
+    relay_no_cm network channel device relay path
+no_way_up {network} tree channel device link l e child parent up relay (first ∷ links) path =
     let p = at_some _ _ path in
     let leads : IsUplink network channel device first = closed _ _ p.0 p.1 (p.2.0, p.2.1) in
     let one : first ≡ link = tree.one_uplink channel device first link leads up in
     let same : p.0 ≡ l = (let both : Some p.0 ≡ Some l = sym p.1 ∙ ap (link_at network) one ∙ e in cc) in
     let back : p.0.parent ≡ device = ap (λ (x : Link). x.parent) same ∙ parent in
-    no_way_up network tree channel device link l e child parent up relay links (subst (λ (d : DeviceId). IsPath network channel d links) back p.2.2)
+    no_way_up tree channel device link l e child parent up relay links
+    (subst (λ d. IsPath network channel d links) back p.2.2)
 
 -- whether a device is an end system
 end_of : (network : Network) (device : DeviceId) (d : Device) → device_at network device ≡ Some d → is_end network device ≡ is_end_system d.role
@@ -58,7 +60,7 @@ no_loop network rules link l e switch loop =
           let d = at_some (λ (x : Device). (x.role ≡ Relay) × (x.channel ≡ Some channel)) (device_at network l.child) relay in
           let up : IsUplink network channel l.child link = closed _ _ l e (refl, joint.1) in
           let reach = tree.reach channel l.child (closed _ _ d.0 d.1 (inr d.2.1)) in
-          no_way_up network tree channel l.child link l e refl (sym loop) up relay reach.0 reach.2
+          no_way_up tree channel l.child link l e refl (sym loop) up relay reach.0 reach.2
     ]
 
 -- ---- what a record puts on a link
@@ -102,10 +104,10 @@ pub decoded_of : (b : Bool) (r : Result Pcf PcfRefusal) (octets : List ℕ) (fra
 decoded_of true r octets frame e = let a : r ≡ Ok frame = cc in ap frame_in a
 decoded_of false r octets frame e = absurd cc
 
-frame_put : (s : Scenario) (front : List Happening) (h : Happening) (link : LinkId) (way : Way) (frame : Pcf) → IsDue s front h → Puts s h link way frame
-    → h.frame ≡ Some frame
-frame_put s front h link way frame due (Puts.leaving device cause clock is of_frame by) = of_frame
-frame_put s front h link way frame due (Puts.sending line octets is signal by) =
+frame_put : {s : Scenario} {front : List Happening} {h : Happening} {link : LinkId} {way : Way} {frame : Pcf}
+    → IsDue s front h → Puts s h link way frame → h.frame ≡ Some frame
+frame_put due (Puts.leaving device cause clock is of_frame by) = of_frame
+frame_put {s} {front} {frame} due (Puts.sending line octets is signal by) =
     ap (λ (x : Happening). x.frame) due.same ∙ ap (frame_by s.network front) is ∙ decoded_of _ _ octets frame signal
 
 -- ---- what a switch takes
@@ -121,22 +123,24 @@ pub record IsTakenSo (s : Scenario) (device : DeviceId) (link : LinkId) (signal 
   pub is : signal ≡ control (Ok frame)
   pub own : is_of_other_member s.network device link frame.members ≡ false
 
-taken_so : (s : Scenario) (js : List Happening) (device : DeviceId) (t : ℕ) (link : LinkId) (cause : ℕ) (signal : Signal)
-    → rank (arrival_body device link cause (arrival_of s js device t link cause signal)) ≡ 2 → IsTakenSo s device link signal
-taken_so s js device t link cause (control (Err refusal)) e = absurd (let bad : ◌≡◌ {A = ℕ} 13 2 = e in omega (arith, bad))
-taken_so s js device t link cause (control (Ok frame)) e = grind (arith, standpoint, nat_lt, amount, fault_of, frame_fault, no_reason, not)
-taken_so s js device t link cause (timed octets) e =
-    absurd (low (is_end s.network device)
-    (subst (λ (n : ℕ). (if is_end s.network device then 12 else 11) ≤ n) e (rank_is s device t link cause (timed octets) js)))
-  where
-    low : (b : Bool) → (if b then 12 else 11) ≤ 2 → ⊥
-    low true le = omega (arith, le)
-    low false le = omega (arith, le)
+module _ (s : Scenario) (js : List Happening) (device : DeviceId) (t : ℕ) (link : LinkId) (cause : ℕ) where
+  taken_so : (signal : Signal) → rank (arrival_body device link cause (arrival_of s js device t link cause signal))
+      ≡ 2 → IsTakenSo s device link signal
+  taken_so (control (Err refusal)) e = absurd (let bad : ◌≡◌ {A = ℕ} 13 2 = e in omega (arith, bad))
+  taken_so (control (Ok frame)) e = grind (arith, standpoint, nat_lt, amount, fault_of, frame_fault, no_reason, not)
+  taken_so (timed octets) e =
+      absurd (low (is_end s.network device)
+      (subst (λ n. (if is_end s.network device then 12 else 11) ≤ n) e
+      (rank_is s device t link cause (timed octets) js)))
+    where
+      low : (b : Bool) → (if b then 12 else 11) ≤ 2 → ⊥
+      low true le = omega (arith, le)
+      low false le = omega (arith, le)
 
-arrived_so : (s : Scenario) (js : List Happening) (device : DeviceId) (t : ℕ) (link : LinkId) (cause : ℕ) (is : Arrival)
-    → rank (arrival_body device link cause is) ≡ 2 → (a : ArrivesAs s js device t link cause is) → IsTakenSo s device link a.signal
-arrived_so s js device t link cause is two a =
-    taken_so s js device t link cause a.signal (ap (λ (x : Arrival). rank (arrival_body device link cause x)) (sym a.becomes) ∙ two)
+  arrived_so : {is : Arrival} → rank (arrival_body device link cause is) ≡ 2
+      → (a : ArrivesAs s js device t link cause is) → IsTakenSo s device link a.signal
+  arrived_so two a =
+      taken_so a.signal (ap (λ x. rank (arrival_body device link cause x)) (sym a.becomes) ∙ two)
 
 -- an arrival that is recorded is of a control frame that is taken
 pub record IsArrivalOf (s : Scenario) (js : List Happening) (device : DeviceId) (t : ℕ) (link : LinkId) (cause : ℕ) : Type 0 where
@@ -146,25 +150,25 @@ pub record IsArrivalOf (s : Scenario) (js : List Happening) (device : DeviceId) 
   pub arrives : Arrives s putting device link t (control (Ok frame))
   pub own : is_of_other_member s.network device link frame.members ≡ false
 
-arrival_is : (s : Scenario) (js : List Happening) (device : DeviceId) (t : ℕ) (link : LinkId) (cause : ℕ) (is : Arrival)
-    → rank (arrival_body device link cause is) ≡ 2 → ArrivesAs s js device t link cause is → IsArrivalOf s js device t link cause
-arrival_is s js device t link cause is two a =
-    let it = arrived_so s js device t link cause is two a in
-    record {
-      putting = a.putting;
-      there = a.there;
-      frame = it.frame;
-      arrives = subst (λ (x : Signal). Arrives s a.putting device link t x) it.is a.arrives;
-      own = it.own;
-    }
+module _ (s : Scenario) (js : List Happening) (device : DeviceId) (t : ℕ) (link : LinkId) (cause : ℕ) where
+  arrival_is : {is : Arrival} → rank (arrival_body device link cause is) ≡ 2 → ArrivesAs s js device t link cause is
+      → IsArrivalOf s js device t link cause
+  arrival_is two a =
+      let it = arrived_so s js device t link cause two a in
+      record {
+        putting = a.putting;
+        there = a.there;
+        frame = it.frame;
+        arrives = subst (λ x. Arrives s a.putting device link t x) it.is a.arrives;
+        own = it.own;
+      }
 
-arrival_by : (s : Scenario) (js : List Happening) (device : DeviceId) (t : ℕ) (link : LinkId) (cause clock : ℕ) → IsArrivedRecord s js device t link cause clock
-    → IsArrivalOf s js device t link cause
-arrival_by s js device t link cause clock a = elim a.taken [
-  | inl x ↦ arrival_is s js device t link cause _ refl x
-  | inr (inl x) ↦ arrival_is s js device t link cause _ refl x
-  | inr (inr x) ↦ arrival_is s js device t link cause _ refl x
-]
+  arrival_by : {clock : ℕ} → IsArrivedRecord s js device t link cause clock → IsArrivalOf s js device t link cause
+  arrival_by a = elim a.taken [
+    | inl x ↦ arrival_is refl x
+    | inr (inl x) ↦ arrival_is refl x
+    | inr (inr x) ↦ arrival_is refl x
+  ]
 
 -- ---- of one master
 
@@ -197,9 +201,11 @@ IsUpTo s hs n =
     → Arrives s putting device link t (control (Ok frame)) → IsFromSwitch s.network device link → IsOneMaster s.network frame.members
 
 -- the frame that a device takes by a link from below is of one master
-from_below : (s : Scenario) (hs : List Happening) (n : ℕ) → IsUpTo s hs n → (device : DeviceId) (t : ℕ) (link : LinkId) (cause : ℕ) → cause ≤ n
-    → (a : IsArrivalOf s hs device t link cause) → IsParentOf s.network device link → IsOfMaster s.network device link a.frame.members
-from_below s hs n up device t link cause le a parent =
+from_below : {s : Scenario} {hs : List Happening} (n : ℕ) → IsUpTo s hs n
+    → {device : DeviceId} {t : ℕ} {link : LinkId} {cause : ℕ} → cause ≤ n
+    → (a : IsArrivalOf s hs device t link cause) → IsParentOf s.network device link
+    → IsOfMaster s.network device link a.frame.members
+from_below {s} n up {device} {t} {link} {cause} le a parent =
     let l = at_some (λ (x : Link). x.parent ≡ device) (link_at s.network link) parent in
     let own : (child : DeviceId) → IsChildOf s.network child link → is_end s.network child ≡ true
     → IsSomeAnd (member_of s.network child) (λ member. a.frame.members.0 ≡ 2 ^ member) = λ child of end.
@@ -249,17 +255,17 @@ given_up s hs n founded up giving i le device link l e switch above frame of_fra
       | inl passed ↦
           let at = founded_at s hs giving founded i in
           let arrived : IsArrivedRecord s at.front relay (time_of giving) by cause clock = subst (IsCaused s at.front giving.note.time) is at.due.cause in
-          let a = arrival_by s at.front relay (time_of giving) by cause clock arrived in
+          let a = arrival_by s at.front relay (time_of giving) by cause arrived in
           let lt = numbered_within at.front cause a.putting a.there in
           let number = at.due.number in
-          let there : numbered hs cause ≡ Some a.putting = ap (λ (x : List Happening). numbered x cause) at.whole
+          let there : numbered hs cause ≡ Some a.putting = ap (λ x. numbered x cause) at.whole
           ∙ numbered_front at.front (giving ∷ at.rest) cause a.putting a.there in
           let a_hs : IsArrivalOf s hs relay (time_of giving) by cause =
           record { putting = a.putting; there = there; frame = a.frame; arrives = a.arrives; own = a.own } in
-          let parent : IsParentOf s.network relay by = subst (λ (d : DeviceId). IsParentOf s.network d by) g.0 passed.0 in
-          let one = (from_below s hs n up relay (time_of giving) by cause (omega (arith, lt, number, le)) a_hs parent).one in
+          let parent : IsParentOf s.network relay by = subst (λ d. IsParentOf s.network d by) g.0 passed.0 in
+          let one = (from_below n up (omega (arith, lt, number, le)) a_hs parent).one in
           let put_at = founded_at s at.front a.putting at.founded (numbered_in at.front cause a.putting a.there) in
-          let put_frame = frame_put s put_at.front a.putting by a.arrives.way a.frame put_at.due
+          let put_frame = frame_put put_at.due
           (puts_by s a.putting (time_of a.putting) a.putting.note.body by a.arrives.way a.frame refl a.arrives.put) in
           let shown : giving.frame ≡ Some (with_clock clock a.frame) = ap (λ (x : Happening). x.frame) at.due.same ∙ ap (frame_by s.network at.front) is
           ∙ ap (λ (o : Option Happening). option_map (with_clock clock) (option_and_then (λ h. h.frame) o)) a.there
@@ -270,9 +276,9 @@ given_up s hs n founded up giving i le device link l e switch above frame of_fra
     ]
 given_up s hs n founded up giving i le device link l e switch above frame of_frame other is g = absurd g
 
-goes_up : (s : Scenario) (hs : List Happening) → KeepsRules s.network → SendsAreOfEnds s → IsFounded place_of (IsDue s) hs → (n : ℕ) → IsUpTo s hs n
-    → IsUpTo s hs (suc n)
-goes_up s hs rules sends founded n up cause putting device link t frame le there arrives from =
+goes_up : {s : Scenario} (hs : List Happening) → KeepsRules s.network → SendsAreOfEnds s
+    → IsFounded place_of (IsDue s) hs → (n : ℕ) → IsUpTo s hs n → IsUpTo s hs (suc n)
+goes_up {s} hs rules sends founded n up cause putting device link t frame le there arrives from =
     let l = at_some (λ (x : Link). is_end s.network x.child ≡ false) (link_at s.network link) from.from_switch in
     let parent : l.0.parent ≡ device = of_link s.network link l.0 (λ (x : Link). x.parent ≡ device) l.1 from.parent in
     let i = numbered_in hs cause putting there in
@@ -289,7 +295,7 @@ goes_up s hs rules sends founded n up cause putting device link t frame le there
           let number = at.due.number in
           let number_so = number_is s hs cause putting founded there in
           let giving_at = numbered_in at.front from_cause departs.giving departs.there in
-          let giving_in : IsIn departs.giving hs = subst (λ (x : List Happening). IsIn departs.giving x) (sym at.whole)
+          let giving_in : IsIn departs.giving hs = subst (λ x. IsIn departs.giving x) (sym at.whole)
           (in_left departs.giving at.front (putting ∷ at.rest) giving_at) in
           let giving_number = number_is s at.front from_cause departs.giving at.founded departs.there in
           let shown : putting.frame ≡ Some (with_clock clock departs.frame) =
@@ -307,17 +313,18 @@ none_up : (s : Scenario) (hs : List Happening) → IsUpTo s hs 0
 none_up s hs zero putting device link t frame le there arrives from = absurd cc
 none_up s hs (suc cause) putting device link t frame le there arrives from = absurd (omega (arith, le))
 
-all_up : (s : Scenario) (hs : List Happening) → KeepsRules s.network → SendsAreOfEnds s → IsFounded place_of (IsDue s) hs → (n : ℕ) → IsUpTo s hs n
-all_up s hs rules sends founded zero = none_up s hs
-all_up s hs rules sends founded (suc n) = goes_up s hs rules sends founded n (all_up s hs rules sends founded n)
+module _ {s : Scenario} (hs : List Happening) (rules : KeepsRules s.network) (sends : SendsAreOfEnds s)
+    (founded : IsFounded place_of (IsDue s) hs) where
+  all_up : (n : ℕ) → IsUpTo s hs n
+  all_up zero = none_up s hs
+  all_up (suc n) = goes_up hs rules sends founded n (all_up n)
 
--- what arrives at a device by a link that leads up from a switch is of one master
-pub one_master : (s : Scenario) (hs : List Happening) → KeepsRules s.network → SendsAreOfEnds s → IsFounded place_of (IsDue s) hs
-    → (cause : ℕ) (putting : Happening)
-    (device : DeviceId) (link : LinkId) (t : ℕ) (frame : Pcf) → numbered hs cause ≡ Some putting → Arrives s putting device link t (control (Ok frame))
-    → IsFromSwitch s.network device link → IsOneMaster s.network frame.members
-one_master s hs rules sends founded cause putting device link t frame there arrives from =
-    all_up s hs rules sends founded cause cause putting device link t frame (omega arith) there arrives from
+  -- what arrives at a device by a link that leads up from a switch is of one master
+  pub one_master : (cause : ℕ) {putting : Happening} {device : DeviceId} {link : LinkId} {t : ℕ} (frame : Pcf)
+      → numbered hs cause ≡ Some putting → Arrives s putting device link t (control (Ok frame))
+      → IsFromSwitch s.network device link → IsOneMaster s.network frame.members
+  one_master cause {putting} {device} {link} {t} frame there arrives from =
+      all_up cause cause putting device link t frame (omega arith) there arrives from
 
 -- ---- what is on a wire may arrive
 
@@ -340,6 +347,6 @@ may_arrive s hs e octets rules sends founded it signal least most = record {
   least = least;
   most = most;
   one_master = λ from frame is.
-      one_master s hs rules sends founded e.cause it.putting e.device e.link e.at frame it.there
-      (subst (λ (x : Signal). Arrives s it.putting e.device e.link e.at x) (sym signal ∙ is) it.arrives) from;
+      one_master hs rules sends founded e.cause frame it.there
+      (subst (λ x. Arrives s it.putting e.device e.link e.at x) (sym signal ∙ is) it.arrives) from;
 }

@@ -10,11 +10,11 @@ use Rattle.world_law.specs.world.World.{IsDueAs}
 -- ---- no record to come is from the place of the arrival on
 
 -- the own source of what is to come is before the arrival
-never_from : (s : Scenario) (hs coming : List Happening) (mark cursor : List ℕ) (now : ℕ) (more : List ℕ)
+never_from : {s : Scenario} {hs coming : List Happening} {mark cursor : List ℕ} {now : ℕ} {more : List ℕ}
     → IsMoving s hs coming mark cursor now 2 more → (z : Happening) → IsIn z coming
     → ((js : List Happening) (w : List ℕ) → IsOwnSource s js (time_of z) (members_in z) z.note.body w
     → (w ≡ now ∷ 2 ∷ more) ⊎ IsBefore (now ∷ 2 ∷ more) w) → ⊥
-never_from s hs coming mark cursor now more m z i from = grind (arith, parted, second, chain)
+never_from m z i from = grind (arith, parted, second, chain)
 
 -- ---- how it is judged
 
@@ -60,31 +60,34 @@ pub record IsReceived (s : Scenario) (hs coming : List Happening) (mark cursor :
   pub shows : settled ≡ front ++ w ∷ back
   pub long : length (front ++ w ∷ back) ≡ length coming + 1
 
-pub received : (s : Scenario) (hs coming : List Happening) (mark cursor : List ℕ) (now : ℕ) (e : OnWire) (is : Arrival) (settled : List Happening)
-    → IsMoving s hs coming mark cursor now 2 (e.device.0 ∷ e.link.0 ∷ e.cause ∷ [])
-    → ((p : List ℕ) → IsBefore p (now ∷ []) → IsBefore p mark) → IsFounded place_of (IsDue s) hs → IsOnWire s hs e → e.at ≡ now
-    → IsHeardAs s hs coming now e is → ((js : List Happening) → least_rank s.network e.device e.signal
-    ≤ rank (arrival_body e.device e.link e.cause (arrival_of s js e.device now e.link e.cause e.signal)))
+pub received : {s : Scenario} {hs coming : List Happening} {mark cursor : List ℕ} {now : ℕ} {e : OnWire}
+    (is : Arrival) {settled : List Happening} → IsMoving s hs coming mark cursor now 2
+    (e.device.0 ∷ e.link.0 ∷ e.cause ∷ []) → ((p : List ℕ) → IsBefore p (now ∷ []) → IsBefore p mark)
+    → IsFounded place_of (IsDue s) hs → IsOnWire s hs e → e.at ≡ now → IsHeardAs s hs coming now e is →
+    ((js : List Happening)
+    → least_rank s.network e.device e.signal ≤ rank (arrival_body e.device e.link e.cause (arrival_of s js e.device
+    now e.link e.cause e.signal)))
     → IsPutIn (settled_as s.network hs now (arrival_body e.device e.link e.cause is)) coming settled
     → IsReceived s hs coming mark cursor now e is settled
-received s hs coming mark cursor now e is settled m marked founded it at so least_is put =
+received {s} {hs} {coming} {mark} {cursor} {now} {e} is m marked founded it at so least_is put =
     let more = e.device.0 ∷ e.link.0 ∷ e.cause ∷ [] in
     let body = arrival_body e.device e.link e.cause is in
-    let few : cause_of body ≤ length hs = subst (λ (n : ℕ). n ≤ length hs) (sym (body_cause e.device e.link e.cause is)) (few_cause s hs e it) in
-    let shown = one_shown s.network hs now body coming settled few put in
+    let few : cause_of body ≤ length hs =
+    subst (λ n. n ≤ length hs) (sym (body_cause e.device e.link e.cause is)) (few_cause it) in
+    let shown = one_shown s.network hs now body few put in
     let front = shown.front in
     let back = shown.back in
     let w = record_of s.network hs front now body in
     let moving : IsMoving s hs (front ++ back) mark cursor now 2 more =
-    subst (λ (l : List Happening). IsMoving s hs l mark cursor now 2 more) shown.parts m in
+    subst (λ l. IsMoving s hs l mark cursor now 2 more) shown.parts m in
     let key_is : place_of w ≡ now ∷ rank body ∷ more = ap (λ (l : List ℕ). now ∷ rank body ∷ l) (body_key (members_in w) e.device e.link e.cause is) in
     let all : is ≡ arrival_of s (hs ++ coming) e.device now e.link e.cause e.signal =
     so coming [] (least_rank s.network e.device e.signal) (sym (append-nil coming)) (λ y none_. absurd none_) (omega arith) in
     let ranked : least_rank s.network e.device e.signal ≤ rank body =
-    subst (λ (a : Arrival). least_rank s.network e.device e.signal ≤ rank (arrival_body e.device e.link e.cause a)) (sym all) (least_is (hs ++ coming)) in
+    subst (λ a. least_rank s.network e.device e.signal ≤ rank (arrival_body e.device e.link e.cause a)) (sym all) (least_is (hs ++ coming)) in
     let judged : is ≡ arrival_of s (hs ++ front) e.device now e.link e.cause e.signal =
-    so front back (rank body) shown.parts (subst (λ (q : List ℕ). NoneBefore place_of back q) key_is shown.none) ranked in
-    let arrives = arrives_now s hs front now e is it at judged in
+    so front back (rank body) shown.parts (subst (λ q. NoneBefore place_of back q) key_is shown.none) ranked in
+    let arrives = arrives_now front now is it at judged in
     record {
       front = front;
       back = back;
@@ -96,11 +99,11 @@ received s hs coming mark cursor now e is settled m marked founded it at so leas
         founded = founded;
         body = refl;
         at = refl;
-        due = due_of s hs front now body (body_caused s (hs ++ front) (units_of now) e.device e.link e.cause is arrives);
+        due = due_of s hs front now body (body_caused (units_of now) is arrives);
         before = shown.before;
         none = shown.none;
         fresh = grind (arith, never_from, front, back, more, moving, in_right, own_there, time_of, members_in, key_is);
-        mine = body_own s (hs ++ front) now (members_in w) e.device e.link e.cause is arrives;
+        mine = body_own (members_in w) is arrives;
         here =
             IsSource.arriving now e.device e.link e.cause
             (record { putting = arrives.putting; there = arrives.there; signal = arrives.signal; arrives = arrives.arrives });
@@ -109,5 +112,5 @@ received s hs coming mark cursor now e is settled m marked founded it at so leas
         so = λ f rest rank_ whole none_ high. so f rest rank_ (shown.parts ∙ whole) none_ high;
       };
       shows = shown.shows;
-      long = put_length front back w ∙ ap (λ (l : List Happening). length l + 1) (sym shown.parts);
+      long = put_length front back w ∙ ap (λ l. length l + 1) (sym shown.parts);
     }

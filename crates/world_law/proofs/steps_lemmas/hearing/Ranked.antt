@@ -23,22 +23,25 @@ taking_rank : (device : DeviceId) (link : LinkId) (cause : ℕ) (vl : VlId) (cyc
 taking_rank device link cause vl cycle true = omega arith
 taking_rank device link cause vl cycle false = omega arith
 
-row_rank : (network : Network) (device : DeviceId) (link : LinkId) (cause : ℕ) (p : Standpoint) (entry : Entry) (fault : Option Reason)
-    → (if is_end network device then 12 else 11) ≤ rank (arrival_body device link cause (taken_or_fault network device p entry fault))
-row_rank network device link cause p entry (Some reason) = low_rank (is_end network device)
-row_rank network device link cause p entry None = taking_rank device link cause entry.row.vl (cycle_at network (clock_of p)) (is_end network device)
+module _ (network : Network) (device : DeviceId) (link : LinkId) (cause : ℕ) (p : Standpoint) where
+  row_rank : (entry : Entry) (fault : Option Reason) → (if is_end network device then 12 else 11) ≤ rank
+      (arrival_body device link cause (taken_or_fault network device p entry fault))
+  row_rank entry (Some reason) = low_rank (is_end network device)
+  row_rank entry None =
+      taking_rank device link cause entry.row.vl (cycle_at network (clock_of p)) (is_end network device)
 
-entry_rank : (network : Network) (device : DeviceId) (link : LinkId) (cause : ℕ) (p : Standpoint) (size : ℕ) (last : VlId → Option ℕ) (entry : Option Entry)
-    → (if is_end network device then 12 else 11) ≤ rank (arrival_body device link cause (entry_arrival network device p size last entry))
-entry_rank network device link cause p size last None = low_rank (is_end network device)
-entry_rank network device link cause p size last (Some entry) = row_rank network device link cause p entry (row_fault network p entry size (last entry.row.vl))
+  entry_rank : (size : ℕ) (last : VlId → Option ℕ) (entry : Option Entry)
+      → (if is_end network device then 12 else 11) ≤ rank
+      (arrival_body device link cause (entry_arrival network device p size last entry))
+  entry_rank size last None = low_rank (is_end network device)
+  entry_rank size last (Some entry) = row_rank entry (row_fault network p entry size (last entry.row.vl))
 
-octets_rank : (network : Network) (device : DeviceId) (link : LinkId) (cause : ℕ) (p : Standpoint) (octets : List ℕ) (last : VlId → Option ℕ)
-    (fault : Option Reason) → (if is_end network device then 12 else 11) ≤ rank
-    (arrival_body device link cause (octets_or_fault network device link p octets last fault))
-octets_rank network device link cause p octets last (Some reason) = low_rank (is_end network device)
-octets_rank network device link cause p octets last None =
-    entry_rank network device link cause p (Rattle.std.specs.Prelude.length octets) last (entry_entering network device link (field 4 2 octets))
+  octets_rank : (octets : List ℕ) (last : VlId → Option ℕ) (fault : Option Reason)
+      → (if is_end network device then 12 else 11) ≤ rank
+      (arrival_body device link cause (octets_or_fault network device link p octets last fault))
+  octets_rank octets last (Some reason) = low_rank (is_end network device)
+  octets_rank octets last None =
+      entry_rank (Rattle.std.specs.Prelude.length octets) last (entry_entering network device link (field 4 2 octets))
 
 -- the rank of what becomes of a signal is not below its least
 pub rank_is : (s : Scenario) (device : DeviceId) (t : ℕ) (link : LinkId) (cause : ℕ) (signal : Signal) (js : List Happening)
@@ -56,24 +59,26 @@ none_by true true up down waits vl cycle x y z e = x e
 none_by true false up down waits vl cycle x y z e = y e
 none_by false b up down waits vl cycle x y z e = z e
 
-none_fault : (network : Network) (device : DeviceId) (link : LinkId) (p : Standpoint) (frame : Pcf) (fault : Option Reason) (vl : VlId) (cycle : ℕ)
-    → frame_or_fault network device link p frame fault ≡ arrivals.Accepted vl cycle → ⊥
-none_fault network device link p frame (Some reason) vl cycle e = cc
-none_fault network device link p frame None vl cycle e =
-    none_by (is_relay network device) (is_parent_of network device link) _ _ _ vl cycle (λ x. cc) (λ x. cc) (λ x. cc) e
+module _ (network : Network) (device : DeviceId) (link : LinkId) (p : Standpoint) where
+  none_fault : (frame : Pcf) (fault : Option Reason) (vl : VlId) (cycle : ℕ)
+      → frame_or_fault network device link p frame fault ≡ arrivals.Accepted vl cycle → ⊥
+  none_fault frame (Some reason) vl cycle e = cc
+  none_fault frame None vl cycle e =
+      none_by (is_relay network device) (is_parent_of network device link) _ _ _ vl cycle (λ x. cc) (λ x. cc)
+      (λ x. cc) e
 
-none_control : (network : Network) (device : DeviceId) (link : LinkId) (p : Standpoint) (frame : Rattle.std.specs.Prelude.Result Pcf PcfRefusal) (vl : VlId)
-    (cycle : ℕ) → control_arrival network device link p frame ≡ arrivals.Accepted vl cycle → ⊥
-none_control network device link p (Rattle.std.specs.Prelude.Err refusal) vl cycle e = cc
-none_control network device link p (Rattle.std.specs.Prelude.Ok frame) vl cycle e =
-    none_fault network device link p frame (frame_fault network device link p frame) vl cycle e
+  none_control : (frame : Rattle.std.specs.Prelude.Result Pcf PcfRefusal) (vl : VlId) (cycle : ℕ)
+      → control_arrival network device link p frame ≡ arrivals.Accepted vl cycle → ⊥
+  none_control (Rattle.std.specs.Prelude.Err refusal) vl cycle e = cc
+  none_control (Rattle.std.specs.Prelude.Ok frame) vl cycle e =
+      none_fault frame (frame_fault network device link p frame) vl cycle e
 
 -- what is accepted is so at a switch
 pub accepted_high : (s : Scenario) (device : DeviceId) (t : ℕ) (link : LinkId) (cause : ℕ) (signal : Signal) (js : List Happening) (vl : VlId) (cycle : ℕ)
     → arrival_of s js device t link cause signal ≡ arrivals.Accepted vl cycle → (if is_end s.network device then 12 else 11) ≤ 11
 accepted_high s device t link cause (control frame) js vl cycle e = absurd (none_control s.network device link (standpoint s js device t) frame vl cycle e)
 accepted_high s device t link cause (timed octets) js vl cycle e =
-    subst (λ (a : Arrival). (if is_end s.network device then 12 else 11) ≤ rank (arrival_body device link cause a)) e
+    subst (λ a. (if is_end s.network device then 12 else 11) ≤ rank (arrival_body device link cause a)) e
     (rank_is s device t link cause (timed octets) js)
 
 pub delivered_high : (network : Network) (device : DeviceId) → (if is_end network device then 12 else 11) ≤ 12
@@ -89,12 +94,13 @@ standpoint_in s device t w = record {
   adjustment = (adjustment_after s w device).0;
 }
 
-pub standpoint_still : (s : Scenario) (hs zs : List Happening) (device : DeviceId) (t : ℕ) → ((z : Happening) → IsIn z zs → t ≤ time_of z)
-    → standpoint s (hs ++ zs) device t ≡ standpoint s hs device t
-standpoint_still s hs zs device t late = ap (standpoint_in s device t) (earlier_still t hs zs late)
+module _ (s : Scenario) (hs zs : List Happening) (device : DeviceId) (t : ℕ) where
+  pub standpoint_still : ((z : Happening) → IsIn z zs → t ≤ time_of z)
+      → standpoint s (hs ++ zs) device t ≡ standpoint s hs device t
+  standpoint_still late = ap (standpoint_in s device t) (earlier_still t hs zs late)
 
-pub control_still : (s : Scenario) (hs zs : List Happening) (device : DeviceId) (t : ℕ) (link : LinkId) (cause : ℕ)
-    (frame : Rattle.std.specs.Prelude.Result Pcf PcfRefusal) → ((z : Happening) → IsIn z zs → t ≤ time_of z)
-    → arrival_of s (hs ++ zs) device t link cause (control frame) ≡ arrival_of s hs device t link cause (control frame)
-control_still s hs zs device t link cause frame late =
-    ap (λ (p : Standpoint). control_arrival s.network device link p frame) (standpoint_still s hs zs device t late)
+  pub control_still : (link : LinkId) (cause : ℕ) (frame : Rattle.std.specs.Prelude.Result Pcf PcfRefusal)
+      → ((z : Happening) → IsIn z zs → t ≤ time_of z) → arrival_of s (hs ++ zs) device t link cause (control frame)
+      ≡ arrival_of s hs device t link cause (control frame)
+  control_still link cause frame late =
+      ap (λ p. control_arrival s.network device link p frame) (standpoint_still late)

@@ -20,21 +20,24 @@ pub body_key : (members : ℕ) (device : DeviceId) (link : LinkId) (cause : ℕ)
 body_key members device link cause (arrivals.Dropped reason) = refl
 body_key members device link cause other = refl
 
-pub body_caused : (s : Scenario) (js : List Happening) (time : Units) (device : DeviceId) (link : LinkId) (cause : ℕ) (is : Arrival)
-    → ArrivesAs s js device (amount time) link cause is → IsCaused s js time (arrival_body device link cause is)
-body_caused s js time device link cause (arrivals.Dropped reason) a = inl a
-body_caused s js time device link cause (arrivals.Waits frame point) a = record { frame = frame; point = point; way = Up; taken = inl a; shows = refl }
-body_caused s js time device link cause (arrivals.Passes frame way) a =
+pub body_caused : {s : Scenario} {js : List Happening} (time : Units) {device : DeviceId} {link : LinkId} {cause : ℕ}
+    (is : Arrival) → ArrivesAs s js device (amount time) link cause is
+    → IsCaused s js time (arrival_body device link cause is)
+body_caused time (arrivals.Dropped reason) a = inl a
+body_caused time (arrivals.Waits frame point) a =
+    record { frame = frame; point = point; way = Up; taken = inl a; shows = refl }
+body_caused time (arrivals.Passes frame way) a =
     record { frame = frame; point = record { 0 = pos 0 }; way = way; taken = inr (inl a); shows = refl }
-body_caused s js time device link cause (arrivals.PassesAndWaits frame way point) a =
+body_caused time (arrivals.PassesAndWaits frame way point) a =
     record { frame = frame; point = point; way = way; taken = inr (inr a); shows = refl }
-body_caused s js time device link cause (arrivals.Accepted vl cycle) a = a
-body_caused s js time device link cause (arrivals.Delivered vl cycle) a = a
+body_caused time (arrivals.Accepted vl cycle) a = a
+body_caused time (arrivals.Delivered vl cycle) a = a
 
-pub body_own : (s : Scenario) (js : List Happening) (t members : ℕ) (device : DeviceId) (link : LinkId) (cause : ℕ) (is : Arrival)
-    → ArrivesAs s js device t link cause is → IsOwnSource s js t members (arrival_body device link cause is) (t ∷ 2 ∷ device.0 ∷ link.0 ∷ cause ∷ [])
-body_own s js t m device link cause (arrivals.Dropped reason) a = inl (refl, a)
-body_own s js t m device link cause other a = refl
+pub body_own : {s : Scenario} {js : List Happening} {t : ℕ} (members : ℕ) {device : DeviceId} {link : LinkId}
+    {cause : ℕ} (is : Arrival) → ArrivesAs s js device t link cause is
+    → IsOwnSource s js t members (arrival_body device link cause is) (t ∷ 2 ∷ device.0 ∷ link.0 ∷ cause ∷ [])
+body_own m (arrivals.Dropped reason) a = inl (refl, a)
+body_own m other a = refl
 
 -- where it stands
 pub placed_at : (now : ℕ) (e : OnWire) (is : Arrival) (w : Happening) → time_of w ≡ now → w.note.body ≡ arrival_body e.device e.link e.cause is
@@ -43,31 +46,32 @@ placed_at now e is w at body = grind (arith, time_of, rank, key, members_in, arr
 
 -- ---- it arrives so
 
-pub few_cause : (s : Scenario) (hs : List Happening) (e : OnWire) → IsOnWire s hs e → e.cause ≤ length hs
-few_cause s hs e it = let lt = numbered_within hs e.cause it.putting it.there in omega (arith, lt)
+pub few_cause : {s : Scenario} {hs : List Happening} {e : OnWire} → IsOnWire s hs e → e.cause ≤ length hs
+few_cause {hs} {e} it = let lt = numbered_within hs e.cause it.putting it.there in omega (arith, lt)
 
 -- what becomes of it, given more records
-pub arrives_now : (s : Scenario) (hs zs : List Happening) (now : ℕ) (e : OnWire) (is : Arrival) → IsOnWire s hs e → e.at ≡ now
-    → is ≡ arrival_of s (hs ++ zs) e.device now e.link e.cause e.signal → ArrivesAs s (hs ++ zs) e.device now e.link e.cause is
-arrives_now s hs zs now e is it at so = record {
+pub arrives_now : {s : Scenario} {hs : List Happening} (zs : List Happening) (now : ℕ) {e : OnWire} (is : Arrival)
+    → IsOnWire s hs e → e.at ≡ now → is ≡ arrival_of s (hs ++ zs) e.device now e.link e.cause e.signal
+    → ArrivesAs s (hs ++ zs) e.device now e.link e.cause is
+arrives_now {s} {hs} zs now {e} is it at so = record {
   putting = it.putting;
-  there = numbered_prefix hs zs e.cause (few_cause s hs e it) ∙ it.there;
+  there = numbered_prefix hs zs e.cause (few_cause it) ∙ it.there;
   signal = e.signal;
   arrives = subst (λ (t : ℕ). Rattle.run_law.specs.control.Wires.Arrives s it.putting e.device e.link t e.signal) at it.arrives;
   becomes = so;
 }
 
-target_in : (network : Network) (way : Way) (l : Link) (device : DeviceId) → IsLinkInRange network l → target_by way l ≡ device
-    → device.0 < length network.device
-target_in network Up l device range e = subst (λ (d : DeviceId). d.0 < length network.device) e range.parent
-target_in network Down l device range e = subst (λ (d : DeviceId). d.0 < length network.device) e range.child
+target_in : {network : Network} (way : Way) {l : Link} (device : DeviceId) → IsLinkInRange network l
+    → target_by way l ≡ device → device.0 < length network.device
+target_in {network} Up device range e = subst (λ (d : DeviceId). d.0 < length network.device) e range.parent
+target_in {network} Down device range e = subst (λ (d : DeviceId). d.0 < length network.device) e range.child
 
 pub receiver_in : (network : Network) (way : Way) (link : LinkId) (o : Option Link) (device : DeviceId) → link_at network link ≡ o → IsInRange network
     → Rattle.std.specs.Prelude.option_map (target_by way) o ≡ Some device → device.0 < length network.device
 receiver_in network way link None device is range e = absurd cc
 receiver_in network way link (Some l) device is range e =
     let same : target_by way l ≡ device = cc in
-    target_in network way l device (in_all (IsLinkInRange network) network.link link.0 l range.links is) same
+    target_in way device (in_all (IsLinkInRange network) network.link link.0 l range.links is) same
 
 pub device_there : (s : Scenario) (hs : List Happening) (e : OnWire) → IsInRange s.network → IsOnWire s hs e → e.device.0 < length s.network.device
 device_there s hs e range it = receiver_in s.network it.arrives.way e.link (link_at s.network e.link) e.device refl range it.arrives.receiver
@@ -85,9 +89,10 @@ same_wire : (e : OnWire) (now t : ℕ) (device : DeviceId) (link : LinkId) (caus
     → now ∷ 2 ∷ e.device.0 ∷ e.link.0 ∷ e.cause ∷ [] ≡ t ∷ 2 ∷ device.0 ∷ link.0 ∷ cause ∷ [] → IsSameWire e now t device link cause
 same_wire e now t device link cause same = grind arith
 
-moved : (s : Scenario) (js : List Happening) (e : OnWire) (now t : ℕ) (device : DeviceId) (link : LinkId) (cause : ℕ) (is : Arrival)
-    → IsSameWire e now t device link cause → ArrivesAs s js device t link cause is → ArrivesAs s js e.device now e.link e.cause is
-moved s js e now t device link cause is p d = grind arith
+moved : {s : Scenario} {js : List Happening} {e : OnWire} {now t : ℕ} {device : DeviceId} {link : LinkId} {cause : ℕ}
+    {is : Arrival} → IsSameWire e now t device link cause → ArrivesAs s js device t link cause is
+    → ArrivesAs s js e.device now e.link e.cause is
+moved p d = grind arith
 
 abbrev ranked : ℕ → List ℕ → List ℕ
 ranked r (a ∷ b ∷ more) = a ∷ r ∷ more
@@ -99,23 +104,27 @@ pub record ComesAs (s : Scenario) (js : List Happening) (now : ℕ) (e : OnWire)
   pub so : ArrivesAs s js e.device now e.link e.cause is
   pub place : now ∷ rank (arrival_body e.device e.link e.cause is) ∷ e.device.0 ∷ e.link.0 ∷ e.cause ∷ [] ≡ t ∷ rank body ∷ key members body
 
-comes : (s : Scenario) (js : List Happening) (now : ℕ) (e : OnWire) (t members : ℕ) (device : DeviceId) (link : LinkId) (cause : ℕ) (body : NoteBody)
-    (is : Arrival) → now ∷ 2 ∷ e.device.0 ∷ e.link.0 ∷ e.cause ∷ [] ≡ t ∷ 2 ∷ device.0 ∷ link.0 ∷ cause ∷ [] → ArrivesAs s js device t link cause is
-    → rank (arrival_body e.device e.link e.cause is) ≡ rank body → device.0 ∷ link.0 ∷ cause ∷ [] ≡ key members body → ComesAs s js now e t members body
-comes s js now e t members device link cause body is at a ranks keys = record {
-  is = is;
-  so = moved s js e now t device link cause is (same_wire e now t device link cause at) a;
-  place = ap (λ (r : ℕ). now ∷ r ∷ e.device.0 ∷ e.link.0 ∷ e.cause ∷ []) ranks ∙ ap (ranked (rank body)) at ∙ ap (λ (l : List ℕ). t ∷ rank body ∷ l) keys;
-}
+module _ (s : Scenario) (js : List Happening) (now : ℕ) (e : OnWire) (t members : ℕ) (device : DeviceId)
+    (link : LinkId) (cause : ℕ) where
+  comes : (body : NoteBody) {is : Arrival} → now ∷ 2 ∷ e.device.0 ∷ e.link.0 ∷ e.cause ∷ [] ≡ t ∷ 2 ∷ device.0
+      ∷ link.0 ∷ cause ∷ [] → ArrivesAs s js device t link cause is
+      → rank (arrival_body e.device e.link e.cause is) ≡ rank body
+      → device.0 ∷ link.0 ∷ cause ∷ [] ≡ key members body → ComesAs s js now e t members body
+  comes body {is} at a ranks keys = record {
+    is = is;
+    so = moved (same_wire e now t device link cause at) a;
+    place = ap (λ (r : ℕ). now ∷ r ∷ e.device.0 ∷ e.link.0 ∷ e.cause ∷ []) ranks ∙ ap (ranked (rank body)) at ∙ ap
+        (λ (l : List ℕ). t ∷ rank body ∷ l) keys;
+  }
 
-arrived_as : (s : Scenario) (js : List Happening) (now : ℕ) (e : OnWire) (t members : ℕ) (device : DeviceId) (link : LinkId) (cause clock : ℕ)
-    → now ∷ 2 ∷ e.device.0 ∷ e.link.0 ∷ e.cause ∷ [] ≡ t ∷ 2 ∷ device.0 ∷ link.0 ∷ cause ∷ [] → IsArrivedRecord s js device t link cause clock
-    → ComesAs s js now e t members (kinds.Arrived device link cause clock)
-arrived_as s js now e t members device link cause clock at a = elim a.taken [
-  | inl w ↦ comes s js now e t members device link cause _ _ at w refl refl
-  | inr (inl w) ↦ comes s js now e t members device link cause _ _ at w refl refl
-  | inr (inr w) ↦ comes s js now e t members device link cause _ _ at w refl refl
-]
+  arrived_as : {clock : ℕ} → now ∷ 2 ∷ e.device.0 ∷ e.link.0 ∷ e.cause ∷ [] ≡ t ∷ 2 ∷ device.0 ∷ link.0 ∷ cause ∷ []
+      → IsArrivedRecord s js device t link cause clock → ComesAs s js now e t members
+      (kinds.Arrived device link cause clock)
+  arrived_as at a = elim a.taken [
+    | inl w ↦ comes _ at w refl refl
+    | inr (inl w) ↦ comes _ at w refl refl
+    | inr (inr w) ↦ comes _ at w refl refl
+  ]
 
 wrong : (k : ℕ) → (2 ≡ k) → (k < 2) ⊎ (2 < k) → ⊥
 wrong k e (inl lt) = omega (arith, e, lt)
@@ -129,12 +138,16 @@ pub comes_as : (s : Scenario) (js : List Happening) (now : ℕ) (e : OnWire) (t 
     → IsOwnSource s js t members body (now ∷ 2 ∷ e.device.0 ∷ e.link.0 ∷ e.cause ∷ [])
     → (time : Units) → amount time ≡ t → IsCaused s js time body → ComesAs s js now e t members body
 comes_as s js now e t m (kinds.Arrived device link cause clock) o time is c =
-    arrived_as s js now e t m device link cause clock o (subst (λ (n : ℕ). IsArrivedRecord s js device n link cause clock) is c)
+    arrived_as s js now e t m device link cause o
+    (subst (λ n. IsArrivedRecord s js device n link cause clock) is c)
 comes_as s js now e t m (kinds.Accepted device link cause vl cycle) o time is c =
-    comes s js now e t m device link cause _ _ o (subst (λ (n : ℕ). ArrivesAs s js device n link cause (arrivals.Accepted vl cycle)) is c) refl refl
+    comes s js now e t m device link cause _ o (subst
+    (λ n. ArrivesAs s js device n link cause (arrivals.Accepted vl cycle)) is c) refl refl
 comes_as s js now e t m (kinds.Delivered device link cause vl cycle) o time is c =
-    comes s js now e t m device link cause _ _ o (subst (λ (n : ℕ). ArrivesAs s js device n link cause (arrivals.Delivered vl cycle)) is c) refl refl
-comes_as s js now e t m (kinds.Dropped device link cause reason) (inl o) time is c = comes s js now e t m device link cause _ _ o.0 o.1 refl refl
+    comes s js now e t m device link cause _ o (subst
+    (λ n. ArrivesAs s js device n link cause (arrivals.Delivered vl cycle)) is c) refl refl
+comes_as s js now e t m (kinds.Dropped device link cause reason) (inl o) time is c =
+    comes s js now e t m device link cause _ o.0 o.1 refl refl
 comes_as s js now e t m (kinds.Dropped device link cause reason) (inr (inl o)) time is c = absurd (wrong 3 (ap second o.2) (inr (omega arith)))
 comes_as s js now e t m (kinds.Dropped device link cause reason) (inr (inr o)) time is c = absurd (wrong 8 (ap second o.0) (inr (omega arith)))
 comes_as s js now e t m (kinds.Lost device link cause) (inl o) time is c = absurd (wrong 8 (ap second o.0) (inr (omega arith)))
@@ -155,12 +168,14 @@ comes_as s js now e t m (kinds.Sent device cycle) o time is c = absurd (wrong 5 
 comes_as s js now e t m (kinds.Corrected device cycle by adjustment) o time is c = absurd (wrong 6 (ap second o) (inr (omega arith)))
 
 -- what is judged so by the same records is at the same place
-pub outcome_at : (s : Scenario) (hs zs : List Happening) (now : ℕ) (e : OnWire) (is : Arrival) → IsOnWire s hs e → e.at ≡ now
-    → (t members : ℕ) (body : NoteBody) → is ≡ arrival_of s (hs ++ zs) e.device now e.link e.cause e.signal → ComesAs s (hs ++ zs) now e t members body
-    → now ∷ rank (arrival_body e.device e.link e.cause is) ∷ e.device.0 ∷ e.link.0 ∷ e.cause ∷ [] ≡ t ∷ rank body ∷ key members body
-outcome_at s hs zs now e is it at t m body so c =
-    ap (λ (x : Arrival). now ∷ rank (arrival_body e.device e.link e.cause x) ∷ e.device.0 ∷ e.link.0 ∷ e.cause ∷ [])
-    (same_arrival s (hs ++ zs) now e.device e.link e.cause is c.is (arrives_now s hs zs now e is it at so) c.so) ∙ c.place
+pub outcome_at : {s : Scenario} {hs : List Happening} (zs : List Happening) {now : ℕ} {e : OnWire} (is : Arrival)
+    → IsOnWire s hs e → e.at ≡ now → {t members : ℕ} {body : NoteBody}
+    → is ≡ arrival_of s (hs ++ zs) e.device now e.link e.cause e.signal → ComesAs s (hs ++ zs) now e t members body
+    → now ∷ rank (arrival_body e.device e.link e.cause is) ∷ e.device.0 ∷ e.link.0 ∷ e.cause ∷ [] ≡ t ∷ rank body
+    ∷ key members body
+outcome_at {s} {hs} zs {now} {e} is it at so c =
+    ap (λ x. now ∷ rank (arrival_body e.device e.link e.cause x) ∷ e.device.0 ∷ e.link.0 ∷ e.cause ∷ [])
+    (same_arrival s (hs ++ zs) now e.device e.link e.cause is c.is (arrives_now zs now is it at so) c.so) ∙ c.place
 
 -- ---- whatever stands at the place of an outcome comes from the arrival, or from a source behind it
 
@@ -174,7 +189,7 @@ other_kind device link cause (arrivals.Delivered vl cycle) k r o = o.2 r
 other_kind device link cause other k r o = o.0 r
 
 behind_here : (now t r : ℕ) (more ws w : List ℕ) → now ≡ t → 2 < r → w ≡ t ∷ r ∷ ws → IsBefore (now ∷ 2 ∷ more) w
-behind_here now t r more ws w e lt is = subst (λ (q : List ℕ). IsBefore (now ∷ 2 ∷ more) q) (sym is) (inr (e, inl lt))
+behind_here now t r more ws w e lt is = subst (λ q. IsBefore (now ∷ 2 ∷ more) q) (sym is) (inr (e, inl lt))
 
 abbrev first_of : List ℕ → ℕ
 first_of [] = 0

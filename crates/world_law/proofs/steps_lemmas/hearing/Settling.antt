@@ -39,8 +39,8 @@ module _ (s : Scenario) (hs front back : List Happening) (mark cursor : List ℕ
       ≡ arrival_of s (hs ++ (front ++ w ∷ c)) e.device now e.link e.cause e.signal
   judged_put c d whole =
       let more = e.device.0 ∷ e.link.0 ∷ e.cause ∷ [] in
-      let near = two_at (well_of s hs (front ++ back) mark cursor now 2 more p.moving)
-      (placing_one s hs front back mark cursor now 2 more w one_arrival) now c d whole refl in
+      let near = two_at (well_of p.moving)
+      (placing_one one_arrival) now c d whole refl in
       arrival_near s (hs ++ (front ++ c)) (hs ++ (front ++ w ∷ c)) now e.device e.link e.cause e.signal near.before
       (λ vl. near.taken e.device e.link e.cause vl (never_self (now ∷ 2 ∷ more)))
 
@@ -49,17 +49,17 @@ module _ (s : Scenario) (hs front back : List Happening) (mark cursor : List ℕ
   all_of_arrival f rest y whole before none due own =
       let c = comes_as s (hs ++ f) now e (time_of y) (members_in y) y.note.body own y.note.time refl due.cause in
       let c_is : c.is ≡ arrival_of s (hs ++ f) e.device now e.link e.cause e.signal =
-      same_arrival s (hs ++ f) now e.device e.link e.cause c.is _ c.so (arrives_now s hs f now e _ p.wire p.arrives refl) in
+      same_arrival s (hs ++ f) now e.device e.link e.cause c.is _ c.so (arrives_now f now _ p.wire p.arrives refl) in
       let r = rank (arrival_body e.device e.link e.cause c.is) in
       let high : least_rank s.network e.device e.signal ≤ r =
-      subst (λ (a : Arrival). least_rank s.network e.device e.signal ≤ rank (arrival_body e.device e.link e.cause a)) (sym c_is)
+      subst (λ a. least_rank s.network e.device e.signal ≤ rank (arrival_body e.device e.link e.cause a)) (sym c_is)
       (rank_is s e.device now e.link e.cause e.signal (hs ++ f)) in
       let none_at : NoneBefore place_of rest (now ∷ r ∷ e.device.0 ∷ e.link.0 ∷ e.cause ∷ []) =
-      subst (λ (q : List ℕ). NoneBefore place_of rest q) (sym c.place) none in
+      subst (λ q. NoneBefore place_of rest q) (sym c.place) none in
       let so : is ≡ arrival_of s (hs ++ f) e.device now e.link e.cause e.signal = elim (split_two front back w f rest whole) [
         | inl it ↦
             p.so f (it.0 ++ back) r (ap (λ (l : List Happening). l ++ back) it.1 ∙ append_assoc f it.0 back)
-            (λ z i. none_at z (subst (λ (l : List Happening). IsIn z l) (sym it.2) (in_placed it.0 back w z i))) high
+            (λ z i. none_at z (subst (λ l. IsIn z l) (sym it.2) (in_placed it.0 back w z i))) high
         | inr it ↦
             p.so (front ++ it.0) rest r (ap (λ (l : List Happening). front ++ l) it.2 ∙ sym (append_assoc front it.0 rest)) none_at high
             ∙ judged_put it.0 rest it.2
@@ -67,12 +67,12 @@ module _ (s : Scenario) (hs front back : List Happening) (mark cursor : List ℕ
       ] in (
         w,
         in_right w front (w ∷ back) (inl refl),
-        placed_at now e is w p.at p.body ∙ outcome_at s hs f now e is p.wire p.arrives (time_of y) (members_in y) y.note.body so c,
+        placed_at now e is w p.at p.body ∙ outcome_at f is p.wire p.arrives so c,
       )
 
   pub arrival_put : AreSettled s hs (front ++ w ∷ back) mark (behind (now ∷ 2 ∷ e.device.0 ∷ e.link.0 ∷ e.cause ∷ [])) now
   arrival_put =
       let more = e.device.0 ∷ e.link.0 ∷ e.cause ∷ [] in
-      one_by s hs front back mark cursor now 2 more w one_arrival
+      one_by one_arrival
       (last_unfollowed s hs now w.note.body (ap is_last p.body ∙ last_body e.device e.link e.cause is))
       all_of_arrival

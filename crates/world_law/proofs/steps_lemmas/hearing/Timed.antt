@@ -2,7 +2,7 @@
 use Rattle.{run_law.proofs.runs.Places.earlier_time, world_law.proofs.{putting.{NearPut.filter_none, Renumbers.timed_by}, rows.Entered.delivered_end}}
 use Rattle.world_law.proofs.steps_lemmas.Words.{◌&&◌, ◌++◌, ◌+◌, ◌<◌, ◌==◌, ◌||◌, ◌∙◌, ◌∷◌, ◌≡◌, ◌≤◌, ◌⊎◌, AllBefore, Bool, DeviceId, Happening, IsBefore}
 use Rattle.world_law.proofs.steps_lemmas.Words.{IsCaused, IsIn, IsKept, IsLeft, IsMoving, IsNoTaking, IsOwnSource, LinkId, List, Network, Node, None}
-use Rattle.world_law.proofs.steps_lemmas.Words.{NoneBefore, NoteBody, OnWire, Scenario, Signal, Standpoint, VlId, [], ap, append-nil, append_assoc, arith}
+use Rattle.world_law.proofs.steps_lemmas.Words.{NoneBefore, NoteBody, OnWire, Scenario, Signal, VlId, [], ap, append-nil, append_assoc, arith}
 use Rattle.world_law.proofs.steps_lemmas.Words.{arrival_at, arrival_of, before_later, cases_Bool, cases_lt, chain, comes_before, control, eqb-true, false}
 use Rattle.world_law.proofs.steps_lemmas.Words.{filter, filter-append, if◌then◌else◌, in_left, in_parts, in_right, inl, inr, is_end, is_taken_before, key}
 use Rattle.world_law.proofs.steps_lemmas.Words.{last_or, last_taken, last_taken_by, members_in, moment_of, nat_lt, option_and_then, parted, place_of, rank}
@@ -19,9 +19,10 @@ pub record IsAfterGiven (s : Scenario) (hs coming : List Happening) (mark cursor
   pub within : AllBefore place_of hs mark
   pub not_later : (p : List ℕ) → IsBefore p cursor → IsBefore p ((now + 1) ∷ [])
 
-given_time : (s : Scenario) (hs coming : List Happening) (mark cursor : List ℕ) (now : ℕ) (e : OnWire) → IsAfterGiven s hs coming mark cursor now e
-    → (h : Happening) → IsIn h hs → 2 < rank h.note.body → time_of h < now
-given_time s hs coming mark cursor now e a h i high =
+given_time : {s : Scenario} {hs coming : List Happening} {mark cursor : List ℕ} {now : ℕ} {e : OnWire}
+    → IsAfterGiven s hs coming mark cursor now e → (h : Happening) → IsIn h hs → 2 < rank h.note.body
+    → time_of h < now
+given_time {cursor} {now} {e} a h i high =
     let here = now ∷ 2 ∷ e.device.0 ∷ e.link.0 ∷ e.cause ∷ [] in
     let under = a.moving.ahead (place_of h) (a.within h i) in
     let by = earlier_time (time_of h) (now + 1) (rank h.note.body ∷ key (members_in h) h.note.body) (a.not_later (place_of h) under) in
@@ -32,16 +33,16 @@ given_time s hs coming mark cursor now e a h i high =
           absurd (a.moving.waits (chain here (place_of h) cursor (inr (same, inl high)) under))
     ]
 
--- no record that is given is later
-pub given_by_now : (s : Scenario) (hs coming : List Happening) (mark cursor : List ℕ) (now : ℕ) (e : OnWire) → IsAfterGiven s hs coming mark cursor now e
-    → (h : Happening) → IsIn h hs → time_of h ≤ now
-given_by_now s hs coming mark cursor now e a h i = grind (arith, place_of, earlier_time, time_of, rank, key, members_in)
+module _ {s : Scenario} {hs coming : List Happening} {mark cursor : List ℕ} {now : ℕ} {e : OnWire}
+    (a : IsAfterGiven s hs coming mark cursor now e) (h : Happening) (i : IsIn h hs) where
+  -- no record that is given is later
+  pub given_by_now : time_of h ≤ now
+  given_by_now = grind (arith, place_of, earlier_time, time_of, rank, key, members_in)
 
-given_sooner : (s : Scenario) (hs coming : List Happening) (mark cursor : List ℕ) (now : ℕ) (e : OnWire) → IsAfterGiven s hs coming mark cursor now e
-    → (h : Happening) → IsIn h hs → (body : NoteBody) → h.note.body ≡ body → IsSooner e.device now e.link e.cause h body
-given_sooner s hs coming mark cursor now e a h i (notes.Accepted other by from vl cycle) is = grind (arith, rank, given_time)
-given_sooner s hs coming mark cursor now e a h i (notes.Delivered other by from vl cycle) is = grind (arith, rank, given_time)
-given_sooner s hs coming mark cursor now e a h i other is = tt
+  given_sooner : (body : NoteBody) → h.note.body ≡ body → IsSooner e.device now e.link e.cause h body
+  given_sooner (notes.Accepted other by from vl cycle) is = grind (arith, rank, given_time)
+  given_sooner (notes.Delivered other by from vl cycle) is = grind (arith, rank, given_time)
+  given_sooner other is = tt
 
 -- of one device and one time, the source by the link and cause is before the other
 source_sooner : (now t : ℕ) (device other link by cause from : ℕ) → t ≡ now → other ≡ device
@@ -53,51 +54,54 @@ source_sooner now t device other link by cause from at same (inr (e, inr (f, inr
 source_sooner now t device other link by cause from at same (inr (e, inr (f, inr (g, inr (h, inl lt))))) = inr (h, lt)
 source_sooner now t device other link by cause from at same (inr (e, inr (f, inr (g, inr (h, inr (k, none)))))) = absurd none
 
-coming_sooner : (s : Scenario) (hs coming : List Happening) (mark cursor : List ℕ) (now : ℕ) (e : OnWire) → IsAfterGiven s hs coming mark cursor now e
-    → (z : Happening) → IsIn z coming → (other : DeviceId) (by : LinkId) (from : ℕ)
-    → ((js : List Happening) (w : List ℕ) → IsOwnSource s js (time_of z) (members_in z) z.note.body w → w ≡ time_of z ∷ 2 ∷ other.0 ∷ by.0 ∷ from ∷ [])
-    → e.device ≡ other → IsBefore2 by from e.link e.cause
-coming_sooner s hs coming mark cursor now e a z i other by from source same =
-    let here = now ∷ 2 ∷ e.device.0 ∷ e.link.0 ∷ e.cause ∷ [] in
-    let split = parted z coming i in
-    let off = a.moving.are.by split.0 split.1 z split.2 in
-    let w_is = source (hs ++ split.0) off.0 off.1 in
-    let at = a.moving.are.of_now z i in
-    source_sooner now (time_of z) e.device.0 other.0 e.link.0 by.0 e.cause from at (ap (λ (d : DeviceId). d.0) (sym same))
-    (subst (λ (q : List ℕ). IsBefore q here) w_is (before_later off.0 here cursor off.3 a.moving.waits))
+module _ {s : Scenario} {hs coming : List Happening} {mark cursor : List ℕ} {now : ℕ} {e : OnWire}
+    (a : IsAfterGiven s hs coming mark cursor now e) where
+  coming_sooner : (z : Happening) → IsIn z coming → (other : DeviceId) (by : LinkId) (from : ℕ)
+      → ((js : List Happening) (w : List ℕ) → IsOwnSource s js (time_of z) (members_in z) z.note.body w
+      → w ≡ time_of z ∷ 2 ∷ other.0 ∷ by.0 ∷ from ∷ []) → e.device ≡ other → IsBefore2 by from e.link e.cause
+  coming_sooner z i other by from source same =
+      let here = now ∷ 2 ∷ e.device.0 ∷ e.link.0 ∷ e.cause ∷ [] in
+      let split = parted z coming i in
+      let off = a.moving.are.by split.0 split.1 z split.2 in
+      let w_is = source (hs ++ split.0) off.0 off.1 in
+      let at = a.moving.are.of_now z i in
+      source_sooner now (time_of z) e.device.0 other.0 e.link.0 by.0 e.cause
+      from at (ap (λ (d : DeviceId). d.0) (sym same))
+      (subst (λ q. IsBefore q here) w_is (before_later off.0 here cursor off.3 a.moving.waits))
 
-come_sooner : (s : Scenario) (hs coming : List Happening) (mark cursor : List ℕ) (now : ℕ) (e : OnWire) → IsAfterGiven s hs coming mark cursor now e
-    → (z : Happening) → IsIn z coming → (body : NoteBody) → z.note.body ≡ body → IsSooner e.device now e.link e.cause z body
-come_sooner s hs coming mark cursor now e a z i (notes.Accepted other by from vl cycle) is = λ same.
-    inr (
-      a.moving.are.of_now z i,
-      coming_sooner s hs coming mark cursor now e a z i other by from
-          (λ js w o. subst (λ (b : NoteBody). IsOwnSource s js (time_of z) (members_in z) b w) is o) same,
-    )
-come_sooner s hs coming mark cursor now e a z i (notes.Delivered other by from vl cycle) is = λ same.
-    inr (
-      a.moving.are.of_now z i,
-      coming_sooner s hs coming mark cursor now e a z i other by from
-          (λ js w o. subst (λ (b : NoteBody). IsOwnSource s js (time_of z) (members_in z) b w) is o) same,
-    )
-come_sooner s hs coming mark cursor now e a z i other is = tt
+  come_sooner : (z : Happening) → IsIn z coming → (body : NoteBody) → z.note.body ≡ body
+      → IsSooner e.device now e.link e.cause z body
+  come_sooner z i (notes.Accepted other by from vl cycle) is = λ same.
+      inr (
+        a.moving.are.of_now z i,
+        coming_sooner z i other by from
+            (λ js w o. subst (λ b. IsOwnSource s js (time_of z) (members_in z) b w) is o) same,
+      )
+  come_sooner z i (notes.Delivered other by from vl cycle) is = λ same.
+      inr (
+        a.moving.are.of_now z i,
+        coming_sooner z i other by from
+            (λ js w o. subst (λ b. IsOwnSource s js (time_of z) (members_in z) b w) is o) same,
+      )
+  come_sooner z i other is = tt
 
-all_sooner : (s : Scenario) (hs coming : List Happening) (mark cursor : List ℕ) (now : ℕ) (e : OnWire) → IsAfterGiven s hs coming mark cursor now e
-    → (h : Happening) → IsIn h (hs ++ coming) → IsSooner e.device now e.link e.cause h h.note.body
-all_sooner s hs coming mark cursor now e a h i =
-    elim (in_parts h hs coming i) [
-      | inl old ↦ given_sooner s hs coming mark cursor now e a h old h.note.body refl
-      | inr new ↦ come_sooner s hs coming mark cursor now e a h new h.note.body refl
-    ]
+  all_sooner : (h : Happening) → IsIn h (hs ++ coming) → IsSooner e.device now e.link e.cause h h.note.body
+  all_sooner h i =
+      elim (in_parts h hs coming i) [
+        | inl old ↦ given_sooner a h old h.note.body refl
+        | inr new ↦ come_sooner h new h.note.body refl
+      ]
 
 -- ---- a sound device judges it as the records say
 
-pub kept_judges : {M : Type 0} (stands : M → Network → DeviceId → Node → Type 0) (s : Scenario) (hs coming : List Happening) (mark cursor : List ℕ) (now : ℕ)
-    (e : OnWire) (machine : M) (signal : Signal) → IsAfterGiven s hs coming mark cursor now e → (k : IsKept stands s hs coming cursor now e.device machine)
-    → arrival_at s.network e.device k.node (moment_of s e.device now) e.link signal ≡ arrival_of s (hs ++ coming) e.device now e.link e.cause signal
-kept_judges stands s hs coming mark cursor now e machine signal a k =
-    let up = not_yet_acted stands s hs coming cursor now e.device machine (e.device.0 ∷ e.link.0 ∷ e.cause ∷ []) k a.moving.waits in
-    let left : IsLeft s (hs ++ coming) e.device now k.node = subst (λ (n : ℕ). IsLeft s (hs ++ coming) e.device n k.node) up k.left in
+pub kept_judges : {M : Type 0} {stands : M → Network → DeviceId → Node → Type 0} {s : Scenario}
+    {hs coming : List Happening} {mark cursor : List ℕ} {now : ℕ} {e : OnWire} {machine : M} (signal : Signal)
+    → IsAfterGiven s hs coming mark cursor now e → (k : IsKept stands s hs coming cursor now e.device machine)
+    → arrival_at s.network e.device k.node (moment_of s e.device now) e.link signal
+    ≡ arrival_of s (hs ++ coming) e.device now e.link e.cause signal
+kept_judges {stands} {s} {hs} {coming} {cursor} {now} {e} signal a k =
+    let up = not_yet_acted stands s hs coming cursor (e.device.0 ∷ e.link.0 ∷ e.cause ∷ []) k a.moving.waits in
+    let left : IsLeft s (hs ++ coming) e.device now k.node = subst (λ n. IsLeft s (hs ++ coming) e.device n k.node) up k.left in
     by left signal
   where
     by : IsLeft s (hs ++ coming) e.device now k.node → (signal : Signal)
@@ -105,12 +109,12 @@ kept_judges stands s hs coming mark cursor now e machine signal a k =
     by left (control frame) =
         control_judged s (hs ++ coming) e.device now k.node (moment_of s e.device now) e.link e.cause frame left (record { time = refl; reading = refl })
     by left (timed octets) =
-        ap (λ (p : Standpoint). timed_arrival s.network e.device e.link p octets (last_taken_by k.node))
+        ap (λ p. timed_arrival s.network e.device e.link p octets (last_taken_by k.node))
         (same_standpoint s (hs ++ coming) e.device now k.node (moment_of s e.device now) left (record { time = refl; reading = refl }))
         ∙ timed_by s e.device e.link (standpoint s (hs ++ coming) e.device now) octets (last_taken_by k.node)
         (last_taken (hs ++ coming) e.device now e.link e.cause)
         (taken_last s (hs ++ coming) e.device now e.link e.cause k.node k.taken
-        (λ vl h i. taking_is e.device vl now e.link e.cause h h.note.body (all_sooner s hs coming mark cursor now e a h i)))
+        (λ vl h i. taking_is e.device vl now e.link e.cause h h.note.body (all_sooner a h i)))
 
 -- ---- and as those say that leave none before its place
 
@@ -128,29 +132,31 @@ IsApart device (notes.Accepted other by from vl cycle) = (device.0 == other.0) �
 IsApart device (notes.Delivered other by from vl cycle) = (device.0 == other.0) ≡ false
 IsApart device other = Unit {0}
 
-apart : (s : Scenario) (hs coming : List Happening) (mark cursor : List ℕ) (now : ℕ) (e : OnWire) → IsAfterGiven s hs coming mark cursor now e
-    → (z : Happening) → IsIn z coming → (r : ℕ) → (IsBefore (place_of z) (now ∷ r ∷ e.device.0 ∷ e.link.0 ∷ e.cause ∷ []) → ⊥)
-    → (if is_end s.network e.device then 12 else 11) ≤ r → (body : NoteBody) → z.note.body ≡ body → IsApart e.device body
-apart s hs coming mark cursor now e a z i r none high (notes.Accepted other by from of_vl cycle) is =
+apart : {s : Scenario} {hs coming : List Happening} {mark cursor : List ℕ} {now : ℕ} {e : OnWire}
+    → IsAfterGiven s hs coming mark cursor now e → (z : Happening) → IsIn z coming → (r : ℕ)
+    → (IsBefore (place_of z) (now ∷ r ∷ e.device.0 ∷ e.link.0 ∷ e.cause ∷ []) → ⊥)
+    → (if is_end s.network e.device then 12 else 11) ≤ r → (body : NoteBody) → z.note.body ≡ body
+    → IsApart e.device body
+apart {s} {now} {e} a z i r none high (notes.Accepted other by from of_vl cycle) is =
     elim (cases_Bool (e.device.0 == other.0)) [
       | inr other_one ↦ other_one
       | inl same ↦
           let one : e.device ≡ other = ap (λ (n : ℕ). let d : DeviceId = record { 0 = n } in d) (eqb-true e.device.0 other.0 same) in
-          let sooner = coming_sooner s hs coming mark cursor now e a z i other by from
-          (λ js w o. subst (λ (b : NoteBody). IsOwnSource s js (time_of z) (members_in z) b w) is o) one in
+          let sooner = coming_sooner a z i other by from
+          (λ js w o. subst (λ b. IsOwnSource s js (time_of z) (members_in z) b w) is o) one in
           let low : 11 ≤ r = at_least_low (is_end s.network e.device) r high in
-          absurd (none (subst (λ (b : NoteBody). IsBefore (time_of z ∷ rank b ∷ key (members_in z) b)
+          absurd (none (subst (λ b. IsBefore (time_of z ∷ rank b ∷ key (members_in z) b)
           (now ∷ r ∷ e.device.0 ∷ e.link.0 ∷ e.cause ∷ [])) (sym is)
           (place_sooner now (time_of z) r 11 e.device.0 other.0 e.link.0 by.0 e.cause from (a.moving.are.of_now z i) (ap (λ (d : DeviceId). d.0) one) low
           sooner)))
     ]
-apart s hs coming mark cursor now e a z i r none high (notes.Delivered other by from of_vl cycle) is =
+apart {s} {hs} {coming} {now} {e} a z i r none high (notes.Delivered other by from of_vl cycle) is =
     elim (cases_Bool (e.device.0 == other.0)) [
       | inr other_one ↦ other_one
       | inl same ↦
           let one : e.device ≡ other = ap (λ (n : ℕ). let d : DeviceId = record { 0 = n } in d) (eqb-true e.device.0 other.0 same) in
-          let sooner = coming_sooner s hs coming mark cursor now e a z i other by from
-          (λ js w o. subst (λ (b : NoteBody). IsOwnSource s js (time_of z) (members_in z) b w) is o) one in
+          let sooner = coming_sooner a z i other by from
+          (λ js w o. subst (λ b. IsOwnSource s js (time_of z) (members_in z) b w) is o) one in
           let split = parted z coming i in
           let due = (a.moving.are.founded split.0 split.1 z split.2).1 in
           let caused : IsCaused s (hs ++ split.0) z.note.time (notes.Delivered other by from of_vl cycle) =
@@ -158,12 +164,12 @@ apart s hs coming mark cursor now e a z i r none high (notes.Delivered other by 
           let end : is_end s.network e.device ≡ true = ap (is_end s.network) one ∙ delivered_end s (hs ++ split.0) other (time_of z) by from of_vl cycle caused
           in
           let low : 12 ≤ r = subst (λ (b : Bool). (if b then 12 else 11) ≤ r) end high in
-          absurd (none (subst (λ (b : NoteBody). IsBefore (time_of z ∷ rank b ∷ key (members_in z) b)
+          absurd (none (subst (λ b. IsBefore (time_of z ∷ rank b ∷ key (members_in z) b)
           (now ∷ r ∷ e.device.0 ∷ e.link.0 ∷ e.cause ∷ [])) (sym is)
           (place_sooner now (time_of z) r 12 e.device.0 other.0 e.link.0 by.0 e.cause from (a.moving.are.of_now z i) (ap (λ (d : DeviceId). d.0) one) low
           sooner)))
     ]
-apart s hs coming mark cursor now e a z i r none high other is = tt
+apart a z i r none high other is = tt
 
 not_by : (device : DeviceId) (vl : VlId) (t : ℕ) (link : LinkId) (cause at : ℕ) (body : NoteBody) → IsApart device body
     → is_taken_before device vl t link cause at body ≡ false
@@ -178,43 +184,51 @@ takes_not device (notes.Accepted other by from of_vl cycle) e = λ at. ap (λ (b
 takes_not device (notes.Delivered other by from of_vl cycle) e = λ at. ap (λ (b : Bool). if b then record { vl = of_vl; cycle = cycle; at = at } ∷ [] else []) e
 takes_not device other e = λ at. refl
 
--- so it takes none by what is left
-pub no_taking : (s : Scenario) (hs coming : List Happening) (mark cursor : List ℕ) (now : ℕ) (e : OnWire) → IsAfterGiven s hs coming mark cursor now e
-    → (z : Happening) → IsIn z coming → (r : ℕ) → (IsBefore (place_of z) (now ∷ r ∷ e.device.0 ∷ e.link.0 ∷ e.cause ∷ []) → ⊥)
-    → (if is_end s.network e.device then 12 else 11) ≤ r → IsNoTaking e.device z.note.body
-no_taking s hs coming mark cursor now e a z i r none high =
-    takes_not e.device z.note.body (apart s hs coming mark cursor now e a z i r none high z.note.body refl)
+module _ {s : Scenario} {hs coming : List Happening} {mark cursor : List ℕ} {now : ℕ} {e : OnWire}
+    (a : IsAfterGiven s hs coming mark cursor now e) where
+  -- so it takes none by what is left
+  pub no_taking : (z : Happening) → IsIn z coming → (r : ℕ)
+      → (IsBefore (place_of z) (now ∷ r ∷ e.device.0 ∷ e.link.0 ∷ e.cause ∷ []) → ⊥)
+      → (if is_end s.network e.device then 12 else 11) ≤ r → IsNoTaking e.device z.note.body
+  no_taking z i r none high =
+      takes_not e.device z.note.body (apart a z i r none high z.note.body refl)
 
-last_still : (s : Scenario) (hs coming : List Happening) (mark cursor : List ℕ) (now : ℕ) (e : OnWire) → IsAfterGiven s hs coming mark cursor now e
-    → (f rest : List Happening) (r : ℕ) → coming ≡ f ++ rest → NoneBefore place_of rest (now ∷ r ∷ e.device.0 ∷ e.link.0 ∷ e.cause ∷ [])
-    → (if is_end s.network e.device then 12 else 11) ≤ r → (vl : VlId)
-    → last_taken (hs ++ coming) e.device now e.link e.cause vl ≡ last_taken (hs ++ f) e.device now e.link e.cause vl
-last_still s hs coming mark cursor now e a f rest r whole none high vl =
-    let q = λ (h : Happening). is_taken_before e.device vl now e.link e.cause (time_of h) h.note.body in
-    let gone : filter q rest ≡ [] = filter_none q rest (λ z i. not_by e.device vl now e.link e.cause (time_of z) z.note.body
-    (apart s hs coming mark cursor now e a z (subst (λ (l : List Happening). IsIn z l) (sym whole) (in_right z f rest i)) r (none z i) high z.note.body refl))
-    in
-    ap (λ (l : List Happening). option_and_then (λ h. taken_cycle h.note.body) (last_or None l))
-    (ap (λ (l : List Happening). filter q (hs ++ l)) whole ∙ ap (filter q) (sym (append_assoc hs f rest)) ∙ filter-append q (hs ++ f) rest
-    ∙ ap (λ (l : List Happening). filter q (hs ++ f) ++ l) gone ∙ append-nil (filter q (hs ++ f)))
+  last_still : (f rest : List Happening) (r : ℕ) → coming ≡ f ++ rest
+      → NoneBefore place_of rest (now ∷ r ∷ e.device.0 ∷ e.link.0 ∷ e.cause ∷ [])
+      → (if is_end s.network e.device then 12 else 11) ≤ r → (vl : VlId)
+      → last_taken (hs ++ coming) e.device now e.link e.cause vl ≡ last_taken (hs ++ f) e.device now e.link e.cause vl
+  last_still f rest r whole none high vl =
+      let q = λ (h : Happening). is_taken_before e.device vl now e.link e.cause (time_of h) h.note.body in
+      let gone : filter q rest ≡ [] =
+      filter_none q rest (λ z i. not_by e.device vl now e.link e.cause (time_of z) z.note.body
+      (apart a z (subst (λ l. IsIn z l) (sym whole) (in_right z f rest i)) r (none z i) high
+      z.note.body refl))
+      in
+      ap (λ (l : List Happening). option_and_then (λ h. taken_cycle h.note.body) (last_or None l))
+      (ap (λ (l : List Happening). filter q (hs ++ l)) whole ∙ ap (filter q) (sym (append_assoc hs f rest))
+      ∙ filter-append q (hs ++ f) rest
+      ∙ ap (λ (l : List Happening). filter q (hs ++ f) ++ l) gone ∙ append-nil (filter q (hs ++ f)))
 
-pub heard_as_all : (s : Scenario) (hs coming : List Happening) (mark cursor : List ℕ) (now : ℕ) (e : OnWire) → IsAfterGiven s hs coming mark cursor now e
-    → IsHeardAs s hs coming now e (arrival_of s (hs ++ coming) e.device now e.link e.cause e.signal)
-heard_as_all s hs coming mark cursor now e a f rest r whole none high = by e.signal high
-  where
-    late_all : (z : Happening) → IsIn z coming → now ≤ time_of z
-    late_all z i = let at = a.moving.are.of_now z i in omega (arith, at)
+  pub heard_as_all : IsHeardAs s hs coming now e (arrival_of s (hs ++ coming) e.device now e.link e.cause e.signal)
+  heard_as_all f rest r whole none high = by e.signal high
+    where
+      late_all : (z : Happening) → IsIn z coming → now ≤ time_of z
+      late_all z i = let at = a.moving.are.of_now z i in omega (arith, at)
 
-    late : (z : Happening) → IsIn z f → now ≤ time_of z
-    late z i = late_all z (subst (λ (l : List Happening). IsIn z l) (sym whole) (in_left z f rest i))
+      late : (z : Happening) → IsIn z f → now ≤ time_of z
+      late z i = late_all z (subst (λ l. IsIn z l) (sym whole) (in_left z f rest i))
 
-    by : (signal : Signal) → least_rank s.network e.device signal ≤ r
-        → arrival_of s (hs ++ coming) e.device now e.link e.cause signal ≡ arrival_of s (hs ++ f) e.device now e.link e.cause signal
-    by (control frame) high =
-        control_still s hs coming e.device now e.link e.cause frame late_all ∙ sym (control_still s hs f e.device now e.link e.cause frame late)
-    by (timed octets) high =
-        ap (λ (p : Standpoint). timed_arrival s.network e.device e.link p octets (last_taken (hs ++ coming) e.device now e.link e.cause))
-        (standpoint_still s hs coming e.device now late_all ∙ sym (standpoint_still s hs f e.device now late))
-        ∙ timed_by s e.device e.link (standpoint s (hs ++ f) e.device now) octets (last_taken (hs ++ coming) e.device now e.link e.cause)
-        (last_taken (hs ++ f) e.device now e.link e.cause)
-        (last_still s hs coming mark cursor now e a f rest r whole none high)
+      by : (signal : Signal) → least_rank s.network e.device signal ≤ r
+          → arrival_of s (hs ++ coming) e.device now e.link e.cause signal ≡ arrival_of s (hs ++ f) e.device now
+          e.link e.cause signal
+      by (control frame) high =
+          control_still s hs coming e.device now e.link e.cause frame late_all ∙ sym
+          (control_still s hs f e.device now e.link e.cause frame late)
+      by (timed octets) high =
+          ap (λ p. timed_arrival s.network e.device e.link p octets
+          (last_taken (hs ++ coming) e.device now e.link e.cause))
+          (standpoint_still s hs coming e.device now late_all ∙ sym (standpoint_still s hs f e.device now late))
+          ∙ timed_by s e.device e.link (standpoint s (hs ++ f) e.device now) octets
+          (last_taken (hs ++ coming) e.device now e.link e.cause)
+          (last_taken (hs ++ f) e.device now e.link e.cause)
+          (last_still f rest r whole none high)

@@ -45,72 +45,76 @@ was_deed network device node moment vl cycle (dispatching row number) own =
       ]
     ]
 
-was_undone : (network : Network) (device : DeviceId) (node : Node) (moment : Moment) (vl : VlId) (cycle : ℕ) (deed : ClockTask)
-    → IsUndone network device (took moment vl cycle node) deed → IsUndone network device node deed ⊎ (moment.reading.0 <ℤ reading_for network node (doing deed))
-was_undone network device node moment vl cycle deed u = grind (arith, was_deed)
+module _ (network : Network) (device : DeviceId) (node : Node) (moment : Moment) (vl : VlId) (cycle : ℕ) where
+  was_undone : {deed : ClockTask} → IsUndone network device (took moment vl cycle node) deed
+      → IsUndone network device node deed ⊎ (moment.reading.0 <ℤ reading_for network node (doing deed))
+  was_undone u = grind (arith, was_deed)
 
-was_waiting : (network : Network) (device : DeviceId) (node : Node) (moment : Moment) (vl : VlId) (cycle : ℕ) (sent : _)
-    → IsWaiting network device (took moment vl cycle node) sent → IsWaiting network device node sent
-was_waiting network device node moment vl cycle sent w =
-    record { cm = w.cm; clusters = w.clusters; are = w.are; cluster = w.cluster; there = w.there; is = w.is; not_yet = w.not_yet }
+  was_waiting : {sent : _} → IsWaiting network device (took moment vl cycle node) sent
+      → IsWaiting network device node sent
+  was_waiting w =
+      record { cm = w.cm; clusters = w.clusters; are = w.are; cluster = w.cluster; there = w.there; is = w.is; not_yet = w.not_yet }
 
-was_pending : (network : Network) (device : DeviceId) (node : Node) (moment : Moment) (vl : VlId) (cycle : ℕ) (task : Task)
-    → IsPending network device (took moment vl cycle node) task → IsPending network device node task ⊎ (moment.reading.0 <ℤ reading_for network node task)
-was_pending network device node moment vl cycle (emitting sent) p = inl (p.0, was_waiting network device node moment vl cycle sent p.1)
-was_pending network device node moment vl cycle (doing deed) p =
-    elim (was_undone network device node moment vl cycle deed p.1) [ inl old ↦ inl (p.0, old) | inr later ↦ inr later ]
+  was_pending : (task : Task) → IsPending network device (took moment vl cycle node) task
+      → IsPending network device node task ⊎ (moment.reading.0 <ℤ reading_for network node task)
+  was_pending (emitting sent) p = inl (p.0, was_waiting p.1)
+  was_pending (doing deed) p =
+      elim (was_undone p.1) [ inl old ↦ inl (p.0, old) | inr later ↦ inr later ]
 
 same_reading : (network : Network) (node : Node) (moment : Moment) (vl : VlId) (cycle : ℕ) (task : Task)
     → reading_for network (took moment vl cycle node) task ≡ reading_for network node task
 same_reading network node moment vl cycle (emitting sent) = refl
 same_reading network node moment vl cycle (doing deed) = refl
 
--- it is ready at the instant
-pub ready_took : (s : Scenario) (now : ℕ) (device : DeviceId) (node : Node) (vl : VlId) (cycle : ℕ) → IsSteady (s.reading device) (amount s.network.precision)
-    → pos 0 ≤ℤ s.network.precision.0 → IsReadyAt (s.reading device) s.network device node now
-    → IsReadyAt (s.reading device) s.network device (took (moment_of s device now) vl cycle node) now
-ready_took s now device node vl cycle steady precise ready =
-    let m = moment_of s device now in
-    record {
-      time = omega (arith, ints);
-      begun = omega (arith, ints);
-      last = refl;
-      undone = λ task p x lt.
-          subst (λ (z : ℤ). pos (s.reading device x) <ℤ z) (sym (same_reading s.network node m vl cycle task))
-          (elim (was_pending s.network device node m vl cycle task p) [
-            | inl old ↦ ready.undone task old x lt
-            | inr later ↦ let fell = steady.never_falls x now (omega (arith, lt)) in omega (arith, ints, later, fell)
-          ]);
-      in_time = λ task p.
-          subst (λ (z : ℤ). pos (s.reading device now) <ℤ (z +ℤ s.network.precision.0)) (sym (same_reading s.network node m vl cycle task))
-          (elim (was_pending s.network device node m vl cycle task p) [
-            | inl old ↦ ready.in_time task old
-            | inr later ↦ omega (arith, ints, later, precise)
-          ]);
-    }
+module _ (s : Scenario) (now : ℕ) (device : DeviceId) (node : Node) (vl : VlId) (cycle : ℕ) where
+  -- it is ready at the instant
+  pub ready_took : IsSteady (s.reading device) (amount s.network.precision) → pos 0 ≤ℤ s.network.precision.0
+      → IsReadyAt (s.reading device) s.network device node now
+      → IsReadyAt (s.reading device) s.network device (took (moment_of s device now) vl cycle node) now
+  ready_took steady precise ready =
+      let m = moment_of s device now in
+      record {
+        time = omega (arith, ints);
+        begun = omega (arith, ints);
+        last = refl;
+        undone = λ task p x lt.
+            subst (λ z. pos (s.reading device x) <ℤ z) (sym (same_reading s.network node m vl cycle task))
+            (elim (was_pending s.network device node m vl cycle task p) [
+              | inl old ↦ ready.undone task old x lt
+              | inr later ↦ let fell = steady.never_falls x now (omega (arith, lt)) in omega (arith, ints, later, fell)
+            ]);
+        in_time = λ task p.
+            subst (λ z. pos (s.reading device now) <ℤ (z +ℤ s.network.precision.0))
+            (sym (same_reading s.network node m vl cycle task))
+            (elim (was_pending s.network device node m vl cycle task p) [
+              | inl old ↦ ready.in_time task old
+              | inr later ↦ omega (arith, ints, later, precise)
+            ]);
+      }
 
--- it has done what it had
-pub done_took : (s : Scenario) (now : ℕ) (device : DeviceId) (node : Node) (vl : VlId) (cycle changed high : ℕ)
-    → IsSteady (s.reading device) (amount s.network.precision) → HasDoneFrom s.network (s.reading device) device node changed now high
-    → HasDoneFrom s.network (s.reading device) device (took (moment_of s device now) vl cycle node) changed now high
-done_took s now device node vl cycle changed high steady has = record {
-  undone = λ deed u x from lt.
-      elim (was_undone s.network device node (moment_of s device now) vl cycle deed u) [
-        | inl old ↦ has.undone deed old x from lt
-        | inr later ↦ let fell = steady.never_falls x now (omega (arith, lt)) in omega (arith, ints, later, fell)
-      ];
-  done = has.done;
-}
+  -- it has done what it had
+  pub done_took : {changed high : ℕ} → IsSteady (s.reading device) (amount s.network.precision)
+      → HasDoneFrom s.network (s.reading device) device node changed now high
+      → HasDoneFrom s.network (s.reading device) device (took (moment_of s device now) vl cycle node) changed now high
+  done_took steady has = record {
+    undone = λ deed u x from lt.
+        elim (was_undone s.network device node (moment_of s device now) vl cycle u) [
+          | inl old ↦ has.undone deed old x from lt
+          | inr later ↦ let fell = steady.never_falls x now (omega (arith, lt)) in omega (arith, ints, later, fell)
+        ];
+    done = has.done;
+  }
 
--- and sent
-pub sent_took : (s : Scenario) (now : ℕ) (device : DeviceId) (node : Node) (vl : VlId) (cycle low high : ℕ) → HasSentFrom s device node low high
-    → HasSentFrom s device (took (moment_of s device now) vl cycle node) low high
-sent_took s now device node vl cycle low high has = record {
-  unsent = λ sent w x lt. has.unsent sent (was_waiting s.network device node (moment_of s device now) vl cycle sent w) x lt;
-  sent = has.sent;
-}
+  -- and sent
+  pub sent_took : {low high : ℕ} → HasSentFrom s device node low high
+      → HasSentFrom s device (took (moment_of s device now) vl cycle node) low high
+  sent_took has = record {
+    unsent = λ sent w x lt. has.unsent sent (was_waiting s.network device node (moment_of s device now) vl cycle w) x
+        lt;
+    sent = has.sent;
+  }
 
 -- the records leave it so
-pub left_took : (s : Scenario) (hs : List Happening) (device : DeviceId) (t : ℕ) (node : Node) (moment : Moment) (vl : VlId) (cycle : ℕ)
-    → IsLeft s hs device t node → IsLeft s hs device t (took moment vl cycle node)
-left_took s hs device t node moment vl cycle left = grind arith
+pub left_took : {s : Scenario} {hs : List Happening} {device : DeviceId} {t : ℕ} {node : Node} (moment : Moment)
+    (vl : VlId) (cycle : ℕ) → IsLeft s hs device t node → IsLeft s hs device t (took moment vl cycle node)
+left_took moment vl cycle left = grind arith

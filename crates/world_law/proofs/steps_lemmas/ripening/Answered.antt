@@ -35,15 +35,16 @@ both_flags false false e = (refl, refl)
 both_flags false true e = absurd cc
 both_flags true b e = absurd cc
 
-pub hears_now : {M : Type 0} (stands : M → Network → DeviceId → Node → Type 0) (s : Scenario) (hs coming : List Happening) (mark cursor : List ℕ) (now : ℕ)
-    (e : Waiting) (machine : M)
-    (r : IsRipe s hs coming mark cursor now e) (k : IsKept stands s hs coming cursor now e.device machine) → Hears s hs e.device now k.node
-hears_now stands s hs coming mark cursor now e machine r k =
-    let yet = is_yet stands s hs coming mark cursor now e machine r k in
+pub hears_now : {M : Type 0} {stands : M → Network → DeviceId → Node → Type 0} {s : Scenario}
+    {hs coming : List Happening} {mark cursor : List ℕ} {now : ℕ} {e : Waiting} {machine : M}
+    (r : IsRipe s hs coming mark cursor now e) (k : IsKept stands s hs coming cursor now e.device machine)
+    → Hears s hs e.device now k.node
+hears_now {stands} {s} {hs} {coming} {e} {machine} r k =
+    let yet = is_yet stands machine r k in
     elim yet.stands [
-      | inl here ↦ hears_before s hs coming mark cursor now e k.node r (subst (λ (t : ℕ). IsLeft s (hs ++ coming) e.device t k.node) here.0 k.left)
+      | inl here ↦ hears_before r (subst (λ t. IsLeft s (hs ++ coming) e.device t k.node) here.0 k.left)
           (k.still here.0)
-      | inr over ↦ hears_told s hs coming mark cursor now e k.node over.1 (subst (λ (t : ℕ). IsLeft s (hs ++ coming) e.device t k.node) over.0 k.left)
+      | inr over ↦ hears_told over.1 (subst (λ t. IsLeft s (hs ++ coming) e.device t k.node) over.0 k.left)
     ]
 
 -- what the machine is asked may be asked
@@ -53,59 +54,67 @@ pub record IsAsked (s : Scenario) (hs : List Happening) (now : ℕ) (e : Waiting
   pub hearing : IsHearing s.network e.device node
   pub ripens : MayRipen s.network e.device node (moment_of s e.device now) e.link e.frame e.point
 
-pub may_be_asked : {M : Type 0} (stands : M → Network → DeviceId → Node → Type 0) (s : Scenario) (hs coming : List Happening) (mark cursor : List ℕ) (now : ℕ)
-    (e : Waiting)
-    (machine : M) (r : IsRipe s hs coming mark cursor now e) (k : IsKept stands s hs coming cursor now e.device machine)
-    → (IsParentOf s.network e.device e.link → IsOfMaster s.network e.device e.link e.frame.members) → IsAsked s hs now e k.node
-may_be_asked stands s hs coming mark cursor now e machine r k master =
-    let device = e.device in
-    let yet = is_yet stands s hs coming mark cursor now e machine r k in
-    let hears = hears_now stands s hs coming mark cursor now e machine r k in
-    let c = come_of s hs e r.it r.run.founded in
-    let sound = sound_of s hs e r.it c in
-    let arrival = r.it.arrival in
-    let t0 = time_of arrival in
-    let flags = both_flags (is_off (state_before s c.front device t0)) (is_broken s device t0) sound.takes_part in
-    let at = link_of s.network device e.link c.so.arrives.way (received s.network device e.link c.so.arrives.way c.so.arrives.receiver) in
-    let le = r.past arrival (Rattle.run_law.proofs.law.FirstPlaces.numbered_in hs e.cause arrival r.it.there) in
-    let inside : (h : Happening) → IsIn h c.front → IsIn h hs = λ h i. subst (λ (l : List Happening). IsIn h l) (sym c.whole)
-    (in_left h c.front (arrival ∷ c.rest) i) in
-    let on = still_on s mark hs c.front now t0 device r.run r.of_now r.befallen le inside flags.0 flags.1 in
-    let late = all_late s hs coming mark cursor now (ripe_more e) r.moving r.run.within in
-    let broken : k.node.broken ≡ false = k.left.counted.broken ∙ elim yet.stands [
-      | inl here ↦ ap (is_broken s device) here.0 ∙ k.sound
-      | inr over ↦ ap (is_broken s device) over.0 ∙ no_later_breaks s mark now (now + 1) device r.befallen (omega arith) ∙ k.sound
-    ] in
-    let hearing : IsHearing s.network device k.node = record {
-      linked = (e.link, at);
-      on = ap is_off hears.state ∙ joined_or (has_joined_at hs device now) (state_before s hs device now) on;
-      sound = broken;
-    } in
-    let call = may_call stands s hs coming cursor now device machine ripening (ripe_more e) k r.steady r.limit r.moving.waits in
-    let points : (p : Point) → IsIn p k.node.points → p.reading ≤ℤ e.point.0 = λ p i. elim (cases_Bool (is_cm s.network device)) [
-      | inl cm ↦ points_no_later s hs coming mark cursor now e r late p (subst (λ (l : List Point). IsIn p l) (k.left.points cm) i)
-      | inr other ↦ absurd (subst (λ (l : List Point). IsIn p l) (k.bare other).0 i)
-    ] in
-    let emitted : (x : Compressed) → Contains k.node.emitted x → x.at.0 ≤ℤ e.point.0 = λ x there. elim (cases_Bool (is_cm s.network device)) [
-      | inl cm ↦ elim yet.stands [
-        | inl here ↦ emitted_no_later s hs coming mark cursor now k.up e k.node r
-            (subst (λ (n : ℕ). HasSentFrom s device k.node k.up n) here.0 (rests_yet stands s hs coming mark cursor now e machine r k).sent) x there
-        | inr over ↦ absurd (both_ways (is_cm s.network device) over.1.just.other cm)
-      ]
-      | inr other ↦ absurd (Rattle.compression.proofs.Elements.in_none x (subst (λ (l : List Compressed). Contains l x) (k.bare other).1 there))
-    ] in
-    record { hears = hears; call = call; hearing = hearing; ripens = may_ripen s hs coming mark cursor now e k.node r k.ready master points emitted }
+module _ {M : Type 0} (stands : M → Network → DeviceId → Node → Type 0) (s : Scenario) (hs coming : List Happening)
+    (mark cursor : List ℕ) (now : ℕ) (e : Waiting) (machine : M) where
+  pub may_be_asked : (r : IsRipe s hs coming mark cursor now e)
+      (k : IsKept stands s hs coming cursor now e.device machine)
+      → (IsParentOf s.network e.device e.link → IsOfMaster s.network e.device e.link e.frame.members)
+      → IsAsked s hs now e k.node
+  may_be_asked r k master =
+      let device = e.device in
+      let yet = is_yet stands machine r k in
+      let hears = hears_now r k in
+      let c = come_of s hs e r.it r.run.founded in
+      let sound = sound_of r.it c in
+      let arrival = r.it.arrival in
+      let t0 = time_of arrival in
+      let flags = both_flags (is_off (state_before s c.front device t0)) (is_broken s device t0) sound.takes_part in
+      let at = link_of s.network device e.link c.so.arrives.way
+      (received s.network device e.link c.so.arrives.way c.so.arrives.receiver) in
+      let le = r.past arrival (Rattle.run_law.proofs.law.FirstPlaces.numbered_in hs e.cause arrival r.it.there) in
+      let inside : (h : Happening) → IsIn h c.front → IsIn h hs =
+      λ h i. subst (λ l. IsIn h l) (sym c.whole)
+      (in_left h c.front (arrival ∷ c.rest) i) in
+      let on = still_on c.front t0 device r.run r.of_now r.befallen le inside flags.0 flags.1 in
+      let late = all_late r.moving r.run.within in
+      let broken : k.node.broken ≡ false = k.left.counted.broken ∙ elim yet.stands [
+        | inl here ↦ ap (is_broken s device) here.0 ∙ k.sound
+        | inr over ↦ ap (is_broken s device) over.0 ∙ no_later_breaks s mark now (now + 1) device r.befallen
+            (omega arith) ∙ k.sound
+      ] in
+      let hearing : IsHearing s.network device k.node = record {
+        linked = (e.link, at);
+        on = ap is_off hears.state ∙ joined_or (has_joined_at hs device now) (state_before s hs device now) on;
+        sound = broken;
+      } in
+      let call = may_call ripening (ripe_more e) k r.steady r.limit r.moving.waits in
+      let points : (p : Point) → IsIn p k.node.points → p.reading ≤ℤ e.point.0 =
+      λ p i. elim (cases_Bool (is_cm s.network device)) [
+        | inl cm ↦ points_no_later s hs coming mark cursor now r late p
+            (subst (λ l. IsIn p l) (k.left.points cm) i)
+        | inr other ↦ absurd (subst (λ l. IsIn p l) (k.bare other).0 i)
+      ] in
+      let emitted : (x : Compressed) → Contains k.node.emitted x → x.at.0 ≤ℤ e.point.0 =
+      λ x there. elim (cases_Bool (is_cm s.network device)) [
+        | inl cm ↦ elim yet.stands [
+          | inl here ↦ emitted_no_later s hs coming mark cursor now r
+              (subst (λ n. HasSentFrom s device k.node k.up n) here.0 (rests_yet stands machine r k).sent) x there
+          | inr over ↦ absurd (both_ways (is_cm s.network device) over.1.just.other cm)
+        ]
+        | inr other ↦ absurd (Rattle.compression.proofs.Elements.in_none x
+            (subst (λ (l : List Compressed). Contains l x) (k.bare other).1 there))
+      ] in
+      record { hears = hears; call = call; hearing = hearing; ripens = may_ripen s hs coming mark cursor now r k.ready master points emitted }
 
-pub answered : {M : Type 0} (stands : M → Network → DeviceId → Node → Type 0) (s : Scenario) (hs coming : List Happening) (mark cursor : List ℕ) (now : ℕ)
-    (e : Waiting)
-    (machine after : M) (result : Ripe) (r : IsRipe s hs coming mark cursor now e) (k : IsKept stands s hs coming cursor now e.device machine)
-    → (IsParentOf s.network e.device e.link → IsOfMaster s.network e.device e.link e.frame.members)
-    → HasRipened stands s.network e.device (moment_of s e.device now) e.link e.frame e.point result machine after
-    → IsAnswered stands s hs now e k.node after result
-answered stands s hs coming mark cursor now e machine after result r k master has =
-    let asked = may_be_asked stands s hs coming mark cursor now e machine r k master in
-    let it = has k.node k.is asked.call asked.hearing asked.ripens in
-    record { hears = asked.hears; outcome = it.0; is = it.1 }
+  pub answered : (after : M) (result : Ripe) (r : IsRipe s hs coming mark cursor now e)
+      (k : IsKept stands s hs coming cursor now e.device machine)
+      → (IsParentOf s.network e.device e.link → IsOfMaster s.network e.device e.link e.frame.members)
+      → HasRipened stands s.network e.device (moment_of s e.device now) e.link e.frame e.point result machine after
+      → IsAnswered stands s hs now e k.node after result
+  answered after result r k master has =
+      let asked = may_be_asked r k master in
+      let it = has k.node k.is asked.call asked.hearing asked.ripens in
+      record { hears = asked.hears; outcome = it.0; is = it.1 }
 
 -- ---- places of what is to come
 
@@ -118,43 +127,45 @@ pub placed_high : (now : ℕ) (front back : List Happening) (w : Happening)
     → (z : Happening) → IsIn z (front ++ w ∷ back) → (z ≡ w) ⊎ ((time_of z ≡ now) × (4 ≤ rank z.note.body))
 placed_high now front back w high z i = elim (placed_back [] front back w z i) [ inl same ↦ inl same | inr was ↦ inr (high z was) ]
 
-pub high_now : (s : Scenario) (hs coming : List Happening) (mark cursor : List ℕ) (now : ℕ) (e : Waiting) → IsRipe s hs coming mark cursor now e
-    → (z : Happening) → IsIn z coming → (time_of z ≡ now) × (4 ≤ rank z.note.body)
-high_now s hs coming mark cursor now e r z i = (r.moving.are.of_now z i, all_high s hs coming mark cursor now e r z i)
+pub high_now : {s : Scenario} {hs coming : List Happening} {mark cursor : List ℕ} {now : ℕ} {e : Waiting}
+    → IsRipe s hs coming mark cursor now e → (z : Happening) → IsIn z coming
+    → (time_of z ≡ now) × (4 ≤ rank z.note.body)
+high_now {s} {hs} {coming} {mark} {cursor} {now} r z i =
+    (r.moving.are.of_now z i, all_high s hs coming mark cursor now r z i)
 
 -- ---- the frame is collected, or heard
 
-pub quiet_kept : {M : Type 0} (stands : M → Network → DeviceId → Node → Type 0) (s : Scenario) (hs front back : List Happening) (mark cursor : List ℕ) (now : ℕ)
-    (e : Waiting)
-    (machine after : M) (w : Happening) (verdict : Judgement) (r : IsRipe s hs (front ++ back) mark cursor now e)
+pub quiet_kept : {M : Type 0} {stands : M → Network → DeviceId → Node → Type 0} {s : Scenario} {hs : List Happening}
+    (front back : List Happening) {mark cursor : List ℕ} {now : ℕ} {e : Waiting} {machine after : M} (w : Happening)
+    (verdict : Judgement) (r : IsRipe s hs (front ++ back) mark cursor now e)
     (k : IsKept stands s hs (front ++ back) cursor now e.device machine)
     → IsAnswered stands s hs now e k.node after (ripe_as verdict) → IsByRole (is_cm s.network e.device) verdict
-    → w.note.body ≡ kinds.Permanent e.device e.link e.cause e.point verdict → w.frame ≡ Some e.frame → time_of w ≡ now
-    → place_of w ≡ now ∷ 3 ∷ ripe_more e → AllBefore place_of front (place_of w)
+    → w.note.body ≡ kinds.Permanent e.device e.link e.cause e.point verdict → w.frame ≡ Some e.frame
+    → time_of w ≡ now → place_of w ≡ now ∷ 3 ∷ ripe_more e → AllBefore place_of front (place_of w)
     → IsKept stands s hs (front ++ w ∷ back) (behind (now ∷ 3 ∷ ripe_more e)) now e.device after
-quiet_kept stands s hs [] back mark cursor now e machine after w verdict r k a role body of_frame at place before =
-    kept_next stands s hs back (w ∷ back) mark cursor now e machine after
+quiet_kept {s} {hs} [] back {mark} {cursor} {now} {e} {after} w verdict r k a role body of_frame at place before =
+    kept_next after
     (after_permanence k.node (moment_of s e.device now) (channel_of_link s.network e.link) e.frame e.point (ripe_as verdict)) r k a.is
     (carried_by_role s hs back mark cursor now e k.node verdict r role (λ cm q i.
-    points_no_later s hs back mark cursor now e r (all_late s hs back mark cursor now (ripe_more e) r.moving r.run.within) q
-    (subst (λ (l : List Point). IsIn q l) (k.left.points cm) i)))
-    (next_by_role stands s hs back mark cursor now e machine w verdict r k a.hears role body of_frame at)
-quiet_kept stands s hs (f ∷ front) back mark cursor now e machine after w verdict r k a role body of_frame at place before =
-    absurd (r.moving.after f (inl refl) (subst (λ (q : List ℕ). IsBefore (place_of f) q) place (before f (inl refl))))
+    points_no_later s hs back mark cursor now r (all_late r.moving r.run.within) q
+    (subst (λ l. IsIn q l) (k.left.points cm) i)))
+    (next_by_role w verdict r k a.hears role body of_frame at)
+quiet_kept (f ∷ front) back w verdict r k a role body of_frame at place before =
+    absurd (r.moving.after f (inl refl) (subst (λ q. IsBefore (place_of f) q) place (before f (inl refl))))
 
 -- ---- it is dropped
 
-pub dropped_kept : {M : Type 0} (stands : M → Network → DeviceId → Node → Type 0) (s : Scenario) (hs front back : List Happening) (mark cursor : List ℕ)
-    (now : ℕ) (e : Waiting)
-    (machine after : M) (w : Happening) (reason : Reason) (r : IsRipe s hs (front ++ back) mark cursor now e)
+pub dropped_kept : {M : Type 0} {stands : M → Network → DeviceId → Node → Type 0} {s : Scenario}
+    {hs : List Happening} (front back : List Happening) {mark cursor : List ℕ} {now : ℕ} {e : Waiting}
+    {machine after : M} (w : Happening) (reason : Reason) (r : IsRipe s hs (front ++ back) mark cursor now e)
     (k : IsKept stands s hs (front ++ back) cursor now e.device machine)
-    → IsAnswered stands s hs now e k.node after (ripe.Dropped reason) → Rattle.world_law.specs.device.Own.bears_on e.device w.note.body ≡ false
-    → IsNoTaking e.device w.note.body
+    → IsAnswered stands s hs now e k.node after (ripe.Dropped reason)
+    → Rattle.world_law.specs.device.Own.bears_on e.device w.note.body ≡ false → IsNoTaking e.device w.note.body
     → IsKept stands s hs (front ++ w ∷ back) (behind (now ∷ 3 ∷ ripe_more e)) now e.device after
-dropped_kept stands s hs front back mark cursor now e machine after w reason r k a misses none =
-    kept_next stands s hs (front ++ back) (front ++ w ∷ back) mark cursor now e machine after k.node r k a.is (carried_called s e k.node now)
-    (next_aside s hs front back now k.up e.device w (called (moment_of s e.device now) ripening k.node) misses none
-    (left_called s (hs ++ (front ++ back)) e.device k.up k.node (moment_of s e.device now) ripening k.left))
+dropped_kept {s} {hs} front back {now} {e} {after} w reason r k a misses none =
+    kept_next after k.node r k a.is (carried_called s e k.node now)
+    (next_aside hs front back now w misses none
+    (left_called (moment_of s e.device now) ripening k.left))
 
 -- ---- it tells the time
 
@@ -166,26 +177,27 @@ stirs_state device (kinds.Compressed other opened at cycle members verdict) late
 stirs_state device (kinds.Corrected other cycle by adjustment) late e = absurd late
 stirs_state device other late e = absurd cc
 
-pub joined_kept : {M : Type 0} (stands : M → Network → DeviceId → Node → Type 0) (s : Scenario) (hs back f2 back2 : List Happening)
-    (mark cursor : List ℕ) (now : ℕ) (e : Waiting) (machine after : M) (w v : Happening) (r : IsRipe s hs back mark cursor now e)
-    (k : IsKept stands s hs back cursor now e.device machine) → IsAnswered stands s hs now e k.node after ripe.Integrates
-    → pos 0 ≤ℤ s.network.precision.0 → w.note.body ≡ kinds.Permanent e.device e.link e.cause e.point judgements.Integrates
-    → w.frame ≡ Some e.frame → time_of w ≡ now → back ≡ f2 ++ back2
-    → v.note.body ≡ kinds.State e.device Joining (length hs + 1) whys.Frame → time_of v ≡ now
-    → NoneBefore place_of back2 (place_of v)
+pub joined_kept : {M : Type 0} {stands : M → Network → DeviceId → Node → Type 0} {s : Scenario}
+    {hs back : List Happening} (f2 back2 : List Happening) {mark cursor : List ℕ} {now : ℕ} {e : Waiting}
+    {machine after : M} (w v : Happening) (r : IsRipe s hs back mark cursor now e)
+    (k : IsKept stands s hs back cursor now e.device machine)
+    → IsAnswered stands s hs now e k.node after ripe.Integrates → pos 0 ≤ℤ s.network.precision.0
+    → w.note.body ≡ kinds.Permanent e.device e.link e.cause e.point judgements.Integrates → w.frame ≡ Some e.frame
+    → time_of w ≡ now → back ≡ f2 ++ back2 → v.note.body ≡ kinds.State e.device Joining (length hs + 1) whys.Frame
+    → time_of v ≡ now → NoneBefore place_of back2 (place_of v)
     → IsKept stands s hs ((w ∷ f2) ++ v ∷ back2) (behind (now ∷ 3 ∷ ripe_more e)) now e.device after
-joined_kept stands s hs back f2 back2 mark cursor now e machine after w v r k a precise body of_frame at parts v_body v_at none =
+joined_kept {s} {hs} {back} f2 back2 {now} {e} {after} w v r k a precise body of_frame at parts v_body v_at none =
     let device = e.device in
     let n = length hs + 1 in
     let zs = f2 ++ v ∷ back2 in
-    let late = all_late s hs back mark cursor now (ripe_more e) r.moving r.run.within in
+    let late = all_late r.moving r.run.within in
     let kind = outcome_kind s.network device k.node.standing.state k.node.standing.adjustment.0 k.node.points e.frame e.point.0
     ripe.Integrates a.outcome in
     let other : is_cm s.network device ≡ false = elim (cases_Bool (is_cm s.network device)) [
       | inr no_cm ↦ no_cm
-      | inl cm ↦ absurd (subst (λ (b : Bool). IsKindOf b ripe.Integrates) cm kind)
+      | inl cm ↦ absurd (subst (λ b. IsKindOf b ripe.Integrates) cm kind)
     ] in
-    let was : (z : Happening) → IsIn z (f2 ++ back2) → IsIn z back = λ z i. subst (λ (l : List Happening). IsIn z l) (sym parts) i in
+    let was : (z : Happening) → IsIn z (f2 ++ back2) → IsIn z back = λ z i. subst (λ l. IsIn z l) (sym parts) i in
     let of : (z : Happening) → IsIn z zs → (time_of z ≡ now) × IsMere device z.note.body = λ z i. elim (placed_back [] f2 back2 v z i) [
       | inl same ↦ (
         ap time_of same ∙ v_at,
@@ -212,15 +224,15 @@ joined_kept stands s hs back f2 back2 mark cursor now e machine after w v r k a 
           inr (refl, inr (refl, inr (sym same, inl (omega (arith, few))))) in
           let h_at : place_of h ≡ now ∷ 7 ∷ st.0.device.0 ∷ st.0.cause ∷ [] =
           ap (λ (t : ℕ). t ∷ rank h.note.body ∷ key (members_in h) h.note.body) (r.moving.are.of_now h x)
-          ∙ ap (λ (b : NoteBody). now ∷ rank b ∷ key (members_in h) b) st.0.is in
+          ∙ ap (λ b. now ∷ rank b ∷ key (members_in h) b) st.0.is in
           let v_is : place_of v ≡ now ∷ 7 ∷ device.0 ∷ n ∷ [] =
           ap (λ (t : ℕ). t ∷ rank v.note.body ∷ key (members_in v) v.note.body) v_at
-          ∙ ap (λ (b : NoteBody). now ∷ rank b ∷ key (members_in v) b) v_body in
-          absurd (none h i (subst (λ (q : List ℕ). IsBefore q (place_of v)) (sym h_at)
-          (subst (λ (q : List ℕ). IsBefore (now ∷ 7 ∷ st.0.device.0 ∷ st.0.cause ∷ []) q) (sym v_is) under)))
+          ∙ ap (λ b. now ∷ rank b ∷ key (members_in v) b) v_body in
+          absurd (none h i (subst (λ q. IsBefore q (place_of v)) (sym h_at)
+          (subst (λ q. IsBefore (now ∷ 7 ∷ st.0.device.0 ∷ st.0.cause ∷ []) q) (sym v_is) under)))
     ] in
     let joining : state_after s (hs ++ w ∷ zs) device ≡ Joining =
-    ap (λ (l : List Happening). state_after s l device) (sym (append_assoc hs (w ∷ f2) (v ∷ back2)))
+    ap (λ l. state_after s l device) (sym (append_assoc hs (w ∷ f2) (v ∷ back2)))
     ∙ ends_in device _ Joining (hs ++ w ∷ f2) back2 v sets rests in
     let j : IsJoin s hs zs device now w e.link e.cause e.point e.frame = record {
       body = body;
@@ -240,16 +252,15 @@ joined_kept stands s hs back f2 back2 mark cursor now e machine after w v r k a 
       | inr more ↦ times_back z more
     ] in
     let times_two : (z : Happening) → IsIn z (w ∷ zs) → time_of z ≡ now = λ z i. elim i [ inl same ↦ ap time_of same ∙ at | inr more ↦ (of z more).0 ] in
-    kept_joined stands s hs back zs mark cursor now e machine after w r k a.is other precise (was_looking s hs now e k.node a.hears other a.outcome) j
-    (λ z i. (of z i).0)
+    kept_joined after r k a.is other precise (was_looking e a.hears other a.outcome) j (λ z i. (of z i).0)
     (λ cursor2 it.
     let first : HasTurnedOn s hs (w ∷ back) cursor2 device now =
     turned_aside s hs [] back w device it (ap states (early back times_back ∙ sym (early (w ∷ back) times_one))) in
-    turned_aside s hs (w ∷ f2) back2 v device (subst (λ (l : List Happening). HasTurnedOn s hs l cursor2 device now) whole first)
+    turned_aside s hs (w ∷ f2) back2 v device (subst (λ l. HasTurnedOn s hs l cursor2 device now) whole first)
     (ap states (ap (λ (l : List Happening). earlier now (hs ++ l)) (sym whole) ∙ early (w ∷ back) times_one ∙ sym (early (w ∷ zs) times_two))))
-    (frames_placed s hs [] back w device (λ z. ap (taken_in device z) body) (λ h i. sooner_of s hs back mark cursor now e r w h at i)
+    (frames_placed s hs [] back w device (λ z. ap (taken_in device z) body) (λ h i. sooner_of r w h at i)
     ∙ ap (λ (l : List Happening). frames_taken s (hs ++ l) device) whole
     ∙ frames_placed s hs (w ∷ f2) back2 v device (λ z. ap (taken_in device z) v_body) (λ h i. elim (in_parts h hs ((w ∷ f2) ++ back2) i) [
       | inl given ↦ let past = r.past h given in omega (arith, past, v_at)
-      | inr more ↦ let t = times_one h (subst (λ (l : List Happening). IsIn h l) (sym whole) more) in omega (arith, t, v_at)
+      | inr more ↦ let t = times_one h (subst (λ l. IsIn h l) (sym whole) more) in omega (arith, t, v_at)
     ]))

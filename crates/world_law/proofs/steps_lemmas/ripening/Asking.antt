@@ -18,8 +18,8 @@ pub may_ask : {C M : Type 0} (reading : C → ℕ → ℕ) (stands : M → Netwo
     → ComesFirst reading stands s world notes old (ripe_place world.now e) → MayAsk stands s world notes e
 may_ask reading stands s world notes e old i reached first =
     let hs = happenings s.network notes in
-    let r = ripening_first reading stands s world notes e old i reached first in
-    let within = in_network s hs world.settled old.mark old.cursor world.now e r in
+    let r = ripening_first e i reached first in
+    let within = in_network r in
     let held = old.devices e.device within in
     let it = old.waiting.real e i in
     elim held.2 [

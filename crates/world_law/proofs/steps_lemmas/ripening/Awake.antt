@@ -60,11 +60,11 @@ woken device z (x ∷ l) e = grind (arith, state_with, cases_Bool, is_off, was_o
 
 -- ---- an event that turned the device on has its record, and so has what came of it
 
-pub on_recorded : (s : Scenario) (mark : List ℕ) (hs : List Happening) (now t : ℕ) (device : DeviceId) → IsRun place_of (IsDue s) mark hs
-    → ((p : List ℕ) → IsBefore p (now ∷ []) → IsBefore p mark)
+pub on_recorded : {s : Scenario} {mark : List ℕ} {hs : List Happening} {now : ℕ} (t : ℕ) (device : DeviceId)
+    → IsRun place_of (IsDue s) mark hs → ((p : List ℕ) → IsBefore p (now ∷ []) → IsBefore p mark)
     → HaveBefallen s mark now → t < now → is_turned_on_at s device t ≡ true → is_broken s device t ≡ false
     → (h : Happening) × IsIn h hs × (time_of h ≡ t) × (stirs device h.note.body ≡ true)
-on_recorded s mark hs now t device run past befallen lt on sound =
+on_recorded {s} {mark} {hs} t device run past befallen lt on sound =
     let it = any_in (λ e. turns_on device e.what && amount e.time == t) s.events on in
     let e = it.0 in
     let parts = and_parts (turns_on device e.what) (amount e.time == t) it.2 in
@@ -82,7 +82,7 @@ on_recorded s mark hs now t device run past befallen lt on sound =
     let state_note : Note = record { number = length at_state.front + 1; time = e.time; body = kinds.State device Integrating number whys.On } in
     let state = happening s.network at_state.front state_note in
     let founded : IsFounded place_of (IsDue s) at_state.front = front_founded place_of (IsDue s) at_state.front at_state.rest
-    (subst (λ (l : List Happening). IsFounded place_of (IsDue s) l) at_state.whole run.founded) in
+    (subst (λ l. IsFounded place_of (IsDue s) l) at_state.whole run.founded) in
     let in_front : IsIn event at_state.front = in_front_of place_of hs (amount e.time ∷ 7 ∷ device.0 ∷ number ∷ []) at_state event there
     (inr (refl, inl (omega arith))) in
     let state_due : IsDue s at_state.front state = record {
@@ -91,7 +91,7 @@ on_recorded s mark hs now t device run past befallen lt on sound =
       begun = befallen.begun get.0 e get.1;
       cause = (
         refl,
-        subst (λ (n : ℕ). is_broken s device n ≡ false) (sym at) sound,
+        subst (λ n. is_broken s device n ≡ false) (sym at) sound,
         (
           line,
           event,
@@ -108,10 +108,12 @@ on_recorded s mark hs now t device run past befallen lt on sound =
 
 -- ---- so it is on at present
 
-pub still_on : (s : Scenario) (mark : List ℕ) (hs front : List Happening) (now t : ℕ) (device : DeviceId) → IsRun place_of (IsDue s) mark hs
-    → ((p : List ℕ) → IsBefore p (now ∷ []) → IsBefore p mark) → HaveBefallen s mark now → t ≤ now → ((h : Happening) → IsIn h front → IsIn h hs)
-    → is_off (state_before s front device t) ≡ false → is_broken s device t ≡ false → is_off (state_before s hs device now) ≡ false
-still_on s mark hs front now t device run past befallen le inside on sound =
+pub still_on : {s : Scenario} {mark : List ℕ} {hs : List Happening} (front : List Happening) {now : ℕ} (t : ℕ)
+    (device : DeviceId) → IsRun place_of (IsDue s) mark hs → ((p : List ℕ) → IsBefore p (now ∷ []) → IsBefore p mark)
+    → HaveBefallen s mark now → t ≤ now → ((h : Happening) → IsIn h front → IsIn h hs)
+    → is_off (state_before s front device t) ≡ false → is_broken s device t ≡ false
+    → is_off (state_before s hs device now) ≡ false
+still_on {s} {hs} front {now} t device run past befallen le inside on sound =
     let start = Rattle.sync_state.specs.Standing.state_at_start (Rattle.run_law.specs.scenario.Devices.start_of s.network device) in
     let never : (h : Happening) → IsIn h (earlier now hs) → IsNeverOff h.note.body = λ h i.
     let at = Rattle.run_law.proofs.law.FirstPlaces.founded_at s hs h run.founded (from_earlier now hs h i).0 in
@@ -127,9 +129,9 @@ still_on s mark hs front now t device run past befallen le inside on sound =
                   | inl lt ↦ lt
                   | inr ge ↦
                       let same : t ≡ now = omega (arith, ge, le) in
-                      absurd (both_ways (is_turned_on_at s device now) off (subst (λ (n : ℕ). is_turned_on_at s device n ≡ true) same turned))
+                      absurd (both_ways (is_turned_on_at s device now) off (subst (λ n. is_turned_on_at s device n ≡ true) same turned))
                 ] in
-                let it = on_recorded s mark hs now t device run past befallen sooner turned sound in
+                let it = on_recorded t device run past befallen sooner turned sound in
                 let early : time_of it.0 < now = let at = it.2 in omega (arith, at, sooner) in
                 inr (it.0, is_earlier now hs it.0 it.1 early, it.3)
             | inr off_then ↦

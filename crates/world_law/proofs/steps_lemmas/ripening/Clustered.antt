@@ -9,8 +9,8 @@ use Rattle.world_law.proofs.steps_lemmas.Words.{int_lt, ints, length, length-app
 
 -- ---- middles are not before the first point
 
-mean_of_two : (a b m : ℤ) → IsMean a b m → pos 0 ≤ℤ a → pos 0 ≤ℤ b → pos 0 ≤ℤ m
-mean_of_two a b m mean from to = omega (arith, ints, mean.least, mean.most, from, to)
+mean_of_two : {a b m : ℤ} → IsMean a b m → pos 0 ≤ℤ a → pos 0 ≤ℤ b → pos 0 ≤ℤ m
+mean_of_two mean from to = omega (arith, ints, mean.least, mean.most, from, to)
 
 last_two : (a b : ℤ) (xs : List ℤ) → pos 0 ≤ℤ a → pos 0 ≤ℤ b → AllByRecursion (λ x. pos 0 ≤ℤ x) xs → pos 0 ≤ℤ last_but_one a b xs
 last_two a b [] x y all = x
@@ -19,12 +19,13 @@ last_two a b (c ∷ xs) x y all = last_two b c xs y all.0 all.1
 middle_later : (xs : List ℤ) → AllByRecursion (λ x. pos 0 ≤ℤ x) xs → pos 0 ≤ℤ middle_of xs
 middle_later [] all = omega (arith, ints)
 middle_later (a ∷ []) all = all.0
-middle_later (a ∷ b ∷ []) all = mean_of_two a b _ (mean_of-floor a b) all.0 all.1.0
+middle_later (a ∷ b ∷ []) all = mean_of_two (mean_of-floor a b) all.0 all.1.0
 middle_later (a ∷ b ∷ c ∷ []) all = all.1.0
-middle_later (a ∷ b ∷ c ∷ d ∷ []) all = mean_of_two b c _ (mean_of-floor b c) all.1.0 all.1.1.0
-middle_later (a ∷ b ∷ c ∷ d ∷ e ∷ []) all = mean_of_two b d _ (mean_of-floor b d) all.1.0 all.1.1.1.0
+middle_later (a ∷ b ∷ c ∷ d ∷ []) all = mean_of_two (mean_of-floor b c) all.1.0 all.1.1.0
+middle_later (a ∷ b ∷ c ∷ d ∷ e ∷ []) all = mean_of_two (mean_of-floor b d) all.1.0 all.1.1.1.0
 middle_later (a ∷ b ∷ c ∷ d ∷ e ∷ f ∷ more) all =
-    mean_of_two b (last_but_one e f more) _ (mean_of-floor b (last_but_one e f more)) all.1.0 (last_two e f more all.1.1.1.1.0 all.1.1.1.1.1.0 all.1.1.1.1.1.1)
+    mean_of_two (mean_of-floor b (last_but_one e f more)) all.1.0
+    (last_two e f more all.1.1.1.1.0 all.1.1.1.1.1.0 all.1.1.1.1.1.1)
 
 later_by : (from : ℤ) (qs : List Point) → AllByRecursion (λ q. from ≤ℤ q.reading) qs
     → AllByRecursion (λ x. pos 0 ≤ℤ x) (map (λ q. q -ℤ from) (map (λ (q : Point). q.reading) qs))
@@ -114,7 +115,7 @@ old_or_open (suc n) ow (o ∷ ps) (k ∷ ks) (d ∷ ds) p c few some up are also
           let same : d ≡ k = also.0 ∙ cluster_of-beyond ow o (o ∷ ps) p some past ∙ sym are.0 in
           let past_k : k.end <ℤ p.reading = subst (λ (x : Cluster). x.end <ℤ p.reading) (sym are.0) past in
           let rest : AreClusters ow (beyond k.end (ps ++ p ∷ [])) ds = subst (λ (x : Cluster). AreClusters ow (beyond x.end (ps ++ p ∷ [])) ds) same also.1 in
-          let pushed : AreClusters ow (beyond k.end ps ++ p ∷ []) ds = subst (λ (qs : List Point). AreClusters ow qs ds) (beyond-push_out k.end ps p past_k)
+          let pushed : AreClusters ow (beyond k.end ps ++ p ∷ []) ds = subst (λ qs. AreClusters ow qs ds) (beyond-push_out k.end ps p past_k)
           rest in
           let short = length-beyond k.end ps in
           elim (in_cases d c ds there) [
@@ -139,8 +140,9 @@ old_or_open (suc n) ow (o ∷ ps) (k ∷ ks) (d ∷ ds) p c few some up are also
     ]
 
 -- what such a cluster emits comes later than the point by the time to calculate
-pub open_later : (ow calc : ℤ) (p : Point) (c : Cluster) → pos 0 ≤ℤ ow → IsOpen ow p c → (p.reading +ℤ calc) ≤ℤ emission ow calc c
-open_later ow calc p c some it =
+pub open_later : {ow : ℤ} (calc : ℤ) {p : Point} {c : Cluster} → pos 0 ≤ℤ ow → IsOpen ow p c
+    → (p.reading +ℤ calc) ≤ℤ emission ow calc c
+open_later {ow} calc {p} some it =
     let middle = middle_of_cluster ow it.opener it.others some in
     let reaches = it.reaches in
-    subst (λ (x : Cluster). (p.reading +ℤ calc) ≤ℤ emission ow calc x) (sym it.is) (omega (arith, ints, middle, reaches))
+    subst (λ x. (p.reading +ℤ calc) ≤ℤ emission ow calc x) (sym it.is) (omega (arith, ints, middle, reaches))

@@ -43,10 +43,11 @@ filter_one {X} q xs zs w e =
     filter-append q (xs ++ w ∷ []) zs
     ∙ ap (λ (l : List X). l ++ filter q zs) (Rattle.world_law.proofs.lists.Lists.filter_yes q xs w e)
 
-pub heard_grown : (s : Scenario) (hs zs : List Happening) (device : DeviceId) (t : ℕ) (w : Happening) → IsFirst s zs device t w
-    → keep s (hs ++ zs) device t w ≡ true
-    → heard_since s (hs ++ w ∷ zs) device t ≡ heard_since s (hs ++ zs) device t ++ option_to_list (hearing_by s.network device w w.note.body)
-heard_grown s hs zs device t w first kept =
+pub heard_grown : {s : Scenario} (hs : List Happening) {zs : List Happening} {device : DeviceId} {t : ℕ}
+    {w : Happening} → IsFirst s zs device t w → keep s (hs ++ zs) device t w ≡ true
+    → heard_since s (hs ++ w ∷ zs) device t ≡ heard_since s (hs ++ zs) device t
+    ++ option_to_list (hearing_by s.network device w w.note.body)
+heard_grown {s} hs {zs} {device} {t} {w} first kept =
     let f = λ (h : Happening). hearing_by s.network device h h.note.body in
     let p = λ (h : Happening). nat_lt (time_of h) t && changes_adjustment device h.note.body in
     let a = tell_owned s (hs ++ w ∷ zs) (hs ++ zs) device t (own_skip device t hs zs w first.still) in
@@ -60,16 +61,17 @@ heard_grown s hs zs device t w first kept =
     let since : since_at device t (hs ++ w ∷ zs) ≡ (base ++ w ∷ []) ++ zs = grind (arith, after_last, p, append_assoc, after_more, none, changes_at) in
     let was : since_at device t (hs ++ zs) ≡ base ++ zs = after_more p hs zs none in
     ap (filter_map f) (same_kept with_it without (since_at device t (hs ++ w ∷ zs)) (λ h i. same h))
-    ∙ ap (λ (l : List Happening). filter_map f (filter without l)) since
+    ∙ ap (λ l. filter_map f (filter without l)) since
     ∙ ap (filter_map f) (filter_one without base zs w kept)
     ∙ maps_rest f (filter without base ++ w ∷ []) (filter without zs) silent
     ∙ maps_one f (filter without base) w
     ∙ ap (λ (l : List Hearing). l ++ option_to_list (f w)) (sym (maps_rest f (filter without base) (filter without zs) silent)
-    ∙ ap (filter_map f) (sym (filter-append without base zs)) ∙ ap (λ (l : List Happening). filter_map f (filter without l)) (sym was))
+    ∙ ap (filter_map f) (sym (filter-append without base zs)) ∙ ap (λ l. filter_map f (filter without l)) (sym was))
 
-pub points_grown : (s : Scenario) (hs zs : List Happening) (device : DeviceId) (t : ℕ) (w : Happening) → IsFirst s zs device t w → is_cm s.network device ≡ true
+pub points_grown : {s : Scenario} (hs : List Happening) {zs : List Happening} {device : DeviceId} {t : ℕ}
+    {w : Happening} → IsFirst s zs device t w → is_cm s.network device ≡ true
     → points_of (hs ++ w ∷ zs) device ≡ points_of (hs ++ zs) device ++ option_to_list (point_by device w w.note.body)
-points_grown s hs zs device t w first cm =
+points_grown hs {zs} {device} {w} first cm =
     let f = λ (h : Happening). point_by device h h.note.body in
     let p = λ (h : Happening). ends_stretch device h.note.body in
     let none : (h : Happening) → IsIn h zs → f h ≡ None = λ h i. mere_point device h h.note.body (first.mere h i) in
@@ -80,10 +82,11 @@ points_grown s hs zs device t w first cm =
     ∙ maps_one f base w
     ∙ ap (λ (l : List Point). l ++ option_to_list (f w)) (sym (maps_rest f base zs none) ∙ ap (filter_map f) (sym (after_more p hs zs (first.open_ cm))))
 
-pub left_grown : (s : Scenario) (hs zs : List Happening) (device : DeviceId) (t : ℕ) (w : Happening) (node new : Node) → IsFirst s zs device t w
-    → (is_timed node.standing.state ≡ true → keep s (hs ++ zs) device t w ≡ true)
-    → IsGrown s device w node new → IsLeft s (hs ++ zs) device t node → IsLeft s (hs ++ w ∷ zs) device t new
-left_grown s hs zs device t w node new first kept grown left =
+pub left_grown : {s : Scenario} (hs : List Happening) {zs : List Happening} {device : DeviceId} {t : ℕ}
+    {w : Happening} {node new : Node} → IsFirst s zs device t w
+    → (is_timed node.standing.state ≡ true → keep s (hs ++ zs) device t w ≡ true) → IsGrown s device w node new
+    → IsLeft s (hs ++ zs) device t node → IsLeft s (hs ++ w ∷ zs) device t new
+left_grown {s} hs {zs} {device} {t} {w} {node} {new} first kept grown left =
     let a = tell_owned s (hs ++ zs) (hs ++ w ∷ zs) device t (sym (own_skip device t hs zs w first.still)) in
     let timed_too : is_timed new.standing.state ≡ true → is_timed node.standing.state ≡ true = λ timed. ap (λ (x : _). is_timed x.state) (sym grown.standing)
     ∙ timed in
@@ -101,7 +104,7 @@ left_grown s hs zs device t w node new first kept grown left =
       state = ap (λ (x : _). x.state) grown.standing ∙ left.state ∙ ap (λ x. if is_turned_on_at s device t then Integrating else x) a.state;
       points = λ cm.
           grown.points cm ∙ ap (λ (l : List Point). l ++ option_to_list (point_by device w w.note.body)) (left.points cm)
-          ∙ sym (points_grown s hs zs device t w first cm);
+          ∙ sym (points_grown hs first cm);
     }
 
 -- ---- what the machine makes of the frame
@@ -140,31 +143,30 @@ not_joining : (b : Bool) → IsByRole b judgements.Integrates → ⊥
 not_joining true r = r
 not_joining false r = r
 
-pub same_by_role : (network : Network) (device : DeviceId) (node : Node) (moment : Moment) (phase : Phase) (link : LinkId) (point : Units) (frame : Pcf)
-    (cm : Bool)
-    (verdict : Judgement) → IsByRole cm verdict
-    → IsSame node (called moment phase (after_permanence node moment (channel_of_link network link) frame point (ripe_as verdict)))
-same_by_role network device node moment phase link point frame cm judgements.Integrates r = absurd (not_joining cm r)
-same_by_role network device node moment phase link point frame cm other r = grind arith
+module _ (network : Network) (device : DeviceId) (node : Node) (moment : Moment) (phase : Phase) (link : LinkId)
+    (point : Units) (frame : Pcf) where
+  pub same_by_role : (cm : Bool) (verdict : Judgement) → IsByRole cm verdict → IsSame node
+      (called moment phase (after_permanence node moment (channel_of_link network link) frame point (ripe_as
+      verdict)))
+  same_by_role cm judgements.Integrates r = absurd (not_joining cm r)
+  same_by_role cm other r = grind arith
 
--- its points, where it collects, and where it does not
-pub points_by_role : (network : Network) (device : DeviceId) (node : Node) (moment : Moment) (phase : Phase) (link : LinkId) (point : Units) (frame : Pcf)
-    (verdict : Judgement)
-    → IsByRole true verdict → (called moment phase (after_permanence node moment (channel_of_link network link) frame point (ripe_as verdict))).points
-    ≡ node.points ++ point_at point.0 (master_of frame.members.0) frame.cycle ∷ []
-points_by_role network device node moment phase link point frame judgements.Opened r = refl
-points_by_role network device node moment phase link point frame judgements.Joined r = refl
-points_by_role network device node moment phase link point frame judgements.Repeat r = refl
-points_by_role network device node moment phase link point frame other r = absurd r
+  -- its points, where it collects, and where it does not
+  pub points_by_role : (verdict : Judgement) → IsByRole true verdict →
+      (called moment phase (after_permanence node moment (channel_of_link network link) frame point (ripe_as
+      verdict))).points ≡ node.points ++ point_at point.0 (master_of frame.members.0) frame.cycle ∷ []
+  points_by_role judgements.Opened r = refl
+  points_by_role judgements.Joined r = refl
+  points_by_role judgements.Repeat r = refl
+  points_by_role other r = absurd r
 
-pub points_not : (network : Network) (device : DeviceId) (node : Node) (moment : Moment) (phase : Phase) (link : LinkId) (point : Units) (frame : Pcf)
-    (verdict : Judgement)
-    → IsByRole false verdict → (called moment phase (after_permanence node moment (channel_of_link network link) frame point (ripe_as verdict))).points ≡
-    node.points
-points_not network device node moment phase link point frame judgements.Within r = refl
-points_not network device node moment phase link point frame judgements.Outside r = refl
-points_not network device node moment phase link point frame judgements.Ignored r = refl
-points_not network device node moment phase link point frame other r = absurd r
+  pub points_not : (verdict : Judgement) → IsByRole false verdict →
+      (called moment phase (after_permanence node moment (channel_of_link network link) frame point (ripe_as
+      verdict))).points ≡ node.points
+  points_not judgements.Within r = refl
+  points_not judgements.Outside r = refl
+  points_not judgements.Ignored r = refl
+  points_not other r = absurd r
 
 pub is_grown : (s : Scenario) (device : DeviceId) (node : Node) (moment : Moment) (phase : Phase) (w : Happening) (link : LinkId) (cause : ℕ) (point : Units)
     (frame : Pcf)

@@ -14,14 +14,15 @@ none_of p (y ∷ xs) x e (inr i) = none_of p xs x (or_parts (p y) (list_any p xs
 
 -- ---- no frame has told it the time at this time
 
-pub not_joined : (s : Scenario) (hs : List Happening) (device : DeviceId) (t : ℕ) → has_joined_at hs device t ≡ false
-    → state_at_hearing s hs device t ≡ state_before s hs device t
-not_joined s hs device t e = ap (λ (b : Bool). if b then Joining else state_before s hs device t) e
+module _ (s : Scenario) (hs : List Happening) (device : DeviceId) (t : ℕ)
+    (e : has_joined_at hs device t ≡ false) where
+  pub not_joined : state_at_hearing s hs device t ≡ state_before s hs device t
+  not_joined = ap (λ (b : Bool). if b then Joining else state_before s hs device t) e
 
-pub not_joined_yet : (s : Scenario) (hs : List Happening) (device : DeviceId) (t : ℕ) → has_joined_at hs device t ≡ false
-    → ((h : Happening) → IsIn h hs → time_of h ≤ t) → adjustment_at_hearing s hs device t ≡ adjustment_before s hs device t
-not_joined_yet s hs device t e all =
-    grind (arith, adjustment_after, same_kept, nat_lt, time_of, is_joined_by, cases_lt, or_left, lt-ltb, eq-eqb, none_of, or_none)
+  pub not_joined_yet : ((h : Happening) → IsIn h hs → time_of h ≤ t)
+      → adjustment_at_hearing s hs device t ≡ adjustment_before s hs device t
+  not_joined_yet all =
+      grind (arith, adjustment_after, same_kept, nat_lt, time_of, is_joined_by, cases_lt, or_left, lt-ltb, eq-eqb, none_of, or_none)
 
 role_for : (b : Bool) (P Q R : Type 0) → b ≡ false → MatchBool b P R → MatchBool b Q R
 role_for b P Q R e m = subst (λ (c : Bool). MatchBool c Q R) (sym e) (MatchBool-at_false P R e m)

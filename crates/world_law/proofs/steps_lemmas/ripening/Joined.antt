@@ -3,7 +3,7 @@ use Rattle.run_law.{proofs.control.Verdicts.looking_ripe, specs.{declared.judgem
 use Rattle.{sync_state.specs.Integration.joined_by, world_law.specs.device.Told.change_in}
 use Rattle.world_law.proofs.steps_lemmas.Words.{◌&&◌, ◌++◌, ◌+ℤ◌, ◌+◌, ◌-ℤ◌, ◌-◌, ◌<ℤ◌, ◌||◌, ◌∙◌, ◌∷◌, ◌≡◌, ◌≤ℤ◌, ◌≤◌, ◌⊎◌, Bool, DeviceId, Happening}
 use Rattle.world_law.proofs.steps_lemmas.Words.{HasTurnedOn, Integrating, IsIn, IsKept, IsLeft, IsPending, Joining, LinkId, List, Moment, Network, Node, None}
-use Rattle.world_law.proofs.steps_lemmas.Words.{Option, Pcf, Phase, Scenario, Some, State, SyncPlan, Task, Units, Waiting, [], adjustment_after}
+use Rattle.world_law.proofs.steps_lemmas.Words.{Option, Pcf, Phase, Scenario, Some, State, Task, Units, Waiting, [], adjustment_after}
 use Rattle.world_law.proofs.steps_lemmas.Words.{adjustment_with, after_last, and_right, ap, append_assoc, arith, before_behind, behind, both_ways, called}
 use Rattle.world_law.proofs.steps_lemmas.Words.{chain, changed_at, changes_adjustment, cleared_in, correcting, correction_value, cycle_after, cycle_in, doing}
 use Rattle.world_law.proofs.steps_lemmas.Words.{earlier, earlier_still, emitting, false, filter, filter_map, fold, fold-append, frames_taken, has_cleared}
@@ -33,70 +33,80 @@ at_join : {B : Type 0} (f : B → Happening → B) (z : B) (hs zs : List Happeni
     → fold f z (hs ++ w ∷ zs) ≡ f (fold f z hs) w
 at_join f z hs zs w same = ap (fold f z) (sym (append_assoc hs (w ∷ []) zs)) ∙ fold_rest f z (hs ++ w ∷ []) zs same ∙ fold-append f z hs (w ∷ [])
 
-pub joined_changes : (s : Scenario) (hs zs : List Happening) (device : DeviceId) (now : ℕ) (w : Happening) (link : LinkId) (cause : ℕ) (point : Units)
-    (frame : Pcf) → IsJoin s hs zs device now w link cause point frame → changed_at (hs ++ w ∷ zs) device (now + 1) ≡ now
-joined_changes s hs zs device now w link cause point frame j =
-    let p = λ (h : Happening). changes_adjustment device h.note.body in
-    let changes : p w ≡ true = ap (changes_adjustment device) j.body ∙ self device in
-    ap (λ (l : List Happening). option_map_or time_of (last_or None (filter p l)) 0) j.whole
-    ∙ ap (λ (l : List Happening). option_map_or time_of (last_or None l) 0)
-    (ap (filter p) (sym (append_assoc hs (w ∷ []) zs))
-    ∙ filter_rest p (hs ++ w ∷ []) zs (λ z i. mere_changes device z.note.body (j.mere z i))
-    ∙ Rattle.world_law.proofs.lists.Lists.filter_yes p hs w changes)
-    ∙ ap (λ (o : Option Happening). option_map_or time_of o 0) (last_behind (filter p hs) [] w None) ∙ j.at
+module _ (s : Scenario) (hs zs : List Happening) (device : DeviceId) (now : ℕ) (w : Happening) (link : LinkId)
+    (cause : ℕ) (point : Units) (frame : Pcf) where
+  pub joined_changes : IsJoin s hs zs device now w link cause point frame
+      → changed_at (hs ++ w ∷ zs) device (now + 1) ≡ now
+  joined_changes j =
+      let p = λ (h : Happening). changes_adjustment device h.note.body in
+      let changes : p w ≡ true = ap (changes_adjustment device) j.body ∙ self device in
+      ap (λ l. option_map_or time_of (last_or None (filter p l)) 0) j.whole
+      ∙ ap (λ (l : List Happening). option_map_or time_of (last_or None l) 0)
+      (ap (filter p) (sym (append_assoc hs (w ∷ []) zs))
+      ∙ filter_rest p (hs ++ w ∷ []) zs (λ z i. mere_changes device z.note.body (j.mere z i))
+      ∙ Rattle.world_law.proofs.lists.Lists.filter_yes p hs w changes)
+      ∙ ap (λ (o : Option Happening). option_map_or time_of o 0) (last_behind (filter p hs) [] w None) ∙ j.at
 
-pub left_joined : (s : Scenario) (hs zs : List Happening) (device : DeviceId) (now : ℕ) (w : Happening) (link : LinkId) (cause : ℕ) (point : Units)
-    (frame : Pcf)
-    (node : Node) (moment : Moment) (phase : Phase) → IsJoin s hs zs device now w link cause point frame → moment.reading.0 ≡ pos (s.reading device now)
-    → node.standing.plan ≡ plan_of s.network device → node.broken ≡ is_broken s device (now + 1) → is_turned_on_at s device (now + 1) ≡ false
-    → is_cm s.network device ≡ false → IsLeft s (hs ++ w ∷ zs) device (now + 1) (called moment phase (with_joined node moment frame point))
-left_joined s hs zs device now w link cause point frame node moment phase j reads plan broken off other =
-    let js = hs ++ w ∷ zs in
-    let u = now + 1 in
-    let e = j.body in
-    let joined : is_joined_by device w.note.body ≡ true = ap (is_joined_by device) e ∙ self device in
-    let changes : changes_adjustment device w.note.body ≡ true = ap (changes_adjustment device) e ∙ self device in
-    let of_cycle : cycle_in w ≡ frame.cycle = ap (λ (o : Option Pcf). option_map_or (λ f. f.cycle) o 0) j.of_frame in
-    let adjusted : adjustment_after s js device ≡ joined_adjustment s device (cycle_in w) point =
-    grind (arith, at_join, adjustment_with, cycle_in, mere_adjustment, adjustment_after, e, self) in
-    let integration : integration_cycle js device ≡ Some (cycle_in w) = grind (arith, at_join, is_joined_by, cycle_in, mere_joins, integration_cycle, joined) in
-    let recorded : recorded_cycle js device ≡ cycle_in w = grind (arith, at_join, cycle_after, mere_cycle, recorded_cycle, e, cycle_in, self) in
-    let changed = joined_changes s hs zs device now w link cause point frame j in
-    let change : change_in device js ≡ now = ap (λ (l : List Happening). change_in device l) (sym j.whole) ∙ changed in
-    let at : u - 1 ≡ now = omega arith in
-    let local : local_in s device js ≡ (pos (s.reading device now) +ℤ (adjustment_after s js device).0) =
-    ap (λ (n : ℕ). pos (s.reading device n) +ℤ (adjustment_after s js device).0) change in
-    let v = correction_value s.network (recorded_cycle js device) in
-    let none : cleared_in s device js u ≡ false = and_right (is_integration_cycle js device) _
-    (ap (λ (z : ℤ). int_lt z v && int_le v (pos (s.reading device (u - 1)) +ℤ (adjustment_after s js device).0)) local
-    ∙ ap (λ (n : ℕ). int_lt (pos (s.reading device now) +ℤ (adjustment_after s js device).0) v
-    && int_le v (pos (s.reading device n) +ℤ (adjustment_after s js device).0)) at
-    ∙ not_yet (pos (s.reading device now) +ℤ (adjustment_after s js device).0) v) in
-    let own : joined_adjustment s device (cycle_in w) point ≡ (joined_by node.standing.plan frame point).adjustment =
-    ap (λ (n : ℕ). joined_adjustment s device n point) of_cycle ∙ ap (λ (p : SyncPlan). (joined_by p frame point).adjustment) (sym plan) in
-    let p = λ (h : Happening). nat_lt (time_of h) u && changes_adjustment device h.note.body in
-    let early : nat_lt (time_of w) u ≡ true = lt-ltb (time_of w) u (let w_now = j.at in omega (arith, w_now)) in
-    let here : p w ≡ true = ap (λ (b : Bool). b && changes_adjustment device w.note.body) early ∙ changes in
-    let since : after_last p js ≡ zs = behind_it p hs zs w here (λ h i. and_right (nat_lt (time_of h) u) _ (mere_changes device h.note.body (j.mere h i))) in
-    let k = λ (h : Happening). not (has_cleared s js device u u) || has_cleared s js device u (time_of h) in
-    let hear = λ (h : Happening). hearing_by s.network device h h.note.body in
-    let anew : heard_since s js device u ≡ [] = ap (λ (l : List Happening). filter_map hear (filter k l)) since
-    ∙ maps_rest hear [] (filter k zs) (λ h i. mere_hears s.network device h h.note.body (j.mere h (Rattle.run_law.proofs.law.FirstPlaces.in_filter k zs h i)))
-    in
-    record {
-      counted = record {
-        plan = plan;
-        adjustment = sym own ∙ sym adjusted ∙ ap (λ (l : List Happening). adjustment_after s l device) (sym j.whole);
-        integrated = sym (ap (λ (n : ℕ). Some n) of_cycle) ∙ sym integration ∙ ap (λ (l : List Happening). integration_cycle l device) (sym j.whole);
-        number = grind (arith, of_cycle, recorded, recorded_cycle, js, none, next_in, u);
-        changed = grind (arith, own, adjusted, local, local_in);
-        heard = λ timed. sym anew;
-        started = grind (arith, integration_cycle, recorded_cycle, js, recorded, cycle_in, integration);
-        broken = broken;
-      };
-      state = sym j.joining ∙ ap (λ (l : List Happening). state_after s l device) (sym j.whole) ∙ sym (not_turned_on s js device u off);
-      points = λ cm. absurd (both_ways (is_cm s.network device) other cm);
-    }
+  pub left_joined : (node : Node) (moment : Moment) (phase : Phase)
+      → IsJoin s hs zs device now w link cause point frame → moment.reading.0 ≡ pos (s.reading device now)
+      → node.standing.plan ≡ plan_of s.network device → node.broken ≡ is_broken s device (now + 1)
+      → is_turned_on_at s device (now + 1) ≡ false → is_cm s.network device ≡ false
+      → IsLeft s (hs ++ w ∷ zs) device (now + 1) (called moment phase (with_joined node moment frame point))
+  left_joined node moment phase j reads plan broken off other =
+      let js = hs ++ w ∷ zs in
+      let u = now + 1 in
+      let e = j.body in
+      let joined : is_joined_by device w.note.body ≡ true = ap (is_joined_by device) e ∙ self device in
+      let changes : changes_adjustment device w.note.body ≡ true = ap (changes_adjustment device) e ∙ self device in
+      let of_cycle : cycle_in w ≡ frame.cycle = ap (λ (o : Option Pcf). option_map_or (λ f. f.cycle) o 0) j.of_frame in
+      let adjusted : adjustment_after s js device ≡ joined_adjustment s device (cycle_in w) point =
+      grind (arith, at_join, adjustment_with, cycle_in, mere_adjustment, adjustment_after, e, self) in
+      let integration : integration_cycle js device ≡ Some (cycle_in w) =
+      grind (arith, at_join, is_joined_by, cycle_in, mere_joins, integration_cycle, joined) in
+      let recorded : recorded_cycle js device ≡ cycle_in w =
+      grind (arith, at_join, cycle_after, mere_cycle, recorded_cycle, e, cycle_in, self) in
+      let changed = joined_changes j in
+      let change : change_in device js ≡ now =
+      ap (λ l. change_in device l) (sym j.whole) ∙ changed in
+      let at : u - 1 ≡ now = omega arith in
+      let local : local_in s device js ≡ (pos (s.reading device now) +ℤ (adjustment_after s js device).0) =
+      ap (λ (n : ℕ). pos (s.reading device n) +ℤ (adjustment_after s js device).0) change in
+      let v = correction_value s.network (recorded_cycle js device) in
+      let none : cleared_in s device js u ≡ false = and_right (is_integration_cycle js device) _
+      (ap (λ (z : ℤ). int_lt z v && int_le v (pos (s.reading device (u - 1)) +ℤ (adjustment_after s js device).0)) local
+      ∙ ap (λ (n : ℕ). int_lt (pos (s.reading device now) +ℤ (adjustment_after s js device).0) v
+      && int_le v (pos (s.reading device n) +ℤ (adjustment_after s js device).0)) at
+      ∙ not_yet (pos (s.reading device now) +ℤ (adjustment_after s js device).0) v) in
+      let own : joined_adjustment s device (cycle_in w) point ≡ (joined_by node.standing.plan frame point).adjustment =
+      ap (λ n. joined_adjustment s device n point) of_cycle ∙ ap
+      (λ p. (joined_by p frame point).adjustment) (sym plan) in
+      let p = λ (h : Happening). nat_lt (time_of h) u && changes_adjustment device h.note.body in
+      let early : nat_lt (time_of w) u ≡ true = lt-ltb (time_of w) u (let w_now = j.at in omega (arith, w_now)) in
+      let here : p w ≡ true = ap (λ (b : Bool). b && changes_adjustment device w.note.body) early ∙ changes in
+      let since : after_last p js ≡ zs = behind_it p hs zs w here
+      (λ h i. and_right (nat_lt (time_of h) u) _ (mere_changes device h.note.body (j.mere h i))) in
+      let k = λ (h : Happening). not (has_cleared s js device u u) || has_cleared s js device u (time_of h) in
+      let hear = λ (h : Happening). hearing_by s.network device h h.note.body in
+      let anew : heard_since s js device u ≡ [] = ap (λ l. filter_map hear (filter k l)) since
+      ∙ maps_rest hear [] (filter k zs) (λ h i. mere_hears s.network device h h.note.body
+      (j.mere h (Rattle.run_law.proofs.law.FirstPlaces.in_filter k zs h i)))
+      in
+      record {
+        counted = record {
+          plan = plan;
+          adjustment = sym own ∙ sym adjusted ∙ ap (λ l. adjustment_after s l device) (sym j.whole);
+          integrated = sym (ap (λ (n : ℕ). Some n) of_cycle) ∙ sym integration ∙ ap
+              (λ l. integration_cycle l device) (sym j.whole);
+          number = grind (arith, of_cycle, recorded, recorded_cycle, js, none, next_in, u);
+          changed = grind (arith, own, adjusted, local, local_in);
+          heard = λ timed. sym anew;
+          started = grind (arith, integration_cycle, recorded_cycle, js, recorded, cycle_in, integration);
+          broken = broken;
+        };
+        state = sym j.joining ∙ ap (λ l. state_after s l device) (sym j.whole) ∙ sym
+            (not_turned_on s js device u off);
+        points = λ cm. absurd (both_ways (is_cm s.network device) other cm);
+      }
 
 -- ---- a device that a frame tells the time was looking for it
 
@@ -104,23 +114,28 @@ looking_of : (b : Bool) (state : State) → Integrating ≡ (if b then Joining e
 looking_of true state e = absurd cc
 looking_of false state e = sym e
 
-pub was_looking : (s : Scenario) (hs : List Happening) (now : ℕ) (e : Waiting) (node : Node) → Hears s hs e.device now node → is_cm s.network e.device ≡ false
-    → Rattle.run_law.specs.machines.Answers.IsPermanenceOutcomeAt s.network e.device node e.frame e.point ripe.Integrates
-    → state_before s hs e.device now ≡ Integrating
-was_looking s hs now e node hears other so = grind (arith, looking_ripe, plan_of, observation_window, is_cm, looking_of, has_joined_at, state_before)
+pub was_looking : {s : Scenario} {hs : List Happening} {now : ℕ} (e : Waiting) {node : Node}
+    → Hears s hs e.device now node → is_cm s.network e.device ≡ false
+    → Rattle.run_law.specs.machines.Answers.IsPermanenceOutcomeAt s.network e.device node e.frame e.point
+    ripe.Integrates → state_before s hs e.device now ≡ Integrating
+was_looking e hears other so =
+    grind (arith, looking_ripe, plan_of, observation_window, is_cm, looking_of, has_joined_at, state_before)
 
 -- ---- it is kept
 
-pub kept_joined : {M : Type 0} (stands : M → Network → DeviceId → Node → Type 0) (s : Scenario) (hs coming zs : List Happening) (mark cursor : List ℕ) (now : ℕ)
-    (e : Waiting)
-    (machine after : M) (w : Happening) (r : IsRipe s hs coming mark cursor now e) (k : IsKept stands s hs coming cursor now e.device machine)
-    → stands after s.network e.device (called (moment_of s e.device now) ripening (with_joined k.node (moment_of s e.device now) e.frame e.point))
-    → is_cm s.network e.device ≡ false → pos 0 ≤ℤ s.network.precision.0 → state_before s hs e.device now ≡ Integrating
-    → IsJoin s hs zs e.device now w e.link e.cause e.point e.frame → ((z : Happening) → IsIn z zs → time_of z ≡ now)
-    → ((cursor2 : List ℕ) → HasTurnedOn s hs coming cursor2 e.device now → HasTurnedOn s hs (w ∷ zs) cursor2 e.device now)
-    → frames_taken s (hs ++ coming) e.device ≡ frames_taken s (hs ++ w ∷ zs) e.device
-    → IsKept stands s hs (w ∷ zs) (behind (now ∷ 3 ∷ ripe_more e)) now e.device after
-kept_joined stands s hs coming zs mark cursor now e machine after w r k is other precise looking j times turns frames =
+pub kept_joined : {M : Type 0} {stands : M → Network → DeviceId → Node → Type 0} {s : Scenario}
+    {hs coming zs : List Happening} {mark cursor : List ℕ} {now : ℕ} {e : Waiting} {machine : M} (after : M)
+    {w : Happening} (r : IsRipe s hs coming mark cursor now e)
+    (k : IsKept stands s hs coming cursor now e.device machine) → stands after s.network e.device
+    (called (moment_of s e.device now) ripening (with_joined k.node (moment_of s e.device now) e.frame e.point))
+    → is_cm s.network e.device ≡ false → pos 0 ≤ℤ s.network.precision.0
+    → state_before s hs e.device now ≡ Integrating → IsJoin s hs zs e.device now w e.link e.cause e.point e.frame
+    → ((z : Happening) → IsIn z zs → time_of z ≡ now) →
+    ((cursor2 : List ℕ) → HasTurnedOn s hs coming cursor2 e.device now
+    → HasTurnedOn s hs (w ∷ zs) cursor2 e.device now) → frames_taken s (hs ++ coming) e.device
+    ≡ frames_taken s (hs ++ w ∷ zs) e.device → IsKept stands s hs (w ∷ zs)
+    (behind (now ∷ 3 ∷ ripe_more e)) now e.device after
+kept_joined {s} {hs} {zs} {mark} {now} {e} after {w} r k is other precise looking j times turns frames =
     let device = e.device in
     let moment = moment_of s device now in
     let new = called moment ripening (with_joined k.node moment e.frame e.point) in
@@ -130,7 +145,7 @@ kept_joined stands s hs coming zs mark cursor now e machine after w r k is other
     let changed = joined_changes s hs zs device now w e.link e.cause e.point e.frame j in
     let at = j.at in
     let same : earlier now (hs ++ w ∷ zs) ≡ earlier now hs = grind (arith, earlier_still, time_of) in
-    let off = not_on_after s mark now (now + 1) device r.befallen (omega arith) in
+    let off = not_on_after (now + 1) device r.befallen (omega arith) in
     record {
       node = new;
       is = is;
@@ -139,7 +154,7 @@ kept_joined stands s hs coming zs mark cursor now e machine after w r k is other
       acted = inr (refl, λ p b. chain p here (behind here) (before_place p now (ripe_more e) b) (before_behind here));
       told = λ over.
           inr (inl (record {
-            looking = ap (λ (l : List Happening). if is_turned_on_at s device now then Integrating else state_after s l device) same ∙ looking;
+            looking = ap (λ l. if is_turned_on_at s device now then Integrating else state_after s l device) same ∙ looking;
             other = other;
           }));
       left = left_joined s hs zs device now w e.link e.cause e.point e.frame k.node moment ripening j refl k.left.counted.plan sound off other;
@@ -162,7 +177,7 @@ kept_joined stands s hs coming zs mark cursor now e machine after w r k is other
         in_time = λ task p. let late = later_task task p now (omega arith) in omega (arith, ints, late, precise);
       };
       still = λ same_up. absurd (too_soon now same_up);
-      turned = λ on. turns (behind here) (turned_on s hs coming mark cursor now (ripe_more e) device r.moving (k.turned on));
+      turned = λ on. turns (behind here) (turned_on r.moving (k.turned on));
       cleared = λ cycle there. absurd (none_in (correcting cycle) there);
       phase = λ at p b. chain p here (behind here) (before_place p now (ripe_more e) b) (before_behind here);
     }

@@ -22,10 +22,11 @@ use Rattle.run_law.specs.declared.steps.Ripe.TheVariants as ripe
 -- ---- places as tests
 
 -- the records given are all those before the place
-pub judged_all : (s : Scenario) (hs coming front : List Happening) (mark cursor : List ℕ) (now : ℕ) (e : Waiting) → IsRipe s hs coming mark cursor now e
+pub judged_all : {s : Scenario} {hs coming : List Happening} (front : List Happening) {mark cursor : List ℕ}
+    {now : ℕ} {e : Waiting} → IsRipe s hs coming mark cursor now e
     → ((h : Happening) → IsIn h front → IsBefore (place_of h) (now ∷ 3 ∷ ripe_more e) → ⊥)
     → before_permanence (hs ++ front) e.device now e.link e.cause e.frame e.point ≡ hs
-judged_all s hs coming front mark cursor now e r after =
+judged_all {hs} front {cursor} {now} {e} r after =
     let here = now ∷ 3 ∷ ripe_more e in
     let q = λ (h : Happening). is_before (place_of h) (now ∷ 3 ∷ e.device.0 ∷ amount e.point ∷ e.frame.members.0 ∷ e.link.0 ∷ e.cause ∷ []) in
     let given : filter q hs ≡ hs = all_kept q hs (λ h i. before_is (place_of h) here
@@ -40,9 +41,10 @@ pub record Hears (s : Scenario) (hs : List Happening) (device : DeviceId) (now :
   pub adjustment : node.standing.adjustment ≡ adjustment_at_hearing s hs device now
   pub points : is_cm s.network device ≡ true → node.points ≡ points_of hs device
 
-pub judges_so : (s : Scenario) (hs : List Happening) (device : DeviceId) (now : ℕ) (node : Node) (frame : Pcf) (point : Units) (is : Ripe)
-    → Hears s hs device now node → IsPermanenceOutcomeAt s.network device node frame point is → IsJudgedBy s hs device now frame point is
-judges_so s hs device now node frame point is hears so = grind (arith, by_role, points_of, state_at_hearing)
+pub judges_so : {s : Scenario} {hs : List Happening} {device : DeviceId} {now : ℕ} {node : Node} (frame : Pcf)
+    (point : Units) (is : Ripe) → Hears s hs device now node
+    → IsPermanenceOutcomeAt s.network device node frame point is → IsJudgedBy s hs device now frame point is
+judges_so frame point is hears so = grind (arith, by_role, points_of, state_at_hearing)
 
 -- the points are those of the records given
 pub points_given : (s : Scenario) (hs coming : List Happening) (device : DeviceId) → ((z : Happening) → IsIn z coming → IsLateKind z.note.body)
@@ -50,13 +52,14 @@ pub points_given : (s : Scenario) (hs coming : List Happening) (device : DeviceI
 points_given s hs coming device late open_ = grind (arith, filter_map, point_by, after_more, ends_stretch, maps_rest, after_last, mere_point, late_mere)
 
 -- where no frame has told it the time
-pub hears_before : (s : Scenario) (hs coming : List Happening) (mark cursor : List ℕ) (now : ℕ) (e : Waiting) (node : Node)
-    → IsRipe s hs coming mark cursor now e → IsLeft s (hs ++ coming) e.device now node
-    → ((h : Happening) → IsIn h (hs ++ coming) → time_of h ≡ now → IsAtRest s e.device now h.note.body) → Hears s hs e.device now node
-hears_before s hs coming mark cursor now e node r left still =
+pub hears_before : {s : Scenario} {hs coming : List Happening} {mark cursor : List ℕ} {now : ℕ} {e : Waiting}
+    {node : Node} → IsRipe s hs coming mark cursor now e → IsLeft s (hs ++ coming) e.device now node
+    → ((h : Happening) → IsIn h (hs ++ coming) → time_of h ≡ now → IsAtRest s e.device now h.note.body)
+    → Hears s hs e.device now node
+hears_before {s} {hs} {coming} {now} {e} r left still =
     let device = e.device in
     let same : earlier now (hs ++ coming) ≡ earlier now hs = earlier_still now hs coming (λ z i. let at = r.moving.are.of_now z i in omega (arith, at)) in
-    let late = all_late s hs coming mark cursor now (ripe_more e) r.moving r.run.within in
+    let late = all_late r.moving r.run.within in
     let none : has_joined_at hs device now ≡ false = none_any (λ h. time_of h == now && is_joined_by device h.note.body) hs (λ h i.
     elim (cases_Bool (time_of h == now)) [
       | inr other ↦ ap (λ (b : Bool). b && is_joined_by device h.note.body) other
@@ -67,9 +70,9 @@ hears_before s hs coming mark cursor now e node r left still =
     ]) in
     record {
       state =
-          left.state ∙ ap (λ (l : List Happening). if is_turned_on_at s device now then Integrating else state_after s l device) same
+          left.state ∙ ap (λ l. if is_turned_on_at s device now then Integrating else state_after s l device) same
           ∙ sym (not_joined s hs device now none);
-      adjustment = left.counted.adjustment ∙ ap (λ (l : List Happening). adjustment_after s l device) same ∙ sym (not_joined_yet s hs device now none r.past);
+      adjustment = left.counted.adjustment ∙ ap (λ l. adjustment_after s l device) same ∙ sym (not_joined_yet s hs device now none r.past);
       points = λ cm.
           left.points cm
           ∙ points_given s hs coming device late
@@ -77,18 +80,19 @@ hears_before s hs coming mark cursor now e node r left still =
     }
 
 -- all records are earlier than the next time
-pub all_earlier : (s : Scenario) (hs coming : List Happening) (mark cursor : List ℕ) (now : ℕ) (e : Waiting) → IsRipe s hs coming mark cursor now e
-    → earlier (now + 1) (hs ++ coming) ≡ hs ++ coming
-all_earlier s hs coming mark cursor now e r =
+pub all_earlier : {s : Scenario} {hs coming : List Happening} {mark cursor : List ℕ} {now : ℕ} {e : Waiting}
+    → IsRipe s hs coming mark cursor now e → earlier (now + 1) (hs ++ coming) ≡ hs ++ coming
+all_earlier {hs} {coming} {now} r =
     next_is_up_to now (hs ++ coming) ∙ all_up_to now (hs ++ coming) (λ h i. elim (in_parts h hs coming i) [
       | inl given ↦ r.past h given
       | inr more ↦ let at = r.moving.are.of_now h more in omega (arith, at)
     ])
 
 -- where one has
-pub hears_told : (s : Scenario) (hs coming : List Happening) (mark cursor : List ℕ) (now : ℕ) (e : Waiting) (node : Node) → IsTold s hs coming mark cursor now e
-    → IsLeft s (hs ++ coming) e.device (now + 1) node → Hears s hs e.device now node
-hears_told s hs coming mark cursor now e node told left =
+pub hears_told : {s : Scenario} {hs coming : List Happening} {mark cursor : List ℕ} {now : ℕ} {e : Waiting}
+    {node : Node} → IsTold s hs coming mark cursor now e → IsLeft s (hs ++ coming) e.device (now + 1) node
+    → Hears s hs e.device now node
+hears_told told left =
     grind (arith, all_earlier, not_turned_on, not_on_after, state_after, state_now, adjustment_after, adjustment_now, both_ways, is_cm)
 
 -- ---- what it may become
@@ -149,11 +153,12 @@ becomes_now s hs coming front mark cursor now e node is r after hears so = recor
     of_frame = r.it.awaited.of_frame;
     waits = r.it.awaited.waits;
     at_point = r.it.awaited.at_point;
-    reached = reach_now s hs coming mark cursor now e r;
+    reached = reach_now r;
     correct = r.sound;
   };
-  becomes = subst (λ (l : List Happening). IsJudgedBy s l e.device now e.frame e.point is) (sym (judged_all s hs coming front mark cursor now e r after))
-      (judges_so s hs e.device now node e.frame e.point is hears so);
+  becomes = subst (λ l. IsJudgedBy s l e.device now e.frame e.point is)
+      (sym (judged_all front r after))
+      (judges_so e.frame e.point is hears so);
 }
 
 -- ---- what it has cleared does not count at the instant of a join
@@ -167,9 +172,10 @@ last_time : (now : ℕ) (x : Happening) (ys : List Happening) → time_of x ≡ 
 last_time now x [] at all = at
 last_time now x (y ∷ ys) at all = last_time now y ys (all y (inl refl)) (λ z i. all z (inr i))
 
-changed_now : (s : Scenario) (hs coming : List Happening) (mark cursor : List ℕ) (now : ℕ) (e : Waiting) → IsRipe s hs coming mark cursor now e
-    → has_joined_at hs e.device now ≡ true → changed_at (hs ++ coming) e.device (now + 1) ≡ now
-changed_now s hs coming mark cursor now e r joined =
+changed_now : {s : Scenario} {hs coming : List Happening} {mark cursor : List ℕ} {now : ℕ} {e : Waiting}
+    → IsRipe s hs coming mark cursor now e → has_joined_at hs e.device now ≡ true
+    → changed_at (hs ++ coming) e.device (now + 1) ≡ now
+changed_now {s} {hs} {coming} {now} {e} r joined =
     let device = e.device in
     let p = λ (h : Happening). changes_adjustment device h.note.body in
     let found = any_in (λ h. time_of h == now && is_joined_by device h.note.body) hs joined in
@@ -177,13 +183,14 @@ changed_now s hs coming mark cursor now e r joined =
     let flags = and_parts (time_of j == now) (is_joined_by device j.note.body) found.2 in
     let j_now : time_of j ≡ now = eqb-true (time_of j) now flags.0 in
     let at = parted j hs found.1 in
-    let late = all_late s hs coming mark cursor now (ripe_more e) r.moving r.run.within in
+    let late = all_late r.moving r.run.within in
     let rest : (y : Happening) → IsIn y (filter p at.1) → time_of y ≡ now = λ y i.
     let inside = in_filter p at.1 y i in
     let from = in_time_of s hs r.run.founded at.0 at.1 j at.2 y inside in
-    let to = r.past y (subst (λ (l : List Happening). IsIn y l) (sym at.2) (in_right y at.0 (j ∷ at.1) (inr inside))) in
+    let to = r.past y (subst (λ l. IsIn y l) (sym at.2) (in_right y at.0 (j ∷ at.1) (inr inside))) in
     omega (arith, from, to, j_now) in
-    let lists : filter p (earlier (now + 1) (hs ++ coming)) ≡ filter p at.0 ++ j ∷ filter p at.1 = ap (filter p) (all_earlier s hs coming mark cursor now e r)
+    let lists : filter p (earlier (now + 1) (hs ++ coming)) ≡ filter p at.0 ++ j ∷ filter p at.1 =
+    ap (filter p) (all_earlier r)
     ∙ filter_rest p hs coming (λ h i. mere_changes device h.note.body (late_mere device h.note.body (late h i)))
     ∙ ap (filter p) at.2 ∙ filter-append p at.0 (j ∷ at.1)
     ∙ ap (λ (b : Bool). filter p at.0 ++ (if b then j ∷ filter p at.1 else filter p at.1)) (joined_changes device j.note.body flags.1) in
@@ -209,13 +216,13 @@ pub timed_joined : (s : Scenario) (hs : List Happening) (device : DeviceId) (now
     → state_before s hs device now ≡ Integrating → is_timed state ≡ true → has_joined_at hs device now ≡ true
 timed_joined s hs device now state is looking timed = grind (arith, cases_Bool, has_joined_at, both_ways, is_timed, state_before)
 
-pub cleared_told : (s : Scenario) (hs coming : List Happening) (mark cursor : List ℕ) (now : ℕ) (e : Waiting) (node : Node)
-    → IsTold s hs coming mark cursor now e
-    → Hears s hs e.device now node → is_timed node.standing.state ≡ true → has_cleared s (hs ++ coming) e.device (now + 1) (now + 1) ≡ false
-cleared_told s hs coming mark cursor now e node told hears timed =
+pub cleared_told : {s : Scenario} {hs coming : List Happening} {mark cursor : List ℕ} {now : ℕ} {e : Waiting}
+    {node : Node} → IsTold s hs coming mark cursor now e → Hears s hs e.device now node
+    → is_timed node.standing.state ≡ true → has_cleared s (hs ++ coming) e.device (now + 1) (now + 1) ≡ false
+cleared_told {s} {hs} {coming} {now} {e} {node} told hears timed =
     let r = told.ripe in
     let same : earlier now (hs ++ coming) ≡ earlier now hs = earlier_still now hs coming (λ z i. let at = r.moving.are.of_now z i in omega (arith, at)) in
     let looking : state_before s hs e.device now ≡ Integrating =
-    sym (ap (λ (l : List Happening). if is_turned_on_at s e.device now then Integrating else state_after s l e.device) same) ∙ told.just.looking in
+    sym (ap (λ l. if is_turned_on_at s e.device now then Integrating else state_after s l e.device) same) ∙ told.just.looking in
     none_cleared s (hs ++ coming) e.device now
-    (changed_now s hs coming mark cursor now e r (timed_joined s hs e.device now node.standing.state hears.state looking timed))
+    (changed_now r (timed_joined s hs e.device now node.standing.state hears.state looking timed))

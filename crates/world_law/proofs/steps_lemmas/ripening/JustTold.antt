@@ -104,12 +104,13 @@ fold_filter {B} f q z (h ∷ hs) same =
           ∙ sym (ap (λ (b : Bool). fold f z (if b then h ∷ filter q hs else filter q hs)) left)
     ]
 
-pub adjustment_now : (s : Scenario) (hs coming : List Happening) (mark cursor : List ℕ) (now : ℕ) (e : Waiting) → IsRipe s hs coming mark cursor now e
-    → adjustment_after s (hs ++ coming) e.device ≡ adjustment_at_hearing s hs e.device now
-adjustment_now s hs coming mark cursor now e r =
+pub adjustment_now : {s : Scenario} {hs coming : List Happening} {mark cursor : List ℕ} {now : ℕ} {e : Waiting}
+    → IsRipe s hs coming mark cursor now e → adjustment_after s (hs ++ coming) e.device
+    ≡ adjustment_at_hearing s hs e.device now
+adjustment_now {s} {hs} {coming} {now} {e} r =
     let f = λ (adjustment : Units) (h : Happening). adjustment_with s e.device (cycle_in h) adjustment h.note.body in
-    let late = all_late s hs coming mark cursor now (ripe_more e) r.moving r.run.within in
-    let low = given_low s hs coming mark cursor now (ripe_more e) r.moving r.run.within in
+    let late = all_late r.moving r.run.within in
+    let low = given_low r.moving r.run.within in
     fold_rest f _ hs coming (λ h i old. mere_adjustment s e.device (cycle_in h) old h.note.body (late_mere e.device h.note.body (late h i)))
     ∙ fold_filter f (λ h. nat_lt (time_of h) now || is_joined_by e.device h.note.body) _ hs (λ h i out old.
     let parts = or_parts (nat_lt (time_of h) now) (is_joined_by e.device h.note.body) out in
@@ -167,7 +168,7 @@ said_by s hs front device now time (kinds.State other state cause whys.Frame) la
                   ap (λ (st : State). kinds.State other st cause whys.Frame) c.0,
                   given,
                   it.same_time ∙ at,
-                  subst (λ (d : DeviceId). is_joined_by d h.note.body ≡ true) same c.1.2,
+                  subst (λ d. is_joined_by d h.note.body ≡ true) same c.1.2,
                 ))
             | inr more ↦ absurd (both_ways (is_joined_by other h.note.body) (mere_joins other h.note.body (late_mere other h.note.body (late h more))) c.1.2)
           ]
@@ -180,32 +181,36 @@ said_by s hs front device now time (kinds.Compressed other opened at_ cycle memb
 said_by s hs front device now time (kinds.Corrected other cycle by adjustment) late high kind at c = absurd kind
 said_by s hs front device now time other late high kind at c = inl refl
 
-high_rank : (s : Scenario) (hs coming : List Happening) (mark cursor : List ℕ) (now : ℕ) (more : List ℕ) → IsMoving s hs coming mark cursor now 3 more
-    → ((h : Happening) → IsIn h hs → IsBefore (place_of h) mark) → (y : Happening) → IsIn y coming → 4 ≤ rank y.note.body
-high_rank s hs coming mark cursor now more m within y i =
-    by_kind y.note.body (all_late s hs coming mark cursor now more m within y i)
-    (Rattle.world_law.proofs.runs.SourcesBack.at_least y now 3 more (m.are.of_now y i) (m.after y i))
-  where
-    by_kind : (body : NoteBody) → IsLateKind body → 3 ≤ rank body → 4 ≤ rank body
-    by_kind (kinds.Permanent device link cause point verdict) late le = absurd late
-    by_kind (kinds.Event line what) late le = absurd (omega (arith, le))
-    by_kind (kinds.Arrived device link cause clock) late le = absurd (omega (arith, le))
-    by_kind other late le = omega arith
+module _ (s : Scenario) (hs coming : List Happening) (mark cursor : List ℕ) (now : ℕ) where
+  high_rank : {more : List ℕ} → IsMoving s hs coming mark cursor now 3 more
+      → ((h : Happening) → IsIn h hs → IsBefore (place_of h) mark) → (y : Happening) → IsIn y coming
+      → 4 ≤ rank y.note.body
+  high_rank {more} m within y i =
+      by_kind y.note.body (all_late m within y i)
+      (Rattle.world_law.proofs.runs.SourcesBack.at_least y now 3 more (m.are.of_now y i) (m.after y i))
+    where
+      by_kind : (body : NoteBody) → IsLateKind body → 3 ≤ rank body → 4 ≤ rank body
+      by_kind (kinds.Permanent device link cause point verdict) late le = absurd late
+      by_kind (kinds.Event line what) late le = absurd (omega (arith, le))
+      by_kind (kinds.Arrived device link cause clock) late le = absurd (omega (arith, le))
+      by_kind other late le = omega arith
 
-pub all_high : (s : Scenario) (hs coming : List Happening) (mark cursor : List ℕ) (now : ℕ) (e : Waiting) → IsRipe s hs coming mark cursor now e
-    → (y : Happening) → IsIn y coming → 4 ≤ rank y.note.body
-all_high s hs coming mark cursor now e r = high_rank s hs coming mark cursor now (ripe_more e) r.moving r.run.within
+  pub all_high : {e : Waiting} → IsRipe s hs coming mark cursor now e → (y : Happening) → IsIn y coming
+      → 4 ≤ rank y.note.body
+  all_high r = high_rank r.moving r.run.within
 
-said : (s : Scenario) (hs coming : List Happening) (mark cursor : List ℕ) (now : ℕ) (e : Waiting) → IsRipe s hs coming mark cursor now e
-    → (z : Happening) → IsIn z coming → IsSaid hs e.device now z.note.body
-said s hs coming mark cursor now e r z i =
-    let at = parted z coming i in
-    let inside : (y : Happening) → IsIn y at.0 → IsIn y coming = λ y j. subst (λ (l : List Happening). IsIn y l) (sym at.2) (in_left y at.0 (z ∷ at.1) j) in
-    let late = all_late s hs coming mark cursor now (ripe_more e) r.moving r.run.within in
-    let due = (r.moving.are.founded at.0 at.1 z at.2).1 in
-    said_by s hs at.0 e.device now z.note.time z.note.body (λ y j. late y (inside y j)) (λ y j. all_high s hs coming mark cursor now e r y (inside y j))
-    (late z i)
-    (r.moving.are.of_now z i) due.cause
+  said : {e : Waiting} → IsRipe s hs coming mark cursor now e → (z : Happening) → IsIn z coming
+      → IsSaid hs e.device now z.note.body
+  said {e} r z i =
+      let at = parted z coming i in
+      let inside : (y : Happening) → IsIn y at.0 → IsIn y coming =
+      λ y j. subst (λ l. IsIn y l) (sym at.2) (in_left y at.0 (z ∷ at.1) j) in
+      let late = all_late r.moving r.run.within in
+      let due = (r.moving.are.founded at.0 at.1 z at.2).1 in
+      said_by s hs at.0 e.device now z.note.time z.note.body (λ y j. late y (inside y j))
+      (λ y j. all_high r y (inside y j))
+      (late z i)
+      (r.moving.are.of_now z i) due.cause
 
 late_still : (device : DeviceId) (body : NoteBody) → IsLateKind body → stirs device body ≡ false → moves device body ≡ false
 late_still device (kinds.Corrected other cycle by adjustment) late e = absurd late
@@ -236,7 +241,7 @@ split_sorted p (z ∷ zs) sorted =
             z ∷ more.0,
             more.1,
             ap (λ (l : List Happening). z ∷ l) more.2,
-            λ n i. elim i [ inl e ↦ subst (λ (m : Happening). IsBefore (place_of m) p) (sym e) lt | inr j ↦ more.3 n j ],
+            λ n i. elim i [ inl e ↦ subst (λ m. IsBefore (place_of m) p) (sym e) lt | inr j ↦ more.3 n j ],
             more.4,
           )
       | inr not ↦ (
@@ -245,7 +250,7 @@ split_sorted p (z ∷ zs) sorted =
         refl,
         λ n i. absurd i,
         λ n i b. elim i [
-          | inl e ↦ not (subst (λ (m : Happening). IsBefore (place_of m) p) e b)
+          | inl e ↦ not (subst (λ m. IsBefore (place_of m) p) e b)
           | inr j ↦
               let at = parted n zs j in
               not (chain (place_of z) (place_of n) p (sorted (z ∷ at.0) at.1 n (ap (λ (l : List Happening). z ∷ l) at.2) z (inl refl)) b)
@@ -282,7 +287,7 @@ event_first s hs now n c j h founded at_n at_c j_now h_now one two =
     let number = number_is s hs n j founded at_n in
     let due = split.due.number in
     elim (Rattle.run_law.proofs.runs.Places.in_parts h split.front (j ∷ split.rest)
-    (subst (λ (l : List Happening). IsIn h l) split.whole (numbered_in hs c h at_c))) [
+    (subst (λ l. IsIn h l) split.whole (numbered_in hs c h at_c))) [
       | inl before ↦
           let own = by_number s split.front h split.founded before in
           let few = numbered_within split.front h.note.number h own in
@@ -306,9 +311,10 @@ joined_rank device (kinds.Permanent other link cause point verdict) e = omega ar
 joined_rank device (kinds.Compressed other opened at cycle members verdict) e = omega arith
 joined_rank device other e = absurd cc
 
-told_joining : (s : Scenario) (hs coming : List Happening) (mark cursor : List ℕ) (now : ℕ) (e : Waiting) (z : State) → IsTold s hs coming mark cursor now e
-    → has_joined_at hs e.device now ≡ true → fold (λ state h. state_with e.device state h.note.body) z coming ≡ Joining
-told_joining s hs coming mark cursor now e z told joined =
+told_joining : {s : Scenario} {hs coming : List Happening} {mark cursor : List ℕ} {now : ℕ} {e : Waiting} (z : State)
+    → IsTold s hs coming mark cursor now e → has_joined_at hs e.device now ≡ true
+    → fold (λ state h. state_with e.device state h.note.body) z coming ≡ Joining
+told_joining {s} {hs} {coming} {mark} {cursor} {now} {e} z told joined =
     let r = told.ripe in
     let m = r.moving in
     let device = e.device in
@@ -334,7 +340,8 @@ told_joining s hs coming mark cursor now e z told joined =
     let shape = place_state (time_of g) (members_in g) now device.0 n g.note.body there.2 in
     let own : (device.0 == (shape.0).0) ≡ true = eq-eqb device.0 (shape.0).0 (sym shape.5) in
     let at = parted g coming there.1 in
-    let sets : (old : State) → state_with device old g.note.body ≡ Joining = λ old. elim (said s hs coming mark cursor now e r g there.1) [
+    let sets : (old : State) → state_with device old g.note.body ≡ Joining =
+    λ old. elim (said s hs coming mark cursor now r g there.1) [
       | inl quiet ↦ absurd (both_ways (stirs device g.note.body) quiet (ap (stirs device) shape.4 ∙ own))
       | inr (inl on) ↦
           let by = on.1 in
@@ -351,8 +358,8 @@ told_joining s hs coming mark cursor now e z told joined =
           ap (state_with device old) shape.4 ∙ ap (λ (b : Bool). if b then shape.1 else old) own ∙ is
     ] in
     let rest : (h : Happening) → IsIn h at.1 → state_with device Joining h.note.body ≡ Joining = λ h i.
-    let inside : IsIn h coming = subst (λ (l : List Happening). IsIn h l) (sym at.2) (in_right h at.0 (g ∷ at.1) (inr i)) in
-    elim (said s hs coming mark cursor now e r h inside) [
+    let inside : IsIn h coming = subst (λ l. IsIn h l) (sym at.2) (in_right h at.0 (g ∷ at.1) (inr i)) in
+    elim (said s hs coming mark cursor now r h inside) [
       | inl quiet ↦ was_on device Joining h.note.body quiet
       | inr (inr frame) ↦ ap (state_with device Joining) frame.3 ∙ if_same (device.0 == (frame.0).0) Joining
       | inr (inl on) ↦
@@ -365,8 +372,8 @@ told_joining s hs coming mark cursor now e z told joined =
           let own_h : device.0 ≡ (by.0).0 = eqb-true device.0 (by.0).0 (sym (ap (is_turning device) by.3) ∙ on.0) in
           let h_now = m.are.of_now h inside in
           let placed : IsBefore (now ∷ 7 ∷ device.0 ∷ n ∷ []) (now ∷ 7 ∷ (by.0).0 ∷ by.1 ∷ []) =
-          subst (λ (q : List ℕ). IsBefore q (now ∷ 7 ∷ (by.0).0 ∷ by.1 ∷ [])) there.2
-          (subst (λ (b : NoteBody). IsBefore (place_of g) (now ∷ rank b ∷ key (members_in h) b)) by.3
+          subst (λ q. IsBefore q (now ∷ 7 ∷ (by.0).0 ∷ by.1 ∷ [])) there.2
+          (subst (λ b. IsBefore (place_of g) (now ∷ rank b ∷ key (members_in h) b)) by.3
           (subst (λ (t : ℕ). IsBefore (place_of g) (t ∷ rank h.note.body ∷ key (members_in h) h.note.body)) h_now before)) in
           absurd (not_behind now device.0 n (by.0).0 by.1 own_h first placed)
     ] in
@@ -381,67 +388,80 @@ told_joining s hs coming mark cursor now e z told joined =
 
 -- ---- no frame has
 
-told_looking : (s : Scenario) (hs coming : List Happening) (mark cursor : List ℕ) (now : ℕ) (e : Waiting) → IsTold s hs coming mark cursor now e
-    → has_joined_at hs e.device now ≡ false
-    → fold (λ state h. state_with e.device state h.note.body) (state_after s (earlier now hs) e.device) coming ≡ Integrating
-told_looking s hs coming mark cursor now e told none =
-    let r = told.ripe in
-    let m = r.moving in
-    let device = e.device in
-    let late = all_late s hs coming mark cursor now (ripe_more e) m r.run.within in
-    let quiet : (h : Happening) → IsIn h coming → Rattle.world_law.proofs.devices.TurnedOn.IsQuiet device h.note.body = λ h i.
-    elim (said s hs coming mark cursor now e r h i) [
-      | inl still ↦ inl (late_still device h.note.body (late h i) still)
-      | inr (inl on) ↦ inr on.0
-      | inr (inr frame) ↦
-          absurd (both_ways (is_joined_by device (frame.2).note.body)
-          (sym (ap (λ (b : Bool). b && is_joined_by device (frame.2).note.body) (eq-eqb (time_of frame.2) now frame.5))
-          ∙ none_of (λ g. time_of g == now && is_joined_by device g.note.body) hs frame.2 none (numbered_in hs frame.1 frame.2 frame.4)) frame.6)
-    ] in
-    elim (cases_Bool (is_turned_on_at s device now)) [
-      | inr off ↦
-          let same : earlier now (hs ++ coming) ≡ earlier now hs = earlier_still now hs coming (λ z i. let at = m.are.of_now z i in omega (arith, at)) in
-          let start : state_after s (earlier now hs) device ≡ Integrating =
-          ap (λ (l : List Happening). state_after s l device) (sym same) ∙ sym (not_turned_on s (hs ++ coming) device now off) ∙ told.just.looking in
-          ap (λ (x : State). fold (λ state h. state_with device state h.note.body) x coming) start ∙ looking_on device coming quiet
-      | inl on ↦
-          let by = told.turned on in
-          let seven : rank by.by.note.body ≡ 7 = turning_rank device by.by.note.body by.turning in
-          let there : IsIn by.by coming = elim (Rattle.run_law.proofs.runs.Places.in_parts by.by hs coming by.there) [
-            | inr more ↦ more
-            | inl given ↦ (let low = given_low s hs coming mark cursor now (ripe_more e) m r.run.within by.by given by.at in absurd (omega (arith, low, seven)))
-          ] in
-          let at = parted by.by coming there in
-          ap (fold (λ state h. state_with device state h.note.body) (state_after s (earlier now hs) device)) at.2
-          ∙ ends_in device _ Integrating at.0 at.1 by.by (λ old. turning_state device old by.by.note.body by.turning) (λ h i.
-          elim (quiet h (subst (λ (l : List Happening). IsIn h l) (sym at.2) (in_right h at.0 (by.by ∷ at.1) (inr i)))) [
-            | inl still ↦ Rattle.world_law.proofs.devices.OwnRecords.keeps_state device Integrating h.note.body still
-            | inr turning ↦ turning_state device Integrating h.note.body turning
-          ])
-    ]
-  where
-    turning_rank : (device : DeviceId) (body : NoteBody) → is_turning device body ≡ true → rank body ≡ 7
-    turning_rank device (kinds.State other Integrating cause whys.On) t = refl
-    turning_rank device other t = absurd cc
+module _ {s : Scenario} {hs coming : List Happening} {mark cursor : List ℕ} {now : ℕ} {e : Waiting}
+    (told : IsTold s hs coming mark cursor now e) where
+  told_looking : has_joined_at hs e.device now ≡ false
+      → fold (λ state h. state_with e.device state h.note.body) (state_after s (earlier now hs) e.device) coming
+      ≡ Integrating
+  told_looking none =
+      let r = told.ripe in
+      let m = r.moving in
+      let device = e.device in
+      let late = all_late m r.run.within in
+      let quiet : (h : Happening) → IsIn h coming → Rattle.world_law.proofs.devices.TurnedOn.IsQuiet device
+      h.note.body = λ h i.
+      elim (said s hs coming mark cursor now r h i) [
+        | inl still ↦ inl (late_still device h.note.body (late h i) still)
+        | inr (inl on) ↦ inr on.0
+        | inr (inr frame) ↦
+            absurd (both_ways (is_joined_by device (frame.2).note.body)
+            (sym (ap (λ (b : Bool). b && is_joined_by device (frame.2).note.body)
+            (eq-eqb (time_of frame.2) now frame.5))
+            ∙ none_of (λ g. time_of g == now && is_joined_by device g.note.body) hs frame.2 none
+            (numbered_in hs frame.1 frame.2 frame.4)) frame.6)
+      ] in
+      elim (cases_Bool (is_turned_on_at s device now)) [
+        | inr off ↦
+            let same : earlier now (hs ++ coming) ≡ earlier now hs =
+            earlier_still now hs coming (λ z i. let at = m.are.of_now z i in omega (arith, at)) in
+            let start : state_after s (earlier now hs) device ≡ Integrating =
+            ap (λ l. state_after s l device) (sym same) ∙ sym
+            (not_turned_on s (hs ++ coming) device now off) ∙ told.just.looking in
+            ap (λ (x : State). fold (λ state h. state_with device state h.note.body) x coming) start ∙ looking_on
+            device coming quiet
+        | inl on ↦
+            let by = told.turned on in
+            let seven : rank by.by.note.body ≡ 7 = turning_rank device by.by.note.body by.turning in
+            let there : IsIn by.by coming = elim (Rattle.run_law.proofs.runs.Places.in_parts by.by hs coming by.there) [
+              | inr more ↦ more
+              | inl given ↦ (let low = given_low m r.run.within by.by given by.at in absurd (omega (arith, low, seven)))
+            ] in
+            let at = parted by.by coming there in
+            ap (fold (λ state h. state_with device state h.note.body) (state_after s (earlier now hs) device)) at.2
+            ∙ ends_in device _ Integrating at.0 at.1 by.by
+            (λ old. turning_state device old by.by.note.body by.turning) (λ h i.
+            elim (quiet h (subst (λ l. IsIn h l) (sym at.2)
+            (in_right h at.0 (by.by ∷ at.1) (inr i)))) [
+              | inl still ↦ Rattle.world_law.proofs.devices.OwnRecords.keeps_state device Integrating h.note.body still
+              | inr turning ↦ turning_state device Integrating h.note.body turning
+            ])
+      ]
+    where
+      turning_rank : (device : DeviceId) (body : NoteBody) → is_turning device body ≡ true → rank body ≡ 7
+      turning_rank device (kinds.State other Integrating cause whys.On) t = refl
+      turning_rank device other t = absurd cc
 
-pub state_now : (s : Scenario) (hs coming : List Happening) (mark cursor : List ℕ) (now : ℕ) (e : Waiting) → IsTold s hs coming mark cursor now e
-    → state_after s (hs ++ coming) e.device ≡ state_at_hearing s hs e.device now
-state_now s hs coming mark cursor now e told =
-    let r = told.ripe in
-    let device = e.device in
-    let f = λ (state : State) (h : Happening). state_with device state h.note.body in
-    let low = given_low s hs coming mark cursor now (ripe_more e) r.moving r.run.within in
-    let given : state_after s hs device ≡ (if has_joined_at hs device now then Joining else state_after s (earlier now hs) device) =
-    given_states device now _ hs (in_time_of s hs r.run.founded) r.past low in
-    let same : earlier now (hs ++ coming) ≡ earlier now hs = earlier_still now hs coming (λ z i. let at = r.moving.are.of_now z i in omega (arith, at)) in
-    let looking : state_before s hs device now ≡ Integrating =
-    sym (ap (λ (l : List Happening). if is_turned_on_at s device now then Integrating else state_after s l device) same) ∙ told.just.looking in
-    fold-append f _ hs coming
-    ∙ elim (cases_Bool (has_joined_at hs device now)) [
-      | inl joined ↦ told_joining s hs coming mark cursor now e _ told joined
-          ∙ sym (ap (λ (b : Bool). if b then Joining else state_before s hs device now) joined)
-      | inr none ↦
-          ap (λ (x : State). fold f x coming) (given ∙ ap (λ (b : Bool). if b then Joining else state_after s (earlier now hs) device) none)
-          ∙ told_looking s hs coming mark cursor now e told none
-          ∙ sym looking ∙ sym (ap (λ (b : Bool). if b then Joining else state_before s hs device now) none)
-    ]
+  pub state_now : state_after s (hs ++ coming) e.device ≡ state_at_hearing s hs e.device now
+  state_now =
+      let r = told.ripe in
+      let device = e.device in
+      let f = λ (state : State) (h : Happening). state_with device state h.note.body in
+      let low = given_low r.moving r.run.within in
+      let given : state_after s hs device ≡ (if has_joined_at hs device now then Joining else state_after s
+      (earlier now hs) device) =
+      given_states device now _ hs (in_time_of s hs r.run.founded) r.past low in
+      let same : earlier now (hs ++ coming) ≡ earlier now hs =
+      earlier_still now hs coming (λ z i. let at = r.moving.are.of_now z i in omega (arith, at)) in
+      let looking : state_before s hs device now ≡ Integrating =
+      sym (ap (λ l. if is_turned_on_at s device now then Integrating else state_after s l device)
+      same) ∙ told.just.looking in
+      fold-append f _ hs coming
+      ∙ elim (cases_Bool (has_joined_at hs device now)) [
+        | inl joined ↦ told_joining _ told joined
+            ∙ sym (ap (λ (b : Bool). if b then Joining else state_before s hs device now) joined)
+        | inr none ↦
+            ap (λ (x : State). fold f x coming) (given ∙ ap
+            (λ (b : Bool). if b then Joining else state_after s (earlier now hs) device) none)
+            ∙ told_looking none
+            ∙ sym looking ∙ sym (ap (λ (b : Bool). if b then Joining else state_before s hs device now) none)
+      ]

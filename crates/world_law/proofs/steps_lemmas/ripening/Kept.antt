@@ -13,7 +13,7 @@ use Rattle.world_law.proofs.steps_lemmas.Words.{moves, natural, not, observation
 use Rattle.world_law.proofs.steps_lemmas.Words.{reading_for, refl, ripe_as, ripening, state_after, state_before, subst, sym, taken_in, task_place, time_of}
 use Rattle.compression.proofs.Times.{one_list_of_clusters}
 use Rattle.{std.proofs.Common.Contains, sync_state.specs.Standing.Standing, world_law.proofs.devices.Borne.tell_owned}
-use Rattle.world_law.proofs.{steps_lemmas.{hearing.Quiet.frames_placed, ripening.Merely.own_skip}}
+use Rattle.world_law.proofs.steps_lemmas.{hearing.Quiet.frames_placed, ripening.Merely.own_skip}
 use Rattle.world_law.proofs.putting.{Bearing.{before_aside, changed_aside, earlier_aside, frames_aside, left_aside, still_aside}, Moving.{stays, worked_or_here}}
 use Rattle.world_law.proofs.steps_lemmas.{Words.{true, turned_aside, undone_alike, value_of, waiting_alike, ℕ, ℤ}, ripening.Clustered.{old_or_open, open_later}}
 use Rattle.world_law.proofs.steps_lemmas.ripening.{Judged.{Hears, cleared_told}, JustTold.IsTold}
@@ -30,50 +30,52 @@ pub record IsYet (s : Scenario) (hs coming : List Happening) (mark cursor : List
 under_act : (now d : ℕ) (more : List ℕ) → IsBefore (now ∷ 3 ∷ more) (now ∷ 4 ∷ d ∷ [])
 under_act now d more = inr (refl, inl (omega arith))
 
-pub is_yet : {M : Type 0} (stands : M → Network → DeviceId → Node → Type 0) (s : Scenario) (hs coming : List Happening) (mark cursor : List ℕ) (now : ℕ)
-    (e : Waiting) (machine : M)
-    → IsRipe s hs coming mark cursor now e → (k : IsKept stands s hs coming cursor now e.device machine) → IsYet s hs coming mark cursor now k.up e
-is_yet stands s hs coming mark cursor now e machine r k =
-    let here = now ∷ 3 ∷ ripe_more e in
-    let not_acted : IsBefore (act_place now e.device) cursor → ⊥ = λ b.
-    r.moving.waits (chain here (act_place now e.device) cursor (under_act now e.device.0 (ripe_more e)) b) in
-    record {
-      stands = elim k.acted [
-        | inl yet ↦ inl (yet.0, not_acted)
-        | inr over ↦ elim (k.told over.0) [
-          | inl out ↦ absurd (not_acted out.past)
-          | inr (inl just) ↦ inr (
-            over.0,
-            record {
-              ripe = r;
-              over = over.1;
-              just = just;
-              turned = λ on. let was = k.turned on in was.turned (over.1 (now ∷ 2 ∷ []) (inr (refl, inl (omega arith))));
-            },
-          )
-          | inr (inr joining) ↦ absurd (r.moving.waits (chain here (place_of joining.by) cursor
-              (frame_later now e joining.by (r.moving.are.of_now joining.by joining.there) joining.sent)
-              (r.moving.are.worked joining.by joining.there (frame_source joining.by.note.body joining.sent))))
-        ]
-      ];
-    }
-  where
-    frame_later : (now : ℕ) (e : Waiting) (h : Happening) → time_of h ≡ now → rank h.note.body ≡ 4 → IsBefore (now ∷ 3 ∷ ripe_more e) (place_of h)
-    frame_later now e h at four = inr (sym at, inl (omega (arith, four)))
+module _ {M : Type 0} (stands : M → Network → DeviceId → Node → Type 0) {s : Scenario} {hs coming : List Happening}
+    {mark cursor : List ℕ} {now : ℕ} {e : Waiting} (machine : M) (r : IsRipe s hs coming mark cursor now e) where
+  pub is_yet : (k : IsKept stands s hs coming cursor now e.device machine) → IsYet s hs coming mark cursor now k.up e
+  is_yet k =
+      let here = now ∷ 3 ∷ ripe_more e in
+      let not_acted : IsBefore (act_place now e.device) cursor → ⊥ = λ b.
+      r.moving.waits (chain here (act_place now e.device) cursor (under_act now e.device.0 (ripe_more e)) b) in
+      record {
+        stands = elim k.acted [
+          | inl yet ↦ inl (yet.0, not_acted)
+          | inr over ↦ elim (k.told over.0) [
+            | inl out ↦ absurd (not_acted out.past)
+            | inr (inl just) ↦ inr (
+              over.0,
+              record {
+                ripe = r;
+                over = over.1;
+                just = just;
+                turned = λ on. let was = k.turned on in was.turned
+                    (over.1 (now ∷ 2 ∷ []) (inr (refl, inl (omega arith))));
+              },
+            )
+            | inr (inr joining) ↦ absurd (r.moving.waits (chain here (place_of joining.by) cursor
+                (frame_later now e joining.by (r.moving.are.of_now joining.by joining.there) joining.sent)
+                (r.moving.are.worked joining.by joining.there (frame_source joining.by.note.body joining.sent))))
+          ]
+        ];
+      }
+    where
+      frame_later : (now : ℕ) (e : Waiting) (h : Happening) → time_of h ≡ now → rank h.note.body ≡ 4 → IsBefore
+          (now ∷ 3 ∷ ripe_more e) (place_of h)
+      frame_later now e h at four = inr (sym at, inl (omega (arith, four)))
 
-    frame_source : (body : NoteBody) → rank body ≡ 4 → is_at_source body ≡ true
-    frame_source (kinds.Compressed other opened out cycle members verdict) four = refl
-    frame_source other four = absurd (omega (arith, four))
+      frame_source : (body : NoteBody) → rank body ≡ 4 → is_at_source body ≡ true
+      frame_source (kinds.Compressed other opened out cycle members verdict) four = refl
+      frame_source other four = absurd (omega (arith, four))
 
--- and rests
-pub rests_yet : {M : Type 0} (stands : M → Network → DeviceId → Node → Type 0) (s : Scenario) (hs coming : List Happening) (mark cursor : List ℕ) (now : ℕ)
-    (e : Waiting) (machine : M)
-    → IsRipe s hs coming mark cursor now e → (k : IsKept stands s hs coming cursor now e.device machine)
-    → HasRested s e.device k.node (changed_at (hs ++ coming) e.device k.up) k.up
-rests_yet stands s hs coming mark cursor now e machine r k =
-    let le : now ≤ k.up = elim k.acted [ inl yet ↦ (let same = yet.0 in omega (arith, same)) | inr over ↦ (let next = over.0 in omega (arith, next)) ] in
-    rested s e.device k.node (changed_at (hs ++ coming) e.device k.up) k.up now cursor k.worked le
-    (λ b. r.moving.waits (chain (now ∷ 3 ∷ ripe_more e) (act_place now e.device) cursor (under_act now e.device.0 (ripe_more e)) b))
+  -- and rests
+  pub rests_yet : (k : IsKept stands s hs coming cursor now e.device machine)
+      → HasRested s e.device k.node (changed_at (hs ++ coming) e.device k.up) k.up
+  rests_yet k =
+      let le : now ≤ k.up =
+      elim k.acted [ inl yet ↦ (let same = yet.0 in omega (arith, same)) | inr over ↦ (let next = over.0 in omega (arith, next)) ] in
+      rested now k.worked le
+      (λ b. r.moving.waits (chain (now ∷ 3 ∷ ripe_more e) (act_place now e.device) cursor
+      (under_act now e.device.0 (ripe_more e)) b))
 
 done_alike : (node new : Node) (task : Task) → new.done ≡ node.done → new.emitted ≡ node.emitted → HasDoneTask node task → HasDoneTask new task
 done_alike node new (emitting sent) done emitted did = subst (λ (l : List Compressed). Contains l sent) (sym emitted) did
@@ -87,15 +89,16 @@ pub record IsCarriedOn (s : Scenario) (e : Waiting) (node new : Node) : Type 0 w
   pub waiting : (sent : Compressed) → IsWaiting s.network e.device new sent → IsWaiting s.network e.device node sent ⊎ ((e.point.0 +ℤ pos 1) ≤ℤ sent.at.0)
   pub bare : is_cm s.network e.device ≡ false → new.points ≡ node.points
 
-alike_of : (node new : Node) → IsSame node new → IsAlike node new
-alike_of node new s = grind arith
+alike_of : {node new : Node} → IsSame node new → IsAlike node new
+alike_of s = grind arith
 
-task_carried : (s : Scenario) (e : Waiting) (node new : Node) (task : Task) → IsCarriedOn s e node new → IsPending s.network e.device new task
-    → (IsPending s.network e.device node task × (reading_for s.network node task ≡ reading_for s.network new task))
+task_carried : {s : Scenario} {e : Waiting} {node new : Node} (task : Task) → IsCarriedOn s e node new
+    → IsPending s.network e.device new task → (IsPending s.network e.device node task
+    × (reading_for s.network node task ≡ reading_for s.network new task))
     ⊎ ((e.point.0 +ℤ pos 1) ≤ℤ reading_for s.network new task)
-task_carried s e node new (emitting sent) c p =
+task_carried (emitting sent) c p =
     elim (c.waiting sent p.1) [ inl old ↦ inl ((sym c.same.broken ∙ p.0, old), refl) | inr later ↦ inr later ]
-task_carried s e node new (doing deed) c p = grind (arith, undone_alike, alike_of, value_of)
+task_carried (doing deed) c p = grind (arith, undone_alike, alike_of, value_of)
 
 pub before_place : (p : List ℕ) (now : ℕ) (more : List ℕ) → IsBefore p (now ∷ 3 ∷ []) → IsBefore p (now ∷ 3 ∷ more)
 before_place [] now more b = tt
@@ -114,43 +117,46 @@ pub record IsNext (s : Scenario) (hs coming coming2 : List Happening) (now up : 
   pub turned : (cursor : List ℕ) → HasTurnedOn s hs coming cursor device now → HasTurnedOn s hs coming2 cursor device now
   pub frames : frames_taken s (hs ++ coming) device ≡ frames_taken s (hs ++ coming2) device
 
-pub turned_on : (s : Scenario) (hs coming : List Happening) (mark cursor : List ℕ) (now : ℕ) (more : List ℕ) (device : DeviceId)
-    → IsMoving s hs coming mark cursor now 3 more → HasTurnedOn s hs coming cursor device now → HasTurnedOn s hs coming (behind (now ∷ 3 ∷ more)) device now
-turned_on s hs coming mark cursor now more device m it = record {
+pub turned_on : {s : Scenario} {hs coming : List Happening} {mark cursor : List ℕ} {now : ℕ} {more : List ℕ}
+    {device : DeviceId} → IsMoving s hs coming mark cursor now 3 more → HasTurnedOn s hs coming cursor device now
+    → HasTurnedOn s hs coming (behind (now ∷ 3 ∷ more)) device now
+turned_on {s} {hs} {coming} {now} m it = record {
   off = it.off;
   number = it.number;
   event = it.event;
   befell = it.befell;
   turned = λ b.
-      elim (worked_or_here s hs coming [] coming mark cursor now 3 more m refl (now ∷ 2 ∷ [])
-      (subst (λ (l : List Happening). IsSource s l (now ∷ 2 ∷ [])) (sym (Rattle.std.proofs.lemmas.List.append-nil hs))
+      elim (worked_or_here [] coming m refl
+      (subst (λ l. IsSource s l (now ∷ 2 ∷ [])) (sym (Rattle.std.proofs.lemmas.List.append-nil hs))
       (IsSource.following now it.number it.event it.befell)) b) [
         | inl yet ↦ it.turned yet
         | inr here ↦ absurd (m.longer here)
       ];
 }
 
-pub kept_next : {M : Type 0} (stands : M → Network → DeviceId → Node → Type 0) (s : Scenario) (hs coming coming2 : List Happening) (mark cursor : List ℕ)
-    (now : ℕ) (e : Waiting)
-    (machine after : M) (new : Node) (r : IsRipe s hs coming mark cursor now e) (k : IsKept stands s hs coming cursor now e.device machine)
-    → stands after s.network e.device (called (moment_of s e.device now) ripening new) → IsCarriedOn s e k.node (called (moment_of s e.device now) ripening new)
+pub kept_next : {M : Type 0} {stands : M → Network → DeviceId → Node → Type 0} {s : Scenario}
+    {hs coming coming2 : List Happening} {mark cursor : List ℕ} {now : ℕ} {e : Waiting} {machine : M} (after : M)
+    (new : Node) (r : IsRipe s hs coming mark cursor now e)
+    (k : IsKept stands s hs coming cursor now e.device machine)
+    → stands after s.network e.device (called (moment_of s e.device now) ripening new)
+    → IsCarriedOn s e k.node (called (moment_of s e.device now) ripening new)
     → IsNext s hs coming coming2 now k.up e.device (called (moment_of s e.device now) ripening new)
     → IsKept stands s hs coming2 (behind (now ∷ 3 ∷ ripe_more e)) now e.device after
-kept_next stands s hs coming coming2 mark cursor now e machine after base r k is c n =
+kept_next {stands} {s} {hs} {coming} {coming2} {now} {e} {machine} after base r k is c n =
     let m = r.moving in
     let more = ripe_more e in
     let new = called (moment_of s e.device now) ripening base in
     let here = now ∷ 3 ∷ more in
-    let yet = is_yet stands s hs coming mark cursor now e machine r k in
-    let rests = rests_yet stands s hs coming mark cursor now e machine r k in
-    let a = alike_of k.node new c.same in
-    let soon = in_time s hs coming mark cursor now e r in
+    let yet = is_yet stands machine r k in
+    let rests = rests_yet stands machine r k in
+    let a = alike_of c.same in
+    let soon = in_time r in
     let adjusted : new.standing.adjustment ≡ k.node.standing.adjustment = ap (λ (x : Standing). x.adjustment) c.same.standing in
     let change = n.change in
     let done_so : HasDoneFrom s.network (s.reading e.device) e.device new (changed_at (hs ++ coming2) e.device k.up) k.up k.up = record {
       undone = λ deed u x from lt.
           subst (λ (z : Units). pos (s.reading e.device x) <ℤ (value_of s.network deed -ℤ z.0)) (sym adjusted)
-          (rests.done.undone deed (undone_alike s.network e.device k.node new deed a u) x (omega (arith, from, change)) lt);
+          (rests.done.undone deed (undone_alike s.network e.device k.node new a u) x (omega (arith, from, change)) lt);
       done = λ deed there.
           let x = rests.done.done deed (subst (λ (l : List ClockTask). Contains l deed) c.same.done there) in (
             x.0,
@@ -164,7 +170,7 @@ kept_next stands s hs coming coming2 mark cursor now e machine after base r k is
         | inl old ↦ rests.sent.unsent sent old x lt
         | inr later ↦ elim yet.stands [
           | inl now_is ↦
-              let under = not_beyond s hs coming mark cursor now e r x (let at = now_is.0 in omega (arith, lt, at)) in
+              let under = not_beyond r x (let at = now_is.0 in omega (arith, lt, at)) in
               omega (arith, ints, under, later)
           | inr over ↦ absurd (both_ways (is_cm s.network e.device) over.1.just.other w.cm)
         ]
@@ -178,13 +184,13 @@ kept_next stands s hs coming coming2 mark cursor now e machine after base r k is
       sound = k.sound;
       up = k.up;
       acted = elim k.acted [
-        | inr over ↦ inr (over.0, λ p b. stays s hs coming mark cursor now 3 more m p (over.1 p b))
+        | inr over ↦ inr (over.0, λ p b. stays m p (over.1 p b))
         | inl still ↦
             inl (
               still.0,
               λ task b acts.
-                  elim (worked_or_here s hs coming [] coming mark cursor now 3 more m refl (task_place s.network now e.device task)
-                  (subst (λ (l : List Happening). IsSource s l (task_place s.network now e.device task)) (sym (Rattle.std.proofs.lemmas.List.append-nil hs))
+                  elim (worked_or_here [] coming m refl
+                  (subst (λ l. IsSource s l (task_place s.network now e.device task)) (sym (Rattle.std.proofs.lemmas.List.append-nil hs))
                   (IsSource.acting now e.device task acts)) b) [
                     | inl was ↦ did_then task (still.1 task was acts)
                     | inr at ↦ absurd (no_task_at s.network now e.device 3 more (inl (omega arith)) task at)
@@ -203,30 +209,30 @@ kept_next stands s hs coming coming2 mark cursor now e machine after base r k is
             let x = k.worked.done deed (subst (λ (l : List ClockTask). Contains l deed) c.same.done there) in (
               x.0,
               omega (arith, x.1, change),
-              stays s hs coming mark cursor now 3 more m (task_place s.network x.0 e.device (doing deed)) x.2,
+              stays m (task_place s.network x.0 e.device (doing deed)) x.2,
               subst (λ (z : Units). (value_of s.network deed -ℤ z.0) ≤ℤ pos (s.reading e.device x.0)) (sym adjusted) x.3,
             );
         unsent = sent_so.unsent;
         sent = λ sent there.
             let x = k.worked.sent sent (subst (λ (l : List Compressed). Contains l sent) c.same.emitted there) in
-            (x.0, stays s hs coming mark cursor now 3 more m (task_place s.network x.0 e.device (emitting sent)) x.1, x.2);
+            (x.0, stays m (task_place s.network x.0 e.device (emitting sent)) x.1, x.2);
       };
       bare = λ other. (c.bare other ∙ (k.bare other).0, c.same.emitted ∙ (k.bare other).1);
       ready = record {
         time = omega (arith, ints);
         begun = omega (arith, ints);
         last = refl;
-        undone = λ task p x lt. elim (task_carried s e k.node new task c p) [
-          | inl it ↦ subst (λ (z : ℤ). pos (s.reading e.device x) <ℤ z) it.1 (k.ready.undone task it.0 x lt)
-          | inr later ↦ let under = not_beyond s hs coming mark cursor now e r x lt in omega (arith, ints, under, later)
+        undone = λ task p x lt. elim (task_carried task c p) [
+          | inl it ↦ subst (λ z. pos (s.reading e.device x) <ℤ z) it.1 (k.ready.undone task it.0 x lt)
+          | inr later ↦ let under = not_beyond r x lt in omega (arith, ints, under, later)
         ];
-        in_time = λ task p. elim (task_carried s e k.node new task c p) [
-          | inl it ↦ subst (λ (z : ℤ). pos (s.reading e.device now) <ℤ (z +ℤ s.network.precision.0)) it.1 (k.ready.in_time task it.0)
+        in_time = λ task p. elim (task_carried task c p) [
+          | inl it ↦ subst (λ z. pos (s.reading e.device now) <ℤ (z +ℤ s.network.precision.0)) it.1 (k.ready.in_time task it.0)
           | inr later ↦ omega (arith, ints, soon, later)
         ];
       };
       still = λ same. n.still (k.still same);
-      turned = λ on. n.turned (behind here) (turned_on s hs coming mark cursor now more e.device m (k.turned on));
+      turned = λ on. n.turned (behind here) (turned_on m (k.turned on));
       cleared = λ cycle there.
           subst (λ (x : Standing). cycle < x.number) (sym c.same.standing)
           (k.cleared cycle (subst (λ (l : List ClockTask). Contains l (correcting cycle)) c.same.done there));
@@ -235,11 +241,11 @@ kept_next stands s hs coming coming2 mark cursor now e machine after base r k is
 
 -- ---- the frame is dropped, or tells another device something
 
-pub next_aside : (s : Scenario) (hs front back : List Happening) (now up : ℕ) (device : DeviceId) (w : Happening) (new : Node)
-    → Rattle.world_law.specs.device.Own.bears_on device w.note.body ≡ false → IsNoTaking device w.note.body
-    → IsLeft s (hs ++ (front ++ back)) device up new
+pub next_aside : {s : Scenario} (hs front back : List Happening) (now : ℕ) {up : ℕ} {device : DeviceId}
+    (w : Happening) {new : Node} → Rattle.world_law.specs.device.Own.bears_on device w.note.body ≡ false
+    → IsNoTaking device w.note.body → IsLeft s (hs ++ (front ++ back)) device up new
     → IsNext s hs (front ++ back) (front ++ w ∷ back) now up device new
-next_aside s hs front back now up device w new misses none left = record {
+next_aside {s} hs front back now {up} {device} w {new} misses none left = record {
   left = left_aside s hs front back w device misses up new left;
   change = sym (changed_aside s hs front back w device misses up);
   before = before_aside s hs front back w device misses now;
@@ -258,16 +264,18 @@ all_rec P [] holds = tt
 all_rec P (x ∷ xs) holds = (holds x (inl refl), all_rec P xs (λ y i. holds y (inr i)))
 
 -- an emission of the device with one more point is one of before, or a later one
-with_point_waiting : (s : Scenario) (e : Waiting) (node new : Node) (p : Point) (sent : Compressed) → p.reading ≡ e.point.0 → new.points ≡ node.points ++ p ∷ []
-    → new.emitted ≡ node.emitted → pos 1 ≤ℤ pos (amount s.network.calc) → ((q : Point) → IsIn q node.points → q.reading ≤ℤ e.point.0)
-    → IsWaiting s.network e.device new sent → IsWaiting s.network e.device node sent ⊎ ((e.point.0 +ℤ pos 1) ≤ℤ sent.at.0)
-with_point_waiting s e node new p sent at points emitted some no_later w =
+with_point_waiting : (s : Scenario) (e : Waiting) (node : Node) {new : Node} (p : Point) {sent : Compressed}
+    → p.reading ≡ e.point.0 → new.points ≡ node.points ++ p ∷ [] → new.emitted ≡ node.emitted
+    → pos 1 ≤ℤ pos (amount s.network.calc) → ((q : Point) → IsIn q node.points → q.reading ≤ℤ e.point.0)
+    → IsWaiting s.network e.device new sent → IsWaiting s.network e.device node sent
+    ⊎ ((e.point.0 +ℤ pos 1) ≤ℤ sent.at.0)
+with_point_waiting s e node p {sent} at points emitted some no_later w =
     let ow = observation_window s.network in
     let whole : pos 0 ≤ℤ ow = omega (arith, ints) in
     let old = one_list_of_clusters ow node.points in
     let up = all_rec (λ q. q.reading ≤ℤ p.reading) node.points (λ q i. let le = no_later q i in omega (arith, ints, le, at)) in
     elim (old_or_open (length node.points) ow node.points old.0 w.clusters p w.cluster (omega arith) whole up old.1
-    (subst (λ (ps : List Point). AreClusters ow ps w.clusters) points w.are) w.there) [
+    (subst (λ ps. AreClusters ow ps w.clusters) points w.are) w.there) [
       | inl there ↦
           inl (record {
             cm = w.cm;
@@ -279,32 +287,35 @@ with_point_waiting s e node new p sent at points emitted some no_later w =
             not_yet = λ given. w.not_yet (subst (λ (l : List Compressed). Contains l sent) (sym emitted) given);
           })
       | inr open_ ↦
-          let later = open_later ow (pos (amount s.network.calc)) p w.cluster whole open_ in
+          let later = open_later (pos (amount s.network.calc)) whole open_ in
           inr (subst (λ (c : Compressed). (e.point.0 +ℤ pos 1) ≤ℤ c.at.0) (sym w.is) (omega (arith, ints, later, at, some)))
     ]
 
-calc_some : (s : Scenario) (hs coming : List Happening) (mark cursor : List ℕ) (now : ℕ) (e : Waiting) → IsRipe s hs coming mark cursor now e
-    → pos 1 ≤ℤ pos (amount s.network.calc)
-calc_some s hs coming mark cursor now e r = grind (arith, natural, ints)
+module _ (s : Scenario) (hs coming : List Happening) (mark cursor : List ℕ) (now : ℕ) (e : Waiting) where
+  calc_some : IsRipe s hs coming mark cursor now e → pos 1 ≤ℤ pos (amount s.network.calc)
+  calc_some r = grind (arith, natural, ints)
 
-pub carried_by_role : (s : Scenario) (hs coming : List Happening) (mark cursor : List ℕ) (now : ℕ) (e : Waiting) (node : Node) (verdict : Judgement)
-    → IsRipe s hs coming mark cursor now e → IsByRole (is_cm s.network e.device) verdict
-    → (is_cm s.network e.device ≡ true → (q : Point) → IsIn q node.points → q.reading ≤ℤ e.point.0)
-    → IsCarriedOn s e node (called (moment_of s e.device now) ripening
-    (after_permanence node (moment_of s e.device now) (channel_of_link s.network e.link) e.frame e.point (ripe_as verdict)))
-carried_by_role s hs coming mark cursor now e node verdict r role no_later =
-    let moment = moment_of s e.device now in
-    let same = same_by_role s.network e.device node moment ripening e.link e.point e.frame (is_cm s.network e.device) verdict role in
-    let new = called moment ripening (after_permanence node moment (channel_of_link s.network e.link) e.frame e.point (ripe_as verdict)) in
-    record {
-      same = same;
-      waiting = λ sent w.
-          with_point_waiting s e node new (point_at e.point.0 (master_of e.frame.members.0) e.frame.cycle) sent refl
-          (points_by_role s.network e.device node moment ripening e.link e.point e.frame verdict (subst (λ (b : Bool). IsByRole b verdict) w.cm role))
-          same.emitted
-          (calc_some s hs coming mark cursor now e r) (no_later w.cm) w;
-      bare = λ other. points_not s.network e.device node moment ripening e.link e.point e.frame verdict (subst (λ (b : Bool). IsByRole b verdict) other role);
-    }
+  pub carried_by_role : (node : Node) (verdict : Judgement) → IsRipe s hs coming mark cursor now e
+      → IsByRole (is_cm s.network e.device) verdict → (is_cm s.network e.device ≡ true → (q : Point)
+      → IsIn q node.points → q.reading ≤ℤ e.point.0) → IsCarriedOn s e node
+      (called (moment_of s e.device now) ripening (after_permanence node (moment_of s e.device now) (channel_of_link
+      s.network e.link) e.frame e.point (ripe_as verdict)))
+  carried_by_role node verdict r role no_later =
+      let moment = moment_of s e.device now in
+      let same = same_by_role s.network e.device node moment ripening e.link e.point e.frame
+      (is_cm s.network e.device) verdict role in
+      let new = called moment ripening (after_permanence node moment (channel_of_link s.network e.link) e.frame
+      e.point (ripe_as verdict)) in
+      record {
+        same = same;
+        waiting = λ sent w.
+            with_point_waiting s e node (point_at e.point.0 (master_of e.frame.members.0) e.frame.cycle) refl
+            (points_by_role s.network e.device node moment ripening e.link e.point e.frame verdict
+            (subst (λ b. IsByRole b verdict) w.cm role))
+            same.emitted (calc_some r) (no_later w.cm) w;
+        bare = λ other. points_not s.network e.device node moment ripening e.link e.point e.frame verdict
+            (subst (λ b. IsByRole b verdict) other role);
+      }
 
 keep_of : (a b : Bool) → (a ≡ false) ⊎ (a ≡ b) → (not a || b) ≡ true
 keep_of false b so = refl
@@ -317,17 +328,19 @@ role_still : (cm : Bool) (device : DeviceId) (body : NoteBody) (link : _) (cause
     × (Rattle.run_law.specs.control.Collections.ends_stretch device body ≡ false)
 role_still cm device body link cause point verdict e role = grind (arith, is_joined_by, moves, changes_adjustment)
 
-pub next_by_role : {M : Type 0} (stands : M → Network → DeviceId → Node → Type 0) (s : Scenario) (hs coming : List Happening) (mark cursor : List ℕ)
-    (now : ℕ) (e : Waiting)
-    (machine : M) (w : Happening) (verdict : Judgement) (r : IsRipe s hs coming mark cursor now e) (k : IsKept stands s hs coming cursor now e.device machine)
-    → Hears s hs e.device now k.node → IsByRole (is_cm s.network e.device) verdict → w.note.body ≡ kinds.Permanent e.device e.link e.cause e.point verdict
-    → w.frame ≡ Rattle.std.proofs.Common.Some e.frame → time_of w ≡ now → IsNext s hs coming (w ∷ coming) now k.up e.device
-    (called (moment_of s e.device now) ripening (after_permanence k.node (moment_of s e.device now) (channel_of_link s.network e.link) e.frame e.point
-    (ripe_as verdict)))
-next_by_role stands s hs coming mark cursor now e machine w verdict r k hears role body of_frame at =
+pub next_by_role : {M : Type 0} {stands : M → Network → DeviceId → Node → Type 0} {s : Scenario}
+    {hs coming : List Happening} {mark cursor : List ℕ} {now : ℕ} {e : Waiting} {machine : M} (w : Happening)
+    (verdict : Judgement) (r : IsRipe s hs coming mark cursor now e)
+    (k : IsKept stands s hs coming cursor now e.device machine) → Hears s hs e.device now k.node
+    → IsByRole (is_cm s.network e.device) verdict → w.note.body
+    ≡ kinds.Permanent e.device e.link e.cause e.point verdict → w.frame ≡ Rattle.std.proofs.Common.Some e.frame
+    → time_of w ≡ now → IsNext s hs coming (w ∷ coming) now k.up e.device
+    (called (moment_of s e.device now) ripening (after_permanence k.node (moment_of s e.device now) (channel_of_link
+    s.network e.link) e.frame e.point (ripe_as verdict)))
+next_by_role {stands} {s} {hs} {coming} {now} {e} {machine} w verdict r k hears role body of_frame at =
     let device = e.device in
-    let yet = is_yet stands s hs coming mark cursor now e machine r k in
-    let late = all_late s hs coming mark cursor now (ripe_more e) r.moving r.run.within in
+    let yet = is_yet stands machine r k in
+    let late = all_late r.moving r.run.within in
     let quiet = role_still (is_cm s.network device) device w.note.body e.link e.cause e.point verdict body role in
     let first : IsFirst s coming device k.up w = record {
       mere = λ z i. late_mere device z.note.body (late z i);
@@ -354,12 +367,12 @@ next_by_role stands s hs coming mark cursor now e machine w verdict r k hears ro
       | inr b ↦ let z_now = r.moving.are.of_now z b in omega (arith, z_now)
     ])) in
     record {
-      left = left_grown s hs coming device k.up w k.node new first keep grown k.left;
+      left = left_grown hs first keep grown k.left;
       change = a.change;
       before =
-          ap (λ (l : List Happening). if is_turned_on_at s device now then Rattle.sync_state.specs.declared.state.State.TheVariants.Integrating
+          ap (λ l. if is_turned_on_at s device now then Rattle.sync_state.specs.declared.state.State.TheVariants.Integrating
           else state_after s l device) same_earlier;
       still = still_aside s hs [] coming w device now quiet.1;
-      turned = λ cursor2 it. turned_aside s hs [] coming w device it (ap (λ (l : List Happening). state_after s l device) same_earlier);
-      frames = frames_placed s hs [] coming w device (λ z. ap (taken_in device z) body) (λ h i. sooner_of s hs coming mark cursor now e r w h at i);
+      turned = λ cursor2 it. turned_aside s hs [] coming w device it (ap (λ l. state_after s l device) same_earlier);
+      frames = frames_placed s hs [] coming w device (λ z. ap (taken_in device z) body) (λ h i. sooner_of r w h at i);
     }

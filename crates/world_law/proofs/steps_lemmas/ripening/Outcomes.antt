@@ -71,50 +71,56 @@ is_here : (now t d a m l c : ℕ) (e : Waiting) (device : DeviceId) (link : Link
     ∷ c ∷ [] → IsHere now t e device link c
 is_here now t d a m l c e device link dev of_link at = grind arith
 
-moved_here : (s : Scenario) (js : List Happening) (now t : ℕ) (e : Waiting) (device : DeviceId) (link : LinkId) (cause : ℕ) (point : Units) (is : Ripe)
-    → IsHere now t e device link cause → BecomesPermanent s js device t link cause point is → BecomesPermanent s js e.device now e.link e.cause point is
-moved_here s js now t e device link cause point is h b = grind arith
+moved_here : {s : Scenario} {js : List Happening} {now t : ℕ} {e : Waiting} {device : DeviceId} {link : LinkId}
+    {cause : ℕ} {point : Units} {is : Ripe} → IsHere now t e device link cause
+    → BecomesPermanent s js device t link cause point is → BecomesPermanent s js e.device now e.link e.cause point is
+moved_here h b = grind arith
 
-pub one_outcome : (s : Scenario) (hs coming f : List Happening) (mark cursor : List ℕ) (now t : ℕ) (e : Waiting) (node : Node) (device : DeviceId)
-    (link : LinkId) (cause : ℕ) (point : Units)
-    (is other : Ripe) → IsRipe s hs coming mark cursor now e → Hears s hs e.device now node → IsPermanenceOutcomeAt s.network e.device node e.frame e.point is
-    → ((h : Happening) → IsIn h f → IsBefore (place_of h) (now ∷ 3 ∷ ripe_more e) → ⊥) → IsHere now t e device link cause
-    → BecomesPermanent s (hs ++ f) device t link cause point other → other ≡ is
-one_outcome s hs coming f mark cursor now t e node device link cause point is other r hears so after h b =
-    same_ripening s (hs ++ f) now e.device e.link e.cause point e.point other is (moved_here s (hs ++ f) now t e device link cause point other h b)
+pub one_outcome : {s : Scenario} {hs coming : List Happening} (f : List Happening) {mark cursor : List ℕ} {now t : ℕ}
+    {e : Waiting} {node : Node} {device : DeviceId} {link : LinkId} {cause : ℕ} {point : Units} (is : Ripe)
+    {other : Ripe} → IsRipe s hs coming mark cursor now e → Hears s hs e.device now node
+    → IsPermanenceOutcomeAt s.network e.device node e.frame e.point is
+    → ((h : Happening) → IsIn h f → IsBefore (place_of h) (now ∷ 3 ∷ ripe_more e) → ⊥)
+    → IsHere now t e device link cause → BecomesPermanent s (hs ++ f) device t link cause point other → other ≡ is
+one_outcome {s} {hs} {coming} f {mark} {cursor} {now} {e} {node} {point} is {other} r hears so after h b =
+    same_ripening s (hs ++ f) now e.device e.link e.cause point e.point other is (moved_here h b)
     (becomes_now s hs coming f mark cursor now e node is r after hears so)
 
 -- ---- so its record is at the place
 
--- where it is permanent
-pub permanent_all : (s : Scenario) (hs coming coming2 : List Happening) (mark cursor : List ℕ) (now : ℕ) (e : Waiting) (node : Node) (w : Happening)
-    (verdict : Judgement)
-    → IsRipe s hs coming mark cursor now e → Hears s hs e.device now node → IsPermanenceOutcomeAt s.network e.device node e.frame e.point (ripe_as verdict)
-    → ((h : Happening) → IsIn h coming2 → IsBefore (place_of h) (now ∷ 3 ∷ ripe_more e) → ⊥)
-    → (z : Happening) → IsIn z coming2 → place_of z ≡ now ∷ 3 ∷ ripe_more e → IsAllOfIt s hs coming2 (now ∷ 3 ∷ ripe_more e)
-permanent_all s hs coming coming2 mark cursor now e node w verdict r hears so after z there at front back y whole before none due own =
-    let inside : (h : Happening) → IsIn h front → IsBefore (place_of h) (now ∷ 3 ∷ ripe_more e) → ⊥ = λ h i.
-    after h (subst (λ (l : List Happening). IsIn h l) (sym whole) (in_left h front back i)) in
-    elim (kind_at s (hs ++ front) (time_of y) (members_in y) now y.note.body (ripe_more e) own) [
-      | inl p ↦ (
-        z,
-        there,
-        at ∙ p.at ∙ sym (ap (λ (b : NoteBody). time_of y ∷ rank b ∷ key (members_in y) b) p.is),
-      )
-      | inr d ↦
-          let h = is_here now (time_of y) d.device.0 (amount d.point) d.becomes.frame.members.0 d.link.0 d.cause e d.device d.link refl refl d.at in
-          absurd (never_dropped verdict d.reason
-          (one_outcome s hs coming front mark cursor now (time_of y) e node d.device d.link d.cause d.point (ripe_as verdict) (ripe.Dropped d.reason) r hears so
-          inside h d.becomes))
-    ]
+module _ (s : Scenario) (hs coming coming2 : List Happening) (mark cursor : List ℕ) (now : ℕ) (e : Waiting)
+    (node : Node) where
+  -- where it is permanent
+  pub permanent_all : (w : Happening) (verdict : Judgement) → IsRipe s hs coming mark cursor now e
+      → Hears s hs e.device now node → IsPermanenceOutcomeAt s.network e.device node e.frame e.point
+      (ripe_as verdict) → ((h : Happening) → IsIn h coming2 → IsBefore (place_of h) (now ∷ 3 ∷ ripe_more e) → ⊥)
+      → (z : Happening) → IsIn z coming2 → place_of z ≡ now ∷ 3 ∷ ripe_more e
+      → IsAllOfIt s hs coming2 (now ∷ 3 ∷ ripe_more e)
+  permanent_all w verdict r hears so after z there at front back y whole before none due own =
+      let inside : (h : Happening) → IsIn h front → IsBefore (place_of h) (now ∷ 3 ∷ ripe_more e) → ⊥ = λ h i.
+      after h (subst (λ l. IsIn h l) (sym whole) (in_left h front back i)) in
+      elim (kind_at s (hs ++ front) (time_of y) (members_in y) now y.note.body (ripe_more e) own) [
+        | inl p ↦ (
+          z,
+          there,
+          at ∙ p.at ∙ sym (ap (λ b. time_of y ∷ rank b ∷ key (members_in y) b) p.is),
+        )
+        | inr d ↦
+            let h = is_here now (time_of y) d.device.0 (amount d.point) d.becomes.frame.members.0 d.link.0 d.cause e
+            d.device d.link refl refl d.at in
+            absurd (never_dropped verdict d.reason
+            (one_outcome front (ripe_as verdict) r hears so
+            inside h d.becomes))
+      ]
 
--- where it is dropped
-pub dropped_all : (s : Scenario) (hs coming coming2 : List Happening) (mark cursor : List ℕ) (now : ℕ) (e : Waiting) (node : Node) (reason : Reason)
-    → IsRipe s hs coming mark cursor now e → Hears s hs e.device now node → IsPermanenceOutcomeAt s.network e.device node e.frame e.point (ripe.Dropped reason)
-    → ((h : Happening) → IsIn h coming2 → IsBefore (place_of h) (now ∷ 3 ∷ ripe_more e) → ⊥)
-    → (z : Happening) → IsIn z coming2 → place_of z ≡ now ∷ 13 ∷ e.device.0 ∷ e.link.0 ∷ e.cause ∷ [] → IsAllOfIt s hs coming2 (now ∷ 3 ∷ ripe_more e)
-dropped_all s hs coming coming2 mark cursor now e node reason r hears so after z there at front back y whole before none due own =
-    grind (arith, place_of, ripe_more, in_left, kind_at, time_of, members_in, is_here, amount, rank, key, never_dropped, one_outcome, ripe_as)
+  -- where it is dropped
+  pub dropped_all : (reason : Reason) → IsRipe s hs coming mark cursor now e → Hears s hs e.device now node
+      → IsPermanenceOutcomeAt s.network e.device node e.frame e.point (ripe.Dropped reason)
+      → ((h : Happening) → IsIn h coming2 → IsBefore (place_of h) (now ∷ 3 ∷ ripe_more e) → ⊥) → (z : Happening)
+      → IsIn z coming2 → place_of z ≡ now ∷ 13 ∷ e.device.0 ∷ e.link.0 ∷ e.cause ∷ []
+      → IsAllOfIt s hs coming2 (now ∷ 3 ∷ ripe_more e)
+  dropped_all reason r hears so after z there at front back y whole before none due own =
+      grind (arith, place_of, ripe_more, in_left, kind_at, time_of, members_in, is_here, amount, rank, key, never_dropped, one_outcome, ripe_as)
 
 -- ---- no other drop is there yet
 
@@ -136,15 +142,17 @@ place_drop t m now d l c (kinds.Accepted device link cause vl cycle) e = absurd 
 place_drop t m now d l c (kinds.Delivered device link cause vl cycle) e = absurd (let r : ◌≡◌ {A = ℕ} 13 12 = cc in omega (arith, r))
 place_drop t m now d l c (kinds.Clock device reading adjustment state) e = absurd (let r : ◌≡◌ {A = ℕ} 13 14 = cc in omega (arith, r))
 
-same_place : (s : Scenario) (js : List Happening) (t : ℕ) (device : DeviceId) (link : LinkId) (cause : ℕ) (a b : Pcf) (p q : Units)
-    → IsPermanent s js device t link cause a p → IsPermanent s js device t link cause b q → (a ≡ b) × (p ≡ q)
-same_place s js t device link cause a b p q x y = grind (arith, some_same)
+same_place : {s : Scenario} {js : List Happening} {t : ℕ} {device : DeviceId} {link : LinkId} {cause : ℕ} {a b : Pcf}
+    {p q : Units} → IsPermanent s js device t link cause a p → IsPermanent s js device t link cause b q
+    → (a ≡ b) × (p ≡ q)
+same_place x y = grind (arith, some_same)
 
 -- a drop at the place of this frame's would come from this very source, which is not worked off
-pub drop_fresh : (s : Scenario) (hs coming : List Happening) (mark cursor : List ℕ) (now : ℕ) (e : Waiting) (r : IsRipe s hs coming mark cursor now e)
-    → (permanent : (f : List Happening) → IsPermanent s (hs ++ f) e.device now e.link e.cause e.frame e.point)
-    → (y : Happening) → IsIn y coming → now ∷ 13 ∷ e.device.0 ∷ e.link.0 ∷ e.cause ∷ [] ≡ place_of y → ⊥
-drop_fresh s hs coming mark cursor now e r permanent y i at =
+pub drop_fresh : {s : Scenario} {hs coming : List Happening} {mark cursor : List ℕ} {now : ℕ} {e : Waiting}
+    (r : IsRipe s hs coming mark cursor now e) (permanent : (f : List Happening)
+    → IsPermanent s (hs ++ f) e.device now e.link e.cause e.frame e.point) (y : Happening) → IsIn y coming
+    → now ∷ 13 ∷ e.device.0 ∷ e.link.0 ∷ e.cause ∷ [] ≡ place_of y → ⊥
+drop_fresh {s} {hs} {coming} {cursor} {now} {e} r permanent y i at =
     let here = now ∷ 3 ∷ ripe_more e in
     let of = place_drop (time_of y) (members_in y) now e.device.0 e.link.0 e.cause y.note.body at in
     let device : of.0 ≡ e.device = ap (λ (n : ℕ). let x : DeviceId = record { 0 = n } in x) of.5 in
@@ -156,17 +164,17 @@ drop_fresh s hs coming mark cursor now e r permanent y i at =
     let by = r.moving.are.by part.0 part.1 y part.2 in
     let y_now = r.moving.are.of_now y i in
     let under : IsBefore by.0 here = before_later by.0 here cursor by.3 r.moving.waits in
-    let own = subst (λ (t : ℕ). IsOwnSource s (hs ++ part.0) t (members_in y) (kinds.Dropped e.device e.link e.cause of.3) by.0) y_now
-    (subst (λ (b : NoteBody). IsOwnSource s (hs ++ part.0) (time_of y) (members_in y) b by.0) body by.1) in
+    let own = subst (λ t. IsOwnSource s (hs ++ part.0) t (members_in y) (kinds.Dropped e.device e.link e.cause of.3) by.0) y_now
+    (subst (λ b. IsOwnSource s (hs ++ part.0) (time_of y) (members_in y) b by.0) body by.1) in
     elim own [
       | inl a ↦
           let same = some_same a.1.putting r.it.arrival _ a.1.there (numbered_front hs part.0 e.cause r.it.arrival r.it.there) in
           no_launch s a.1.putting (time_of a.1.putting) a.1.putting.note.body e.device e.link r.it.awaited.from r.it.awaited.clock _
           (ap (λ (h : Happening). h.note.body) same ∙ r.it.awaited.arrived) a.1.arrives.put
       | inr (inl p) ↦
-          let both = same_place s (hs ++ part.0) now e.device e.link e.cause p.1.frame e.frame p.0 e.point p.1.permanent (permanent part.0) in
-          let is_here : by.0 ≡ here = p.2 ∙ ap (λ (u : Units). now ∷ 3 ∷ e.device.0 ∷ amount u ∷ p.1.frame.members.0 ∷ e.link.0 ∷ e.cause ∷ []) both.1
+          let both = same_place p.1.permanent (permanent part.0) in
+          let is_here : by.0 ≡ here = p.2 ∙ ap (λ u. now ∷ 3 ∷ e.device.0 ∷ amount u ∷ p.1.frame.members.0 ∷ e.link.0 ∷ e.cause ∷ []) both.1
           ∙ ap (λ (f : Pcf). now ∷ 3 ∷ e.device.0 ∷ amount e.point ∷ f.members.0 ∷ e.link.0 ∷ e.cause ∷ []) both.0 in
-          r.moving.waits (subst (λ (q : List ℕ). IsBefore q cursor) is_here by.3)
+          r.moving.waits (subst (λ q. IsBefore q cursor) is_here by.3)
       | inr (inr d) ↦ grind (arith, under, no_higher, ripe_more, here)
     ]

@@ -34,20 +34,23 @@ use Rattle.run_law.specs.declared.steps.Ripe.TheVariants as ripe
 
 -- ---- the source is first
 
-pub ripening_first : {C M : Type 0} (reading : C → ℕ → ℕ) (stands : M → Network → DeviceId → Node → Type 0) (s : Scenario) (world : World C M)
-    (notes : List Note) (e : Waiting)
-    (old : Stands reading stands s world notes) → IsIn e world.waiting → e.point.0 ≤ℤ pos (s.reading e.device world.now)
-    → ComesFirst reading stands s world notes old (ripe_place world.now e) → IsRipe s (happenings s.network notes) world.settled old.mark old.cursor world.now e
-ripening_first reading stands s world notes e old i reached first =
+pub ripening_first : {C M : Type 0} {reading : C → ℕ → ℕ} {stands : M → Network → DeviceId → Node → Type 0}
+    {s : Scenario} {world : World C M} {notes : List Note} (e : Waiting) {old : Stands reading stands s world notes}
+    → IsIn e world.waiting → e.point.0 ≤ℤ pos (s.reading e.device world.now)
+    → ComesFirst reading stands s world notes old (ripe_place world.now e)
+    → IsRipe s (happenings s.network notes) world.settled old.mark old.cursor world.now e
+ripening_first {s} {world} {notes} e {old} i reached first =
     let hs = happenings s.network notes in
     let now = world.now in
     let it = old.waiting.real e i in
-    let past = (are_past reading stands s world notes old).past in
+    let past = (are_past old).past in
     let le = past it.arrival (numbered_in hs e.cause it.arrival it.there) in
     let sound = old.waiting.sound e i in
-    let reach = reach_by s hs old.cursor now e it first.none (old.waiting.later e i) sound le reached in
+    let reach = reach_by old.cursor now it first.none (old.waiting.later e i) sound le reached in
     record {
-      moving = comes_first reading stands s world notes old 3 (ripe_more e) (ripe_place now e) (λ same. omega (arith, rank_at _ _ _ _ _ (sym same))) refl (old.waiting.later e i now (ripening_at s hs e now it reach sound)) first;
+      moving = comes_first old 3 (ripe_more e)
+          (λ same. omega (arith, rank_at _ _ _ _ _ (sym same))) refl (old.waiting.later e i now
+          (ripening_at s hs e now it reach sound)) first;
       run = old.run;
       of_now = old.of_now;
       past = past;
@@ -67,35 +70,37 @@ same_places : {t u d e a b m n l k c f : ℕ} → t ∷ 3 ∷ d ∷ a ∷ m ∷ 
 same_places same = (cc, cc, cc, cc)
 
 -- a frame that waits at this very place is this one, by its number
-ripens_too : (s : Scenario) (hs : List Happening) (now : ℕ) (e f : Waiting) → IsPermanent s hs e.device now e.link e.cause e.frame e.point → IsWaitingFor s hs f
+ripens_too : {s : Scenario} {hs : List Happening} {now : ℕ} (e : Waiting) {f : Waiting}
+    → IsPermanent s hs e.device now e.link e.cause e.frame e.point → IsWaitingFor s hs f
     → ripe_place now f ≡ ripe_place now e → IsRipening s hs now f.device f.link f.cause f.point
-ripens_too s hs now e f p it at =
+ripens_too {s} {hs} {now} e {f} p it at =
     let same = same_places at in
     let d : e.device.0 ≡ f.device.0 = sym same.1 in
     let l : e.link.0 ≡ f.link.0 = sym same.2 in
     let c : e.cause ≡ f.cause = sym same.3 in
     let device : e.device ≡ f.device = ap (λ (n : ℕ). let x : DeviceId = record { 0 = n } in x) d in
     let link : e.link ≡ f.link = ap (λ (n : ℕ). let x : LinkId = record { 0 = n } in x) l in
-    let q : IsPermanent s hs f.device now f.link f.cause e.frame e.point = subst (λ (n : ℕ). IsPermanent s hs f.device now f.link n e.frame e.point) c
-    (subst (λ (x : LinkId). IsPermanent s hs f.device now x e.cause e.frame e.point) link
-    (subst (λ (x : DeviceId). IsPermanent s hs x now e.link e.cause e.frame e.point) device p)) in
+    let q : IsPermanent s hs f.device now f.link f.cause e.frame e.point = subst (λ n. IsPermanent s hs f.device now f.link n e.frame e.point) c
+    (subst (λ x. IsPermanent s hs f.device now x e.cause e.frame e.point) link
+    (subst (λ x. IsPermanent s hs x now e.link e.cause e.frame e.point) device p)) in
     let arrival : it.arrival ≡ q.arrival = some_same it.arrival q.arrival _ it.there q.there in
     let frame : f.frame ≡ e.frame = some_same f.frame e.frame _ it.awaited.of_frame (ap (λ (h : Happening). h.frame) arrival ∙ q.of_frame) in
     let bodies : kinds.Arrived f.device f.link it.awaited.from it.awaited.clock ≡ kinds.Arrived f.device f.link q.from q.clock =
     sym it.awaited.arrived ∙ ap (λ (h : Happening). h.note.body) arrival ∙ q.arrived in
     let clock : it.awaited.clock ≡ q.clock = cc in
     let point : e.point ≡ f.point = same_units e.point f.point (q.at_point
-    ∙ ap (λ (h : Happening). Rattle.drift_clock.specs.transparent.Points.point_of (pos (s.reading f.device (time_of h))) q.clock s.network.dmax.0) (sym arrival)
+    ∙ ap (λ h. Rattle.drift_clock.specs.transparent.Points.point_of (pos (s.reading f.device (time_of h))) q.clock s.network.dmax.0) (sym arrival)
     ∙ ap (λ (n : ℕ). Rattle.drift_clock.specs.transparent.Points.point_of (pos (s.reading f.device (time_of it.arrival))) n s.network.dmax.0) (sym clock)
     ∙ sym it.awaited.at_point) in
-    record { frame = e.frame; permanent = subst (λ (u : Units). IsPermanent s hs f.device now f.link f.cause e.frame u) point q }
+    record { frame = e.frame; permanent = subst (λ u. IsPermanent s hs f.device now f.link f.cause e.frame u) point q }
 
-pub waiting_ripe : (s : Scenario) (hs coming : List Happening) (mark cursor : List ℕ) (now : ℕ) (e : Waiting) (waiting new : List Waiting)
-    → IsRipe s hs coming mark cursor now e
-    → AreWaiting s hs cursor now waiting → IsWithout (ripe_place now) (ripe_place now e) waiting new → AreWaiting s hs (behind (now ∷ 3 ∷ ripe_more e)) now new
-waiting_ripe s hs coming mark cursor now e waiting new r are without =
+pub waiting_ripe : {s : Scenario} {hs coming : List Happening} {mark cursor : List ℕ} {now : ℕ} {e : Waiting}
+    {waiting : List Waiting} (new : List Waiting) → IsRipe s hs coming mark cursor now e
+    → AreWaiting s hs cursor now waiting → IsWithout (ripe_place now) (ripe_place now e) waiting new
+    → AreWaiting s hs (behind (now ∷ 3 ∷ ripe_more e)) now new
+waiting_ripe {s} {hs} {coming} {cursor} {now} {e} new r are without =
     let here = now ∷ 3 ∷ ripe_more e in
-    let permanent = permanent_at s hs e now r.it (reach_now s hs coming mark cursor now e r) r.sound in
+    let permanent = permanent_at s hs e now r.it (reach_now r) r.sound in
     record {
       real = λ f i. are.real f ((without f).0 i).0;
       later = λ f i t x b.
@@ -106,49 +111,52 @@ waiting_ripe s hs coming mark cursor now e waiting new r are without =
           let frame : x.frame ≡ f.frame = some_same x.frame f.frame _ p.of_frame (ap (λ (h : Happening). h.frame) (sym arrival) ∙ it.awaited.of_frame) in
           let at : t ∷ 3 ∷ f.device.0 ∷ amount f.point ∷ x.frame.members.0 ∷ f.link.0 ∷ f.cause ∷ [] ≡ ripe_place t f =
           ap (λ (g : Pcf). t ∷ 3 ∷ f.device.0 ∷ amount f.point ∷ g.members.0 ∷ f.link.0 ∷ f.cause ∷ []) frame in
-          elim (worked_or_here s hs coming [] coming mark cursor now 3 (ripe_more e) r.moving refl _
-          (subst (λ (l : List Happening). IsSource s l (t ∷ 3 ∷ f.device.0 ∷ amount f.point ∷ x.frame.members.0 ∷ f.link.0 ∷ f.cause ∷ []))
+          elim (worked_or_here [] coming r.moving refl
+          (subst (λ l. IsSource s l (t ∷ 3 ∷ f.device.0 ∷ amount f.point ∷ x.frame.members.0 ∷ f.link.0 ∷ f.cause ∷ []))
           (sym (append-nil hs))
-          (IsSource.ripening t f.device f.link f.cause f.point x)) (subst (λ (q : List ℕ). IsBefore q (behind here)) (sym at) b)) [
-            | inl yet ↦ are.later f was.0 t x (subst (λ (q : List ℕ). IsBefore q cursor) at yet)
+          (IsSource.ripening t f.device f.link f.cause f.point x)) (subst (λ q. IsBefore q (behind here)) (sym at) b)) [
+            | inl yet ↦ are.later f was.0 t x (subst (λ q. IsBefore q cursor) at yet)
             | inr same ↦
                 let place : ripe_place t f ≡ ripe_place now e = sym at ∙ same in
                 let time : t ≡ now = (same_places place).0 in
-                was.1 (subst (λ (n : ℕ). ripe_place n f ≡ ripe_place now e) time place)
+                was.1 (subst (λ n. ripe_place n f ≡ ripe_place now e) time place)
           ];
       sound = λ f i. are.sound f ((without f).0 i).0;
       all = λ f it sound not.
           (without f).1 (
-            are.all f it sound (λ t x b. not t x (stays s hs coming mark cursor now 3 (ripe_more e) r.moving (ripe_place t f) b)),
-            λ at. not now (ripens_too s hs now e f permanent it at) (subst (λ (q : List ℕ). IsBefore q (behind here)) (sym at) (before_behind here)),
+            are.all f it sound (λ t x b. not t x (stays r.moving (ripe_place t f) b)),
+            λ at. not now (ripens_too e permanent it at)
+                (subst (λ q. IsBefore q (behind here)) (sym at) (before_behind here)),
           );
     }
 
 -- ---- the world stands behind it, with what is to come then
 
-ripened_behind : {C M : Type 0} (reading : C → ℕ → ℕ) (stands : M → Network → DeviceId → Node → Type 0) (s : Scenario) (world : World C M) (notes : List Note)
-    (e : Waiting)
-    (after : M) (machines : List M) (waiting : List Waiting) (settled : List Happening) (old : Stands reading stands s world notes)
-    → IsRipe s (happenings s.network notes) world.settled old.mark old.cursor world.now e → IsSet e.device.0 after world.machines machines
-    → IsWithout (ripe_place world.now) (ripe_place world.now e) world.waiting waiting
-    → length notes + length settled < numbers_end
+ripened_behind : {C M : Type 0} {reading : C → ℕ → ℕ} {stands : M → Network → DeviceId → Node → Type 0}
+    {s : Scenario} {world : World C M} {notes : List Note} {e : Waiting} {after : M} {machines : List M}
+    (waiting : List Waiting) {settled : List Happening} (old : Stands reading stands s world notes)
+    → IsRipe s (happenings s.network notes) world.settled old.mark old.cursor world.now e
+    → IsSet e.device.0 after world.machines machines → IsWithout (ripe_place world.now)
+    (ripe_place world.now e) world.waiting waiting → length notes + length settled < numbers_end
     → AreSettled s (happenings s.network notes) settled old.mark (behind (world.now ∷ 3 ∷ ripe_more e)) world.now
-    → AreOfNetwork s (happenings s.network notes ++ settled)
-    → IsKept stands s (happenings s.network notes) settled (behind (world.now ∷ 3 ∷ ripe_more e)) world.now e.device after
+    → AreOfNetwork s (happenings s.network notes ++ settled) → IsKept stands s (happenings s.network notes) settled
+    (behind (world.now ∷ 3 ∷ ripe_more e)) world.now e.device after
     → ((device : DeviceId) (machine : M) → (device.0 ≡ e.device.0 → ⊥)
-    → IsHeld stands s (happenings s.network notes) world.settled (behind (world.now ∷ 3 ∷ ripe_more e)) world.now device machine
-    → IsHeld stands s (happenings s.network notes) settled (behind (world.now ∷ 3 ∷ ripe_more e)) world.now device machine)
-    → StandsBehind reading stands s (record world { early = false; machines = machines; waiting = waiting; settled = settled }) notes
+    → IsHeld stands s (happenings s.network notes) world.settled (behind (world.now ∷ 3
+    ∷ ripe_more e)) world.now device machine
+    → IsHeld stands s (happenings s.network notes) settled (behind (world.now ∷ 3
+    ∷ ripe_more e)) world.now device machine) → StandsBehind reading stands s
+    (record world { early = false; machines = machines; waiting = waiting; settled = settled }) notes
     (behind (ripe_place world.now e))
-ripened_behind reading stands s world notes e after machines waiting settled old r set without room are known kept others =
+ripened_behind {stands} {s} {world} {notes} {e} {after} {machines} waiting {settled} old r set without room are known
+    kept others =
     let hs = happenings s.network notes in
     let now = world.now in
     let more = ripe_more e in
     let here = now ∷ 3 ∷ more in
     let m = r.moving in
     let over : IsBefore (now ∷ 2 ∷ []) here = inr (refl, inl (omega arith)) in
-    stands_on reading stands s world notes old 3 more (ripe_place now e) machines world.wires world.ports waiting settled world.shown m refl room
-    are known
+    stands_on old 3 more (ripe_place now e) machines world.shown m refl room are known
     (λ device lt.
     elim (cases_Bool (Rattle.std.specs.Prelude.◌==◌ device.0 e.device.0)) [
       | inl same ↦
@@ -160,17 +168,16 @@ ripened_behind reading stands s world notes e after machines waiting settled old
           let k = old.devices device lt in (
             k.0,
             set.same device.0 ne ∙ k.1,
-            others device k.0 ne (held_moves stands s hs world.settled old.mark old.cursor now 3 more device k.0 m
+            others device k.0 ne (held_moves stands s hs world.settled m
                 (no_task_at s.network now device 3 more (inl (omega arith))) k.2),
           )
     ])
     over
-    (wires_move s hs world.settled old.mark old.cursor now 3 more world.wires world.wires m (told_wires reading stands s world notes old 3 more m over)
+    (wires_move s hs world.settled old.mark old.cursor now 3 more world.wires m (told_wires old 3 more m over)
     (all_without wire_place here world.wires (λ x same. omega (arith, rank_at _ _ _ _ _ (sym same)))))
-    (ports_move s hs world.settled old.mark old.cursor now 3 more world.ports world.ports m old.ports
+    (ports_move s hs world.settled old.mark old.cursor now 3 more world.ports m old.ports
     (all_without port_place here world.ports (λ x same. omega (arith, rank_at _ _ _ _ _ (sym same)))))
-    (waiting_ripe s hs world.settled old.mark old.cursor now e world.waiting waiting r old.waiting without)
-    (shown_still reading stands s world notes old 3 more (omega arith) m)
+    (waiting_ripe waiting r old.waiting without) (shown_still old 3 more (omega arith) m)
 
 -- ---- its device is one of the network
 
@@ -189,41 +196,42 @@ waits_within s hs e it founded range =
         subst (λ (d : DeviceId). d.0 < length s.network.device) v.is
         (in_all (IsLinkInRange s.network) s.network.link e.link.0 v.joint range.links v.there).child
 
-pub in_network : (s : Scenario) (hs coming : List Happening) (mark cursor : List ℕ) (now : ℕ) (e : Waiting) → IsRipe s hs coming mark cursor now e
-    → e.device.0 < length s.network.device
-in_network s hs coming mark cursor now e r = waits_within s hs e r.it r.run.founded r.range
+pub in_network : {s : Scenario} {hs coming : List Happening} {mark cursor : List ℕ} {now : ℕ} {e : Waiting}
+    → IsRipe s hs coming mark cursor now e → e.device.0 < length s.network.device
+in_network {s} {hs} {e} r = waits_within s hs e r.it r.run.founded r.range
 
 -- ---- the record
 
-frame_is : (s : Scenario) (hs front coming : List Happening) (mark cursor : List ℕ) (now : ℕ) (e : Waiting) → IsRipe s hs coming mark cursor now e
+frame_is : {s : Scenario} {hs : List Happening} (front : List Happening) {coming : List Happening}
+    {mark cursor : List ℕ} {now : ℕ} {e : Waiting} → IsRipe s hs coming mark cursor now e
     → frame_from (hs ++ front) e.cause ≡ Some e.frame
-frame_is s hs front coming mark cursor now e r =
+frame_is {hs} front {e} r =
     ap (λ (o : Option Happening). Rattle.std.proofs.Common.option_and_then (λ h. h.frame) o) (numbered_front hs front e.cause r.it.arrival r.it.there)
     ∙ r.it.awaited.of_frame
 
-few_cause : (s : Scenario) (hs coming : List Happening) (mark cursor : List ℕ) (now : ℕ) (e : Waiting) → IsRipe s hs coming mark cursor now e
-    → e.cause ≤ length hs
-few_cause s hs coming mark cursor now e r = let lt = numbered_within hs e.cause r.it.arrival r.it.there in omega (arith, lt)
+module _ (s : Scenario) (hs coming : List Happening) (mark cursor : List ℕ) (now : ℕ) (e : Waiting) where
+  few_cause : IsRipe s hs coming mark cursor now e → e.cause ≤ length hs
+  few_cause r = let lt = numbered_within hs e.cause r.it.arrival r.it.there in omega (arith, lt)
 
-permanent_in : (s : Scenario) (hs coming : List Happening) (mark cursor : List ℕ) (now : ℕ) (e : Waiting) (r : IsRipe s hs coming mark cursor now e)
-    (f : List Happening) → IsPermanent s (hs ++ f) e.device now e.link e.cause e.frame e.point
-permanent_in s hs coming mark cursor now e r f = record {
-  arrival = r.it.arrival;
-  there = numbered_front hs f e.cause r.it.arrival r.it.there;
-  from = r.it.awaited.from;
-  clock = r.it.awaited.clock;
-  arrived = r.it.awaited.arrived;
-  of_frame = r.it.awaited.of_frame;
-  waits = r.it.awaited.waits;
-  at_point = r.it.awaited.at_point;
-  reached = reach_now s hs coming mark cursor now e r;
-  correct = r.sound;
-}
+  permanent_in : (r : IsRipe s hs coming mark cursor now e) (f : List Happening)
+      → IsPermanent s (hs ++ f) e.device now e.link e.cause e.frame e.point
+  permanent_in r f = record {
+    arrival = r.it.arrival;
+    there = numbered_front hs f e.cause r.it.arrival r.it.there;
+    from = r.it.awaited.from;
+    clock = r.it.awaited.clock;
+    arrived = r.it.awaited.arrived;
+    of_frame = r.it.awaited.of_frame;
+    waits = r.it.awaited.waits;
+    at_point = r.it.awaited.at_point;
+    reached = reach_now r;
+    correct = r.sound;
+  }
 
 here_place : (t now : ℕ) (m : ℕ) (e : Waiting) (verdict : Judgement) (body : NoteBody) → body ≡ kinds.Permanent e.device e.link e.cause e.point verdict
     → m ≡ e.frame.members.0 → t ≡ now → t ∷ rank body ∷ key m body ≡ now ∷ 3 ∷ ripe_more e
 here_place t now m e verdict body is members at =
-    ap (λ (u : ℕ). u ∷ rank body ∷ key m body) at ∙ ap (λ (b : NoteBody). now ∷ rank b ∷ key m b) is
+    ap (λ (u : ℕ). u ∷ rank body ∷ key m body) at ∙ ap (λ b. now ∷ rank b ∷ key m b) is
     ∙ ap (λ (n : ℕ). now ∷ 3 ∷ e.device.0 ∷ amount e.point ∷ n ∷ e.link.0 ∷ e.cause ∷ []) members
 
 role_by : (cm : Bool) (verdict : Judgement) → IsKindOf cm (ripe_as verdict)
@@ -301,16 +309,16 @@ module _ {C M : Type 0} (reading : C → ℕ → ℕ) (stands : M → Network �
       let long = put_length front back w in
       let parts_length : length world.settled ≡ length (front ++ back) = ap length parts in
       let room = x.room in
-      let is_in = in_network s hs world.settled old.mark old.cursor now e x.r in
-      ripened_behind reading stands s world notes e after machines waiting (front ++ w ∷ back) old x.r x.set x.without
+      let is_in = in_network x.r in
+      ripened_behind waiting old x.r x.set x.without
       (omega (arith, long, parts_length, room))
-      (one_by s hs front back old.mark old.cursor now 3 (ripe_more e) w one last all)
-      (known_aside s hs front back w
+      (one_by one last all)
+      (known_aside hs front back w
       (λ device le. moves_no_other device w.note.body (misses device (λ same. omega (arith, same, le, is_in))))
       (subst (λ (l : List Happening). AreOfNetwork s (hs ++ l)) parts old.known)) kept
       (λ device m ne held. held_aside s hs front back w device (misses device ne) one.at
       (frames_aside s hs front back w device (misses device ne) (none device))
-      (subst (λ (l : List Happening). IsHeld stands s hs l (behind (now ∷ 3 ∷ ripe_more e)) now device m) parts held))
+      (subst (λ l. IsHeld stands s hs l (behind (now ∷ 3 ∷ ripe_more e)) now device m) parts held))
 
   -- ---- the frame is collected, or heard
 
@@ -325,30 +333,30 @@ module _ {C M : Type 0} (reading : C → ℕ → ℕ) (stands : M → Network �
       let old = x.old in
       let here = now ∷ 3 ∷ ripe_more e in
       let body = kinds.Permanent e.device e.link e.cause e.point verdict in
-      let shown = one_shown s.network hs now body world.settled mid (few_cause s hs world.settled old.mark old.cursor now e x.r)
+      let shown = one_shown s.network hs now body (few_cause s hs world.settled old.mark old.cursor now e x.r)
       put in
       let front = shown.front in
       let back = shown.back in
       let w = record_of s.network hs front now body in
       let r : IsRipe s hs (front ++ back) old.mark old.cursor now e =
-      subst (λ (l : List Happening). IsRipe s hs l old.mark old.cursor now e) shown.parts x.r in
+      subst (λ l. IsRipe s hs l old.mark old.cursor now e) shown.parts x.r in
       let k : IsKept stands s hs (front ++ back) old.cursor now e.device machine =
-      subst (λ (l : List Happening). IsKept stands s hs l old.cursor now e.device machine) shown.parts x.k in
+      subst (λ l. IsKept stands s hs l old.cursor now e.device machine) shown.parts x.k in
       let a = answered stands s hs (front ++ back) old.mark old.cursor now e machine after (ripe_as verdict) r k x.master x.has in
       let kind = outcome_kind s.network e.device k.node.standing.state k.node.standing.adjustment.0 k.node.points e.frame
       e.point.0 (ripe_as verdict) a.outcome in
       let role = role_by (is_cm s.network e.device) verdict kind last in
-      let of_frame : w.frame ≡ Some e.frame = frame_is s hs front (front ++ back) old.mark old.cursor now e r in
+      let of_frame : w.frame ≡ Some e.frame = frame_is front r in
       let members : members_in w ≡ e.frame.members.0 =
       ap (λ (o : Option Pcf). Rattle.std.specs.Option.option_map_or (λ f. f.members.0) o 0) of_frame in
       let place : place_of w ≡ here = here_place now now (members_in w) e verdict body refl members refl in
-      let high = high_now s hs (front ++ back) old.mark old.cursor now e r in
+      let high = high_now r in
       let under : (z : Happening) → IsIn z front → IsBefore (place_of z) here → ⊥ = λ z i.
       r.moving.after z (in_left z front back i) in
       let becomes = becomes_now s hs (front ++ back) front old.mark old.cursor now e k.node (ripe_as verdict) r under a.hears
       a.outcome in
       let not_under : IsBefore (place_of w) here → ⊥ = λ b.
-      never_self here (subst (λ (q : List ℕ). IsBefore q here) place b) in
+      never_self here (subst (λ q. IsBefore q here) place b) in
       let one : IsOne s hs front back old.mark old.cursor now 3 (ripe_more e) w = record {
         moving = r.moving;
         later = inr (refl, inl (omega arith));
@@ -367,7 +375,7 @@ module _ {C M : Type 0} (reading : C → ℕ → ℕ) (stands : M → Network �
       } in
       let after_all : (z : Happening) → IsIn z (front ++ w ∷ back) → IsBefore (place_of z) here → ⊥ = λ z i b.
       elim (placed_high now front back w high z i) [
-        | inl same ↦ not_under (subst (λ (h : Happening). IsBefore (place_of h) here) same b)
+        | inl same ↦ not_under (subst (λ h. IsBefore (place_of h) here) same b)
         | inr h ↦ not_before_high now (ripe_more e) z h.0 h.1 b
       ] in
       subst Behind (sym (done ∙ shown.shows))
@@ -376,7 +384,7 @@ module _ {C M : Type 0} (reading : C → ℕ → ℕ) (stands : M → Network �
       (permanent_all s hs (front ++ back) (front ++ w ∷ back) old.mark old.cursor now e k.node w verdict r a.hears a.outcome
       after_all w (in_right w front (w ∷ back) (inl refl)) place)
       (λ device ne. bears_not device e verdict body ne refl) (λ device z. refl)
-      (quiet_kept stands s hs front back old.mark old.cursor now e machine after w verdict r k a role refl of_frame refl place
+      (quiet_kept front back w verdict r k a role refl of_frame refl place
       shown.before))
 
   -- ---- the frame is dropped
@@ -391,18 +399,18 @@ module _ {C M : Type 0} (reading : C → ℕ → ℕ) (stands : M → Network �
       let old = x.old in
       let here = now ∷ 3 ∷ ripe_more e in
       let body = kinds.Dropped e.device e.link e.cause reason in
-      let shown = one_shown s.network hs now body world.settled mid (few_cause s hs world.settled old.mark old.cursor now e x.r)
+      let shown = one_shown s.network hs now body (few_cause s hs world.settled old.mark old.cursor now e x.r)
       put in
       let front = shown.front in
       let back = shown.back in
       let w = record_of s.network hs front now body in
       let r : IsRipe s hs (front ++ back) old.mark old.cursor now e =
-      subst (λ (l : List Happening). IsRipe s hs l old.mark old.cursor now e) shown.parts x.r in
+      subst (λ l. IsRipe s hs l old.mark old.cursor now e) shown.parts x.r in
       let k : IsKept stands s hs (front ++ back) old.cursor now e.device machine =
-      subst (λ (l : List Happening). IsKept stands s hs l old.cursor now e.device machine) shown.parts x.k in
+      subst (λ l. IsKept stands s hs l old.cursor now e.device machine) shown.parts x.k in
       let a = answered stands s hs (front ++ back) old.mark old.cursor now e machine after (ripe.Dropped reason) r k x.master
       x.has in
-      let high = high_now s hs (front ++ back) old.mark old.cursor now e r in
+      let high = high_now r in
       let under : (z : Happening) → IsIn z front → IsBefore (place_of z) here → ⊥ = λ z i.
       r.moving.after z (in_left z front back i) in
       let becomes = becomes_now s hs (front ++ back) front old.mark old.cursor now e k.node (ripe.Dropped reason) r under a.hears
@@ -417,7 +425,7 @@ module _ {C M : Type 0} (reading : C → ℕ → ℕ) (stands : M → Network �
         before = shown.before;
         none = shown.none;
         fresh = λ y i same.
-            drop_fresh s hs (front ++ back) old.mark old.cursor now e r
+            drop_fresh r
             (λ f. permanent_in s hs (front ++ back) old.mark old.cursor now e r f) y (in_right y front back i) same;
         mine = inr (inl (e.point, becomes, refl));
         here =
@@ -428,7 +436,7 @@ module _ {C M : Type 0} (reading : C → ℕ → ℕ) (stands : M → Network �
       let after_all : (z : Happening) → IsIn z (front ++ w ∷ back) → IsBefore (place_of z) here → ⊥ = λ z i b.
       elim (placed_high now front back w high z i) [
         | inl same ↦ not_before_high now (ripe_more e) w refl (omega arith)
-            (subst (λ (h : Happening). IsBefore (place_of h) here) same b)
+            (subst (λ h. IsBefore (place_of h) here) same b)
         | inr h ↦ not_before_high now (ripe_more e) z h.0 h.1 b
       ] in
       subst Behind (sym (done ∙ shown.shows))
@@ -436,7 +444,7 @@ module _ {C M : Type 0} (reading : C → ℕ → ℕ) (stands : M → Network �
       (dropped_all s hs (front ++ back) (front ++ w ∷ back) old.mark old.cursor now e k.node reason r a.hears a.outcome after_all w
       (in_right w front (w ∷ back) (inl refl)) refl)
       (λ device ne. refl) (λ device z. refl)
-      (dropped_kept stands s hs front back old.mark old.cursor now e machine after w reason r k a refl (λ z. refl)))
+      (dropped_kept front back w reason r k a refl (λ z. refl)))
 
   -- ---- it tells the time
 
@@ -457,16 +465,16 @@ module _ {C M : Type 0} (reading : C → ℕ → ℕ) (stands : M → Network �
       let v_body = kinds.State e.device Joining n whys.Frame in
       let few = few_cause s hs world.settled old.mark old.cursor now e r in
       let w = record_of s.network hs [] now body in
-      let of_frame : w.frame ≡ Some e.frame = frame_is s hs [] world.settled old.mark old.cursor now e r in
+      let of_frame : w.frame ≡ Some e.frame = frame_is [] r in
       let members : members_in w ≡ e.frame.members.0 =
       ap (λ (o : Option Pcf). Rattle.std.specs.Option.option_map_or (λ f. f.members.0) o 0) of_frame in
       let place : place_of w ≡ here = here_place now now (members_in w) e judgements.Integrates body refl members refl in
       let shown_at : place_of (settled_as s.network hs now body) ≡ here =
       ap place_of (sym (same_record s.network hs [] now body few)) ∙ place in
-      let pair = two_shown s.network hs now body e.device Joining whys.Frame world.settled put.0 put.2.0 few (omega arith)
-      (λ z i b. r.moving.after z i (subst (λ (q : List ℕ). IsBefore (place_of z) q) shown_at b))
+      let pair = two_shown s.network hs now body e.device Joining whys.Frame few (omega arith)
+      (λ z i b. r.moving.after z i (subst (λ q. IsBefore (place_of z) q) shown_at b))
       (causes_given r.moving (omega arith)) put.1
-      (subst (λ (c : ℕ). IsPutIn (settled_as s.network hs now (kinds.State e.device Joining (c + 1) whys.Frame)) put.0 put.2.0)
+      (subst (λ c. IsPutIn (settled_as s.network hs now (kinds.State e.device Joining (c + 1) whys.Frame)) put.0 put.2.0)
       (length_is s notes) put.2.1) in
       let front2 = pair.front2 in
       let back2 = pair.back2 in
@@ -477,11 +485,11 @@ module _ {C M : Type 0} (reading : C → ℕ → ℕ) (stands : M → Network �
       let split = joined_parts w world.settled front2 back2 pair.parts2 (omega (arith, far, long_two)) in
       let f2 = split.0 in
       let a = answered stands s hs world.settled old.mark old.cursor now e machine after ripe.Integrates r k x.master x.has in
-      let high = high_now s hs world.settled old.mark old.cursor now e r in
+      let high = high_now r in
       let becomes = becomes_now s hs world.settled [] old.mark old.cursor now e k.node ripe.Integrates r (λ z i. absurd i) a.hears
       a.outcome in
       let not_under : IsBefore (place_of w) here → ⊥ = λ b.
-      never_self here (subst (λ (q : List ℕ). IsBefore q here) place b) in
+      never_self here (subst (λ q. IsBefore q here) place b) in
       let one : IsOne s hs [] world.settled old.mark old.cursor now 3 (ripe_more e) w = record {
         moving = r.moving;
         later = inr (refl, inl (omega arith));
@@ -510,7 +518,7 @@ module _ {C M : Type 0} (reading : C → ℕ → ℕ) (stands : M → Network �
         is_of = refl;
         parts = pair.parts2;
         far = omega (arith, far, bare);
-        body = ap (λ (c : ℕ). kinds.State e.device Joining (c + 1) whys.Frame) (sym bare);
+        body = ap (λ c. kinds.State e.device Joining (c + 1) whys.Frame) (sym bare);
         follows = inl refl;
         at = refl;
         due = due_of s hs front2 now v_body (refl, (w, record { there = there_w; same_time = refl }, joined));
@@ -521,22 +529,22 @@ module _ {C M : Type 0} (reading : C → ℕ → ℕ) (stands : M → Network �
       } in
       let then_ = front2 ++ v ∷ back2 in
       let high_one : (z : Happening) → IsIn z (front2 ++ back2) → (z ≡ w) ⊎ ((time_of z ≡ now) × (4 ≤ rank z.note.body)) = λ z i.
-      placed_high now [] world.settled w high z (subst (λ (l : List Happening). IsIn z l) (sym pair.parts2) i) in
+      placed_high now [] world.settled w high z (subst (λ l. IsIn z l) (sym pair.parts2) i) in
       let after_all : (z : Happening) → IsIn z then_ → IsBefore (place_of z) here → ⊥ = λ z i b.
       elim (placed_back [] front2 back2 v z i) [
         | inl same ↦ not_before_high now (ripe_more e) v refl (omega arith)
-            (subst (λ (h : Happening). IsBefore (place_of h) here) same b)
+            (subst (λ h. IsBefore (place_of h) here) same b)
         | inr more ↦ elim (high_one z more) [
-          | inl same ↦ not_under (subst (λ (h : Happening). IsBefore (place_of h) here) same b)
+          | inl same ↦ not_under (subst (λ h. IsBefore (place_of h) here) same b)
           | inr h ↦ not_before_high now (ripe_more e) z h.0 h.1 b
         ]
       ] in
-      let there : IsIn w then_ = in_left w front2 (v ∷ back2) (subst (λ (l : List Happening). IsIn w l) (sym split.1) (inl refl)) in
+      let there : IsIn w then_ = in_left w front2 (v ∷ back2) (subst (λ l. IsIn w l) (sym split.1) (inl refl)) in
       let long = put_length front2 back2 v in
       let same_parts : length (w ∷ world.settled) ≡ length (front2 ++ back2) = ap length pair.parts2 in
       let one_more : length (w ∷ world.settled) ≡ length world.settled + 1 = omega arith in
       let room = x.room in
-      let is_in = in_network s hs world.settled old.mark old.cursor now e r in
+      let is_in = in_network r in
       let misses : (device : DeviceId) → (device.0 ≡ e.device.0 → ⊥) → bears_on device body ≡ false = λ device ne.
       bears_not device e judgements.Integrates body ne refl in
       let stays_out : (device : DeviceId) → (device.0 ≡ e.device.0 → ⊥) → bears_on device v_body ≡ false = λ device ne.
@@ -544,20 +552,20 @@ module _ {C M : Type 0} (reading : C → ℕ → ℕ) (stands : M → Network �
       let far_off : (device : DeviceId) → length s.network.device ≤ device.0 → device.0 ≡ e.device.0 → ⊥ = λ device le same.
       omega (arith, same, le, is_in) in
       subst Behind (sym (put.2.2 ∙ pair.shows))
-      (ripened_behind reading stands s world notes e after machines waiting then_ old r x.set x.without
+      (ripened_behind waiting old r x.set x.without
       (omega (arith, long, same_parts, one_more, room))
-      (two_by s hs [] world.settled front2 back2 old.mark old.cursor now 3 (ripe_more e) w v e.device Joining whys.Frame p
+      (two_by s hs [] world.settled front2 back2 old.mark old.cursor p
       (permanent_all s hs world.settled then_ old.mark old.cursor now e k.node w judgements.Integrates r a.hears a.outcome after_all
       w there place))
-      (known_aside s hs front2 back2 v (λ device le. moves_no_other device v_body (stays_out device (far_off device le)))
+      (known_aside hs front2 back2 v (λ device le. moves_no_other device v_body (stays_out device (far_off device le)))
       (subst (λ (l : List Happening). AreOfNetwork s (hs ++ l)) pair.parts2
-      (known_aside s hs [] world.settled w (λ device le. moves_no_other device body (misses device (far_off device le))) old.known)))
+      (known_aside hs [] world.settled w (λ device le. moves_no_other device body (misses device (far_off device le))) old.known)))
       (subst (λ (l : List Happening). IsKept stands s hs (l ++ v ∷ back2) (behind here) now e.device after) (sym split.1)
-      (joined_kept stands s hs world.settled f2 back2 old.mark old.cursor now e machine after w v r k a old.precise refl of_frame refl
+      (joined_kept f2 back2 w v r k a old.precise refl of_frame refl
       split.2 refl refl pair.none2))
       (λ device m ne held. held_aside s hs front2 back2 v device (stays_out device ne) refl
       (frames_aside s hs front2 back2 v device (stays_out device ne) (λ z. refl))
-      (subst (λ (l : List Happening). IsHeld stands s hs l (behind here) now device m) pair.parts2
+      (subst (λ l. IsHeld stands s hs l (behind here) now device m) pair.parts2
       (held_aside s hs [] world.settled w device (misses device ne) refl
       (frames_aside s hs [] world.settled w device (misses device ne) (λ z. refl)) held))))
 
@@ -581,12 +589,12 @@ ripened_step {C} {M} reading stands s world notes e machine after result machine
     put =
     let hs = happenings s.network notes in
     let it = old.waiting.real e i in
-    let r = ripening_first reading stands s world notes e old i reached first in
-    let is_in = in_network s hs world.settled old.mark old.cursor world.now e r in
+    let r = ripening_first e i reached first in
+    let is_in = in_network r in
     let held = old.devices e.device is_in in
     let same : held.0 ≡ machine = some_same held.0 machine _ held.1 at in
     let own : IsHeld stands s hs world.settled old.cursor world.now e.device machine =
-    subst (λ (m : M). IsHeld stands s hs world.settled old.cursor world.now e.device m) same held.2 in
+    subst (λ m. IsHeld stands s hs world.settled old.cursor world.now e.device m) same held.2 in
     elim own [
       | inr out ↦ absurd (both_ways (is_broken s e.device world.now) r.sound out.broken)
       | inl k ↦

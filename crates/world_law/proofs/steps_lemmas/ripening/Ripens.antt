@@ -32,9 +32,10 @@ pub record IsRipe (s : Scenario) (hs coming : List Happening) (mark cursor : Lis
   pub sound : is_broken s e.device now ≡ false
 
 -- no record is later
-pub sooner_of : (s : Scenario) (hs coming : List Happening) (mark cursor : List ℕ) (now : ℕ) (e : Waiting) → IsRipe s hs coming mark cursor now e
-    → (w h : Happening) → time_of w ≡ now → IsIn h (hs ++ coming) → time_of h ≤ time_of w
-sooner_of s hs coming mark cursor now e r w h at i = elim (in_parts h hs coming i) [
+pub sooner_of : {s : Scenario} {hs coming : List Happening} {mark cursor : List ℕ} {now : ℕ} {e : Waiting}
+    → IsRipe s hs coming mark cursor now e → (w h : Happening) → time_of w ≡ now → IsIn h (hs ++ coming)
+    → time_of h ≤ time_of w
+sooner_of {hs} {coming} r w h at i = elim (in_parts h hs coming i) [
   | inl given ↦ let past = r.past h given in omega (arith, past, at)
   | inr more ↦ let same = r.moving.are.of_now h more in omega (arith, same, at)
 ]
@@ -47,10 +48,11 @@ come_of s hs e it founded =
     has_come s hs it.arrival e.device e.link it.awaited.from it.awaited.clock e.frame founded (numbered_in hs e.cause it.arrival it.there) it.awaited.arrived
     it.awaited.of_frame
 
-pub sound_of : (s : Scenario) (hs : List Happening) (e : Waiting) (it : IsWaitingFor s hs e)
-    → (c : HasCome s hs it.arrival e.device e.link it.awaited.from it.awaited.clock e.frame)
+pub sound_of : {s : Scenario} {hs : List Happening} {e : Waiting} (it : IsWaitingFor s hs e)
+    (c : HasCome s hs it.arrival e.device e.link it.awaited.from it.awaited.clock e.frame)
     → IsSound s.network e.device e.link (standpoint s c.front e.device (time_of it.arrival)) c.so.came e.frame
-sound_of s hs e it c = is_sound s.network e.device e.link (standpoint s c.front e.device (time_of it.arrival)) c.so.came e.frame c.so.taken
+sound_of {s} {e} it c =
+    is_sound s.network e.device e.link (standpoint s c.front e.device (time_of it.arrival)) c.so.came e.frame c.so.taken
 
 -- its point is not before the reading at its arrival
 point_late : (reading clock : ℕ) (dmax point : Units) → point.0 ≡ point_of (pos reading) clock dmax.0 → clock ≤ amount dmax → pos 0 ≤ℤ dmax.0
@@ -59,14 +61,15 @@ point_late reading clock dmax point at le some =
     let whole = natural dmax.0 some in
     omega (arith, ints, at, le, whole)
 
-pub arrived_before : (s : Scenario) (hs : List Happening) (e : Waiting) (it : IsWaitingFor s hs e) → IsInRange s.network
-    → Rattle.run_law.specs.runs.Runs.IsFounded place_of (IsDue s) hs → pos (s.reading e.device (time_of it.arrival)) ≤ℤ e.point.0
-arrived_before s hs e it range founded =
+pub arrived_before : {s : Scenario} {hs : List Happening} {e : Waiting} (it : IsWaitingFor s hs e)
+    → IsInRange s.network → Rattle.run_law.specs.runs.Runs.IsFounded place_of (IsDue s) hs
+    → pos (s.reading e.device (time_of it.arrival)) ≤ℤ e.point.0
+arrived_before {s} {hs} {e} it range founded =
     let c = come_of s hs e it founded in
-    let clock = (sound_of s hs e it c).clock in
+    let clock = (sound_of it c).clock in
     let least = range.dmax.least in
     point_late (s.reading e.device (time_of it.arrival)) it.awaited.clock s.network.dmax e.point it.awaited.at_point
-    (subst (λ (n : ℕ). n ≤ amount s.network.dmax) (sym c.shows) clock) (omega (arith, ints, least))
+    (subst (λ n. n ≤ amount s.network.dmax) (sym c.shows) clock) (omega (arith, ints, least))
 
 -- ---- when its reading comes to it
 
@@ -118,78 +121,82 @@ abbrev pub ripening_at : (s : Scenario) (hs : List Happening) (e : Waiting) (t :
     → IsRipening s hs t e.device e.link e.cause e.point
 ripening_at s hs e t it reach sound = record { frame = e.frame; permanent = permanent_at s hs e t it reach sound }
 
--- before now its reading had not come to its point
-pub below_by : (s : Scenario) (hs : List Happening) (cursor : List ℕ) (now : ℕ) (e : Waiting) (it : IsWaitingFor s hs e)
-    → NoSourceBefore s hs cursor (now ∷ 3 ∷ ripe_more e)
-    → ((t : ℕ) → IsRipening s hs t e.device e.link e.cause e.point → IsBefore (ripe_place t e) cursor → ⊥) → is_broken s e.device now ≡ false
-    → (x : ℕ) → time_of it.arrival ≤ x → x < now → pos (s.reading e.device x) <ℤ e.point.0
-below_by s hs cursor now e it first later sound x from lt =
-    elim (cases_int (pos (s.reading e.device x)) e.point.0) [
-      | inl under ↦ under
-      | inr over ↦
-          let t0 = time_of it.arrival in
-          let n = x - t0 in
-          let whole : x ≡ t0 + n = omega (arith, from) in
-          let reach = first_reach (s.reading e.device) e.point.0 t0 n (subst (λ (y : ℕ). e.point.0 ≤ℤ pos (s.reading e.device y)) whole over) in
-          let bound = reach.2 in
-          let sooner : reach.0 < now = omega (arith, bound, whole, lt) in
-          let correct = correct_before s e.device reach.0 now (omega (arith, sooner)) sound in
-          absurd (first (ripe_place reach.0 e) (IsSource.ripening reach.0 e.device e.link e.cause e.point (ripening_at s hs e reach.0 it reach.1 correct))
-          (later reach.0 (ripening_at s hs e reach.0 it reach.1 correct)) (inl sooner))
-    ]
+module _ {s : Scenario} {hs : List Happening} (cursor : List ℕ) (now : ℕ) {e : Waiting} (it : IsWaitingFor s hs e)
+    (first : NoSourceBefore s hs cursor (now ∷ 3 ∷ ripe_more e)) where
+  -- before now its reading had not come to its point
+  pub below_by : ((t : ℕ) → IsRipening s hs t e.device e.link e.cause e.point → IsBefore (ripe_place t e) cursor → ⊥)
+      → is_broken s e.device now ≡ false → (x : ℕ) → time_of it.arrival ≤ x → x < now
+      → pos (s.reading e.device x) <ℤ e.point.0
+  below_by later sound x from lt =
+      elim (cases_int (pos (s.reading e.device x)) e.point.0) [
+        | inl under ↦ under
+        | inr over ↦
+            let t0 = time_of it.arrival in
+            let n = x - t0 in
+            let whole : x ≡ t0 + n = omega (arith, from) in
+            let reach = first_reach (s.reading e.device) e.point.0 t0 n
+            (subst (λ (y : ℕ). e.point.0 ≤ℤ pos (s.reading e.device y)) whole over) in
+            let bound = reach.2 in
+            let sooner : reach.0 < now = omega (arith, bound, whole, lt) in
+            let correct = correct_before s e.device reach.0 now (omega (arith, sooner)) sound in
+            absurd (first (ripe_place reach.0 e) (IsSource.ripening reach.0 e.device e.link e.cause e.point
+            (ripening_at s hs e reach.0 it reach.1 correct))
+            (later reach.0 (ripening_at s hs e reach.0 it reach.1 correct)) (inl sooner))
+      ]
 
-pub reach_by : (s : Scenario) (hs : List Happening) (cursor : List ℕ) (now : ℕ) (e : Waiting) (it : IsWaitingFor s hs e)
-    → NoSourceBefore s hs cursor (now ∷ 3 ∷ ripe_more e)
-    → ((t : ℕ) → IsRipening s hs t e.device e.link e.cause e.point → IsBefore (ripe_place t e) cursor → ⊥) → is_broken s e.device now ≡ false
-    → time_of it.arrival ≤ now → e.point.0 ≤ℤ pos (s.reading e.device now) → IsReach (s.reading e.device) (pos (time_of it.arrival)) e.point.0 (pos now)
-reach_by s hs cursor now e it first later sound le reached = record {
-  from_on = omega (arith, ints, le);
-  reached = reached;
-  not_before = λ x ge lt. below_by s hs cursor now e it first later sound x (omega (arith, ints, ge)) (omega (arith, ints, lt));
-}
+  pub reach_by : ((t : ℕ) → IsRipening s hs t e.device e.link e.cause e.point → IsBefore (ripe_place t e) cursor → ⊥)
+      → is_broken s e.device now ≡ false → time_of it.arrival ≤ now → e.point.0 ≤ℤ pos (s.reading e.device now)
+      → IsReach (s.reading e.device) (pos (time_of it.arrival)) e.point.0 (pos now)
+  reach_by later sound le reached = record {
+    from_on = omega (arith, ints, le);
+    reached = reached;
+    not_before = λ x ge lt. below_by later sound x (omega (arith, ints, ge)) (omega (arith, ints, lt));
+  }
 
 pub below : (s : Scenario) (hs coming : List Happening) (mark cursor : List ℕ) (now : ℕ) (e : Waiting) (r : IsRipe s hs coming mark cursor now e) (x : ℕ)
     → time_of r.it.arrival ≤ x → x < now → pos (s.reading e.device x) <ℤ e.point.0
-below s hs coming mark cursor now e r x from lt = below_by s hs cursor now e r.it r.moving.first r.later r.sound x from lt
+below s hs coming mark cursor now e r x from lt = below_by cursor now r.it r.moving.first r.later r.sound x from lt
 
-pub reach_now : (s : Scenario) (hs coming : List Happening) (mark cursor : List ℕ) (now : ℕ) (e : Waiting) (r : IsRipe s hs coming mark cursor now e)
-    → IsReach (s.reading e.device) (pos (time_of r.it.arrival)) e.point.0 (pos now)
-reach_now s hs coming mark cursor now e r =
-    reach_by s hs cursor now e r.it r.moving.first r.later r.sound (r.past r.it.arrival (numbered_in hs e.cause r.it.arrival r.it.there)) r.reached
+module _ {s : Scenario} {hs coming : List Happening} {mark cursor : List ℕ} {now : ℕ} {e : Waiting}
+    (r : IsRipe s hs coming mark cursor now e) where
+  pub reach_now : IsReach (s.reading e.device) (pos (time_of r.it.arrival)) e.point.0 (pos now)
+  reach_now =
+      reach_by cursor now r.it r.moving.first r.later r.sound
+      (r.past r.it.arrival (numbered_in hs e.cause r.it.arrival r.it.there)) r.reached
 
--- before now its reading had not gone beyond its point
-pub not_beyond : (s : Scenario) (hs coming : List Happening) (mark cursor : List ℕ) (now : ℕ) (e : Waiting) (r : IsRipe s hs coming mark cursor now e) (x : ℕ)
-    → x < now → pos (s.reading e.device x) ≤ℤ e.point.0
-not_beyond s hs coming mark cursor now e r x lt =
-    let t0 = time_of r.it.arrival in
-    elim (cases_lt x t0) [
-      | inr from ↦ let under = below s hs coming mark cursor now e r x from lt in omega (arith, ints, under)
-      | inl sooner ↦
-          let fell = r.steady.never_falls x t0 (omega (arith, sooner)) in
-          let late = arrived_before s hs e r.it r.range r.run.founded in
-          omega (arith, ints, fell, late)
-    ]
+  -- before now its reading had not gone beyond its point
+  pub not_beyond : (x : ℕ) → x < now → pos (s.reading e.device x) ≤ℤ e.point.0
+  not_beyond x lt =
+      let t0 = time_of r.it.arrival in
+      elim (cases_lt x t0) [
+        | inr from ↦ let under = below s hs coming mark cursor now e r x from lt in omega (arith, ints, under)
+        | inl sooner ↦
+            let fell = r.steady.never_falls x t0 (omega (arith, sooner)) in
+            let late = arrived_before r.it r.range r.run.founded in
+            omega (arith, ints, fell, late)
+      ]
 
--- and it is now less than a precision beyond it
-pub in_time : (s : Scenario) (hs coming : List Happening) (mark cursor : List ℕ) (now : ℕ) (e : Waiting) (r : IsRipe s hs coming mark cursor now e)
-    → pos (s.reading e.device now) <ℤ (e.point.0 +ℤ s.network.precision.0)
-in_time s hs coming mark cursor now e r =
-    let some = r.range.precision.least in
-    let whole = natural s.network.precision.0 (omega (arith, ints, some)) in
-    let le = r.past r.it.arrival (numbered_in hs e.cause r.it.arrival r.it.there) in
-    elim (cases_lt (time_of r.it.arrival) now) [
-      | inl lt ↦
-          let under = below s hs coming mark cursor now e r (now - 1) (omega (arith, lt)) (omega (arith, lt)) in
-          let jump = r.steady.no_jump (now - 1) in
-          let same : now - 1 + 1 ≡ now = omega (arith, lt) in
-          let jumped : s.reading e.device now < s.reading e.device (now - 1) + amount s.network.precision =
-          subst (λ (n : ℕ). s.reading e.device n < s.reading e.device (now - 1) + amount s.network.precision) same jump in
-          omega (arith, ints, under, jumped, whole)
-      | inr ge ↦
-          let same : time_of r.it.arrival ≡ now = omega (arith, le, ge) in
-          let late = subst (λ (n : ℕ). pos (s.reading e.device n) ≤ℤ e.point.0) same (arrived_before s hs e r.it r.range r.run.founded) in
-          omega (arith, ints, late, some)
-    ]
+  -- and it is now less than a precision beyond it
+  pub in_time : pos (s.reading e.device now) <ℤ (e.point.0 +ℤ s.network.precision.0)
+  in_time =
+      let some = r.range.precision.least in
+      let whole = natural s.network.precision.0 (omega (arith, ints, some)) in
+      let le = r.past r.it.arrival (numbered_in hs e.cause r.it.arrival r.it.there) in
+      elim (cases_lt (time_of r.it.arrival) now) [
+        | inl lt ↦
+            let under = below s hs coming mark cursor now e r (now - 1) (omega (arith, lt)) (omega (arith, lt)) in
+            let jump = r.steady.no_jump (now - 1) in
+            let same : now - 1 + 1 ≡ now = omega (arith, lt) in
+            let jumped : s.reading e.device now < s.reading e.device (now - 1) + amount s.network.precision =
+            subst (λ (n : ℕ). s.reading e.device n < s.reading e.device (now - 1) + amount s.network.precision) same
+            jump in
+            omega (arith, ints, under, jumped, whole)
+        | inr ge ↦
+            let same : time_of r.it.arrival ≡ now = omega (arith, le, ge) in
+            let late = subst (λ (n : ℕ). pos (s.reading e.device n) ≤ℤ e.point.0) same
+            (arrived_before r.it r.range r.run.founded) in
+            omega (arith, ints, late, some)
+      ]
 
 -- ---- all that it has collected and sent is no later
 
@@ -230,73 +237,84 @@ points_before now a b xs ys d c e (inr (t, inr (r, inl lt))) = absurd (omega (ar
 points_before now a b xs ys d c e (inr (t, inr (r, inr (same, inl lt)))) = omega (arith, lt)
 points_before now a b xs ys d c e (inr (t, inr (r, inr (same, inr (eq, more))))) = omega (arith, eq)
 
-pub points_no_later : (s : Scenario) (hs coming : List Happening) (mark cursor : List ℕ) (now : ℕ) (e : Waiting) (r : IsRipe s hs coming mark cursor now e)
-    → ((z : Happening) → IsIn z coming → IsLateKind z.note.body) → (p : Point) → IsIn p (points_of (hs ++ coming) e.device) → p.reading ≤ℤ e.point.0
-points_no_later s hs coming mark cursor now e r late p i =
-    let from = given_of (λ h. point_by e.device h h.note.body) (after_last (λ h. ends_stretch e.device h.note.body) (hs ++ coming)) p i in
-    let h = from.0 in
-    let of = by_permanence e.device h p h.note.body from.2 in
-    elim (in_parts h hs coming (in_dropped _ (hs ++ coming) h from.1)) [
-      | inr more ↦ absurd (no_late_point h.note.body of.0 of.1 of.2 of.3 of.4 (late h more) of.5)
-      | inl given ↦
-          let due = (founded_at s hs h r.run.founded given).due in
-          let c = subst (λ (b : NoteBody). IsCaused s (founded_at s hs h r.run.founded given).front h.note.time b) of.5 due.cause in
-          let same : of.0 ≡ e.device = same_device of.0 e.device (sym of.6) in
-          let reached = subst (λ (d : DeviceId). of.3.0 ≤ℤ pos (s.reading d (time_of h))) same c.permanent.reached.reached in
-          let le = r.past h given in
-          let is = of.7 in
-          let late_point = arrived_before s hs e r.it r.range r.run.founded in
-          elim (cases_lt (time_of h) now) [
-            | inl lt ↦ let under = not_beyond s hs coming mark cursor now e r (time_of h) lt in omega (arith, ints, is, reached, under)
-            | inr ge ↦
-                let at : time_of h ≡ now = omega (arith, le, ge) in
-                let before : IsBefore (place_of h) (now ∷ 3 ∷ ripe_more e) =
-                before_later (place_of h) (now ∷ 3 ∷ ripe_more e) cursor (r.moving.ahead (place_of h) (r.run.within h given)) r.moving.waits in
-                let placed : IsBefore (now ∷ 3 ∷ of.0.0 ∷ amount of.3 ∷ members_in h ∷ of.1.0 ∷ of.2 ∷ []) (now ∷ 3 ∷ ripe_more e) =
-                grind (arith, key, members_in, h, of.5, h.note.body, before) in
-                let amounts = points_before now (amount of.3) (amount e.point) (members_in h ∷ of.1.0 ∷ of.2 ∷ []) (e.frame.members.0 ∷ e.link.0 ∷ e.cause ∷ [])
-                of.0.0 e.device.0 (sym of.6) placed in
-                let less = less_amount of.3 e.point (omega (arith, ints, late_point)) amounts in
-                omega (arith, ints, is, less)
-          ]
-    ]
+module _ (s : Scenario) (hs coming : List Happening) (mark cursor : List ℕ) (now : ℕ) where
+  pub points_no_later : {e : Waiting} (r : IsRipe s hs coming mark cursor now e)
+      → ((z : Happening) → IsIn z coming → IsLateKind z.note.body) → (p : Point)
+      → IsIn p (points_of (hs ++ coming) e.device) → p.reading ≤ℤ e.point.0
+  points_no_later {e} r late p i =
+      let from = given_of (λ h. point_by e.device h h.note.body)
+      (after_last (λ h. ends_stretch e.device h.note.body) (hs ++ coming)) p i in
+      let h = from.0 in
+      let of = by_permanence e.device h p h.note.body from.2 in
+      elim (in_parts h hs coming (in_dropped _ (hs ++ coming) h from.1)) [
+        | inr more ↦ absurd (no_late_point h.note.body of.0 of.1 of.2 of.3 of.4 (late h more) of.5)
+        | inl given ↦
+            let due = (founded_at s hs h r.run.founded given).due in
+            let c = subst (λ b. IsCaused s (founded_at s hs h r.run.founded given).front h.note.time b)
+            of.5 due.cause in
+            let same : of.0 ≡ e.device = same_device of.0 e.device (sym of.6) in
+            let reached =
+            subst (λ (d : DeviceId). of.3.0 ≤ℤ pos (s.reading d (time_of h))) same c.permanent.reached.reached in
+            let le = r.past h given in
+            let is = of.7 in
+            let late_point = arrived_before r.it r.range r.run.founded in
+            elim (cases_lt (time_of h) now) [
+              | inl lt ↦ let under = not_beyond r (time_of h) lt in omega (arith, ints, is, reached, under)
+              | inr ge ↦
+                  let at : time_of h ≡ now = omega (arith, le, ge) in
+                  let before : IsBefore (place_of h) (now ∷ 3 ∷ ripe_more e) =
+                  before_later (place_of h) (now ∷ 3 ∷ ripe_more e) cursor
+                  (r.moving.ahead (place_of h) (r.run.within h given)) r.moving.waits in
+                  let placed : IsBefore (now ∷ 3 ∷ of.0.0 ∷ amount of.3 ∷ members_in h ∷ of.1.0 ∷ of.2 ∷ [])
+                  (now ∷ 3 ∷ ripe_more e) =
+                  grind (arith, key, members_in, h, of.5, h.note.body, before) in
+                  let amounts = points_before now (amount of.3) (amount e.point) (members_in h ∷ of.1.0 ∷ of.2 ∷ [])
+                  (e.frame.members.0 ∷ e.link.0 ∷ e.cause ∷ [])
+                  of.0.0 e.device.0 (sym of.6) placed in
+                  let less = less_amount of.3 e.point (omega (arith, ints, late_point)) amounts in
+                  omega (arith, ints, is, less)
+            ]
+      ]
 
-pub emitted_no_later : (s : Scenario) (hs coming : List Happening) (mark cursor : List ℕ) (now up : ℕ) (e : Waiting) (node : Node)
-    (r : IsRipe s hs coming mark cursor now e) → HasSentFrom s e.device node up now → (c : Compressed) → Contains node.emitted c → c.at.0 ≤ℤ e.point.0
-emitted_no_later s hs coming mark cursor now up e node r sent c there =
-    let x = sent.sent c there in
-    let reached = x.2 in
-    let under = not_beyond s hs coming mark cursor now e r x.0 x.1 in
-    omega (arith, ints, reached, under)
+  pub emitted_no_later : {up : ℕ} {e : Waiting} {node : Node} (r : IsRipe s hs coming mark cursor now e)
+      → HasSentFrom s e.device node up now → (c : Compressed) → Contains node.emitted c → c.at.0 ≤ℤ e.point.0
+  emitted_no_later r sent c there =
+      let x = sent.sent c there in
+      let reached = x.2 in
+      let under = not_beyond r x.0 x.1 in
+      omega (arith, ints, reached, under)
 
--- ---- so it may be permanent
+  -- ---- so it may be permanent
 
-pub may_ripen : (s : Scenario) (hs coming : List Happening) (mark cursor : List ℕ) (now : ℕ) (e : Waiting) (node : Node)
-    (r : IsRipe s hs coming mark cursor now e) → IsReadyAt (s.reading e.device) s.network e.device node now
-    → (IsParentOf s.network e.device e.link → IsOfMaster s.network e.device e.link e.frame.members)
-    → ((p : Point) → IsIn p node.points → p.reading ≤ℤ e.point.0) → ((c : Compressed) → Contains node.emitted c → c.at.0 ≤ℤ e.point.0)
-    → MayRipen s.network e.device node (moment_of s e.device now) e.link e.frame e.point
-may_ripen s hs coming mark cursor now e node r ready master points emitted =
-    let c = come_of s hs e r.it r.run.founded in
-    let sound = sound_of s hs e r.it c in
-    let late = arrived_before s hs e r.it r.range r.run.founded in
-    record {
-      at = link_of s.network e.device e.link c.so.arrives.way (received s.network e.device e.link c.so.arrives.way c.so.arrives.receiver);
-      waits = r.it.awaited.waits;
-      reached = r.reached;
-      in_time = in_time s hs coming mark cursor now e r;
-      kind = sound.kind;
-      priority = sound.priority;
-      domain = sound.domain;
-      clock = sound.clock;
-      from_below = master;
-      not_before = λ before.
-          let last = natural node.last.time.0 ready.begun in
-          let lt : amount node.last.time < now = omega (arith, ints, last, before) in
-          let under = not_beyond s hs coming mark cursor now e r (amount node.last.time) lt in
-          let read = ready.last in
-          omega (arith, ints, read, under);
-      from_zero = omega (arith, ints, late);
-      after_points = all_of (λ p. p.reading ≤ℤ e.point.0) node.points points;
-      after_emitted = λ k d lt. emitted (get_or node.emitted k d) (Rattle.std.proofs.lemmas.List.Elements.All-contains_itself node.emitted k d lt);
-    }
+  pub may_ripen : {e : Waiting} {node : Node} (r : IsRipe s hs coming mark cursor now e)
+      → IsReadyAt (s.reading e.device) s.network e.device node now
+      → (IsParentOf s.network e.device e.link → IsOfMaster s.network e.device e.link e.frame.members)
+      → ((p : Point) → IsIn p node.points → p.reading ≤ℤ e.point.0)
+      → ((c : Compressed) → Contains node.emitted c → c.at.0 ≤ℤ e.point.0)
+      → MayRipen s.network e.device node (moment_of s e.device now) e.link e.frame e.point
+  may_ripen {e} {node} r ready master points emitted =
+      let c = come_of s hs e r.it r.run.founded in
+      let sound = sound_of r.it c in
+      let late = arrived_before r.it r.range r.run.founded in
+      record {
+        at = link_of s.network e.device e.link c.so.arrives.way
+            (received s.network e.device e.link c.so.arrives.way c.so.arrives.receiver);
+        waits = r.it.awaited.waits;
+        reached = r.reached;
+        in_time = in_time r;
+        kind = sound.kind;
+        priority = sound.priority;
+        domain = sound.domain;
+        clock = sound.clock;
+        from_below = master;
+        not_before = λ before.
+            let last = natural node.last.time.0 ready.begun in
+            let lt : amount node.last.time < now = omega (arith, ints, last, before) in
+            let under = not_beyond r (amount node.last.time) lt in
+            let read = ready.last in
+            omega (arith, ints, read, under);
+        from_zero = omega (arith, ints, late);
+        after_points = all_of (λ p. p.reading ≤ℤ e.point.0) node.points points;
+        after_emitted = λ k d lt. emitted (get_or node.emitted k d)
+            (Rattle.std.proofs.lemmas.List.Elements.All-contains_itself node.emitted k d lt);
+      }

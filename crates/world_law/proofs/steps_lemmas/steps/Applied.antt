@@ -63,11 +63,12 @@ also_in_order : (number : ℕ) (what : What) (befell : List Befell) → AreInOrd
     → AreInOrder (befell ++ also_befell number what)
 also_in_order number what befell order less = grind (arith, has_outcome, one_more_in_order, append-nil)
 
-untold_apply : (hs : List Happening) (cursor : List ℕ) (now number line : ℕ) (pending : Bool) (befell : List Befell) (ev : Happening) (what : What)
-    → AreUntold hs cursor now pending befell → ((p : List ℕ) → IsBefore p cursor → IsBefore p (now ∷ 2 ∷ []))
-    → number ≡ length hs + 1 → time_of ev ≡ now → ev.note.body ≡ kinds.Event line what → AreUntold (hs ++ ev ∷ []) (now ∷ 2 ∷ []) now true
+untold_apply : {hs : List Happening} {cursor : List ℕ} {now : ℕ} (number line : ℕ) {pending : Bool}
+    {befell : List Befell} (ev : Happening) (what : What) → AreUntold hs cursor now pending befell
+    → ((p : List ℕ) → IsBefore p cursor → IsBefore p (now ∷ 2 ∷ [])) → number ≡ length hs + 1 → time_of ev ≡ now
+    → ev.note.body ≡ kinds.Event line what → AreUntold (hs ++ ev ∷ []) (now ∷ 2 ∷ []) now true
     (befell ++ also_befell number what)
-untold_apply hs cursor now number line pending befell ev what untold early number_is at is = record {
+untold_apply {hs} {now} number line {pending} {befell} ev what untold early number_is at is = record {
   done = λ told. absurd cc;
   none = λ told. absurd cc;
   waits = λ open_. (number, ev, record { there = numbered_next hs [] ev number number_is; same_time = at });
@@ -116,8 +117,8 @@ known_apply : (network : Network) (f g : DeviceId → ℕ → ℕ) (past : List 
     → FitsWorld (scenario network f past) hs now event.what → IsEventBody ev.note.body
     → AreOfNetwork (scenario network f past) (hs ++ []) → AreOfNetwork (scenario network g (past ++ event ∷ [])) ((hs ++ ev ∷ []) ++ [])
 known_apply network f g past event hs now ev may is known = record {
-  unmoved = λ device le h i. elim (in_parts h hs (ev ∷ []) (subst (λ (l : List Happening). IsIn h l) (append-nil (hs ++ ev ∷ [])) i)) [
-    | inl old ↦ known.unmoved device le h (subst (λ (l : List Happening). IsIn h l) (sym (append-nil hs)) old)
+  unmoved = λ device le h i. elim (in_parts h hs (ev ∷ []) (subst (λ l. IsIn h l) (append-nil (hs ++ ev ∷ [])) i)) [
+    | inl old ↦ known.unmoved device le h (subst (λ l. IsIn h l) (sym (append-nil hs)) old)
     | inr (inl e) ↦ event_moves device h.note.body (subst (λ (x : Happening). IsEventBody x.note.body) (sym e) is)
     | inr (inr none) ↦ absurd none
   ];
@@ -165,7 +166,7 @@ applied_step {C} {M} reading stands network f g past event world notes clocks ma
     let sooner : (h : Happening) → IsIn h hs → (time_of h < now) ⊎ ((time_of h ≡ now) × IsEventBody h.note.body) = λ h i. before_others h now
     (early (place_of h) (old.ahead (place_of h) (old.run.within h i))) in
     let long : length notes ≡ length hs = same_length network notes in
-    let number : length notes + 1 ≡ length hs + 1 = ap (λ (k : ℕ). k + 1) long in
+    let number : length notes + 1 ≡ length hs + 1 = ap (λ k. k + 1) long in
     let running_so : (u : Units) → EndsAt past u → ⊥ = λ u ends. (let bad : false ≡ true = sym running ∙ ((old.ended u).0 ends).0 in cc) in
     let place = place_of_event past event in
     let here = now ∷ 1 ∷ (length past + 1) ∷ [] in
@@ -180,7 +181,7 @@ applied_step {C} {M} reading stands network f g past event world notes clocks ma
       none_left = λ p b. old.of_now p (subst (λ (n : ℕ). IsBefore p (n ∷ [])) at b);
       sooner = λ h i. elim (sooner h i) [ inl lt ↦ inl (omega (arith, lt, at)) | inr it ↦ inr it.1 ];
     } in
-    let run : IsScenarioRun r (behind here) (notes ++ note ∷ []) = subst (λ (q : List ℕ). IsScenarioRun r (behind q) (notes ++ note ∷ [])) place_is
+    let run : IsScenarioRun r (behind here) (notes ++ note ∷ []) = subst (λ q. IsScenarioRun r (behind q) (notes ++ note ∷ [])) place_is
     (run_goes_on_by_event network f g past event old.mark notes befalls old.run) in
     let m : IsBefalling network f g past event hs old.mark old.cursor now ev = record {
       at = at;
@@ -214,8 +215,8 @@ applied_step {C} {M} reading stands network f g past event world notes clocks ma
       | inr new ↦
           let same : amount e.time ≡ now = ap (λ (x : Event). amount x.time) (sym new.1) ∙ at in (
             omega (arith, same),
-            subst (λ (p : List ℕ). IsBefore p (behind here))
-                (sym (ap (λ (n : ℕ). n ∷ 1 ∷ (i + 1) ∷ []) same ∙ ap (λ (k : ℕ). now ∷ 1 ∷ (k + 1) ∷ []) new.0)) (before_behind here),
+            subst (λ p. IsBefore p (behind here))
+                (sym (ap (λ (n : ℕ). n ∷ 1 ∷ (i + 1) ∷ []) same ∙ ap (λ k. now ∷ 1 ∷ (k + 1) ∷ []) new.0)) (before_behind here),
           )
     ] in
     let here_two = under_two now (length past + 1) in
@@ -238,7 +239,7 @@ applied_step {C} {M} reading stands network f g past event world notes clocks ma
       run = run;
       ahead =
           λ p b. elim (up_to_place p here b) [
-            | inl e ↦ subst (λ (q : List ℕ). IsBefore q (now ∷ 2 ∷ [])) (sym e) here_two
+            | inl e ↦ subst (λ q. IsBefore q (now ∷ 2 ∷ [])) (sym e) here_two
             | inr lt ↦ chain p here (now ∷ 2 ∷ [])
                 lt here_two
           ];
@@ -273,26 +274,26 @@ applied_step {C} {M} reading stands network f g past event world notes clocks ma
           let then_ = been.still device k.0 k.1 in (
             then_.0,
             then_.1,
-            subst (λ (l : List Happening). IsHeld stands r (happenings network (notes ++ note ∷ [])) l (now ∷ 2 ∷ []) now device then_.0) (sym empty)
-                (subst (λ (l : List Happening). IsHeld stands r l [] (now ∷ 2 ∷ []) now device then_.0) back
-                (held_apply stands network f g past event hs old.cursor now (length notes + 1) ev device k.0 then_.0 applying
-                (subst (λ (l : List Happening). IsHeld stands s hs l old.cursor now device k.0) empty k.2) then_.2 may)),
+            subst (λ l. IsHeld stands r (happenings network (notes ++ note ∷ [])) l (now ∷ 2 ∷ []) now device then_.0) (sym empty)
+                (subst (λ l. IsHeld stands r l [] (now ∷ 2 ∷ []) now device then_.0) back
+                (held_apply stands network f g past event hs old.cursor now (length notes + 1) ev then_.0 applying
+                (subst (λ l. IsHeld stands s hs l old.cursor now device k.0) empty k.2) then_.2 may)),
           );
       early = λ fresh p b. b;
-      untold = subst (λ (l : List Happening). AreUntold l (now ∷ 2 ∷ []) now true (world.befell ++ also_befell (length notes + 1) event.what)) back
-          (untold_apply hs old.cursor now (length notes + 1) (length past + 1) world.pending world.befell ev event.what old.untold early number at refl);
+      untold = subst (λ l. AreUntold l (now ∷ 2 ∷ []) now true (world.befell ++ also_befell (length notes + 1) event.what)) back
+          (untold_apply (length notes + 1) (length past + 1) ev event.what old.untold early number at refl);
       wires =
-          subst (λ (l : List Happening). AreOnWires r l (now ∷ 2 ∷ []) now true world.wires) back
-          (wires_apply network f g past event hs old.mark old.cursor now ev world.pending world.wires m none_now old.forward old.wires);
+          subst (λ l. AreOnWires r l (now ∷ 2 ∷ []) now true world.wires) back
+          (wires_apply m none_now old.forward old.wires);
       ports =
-          subst (λ (l : List Happening). AreAtPorts r l (now ∷ 2 ∷ []) world.ports) back
-          (ports_apply network f g past event hs old.mark old.cursor now ev world.ports m old.ports);
+          subst (λ l. AreAtPorts r l (now ∷ 2 ∷ []) world.ports) back (ports_apply m old.ports);
       waiting =
-          subst (λ (l : List Happening). AreWaiting r l (now ∷ 2 ∷ []) now waiting) back
-          (waiting_apply network f g past event hs old.mark old.cursor now ev world.waiting waiting m old.waiting waits);
-      stored = subst (λ (l : List Happening). AreStored l world.stored) back (stored_still hs ev world.stored (λ device vl. refl) old.stored);
+          subst (λ l. AreWaiting r l (now ∷ 2 ∷ []) now waiting) back
+          (waiting_apply waiting m old.waiting waits);
+      stored = subst (λ l. AreStored l world.stored) back
+          (stored_still ev (λ device vl. refl) old.stored);
       are =
-          subst (λ (l : List Happening). AreSettled r (happenings network (notes ++ note ∷ [])) l (behind here) (now ∷ 2 ∷ []) now) (sym empty)
-          (subst (λ (l : List Happening). AreSettled r l [] (behind here) (now ∷ 2 ∷ []) now) back (nothing_due network g past event js now at));
+          subst (λ l. AreSettled r (happenings network (notes ++ note ∷ [])) l (behind here) (now ∷ 2 ∷ []) now) (sym empty)
+          (subst (λ l. AreSettled r l [] (behind here) (now ∷ 2 ∷ []) now) back (nothing_due network g past event js now at));
       shown = λ device lt ended. (λ b. absurd (no_clock now device b), λ less. absurd (omega (arith, less)));
     }

@@ -51,21 +51,22 @@ node_out on other device node out = refl
 
 -- ---- records of events bear on no device
 
-pub event_moves : (device : DeviceId) (body : NoteBody) → IsEventBody body → moves device body ≡ false
-event_moves device (notes.Event line what) is = refl
-event_moves device other is = absurd is
+module _ (device : DeviceId) where
+  pub event_moves : (body : NoteBody) → IsEventBody body → moves device body ≡ false
+  event_moves (notes.Event line what) is = refl
+  event_moves other is = absurd is
 
-event_bears : (device : DeviceId) (body : NoteBody) → IsEventBody body → bears_on device body ≡ false
-event_bears device (notes.Event line what) is = refl
-event_bears device other is = absurd is
+  event_bears : (body : NoteBody) → IsEventBody body → bears_on device body ≡ false
+  event_bears (notes.Event line what) is = refl
+  event_bears other is = absurd is
 
-event_takes : (device : DeviceId) (body : NoteBody) → IsEventBody body → IsNoTaking device body
-event_takes device (notes.Event line what) is at = refl
-event_takes device other is at = absurd is
+  event_takes : (body : NoteBody) → IsEventBody body → IsNoTaking device body
+  event_takes (notes.Event line what) is at = refl
+  event_takes other is at = absurd is
 
-event_state : (device : DeviceId) (old : State) (body : NoteBody) → IsEventBody body → state_with device old body ≡ old
-event_state device old (notes.Event line what) is = refl
-event_state device old other is = absurd is
+  event_state : (old : State) (body : NoteBody) → IsEventBody body → state_with device old body ≡ old
+  event_state old (notes.Event line what) is = refl
+  event_state old other is = absurd is
 
 event_adjustment : (s : Scenario) (device : DeviceId) (cycle : ℕ) (old : Units) (body : NoteBody) → IsEventBody body
     → adjustment_with s device cycle old body ≡ old
@@ -79,20 +80,22 @@ pub record IsOnlyEvents (hs : List Happening) (now : ℕ) (ev : Happening) : Typ
   pub at : time_of ev ≡ now
   pub is : IsEventBody ev.note.body
 
-each_past : (hs : List Happening) (now : ℕ) (ev : Happening) → IsOnlyEvents hs now ev → (h : Happening) → IsIn h hs → time_of h ≤ now
-each_past hs now ev m h i = elim (m.sooner h i) [ inl lt ↦ omega (arith, lt) | inr same ↦ let at = same.0 in omega (arith, at) ]
+module _ {hs : List Happening} {now : ℕ} {ev : Happening} (m : IsOnlyEvents hs now ev) where
+  each_past : (h : Happening) → IsIn h hs → time_of h ≤ now
+  each_past h i = elim (m.sooner h i) [ inl lt ↦ omega (arith, lt) | inr same ↦ let at = same.0 in omega (arith, at) ]
 
-with_event : (hs : List Happening) (now : ℕ) (ev : Happening) → IsOnlyEvents hs now ev → (h : Happening) → IsIn h ((hs ++ ev ∷ []) ++ []) → (time_of h < now)
-    ⊎ ((time_of h ≡ now) × IsEventBody h.note.body)
-with_event hs now ev m h i =
-    elim (in_parts h hs (ev ∷ []) (subst (λ (l : List Happening). IsIn h l) (append-nil (hs ++ ev ∷ [])) i)) [
-      | inl old ↦ m.sooner h old
-      | inr (inl e) ↦ inr (ap time_of e ∙ m.at, subst (λ (x : Happening). IsEventBody x.note.body) (sym e) m.is)
-      | inr (inr none) ↦ absurd none
-    ]
+  with_event : (h : Happening) → IsIn h ((hs ++ ev ∷ []) ++ [])
+      → (time_of h < now) ⊎ ((time_of h ≡ now) × IsEventBody h.note.body)
+  with_event h i =
+      elim (in_parts h hs (ev ∷ []) (subst (λ l. IsIn h l) (append-nil (hs ++ ev ∷ [])) i)) [
+        | inl old ↦ m.sooner h old
+        | inr (inl e) ↦ inr (ap time_of e ∙ m.at, subst (λ (x : Happening). IsEventBody x.note.body) (sym e) m.is)
+        | inr (inr none) ↦ absurd none
+      ]
 
-same_earlier : (hs : List Happening) (now : ℕ) (ev : Happening) → IsOnlyEvents hs now ev → earlier now ((hs ++ ev ∷ []) ++ []) ≡ earlier now hs
-same_earlier hs now ev m = ap (earlier now) (append-nil (hs ++ ev ∷ [])) ∙ same_before now hs ev (let at = m.at in omega (arith, at))
+  same_earlier : earlier now ((hs ++ ev ∷ []) ++ []) ≡ earlier now hs
+  same_earlier =
+      ap (earlier now) (append-nil (hs ++ ev ∷ [])) ∙ same_before now hs ev (let at = m.at in omega (arith, at))
 
 -- what is up to the time is what is before it, for what events do not change
 up_to_before : {B : Type 0} (step : B → Happening → B) (z : B) (hs : List Happening) (now : ℕ)
@@ -103,18 +106,17 @@ up_to_before step z hs now sooner same =
     ∙ fold_still step now (now + 1) (omega arith) hs
     (λ h i from lt b. elim (sooner h i) [ inl less ↦ absurd (omega (arith, from, less)) | inr at ↦ same b h at.1 ]) z
 
-state_up_to : (s : Scenario) (hs : List Happening) (now : ℕ) (device : DeviceId)
-    → ((h : Happening) → IsIn h hs → (time_of h < now) ⊎ ((time_of h ≡ now) × IsEventBody h.note.body)) → state_after s (up_to now hs) device ≡ state_after s
-    (earlier now hs) device
-state_up_to s hs now device sooner =
-    up_to_before (λ state h. state_with device state h.note.body) _ hs now sooner (λ b h is. event_state device b h.note.body is)
+module _ (s : Scenario) (hs : List Happening) (now : ℕ) (device : DeviceId)
+    (sooner : ((h : Happening) → IsIn h hs → (time_of h < now) ⊎ ((time_of h ≡ now) × IsEventBody h.note.body))) where
+  state_up_to : state_after s (up_to now hs) device ≡ state_after s (earlier now hs) device
+  state_up_to =
+      up_to_before (λ state h. state_with device state h.note.body) _ hs now sooner
+      (λ b h is. event_state device b h.note.body is)
 
-adjustment_up_to : (s : Scenario) (hs : List Happening) (now : ℕ) (device : DeviceId)
-    → ((h : Happening) → IsIn h hs → (time_of h < now) ⊎ ((time_of h ≡ now) × IsEventBody h.note.body))
-    → adjustment_after s (up_to now hs) device ≡ adjustment_after s (earlier now hs) device
-adjustment_up_to s hs now device sooner =
-    up_to_before (λ adjustment h. adjustment_with s device (cycle_in h) adjustment h.note.body) _ hs now sooner
-    (λ b h is. event_adjustment s device (cycle_in h) b h.note.body is)
+  adjustment_up_to : adjustment_after s (up_to now hs) device ≡ adjustment_after s (earlier now hs) device
+  adjustment_up_to =
+      up_to_before (λ adjustment h. adjustment_with s device (cycle_in h) adjustment h.note.body) _ hs now sooner
+      (λ b h is. event_adjustment s device (cycle_in h) b h.note.body is)
 
 -- ---- a node with no more to do than another, and the same else
 
@@ -131,32 +133,35 @@ pub record HasNoMore (network : Network) (device : DeviceId) (node new : Node) :
   pub number : new.standing.number ≡ node.standing.number
   pub deed : (deed : ClockTask) → IsDeedOf network device new deed → IsDeedOf network device node deed
 
-pub itself : (network : Network) (device : DeviceId) (node : Node) → HasNoMore network device node node
-itself network device node = grind arith
+module _ (network : Network) (device : DeviceId) (node : Node) where
+  pub itself : HasNoMore network device node node
+  itself = grind arith
 
-no_deed : (network : Network) (device : DeviceId) (node : Node) (deed : ClockTask) → IsDeedOf network device (node_turned_on node) deed
-    → IsDeedOf network device node deed
-no_deed network device node (sending cycle) own = absurd (let bad : Integrating ≡ Synchronised = own.1 in cc)
-no_deed network device node (correcting cycle) own = absurd (let bad : None ≡ Some cycle = own in cc)
-no_deed network device node (dispatching row cycle) own = absurd (let bad : Integrating ≡ Synchronised = own.0 in cc)
+  no_deed : (deed : ClockTask) → IsDeedOf network device (node_turned_on node) deed
+      → IsDeedOf network device node deed
+  no_deed (sending cycle) own = absurd (let bad : Integrating ≡ Synchronised = own.1 in cc)
+  no_deed (correcting cycle) own = absurd (let bad : None ≡ Some cycle = own in cc)
+  no_deed (dispatching row cycle) own = absurd (let bad : Integrating ≡ Synchronised = own.0 in cc)
 
-pub turned_on_less : (network : Network) (device : DeviceId) (node : Node) → HasNoMore network device node (node_turned_on node)
-turned_on_less network device node = grind (arith, no_deed)
+module _ (network : Network) (device : DeviceId) (node : Node) where
+  pub turned_on_less : HasNoMore network device node (node_turned_on node)
+  turned_on_less = grind (arith, no_deed)
 
-undone_less : (network : Network) (device : DeviceId) (node new : Node) (deed : ClockTask) → HasNoMore network device node new
-    → IsUndone network device new deed → IsUndone network device node deed
-undone_less network device node new deed a u = grind (arith, value_of)
+  undone_less : {new : Node} {deed : ClockTask} → HasNoMore network device node new
+      → IsUndone network device new deed → IsUndone network device node deed
+  undone_less a u = grind (arith, value_of)
 
-waiting_less : (network : Network) (device : DeviceId) (node new : Node) (sent : Compressed) → HasNoMore network device node new
-    → IsWaiting network device new sent → IsWaiting network device node sent
-waiting_less network device node new sent a w =
-    waiting_alike network device node new sent a.points (λ c there. subst (λ (l : List Compressed). Contains l c) (sym a.emitted) there) w
+  waiting_less : {new : Node} {sent : Compressed} → HasNoMore network device node new
+      → IsWaiting network device new sent → IsWaiting network device node sent
+  waiting_less {new} a w =
+      waiting_alike network device node new a.points
+      (λ c there. subst (λ (l : List Compressed). Contains l c) (sym a.emitted) there) w
 
-pending_less : (network : Network) (device : DeviceId) (node new : Node) (task : Task) → HasNoMore network device node new → IsPending network device new task
-    → IsPending network device node task × (reading_for network node task ≡ reading_for network new task)
-pending_less network device node new (emitting sent) a p = ((sym a.broken ∙ p.0, waiting_less network device node new sent a p.1), refl)
-pending_less network device node new (doing deed) a p =
-    ((sym a.broken ∙ p.0, undone_less network device node new deed a p.1), ap (λ (u : Units). value_of network deed -ℤ u.0) (sym a.adjustment))
+  pending_less : {new : Node} (task : Task) → HasNoMore network device node new → IsPending network device new task
+      → IsPending network device node task × (reading_for network node task ≡ reading_for network new task)
+  pending_less (emitting sent) a p = ((sym a.broken ∙ p.0, waiting_less a p.1), refl)
+  pending_less (doing deed) a p =
+      ((sym a.broken ∙ p.0, undone_less a p.1), ap (λ (u : Units). value_of network deed -ℤ u.0) (sym a.adjustment))
 
 -- ---- the device is kept
 
@@ -173,236 +178,281 @@ pub record IsApplying (network : Network) (f g : DeviceId → ℕ → ℕ) (past
 never_there : {A : Type 0} (now : ℕ) (cursor : List ℕ) → ((p : List ℕ) → IsBefore p cursor → IsBefore p (now ∷ 2 ∷ [])) → IsBefore (now ∷ 2 ∷ []) cursor → A
 never_there now cursor early b = absurd (never_self (now ∷ 2 ∷ []) (early (now ∷ 2 ∷ []) b))
 
-ready_less : (network : Network) (f g : DeviceId → ℕ → ℕ) (device : DeviceId) (now : ℕ) (node new : Node) → ((x : ℕ) → x ≤ now → f device x ≡ g device x)
-    → IsReadyAt (f device) network device node now → new.last ≡ node.last
-    → ((task : Task) → IsPending network device new task → IsPending network device node task × (reading_for network node task ≡ reading_for network new task))
+ready_less : {network : Network} (f g : DeviceId → ℕ → ℕ) {device : DeviceId} {now : ℕ} {node : Node} (new : Node)
+    → ((x : ℕ) → x ≤ now → f device x ≡ g device x) → IsReadyAt (f device) network device node now
+    → new.last ≡ node.last → ((task : Task) → IsPending network device new task
+    → IsPending network device node task × (reading_for network node task ≡ reading_for network new task))
     → IsReadyAt (g device) network device new now
-ready_less network f g device now node new reads ready last pending = grind (arith, whole, amount, ints, reading_for)
+ready_less f g new reads ready last pending = grind (arith, whole, amount, ints, reading_for)
 
-pub kept_less : {M : Type 0} (stands : M → Network → DeviceId → Node → Type 0) (network : Network) (f g : DeviceId → ℕ → ℕ) (past : List Event) (event : Event)
-    (hs : List Happening) (cursor : List ℕ) (now number : ℕ) (ev : Happening) (device : DeviceId) (machine after : M) (new : Node)
-    → IsApplying network f g past event hs cursor now number ev → (k : IsKept stands (scenario network f past) hs [] cursor now device machine)
-    → HasNoMore network device k.node new → stands after network device new → is_broken (scenario network g (past ++ event ∷ [])) device now ≡ false
-    → (k.up ≡ now → IsLeft (scenario network g (past ++ event ∷ [])) hs device now new)
-    → (k.up ≡ now → is_turned_on_at (scenario network g (past ++ event ∷ [])) device now ≡ true → state_after (scenario network f past) (earlier now hs)
-    device ≡ Off) → IsKept stands (scenario network g (past ++ event ∷ [])) (hs ++ ev ∷ []) [] (now ∷ 2 ∷ []) now device after
-kept_less stands network f g past event hs cursor now number ev device machine after new m k a is sound left off =
-    let r = scenario network g (past ++ event ∷ []) in
-    let js = hs ++ ev ∷ [] in
-    let up : k.up ≡ now = elim k.acted [ inl yet ↦ yet.0 | inr over ↦ never_there now cursor m.early (over.1 (now ∷ 2 ∷ []) (inr (refl, inl (omega arith)))) ]
-    in
-    let rests = rested (scenario network f past) device k.node (changed_at (hs ++ []) device k.up) k.up now cursor k.worked (omega (arith, up))
-    (λ b. late_act now device (m.early (act_place now device) b)) in
-    let change : changed_at (js ++ []) device now ≡ changed_at (hs ++ []) device k.up =
-    ap (λ (l : List Happening). option_map_or time_of (last_or None (filter (λ h. changes_adjustment device h.note.body) l)) 0)
-    (same_earlier hs now ev m.events ∙ sym (ap (earlier now) (append-nil hs))) ∙ ap (λ (n : ℕ). changed_at (hs ++ []) device n) (sym up) in
-    let only = with_event hs now ev m.events in
-    let past_all = each_past hs now ev m.events in
-    let left_so : IsLeft r (js ++ []) device now new = other_comes r hs [] device now new ev (event_bears device ev.note.body m.events.is)
-    (subst (λ (l : List Happening). IsLeft r l device now new) (sym (append-nil hs)) (left up)) in
-    let done_so : HasDoneFrom network (r.reading device) device new (changed_at (js ++ []) device now) now now = record {
-      undone = λ deed u x from lt.
-          let before = rests.done.undone deed (undone_less network device k.node new deed a u) x (omega (arith, from, change)) (omega (arith, lt, up)) in
-          subst (λ (n : ℕ). pos n <ℤ (value_of network deed -ℤ new.standing.adjustment.0)) (m.reads device x (omega (arith, lt)))
-          (subst (λ (w : Units). pos (f device x) <ℤ (value_of network deed -ℤ w.0)) (sym a.adjustment) before);
-      done = λ deed there.
-          let x = rests.done.done deed (subst (λ (l : List ClockTask). Contains l deed) a.done there) in (
-            x.0,
-            omega (arith, x.1, change),
-            omega (arith, x.2, up),
-            subst (λ (n : ℕ). (value_of network deed -ℤ new.standing.adjustment.0) ≤ℤ pos n) (m.reads device x.0 (omega (arith, x.2, up)))
-                (subst (λ (w : Units). (value_of network deed -ℤ w.0) ≤ℤ pos (f device x.0)) (sym a.adjustment) x.3),
-          );
-    } in
-    let sent_so : HasSentFrom r device new now now = record {
-      unsent =
-          λ c w x lt. subst (λ (n : ℕ). pos n <ℤ c.at.0) (m.reads device x (omega (arith, lt)))
-          (rests.sent.unsent c (waiting_less network device k.node new c a w) x (omega (arith, lt, up)));
-      sent = λ c there.
-          let x = rests.sent.sent c (subst (λ (l : List Compressed). Contains l c) a.emitted there) in
-          (x.0, omega (arith, x.1, up), subst (λ (n : ℕ). c.at.0 ≤ℤ pos n) (m.reads device x.0 (omega (arith, x.1, up))) x.2);
-    } in
-    record {
-      node = new;
-      is = is;
-      sound = sound;
-      up = now;
-      acted = inl (refl, λ task b acts. absurd (late_act now device (acts_before network now device task (now ∷ 2 ∷ []) b)));
-      told = λ over. absurd (let bad : now ≡ now + 1 = over in omega (arith, bad));
-      left = left_so;
-      taken =
-          a.taken ∙ k.taken ∙ ap (λ (l : List Happening). frames_taken (scenario network f past) l device) (append-nil hs)
-          ∙ frames_alike (scenario network f past) r hs device now (λ x. refl) (m.reads device) past_all
-          ∙ sym (ap (λ (l : List Happening). frames_taken r l device) (append-nil js)
-          ∙ frames_end r hs ev device (event_takes device ev.note.body m.events.is)
-          (λ h i. let early = past_all h i in let at = m.events.at in omega (arith, early, at)));
-      worked = worked_by r device new (changed_at (js ++ []) device now) now (now ∷ 2 ∷ []) (record { done = done_so; sent = sent_so }) (λ x task lt. inl lt);
-      bare = λ other. (a.points ∙ (k.bare other).0, a.emitted ∙ (k.bare other).1);
-      ready = ready_less network f g device now k.node new (m.reads device) k.ready a.last (λ task p. pending_less network device k.node new task a p);
-      still = λ same h i at. elim (only h i) [ inl lt ↦ absurd (omega (arith, lt, at)) | inr it ↦ inl (event_moves device h.note.body it.1) ];
-      turned = λ on. record {
-        off = ap (λ (l : List Happening). state_after r l device) (same_earlier hs now ev m.events) ∙ off up on;
-        number = number;
-        event = ev;
-        befell = record { there = m.there; same_time = m.events.at };
-        turned = λ b. absurd (never_self (now ∷ 2 ∷ []) b);
-      };
-      cleared =
-          λ cycle there. subst (λ (n : ℕ). cycle < n) (sym a.number)
-          (k.cleared cycle (subst (λ (l : List ClockTask). Contains l (correcting cycle)) a.done there));
-      phase =
-          λ at p b. m.early p (k.phase (ap (λ (w : _). w.time.0) (sym a.last) ∙ at) p (subst (λ (c : _). IsBefore p (now ∷ rank_of_call c ∷ [])) a.phase b));
-    }
-  where
-    late_act : (now : ℕ) (device : DeviceId) → IsBefore (act_place now device) (now ∷ 2 ∷ []) → ⊥
-    late_act now device (inl lt) = omega (arith, lt)
-    late_act now device (inr (e, inl lt)) = omega (arith, lt)
-    late_act now device (inr (e, inr (two, none))) = none
+module _ {M : Type 0} (stands : M → Network → DeviceId → Node → Type 0) (network : Network) (f g : DeviceId → ℕ → ℕ)
+    (past : List Event) (event : Event) (hs : List Happening) (cursor : List ℕ) (now number : ℕ)
+    (ev : Happening) where
+  pub kept_less : {device : DeviceId} {machine : M} (after : M) {new : Node}
+      → IsApplying network f g past event hs cursor now number ev
+      → (k : IsKept stands (scenario network f past) hs [] cursor now device machine)
+      → HasNoMore network device k.node new → stands after network device new
+      → is_broken (scenario network g (past ++ event ∷ [])) device now ≡ false
+      → (k.up ≡ now → IsLeft (scenario network g (past ++ event ∷ [])) hs device now new)
+      → (k.up ≡ now → is_turned_on_at (scenario network g (past ++ event ∷ [])) device now ≡ true
+      → state_after (scenario network f past) (earlier now hs) device ≡ Off)
+      → IsKept stands (scenario network g (past ++ event ∷ [])) (hs ++ ev ∷ []) [] (now ∷ 2 ∷ []) now device after
+  kept_less {device} after {new} m k a is sound left off =
+      let r = scenario network g (past ++ event ∷ []) in
+      let js = hs ++ ev ∷ [] in
+      let up : k.up ≡ now =
+      elim k.acted [ inl yet ↦ yet.0 | inr over ↦ never_there now cursor m.early (over.1 (now ∷ 2 ∷ []) (inr (refl, inl (omega arith)))) ]
+      in
+      let rests = rested now k.worked (omega (arith, up))
+      (λ b. late_act now device (m.early (act_place now device) b)) in
+      let change : changed_at (js ++ []) device now ≡ changed_at (hs ++ []) device k.up =
+      ap (λ (l : List Happening). option_map_or time_of
+      (last_or None (filter (λ h. changes_adjustment device h.note.body) l)) 0)
+      (same_earlier m.events ∙ sym (ap (earlier now) (append-nil hs))) ∙ ap
+      (λ n. changed_at (hs ++ []) device n) (sym up) in
+      let only = with_event m.events in
+      let past_all = each_past m.events in
+      let left_so : IsLeft r (js ++ []) device now new =
+      other_comes hs [] ev (event_bears device ev.note.body m.events.is)
+      (subst (λ l. IsLeft r l device now new) (sym (append-nil hs)) (left up)) in
+      let done_so : HasDoneFrom network (r.reading device) device new (changed_at (js ++ []) device now) now now =
+      record {
+        undone = λ deed u x from lt.
+            let before = rests.done.undone deed (undone_less network device k.node a u) x
+            (omega (arith, from, change)) (omega (arith, lt, up)) in
+            subst (λ n. pos n <ℤ (value_of network deed -ℤ new.standing.adjustment.0))
+            (m.reads device x (omega (arith, lt)))
+            (subst (λ (w : Units). pos (f device x) <ℤ (value_of network deed -ℤ w.0)) (sym a.adjustment) before);
+        done = λ deed there.
+            let x = rests.done.done deed (subst (λ (l : List ClockTask). Contains l deed) a.done there) in (
+              x.0,
+              omega (arith, x.1, change),
+              omega (arith, x.2, up),
+              subst (λ n. (value_of network deed -ℤ new.standing.adjustment.0) ≤ℤ pos n)
+                  (m.reads device x.0 (omega (arith, x.2, up)))
+                  (subst (λ (w : Units). (value_of network deed -ℤ w.0) ≤ℤ pos (f device x.0)) (sym a.adjustment) x.3),
+            );
+      } in
+      let sent_so : HasSentFrom r device new now now = record {
+        unsent =
+            λ c w x lt. subst (λ n. pos n <ℤ c.at.0) (m.reads device x (omega (arith, lt)))
+            (rests.sent.unsent c (waiting_less network device k.node a w) x (omega (arith, lt, up)));
+        sent = λ c there.
+            let x = rests.sent.sent c (subst (λ (l : List Compressed). Contains l c) a.emitted there) in
+            (x.0, omega (arith, x.1, up), subst (λ n. c.at.0 ≤ℤ pos n) (m.reads device x.0 (omega (arith, x.1, up))) x.2);
+      } in
+      record {
+        node = new;
+        is = is;
+        sound = sound;
+        up = now;
+        acted = inl (refl, λ task b acts. absurd (late_act now device (acts_before network now device task (now ∷ 2 ∷ []) b)));
+        told = λ over. absurd (let bad : now ≡ now + 1 = over in omega (arith, bad));
+        left = left_so;
+        taken =
+            a.taken ∙ k.taken ∙ ap (λ l. frames_taken (scenario network f past) l device)
+            (append-nil hs)
+            ∙ frames_alike (scenario network f past) r hs device now (λ x. refl) (m.reads device) past_all
+            ∙ sym (ap (λ l. frames_taken r l device) (append-nil js)
+            ∙ frames_end r hs ev device (event_takes device ev.note.body m.events.is)
+            (λ h i. let early = past_all h i in let at = m.events.at in omega (arith, early, at)));
+        worked = worked_by {s = r} {device = device} {node = new} {changed = changed_at (js ++ []) device now} {t = now} (now ∷ 2 ∷ []) (record { done = done_so; sent = sent_so }) (λ x task lt. inl lt);
+        bare = λ other. (a.points ∙ (k.bare other).0, a.emitted ∙ (k.bare other).1);
+        ready = ready_less f g new (m.reads device) k.ready a.last
+            (λ task p. pending_less network device k.node task a p);
+        still = λ same h i at. elim (only h
+            i) [ inl lt ↦ absurd (omega (arith, lt, at)) | inr it ↦ inl (event_moves device h.note.body it.1) ];
+        turned = λ on. record {
+          off = ap (λ l. state_after r l device) (same_earlier m.events) ∙ off up on;
+          number = number;
+          event = ev;
+          befell = record { there = m.there; same_time = m.events.at };
+          turned = λ b. absurd (never_self (now ∷ 2 ∷ []) b);
+        };
+        cleared =
+            λ cycle there. subst (λ n. cycle < n) (sym a.number)
+            (k.cleared cycle (subst (λ (l : List ClockTask). Contains l (correcting cycle)) a.done there));
+        phase =
+            λ at p b. m.early p (k.phase (ap (λ (w : _). w.time.0) (sym a.last) ∙ at) p
+            (subst (λ c. IsBefore p (now ∷ rank_of_call c ∷ [])) a.phase b));
+      }
+    where
+      late_act : (now : ℕ) (device : DeviceId) → IsBefore (act_place now device) (now ∷ 2 ∷ []) → ⊥
+      late_act now device (inl lt) = omega (arith, lt)
+      late_act now device (inr (e, inl lt)) = omega (arith, lt)
+      late_act now device (inr (e, inr (two, none))) = none
 
--- ---- a broken one stays out, and one that breaks is out from then on
+  -- ---- a broken one stays out, and one that breaks is out from then on
 
-out_so : {M : Type 0} (stands : M → Network → DeviceId → Node → Type 0) (network : Network) (f g : DeviceId → ℕ → ℕ) (past : List Event) (event : Event)
-    (hs : List Happening) (cursor : List ℕ) (now number : ℕ) (ev : Happening) (device : DeviceId) (after : M) (node new : Node)
-    → IsApplying network f g past event hs cursor now number ev → stands after network device new → is_broken (scenario network g (past ++ event ∷ [])) device
-    now ≡ true → new.broken ≡ true
-    → new.standing.state ≡ state_after (scenario network f past) (earlier now hs) device → new.standing.adjustment ≡ adjustment_after (scenario network f past)
-    (earlier now hs) device → IsReadyAt (f device) network device node now → new.last ≡ node.last → IsCalledBy new cursor now
-    → IsOut stands (scenario network g (past ++ event ∷ [])) (hs ++ ev ∷ []) [] (now ∷ 2 ∷ []) now device after
-out_so stands network f g past event hs cursor now number ev device after node new m is broken shows state adjustment ready last called =
-    let r = scenario network g (past ++ event ∷ []) in
-    let js = (hs ++ ev ∷ []) ++ [] in
-    record {
-      node = new;
-      is = is;
-      broken = broken;
-      shows = shows;
-      state =
-          state ∙ ap (λ (l : List Happening). state_after r l device) (sym (same_earlier hs now ev m.events))
-          ∙ sym (state_up_to r js now device (with_event hs now ev m.events));
-      adjustment =
-          adjustment ∙ adjustment_same ∙ ap (λ (l : List Happening). adjustment_after r l device) (sym (same_earlier hs now ev m.events))
-          ∙ sym (adjustment_up_to r js now device (with_event hs now ev m.events));
-      ready = ready_less network f g device now node new (m.reads device) ready last (λ task p. absurd (no_task network device new task shows p));
-      phase = λ at p b. m.early p (called at p b);
-    }
-  where
-    adjustment_same : adjustment_after (scenario network f past) (earlier now hs) device ≡ adjustment_after (scenario network g (past ++ event ∷ []))
-        (earlier now hs) device
-    adjustment_same = refl
+  out_so : {device : DeviceId} (after : M) {node : Node} (new : Node)
+      → IsApplying network f g past event hs cursor now number ev → stands after network device new
+      → is_broken (scenario network g (past ++ event ∷ [])) device now ≡ true → new.broken ≡ true
+      → new.standing.state ≡ state_after (scenario network f past) (earlier now hs) device
+      → new.standing.adjustment ≡ adjustment_after (scenario network f past) (earlier now hs) device
+      → IsReadyAt (f device) network device node now → new.last ≡ node.last → IsCalledBy new cursor now
+      → IsOut stands (scenario network g (past ++ event ∷ [])) (hs ++ ev ∷ []) [] (now ∷ 2 ∷ []) now device after
+  out_so {device} after {node} new m is broken shows state adjustment ready last called =
+      let r = scenario network g (past ++ event ∷ []) in
+      let js = (hs ++ ev ∷ []) ++ [] in
+      record {
+        node = new;
+        is = is;
+        broken = broken;
+        shows = shows;
+        state =
+            state ∙ ap (λ l. state_after r l device) (sym (same_earlier m.events))
+            ∙ sym (state_up_to r js now device (with_event m.events));
+        adjustment =
+            adjustment ∙ adjustment_same ∙ ap (λ l. adjustment_after r l device)
+            (sym (same_earlier m.events))
+            ∙ sym (adjustment_up_to r js now device (with_event m.events));
+        ready = ready_less f g new (m.reads device) ready last
+            (λ task p. absurd (no_task network device new task shows p));
+        phase = λ at p b. m.early p (called at p b);
+      }
+    where
+      adjustment_same : adjustment_after (scenario network f past) (earlier now hs) device ≡ adjustment_after
+          (scenario network g (past ++ event ∷ []))
+          (earlier now hs) device
+      adjustment_same = refl
 
--- ---- each device
+  -- ---- each device
 
-pub held_apply : {M : Type 0} (stands : M → Network → DeviceId → Node → Type 0) (network : Network) (f g : DeviceId → ℕ → ℕ) (past : List Event) (event : Event)
-    (hs : List Happening) (cursor : List ℕ) (now number : ℕ) (ev : Happening) (device : DeviceId) (machine after : M)
-    → IsApplying network f g past event hs cursor now number ev → IsHeld stands (scenario network f past) hs [] cursor now device machine
-    → ((node : Node) → stands machine network device node → (event.what ≡ events.On device → node.standing.state ≡ Off)
-    → stands after network device (befallen_node (is_turned_on_at (scenario network f past) device now) event.what device node))
-    → FitsWorld (scenario network f past) hs now event.what
-    → IsHeld stands (scenario network g (past ++ event ∷ [])) (hs ++ ev ∷ []) [] (now ∷ 2 ∷ []) now device after
-held_apply stands network f g past event hs cursor now number ev device machine after m (inr k) been fits =
-    let s = scenario network f past in
-    let only : (h : Happening) → IsIn h (hs ++ []) → (time_of h < now) ⊎ ((time_of h ≡ now) × IsEventBody h.note.body) = λ h i. m.events.sooner h
-    (subst (λ (l : List Happening). IsIn h l) (append-nil hs) i) in
-    let on = is_turned_on_at s device now in
-    let broken = broken_more network f g past event now device m.at ∙ ap (λ (b : Bool). b || breaks_at device.0 event.what) k.broken in
-    let still = subst (λ (n : Node). stands after network device n) (node_out on event.what device k.node k.shows)
-    (been k.node k.is (λ turns. absurd (both_ways (is_broken s device now) (subst (FitsWorld s hs now) turns fits).2 k.broken))) in
-    inr (out_so stands network f g past event hs cursor now number ev device after k.node k.node m still broken k.shows
-    (k.state ∙ state_up_to s (hs ++ []) now device only ∙ ap (λ (l : List Happening). state_after s (earlier now l) device) (append-nil hs))
-    (k.adjustment ∙ adjustment_up_to s (hs ++ []) now device only ∙ ap (λ (l : List Happening). adjustment_after s (earlier now l) device) (append-nil hs))
-    k.ready refl k.phase)
-held_apply {M} stands network f g past event hs cursor now number ev device machine after m (inl k) been fits =
-    elim (cases_Bool (breaks_at device.0 event.what)) [
-      | inl breaks ↦ inr (goes_out breaks)
-      | inr stays ↦ elim (cases_Bool (turns_on device event.what)) [ inl on ↦ inl (comes_on on stays) | inr not_on ↦ inl (goes_on stays not_on) ]
-    ]
-  where
-    s : Scenario
-    s = scenario network f past
+  pub held_apply : {device : DeviceId} {machine : M} (after : M)
+      → IsApplying network f g past event hs cursor now number ev
+      → IsHeld stands (scenario network f past) hs [] cursor now device machine
+      → ((node : Node) → stands machine network device node
+      → (event.what ≡ events.On device → node.standing.state ≡ Off)
+      → stands after network device (befallen_node (is_turned_on_at (scenario network f past) device now) event.what
+      device node)) → FitsWorld (scenario network f past) hs now event.what
+      → IsHeld stands (scenario network g (past ++ event ∷ [])) (hs ++ ev ∷ []) [] (now ∷ 2 ∷ []) now device after
+  held_apply {device} after m (inr k) been fits =
+      let s = scenario network f past in
+      let only : (h : Happening) → IsIn h (hs ++ []) → (time_of h < now)
+      ⊎ ((time_of h ≡ now) × IsEventBody h.note.body) = λ h i. m.events.sooner h
+      (subst (λ l. IsIn h l) (append-nil hs) i) in
+      let on = is_turned_on_at s device now in
+      let broken = broken_more network f g past event now device m.at ∙ ap
+      (λ (b : Bool). b || breaks_at device.0 event.what) k.broken in
+      let still = subst (λ (n : Node). stands after network device n) (node_out on event.what device k.node k.shows)
+      (been k.node k.is (λ turns. absurd (both_ways (is_broken s device now)
+      (subst (FitsWorld s hs now) turns fits).2 k.broken))) in
+      inr (out_so after k.node m still broken k.shows
+      (k.state ∙ state_up_to s (hs ++ []) now device only ∙ ap
+      (λ l. state_after s (earlier now l) device) (append-nil hs))
+      (k.adjustment ∙ adjustment_up_to s (hs ++ []) now device only ∙ ap
+      (λ l. adjustment_after s (earlier now l) device) (append-nil hs))
+      k.ready refl k.phase)
+  held_apply {device} after m (inl k) been fits =
+      elim (cases_Bool (breaks_at device.0 event.what)) [
+        | inl breaks ↦ inr (goes_out breaks)
+        | inr stays ↦ elim (cases_Bool (turns_on device
+            event.what)) [ inl on ↦ inl (comes_on on stays) | inr not_on ↦ inl (goes_on stays not_on) ]
+      ]
+    where
+      s : Scenario
+      s = scenario network f past
 
-    r : Scenario
-    r = scenario network g (past ++ event ∷ [])
+      r : Scenario
+      r = scenario network g (past ++ event ∷ [])
 
-    is_at : k.up ≡ now
-    is_at = elim k.acted [ inl yet ↦ yet.0 | inr over ↦ never_there now cursor m.early (over.1 (now ∷ 2 ∷ []) (inr (refl, inl (omega arith)))) ]
+      is_at : k.up ≡ now
+      is_at = elim k.acted [ inl yet ↦ yet.0 | inr over ↦ never_there now cursor m.early (over.1 (now ∷ 2 ∷ []) (inr (refl, inl (omega arith)))) ]
 
-    sound : k.node.broken ≡ false
-    sound = k.left.counted.broken ∙ ap (is_broken s device) is_at ∙ k.sound
+      sound : k.node.broken ≡ false
+      sound = k.left.counted.broken ∙ ap (is_broken s device) is_at ∙ k.sound
 
-    left : IsLeft s hs device now k.node
-    left = subst (λ (l : List Happening). IsLeft s l device now k.node) (append-nil hs) (subst (λ (n : ℕ). IsLeft s (hs ++ []) device n k.node) is_at k.left)
+      left : IsLeft s hs device now k.node
+      left = subst (λ l. IsLeft s l device now k.node) (append-nil hs)
+          (subst (λ n. IsLeft s (hs ++ []) device n k.node) is_at k.left)
 
-    -- it is off where it is turned on
-    off : event.what ≡ events.On device → k.node.standing.state ≡ Off
-    off turns = left.state ∙ (subst (FitsWorld s hs now) turns fits).1
+      -- it is off where it is turned on
+      off : event.what ≡ events.On device → k.node.standing.state ≡ Off
+      off turns = left.state ∙ (subst (FitsWorld s hs now) turns fits).1
 
-    same_off : is_turned_on_at s device now ≡ true → state_after s (earlier now hs) device ≡ Off
-    same_off on = let it = k.turned on in ap (λ (l : List Happening). state_after s (earlier now l) device) (sym (append-nil hs)) ∙ it.off
+      same_off : is_turned_on_at s device now ≡ true → state_after s (earlier now hs) device ≡ Off
+      same_off on = let it = k.turned on in ap (λ l. state_after s (earlier now l) device)
+          (sym (append-nil hs)) ∙ it.off
 
-    broken_as : breaks_at device.0 event.what ≡ false → is_broken s device now ≡ is_broken r device now
-    broken_as stays =
-        sym (broken_more network f g past event now device m.at ∙ ap (λ (b : Bool). is_broken s device now || b) stays ∙ none_or (is_broken s device now))
-      where
-        none_or : (b : Bool) → (b || false) ≡ b
-        none_or true = refl
-        none_or false = refl
+      broken_as : breaks_at device.0 event.what ≡ false → is_broken s device now ≡ is_broken r device now
+      broken_as stays =
+          sym (broken_more network f g past event now device m.at ∙ ap (λ (b : Bool). is_broken s device now || b)
+          stays ∙ none_or (is_broken s device now))
+        where
+          none_or : (b : Bool) → (b || false) ≡ b
+          none_or true = refl
+          none_or false = refl
 
-    turned_as : turns_on device event.what ≡ false → is_turned_on_at s device now ≡ is_turned_on_at r device now
-    turned_as not_on =
-        sym (turned_more network f g past event now device ∙ ap (λ (b : Bool). is_turned_on_at s device now || (b && amount event.time == now)) not_on
-        ∙ none_or (is_turned_on_at s device now))
-      where
-        none_or : (b : Bool) → (b || false) ≡ b
-        none_or true = refl
-        none_or false = refl
+      turned_as : turns_on device event.what ≡ false → is_turned_on_at s device now ≡ is_turned_on_at r device now
+      turned_as not_on =
+          sym (turned_more network f g past event now device ∙ ap
+          (λ (b : Bool). is_turned_on_at s device now || (b && amount event.time == now)) not_on
+          ∙ none_or (is_turned_on_at s device now))
+        where
+          none_or : (b : Bool) → (b || false) ≡ b
+          none_or true = refl
+          none_or false = refl
 
-    goes_out : breaks_at device.0 event.what ≡ true → IsOut stands r (hs ++ ev ∷ []) [] (now ∷ 2 ∷ []) now device after
-    goes_out breaks =
-        let on = is_turned_on_at s device now in
-        let new = broken_so on k.node in
-        let is = subst (λ (n : Node). stands after network device n) (node_breaks on event.what device k.node breaks sound) (been k.node k.is off) in
-        let broken = broken_more network f g past event now device m.at ∙ ap (λ (b : Bool). is_broken s device now || b) breaks
-        ∙ or_true (is_broken s device now) in
-        out_so stands network f g past event hs cursor now number ev device after k.node new m is broken refl
-        (elim (cases_Bool on) [
-          | inl was ↦ ap (λ (b : Bool). if b then Off else k.node.standing.state) was ∙ sym (same_off was)
-          | inr off_then ↦ ap (λ (b : Bool). if b then Off else k.node.standing.state) off_then ∙ left.state ∙ not_turned_on s hs device now off_then
-        ])
-        left.counted.adjustment k.ready refl k.phase
-      where
-        or_true : (b : Bool) → (b || true) ≡ true
-        or_true true = refl
-        or_true false = refl
+      goes_out : breaks_at device.0 event.what ≡ true → IsOut stands r (hs ++ ev ∷ []) [] (now ∷ 2 ∷ []) now device
+          after
+      goes_out breaks =
+          let on = is_turned_on_at s device now in
+          let new = broken_so on k.node in
+          let is = subst (λ (n : Node). stands after network device n)
+          (node_breaks on event.what device k.node breaks sound) (been k.node k.is off) in
+          let broken =
+          broken_more network f g past event now device m.at ∙ ap (λ (b : Bool). is_broken s device now || b) breaks
+          ∙ or_true (is_broken s device now) in
+          out_so {device = device} after {node = k.node} new m is broken refl
+          (elim (cases_Bool on) [
+            | inl was ↦ ap (λ (b : Bool). if b then Off else k.node.standing.state) was ∙ sym (same_off was)
+            | inr off_then ↦ ap (λ (b : Bool). if b then Off else k.node.standing.state) off_then ∙ left.state
+                ∙ not_turned_on s hs device now off_then
+          ])
+          left.counted.adjustment k.ready refl k.phase
+        where
+          or_true : (b : Bool) → (b || true) ≡ true
+          or_true true = refl
+          or_true false = refl
 
-    comes_on : turns_on device event.what ≡ true → breaks_at device.0 event.what ≡ false → IsKept stands r (hs ++ ev ∷ []) [] (now ∷ 2 ∷ []) now device after
-    comes_on on stays =
-        let is = subst (λ (n : Node). stands after network device n) (node_on (is_turned_on_at s device now) event.what device k.node on sound)
-        (been k.node k.is off) in
-        let state = off (on_by device event.what on) in
-        let time_is : (amount event.time == now) ≡ true = eq-eqb (amount event.time) now m.at in
-        let turned : is_turned_on_at r device now ≡ true = turned_more network f g past event now device
-        ∙ ap (λ (b : Bool). is_turned_on_at s device now || (b && amount event.time == now)) on ∙ ap (λ (b : Bool). is_turned_on_at s device now || b)
-        time_is ∙ or_true (is_turned_on_at s device now) in
-        let was_off : is_turned_on_at s device now ≡ true → ⊥ = λ was.
-        (let bad : Off ≡ Integrating = sym state ∙ left.state ∙ ap (λ (b : Bool). if b then Integrating else state_after s (earlier now hs) device) was in cc)
-        in
-        kept_less stands network f g past event hs cursor now number ev device machine after (node_turned_on k.node) m k (turned_on_less network device k.node)
-        is (sym (broken_as stays) ∙ k.sound)
-        (λ up. is_turned_on network f g past (past ++ event ∷ []) hs device now k.node m.reads (each_past hs now ev m.events) (broken_as stays) turned
-        (ap is_timed state) left)
-        (λ up now_on. elim (cases_Bool (is_turned_on_at s device now))
-        [ inl was ↦ absurd (was_off was) | inr off_then ↦ sym (not_turned_on s hs device now off_then) ∙ sym left.state ∙ state ])
-      where
-        or_true : (b : Bool) → (b || true) ≡ true
-        or_true true = refl
-        or_true false = refl
+      comes_on : turns_on device event.what ≡ true → breaks_at device.0 event.what ≡ false → IsKept stands r
+          (hs ++ ev ∷ []) [] (now ∷ 2 ∷ []) now device after
+      comes_on on stays =
+          let is = subst (λ (n : Node). stands after network device n)
+          (node_on (is_turned_on_at s device now) event.what device k.node on sound)
+          (been k.node k.is off) in
+          let state = off (on_by device event.what on) in
+          let time_is : (amount event.time == now) ≡ true = eq-eqb (amount event.time) now m.at in
+          let turned : is_turned_on_at r device now ≡ true = turned_more network f g past event now device
+          ∙ ap (λ (b : Bool). is_turned_on_at s device now || (b && amount event.time == now)) on ∙ ap
+          (λ (b : Bool). is_turned_on_at s device now || b)
+          time_is ∙ or_true (is_turned_on_at s device now) in
+          let was_off : is_turned_on_at s device now ≡ true → ⊥ = λ was.
+          (let bad : Off ≡ Integrating = sym state ∙ left.state ∙ ap
+          (λ (b : Bool). if b then Integrating else state_after s (earlier now hs) device) was in cc)
+          in
+          kept_less after m k (turned_on_less network device k.node)
+          is (sym (broken_as stays) ∙ k.sound)
+          (λ up. is_turned_on network f g past (past ++ event
+          ∷ []) {hs = hs} {device = device} {t = now} {node = k.node} m.reads (each_past m.events) (broken_as
+          stays) turned
+          (ap is_timed state) left)
+          (λ up now_on. elim (cases_Bool (is_turned_on_at s device now))
+          [ inl was ↦ absurd (was_off was) | inr off_then ↦ sym (not_turned_on s hs device now off_then) ∙ sym left.state ∙ state ])
+        where
+          or_true : (b : Bool) → (b || true) ≡ true
+          or_true true = refl
+          or_true false = refl
 
-    goes_on : breaks_at device.0 event.what ≡ false → turns_on device event.what ≡ false → IsKept stands r (hs ++ ev ∷ []) [] (now ∷ 2 ∷ []) now device after
-    goes_on stays not_on =
-        let is = subst (λ (n : Node). stands after network device n) (node_stays (is_turned_on_at s device now) event.what device k.node stays not_on)
-        (been k.node k.is off) in
-        kept_less stands network f g past event hs cursor now number ev device machine after k.node m k (itself network device k.node) is
-        (sym (broken_as stays) ∙ k.sound)
-        (λ up. stands_still network f g past (past ++ event ∷ []) hs device now k.node m.reads (each_past hs now ev m.events) (broken_as stays)
-        (turned_as not_on) left)
-        (λ up on. same_off (turned_as not_on ∙ on))
+      goes_on : breaks_at device.0 event.what ≡ false → turns_on device event.what ≡ false → IsKept stands r
+          (hs ++ ev ∷ []) [] (now ∷ 2 ∷ []) now device after
+      goes_on stays not_on =
+          let is = subst (λ (n : Node). stands after network device n)
+          (node_stays (is_turned_on_at s device now) event.what device k.node stays not_on)
+          (been k.node k.is off) in
+          kept_less after m k (itself network device k.node) is
+          (sym (broken_as stays) ∙ k.sound)
+          (λ up. stands_still network f g past (past ++ event ∷ []) hs device now k.node m.reads (each_past m.events)
+          (broken_as stays)
+          (turned_as not_on) left)
+          (λ up on. same_off (turned_as not_on ∙ on))

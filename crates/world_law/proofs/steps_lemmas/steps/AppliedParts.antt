@@ -41,12 +41,13 @@ agree_before network f g past event now t at reads lt = grind (arith, filter_no,
 
 -- ---- wires
 
-pub wires_apply : (network : Network) (f g : DeviceId → ℕ → ℕ) (past : List Event) (event : Event) (hs : List Happening) (mark cursor : List ℕ) (now : ℕ)
-    (ev : Happening) (pending : Bool) (wires : List OnWire) → IsBefalling network f g past event hs mark cursor now ev
-    → ((e : OnWire) → IsIn e wires → (it : IsOnWire (scenario network f past) hs e) → time_of it.putting ≡ now → ⊥) → IsForward (scenario network f past)
-    → AreOnWires (scenario network f past) hs cursor now pending wires
+pub wires_apply : {network : Network} {f g : DeviceId → ℕ → ℕ} {past : List Event} {event : Event}
+    {hs : List Happening} {mark cursor : List ℕ} {now : ℕ} {ev : Happening} {pending : Bool} {wires : List OnWire}
+    → IsBefalling network f g past event hs mark cursor now ev
+    → ((e : OnWire) → IsIn e wires → (it : IsOnWire (scenario network f past) hs e) → time_of it.putting ≡ now → ⊥)
+    → IsForward (scenario network f past) → AreOnWires (scenario network f past) hs cursor now pending wires
     → AreOnWires (scenario network g (past ++ event ∷ [])) (hs ++ ev ∷ []) (now ∷ 2 ∷ []) now true wires
-wires_apply network f g past event hs mark cursor now ev pending wires m earlier_all forward are = record {
+wires_apply {hs} {cursor} {now} {ev} m earlier_all forward are = record {
   real = λ e i.
       let was = are.real e i in
       let it = was.0 in
@@ -55,8 +56,8 @@ wires_apply network f g past event hs mark cursor now ev pending wires m earlier
           record {
             putting = it.putting;
             there = numbered_still hs ev it.putting e.cause it.there;
-            arrives = arrives_same network f g past (past ++ event ∷ [])
-                (time_of it.putting) it.putting e.device e.link e.at e.signal (m.agree (time_of it.putting) lt) (omega arith) it.arrives;
+            arrives = arrives_same it.putting e.device e.link e.at e.signal (m.agree (time_of it.putting) lt)
+                (omega arith) it.arrives;
           },
           λ open_ at. (let bad = at in omega (arith, bad, lt)),
           λ b. was.2 (worked e b),
@@ -69,8 +70,8 @@ wires_apply network f g past event hs mark cursor now ev pending wires m earlier
         | inl there ↦ elim (m.sooner a.putting (numbered_in hs cause a.putting there)) [
           | inr same ↦ absurd (old_one refl same.0)
           | inl lt ↦
-              let back = arrives_same network g f (past ++ event ∷ []) past (time_of a.putting) a.putting device link t a.signal
-              (agree_back network f g past (past ++ event ∷ []) (time_of a.putting) (m.agree (time_of a.putting) lt)) (omega arith) a.arrives in
+              let back = arrives_same a.putting device link t a.signal
+              (agree_back (m.agree (time_of a.putting) lt)) (omega arith) a.arrives in
               are.all t device link cause (record { putting = a.putting; there = there; signal = a.signal; arrives = back })
               (λ open_ at. (let bad = at in omega (arith, bad, lt))) (λ b. not (m.early _ b))
         ]
@@ -90,10 +91,11 @@ no_gift network (notes.Compressed cm opened at cycle members verdict) device lin
 no_gift network (notes.Arrived relay by cause clock) device link gives is = is
 no_gift network other device link gives is = gives
 
-pub ports_apply : (network : Network) (f g : DeviceId → ℕ → ℕ) (past : List Event) (event : Event) (hs : List Happening) (mark cursor : List ℕ) (now : ℕ)
-    (ev : Happening) (ports : List AtPort) → IsBefalling network f g past event hs mark cursor now ev
-    → AreAtPorts (scenario network f past) hs cursor ports → AreAtPorts (scenario network g (past ++ event ∷ [])) (hs ++ ev ∷ []) (now ∷ 2 ∷ []) ports
-ports_apply network f g past event hs mark cursor now ev ports m are = record {
+pub ports_apply : {network : Network} {f g : DeviceId → ℕ → ℕ} {past : List Event} {event : Event}
+    {hs : List Happening} {mark cursor : List ℕ} {now : ℕ} {ev : Happening} {ports : List AtPort}
+    → IsBefalling network f g past event hs mark cursor now ev → AreAtPorts (scenario network f past) hs cursor ports
+    → AreAtPorts (scenario network g (past ++ event ∷ [])) (hs ++ ev ∷ []) (now ∷ 2 ∷ []) ports
+ports_apply {network} {f} {g} {past} {event} {hs} {cursor} {now} {ev} m are = record {
   real = λ e i.
       let was = are.real e i in
       let it = was.0 in
@@ -108,7 +110,7 @@ ports_apply network f g past event hs mark cursor now ev ports m are = record {
                 there = numbered_still hs ev it.giving e.cause it.there;
                 gave = record {
                   gives = it.gave.gives;
-                  held = it.gave.held ∙ ap (λ (n : ℕ). time_of it.giving + n) held;
+                  held = it.gave.held ∙ ap (λ n. time_of it.giving + n) held;
                   of_frame = it.gave.of_frame;
                   read = it.gave.read ∙ a.reads e.device (time_of it.giving) (omega arith);
                 };
@@ -126,7 +128,7 @@ ports_apply network f g past event hs mark cursor now ev ports m are = record {
               let held = hold_same network f g past (past ++ event ∷ []) (time_of d.giving) (time_of d.giving) link (way_from network device link)
               (m.agree (time_of d.giving) lt) (omega arith) in
               are.all t device link cause
-              (record { giving = d.giving; there = there; gives = d.gives; held = d.held ∙ ap (λ (n : ℕ). time_of d.giving + n) (sym held) })
+              (record { giving = d.giving; there = there; gives = d.gives; held = d.held ∙ ap (λ n. time_of d.giving + n) (sym held) })
               (λ b. not (m.early _ b))
         ]
       ];
@@ -142,11 +144,11 @@ ports_apply network f g past event hs mark cursor now ev ports m are = record {
 
 -- ---- what waits
 
-permanent_to : (n : Network) (f g : DeviceId → ℕ → ℕ) (events more : List Event) (hs js : List Happening) (t : ℕ) (device : DeviceId) (link : LinkId)
-    (cause : ℕ) (frame : _) (point : Units) → Agree n f g events more t
-    → (p : IsPermanent (scenario n f events) hs device t link cause frame point) → numbered js cause ≡ Some p.arrival
-    → IsPermanent (scenario n g more) js device t link cause frame point
-permanent_to n f g events more hs js t device link cause frame point a p there =
+permanent_to : {n : Network} {f g : DeviceId → ℕ → ℕ} {events more : List Event} {hs : List Happening}
+    (js : List Happening) {t : ℕ} {device : DeviceId} {link : LinkId} {cause : ℕ} {frame : _} {point : Units}
+    → Agree n f g events more t → (p : IsPermanent (scenario n f events) hs device t link cause frame point)
+    → numbered js cause ≡ Some p.arrival → IsPermanent (scenario n g more) js device t link cause frame point
+permanent_to {n} {f} {g} {events} {more} js {t} {device} a p there =
     let from = p.reached.from_on in
     record {
       arrival = p.arrival;
@@ -156,9 +158,9 @@ permanent_to n f g events more hs js t device link cause frame point a p there =
       arrived = p.arrived;
       of_frame = p.of_frame;
       waits = p.waits;
-      at_point = p.at_point ∙ ap (λ (r : ℕ). point_of (pos r) p.clock n.dmax.0) (a.reads device (time_of p.arrival) (omega (arith, ints, from)));
-      reached = reach_same n f g events more t t device (pos (time_of p.arrival)) point.0 a (omega arith) p.reached;
-      correct = sym (broken_same n f g events more t t device a (omega arith)) ∙ p.correct;
+      at_point = p.at_point ∙ ap (λ r. point_of (pos r) p.clock n.dmax.0) (a.reads device (time_of p.arrival) (omega (arith, ints, from)));
+      reached = reach_same n f g events more t device a (omega arith) p.reached;
+      correct = sym (broken_same t device a (omega arith)) ∙ p.correct;
     }
 
 no_arrival : (network : Network) (h : Happening) (body : NoteBody) (device : DeviceId) (link : LinkId) (from clock : ℕ) → h.note.body ≡ body
@@ -178,25 +180,29 @@ any_more : {X : Type 0} (q : X → Bool) (xs : List X) (x : X) → list_any q (x
 any_more q [] x = or_none (q x)
 any_more q (y ∷ xs) x = ap (λ (b : Bool). q y || b) (any_more q xs x) ∙ or_assoc (q y) (list_any q xs) (q x)
 
-pub turned_more : (network : Network) (f g : DeviceId → ℕ → ℕ) (past : List Event) (event : Event) (now : ℕ) (device : DeviceId)
-    → is_turned_on_at (scenario network g (past ++ event ∷ [])) device now ≡ (is_turned_on_at (scenario network f past) device now
-    || (turns_on device event.what && amount event.time == now))
-turned_more network f g past event now device = any_more (λ e. turns_on device e.what && amount e.time == now) past event
+module _ (network : Network) (f g : DeviceId → ℕ → ℕ) (past : List Event) (event : Event) (now : ℕ)
+    (device : DeviceId) where
+  pub turned_more : is_turned_on_at (scenario network g (past ++ event ∷ [])) device now ≡
+      (is_turned_on_at (scenario network f past) device now || (turns_on device event.what && amount event.time ==
+      now))
+  turned_more = any_more (λ e. turns_on device e.what && amount e.time == now) past event
 
-pub broken_more : (network : Network) (f g : DeviceId → ℕ → ℕ) (past : List Event) (event : Event) (now : ℕ) (device : DeviceId) → amount event.time ≡ now
-    → is_broken (scenario network g (past ++ event ∷ [])) device now ≡ (is_broken (scenario network f past) device now || breaks_at device.0 event.what)
-broken_more network f g past event now device at = grind (arith, list_any, filter_yes, nat_le, amount, le-leb, any_more, scenario)
+  pub broken_more : amount event.time ≡ now → is_broken (scenario network g (past ++ event ∷ [])) device now
+      ≡ (is_broken (scenario network f past) device now || breaks_at device.0 event.what)
+  broken_more at = grind (arith, list_any, filter_yes, nat_le, amount, le-leb, any_more, scenario)
 
 first_false : (a b : Bool) → (a || b) ≡ false → a ≡ false
 first_false true b e = e
 first_false false b e = refl
 
-pub waiting_apply : (network : Network) (f g : DeviceId → ℕ → ℕ) (past : List Event) (event : Event) (hs : List Happening) (mark cursor : List ℕ) (now : ℕ)
-    (ev : Happening) (waiting new : List Waiting) → IsBefalling network f g past event hs mark cursor now ev
+pub waiting_apply : {network : Network} {f g : DeviceId → ℕ → ℕ} {past : List Event} {event : Event}
+    {hs : List Happening} {mark cursor : List ℕ} {now : ℕ} {ev : Happening} {waiting : List Waiting}
+    (new : List Waiting) → IsBefalling network f g past event hs mark cursor now ev
     → AreWaiting (scenario network f past) hs cursor now waiting
-    → ((e : Waiting) → IsIn e new ↔ (IsIn e waiting × (is_broken (scenario network g (past ++ event ∷ [])) e.device now ≡ false)))
-    → AreWaiting (scenario network g (past ++ event ∷ [])) (hs ++ ev ∷ []) (now ∷ 2 ∷ []) now new
-waiting_apply network f g past event hs mark cursor now ev waiting new m are kept =
+    → ((e : Waiting) → IsIn e new ↔ (IsIn e waiting × (is_broken (scenario network g (past ++ event
+    ∷ [])) e.device now ≡ false))) → AreWaiting (scenario network g (past ++ event ∷ [])) (hs ++ ev ∷ [])
+    (now ∷ 2 ∷ []) now new
+waiting_apply {network} {f} {g} {past} {event} {hs} {now} {ev} new m are kept =
     let more = past ++ event ∷ [] in
     record {
       real = λ e i.
@@ -217,7 +223,7 @@ waiting_apply network f g past event hs mark cursor now ev waiting new m are kep
                     of_frame = w.of_frame;
                     waits = w.waits;
                     at_point = w.at_point
-                        ∙ ap (λ (r : ℕ). point_of (pos r) w.clock network.dmax.0) (a.reads e.device (time_of it.arrival) (omega arith));
+                        ∙ ap (λ r. point_of (pos r) w.clock network.dmax.0) (a.reads e.device (time_of it.arrival) (omega arith));
                   };
                 }
           ];
@@ -231,8 +237,7 @@ waiting_apply network f g past event hs mark cursor now ev waiting new m are kep
                 are.later e ((kept e).0 i).0 t
                 (record {
                   frame = x.frame;
-                  permanent = permanent_to network g f more past (hs ++ ev ∷ []) hs t e.device e.link e.cause x.frame e.point
-                      (agree_back network f g past more t (m.agree t lt)) p there;
+                  permanent = permanent_to hs (agree_back (m.agree t lt)) p there;
                 })
                 (m.over (ripe_place t e) (inl lt))
           ];
@@ -257,7 +262,7 @@ waiting_apply network f g past event hs mark cursor now ev waiting new m are kep
                       of_frame = w.of_frame;
                       waits = w.waits;
                       at_point = w.at_point
-                          ∙ ap (λ (r : ℕ). point_of (pos r) w.clock network.dmax.0) (sym (a.reads e.device (time_of it.arrival) (omega arith)));
+                          ∙ ap (λ r. point_of (pos r) w.clock network.dmax.0) (sym (a.reads e.device (time_of it.arrival) (omega arith)));
                     };
                   } in
                   let here = first_false (is_broken (scenario network f past) e.device now) (breaks_at e.device.0 event.what)
@@ -268,7 +273,7 @@ waiting_apply network f g past event hs mark cursor now ev waiting new m are kep
                         let less = ripe_early now t e under in
                         not t (record {
                           frame = x.frame;
-                          permanent = permanent_to network f g past more hs (hs ++ ev ∷ []) t e.device e.link e.cause x.frame e.point
+                          permanent = permanent_to (hs ++ ev ∷ [])
                               (m.agree t less) x.permanent (numbered_still hs ev x.permanent.arrival e.cause x.permanent.there);
                         }) under),
                     sound,
@@ -319,8 +324,8 @@ nothing_due network g past event js now at = record {
   full = λ front back y e before none not due worked.
       let s = scenario network g (past ++ event ∷ []) in
       let own = own_time s (js ++ front) (time_of y) (members_in y) y.note.body worked.0 worked.1 in
-      let here = subst (λ (q : List ℕ). IsOwnSource s (js ++ front) (time_of y) (members_in y) y.note.body q) own.2 worked.1 in
-      absurd (elim (subst (λ (q : List ℕ). IsBefore q (now ∷ 2 ∷ [])) own.2 worked.3) [
+      let here = subst (λ q. IsOwnSource s (js ++ front) (time_of y) (members_in y) y.note.body q) own.2 worked.1 in
+      absurd (elim (subst (λ q. IsBefore q (now ∷ 2 ∷ [])) own.2 worked.3) [
         | inl lt ↦ not (inl lt)
         | inr (e_at, inl few) ↦ not
             (event_there network g past event (js ++ front) y now at e_at

@@ -11,16 +11,16 @@ low_rank t k ws one (inl lt) = absurd (omega (arith, lt))
 low_rank t k ws one (inr (e, inl lt)) = absurd (omega (arith, lt, one))
 low_rank t k ws one (inr (e, inr (f, b))) = b
 
-source_from : (s : Scenario) (hs : List Happening) (w : List ℕ) → IsSource s hs w → IsBefore w (0 ∷ 1 ∷ []) → ⊥
-source_from s hs w (IsSource.arriving t device link cause a) b = low_rank t 2 (device.0 ∷ link.0 ∷ cause ∷ []) (omega arith) b
-source_from s hs w (IsSource.ripening t device link cause point r) b =
+source_from : {s : Scenario} {hs : List Happening} {w : List ℕ} → IsSource s hs w → IsBefore w (0 ∷ 1 ∷ []) → ⊥
+source_from (IsSource.arriving t device link cause a) b = low_rank t 2 (device.0 ∷ link.0 ∷ cause ∷ []) (omega arith) b
+source_from (IsSource.ripening t device link cause point r) b =
     low_rank t 3 (device.0 ∷ amount point ∷ r.frame.members.0 ∷ link.0 ∷ cause ∷ []) (omega arith) b
-source_from s hs w (IsSource.acting t device task a) b =
+source_from {s} (IsSource.acting t device task a) b =
     low_rank t 4 (device.0 ∷ []) (omega arith) (acts_before s.network t device task (0 ∷ 1 ∷ []) b)
-source_from s hs w (IsSource.departing t device link cause d) b = low_rank t 8 (device.0 ∷ link.0 ∷ cause ∷ []) (omega arith) b
-source_from s hs w (IsSource.following t cause h it) b = low_rank t 2 [] (omega arith) b
-source_from s hs w (IsSource.befalling time line what it) b = low_rank (amount time) 1 [] (omega arith) b
-source_from s hs w (IsSource.ending time device is there it) b = low_rank (amount time) 14 (device.0 ∷ []) (omega arith) b
+source_from (IsSource.departing t device link cause d) b = low_rank t 8 (device.0 ∷ link.0 ∷ cause ∷ []) (omega arith) b
+source_from (IsSource.following t cause h it) b = low_rank t 2 [] (omega arith) b
+source_from (IsSource.befalling time line what it) b = low_rank (amount time) 1 [] (omega arith) b
+source_from (IsSource.ending time device is there it) b = low_rank (amount time) 14 (device.0 ∷ []) (omega arith) b
 
 no_part : (front rest : List Happening) (z : Happening) → [] ≡ front ++ z ∷ rest → ⊥
 no_part [] rest z e = cc
@@ -89,8 +89,8 @@ begun {C} {M} reading stands network f world fresh forward steady zero_first le 
       run = empty_run place_of (IsDue s) (0 ∷ []) (λ y due here. elim here [ inl lt ↦ absurd (omega (arith, lt)) | inr none ↦ none.1 ]);
       ahead = λ p b. Rattle.run_law.proofs.runs.Places.before_of_time p 0 (1 ∷ []) b;
       of_now = λ p b. subst (λ (n : ℕ). IsBefore p (n ∷ [])) fresh.now b;
-      not_later = λ p b. subst (λ (n : ℕ). IsBefore p ((n + 1) ∷ [])) now (Rattle.run_law.proofs.runs.Places.before_next_time p 0 (1 ∷ []) b);
-      limit = subst (λ (n : ℕ). n ≤ 2 ^ 60) now (omega arith);
+      not_later = λ p b. subst (λ n. IsBefore p ((n + 1) ∷ [])) now (Rattle.run_law.proofs.runs.Places.before_next_time p 0 (1 ∷ []) b);
+      limit = subst (λ n. n ≤ 2 ^ 60) now (omega arith);
       lines = fresh.lines;
       given = fresh.given;
       ended = λ time. (λ ends. absurd (none_in _ ends), λ it. absurd (let e : false ≡ true = sym fresh.ended ∙ it.0 in cc));
@@ -106,8 +106,8 @@ begun {C} {M} reading stands network f world fresh forward steady zero_first le 
           let m = fresh.machines device lt in (
             m.0,
             m.1,
-            inl (subst (λ (l : List Happening). IsKept stands s [] l (0 ∷ 1 ∷ []) world.now device m.0) (sym fresh.settled)
-                (subst (λ (n : ℕ). IsKept stands s [] [] (0 ∷ 1 ∷ []) n device m.0) now
+            inl (subst (λ l. IsKept stands s [] l (0 ∷ 1 ∷ []) world.now device m.0) (sym fresh.settled)
+                (subst (λ n. IsKept stands s [] [] (0 ∷ 1 ∷ []) n device m.0) now
                 (kept_fresh stands network f device m.0 (zero_first device) le m.2))),
           );
       early = λ first p b. subst (λ (n : ℕ). IsBefore p (n ∷ 2 ∷ [])) now (chain p (0 ∷ 1 ∷ []) (0 ∷ 2 ∷ []) b (inr (refl, inl (omega arith))));
@@ -116,7 +116,7 @@ begun {C} {M} reading stands network f world fresh forward steady zero_first le 
         none = λ told. fresh.befell;
         waits = λ open_. absurd (let bad : false ≡ true = sym fresh.pending ∙ open_ in cc);
         early = λ open_. absurd (let bad : false ≡ true = sym fresh.pending ∙ open_ in cc);
-        real = λ e i. absurd (subst (λ (l : List _). IsIn e l) fresh.befell i);
+        real = λ e i. absurd (subst (λ l. IsIn e l) fresh.befell i);
         all = λ open_ number line what h it. absurd (none_numbered number h it.there);
         in_order = subst (λ (l : List _). Rattle.world_law.specs.world.World.AreInOrder l) (sym fresh.befell) tt;
       };
@@ -138,13 +138,13 @@ begun {C} {M} reading stands network f world fresh forward steady zero_first le 
           subst (λ (l : List _). Rattle.world_law.specs.world.World.AreStored [] l) (sym fresh.stored)
           (record { real = λ e i. absurd i; all = λ device vl taking last. absurd cc });
       are =
-          subst (λ (l : List Happening). AreSettled s [] l (0 ∷ []) (0 ∷ 1 ∷ []) world.now) (sym fresh.settled)
+          subst (λ l. AreSettled s [] l (0 ∷ []) (0 ∷ 1 ∷ []) world.now) (sym fresh.settled)
           (record {
             of_now = λ z i. absurd i;
             behind_mark = λ z i. absurd i;
             founded = λ front rest z e. absurd (no_part front rest z e);
             by = λ front rest z e. absurd (no_part front rest z e);
-            full = λ front back y e before none not due worked. absurd (source_from s ([] ++ front) worked.0 worked.2 worked.3);
+            full = λ front back y e before none not due worked. absurd (source_from worked.2 worked.3);
             not_past = λ z i. absurd i;
             worked = λ z i. absurd i;
             begun = λ z i. absurd i;

@@ -41,15 +41,15 @@ last_rank (kinds.Clock other reading adjustment state) late = refl
 last_rank other late = absurd (omega (arith, late))
 
 -- so nothing is to come where a clock comes first
-none_coming : (s : Scenario) (hs coming : List Happening) (mark cursor : List ℕ) (now : ℕ) (device : DeviceId)
-    → IsMoving s hs coming mark cursor now 14 (device.0 ∷ []) → coming ≡ []
-none_coming s hs [] mark cursor now device m = refl
-none_coming s hs (y ∷ coming) mark cursor now device m =
+none_coming : {s : Scenario} {hs : List Happening} (coming : List Happening) {mark cursor : List ℕ} {now : ℕ}
+    (device : DeviceId) → IsMoving s hs coming mark cursor now 14 (device.0 ∷ []) → coming ≡ []
+none_coming [] device m = refl
+none_coming (y ∷ coming) {cursor} {now} device m =
     let late = at_least y now 14 (device.0 ∷ []) (m.are.of_now y (inl refl)) (m.after y (inl refl)) in
     let past = m.are.worked y (inl refl) (last_rank y.note.body late) in
     absurd (elim (either_way (now ∷ 14 ∷ device.0 ∷ []) (place_of y)) [
       | inl lt ↦ m.waits (chain (now ∷ 14 ∷ device.0 ∷ []) (place_of y) cursor lt past)
-      | inr (inl e) ↦ m.waits (subst (λ (q : List ℕ). IsBefore q cursor) (sym e) past)
+      | inr (inl e) ↦ m.waits (subst (λ q. IsBefore q cursor) (sym e) past)
       | inr (inr gt) ↦ m.after y (inl refl) gt
     ])
 
@@ -73,16 +73,16 @@ clock_step {C} {M} reading stands s world notes device machine state adjustment 
     let more = device.0 ∷ [] in
     let here = now ∷ 14 ∷ more in
     let waits : IsBefore here old.cursor → ⊥ = λ b. let less = (old.shown device lt ended).0 b in omega (arith, less, shown) in
-    let m = comes_first reading stands s world notes old 14 more here
+    let m = comes_first old 14 more
     (λ same. (let two : ◌≡◌ {A = ℕ} 2 14 = cc in omega (arith, two))) refl waits first in
-    let empty = none_coming s hs world.settled old.mark old.cursor now device m in
-    let moving : IsMoving s hs [] old.mark old.cursor now 14 more = subst (λ (l : List Happening). IsMoving s hs l old.mark old.cursor now 14 more) empty m in
+    let empty = none_coming world.settled device m in
+    let moving : IsMoving s hs [] old.mark old.cursor now 14 more = subst (λ l. IsMoving s hs l old.mark old.cursor now 14 more) empty m in
     let body : NoteBody = kinds.Clock device (units_of (s.reading device now)) adjustment state in
     let w = record_of s.network hs [] now body in
     let m2 = old.devices device lt in
     let machine_is : m2.0 ≡ machine = some_same m2.0 machine _ m2.1 there in
     let shows = held_shows stands s hs world.settled old.mark old.cursor now device m2.0 m2.2
-    (old.untold.done (source_told reading stands s world notes old 14 more m (inr (refl, inl (omega arith)))))
+    (old.untold.done (source_told old 14 more m (inr (refl, inl (omega arith)))))
     (all_past reading stands s world notes old) old.befallen in
     let is = stood shows.0 (subst (λ (x : M). stands x s.network device shows.0) machine_is shows.1) in
     let at_end = device_in s.network device lt in
@@ -112,27 +112,27 @@ clock_step {C} {M} reading stands s world notes device machine state adjustment 
           ap (λ (l : List ℕ). now ∷ l) (sym it.1) ∙ ap (λ (n : ℕ). n ∷ rank y.note.body ∷ key (members_in y) y.note.body) (sym it.0);
     } in
     let all : settled ≡ w ∷ [] = nothing_put now s.network hs body settled
-    (subst (λ (l : List Happening). ArePutIn s.network hs now (body ∷ []) l settled) empty put)
+    (subst (λ l. ArePutIn s.network hs now (body ∷ []) l settled) empty put)
     ∙ ap (λ (h : Happening). h ∷ []) (sym (same_record s.network hs [] now body (omega arith))) in
     let room = first.room in
     subst (λ (l : List Happening). StandsBehind reading stands s (record world { early = false; settled = l; shown = world.shown + 1 }) notes (behind here))
     (sym all)
-    (stands_on reading stands s world notes old 14 more here world.machines world.wires world.ports world.waiting (w ∷ []) (world.shown + 1) m
+    (stands_on old 14 more here world.machines (world.shown + 1) m
     refl (omega (arith, room))
     (settled_put p)
-    (known_put s hs [] [] w tt (subst (λ (l : List Happening). AreOfNetwork s (hs ++ l)) empty old.known))
+    (known_put hs [] [] w tt (subst (λ (l : List Happening). AreOfNetwork s (hs ++ l)) empty old.known))
     (λ d within.
     let k = old.devices d within in (
       k.0,
       k.1,
-      held_put stands s hs [] [] (behind here) now d k.0 w tt refl
-          (held_moves stands s hs [] old.mark old.cursor now 14 more d k.0 moving (no_task_at s.network now d 14 more (inr (omega arith)))
-          (subst (λ (l : List Happening). IsHeld stands s hs l old.cursor now d k.0) empty k.2)),
+      held_put [] [] w tt refl
+          (held_moves stands s hs [] moving (no_task_at s.network now d 14 more (inr (omega arith)))
+          (subst (λ l. IsHeld stands s hs l old.cursor now d k.0) empty k.2)),
     ))
-    (inr (refl, inl (omega arith))) (wires_move s hs world.settled old.mark old.cursor now 14 more world.wires world.wires m
-    (told_wires reading stands s world notes old 14 more m (inr (refl, inl (omega arith))))
+    (inr (refl, inl (omega arith))) (wires_move s hs world.settled old.mark old.cursor now 14 more world.wires m
+    (told_wires old 14 more m (inr (refl, inl (omega arith))))
     (all_without wire_place here world.wires (λ e same. (let two : ◌≡◌ {A = ℕ} 2 14 = cc in omega (arith, two)))))
-    (ports_move s hs world.settled old.mark old.cursor now 14 more world.ports world.ports m old.ports
+    (ports_move s hs world.settled old.mark old.cursor now 14 more world.ports m old.ports
     (all_without port_place here world.ports (λ e same. (let eight : ◌≡◌ {A = ℕ} 8 14 = cc in omega (arith, eight)))))
-    (waiting_moves s hs world.settled old.mark old.cursor now 14 more world.waiting m (λ three. omega (arith, three)) old.waiting)
+    (waiting_moves s hs world.settled old.mark old.cursor now 14 more m (λ three. omega (arith, three)) old.waiting)
     (λ d within over. shown_more now world.shown device d shown))

@@ -18,139 +18,160 @@ use Rattle.world_law.proofs.steps_lemmas.steps.Outcomes.{nothing_of_broken, outc
 port_at : (e : AtPort) (now : ℕ) → e.at ≡ now → port_place e ≡ now ∷ 8 ∷ e.device.0 ∷ e.link.0 ∷ e.cause ∷ []
 port_at e now at = ap (λ (t : ℕ). t ∷ 8 ∷ e.device.0 ∷ e.link.0 ∷ e.cause ∷ []) at
 
-leaving : {C M : Type 0} (reading : C → ℕ → ℕ) (stands : M → Network → DeviceId → Node → Type 0) (s : Scenario) (world : World C M) (notes : List Note)
-    (e : AtPort) (old : Stands reading stands s world notes) → IsIn e world.ports → e.at ≡ world.now
-    → ComesFirst reading stands s world notes old (port_place e) → IsMoving s (happenings s.network notes) world.settled old.mark old.cursor world.now 8
-    (e.device.0 ∷ e.link.0 ∷ e.cause ∷ [])
-leaving reading stands s world notes e old i at first =
-    comes_first reading stands s world notes old 8 (e.device.0 ∷ e.link.0 ∷ e.cause ∷ []) (port_place e)
-    (λ same. (let two : ◌≡◌ {A = ℕ} 2 8 = cc in omega (arith, two))) (port_at e world.now at) (old.ports.real e i).1 first
+module _ {C M : Type 0} (reading : C → ℕ → ℕ) (stands : M → Network → DeviceId → Node → Type 0) (s : Scenario)
+    (world : World C M) (notes : List Note) (e : AtPort) where
+  leaving : {old : Stands reading stands s world notes} → IsIn e world.ports → e.at ≡ world.now
+      → ComesFirst reading stands s world notes old (port_place e)
+      → IsMoving s (happenings s.network notes) world.settled old.mark old.cursor world.now 8
+      (e.device.0 ∷ e.link.0 ∷ e.cause ∷ [])
+  leaving {old} i at first =
+      comes_first old 8 (e.device.0 ∷ e.link.0 ∷ e.cause ∷ [])
+      (λ same. (let two : ◌≡◌ {A = ℕ} 2 8 = cc in omega (arith, two))) (port_at e world.now at)
+      (old.ports.real e i).1 first
 
--- ---- the world stands behind it, with what is to come then
+  -- ---- the world stands behind it, with what is to come then
 
-left_behind : {C M : Type 0} (reading : C → ℕ → ℕ) (stands : M → Network → DeviceId → Node → Type 0) (s : Scenario) (world : World C M) (notes : List Note)
-    (e : AtPort) (ports : List AtPort) (settled : List Happening) (old : Stands reading stands s world notes) → IsIn e world.ports → e.at ≡ world.now
-    → ComesFirst reading stands s world notes old (port_place e) → IsWithout port_place (port_place e) world.ports ports
-    → length notes + length settled < numbers_end
-    → AreSettled s (happenings s.network notes) settled old.mark (behind (world.now ∷ 8 ∷ e.device.0 ∷ e.link.0 ∷ e.cause ∷ [])) world.now
-    → AreOfNetwork s (happenings s.network notes ++ settled) → ((device : DeviceId) (machine : M) → IsHeld stands s (happenings s.network notes) world.settled
-    (behind (world.now ∷ 8 ∷ e.device.0 ∷ e.link.0 ∷ e.cause ∷ [])) world.now device machine
-    → IsHeld stands s (happenings s.network notes) settled (behind (world.now ∷ 8 ∷ e.device.0 ∷ e.link.0 ∷ e.cause ∷ [])) world.now device machine)
-    → StandsBehind reading stands s (record world { ports = ports; early = false; settled = settled }) notes (behind (port_place e))
-left_behind reading stands s world notes e ports settled old i at first without room are known kept =
-    let hs = happenings s.network notes in
-    let more = e.device.0 ∷ e.link.0 ∷ e.cause ∷ [] in
-    let here = world.now ∷ 8 ∷ more in
-    let place = port_at e world.now at in
-    let m = leaving reading stands s world notes e old i at first in
-    let less : IsWithout port_place here world.ports ports = subst (λ (q : List ℕ). IsWithout port_place q world.ports ports) place without in
-    stands_on reading stands s world notes old 8 more (port_place e) world.machines world.wires ports world.waiting settled world.shown m place room are known
-    (λ device lt.
-    let k = old.devices device lt in (
-      k.0,
-      k.1,
-      kept device k.0 (held_moves stands s hs world.settled old.mark old.cursor world.now 8 more device k.0 m
-          (no_task_at s.network world.now device 8 more (inr (omega arith))) k.2),
-    ))
-    (inr (refl, inl (omega arith))) (wires_move s hs world.settled old.mark old.cursor world.now 8 more world.wires world.wires m
-    (told_wires reading stands s world notes old 8 more m (inr (refl, inl (omega arith))))
-    (all_without wire_place here world.wires (λ w same. (let two : ◌≡◌ {A = ℕ} 2 8 = cc in omega (arith, two)))))
-    (ports_move s hs world.settled old.mark old.cursor world.now 8 more world.ports ports m old.ports less)
-    (waiting_moves s hs world.settled old.mark old.cursor world.now 8 more world.waiting m (λ three. omega (arith, three)) old.waiting)
-    (shown_still reading stands s world notes old 8 more (omega arith) m)
+  left_behind : (ports : List AtPort) {settled : List Happening} {old : Stands reading stands s world notes}
+      → IsIn e world.ports → e.at ≡ world.now → ComesFirst reading stands s world notes old (port_place e)
+      → IsWithout port_place (port_place e) world.ports ports → length notes + length settled < numbers_end
+      → AreSettled s (happenings s.network notes) settled old.mark
+      (behind (world.now ∷ 8 ∷ e.device.0 ∷ e.link.0 ∷ e.cause ∷ [])) world.now
+      → AreOfNetwork s (happenings s.network notes ++ settled) →
+      ((device : DeviceId) (machine : M)
+      → IsHeld stands s (happenings s.network notes) world.settled (behind (world.now ∷ 8 ∷ e.device.0 ∷ e.link.0
+      ∷ e.cause ∷ [])) world.now device machine
+      → IsHeld stands s (happenings s.network notes) settled (behind (world.now ∷ 8 ∷ e.device.0 ∷ e.link.0 ∷ e.cause
+      ∷ [])) world.now device machine) → StandsBehind reading stands s
+      (record world { ports = ports; early = false; settled = settled }) notes (behind (port_place e))
+  left_behind ports {old} i at first without room are known kept =
+      let hs = happenings s.network notes in
+      let more = e.device.0 ∷ e.link.0 ∷ e.cause ∷ [] in
+      let here = world.now ∷ 8 ∷ more in
+      let place = port_at e world.now at in
+      let m = leaving {old = old} i at first in
+      let less : IsWithout port_place here world.ports ports =
+      subst (λ q. IsWithout port_place q world.ports ports) place without in
+      stands_on old 8 more (port_place e) world.machines world.shown m place room are known
+      (λ device lt.
+      let k = old.devices device lt in (
+        k.0,
+        k.1,
+        kept device k.0 (held_moves stands s hs world.settled m
+            (no_task_at s.network world.now device 8 more (inr (omega arith))) k.2),
+      ))
+      (inr (refl, inl (omega arith))) (wires_move s hs world.settled old.mark old.cursor world.now 8 more world.wires m
+      (told_wires old 8 more m (inr (refl, inl (omega arith))))
+      (all_without wire_place here world.wires (λ w same. (let two : ◌≡◌ {A = ℕ} 2 8 = cc in omega (arith, two)))))
+      (ports_move s hs world.settled old.mark old.cursor world.now 8 more ports m old.ports less)
+      (waiting_moves s hs world.settled old.mark old.cursor world.now 8 more m (λ three. omega (arith, three))
+      old.waiting)
+      (shown_still old 8 more (omega arith) m)
 
--- ---- nothing comes of it, where its device is broken
+  -- ---- nothing comes of it, where its device is broken
 
-cut_off : {C M : Type 0} (reading : C → ℕ → ℕ) (stands : M → Network → DeviceId → Node → Type 0) (s : Scenario) (world : World C M) (notes : List Note)
-    (e : AtPort) (ports : List AtPort) (settled : List Happening) (old : Stands reading stands s world notes) → IsIn e world.ports → e.at ≡ world.now
-    → ComesFirst reading stands s world notes old (port_place e) → IsWithout port_place (port_place e) world.ports ports → is_broken s e.device world.now ≡ true
-    → settled ≡ world.settled → StandsBehind reading stands s (record world { ports = ports; early = false; settled = settled }) notes (behind (port_place e))
-cut_off reading stands s world notes e ports settled old i at first without broken same =
-    let m = leaving reading stands s world notes e old i at first in
-    subst (λ (l : List Happening). StandsBehind reading stands s (record world { ports = ports; early = false; settled = l }) notes (behind (port_place e)))
-    (sym same)
-    (left_behind reading stands s world notes e ports world.settled old i at first without old.room
-    (settled_moves s (happenings s.network notes) world.settled old.mark old.cursor world.now 8 (e.device.0 ∷ e.link.0 ∷ e.cause ∷ []) m
-    (λ front back y whole before none due own. absurd (nothing_of_broken s (happenings s.network notes ++ front) world.now (time_of y) (members_in y) e
-    y.note.body _ broken refl own y.note.time refl due.cause)))
-    old.known
-    (λ device machine k. k))
+  cut_off : (ports : List AtPort) (settled : List Happening) {old : Stands reading stands s world notes}
+      → IsIn e world.ports → e.at ≡ world.now → ComesFirst reading stands s world notes old (port_place e)
+      → IsWithout port_place (port_place e) world.ports ports → is_broken s e.device world.now ≡ true
+      → settled ≡ world.settled → StandsBehind reading stands s
+      (record world { ports = ports; early = false; settled = settled }) notes (behind (port_place e))
+  cut_off ports settled {old} i at first without broken same =
+      let m = leaving {old = old} i at first in
+      subst (λ (l : List Happening). StandsBehind reading stands s
+      (record world { ports = ports; early = false; settled = l }) notes (behind (port_place e)))
+      (sym same)
+      (left_behind ports {settled = world.settled} {old = old} i at first without old.room
+      (settled_moves s (happenings s.network notes) world.settled old.mark old.cursor
+      world.now 8 (e.device.0 ∷ e.link.0 ∷ e.cause ∷ []) m
+      (λ front back y whole before none due own. absurd (nothing_of_broken s (happenings s.network notes ++ front)
+      world.now (time_of y) (members_in y) e
+      y.note.body _ broken refl own y.note.time refl due.cause)))
+      old.known
+      (λ device machine k. k))
 
--- ---- the record is put in
+  -- ---- the record is put in
 
-gone_out : {C M : Type 0} (reading : C → ℕ → ℕ) (stands : M → Network → DeviceId → Node → Type 0) (s : Scenario) (world : World C M) (notes : List Note)
-    (e : AtPort) (ports : List AtPort) (settled : List Happening) (old : Stands reading stands s world notes) → IsIn e world.ports → e.at ≡ world.now
-    → ComesFirst reading stands s world notes old (port_place e) → IsWithout port_place (port_place e) world.ports ports
-    → is_broken s e.device world.now ≡ false
-    → ArePutIn s.network (happenings s.network notes) world.now (departure_body e (departure_now s e world.now) ∷ []) world.settled settled
-    → StandsBehind reading stands s (record world { ports = ports; early = false; settled = settled }) notes (behind (port_place e))
-gone_out reading stands s world notes e ports settled old i at first without sound (mid, put, last) =
-    let hs = happenings s.network notes in
-    let now = world.now in
-    let more = e.device.0 ∷ e.link.0 ∷ e.cause ∷ [] in
-    let here = now ∷ 8 ∷ more in
-    let it = (old.ports.real e i).0 in
-    let is = departure_now s e now in
-    let body = departure_body e is in
-    let m = leaving reading stands s world notes e old i at first in
-    let few : cause_of body ≤ length hs = subst (λ (n : ℕ). n ≤ length hs) (sym (body_cause e is)) (few_cause s hs e it) in
-    let q = one_shown s.network hs now body world.settled mid few put in
-    let front = q.front in
-    let back = q.back in
-    let w = record_of s.network hs front now body in
-    let moving : IsMoving s hs (front ++ back) old.mark old.cursor now 8 more = subst (λ (l : List Happening). IsMoving s hs l old.mark old.cursor now 8 more)
-    q.parts m in
-    let idle = body_idle e is in
-    let departs = departs_now s hs front now e it at sound in
-    let key_is : place_of w ≡ now ∷ rank body ∷ more = ap (λ (l : List ℕ). now ∷ rank body ∷ l) (body_key (members_in w) e is) in
-    let p : IsPutting s hs front back old.mark old.cursor now 8 more w = record {
-      moving = moving;
-      late = omega arith;
-      marked = old.of_now;
-      founded = old.run.founded;
-      idle = idle;
-      at = refl;
-      due = due_of s hs front now body (body_caused s (hs ++ front) (units_of now) e is departs);
-      before = q.before;
-      none = q.none;
-      fresh = λ y there same.
-          let split = parted y back there in
-          let whole : front ++ back ≡ (front ++ split.0) ++ y ∷ split.1 = ap (λ (l : List Happening). front ++ l) split.2
-          ∙ sym (append_assoc front split.0 (y ∷ split.1)) in
-          let by = moving.are.by (front ++ split.0) split.1 y whole in
-          let y_now = moving.are.of_now y (in_right y front back there) in
-          let from = own_there s hs (front ++ split.0) now (members_in w) e is it old.run.founded (time_of y) (members_in y) y.note.body by.0
-          (λ z inside. let z_now = moving.are.of_now z
-          (subst (λ (l : List Happening). IsIn z l) (sym whole) (in_left z (front ++ split.0) (y ∷ split.1) inside)) in omega (arith, y_now, z_now)) same
-          by.1 in
-          moving.waits (subst (λ (q : List ℕ). IsBefore q old.cursor) from by.3);
-      mine = body_own s (hs ++ front) now (members_in w) e is departs;
-      here =
-          IsSource.departing now e.device e.link e.cause
-          (record { giving = departs.giving; there = departs.there; gives = departs.gives; held = departs.held });
-      own = λ zs y y_due y_few y_now own.
-          outcome_at s hs zs now e (members_in w) it at sound (time_of y) (members_in y) y.note.body here refl own y.note.time refl y_due.cause;
-    } in
-    let long = put_length front back w in
-    let same_length : length world.settled ≡ length (front ++ back) = ap length q.parts in
-    let room = first.room in
-    subst (λ (l : List Happening). StandsBehind reading stands s (record world { ports = ports; early = false; settled = l }) notes (behind (port_place e)))
-    (sym (last ∙ q.shows))
-    (left_behind reading stands s world notes e ports (front ++ w ∷ back) old i at first without (omega (arith, long, same_length, room))
-    (settled_put p)
-    (known_put s hs front back w idle (subst (λ (l : List Happening). AreOfNetwork s (hs ++ l)) q.parts old.known))
-    (λ device machine k. held_put stands s hs front back (behind here) now device machine w idle refl
-    (subst (λ (l : List Happening). IsHeld stands s hs l (behind here) now device machine) q.parts k)))
+  gone_out : (ports : List AtPort) (settled : List Happening) {old : Stands reading stands s world notes}
+      → IsIn e world.ports → e.at ≡ world.now → ComesFirst reading stands s world notes old (port_place e)
+      → IsWithout port_place (port_place e) world.ports ports → is_broken s e.device world.now ≡ false
+      → ArePutIn s.network (happenings s.network notes) world.now
+      (departure_body e (departure_now s e world.now) ∷ []) world.settled settled
+      → StandsBehind reading stands s (record world { ports = ports; early = false; settled = settled }) notes
+      (behind (port_place e))
+  gone_out ports settled {old} i at first without sound (mid, put, last) =
+      let hs = happenings s.network notes in
+      let now = world.now in
+      let more = e.device.0 ∷ e.link.0 ∷ e.cause ∷ [] in
+      let here = now ∷ 8 ∷ more in
+      let it = (old.ports.real e i).0 in
+      let is = departure_now s e now in
+      let body = departure_body e is in
+      let m = leaving {old = old} i at first in
+      let few : cause_of body ≤ length hs = subst (λ n. n ≤ length hs) (sym (body_cause e is)) (few_cause it) in
+      let q = one_shown s.network hs now body few put in
+      let front = q.front in
+      let back = q.back in
+      let w = record_of s.network hs front now body in
+      let moving : IsMoving s hs (front ++ back) old.mark old.cursor now 8 more =
+      subst (λ l. IsMoving s hs l old.mark old.cursor now 8 more)
+      q.parts m in
+      let idle = body_idle e is in
+      let departs = departs_now front now it at sound in
+      let key_is : place_of w ≡ now ∷ rank body ∷ more =
+      ap (λ (l : List ℕ). now ∷ rank body ∷ l) (body_key (members_in w) e is) in
+      let p : IsPutting s hs front back old.mark old.cursor now 8 more w = record {
+        moving = moving;
+        late = omega arith;
+        marked = old.of_now;
+        founded = old.run.founded;
+        idle = idle;
+        at = refl;
+        due = due_of s hs front now body (body_caused (units_of now) e is departs);
+        before = q.before;
+        none = q.none;
+        fresh = λ y there same.
+            let split = parted y back there in
+            let whole : front ++ back ≡ (front ++ split.0) ++ y ∷ split.1 =
+            ap (λ (l : List Happening). front ++ l) split.2
+            ∙ sym (append_assoc front split.0 (y ∷ split.1)) in
+            let by = moving.are.by (front ++ split.0) split.1 y whole in
+            let y_now = moving.are.of_now y (in_right y front back there) in
+            let from = own_there (front ++ split.0) now (members_in w) is it old.run.founded (time_of y)
+            (members_in y) y.note.body by.0
+            (λ z inside. let z_now = moving.are.of_now z
+            (subst (λ l. IsIn z l) (sym whole)
+            (in_left z (front ++ split.0) (y ∷ split.1) inside)) in omega (arith, y_now, z_now)) same
+            by.1 in
+            moving.waits (subst (λ q. IsBefore q old.cursor) from by.3);
+        mine = body_own (members_in w) e is departs;
+        here =
+            IsSource.departing now e.device e.link e.cause
+            (record { giving = departs.giving; there = departs.there; gives = departs.gives; held = departs.held });
+        own = λ zs y y_due y_few y_now own.
+            outcome_at zs now (members_in w) it at sound (time_of y) (members_in y) y.note.body here refl own
+            y.note.time refl y_due.cause;
+      } in
+      let long = put_length front back w in
+      let same_length : length world.settled ≡ length (front ++ back) = ap length q.parts in
+      let room = first.room in
+      subst (λ (l : List Happening). StandsBehind reading stands s
+      (record world { ports = ports; early = false; settled = l }) notes (behind (port_place e)))
+      (sym (last ∙ q.shows))
+      (left_behind ports {settled = front ++ w ∷ back} {old = old} i at first without
+      (omega (arith, long, same_length, room))
+      (settled_put p)
+      (known_put hs front back w idle (subst (λ (l : List Happening). AreOfNetwork s (hs ++ l)) q.parts old.known))
+      (λ device machine k. held_put front back w idle refl
+      (subst (λ l. IsHeld stands s hs l (behind here) now device machine) q.parts k)))
 
 pub left_step : {C M : Type 0} (reading : C → ℕ → ℕ) (stands : M → Network → DeviceId → Node → Type 0) → LeftStep reading stands
 left_step {C} {M} reading stands s world notes e ports settled old i at first without put =
     elim (cases_Bool (is_broken s e.device world.now)) [
       | inl broken ↦
-          cut_off reading stands s world notes e ports settled old i at first without broken
+          cut_off reading stands s world notes e ports settled {old = old} i at first without broken
           (subst (λ (b : Bool). ArePutIn s.network (happenings s.network notes) world.now (if b then [] else departure_body e (departure_now s e world.now)
           ∷ []) world.settled settled) broken put)
       | inr sound ↦
-          gone_out reading stands s world notes e ports settled old i at first without sound
+          gone_out reading stands s world notes e ports settled {old = old} i at first without sound
           (subst (λ (b : Bool). ArePutIn s.network (happenings s.network notes) world.now (if b then [] else departure_body e (departure_now s e world.now)
           ∷ []) world.settled settled) sound put)
     ]

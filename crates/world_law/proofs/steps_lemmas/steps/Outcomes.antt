@@ -27,31 +27,34 @@ body_key members e (leaves clock) = refl
 body_key members e too_old = refl
 body_key members e on_cut_way = refl
 
-pub body_caused : (s : Scenario) (js : List Happening) (time : Units) (e : AtPort) (is : Departure) → Departs s js e.device (amount time) e.link e.cause is
-    → IsCaused s js time (departure_body e is)
-body_caused s js time e (leaves clock) d = d
-body_caused s js time e too_old d = inr (inr (d, refl))
-body_caused s js time e on_cut_way d = inl d
+pub body_caused : {s : Scenario} {js : List Happening} (time : Units) (e : AtPort) (is : Departure)
+    → Departs s js e.device (amount time) e.link e.cause is → IsCaused s js time (departure_body e is)
+body_caused time e (leaves clock) d = d
+body_caused time e too_old d = inr (inr (d, refl))
+body_caused time e on_cut_way d = inl d
 
-pub body_own : (s : Scenario) (js : List Happening) (t members : ℕ) (e : AtPort) (is : Departure) → Departs s js e.device t e.link e.cause is
-    → IsOwnSource s js t members (departure_body e is) (t ∷ 8 ∷ e.device.0 ∷ e.link.0 ∷ e.cause ∷ [])
-body_own s js t m e (leaves clock) d = refl
-body_own s js t m e too_old d = inr (inr (refl, d))
-body_own s js t m e on_cut_way d = inl (refl, d)
+pub body_own : {s : Scenario} {js : List Happening} {t : ℕ} (members : ℕ) (e : AtPort) (is : Departure)
+    → Departs s js e.device t e.link e.cause is → IsOwnSource s js t members (departure_body e is)
+    (t ∷ 8 ∷ e.device.0 ∷ e.link.0 ∷ e.cause ∷ [])
+body_own m e (leaves clock) d = refl
+body_own m e too_old d = inr (inr (refl, d))
+body_own m e on_cut_way d = inl (refl, d)
 
 -- ---- it departs so
 
-pub departs_now : (s : Scenario) (hs zs : List Happening) (now : ℕ) (e : AtPort) → IsAtPort s hs e → e.at ≡ now → is_broken s e.device now ≡ false
-    → Departs s (hs ++ zs) e.device now e.link e.cause (departure_now s e now)
-departs_now s hs zs now e it at sound = grind (arith, numbered_within, numbered_prefix, nat_lt, amount, is_cut, way_from)
+pub departs_now : {s : Scenario} {hs : List Happening} (zs : List Happening) (now : ℕ) {e : AtPort} → IsAtPort s hs e
+    → e.at ≡ now → is_broken s e.device now ≡ false → Departs s (hs ++ zs) e.device now e.link e.cause
+    (departure_now s e now)
+departs_now zs now it at sound = grind (arith, numbered_within, numbered_prefix, nat_lt, amount, is_cut, way_from)
 
-pub few_cause : (s : Scenario) (hs : List Happening) (e : AtPort) → IsAtPort s hs e → e.cause ≤ length hs
-few_cause s hs e it = let lt = numbered_within hs e.cause it.giving it.there in omega (arith, lt)
+pub few_cause : {s : Scenario} {hs : List Happening} {e : AtPort} → IsAtPort s hs e → e.cause ≤ length hs
+few_cause {hs} {e} it = let lt = numbered_within hs e.cause it.giving it.there in omega (arith, lt)
 
 -- what departs by that record at that place departs so
-pub departs_so : (s : Scenario) (hs zs : List Happening) (now : ℕ) (e : AtPort) (is other : Departure) → IsAtPort s hs e
-    → Departs s (hs ++ zs) e.device now e.link e.cause is → Departs s (hs ++ zs) e.device now e.link e.cause other → is ≡ other
-departs_so s hs zs now e is other it a b = grind (arith, some_same, time_of)
+pub departs_so : {s : Scenario} {hs : List Happening} (zs : List Happening) {now : ℕ} {e : AtPort}
+    {is other : Departure} → IsAtPort s hs e → Departs s (hs ++ zs) e.device now e.link e.cause is
+    → Departs s (hs ++ zs) e.device now e.link e.cause other → is ≡ other
+departs_so zs it a b = grind (arith, some_same, time_of)
 
 -- the numbers of a place
 record IsSamePort (e : AtPort) (now t : ℕ) (device : DeviceId) (link : LinkId) (cause : ℕ) : Type 0 where
@@ -64,9 +67,10 @@ same_port : (e : AtPort) (now t : ℕ) (device : DeviceId) (link : LinkId) (caus
     ∷ link.0 ∷ cause ∷ [] → IsSamePort e now t device link cause
 same_port e now t device link cause same = grind arith
 
-moved : (s : Scenario) (js : List Happening) (e : AtPort) (now t : ℕ) (device : DeviceId) (link : LinkId) (cause : ℕ) (is : Departure)
-    → IsSamePort e now t device link cause → Departs s js device t link cause is → Departs s js e.device now e.link e.cause is
-moved s js e now t device link cause is p d = grind arith
+moved : {s : Scenario} {js : List Happening} {e : AtPort} {now t : ℕ} {device : DeviceId} {link : LinkId} {cause : ℕ}
+    {is : Departure} → IsSamePort e now t device link cause → Departs s js device t link cause is
+    → Departs s js e.device now e.link e.cause is
+moved p d = grind arith
 
 -- ---- whatever comes from its leaving is at that place
 
@@ -78,104 +82,112 @@ wrong : (k : ℕ) → (8 ≡ k) → (k < 8) ⊎ (8 < k) → ⊥
 wrong k e (inl lt) = omega (arith, e, lt)
 wrong k e (inr lt) = omega (arith, e, lt)
 
-pub outcome_at : (s : Scenario) (hs zs : List Happening) (now : ℕ) (e : AtPort) (m : ℕ) → IsAtPort s hs e → e.at ≡ now → is_broken s e.device now ≡ false
-    → (t members : ℕ) (body : NoteBody) (w : List ℕ) → w ≡ now ∷ 8 ∷ e.device.0 ∷ e.link.0 ∷ e.cause ∷ [] → IsOwnSource s (hs ++ zs) t members body w
-    → (time : Units) → amount time ≡ t → IsCaused s (hs ++ zs) time body
-    → now ∷ rank (departure_body e (departure_now s e now)) ∷ key m (departure_body e (departure_now s e now)) ≡ t ∷ rank body ∷ key members body
-outcome_at s hs zs now e m it at sound t members (kinds.Left device link cause clock) w here o time is c =
-    let p = same_port e now t device link cause (sym here ∙ o) in
-    let so = departs_so s hs zs now e (departure_now s e now) (leaves clock) it (departs_now s hs zs now e it at sound)
-    (moved s (hs ++ zs) e now t device link cause _ p (subst (λ (n : ℕ). Departs s (hs ++ zs) device n link cause (leaves clock)) is c)) in
-    ap (λ (x : Departure). now ∷ rank (departure_body e x) ∷ key m (departure_body e x)) so ∙ sym here ∙ o
-outcome_at s hs zs now e m it at sound t members (kinds.Lost device link cause) w here (inl o) time is c =
-    let p = same_port e now t device link cause (sym here ∙ o.0) in
-    let so = departs_so s hs zs now e (departure_now s e now) on_cut_way it (departs_now s hs zs now e it at sound)
-    (moved s (hs ++ zs) e now t device link cause _ p o.1) in
-    ap (λ (x : Departure). now ∷ rank (departure_body e x) ∷ key m (departure_body e x)) so ∙ ap (ranked 9) (sym here ∙ o.0)
-outcome_at s hs zs now e m it at sound t members (kinds.Lost device link cause) w here (inr (inl o)) time is c =
-    absurd (wrong 6 (ap second (sym here ∙ o.4)) (inl (omega arith)))
-outcome_at s hs zs now e m it at sound t members (kinds.Lost device link cause) w here (inr (inr o)) time is c =
-    absurd (wrong 2 (ap second (sym here ∙ o.0)) (inl (omega arith)))
-outcome_at s hs zs now e m it at sound t members (kinds.Dropped device link cause reason) w here (inl o) time is c =
-    absurd (wrong 2 (ap second (sym here ∙ o.0)) (inl (omega arith)))
-outcome_at s hs zs now e m it at sound t members (kinds.Dropped device link cause reason) w here (inr (inl o)) time is c =
-    absurd (wrong 3 (ap second (sym here ∙ o.2)) (inl (omega arith)))
-outcome_at s hs zs now e m it at sound t members (kinds.Dropped device link cause reason) w here (inr (inr o)) time is c =
-    grind (arith, same_port, departs_so, departs_now, moved, rank, key)
-outcome_at s hs zs now e m it at sound t members (kinds.Event line what) w here o time is c = absurd (wrong 1 (ap second (sym here ∙ o)) (inl (omega arith)))
-outcome_at s hs zs now e m it at sound t members (kinds.Arrived device link cause clock) w here o time is c =
-    absurd (wrong 2 (ap second (sym here ∙ o)) (inl (omega arith)))
-outcome_at s hs zs now e m it at sound t members (kinds.Permanent device link cause point verdict) w here o time is c =
-    absurd (wrong 3 (ap second (sym here ∙ o)) (inl (omega arith)))
-outcome_at s hs zs now e m it at sound t members (kinds.Compressed device opened read cycle of_masters verdict) w here o time is c =
-    absurd (wrong 4 (ap second (sym here ∙ o)) (inl (omega arith)))
-outcome_at s hs zs now e m it at sound t members (kinds.Sent device cycle) w here o time is c = absurd (wrong 5 (ap second (sym here ∙ o)) (inl (omega arith)))
-outcome_at s hs zs now e m it at sound t members (kinds.Corrected device cycle by adjustment) w here o time is c =
-    absurd (wrong 6 (ap second (sym here ∙ o)) (inl (omega arith)))
-outcome_at s hs zs now e m it at sound t members (kinds.State device state cause whys.On) w here o time is c =
-    absurd (wrong 2 (ap second (sym here ∙ o)) (inl (omega arith)))
-outcome_at s hs zs now e m it at sound t members (kinds.State device state cause whys.Frame) w here o time is c =
-    absurd (wrong 2 (ap second (sym here ∙ o)) (inl (omega arith)))
-outcome_at s hs zs now e m it at sound t members (kinds.State device state cause whys.Correction) w here o time is c =
-    absurd (wrong 2 (ap second (sym here ∙ o)) (inl (omega arith)))
-outcome_at s hs zs now e m it at sound t members (kinds.State device state cause whys.SyncClique) w here o time is c =
-    absurd (wrong 6 (ap second (sym here ∙ o.1)) (inl (omega arith)))
-outcome_at s hs zs now e m it at sound t members (kinds.State device state cause whys.AsyncClique) w here o time is c =
-    absurd (wrong 6 (ap second (sym here ∙ o.1)) (inl (omega arith)))
-outcome_at s hs zs now e m it at sound t members (kinds.TtSent device link cause vl cycle) w here o time is c =
-    absurd (wrong 6 (ap second (sym here ∙ o.1)) (inl (omega arith)))
-outcome_at s hs zs now e m it at sound t members (kinds.Accepted device link cause vl cycle) w here o time is c =
-    absurd (wrong 2 (ap second (sym here ∙ o)) (inl (omega arith)))
-outcome_at s hs zs now e m it at sound t members (kinds.Delivered device link cause vl cycle) w here o time is c =
-    absurd (wrong 2 (ap second (sym here ∙ o)) (inl (omega arith)))
-outcome_at s hs zs now e m it at sound t members (kinds.Clock device reading adjustment state) w here o time is c =
-    absurd (wrong 14 (ap second (sym here ∙ o)) (inr (omega arith)))
+module _ {s : Scenario} {hs : List Happening} (zs : List Happening) (now : ℕ) {e : AtPort} (m : ℕ)
+    (it : IsAtPort s hs e) (at : e.at ≡ now) (sound : is_broken s e.device now ≡ false) (t members : ℕ) where
+  pub outcome_at : (body : NoteBody) (w : List ℕ) → w ≡ now ∷ 8 ∷ e.device.0 ∷ e.link.0 ∷ e.cause ∷ []
+      → IsOwnSource s (hs ++ zs) t members body w → (time : Units) → amount time ≡ t
+      → IsCaused s (hs ++ zs) time body → now ∷ rank (departure_body e (departure_now s e now))
+      ∷ key m (departure_body e (departure_now s e now)) ≡ t ∷ rank body ∷ key members body
+  outcome_at (kinds.Left device link cause clock) w here o time is c =
+      let p = same_port e now t device link cause (sym here ∙ o) in
+      let so = departs_so zs it (departs_now zs now it at sound)
+      (moved p (subst (λ n. Departs s (hs ++ zs) device n link cause (leaves clock)) is c)) in
+      ap (λ x. now ∷ rank (departure_body e x) ∷ key m (departure_body e x)) so ∙ sym here ∙ o
+  outcome_at (kinds.Lost device link cause) w here (inl o) time is c =
+      let p = same_port e now t device link cause (sym here ∙ o.0) in
+      let so = departs_so zs it (departs_now zs now it at sound) (moved p o.1) in
+      ap (λ x. now ∷ rank (departure_body e x) ∷ key m (departure_body e x)) so ∙ ap (ranked 9)
+      (sym here ∙ o.0)
+  outcome_at (kinds.Lost device link cause) w here (inr (inl o)) time is c =
+      absurd (wrong 6 (ap second (sym here ∙ o.4)) (inl (omega arith)))
+  outcome_at (kinds.Lost device link cause) w here (inr (inr o)) time is c =
+      absurd (wrong 2 (ap second (sym here ∙ o.0)) (inl (omega arith)))
+  outcome_at (kinds.Dropped device link cause reason) w here (inl o) time is c =
+      absurd (wrong 2 (ap second (sym here ∙ o.0)) (inl (omega arith)))
+  outcome_at (kinds.Dropped device link cause reason) w here (inr (inl o)) time is c =
+      absurd (wrong 3 (ap second (sym here ∙ o.2)) (inl (omega arith)))
+  outcome_at (kinds.Dropped device link cause reason) w here (inr (inr o)) time is c =
+      grind (arith, same_port, departs_so, departs_now, moved, rank, key)
+  outcome_at (kinds.Event line what) w here o time is c =
+      absurd (wrong 1 (ap second (sym here ∙ o)) (inl (omega arith)))
+  outcome_at (kinds.Arrived device link cause clock) w here o time is c =
+      absurd (wrong 2 (ap second (sym here ∙ o)) (inl (omega arith)))
+  outcome_at (kinds.Permanent device link cause point verdict) w here o time is c =
+      absurd (wrong 3 (ap second (sym here ∙ o)) (inl (omega arith)))
+  outcome_at (kinds.Compressed device opened read cycle of_masters verdict) w here o time is c =
+      absurd (wrong 4 (ap second (sym here ∙ o)) (inl (omega arith)))
+  outcome_at (kinds.Sent device cycle) w here o time is c =
+      absurd (wrong 5 (ap second (sym here ∙ o)) (inl (omega arith)))
+  outcome_at (kinds.Corrected device cycle by adjustment) w here o time is c =
+      absurd (wrong 6 (ap second (sym here ∙ o)) (inl (omega arith)))
+  outcome_at (kinds.State device state cause whys.On) w here o time is c =
+      absurd (wrong 2 (ap second (sym here ∙ o)) (inl (omega arith)))
+  outcome_at (kinds.State device state cause whys.Frame) w here o time is c =
+      absurd (wrong 2 (ap second (sym here ∙ o)) (inl (omega arith)))
+  outcome_at (kinds.State device state cause whys.Correction) w here o time is c =
+      absurd (wrong 2 (ap second (sym here ∙ o)) (inl (omega arith)))
+  outcome_at (kinds.State device state cause whys.SyncClique) w here o time is c =
+      absurd (wrong 6 (ap second (sym here ∙ o.1)) (inl (omega arith)))
+  outcome_at (kinds.State device state cause whys.AsyncClique) w here o time is c =
+      absurd (wrong 6 (ap second (sym here ∙ o.1)) (inl (omega arith)))
+  outcome_at (kinds.TtSent device link cause vl cycle) w here o time is c =
+      absurd (wrong 6 (ap second (sym here ∙ o.1)) (inl (omega arith)))
+  outcome_at (kinds.Accepted device link cause vl cycle) w here o time is c =
+      absurd (wrong 2 (ap second (sym here ∙ o)) (inl (omega arith)))
+  outcome_at (kinds.Delivered device link cause vl cycle) w here o time is c =
+      absurd (wrong 2 (ap second (sym here ∙ o)) (inl (omega arith)))
+  outcome_at (kinds.Clock device reading adjustment state) w here o time is c =
+      absurd (wrong 14 (ap second (sym here ∙ o)) (inr (omega arith)))
 
--- where the device is broken, nothing comes from it
-pub nothing_of_broken : (s : Scenario) (js : List Happening) (now t members : ℕ) (e : AtPort) (body : NoteBody) (w : List ℕ) → is_broken s e.device now ≡ true
-    → w ≡ now ∷ 8 ∷ e.device.0 ∷ e.link.0 ∷ e.cause ∷ [] → IsOwnSource s js t members body w → (time : Units) → amount time ≡ t → IsCaused s js time body → ⊥
-nothing_of_broken s js now t members e (kinds.Left device link cause clock) w broken here o time is c = grind (arith, same_port, moved)
-nothing_of_broken s js now t members e (kinds.Lost device link cause) w broken here (inl o) time is c = grind (arith, same_port, moved)
-nothing_of_broken s js now t members e (kinds.Lost device link cause) w broken here (inr (inl o)) time is c =
-    wrong 6 (ap second (sym here ∙ o.4)) (inl (omega arith))
-nothing_of_broken s js now t members e (kinds.Lost device link cause) w broken here (inr (inr o)) time is c =
-    wrong 2 (ap second (sym here ∙ o.0)) (inl (omega arith))
-nothing_of_broken s js now t members e (kinds.Dropped device link cause reason) w broken here (inl o) time is c =
-    wrong 2 (ap second (sym here ∙ o.0)) (inl (omega arith))
-nothing_of_broken s js now t members e (kinds.Dropped device link cause reason) w broken here (inr (inl o)) time is c =
-    wrong 3 (ap second (sym here ∙ o.2)) (inl (omega arith))
-nothing_of_broken s js now t members e (kinds.Dropped device link cause reason) w broken here (inr (inr o)) time is c =
-    let p = same_port e now t device link cause (sym here ∙ o.0) in
-    let d = moved s js e now t device link cause _ p o.1 in
-    let bad : true ≡ false = sym broken ∙ d.correct in cc
-nothing_of_broken s js now t members e (kinds.Event line what) w broken here o time is c = wrong 1 (ap second (sym here ∙ o)) (inl (omega arith))
-nothing_of_broken s js now t members e (kinds.Arrived device link cause clock) w broken here o time is c =
-    wrong 2 (ap second (sym here ∙ o)) (inl (omega arith))
-nothing_of_broken s js now t members e (kinds.Permanent device link cause point verdict) w broken here o time is c =
-    wrong 3 (ap second (sym here ∙ o)) (inl (omega arith))
-nothing_of_broken s js now t members e (kinds.Compressed device opened read cycle of_masters verdict) w broken here o time is c =
-    wrong 4 (ap second (sym here ∙ o)) (inl (omega arith))
-nothing_of_broken s js now t members e (kinds.Sent device cycle) w broken here o time is c = wrong 5 (ap second (sym here ∙ o)) (inl (omega arith))
-nothing_of_broken s js now t members e (kinds.Corrected device cycle by adjustment) w broken here o time is c =
-    wrong 6 (ap second (sym here ∙ o)) (inl (omega arith))
-nothing_of_broken s js now t members e (kinds.State device state cause whys.On) w broken here o time is c =
-    wrong 2 (ap second (sym here ∙ o)) (inl (omega arith))
-nothing_of_broken s js now t members e (kinds.State device state cause whys.Frame) w broken here o time is c =
-    wrong 2 (ap second (sym here ∙ o)) (inl (omega arith))
-nothing_of_broken s js now t members e (kinds.State device state cause whys.Correction) w broken here o time is c =
-    wrong 2 (ap second (sym here ∙ o)) (inl (omega arith))
-nothing_of_broken s js now t members e (kinds.State device state cause whys.SyncClique) w broken here o time is c =
-    wrong 6 (ap second (sym here ∙ o.1)) (inl (omega arith))
-nothing_of_broken s js now t members e (kinds.State device state cause whys.AsyncClique) w broken here o time is c =
-    wrong 6 (ap second (sym here ∙ o.1)) (inl (omega arith))
-nothing_of_broken s js now t members e (kinds.TtSent device link cause vl cycle) w broken here o time is c =
-    wrong 6 (ap second (sym here ∙ o.1)) (inl (omega arith))
-nothing_of_broken s js now t members e (kinds.Accepted device link cause vl cycle) w broken here o time is c =
-    wrong 2 (ap second (sym here ∙ o)) (inl (omega arith))
-nothing_of_broken s js now t members e (kinds.Delivered device link cause vl cycle) w broken here o time is c =
-    wrong 2 (ap second (sym here ∙ o)) (inl (omega arith))
-nothing_of_broken s js now t members e (kinds.Clock device reading adjustment state) w broken here o time is c =
-    wrong 14 (ap second (sym here ∙ o)) (inr (omega arith))
+module _ (s : Scenario) (js : List Happening) (now t members : ℕ) (e : AtPort) where
+  -- where the device is broken, nothing comes from it
+  pub nothing_of_broken : (body : NoteBody) (w : List ℕ) → is_broken s e.device now ≡ true
+      → w ≡ now ∷ 8 ∷ e.device.0 ∷ e.link.0 ∷ e.cause ∷ [] → IsOwnSource s js t members body w → (time : Units)
+      → amount time ≡ t → IsCaused s js time body → ⊥
+  nothing_of_broken (kinds.Left device link cause clock) w broken here o time is c = grind (arith, same_port, moved)
+  nothing_of_broken (kinds.Lost device link cause) w broken here (inl o) time is c = grind (arith, same_port, moved)
+  nothing_of_broken (kinds.Lost device link cause) w broken here (inr (inl o)) time is c =
+      wrong 6 (ap second (sym here ∙ o.4)) (inl (omega arith))
+  nothing_of_broken (kinds.Lost device link cause) w broken here (inr (inr o)) time is c =
+      wrong 2 (ap second (sym here ∙ o.0)) (inl (omega arith))
+  nothing_of_broken (kinds.Dropped device link cause reason) w broken here (inl o) time is c =
+      wrong 2 (ap second (sym here ∙ o.0)) (inl (omega arith))
+  nothing_of_broken (kinds.Dropped device link cause reason) w broken here (inr (inl o)) time is c =
+      wrong 3 (ap second (sym here ∙ o.2)) (inl (omega arith))
+  nothing_of_broken (kinds.Dropped device link cause reason) w broken here (inr (inr o)) time is c =
+      let p = same_port e now t device link cause (sym here ∙ o.0) in
+      let d = moved p o.1 in
+      let bad : true ≡ false = sym broken ∙ d.correct in cc
+  nothing_of_broken (kinds.Event line what) w broken here o time is c =
+      wrong 1 (ap second (sym here ∙ o)) (inl (omega arith))
+  nothing_of_broken (kinds.Arrived device link cause clock) w broken here o time is c =
+      wrong 2 (ap second (sym here ∙ o)) (inl (omega arith))
+  nothing_of_broken (kinds.Permanent device link cause point verdict) w broken here o time is c =
+      wrong 3 (ap second (sym here ∙ o)) (inl (omega arith))
+  nothing_of_broken (kinds.Compressed device opened read cycle of_masters verdict) w broken here o time is c =
+      wrong 4 (ap second (sym here ∙ o)) (inl (omega arith))
+  nothing_of_broken (kinds.Sent device cycle) w broken here o time is c =
+      wrong 5 (ap second (sym here ∙ o)) (inl (omega arith))
+  nothing_of_broken (kinds.Corrected device cycle by adjustment) w broken here o time is c =
+      wrong 6 (ap second (sym here ∙ o)) (inl (omega arith))
+  nothing_of_broken (kinds.State device state cause whys.On) w broken here o time is c =
+      wrong 2 (ap second (sym here ∙ o)) (inl (omega arith))
+  nothing_of_broken (kinds.State device state cause whys.Frame) w broken here o time is c =
+      wrong 2 (ap second (sym here ∙ o)) (inl (omega arith))
+  nothing_of_broken (kinds.State device state cause whys.Correction) w broken here o time is c =
+      wrong 2 (ap second (sym here ∙ o)) (inl (omega arith))
+  nothing_of_broken (kinds.State device state cause whys.SyncClique) w broken here o time is c =
+      wrong 6 (ap second (sym here ∙ o.1)) (inl (omega arith))
+  nothing_of_broken (kinds.State device state cause whys.AsyncClique) w broken here o time is c =
+      wrong 6 (ap second (sym here ∙ o.1)) (inl (omega arith))
+  nothing_of_broken (kinds.TtSent device link cause vl cycle) w broken here o time is c =
+      wrong 6 (ap second (sym here ∙ o.1)) (inl (omega arith))
+  nothing_of_broken (kinds.Accepted device link cause vl cycle) w broken here o time is c =
+      wrong 2 (ap second (sym here ∙ o)) (inl (omega arith))
+  nothing_of_broken (kinds.Delivered device link cause vl cycle) w broken here o time is c =
+      wrong 2 (ap second (sym here ∙ o)) (inl (omega arith))
+  nothing_of_broken (kinds.Clock device reading adjustment state) w broken here o time is c =
+      wrong 14 (ap second (sym here ∙ o)) (inr (omega arith))
 
 -- ---- whatever stands at that place comes from its leaving
 
@@ -195,20 +207,22 @@ not_both_ways : (s : Scenario) (device : DeviceId) (link : LinkId) (body : NoteB
 not_both_ways s device link body from clock e g waits = grind (arith, not_awaited, is_relay, is_parent_of, parent_true, link_at)
 
 -- the record by its number is the giving one
-is_giving : (s : Scenario) (hs zs : List Happening) (e : AtPort) (it : IsAtPort s hs e) (cause : ℕ) (g : Happening) → e.cause ≡ cause
-    → numbered (hs ++ zs) cause ≡ Some g → it.giving ≡ g
-is_giving s hs zs e it cause g same there =
-    let le = few_cause s hs e it in
+is_giving : {s : Scenario} {hs : List Happening} (zs : List Happening) {e : AtPort} (it : IsAtPort s hs e)
+    (cause : ℕ) (g : Happening) → e.cause ≡ cause → numbered (hs ++ zs) cause ≡ Some g → it.giving ≡ g
+is_giving {hs} zs {e} it cause g same there =
+    let le = few_cause it in
     some_same it.giving g _ it.there (sym (numbered_prefix hs zs e.cause le) ∙ ap (numbered (hs ++ zs)) same ∙ there)
 
-gives_it : (s : Scenario) (hs : List Happening) (e : AtPort) (it : IsAtPort s hs e) (g : Happening) (device : DeviceId) (link : LinkId) → it.giving ≡ g
-    → e.device ≡ device → e.link ≡ link → Gives s.network g.note.body device link
-gives_it s hs e it g device link same by on = grind arith
+gives_it : {s : Scenario} {hs : List Happening} {e : AtPort} (it : IsAtPort s hs e) (g : Happening)
+    (device : DeviceId) (link : LinkId) → it.giving ≡ g → e.device ≡ device → e.link ≡ link
+    → Gives s.network g.note.body device link
+gives_it it g device link same by on = grind arith
 
-not_dispatched : (s : Scenario) (hs zs : List Happening) (e : AtPort) (it : IsAtPort s hs e) (t : ℕ) (device : DeviceId) (link : LinkId) (cause : ℕ) (vl : _)
-    (cycle : ℕ) → IsFounded place_of (IsDue s) hs → ((z : Happening) → Rattle.run_law.specs.records.Order.IsIn z zs → t ≤ time_of z)
-    → e.device ≡ device → e.link ≡ link → e.cause ≡ cause → Dispatches s (hs ++ zs) device t link cause vl cycle → ⊥
-not_dispatched s hs zs e it t device link cause vl cycle founded late by on from d =
+not_dispatched : {s : Scenario} {hs : List Happening} (zs : List Happening) {e : AtPort} (it : IsAtPort s hs e)
+    {t : ℕ} {device : DeviceId} {link : LinkId} {cause : ℕ} {vl : _} {cycle : ℕ} → IsFounded place_of (IsDue s) hs
+    → ((z : Happening) → Rattle.run_law.specs.records.Order.IsIn z zs → t ≤ time_of z) → e.device ≡ device
+    → e.link ≡ link → e.cause ≡ cause → Dispatches s (hs ++ zs) device t link cause vl cycle → ⊥
+not_dispatched {s} {hs} zs it {t} {device} {link} founded late by on from d =
     elim d.at_hand [
       | inl sender ↦ let none : numbered hs 0 ≡ Some it.giving = ap (numbered hs) (sym (from ∙ sender.1)) ∙ it.there in cc
       | inr took ↦
@@ -221,7 +235,8 @@ not_dispatched s hs zs e it t device link cause vl cycle founded late by on from
                 let there = in_filter _ hs took.1.taken (in_filter _ (earlier t hs) took.1.taken i) in
                 let at = by_number s hs took.1.taken founded there in
                 let giving : it.giving ≡ took.1.taken = some_same it.giving took.1.taken _ it.there (ap (numbered hs) (from ∙ took.1.number) ∙ at) in
-                subst (λ (b : NoteBody). Gives s.network b device link) took.1.is (gives_it s hs e it took.1.taken device link giving by on)
+                subst (λ b. Gives s.network b device link) took.1.is
+                (gives_it it took.1.taken device link giving by on)
           ]
     ]
 
@@ -233,57 +248,68 @@ other_kind e (leaves clock) k r o = o.0 r
 other_kind e on_cut_way k r o = o.1 r
 other_kind e too_old k r o = o.2 r
 
-pub own_there : (s : Scenario) (hs zs : List Happening) (now m : ℕ) (e : AtPort) (is : Departure) (it : IsAtPort s hs e) → IsFounded place_of (IsDue s) hs
-    → (t members : ℕ) (body : NoteBody) (w : List ℕ) → ((z : Happening) → Rattle.run_law.specs.records.Order.IsIn z zs → t ≤ time_of z)
-    → now ∷ rank (departure_body e is) ∷ key m (departure_body e is) ≡ t ∷ rank body ∷ key members body → IsOwnSource s (hs ++ zs) t members body w → w ≡ now
-    ∷ 8 ∷ e.device.0 ∷ e.link.0 ∷ e.cause ∷ []
-own_there s hs zs now m e is it founded t members (kinds.Left device link cause clock) w late place o =
-    o ∙ sym (ap (ranked 8) (sym (ap (λ (l : List ℕ). now ∷ rank (departure_body e is) ∷ l) (body_key m e is)) ∙ place))
-own_there s hs zs now m e is it founded t members (kinds.Lost device link cause) w late place o =
-    let at : now ∷ 8 ∷ e.device.0 ∷ e.link.0 ∷ e.cause ∷ [] ≡ t ∷ 8 ∷ device.0 ∷ link.0 ∷ cause
-    ∷ [] = ap (ranked 8) (sym (ap (λ (l : List ℕ). now ∷ rank (departure_body e is) ∷ l) (body_key m e is)) ∙ place) in
-    let p = same_port e now t device link cause at in
-    elim o [
-      | inl d ↦ d.0 ∙ sym at
-      | inr (inl d) ↦ absurd (not_dispatched s hs zs e it t device link cause d.0 d.1 founded late p.by p.on p.from d.2)
-      | inr (inr l) ↦
-          let giving = is_giving s hs zs e it cause l.1.event p.from l.1.is.there in
-          absurd (subst (λ (b : NoteBody). Gives s.network b device link) l.1.sends (gives_it s hs e it l.1.event device link giving p.by p.on))
-    ]
-own_there s hs zs now m e is it founded t members (kinds.Dropped device link cause reason) w late place o =
-    let at : now ∷ 8 ∷ e.device.0 ∷ e.link.0 ∷ e.cause ∷ [] ≡ t ∷ 8 ∷ device.0 ∷ link.0 ∷ cause
-    ∷ [] = ap (ranked 8) (sym (ap (λ (l : List ℕ). now ∷ rank (departure_body e is) ∷ l) (body_key m e is)) ∙ place) in
-    let p = same_port e now t device link cause at in
-    elim o [
-      | inl a ↦
-          let giving = is_giving s hs zs e it cause a.1.putting p.from a.1.there in
-          absurd (no_launch s a.1.putting (time_of a.1.putting) a.1.putting.note.body device link _
-          (gives_it s hs e it a.1.putting device link giving p.by p.on) a.1.arrives.put)
-      | inr (inl r) ↦
-          let x = r.1.permanent in
-          let giving = is_giving s hs zs e it cause x.arrival p.from x.there in
-          absurd (not_both_ways s device link x.arrival.note.body x.from x.clock x.arrived (gives_it s hs e it x.arrival device link giving p.by p.on) x.waits)
-      | inr (inr d) ↦ d.0 ∙ sym at
-    ]
-own_there s hs zs now m e is it founded t members (kinds.Event line what) w late place o =
-    absurd (other_kind e is 1 (ap second place) (λ f. omega (arith, f), λ f. omega (arith, f), λ f. omega (arith, f)))
-own_there s hs zs now m e is it founded t members (kinds.Arrived device link cause clock) w late place o =
-    absurd (other_kind e is 2 (ap second place) (λ f. omega (arith, f), λ f. omega (arith, f), λ f. omega (arith, f)))
-own_there s hs zs now m e is it founded t members (kinds.Permanent device link cause point verdict) w late place o =
-    absurd (other_kind e is 3 (ap second place) (λ f. omega (arith, f), λ f. omega (arith, f), λ f. omega (arith, f)))
-own_there s hs zs now m e is it founded t members (kinds.Compressed device opened read cycle of_masters verdict) w late place o =
-    absurd (other_kind e is 4 (ap second place) (λ f. omega (arith, f), λ f. omega (arith, f), λ f. omega (arith, f)))
-own_there s hs zs now m e is it founded t members (kinds.Sent device cycle) w late place o =
-    absurd (other_kind e is 5 (ap second place) (λ f. omega (arith, f), λ f. omega (arith, f), λ f. omega (arith, f)))
-own_there s hs zs now m e is it founded t members (kinds.Corrected device cycle by adjustment) w late place o =
-    absurd (other_kind e is 6 (ap second place) (λ f. omega (arith, f), λ f. omega (arith, f), λ f. omega (arith, f)))
-own_there s hs zs now m e is it founded t members (kinds.State device state cause why) w late place o =
-    absurd (other_kind e is 7 (ap second place) (λ f. omega (arith, f), λ f. omega (arith, f), λ f. omega (arith, f)))
-own_there s hs zs now m e is it founded t members (kinds.TtSent device link cause vl cycle) w late place o =
-    absurd (other_kind e is 10 (ap second place) (λ f. omega (arith, f), λ f. omega (arith, f), λ f. omega (arith, f)))
-own_there s hs zs now m e is it founded t members (kinds.Accepted device link cause vl cycle) w late place o =
-    absurd (other_kind e is 11 (ap second place) (λ f. omega (arith, f), λ f. omega (arith, f), λ f. omega (arith, f)))
-own_there s hs zs now m e is it founded t members (kinds.Delivered device link cause vl cycle) w late place o =
-    absurd (other_kind e is 12 (ap second place) (λ f. omega (arith, f), λ f. omega (arith, f), λ f. omega (arith, f)))
-own_there s hs zs now m e is it founded t members (kinds.Clock device reading adjustment state) w late place o =
-    absurd (other_kind e is 14 (ap second place) (λ f. omega (arith, f), λ f. omega (arith, f), λ f. omega (arith, f)))
+module _ {s : Scenario} {hs : List Happening} (zs : List Happening) (now m : ℕ) {e : AtPort} (is : Departure)
+    (it : IsAtPort s hs e) (founded : IsFounded place_of (IsDue s) hs) (t members : ℕ) where
+  pub own_there : (body : NoteBody) (w : List ℕ) → ((z : Happening) → Rattle.run_law.specs.records.Order.IsIn z zs
+      → t ≤ time_of z) → now ∷ rank (departure_body e is) ∷ key m (departure_body e is) ≡ t ∷ rank body
+      ∷ key members body → IsOwnSource s (hs ++ zs) t members body w
+      → w ≡ now ∷ 8 ∷ e.device.0 ∷ e.link.0 ∷ e.cause ∷ []
+  own_there (kinds.Left device link cause clock) w late place o =
+      o ∙ sym (ap (ranked 8) (sym (ap (λ (l : List ℕ). now ∷ rank (departure_body e is) ∷ l) (body_key m e is))
+      ∙ place))
+  own_there (kinds.Lost device link cause) w late place o =
+      let at : now ∷ 8 ∷ e.device.0 ∷ e.link.0 ∷ e.cause ∷ [] ≡ t ∷ 8 ∷ device.0 ∷ link.0 ∷ cause
+      ∷ [] = ap (ranked 8) (sym (ap (λ (l : List ℕ). now ∷ rank (departure_body e is) ∷ l) (body_key m e is))
+      ∙ place) in
+      let p = same_port e now t device link cause at in
+      elim o [
+        | inl d ↦ d.0 ∙ sym at
+        | inr (inl d) ↦ absurd (not_dispatched zs it founded late p.by p.on p.from d.2)
+        | inr (inr l) ↦
+            let giving = is_giving zs it cause l.1.event p.from l.1.is.there in
+            absurd (subst (λ b. Gives s.network b device link) l.1.sends
+            (gives_it it l.1.event device link giving p.by p.on))
+      ]
+  own_there (kinds.Dropped device link cause reason) w late place o =
+      let at : now ∷ 8 ∷ e.device.0 ∷ e.link.0 ∷ e.cause ∷ [] ≡ t ∷ 8 ∷ device.0 ∷ link.0 ∷ cause
+      ∷ [] = ap (ranked 8) (sym (ap (λ (l : List ℕ). now ∷ rank (departure_body e is) ∷ l) (body_key m e is))
+      ∙ place) in
+      let p = same_port e now t device link cause at in
+      elim o [
+        | inl a ↦
+            let giving = is_giving zs it cause a.1.putting p.from a.1.there in
+            absurd (no_launch s a.1.putting (time_of a.1.putting) a.1.putting.note.body device link _
+            (gives_it it a.1.putting device link giving p.by p.on) a.1.arrives.put)
+        | inr (inl r) ↦
+            let x = r.1.permanent in
+            let giving = is_giving zs it cause x.arrival p.from x.there in
+            absurd (not_both_ways s device link x.arrival.note.body x.from x.clock x.arrived
+            (gives_it it x.arrival device link giving p.by p.on) x.waits)
+        | inr (inr d) ↦ d.0 ∙ sym at
+      ]
+  own_there (kinds.Event line what) w late place o =
+      absurd (other_kind e is 1 (ap second place) (λ f. omega (arith, f), λ f. omega (arith, f), λ f. omega (arith, f)))
+  own_there (kinds.Arrived device link cause clock) w late place o =
+      absurd (other_kind e is 2 (ap second place) (λ f. omega (arith, f), λ f. omega (arith, f), λ f. omega (arith, f)))
+  own_there (kinds.Permanent device link cause point verdict) w late place o =
+      absurd (other_kind e is 3 (ap second place) (λ f. omega (arith, f), λ f. omega (arith, f), λ f. omega (arith, f)))
+  own_there (kinds.Compressed device opened read cycle of_masters verdict) w late place o =
+      absurd (other_kind e is 4 (ap second place) (λ f. omega (arith, f), λ f. omega (arith, f), λ f. omega (arith, f)))
+  own_there (kinds.Sent device cycle) w late place o =
+      absurd (other_kind e is 5 (ap second place) (λ f. omega (arith, f), λ f. omega (arith, f), λ f. omega (arith, f)))
+  own_there (kinds.Corrected device cycle by adjustment) w late place o =
+      absurd (other_kind e is 6 (ap second place) (λ f. omega (arith, f), λ f. omega (arith, f), λ f. omega (arith, f)))
+  own_there (kinds.State device state cause why) w late place o =
+      absurd (other_kind e is 7 (ap second place) (λ f. omega (arith, f), λ f. omega (arith, f), λ f. omega (arith, f)))
+  own_there (kinds.TtSent device link cause vl cycle) w late place o =
+      absurd (other_kind e is 10 (ap second place)
+      (λ f. omega (arith, f), λ f. omega (arith, f), λ f. omega (arith, f)))
+  own_there (kinds.Accepted device link cause vl cycle) w late place o =
+      absurd (other_kind e is 11 (ap second place)
+      (λ f. omega (arith, f), λ f. omega (arith, f), λ f. omega (arith, f)))
+  own_there (kinds.Delivered device link cause vl cycle) w late place o =
+      absurd (other_kind e is 12 (ap second place)
+      (λ f. omega (arith, f), λ f. omega (arith, f), λ f. omega (arith, f)))
+  own_there (kinds.Clock device reading adjustment state) w late place o =
+      absurd (other_kind e is 14 (ap second place)
+      (λ f. omega (arith, f), λ f. omega (arith, f), λ f. omega (arith, f)))

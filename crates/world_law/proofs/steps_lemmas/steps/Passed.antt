@@ -13,9 +13,9 @@ use Rattle.world_law.proofs.steps_lemmas.Words.{own_time, pos, reading_for, refl
 use Rattle.run_law.proofs.runs.Places.{before_later_time, before_of_time, earlier_time}
 
 -- no way changes without an event
-ways_stay : (s : Scenario) (mark : List ℕ) (now t : ℕ) (link : LinkId) (way : Way) → HaveBefallen s mark now → now ≤ t
-    → way_now s now link way ≡ way_now s t link way
-ways_stay s mark now t link way b le = grind (arith, last_or, filter_map, no_later_events)
+ways_stay : {s : Scenario} {mark : List ℕ} {now : ℕ} (t : ℕ) (link : LinkId) (way : Way) → HaveBefallen s mark now
+    → now ≤ t → way_now s now link way ≡ way_now s t link way
+ways_stay t link way b le = grind (arith, last_or, filter_map, no_later_events)
 
 -- where nothing is to come, nothing comes from a source of an earlier time
 nothing_full : (s : Scenario) (hs : List Happening) (t : ℕ) → AreSettled s hs [] (t ∷ []) (t ∷ []) t
@@ -26,7 +26,7 @@ nothing_full s hs t = record {
   by = λ front rest z e. absurd (no_part front rest z e);
   full = λ front back y e before none not due worked.
       let at = own_time s (hs ++ front) (time_of y) (members_in y) y.note.body worked.0 worked.1 in
-      absurd (not (inl (earlier_time (time_of y) t (at.0 ∷ at.1) (subst (λ (q : List ℕ). IsBefore q (t ∷ [])) at.2 worked.3))));
+      absurd (not (inl (earlier_time (time_of y) t (at.0 ∷ at.1) (subst (λ q. IsBefore q (t ∷ [])) at.2 worked.3))));
   not_past = λ z i. absurd i;
   worked = λ z i. absurd i;
   begun = λ z i. absurd i;
@@ -36,22 +36,24 @@ nothing_full s hs t = record {
     no_part [] rest z e = cc
     no_part (f ∷ front) rest z e = cc
 
-in_past : {C M : Type 0} (reading : C → ℕ → ℕ) (stands : M → Network → DeviceId → Node → Type 0) (s : Scenario) (world : World C M) (notes : List Note)
-    (old : Stands reading stands s world notes) (h : Happening) → IsIn h (happenings s.network notes) → time_of h ≤ world.now
-in_past reading stands s world notes old h i = (are_past reading stands s world notes old).past h i
+in_past : {C M : Type 0} {reading : C → ℕ → ℕ} {stands : M → Network → DeviceId → Node → Type 0} {s : Scenario}
+    {world : World C M} {notes : List Note} (old : Stands reading stands s world notes) (h : Happening)
+    → IsIn h (happenings s.network notes) → time_of h ≤ world.now
+in_past old h i = (are_past old).past h i
 
 -- the world stands at the later time, where its devices are kept there
-pub passed_but_devices : {C M : Type 0} (reading : C → ℕ → ℕ) (stands : M → Network → DeviceId → Node → Type 0) (s : Scenario) (world : World C M)
-    (notes : List Note) (t : ℕ) (old : Stands reading stands s world notes)
+pub passed_but_devices : {C M : Type 0} {reading : C → ℕ → ℕ} {stands : M → Network → DeviceId → Node → Type 0}
+    {s : Scenario} {world : World C M} {notes : List Note} (t : ℕ) (old : Stands reading stands s world notes)
     → world.settled ≡ [] → world.now < t → t ≤ 2 ^ 60 → world.ended ≡ false → NothingBefore stands s world (t ∷ [])
     → NoSourceBefore s (happenings s.network notes) old.cursor (t ∷ [])
-    → ((device : DeviceId) → device.0 < length s.network.device → (machine : M) × (slice_get world.machines device.0 ≡ Some machine)
+    → ((device : DeviceId) → device.0 < length s.network.device
+    → (machine : M) × (slice_get world.machines device.0 ≡ Some machine)
     × IsHeld stands s (happenings s.network notes) [] (t ∷ []) t device machine)
     → StandsBehind reading stands s (record world { now = t; early = true }) notes (t ∷ [])
-passed_but_devices reading stands s world notes t old settled lt few running none first devices =
+passed_but_devices {stands} {s} {world} {notes} t old settled lt few running none first devices =
     let hs = happenings s.network notes in
     let now = world.now in
-    let are : AreSettled s hs [] old.mark old.cursor now = subst (λ (l : List Happening). AreSettled s hs l old.mark old.cursor now) settled old.are in
+    let are : AreSettled s hs [] old.mark old.cursor now = subst (λ l. AreSettled s hs l old.mark old.cursor now) settled old.are in
     let next : now + 1 ≤ t = omega (arith, lt) in
     let over : (p : List ℕ) → IsBefore p old.cursor → IsBefore p (t ∷ []) = λ p b. before_later_time p (now + 1) t next (old.not_later p b) in
     let told : world.pending ≡ false = elim (cases_Bool world.pending) [ inr closed ↦ closed | inl open_ ↦ absurd (none.befell open_ (inl lt)) ] in
@@ -85,24 +87,24 @@ passed_but_devices reading stands s world notes t old settled lt few running non
         clocks = λ device in_it. let own = old.clocks device in_it in (own.0, own.1, λ x late. own.2 x (omega (arith, le, late)));
         broken = λ device in_it. old.broken device in_it ∙ ap Some (sym (no_later_breaks s old.mark now t device old.befallen le));
         ways = record {
-          up = λ link in_it. old.ways.up link in_it ∙ ap Some (ways_stay s old.mark now t link Up old.befallen le);
-          down = λ link in_it. old.ways.down link in_it ∙ ap Some (ways_stay s old.mark now t link Down old.befallen le);
+          up = λ link in_it. old.ways.up link in_it ∙ ap Some (ways_stay t link Up old.befallen le);
+          down = λ link in_it. old.ways.down link in_it ∙ ap Some (ways_stay t link Down old.befallen le);
         };
         room = old.room;
         known = old.known;
         devices = λ device within.
             let m = devices device within in
-            (m.0, m.1, subst (λ (l : List Happening). IsHeld stands s hs l (t ∷ []) t device m.0) (sym settled) m.2);
+            (m.0, m.1, subst (λ l. IsHeld stands s hs l (t ∷ []) t device m.0) (sym settled) m.2);
         early = λ fresh p b. before_of_time p t (2 ∷ []) b;
         untold = record {
           done = λ closed number h it.
-              let early = in_past reading stands s world notes old h (numbered_in hs number h it.there) in
+              let early = in_past old h (numbered_in hs number h it.there) in
               let at = it.same_time in
               absurd (omega (arith, early, at, lt));
           none = old.untold.none;
           waits = λ open_. absurd (let bad : false ≡ true = sym told ∙ open_ in cc);
           early = λ open_. absurd (let bad : false ≡ true = sym told ∙ open_ in cc);
-          real = λ e i. absurd (subst (λ (l : List _). IsIn e l) (old.untold.none told) i);
+          real = λ e i. absurd (subst (λ l. IsIn e l) (old.untold.none told) i);
           all = λ open_. absurd (let bad : false ≡ true = sym told ∙ open_ in cc);
           in_order = old.untold.in_order;
         };
@@ -128,7 +130,7 @@ passed_but_devices reading stands s world notes t old settled lt few running non
               (λ u r b. not u r (over (ripe_place u e) b));
         };
         stored = old.stored;
-        are = subst (λ (l : List Happening). AreSettled s hs l (t ∷ []) (t ∷ []) t) (sym settled) (nothing_full s hs t);
+        are = subst (λ l. AreSettled s hs l (t ∷ []) (t ∷ []) t) (sym settled) (nothing_full s hs t);
         shown = λ device in_it ended. absurd (let bad : false ≡ true = sym running ∙ ended in cc);
       },
       refl,
@@ -144,11 +146,14 @@ not_now t device (inr b) = b.1
 too_late : (z : ℤ) (now t : ℕ) → z ≡ pos t → z ≤ℤ pos now → now < t → ⊥
 too_late z now t e le lt = omega (arith, ints, e, le, lt)
 
-ready_later : (s : Scenario) (device : DeviceId) (node : Node) (now t : ℕ) → IsReadyAt (s.reading device) s.network device node now
-    → IsSteady (s.reading device) (amount s.network.precision) → s.network.precision.0 ≡ pos (amount s.network.precision) → now < t
-    → ((task : Task) → IsPending s.network device node task → (x : ℕ) → x < t → pos (s.reading device x) <ℤ reading_for s.network node task)
+ready_later : (s : Scenario) {device : DeviceId} {node : Node} {now : ℕ} (t : ℕ)
+    → IsReadyAt (s.reading device) s.network device node now
+    → IsSteady (s.reading device) (amount s.network.precision)
+    → s.network.precision.0 ≡ pos (amount s.network.precision) → now < t
+    → ((task : Task) → IsPending s.network device node task → (x : ℕ) → x < t
+    → pos (s.reading device x) <ℤ reading_for s.network node task)
     → IsReadyAt (s.reading device) s.network device node t
-ready_later s device node now t ready steady wide lt undone = record {
+ready_later s {device} t ready steady wide lt undone = record {
   time = let early = ready.time in omega (arith, ints, early, lt);
   begun = ready.begun;
   last = ready.last;
@@ -167,114 +172,123 @@ pub no_task : (network : Network) (device : DeviceId) (node : Node) (task : Task
 no_task network device node (emitting sent) broken p = let bad : true ≡ false = sym broken ∙ p.0 in cc
 no_task network device node (doing deed) broken p = let bad : true ≡ false = sym broken ∙ p.0 in cc
 
-pub device_passes : {M : Type 0} (stands : M → Network → DeviceId → Node → Type 0) (s : Scenario) (hs : List Happening) (mark cursor : List ℕ) (now t : ℕ)
-    (device : DeviceId) (machine : M) (k : IsKept stands s hs [] cursor now device machine)
-    → now < t → IsSteady (s.reading device) (amount s.network.precision) → pos 0 ≤ℤ s.network.precision.0 → HaveBefallen s mark now → IsPast hs now
-    → IsWorked hs cursor now → ((p : List ℕ) → IsBefore p cursor → IsBefore p ((now + 1) ∷ []))
-    → ((task : Task) → IsPending s.network device k.node task → (x : ℕ) → now ≤ x → x < t → pos (s.reading device x) <ℤ reading_for s.network k.node task)
-    → IsKept stands s hs [] (t ∷ []) t device machine
-device_passes stands s hs mark cursor now t device machine k lt steady precise befallen past worked later idle =
-    let rest = at_rest stands s hs mark cursor now device machine k befallen past worked (record { later = later; falls = steady.never_falls }) (λ task p. idle task p now (omega arith) lt) in
-    let from = rest.from in
-    let few = rest.soon in
-    let le : from ≤ t = omega (arith, lt, few) in
-    let off_later = not_on_after s mark now t device befallen lt in
-    let as_broken = no_later_breaks s mark now t device befallen (omega (arith, lt)) ∙ sym (no_later_breaks s mark now from device befallen rest.le) in
-    let still : IsStill hs device from t = λ h i after before. rest.still h i after in
-    let u : IsUnmoved s hs device from t = record {
-      le = le;
-      still = still;
-      not_on = rest.off;
-      not_on_later = off_later;
-      not_broken = as_broken;
-      never_falls = steady.never_falls;
-    } in
-    let undone : (task : Task) → IsPending s.network device k.node task → (x : ℕ) → x < t → pos (s.reading device x) <ℤ reading_for s.network k.node task =
-    λ task p x before.
-    elim (cases_lt x now) [ inl earlier ↦ k.ready.undone task p x earlier | inr after ↦ idle task p x after before ] in
-    let wide = natural s.network.precision.0 precise in
-    let sound : k.node.broken ≡ false = rest.left.counted.broken ∙ no_later_breaks s mark now from device befallen rest.le ∙ k.sound in
-    let whole : hs ≡ hs ++ [] = sym (append-nil hs) in
-    let left : IsLeft s hs device t k.node = passes_if s hs device from t k.node le still rest.off off_later as_broken (λ timed.
-    elim (cases_Bool (has_cleared s hs device from from)) [
-      | inl did ↦ cleared_on s hs device from t u did ∙ sym did
-      | inr not_yet ↦
-          elim (cases_Bool (has_cleared s hs device t t)) [
-            | inr still_not ↦ still_not ∙ sym not_yet
-            | inl cleared ↦
-                let task = had_come_before s hs device from t k.node u rest.left rest.done timed not_yet cleared sound in
-                let below = idle task.0 task.1 (t - 1) (omega (arith, lt)) (omega (arith, lt)) in
-                absurd (never_both _ _ below task.2)
-          ]
-    ]) rest.left in
-    let done : HasDoneFrom s.network (s.reading device) device k.node (changed_at hs device t) t t = record {
-      undone = λ deed w x after before. undone (doing deed) (sound, w) x before;
-      done = λ deed there.
-          let x = rest.done.done deed there in
-          let change = change_still hs device from t le still in
-          (x.0, omega (arith, x.1, change), omega (arith, x.2, le), x.3);
-    } in
-    let sent : HasSentFrom s device k.node t t = record {
-      unsent = λ c w x before. undone (emitting c) (sound, w) x before;
-      sent = λ c there. let x = rest.sent.sent c there in (x.0, omega (arith, x.1, le), x.2);
-    } in
-    record {
-      node = k.node;
-      is = k.is;
-      sound = no_later_breaks s mark now t device befallen (omega (arith, lt)) ∙ k.sound;
-      up = t;
-      acted = inl (refl, λ task b a. absurd (not_now t device (acts_before s.network t device task (t ∷ []) b)));
-      told = λ over. absurd (too_soon t over);
-      left = subst (λ (l : List Happening). IsLeft s l device t k.node) whole left;
-      taken = k.taken;
-      worked = worked_by s device k.node (changed_at (hs ++ []) device t) t (t ∷ [])
-          (record {
-            done = subst (λ (l : List Happening). HasDoneFrom s.network (s.reading device) device k.node (changed_at l device t) t t) whole done;
-            sent = sent;
-          }) (λ x task early. inl early);
-      bare = k.bare;
-      ready = ready_later s device k.node now t k.ready steady wide lt undone;
-      turned = λ on. absurd (let bad : false ≡ true = sym off_later ∙ on in cc);
-      still = λ same h i at. let early = past.past h (subst (λ (l : List Happening). IsIn h l) (sym whole) i) in absurd (omega (arith, early, at, lt));
-      cleared = k.cleared;
-      phase = λ at. let early = k.ready.time in absurd (too_late _ now t at early lt);
-    }
-  where
-    too_soon : (t : ℕ) → t ≡ t + 1 → ⊥
-    too_soon t e = omega (arith, e)
+module _ {M : Type 0} (stands : M → Network → DeviceId → Node → Type 0) (s : Scenario) (hs : List Happening)
+    (mark cursor : List ℕ) (now t : ℕ) (device : DeviceId) (machine : M) where
+  pub device_passes : (k : IsKept stands s hs [] cursor now device machine) → now < t
+      → IsSteady (s.reading device) (amount s.network.precision) → pos 0 ≤ℤ s.network.precision.0
+      → HaveBefallen s mark now → IsPast hs now → IsWorked hs cursor now
+      → ((p : List ℕ) → IsBefore p cursor → IsBefore p ((now + 1) ∷ []))
+      → ((task : Task) → IsPending s.network device k.node task → (x : ℕ) → now ≤ x → x < t
+      → pos (s.reading device x) <ℤ reading_for s.network k.node task)
+      → IsKept stands s hs [] (t ∷ []) t device machine
+  device_passes k lt steady precise befallen past worked later idle =
+      let rest = at_rest stands s hs mark cursor now device machine k befallen past worked
+      (record { later = later; falls = steady.never_falls }) (λ task p. idle task p now (omega arith) lt) in
+      let from = rest.from in
+      let few = rest.soon in
+      let le : from ≤ t = omega (arith, lt, few) in
+      let off_later = not_on_after t device befallen lt in
+      let as_broken = no_later_breaks s mark now t device befallen (omega (arith, lt)) ∙ sym
+      (no_later_breaks s mark now from device befallen rest.le) in
+      let still : IsStill hs device from t = λ h i after before. rest.still h i after in
+      let u : IsUnmoved s hs device from t = record {
+        le = le;
+        still = still;
+        not_on = rest.off;
+        not_on_later = off_later;
+        not_broken = as_broken;
+        never_falls = steady.never_falls;
+      } in
+      let undone : (task : Task) → IsPending s.network device k.node task → (x : ℕ) → x < t → pos
+      (s.reading device x) <ℤ reading_for s.network k.node task =
+      λ task p x before.
+      elim (cases_lt x now) [ inl earlier ↦ k.ready.undone task p x earlier | inr after ↦ idle task p x after before ] in
+      let wide = natural s.network.precision.0 precise in
+      let sound : k.node.broken ≡ false =
+      rest.left.counted.broken ∙ no_later_breaks s mark now from device befallen rest.le ∙ k.sound in
+      let whole : hs ≡ hs ++ [] = sym (append-nil hs) in
+      let left : IsLeft s hs device t k.node = passes_if t le still rest.off off_later as_broken (λ timed.
+      elim (cases_Bool (has_cleared s hs device from from)) [
+        | inl did ↦ cleared_on u did ∙ sym did
+        | inr not_yet ↦
+            elim (cases_Bool (has_cleared s hs device t t)) [
+              | inr still_not ↦ still_not ∙ sym not_yet
+              | inl cleared ↦
+                  let task = had_come_before u rest.left rest.done timed not_yet cleared sound in
+                  let below = idle task.0 task.1 (t - 1) (omega (arith, lt)) (omega (arith, lt)) in
+                  absurd (never_both _ _ below task.2)
+            ]
+      ]) rest.left in
+      let done : HasDoneFrom s.network (s.reading device) device k.node (changed_at hs device t) t t = record {
+        undone = λ deed w x after before. undone (doing deed) (sound, w) x before;
+        done = λ deed there.
+            let x = rest.done.done deed there in
+            let change = change_still hs device from t le still in
+            (x.0, omega (arith, x.1, change), omega (arith, x.2, le), x.3);
+      } in
+      let sent : HasSentFrom s device k.node t t = record {
+        unsent = λ c w x before. undone (emitting c) (sound, w) x before;
+        sent = λ c there. let x = rest.sent.sent c there in (x.0, omega (arith, x.1, le), x.2);
+      } in
+      record {
+        node = k.node;
+        is = k.is;
+        sound = no_later_breaks s mark now t device befallen (omega (arith, lt)) ∙ k.sound;
+        up = t;
+        acted = inl (refl, λ task b a. absurd (not_now t device (acts_before s.network t device task (t ∷ []) b)));
+        told = λ over. absurd (too_soon t over);
+        left = subst (λ l. IsLeft s l device t k.node) whole left;
+        taken = k.taken;
+        worked = worked_by {s = s} {device = device} {node = k.node} {changed = changed_at (hs ++ []) device t} {t = t} (t ∷ [])
+            (record {
+              done = subst (λ l. HasDoneFrom s.network (s.reading device) device k.node
+                  (changed_at l device t) t t) whole done;
+              sent = sent;
+            }) (λ x task early. inl early);
+        bare = k.bare;
+        ready = ready_later s t k.ready steady wide lt undone;
+        turned = λ on. absurd (let bad : false ≡ true = sym off_later ∙ on in cc);
+        still = λ same h i at. let early = past.past h (subst (λ l. IsIn h l) (sym whole) i) in
+            absurd (omega (arith, early, at, lt));
+        cleared = k.cleared;
+        phase = λ at. let early = k.ready.time in absurd (too_late _ now t at early lt);
+      }
+    where
+      too_soon : (t : ℕ) → t ≡ t + 1 → ⊥
+      too_soon t e = omega (arith, e)
 
-    never_both : (a b : ℤ) → a <ℤ b → b ≤ℤ a → ⊥
-    never_both a b lt le = omega (arith, ints, lt, le)
+      never_both : (a b : ℤ) → a <ℤ b → b ≤ℤ a → ⊥
+      never_both a b lt le = omega (arith, ints, lt, le)
 
-out_passes : {M : Type 0} (stands : M → Network → DeviceId → Node → Type 0) (s : Scenario) (hs : List Happening) (mark cursor : List ℕ) (now t : ℕ)
-    (device : DeviceId) (machine : M) (k : IsOut stands s hs [] cursor now device machine)
-    → now < t → HaveBefallen s mark now → IsPast hs now → IsOut stands s hs [] (t ∷ []) t device machine
-out_passes stands s hs mark cursor now t device machine k lt befallen past =
-    grind (arith, time_of, append-nil, up_to, all_up_to, no_later_breaks, state_after, adjustment_after, ints, no_task, too_late)
+  out_passes : (k : IsOut stands s hs [] cursor now device machine) → now < t → HaveBefallen s mark now
+      → IsPast hs now → IsOut stands s hs [] (t ∷ []) t device machine
+  out_passes k lt befallen past =
+      grind (arith, time_of, append-nil, up_to, all_up_to, no_later_breaks, state_after, adjustment_after, ints, no_task, too_late)
 
-held_passes : {M : Type 0} (stands : M → Network → DeviceId → Node → Type 0) (s : Scenario) (hs : List Happening) (mark cursor : List ℕ) (now t : ℕ)
-    (device : DeviceId) (machine : M) → IsHeld stands s hs [] cursor now device machine
-    → now < t → IsSteady (s.reading device) (amount s.network.precision) → pos 0 ≤ℤ s.network.precision.0 → HaveBefallen s mark now → IsPast hs now
-    → IsWorked hs cursor now → ((p : List ℕ) → IsBefore p cursor → IsBefore p ((now + 1) ∷ []))
-    → ((node : Node) → stands machine s.network device node → (task : Task) → IsPending s.network device node task → (x : ℕ) → now ≤ x → x < t
-    → pos (s.reading device x) <ℤ reading_for s.network node task) → IsHeld stands s hs [] (t ∷ []) t device machine
-held_passes stands s hs mark cursor now t device machine (inl k) lt steady precise befallen past worked later idle =
-    inl (device_passes stands s hs mark cursor now t device machine k lt steady precise befallen past worked later (idle k.node k.is))
-held_passes stands s hs mark cursor now t device machine (inr k) lt steady precise befallen past worked later idle =
-    inr (out_passes stands s hs mark cursor now t device machine k lt befallen past)
+  held_passes : IsHeld stands s hs [] cursor now device machine → now < t
+      → IsSteady (s.reading device) (amount s.network.precision) → pos 0 ≤ℤ s.network.precision.0
+      → HaveBefallen s mark now → IsPast hs now → IsWorked hs cursor now
+      → ((p : List ℕ) → IsBefore p cursor → IsBefore p ((now + 1) ∷ []))
+      → ((node : Node) → stands machine s.network device node → (task : Task) → IsPending s.network device node task
+      → (x : ℕ) → now ≤ x → x < t → pos (s.reading device x) <ℤ reading_for s.network node task)
+      → IsHeld stands s hs [] (t ∷ []) t device machine
+  held_passes (inl k) lt steady precise befallen past worked later idle =
+      inl (device_passes k lt steady precise befallen past worked later (idle k.node k.is))
+  held_passes (inr k) lt steady precise befallen past worked later idle =
+      inr (out_passes k lt befallen past)
 
 pub passed_step : {C M : Type 0} (reading : C → ℕ → ℕ) (stands : M → Network → DeviceId → Node → Type 0) → PassedStep reading stands
 passed_step {C} {M} reading stands s world notes t old settled lt few running none =
     let hs = happenings s.network notes in
     let told : world.pending ≡ false = elim (cases_Bool world.pending) [ inr closed ↦ closed | inl open_ ↦ absurd (none.befell open_ (inl lt)) ] in
-    let first = nothing_comes_before reading stands s world notes (t ∷ []) old (λ z i. absurd (subst (λ (l : List Happening). IsIn z l) settled i)) none in
-    passed_but_devices reading stands s world notes t old settled lt few running none first (λ device within.
+    let first = nothing_comes_before reading stands s world notes (t ∷ []) old (λ z i. absurd (subst (λ l. IsIn z l) settled i)) none in
+    passed_but_devices t old settled lt few running none first (λ device within.
     let m = old.devices device within in (
       m.0,
       m.1,
       held_passes stands s hs old.mark old.cursor world.now t device m.0
-          (subst (λ (l : List Happening). IsHeld stands s hs l old.cursor world.now device m.0) settled m.2) lt (old.steady device) old.precise old.befallen
-          (are_past reading stands s world notes old) (old.untold.done told) old.not_later
+          (subst (λ l. IsHeld stands s hs l old.cursor world.now device m.0) settled m.2) lt (old.steady device) old.precise old.befallen
+          (are_past old) (old.untold.done told) old.not_later
           (λ node is task p x from before. elim (cases_int (pos (s.reading device x)) (reading_for s.network node task)) [
             | inl less ↦ less
             | inr ge ↦ absurd (none.acting device m.0 node task m.1 is p x from ge (inl before))
