@@ -18,28 +18,30 @@ of_correction : (node : Node) (moment : Moment) (heard : Summary) (cycle : _) (v
 of_correction node moment heard cycle (Corrected by) = refl
 of_correction node moment heard cycle other = refl
 
--- a device that acts is as sound as before
-pub still_sound : (network : Network) (device : DeviceId) (node : Node) (moment : Moment) (act : Act) (new : Node)
-    → IsActOf network device node moment act new → new.broken ≡ node.broken
-still_sound network device node moment (acts.Send frame) new (cycle, first, of_frame, is) = ap (λ (n : Node). n.broken) is
-still_sound network device node moment (acts.Dispatch row cycle) new (first, is) = ap (λ (n : Node). n.broken) is
-still_sound network device node moment (acts.Emit sent heard) new (first, so, is) =
-    ap (λ (n : Node). n.broken) is ∙ of_emission network device node moment sent heard
-still_sound network device node moment (acts.Correct cycle verdict) new (first, (heard, comes, is)) =
-    ap (λ (n : Node). n.broken) is ∙ of_correction node moment heard cycle verdict
+module _ (network : Network) (device : DeviceId) (node : Node) where
+  -- a device that acts is as sound as before
+  pub still_sound : (moment : Moment) (act : Act) (new : Node) → IsActOf network device node moment act new
+      → new.broken ≡ node.broken
+  still_sound moment (acts.Send frame) new (cycle, first, of_frame, is) = ap (λ (n : Node). n.broken) is
+  still_sound moment (acts.Dispatch row cycle) new (first, is) = ap (λ (n : Node). n.broken) is
+  still_sound moment (acts.Emit sent heard) new (first, so, is) =
+      ap (λ (n : Node). n.broken) is ∙ of_emission network device node moment sent heard
+  still_sound moment (acts.Correct cycle verdict) new (first, (heard, comes, is)) =
+      ap (λ (n : Node). n.broken) is ∙ of_correction node moment heard cycle verdict
 
--- ---- what is due
+  -- ---- what is due
 
--- what is due is reached: something is
-pub some_due : (network : Network) (device : DeviceId) (node : Node) (due : Option Units) (reading : ℤ) → IsDueReading network device node due
-    → IsSomeAnd due (λ at. at.0 ≤ℤ reading) → HasDue network device node reading
-some_due network device node None reading is reached = absurd reached
-some_due network device node (Some at) reading is reached = (is.0.0, is.0.1, subst (λ (z : ℤ). z ≤ℤ reading) (sym is.0.2) reached)
+  -- what is due is reached: something is
+  pub some_due : (due : Option Units) (reading : ℤ) → IsDueReading network device node due
+      → IsSomeAnd due (λ at. at.0 ≤ℤ reading) → HasDue network device node reading
+  some_due None reading is reached = absurd reached
+  some_due (Some at) reading is reached = (is.0.0, is.0.1, subst (λ z. z ≤ℤ reading) (sym is.0.2) reached)
 
--- it is not: nothing is
-pub none_due : (network : Network) (device : DeviceId) (node : Node) (due : Option Units) (reading : ℤ) → IsDueReading network device node due
-    → IfSome due (λ at. reading <ℤ at.0) → (task : Task) → IsPending network device node task → reading <ℤ reading_for network node task
-none_due network device node None reading is later task pending = absurd (is task pending)
-none_due network device node (Some at) reading is later task pending =
-    let least = is.1 task pending in
-    omega (arith, ints, later, least)
+  -- it is not: nothing is
+  pub none_due : (due : Option Units) (reading : ℤ) → IsDueReading network device node due
+      → IfSome due (λ at. reading <ℤ at.0) → (task : Task) → IsPending network device node task
+      → reading <ℤ reading_for network node task
+  none_due None reading is later task pending = absurd (is task pending)
+  none_due (Some at) reading is later task pending =
+      let least = is.1 task pending in
+      omega (arith, ints, later, least)

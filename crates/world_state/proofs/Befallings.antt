@@ -21,8 +21,8 @@ module _ (network : Network) (broken : List Bool) (ups : List WayState) (time : 
   settled_more [] b old mid new before between after are one put = (
     new,
     after,
-    subst (λ (l : List Settled). IsSomePut (record_of network broken ups b.number b.what) l new) are.0 one,
-    subst (λ (l : List (Entry Content)). IsPutOn (entry_of network ups time b.number b.what) l after) are.1 put,
+    subst (λ l. IsSomePut (record_of network broken ups b.number b.what) l new) are.0 one,
+    subst (λ l. IsPutOn (entry_of network ups time b.number b.what) l after) are.1 put,
     (refl, refl),
   )
   settled_more (f ∷ befell) b old mid new before between after are one put =
@@ -49,11 +49,11 @@ loop_step network broken ups time xs ys i b m what old mid new before between af
     let whats : what ≡ b.what = of ∙ ap (λ (x : Befallen). x.what) same in
     let next : i + 1 ≡ suc i = omega arith in
     let at : get_or xs i b ≡ b = sym (agree i b (omega arith)) ∙ sym is in
-    subst (λ (l : List Befallen). AreSettledBy network broken ups time l old new before after)
+    subst (λ l. AreSettledBy network broken ups time l old new before after)
     (sym (ap (λ (n : ℕ). take n xs) next ∙ take_next network broken ups time xs i b lt ∙ ap (λ (y : Befallen). take i xs ++ y ∷ []) at))
     (settled_more network broken ups time (take i xs) b old mid new before between after are
-    (subst (λ (o : Option Settled). IsSomePut o mid new) (one_is ∙ ap (record_of network broken ups b.number) whats) settles)
-    (subst (λ (o : Option (Entry Content)). IsPutOn o between after) (put_is ∙ ap (entry_of network ups time b.number) whats) puts))
+    (subst (λ o. IsSomePut o mid new) (one_is ∙ ap (record_of network broken ups b.number) whats) settles)
+    (subst (λ o. IsPutOn o between after) (put_is ∙ ap (entry_of network ups time b.number) whats) puts))
 
 -- ---- what an event puts under way
 
@@ -129,14 +129,14 @@ module _ (network : Network) (range : IsInRange network) (broken : List Bool) (u
         sound_with network old new e are put (it.rank ∙ sym it.kind) it.device it.link
             (λ d there same. fresh d there (ap (λ (l : List ℕ). get_or l 1 0) same ∙ it.rank) (ap (λ (l : List ℕ). get_or l 4 0) same ∙ it.cause)),
         λ d there. elim (in_permuted new (e ∷ old) d (IsPermutation-sym _ _ put) there) [
-          | inl is ↦ subst (λ (n : ℕ). n < given) (sym (ap (λ (x : Entry Content). x.place.cause) is ∙ it.cause)) lt
+          | inl is ↦ subst (λ n. n < given) (sym (ap (λ (x : Entry Content). x.place.cause) is ∙ it.cause)) lt
           | inr rest ↦ below d rest
         ],
       )
 
   put_fresh : (number other : ℕ) (o : Option (Entry Content)) (old new : List (Entry Content))
       → ((e : Entry Content) → o ≡ Some e → IsSendOf network number e) → IsPutOn o old new → number < other → IsFreshOf old other → IsFreshOf new other
-  put_fresh number other None old new of put lt fresh = subst (λ (l : List (Entry Content)). IsFreshOf l other) (sym put) fresh
+  put_fresh number other None old new of put lt fresh = subst (λ l. IsFreshOf l other) (sym put) fresh
   put_fresh number other (Some e) old new of put lt fresh = λ d there rank cause.
       elim (in_permuted new (e ∷ old) d (IsPermutation-sym _ _ put) there) [
         | inl is ↦ let own = ap (λ (x : Entry Content). x.place.cause) is ∙ (of e refl).cause in omega (arith, own, cause, lt)

@@ -11,13 +11,14 @@ set_there xs i j x y apart found =
     slice_get-get_or (set xs i x) j y (let lt = slice_get_within xs j y found in omega (arith, lt, length-set xs i x))
     ∙ ap Some (get_or-set_other xs i j x y apart ∙ get_or_from_slice_get xs j y y found)
 
--- another device is as it was
-pub on_other : (other : DeviceId) (turned : Bool) (device : DeviceId) (node : Node) → device.0 ≢ other.0 → befallen_node turned (On other) device node ≡ node
-on_other other turned device node apart = ap (λ (b : Bool). if b && not node.broken then node_turned_on node else node) (ne_eqb device.0 other.0 apart)
+module _ (other : DeviceId) (turned : Bool) (device : DeviceId) (node : Node) (apart : device.0 ≢ other.0) where
+  -- another device is as it was
+  pub on_other : befallen_node turned (On other) device node ≡ node
+  on_other = ap (λ (b : Bool). if b && not node.broken then node_turned_on node else node)
+      (ne_eqb device.0 other.0 apart)
 
-pub break_other : (other : DeviceId) (turned : Bool) (device : DeviceId) (node : Node) → device.0 ≢ other.0
-    → befallen_node turned (Break other) device node ≡ node
-break_other other turned device node apart = grind (arith, not, ne_eqb)
+  pub break_other : befallen_node turned (Break other) device node ≡ node
+  break_other = grind (arith, not, ne_eqb)
 
 -- one of the machines is called, and the others stay
 pub one_befalls : {M : Type 0} (keeps : M → Network → DeviceId → Node → Type 0) (what : What) (at : DeviceId) (machines : List M) (after : M)

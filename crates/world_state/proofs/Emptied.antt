@@ -24,14 +24,15 @@ kept_none k (w ∷ ws) same =
 abbrev pub QueuedFrom : ℕ → List (Queue Waits) → Type 0
 QueuedFrom at queues = (k : ℕ) (q : Queue Waits) (e : Entry Waits) → slice_get queues k ≡ Some q → IsIn e q.entries → e.content.device.0 ≡ at + k
 
-own_of : (at : ℕ) (q : Queue Waits) (queues : List (Queue Waits)) → QueuedFrom at (q ∷ queues) → (w : Waits) → IsIn w (frames_of q) → w.device.0 ≡ at
-own_of at q queues queued w there =
-    let e = from_map content_of q.entries w there in
-    let own = queued 0 q e.0 refl e.1 in
-    ap (λ (x : Waits). x.device.0) e.2 ∙ own ∙ omega arith
+module _ (at : ℕ) (q : Queue Waits) (queues : List (Queue Waits)) (queued : QueuedFrom at (q ∷ queues)) where
+  own_of : (w : Waits) → IsIn w (frames_of q) → w.device.0 ≡ at
+  own_of w there =
+      let e = from_map content_of q.entries w there in
+      let own = queued 0 q e.0 refl e.1 in
+      ap (λ (x : Waits). x.device.0) e.2 ∙ own ∙ omega arith
 
-rest_of : (at : ℕ) (q : Queue Waits) (queues : List (Queue Waits)) → QueuedFrom at (q ∷ queues) → QueuedFrom (at + 1) queues
-rest_of at q queues queued k r e there inside = let own = queued (suc k) r e there inside in omega (arith, own)
+  rest_of : QueuedFrom (at + 1) queues
+  rest_of k r e there inside = let own = queued (suc k) r e there inside in omega (arith, own)
 
 -- where no queue is the device's, all are kept
 pub kept_beyond : (at d : ℕ) (queues : List (Queue Waits)) → QueuedFrom at queues → (d < at) ⊎ (at + length queues ≤ d)
@@ -58,7 +59,7 @@ emptied at zero (q ∷ queues) was is queued there empty =
     ∙ kept_beyond (at + 1) (at + 0) queues (rest_of at q queues queued) (inl (omega arith)))
 emptied at (suc k) (q ∷ queues) was is queued there empty =
     ap (λ (l : List Waits). frames_of q ++ l) (emptied (at + 1) k queues was is (rest_of at q queues queued) there empty
-    ∙ ap (λ (n : ℕ). filter (keeps_it n) (frames_in queues)) (omega arith))
+    ∙ ap (λ n. filter (keeps_it n) (frames_in queues)) (omega arith))
     ∙ ap (λ (l : List Waits). l ++ filter (keeps_it (at + suc k)) (frames_in queues))
     (sym (kept_all (at + suc k) (frames_of q) (λ w here same. let own = own_of at q queues queued w here in omega (arith, own, same))))
     ∙ sym (filter-append (keeps_it (at + suc k)) (frames_of q) (frames_in queues))

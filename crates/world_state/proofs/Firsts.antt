@@ -6,8 +6,8 @@ use Rattle.{std.proofs.Common.{◌∷◌, ◌≡◌, List, arith, get_or, subst}
 pub by_numbers : (p q : DueAt) → numbers_of p ≡ numbers_of q → p ≡ q
 by_numbers p q same = grind (arith, get_or)
 
-pub one_first : {T : Type 0} (entries : List (Entry T)) (p q : DueAt) → IsFirst entries p → IsFirst entries q → p ≡ q
-one_first entries p q a b = grind (arith, either_way, by_numbers)
+pub one_first : {T : Type 0} {entries : List (Entry T)} {p q : DueAt} → IsFirst entries p → IsFirst entries q → p ≡ q
+one_first a b = grind (arith, either_way, by_numbers)
 
 -- what is at a place, in other words
 pub in_words : {T : Type 0} (old new : List (Entry T)) (e : Entry T) (p : DueAt) (k : T) → e.place ≡ p → e.content ≡ k → IsPermutation old (e ∷ new)

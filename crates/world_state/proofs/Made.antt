@@ -32,6 +32,7 @@ made_type network vl cycle zeros range none = by (slice_get network.vl vl.0) ref
         ne_eqb (field 12 2 (tt_frame_by network v cycle)) pcf_type
         (λ same. in_range.ethertype_other (sym (type_shown network v cycle in_range.ethertype_most) ∙ same))
 
-pub made_signal : (network : Network) (vl : VlId) (cycle : ℕ) → IsInRange network
+pub made_signal : {network : Network} (vl : VlId) (cycle : ℕ) → IsInRange network
     → signal_of (octets_of network (Made vl cycle)) ≡ timed (octets_of network (Made vl cycle))
-made_signal network vl cycle range = plain_signal (octets_of network (Made vl cycle)) (made_type network vl cycle (replicate 60 0) range refl)
+made_signal {network} vl cycle range =
+    plain_signal (octets_of network (Made vl cycle)) (made_type network vl cycle (replicate 60 0) range refl)

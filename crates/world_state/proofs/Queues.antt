@@ -1,5 +1,5 @@
 -- Queues of devices: one more frame in one, the first taken out, and the first of those that wait at a device.
-use Rattle.{net_plan.specs.declared.ids.DeviceId.DeviceId, world_state.specs.{Ripening.{IsReached, ripe_numbers}, declared.queue.{DueAt.DueAt, Entry.Entry}}}
+use Rattle.{net_plan.specs.declared.ids.DeviceId.DeviceId, world_state.specs.{Ripening.{IsReached, ripe_numbers}, declared.queue.Entry.Entry}}
 use Rattle.{run_law.proofs.records.Members.{from_map, in_map as is_mapped}, world_state.specs.queue.Places.{IsFirst, first_entry, numbers_of}}
 use Rattle.{run_law.proofs.runs.Places.{in_left, in_parts, in_right}, std.specs.{List.Sorted.IsPermutation, Prelude.{IfSome, MatchOption, if◌then◌else◌}}}
 use Rattle.{run_law.specs.records.Order.{IsBefore, IsIn}, std.proofs.lemmas.{Bool.{both_ways, cases_lt}, Int.ints, Option.slice_get_within}}
@@ -21,7 +21,7 @@ one_more_in [] k was is w at more = absurd cc
 one_more_in (q ∷ queues) zero was is w at more =
     let same : q ≡ was = cc in
     IsPermutation-append_left (frames_in queues) (w ∷ frames_of q) (frames_of is)
-    (subst (λ (x : Queue Waits). IsPermutation (w ∷ frames_of x) (frames_of is)) (sym same) more)
+    (subst (λ x. IsPermutation (w ∷ frames_of x) (frames_of is)) (sym same) more)
 one_more_in (q ∷ queues) (suc k) was is w at more =
     IsPermutation-trans _ _ _ (IsPermutation-sym _ _ (IsPermutation-middle (frames_of q) w (frames_in queues)))
     (IsPermutation-append_right (frames_of q) _ _ (one_more_in queues k was is w at more))
@@ -33,7 +33,7 @@ one_fewer_in [] k was is w at fewer = absurd cc
 one_fewer_in (q ∷ queues) zero was is w at fewer =
     let same : q ≡ was = cc in
     IsPermutation-append_left (frames_in queues) (frames_of q) (w ∷ frames_of is)
-    (subst (λ (x : Queue Waits). IsPermutation (frames_of x) (w ∷ frames_of is)) (sym same) fewer)
+    (subst (λ x. IsPermutation (frames_of x) (w ∷ frames_of is)) (sym same) fewer)
 one_fewer_in (q ∷ queues) (suc k) was is w at fewer =
     IsPermutation-trans _ _ _ (IsPermutation-append_right (frames_of q) _ _ (one_fewer_in queues k was is w at fewer))
     (IsPermutation-middle (frames_of q) w (frames_in (slice_set queues k is)))
@@ -111,8 +111,8 @@ module _ (queues : List (Queue Waits)) (queued : AreQueued queues) (k : ℕ) whe
             let same : from.1 ≡ q = some_same from.1 q _ from.3 (ap (slice_get queues) device ∙ at) in
             let place : from.2.place ≡ queue_place v = hers.place ∙ ap queue_place (sym from.5) in
             first.none from.2 (subst (λ (x : Queue Waits). IsIn from.2 x.entries) same from.4)
-            (subst (λ (p : DueAt). IsBefore (numbers_of p) (numbers_of e.place)) (sym place)
-            (subst (λ (p : DueAt). IsBefore (numbers_of (queue_place v)) (numbers_of p)) (sym its.place)
+            (subst (λ p. IsBefore (numbers_of p) (numbers_of e.place)) (sym place)
+            (subst (λ p. IsBefore (numbers_of (queue_place v)) (numbers_of p)) (sym its.place)
             (earlier v e.content (own ∙ sym its.own) before)));
       }
 
@@ -137,7 +137,7 @@ pub set_queued : (queues : List (Queue Waits)) (k : ℕ) (was is : Queue Waits) 
     → ((e : Entry Waits) → IsIn e is.entries → IsQueued k e) → AreQueued (slice_set queues k is)
 set_queued queues k was is queued at all i q e there inside =
     elim (set_cases queues i k is was q at there) [
-      | inl same ↦ subst (λ (n : ℕ). IsQueued n e) (sym same.0) (all e (subst (λ (x : Queue Waits). IsIn e x.entries) same.1 inside))
+      | inl same ↦ subst (λ n. IsQueued n e) (sym same.0) (all e (subst (λ (x : Queue Waits). IsIn e x.entries) same.1 inside))
       | inr other ↦ queued i q e other inside
     ]
   where
@@ -148,7 +148,7 @@ set_queued queues k was is queued at all i q e there inside =
     set_cases (r ∷ queues) (suc i) zero is was q at there = inr there
     set_cases (r ∷ queues) zero (suc k) is was q at there = inr there
     set_cases (r ∷ queues) (suc i) (suc k) is was q at there =
-        elim (set_cases queues i k is was q at there) [ inl s ↦ inl (ap (λ (n : ℕ). suc n) s.0, s.1) | inr o ↦ inr o ]
+        elim (set_cases queues i k is was q at there) [ inl s ↦ inl (ap (λ n. suc n) s.0, s.1) | inr o ↦ inr o ]
 
 pub push_queued : (queues : List (Queue Waits)) (q : Queue Waits) → AreQueued queues → q.entries ≡ [] → AreQueued (queues ++ q ∷ [])
 push_queued queues q queued empty i r e there inside =
@@ -183,8 +183,9 @@ pub none_reached : (items : List Waits) (device : DeviceId) (reading : ℕ) (w :
 none_reached items device reading w first not v there at = grind (arith, cases_lt, not, ints)
 
 -- the first has the least point
-pub least_is : (items : List Waits) (device : ℕ) (w : Waits) → IsFirstAt items device w → IsLeastPoint items device (Some w.point)
-least_is items device w first = grind (arith, cases_lt, ints)
+pub least_is : {items : List Waits} {device : ℕ} {w : Waits} → IsFirstAt items device w
+    → IsLeastPoint items device (Some w.point)
+least_is first = grind (arith, cases_lt, ints)
 
 -- ---- one more queue
 

@@ -2,7 +2,7 @@
 use Rattle.{device_rules.specs.least_key.Trees.no_key, run_law.specs.records.Order.IsBefore}
 use Rattle.world_state.specs.{declared.timers.Timer.Timer, timers.{SlotKeys.{AreKeys, timer_of}, Times.{IsFirst, never, unset}}}
 use Rattle.std.proofs.Common.{◌%◌, ◌*◌, ◌+◌, ◌/◌, ◌<◌, ◌^◌, ◌∙◌, ◌∷◌, ◌≡◌, ◌≤◌, ◌⊎◌, All, List, Some, [], ap, arith, get_or, inl, inr, length, map, replicate}
-use Rattle.std.{proofs.{Common.{ℕ, set, slice_get, subst, sym}, lemmas.{Bool.cases_eq, List.length-set, Option.{same_Some, slice_get-get_or, slice_get-map, slice_get_within}}}, specs.List.Contains}
+use Rattle.std.{proofs.{Common.{ℕ, set, slice_get, subst, sym}, lemmas.{Bool.cases_eq, List.length-set, Option.{same_Some, slice_get-get_or, slice_get_within}}}, specs.List.Contains}
 use Rattle.std.proofs.lemmas.List.{ext_get_or, get_or-map, get_or-replicate, get_or-set_other, get_or-set_same, get_or_default, length-map, length-replicate}
 
 -- the timer of a slot is that of its key
@@ -45,7 +45,7 @@ first_slot keys key are least (inr (slot, lt, at)) some =
     let long = length-map keys timer_of in
     record {
       inside = omega (arith, own, lt, long);
-      timer = ap (λ (n : ℕ). slice_get (map timer_of keys) n) own ∙ timer_at keys slot lt ∙ ap (λ (k : ℕ). Some (timer_of k)) is;
+      timer = ap (λ (n : ℕ). slice_get (map timer_of keys) n) own ∙ timer_at keys slot lt ∙ ap (λ k. Some (timer_of k)) is;
       true_time = some;
       least = λ below t at_below b.
           let few : below < length keys = omega (arith, (slice_get_within (map timer_of keys) below t at_below), long) in

@@ -24,36 +24,39 @@ some_is : {Y : Type 0} (o : Option Y) (d : Y) → is_some o ≡ true → o ≡ S
 some_is None d some = absurd (both_ways false refl some)
 some_is (Some y) d some = refl
 
-as_map : {X Y : Type 0} (h : X → Option Y) (d : Y) (xs : List X) → ((x : X) → IsIn x xs → is_some (h x) ≡ true)
-    → filter_map h xs ≡ map (λ x. unwrap_or (h x) d) xs
-as_map h d [] some = refl
-as_map h d (x ∷ xs) some =
-    ap (λ o. cons_option o (filter_map h xs)) (some_is (h x) d (some x (inl refl)))
-    ∙ ap (λ ys. unwrap_or (h x) d ∷ ys) (as_map h d xs (λ y there. some y (inr there)))
+module _ {X Y : Type 0} (h : X → Option Y) where
+  as_map : (d : Y) (xs : List X) → ((x : X) → IsIn x xs → is_some (h x) ≡ true)
+      → filter_map h xs ≡ map (λ x. unwrap_or (h x) d) xs
+  as_map d [] some = refl
+  as_map d (x ∷ xs) some =
+      ap (λ o. cons_option o (filter_map h xs)) (some_is (h x) d (some x (inl refl)))
+      ∙ ap (λ ys. unwrap_or (h x) d ∷ ys) (as_map d xs (λ y there. some y (inr there)))
 
-by_default : {X Y : Type 0} (h : X → Option Y) (xs ys : List X) → IsPermutation xs ys → ((x : X) → IsIn x xs → is_some (h x) ≡ true) → Y
-    → IsPermutation (filter_map h xs) (filter_map h ys)
-by_default h xs ys same some d =
-    let here = as_map h d xs some in
-    let there = as_map h d ys (λ y inside. some y (in_permuted ys xs y (IsPermutation-sym xs ys same) inside)) in
-    subst (λ l. IsPermutation l (filter_map h ys)) (sym here)
-    (subst (λ l. IsPermutation (map (λ x. unwrap_or (h x) d) xs) l) (sym there) (IsPermutation-map (λ x. unwrap_or (h x) d) xs ys same))
+  by_default : (xs ys : List X) → IsPermutation xs ys → ((x : X) → IsIn x xs → is_some (h x) ≡ true) → Y
+      → IsPermutation (filter_map h xs) (filter_map h ys)
+  by_default xs ys same some d =
+      let here = as_map d xs some in
+      let there = as_map d ys (λ y inside. some y (in_permuted ys xs y (IsPermutation-sym xs ys same) inside)) in
+      subst (λ l. IsPermutation l (filter_map h ys)) (sym here)
+      (subst (λ l. IsPermutation (map (λ x. unwrap_or (h x) d) xs) l) (sym there)
+      (IsPermutation-map (λ x. unwrap_or (h x) d) xs ys same))
 
-from_first : {X Y : Type 0} (h : X → Option Y) (xs ys : List X) (o : Option Y) → is_some o ≡ true → (Y → IsPermutation (filter_map h xs) (filter_map h ys))
-    → IsPermutation (filter_map h xs) (filter_map h ys)
-from_first h xs ys None some by = absurd (both_ways false refl some)
-from_first h xs ys (Some y) some by = by y
+  from_first : (xs ys : List X) (o : Option Y) → is_some o ≡ true
+      → (Y → IsPermutation (filter_map h xs) (filter_map h ys)) → IsPermutation (filter_map h xs) (filter_map h ys)
+  from_first xs ys None some by = absurd (both_ways false refl some)
+  from_first xs ys (Some y) some by = by y
 
--- of the same elements it gives the same
-pub permuted_map : {X Y : Type 0} (h : X → Option Y) (xs ys : List X) → IsPermutation xs ys → ((x : X) → IsIn x xs → is_some (h x) ≡ true)
-    → IsPermutation (filter_map h xs) (filter_map h ys)
-permuted_map h [] [] same some = IsPermutation-refl []
-permuted_map h [] (y ∷ ys) same some = absurd (omega (arith, length_permutation [] (y ∷ ys) same))
-permuted_map h (x ∷ xs) ys same some = from_first h (x ∷ xs) ys (h x) (some x (inl refl)) (by_default h (x ∷ xs) ys same some)
+  -- of the same elements it gives the same
+  pub permuted_map : (xs ys : List X) → IsPermutation xs ys → ((x : X) → IsIn x xs → is_some (h x) ≡ true)
+      → IsPermutation (filter_map h xs) (filter_map h ys)
+  permuted_map [] [] same some = IsPermutation-refl []
+  permuted_map [] (y ∷ ys) same some = absurd (omega (arith, length_permutation [] (y ∷ ys) same))
+  permuted_map (x ∷ xs) ys same some =
+      from_first (x ∷ xs) ys (h x) (some x (inl refl)) (by_default (x ∷ xs) ys same some)
 
-pub length_map : {X Y : Type 0} (h : X → Option Y) (xs : List X) → ((x : X) → IsIn x xs → is_some (h x) ≡ true) → length (filter_map h xs) ≡ length xs
-length_map h [] some = refl
-length_map h (x ∷ xs) some = grind (arith, is_some, length, both_ways, (length_map h xs (λ y there. some y (inr there))))
+  pub length_map : (xs : List X) → ((x : X) → IsIn x xs → is_some (h x) ≡ true) → length (filter_map h xs) ≡ length xs
+  length_map [] some = refl
+  length_map (x ∷ xs) some = grind (arith, is_some, length, both_ways, (length_map xs (λ y there. some y (inr there))))
 
 pub same_map : {X Y : Type 0} (g h : X → Option Y) (xs : List X) → ((x : X) → IsIn x xs → g x ≡ h x) → filter_map g xs ≡ filter_map h xs
 same_map g h [] same = refl

@@ -17,7 +17,7 @@ none_more places i d rank cause lt other none =
     let one = get_or places i d in
     let next : suc i ≡ i + 1 = omega arith in
     let more : take i places ++ one ∷ [] ≡ take (i + 1) places = sym (take-suc places i d lt) ∙ ap (λ (k : ℕ). take k places) next in
-    subst (λ (l : List (Reverse Slotted)). NoSlotFor l rank cause) more (λ r there fits. elim (in_parts r (take i places) (one ∷ []) there) [
+    subst (λ l. NoSlotFor l rank cause) more (λ r there fits. elim (in_parts r (take i places) (one ∷ []) there) [
       | inl before ↦ none r before fits
       | inr (inl same) ↦ other (subst (λ (s : Reverse Slotted). IsPlaceFor rank cause s.0.place) same fits)
       | inr (inr nothing) ↦ absurd nothing

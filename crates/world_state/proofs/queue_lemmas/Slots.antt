@@ -52,7 +52,7 @@ module _ {T : Type 0} where
         none = λ other inside before.
             let of = given_of (entry_of s) items other inside in
             not_before top of.0 (all_in (λ y. is_lt (reversed top y) ≡ false) items bound of.0 of.1)
-            (subst (λ (p : DueAt). IsBefore (numbers_of p) (numbers_of top.0.place)) (place_of_entry s of.0 other of.2) before);
+            (subst (λ p. IsBefore (numbers_of p) (numbers_of top.0.place)) (place_of_entry s of.0 other of.2) before);
       }
 
   -- ---- one is put in

@@ -12,7 +12,7 @@ loop-preserved g c =
 pub returns-clause-each : goal.returns-clause-each
 returns-clause-each g c =
     let fresh = g.C.Clock.fresh (amount c.args.network.now.grain) in
-    let same : length c.as_slice-items.result.now ≡ length c.args.network.now.device = ap (λ (xs : _). length {A = Device} xs) c.as_slice-items.ensures in
+    let same : length c.as_slice-items.result.now ≡ length c.args.network.now.device = ap (λ xs. length {A = Device} xs) c.as_slice-items.ensures in
     let all : c.loop.index ≡ length c.args.network.now.device = omega (arith, same, c.loop.auto.index-end, c.loop-test.false) in
     c.loop.invariant ∙ ap (λ (n : ℕ). replicate n fresh) all
 

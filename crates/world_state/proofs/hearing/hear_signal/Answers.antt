@@ -1,19 +1,18 @@
 use Rattle.{run_law.specs.machines.Calls.StandsFor, std.proofs.Common.subst, world_state.specs.{Hearing.{IsAsSent, MayCome}, Keeping.keeps}}
-use Rattle.world_state.{proofs.Hearings.{control_octets, given_octets, may_hear}, specs.{Views.signal_as, declared.contents.Signal.{Signal as SignalSent}}}
+use Rattle.world_state.{proofs.Hearings.{control_octets, given_octets, may_hear}, specs.Views.signal_as}
 use Rattle.world_state.specs.declared.contents.Signal.TheVariants as signals
 use Rattle.world_state.proofs.hearing.hear_signal.Goals as goal
 
 pub hear-requires : goal.hear-requires
 hear-requires g c =
     let sent = signals.Control c.in-Control.frame in
-    may_hear (keeps g.M.Machine.stands) c.args.kept.now (signal_as c.args.network.now sent) c.args.moment c.args.link c.encode.new.octets
-    (subst (λ (x : SignalSent). StandsFor (keeps g.M.Machine.stands) c.args.kept.now (MayCome (signal_as c.args.network.now x) c.args.moment c.args.link))
-    c.in-Control.is c.requires.may)
-    (control_octets c.encode.new.octets c.in-Control.frame c.encode.ensures.spelling c.encode.ensures.round_trip)
+    may_hear (keeps g.M.Machine.stands) c.args.kept.now c.args.moment c.args.link
+    (subst (λ x. StandsFor (keeps g.M.Machine.stands) c.args.kept.now (MayCome (signal_as c.args.network.now x) c.args.moment c.args.link))
+    c.in-Control.is c.requires.may) (control_octets c.encode.ensures.spelling c.encode.ensures.round_trip)
 
 pub hear_timed-requires-clause-may : goal.hear_timed-requires-clause-may
 hear_timed-requires-clause-may g c =
-    subst (λ (x : SignalSent). StandsFor (keeps g.M.Machine.stands) c.args.kept.now (MayCome (signal_as c.args.network.now x) c.args.moment c.args.link))
+    subst (λ x. StandsFor (keeps g.M.Machine.stands) c.args.kept.now (MayCome (signal_as c.args.network.now x) c.args.moment c.args.link))
     c.in-Timed.is c.requires.may
 
 pub hear_timed-requires-clause-as_sent : goal.hear_timed-requires-clause-as_sent
@@ -24,7 +23,7 @@ hear-requires-in-Octets g c =
     let network = c.args.network.now in
     let given = c.in-Octets.octets in
     let sent = signals.Octets given in
-    may_hear (keeps g.M.Machine.stands) c.args.kept.now (signal_as network sent) c.args.moment c.args.link c.as_slice.result.now
-    (subst (λ (x : SignalSent). StandsFor (keeps g.M.Machine.stands) c.args.kept.now (MayCome (signal_as network x) c.args.moment c.args.link))
+    may_hear (keeps g.M.Machine.stands) c.args.kept.now c.args.moment c.args.link
+    (subst (λ x. StandsFor (keeps g.M.Machine.stands) c.args.kept.now (MayCome (signal_as network x) c.args.moment c.args.link))
     c.in-Octets.is c.requires.may)
     (given_octets given c.as_slice.result.now c.as_slice.ensures.value c.as_slice.ensures.least c.as_slice.ensures.most)

@@ -1,6 +1,6 @@
 use Rattle.{run_law.specs.{control.Wires.{signal_of, timed}, machines.Calls.StandsFor}, world_state.specs.{Hearing.{AreOctetsOf, MayCome}, Keeping.keeps}}
 use Rattle.std.proofs.Common.{◌∙◌, ◌≡◌, subst, sym}
-use Rattle.world_state.{proofs.Hearings.{made_are, may_hear, sent_octets}, specs.{Views.octets_of, declared.contents.Timed.{TheVariants.Made, Timed}}}
+use Rattle.world_state.{proofs.Hearings.{made_are, may_hear, sent_octets}, specs.{Views.octets_of, declared.contents.Timed.TheVariants.Made}}
 use Rattle.world_state.proofs.hearing.hear_timed.Goals as goal
 
 pub hear-requires : goal.hear-requires
@@ -8,20 +8,21 @@ hear-requires g c =
     let network = c.args.network.now in
     let made = Made c.in-Made.vl c.in-Made.cycle in
     let wrote = c.as_slice.ensures in
-    may_hear (keeps g.M.Machine.stands) c.args.kept.now (timed (octets_of network made)) c.args.moment c.args.link c.as_slice.result.now
-    (subst (λ (x : Timed). StandsFor (keeps g.M.Machine.stands) c.args.kept.now (MayCome (timed (octets_of network x)) c.args.moment c.args.link))
+    may_hear (keeps g.M.Machine.stands) c.args.kept.now c.args.moment c.args.link
+    (subst (λ x. StandsFor (keeps g.M.Machine.stands) c.args.kept.now (MayCome (timed (octets_of network x)) c.args.moment c.args.link))
     c.in-Made.is c.requires.may)
-    (made_are network c.in-Made.vl c.in-Made.cycle c.as_slice.result.now c.requires.range (wrote.value ∙ c.write.ensures) wrote.least wrote.most)
+    (made_are c.in-Made.vl c.in-Made.cycle c.as_slice.result.now c.requires.range (wrote.value ∙ c.write.ensures)
+    wrote.least wrote.most)
 
 pub hear-requires-in-Sent : goal.hear-requires-in-Sent
 hear-requires-in-Sent g c =
     let network = c.args.network.now in
     let given = c.in-Sent.octets in
-    may_hear (keeps g.M.Machine.stands) c.args.kept.now (timed given) c.args.moment c.args.link c.as_slice-in-Sent.result.now
-    (subst (λ (x : Timed). StandsFor (keeps g.M.Machine.stands) c.args.kept.now (MayCome (timed (octets_of network x)) c.args.moment c.args.link))
+    may_hear (keeps g.M.Machine.stands) c.args.kept.now c.args.moment c.args.link
+    (subst (λ x. StandsFor (keeps g.M.Machine.stands) c.args.kept.now (MayCome (timed (octets_of network x)) c.args.moment c.args.link))
     c.in-Sent.is c.requires.may)
     (sent_octets given c.as_slice-in-Sent.result.now
-    (subst (λ (x : Timed). signal_of (octets_of network x) ≡ timed (octets_of network x)) c.in-Sent.is c.requires.as_sent) c.as_slice-in-Sent.ensures.value
+    (subst (λ x. signal_of (octets_of network x) ≡ timed (octets_of network x)) c.in-Sent.is c.requires.as_sent) c.as_slice-in-Sent.ensures.value
     c.as_slice-in-Sent.ensures.least c.as_slice-in-Sent.ensures.most)
 
 pub returns-in-Made : goal.returns-in-Made
@@ -29,7 +30,8 @@ returns-in-Made g c =
     let network = c.args.network.now in
     let wrote = c.as_slice.ensures in (
       c.as_slice.result.now,
-      subst (λ (x : Timed). AreOctetsOf (timed (octets_of network x)) c.as_slice.result.now) (sym c.in-Made.is)
-          (made_are network c.in-Made.vl c.in-Made.cycle c.as_slice.result.now c.requires.range (wrote.value ∙ c.write.ensures) wrote.least wrote.most),
+      subst (λ x. AreOctetsOf (timed (octets_of network x)) c.as_slice.result.now) (sym c.in-Made.is)
+          (made_are c.in-Made.vl c.in-Made.cycle c.as_slice.result.now c.requires.range
+          (wrote.value ∙ c.write.ensures) wrote.least wrote.most),
       c.hear.ensures,
     )

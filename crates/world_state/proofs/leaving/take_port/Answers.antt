@@ -6,8 +6,9 @@ pub port_of-requires : goal.port_of-requires
 port_of-requires c =
     let first = c.in-Some.first in
     let there = in_permuted _ _ first (IsPermutation-sym _ _ c.in-Some.ensures.entries) (inl refl) in
-    let same = one_first _ _ _ c.in-Some.ensures.first c.requires.first in
+    let same = one_first c.in-Some.ensures.first c.requires.first in
     sym (c.requires.sound.1.kinds first there) ∙ ap (λ (p : DueAt). p.rank) same ∙ c.requires.port
 
 pub returns : goal.returns
-returns c = in_words _ _ c.in-Some.first c.args.place _ (one_first _ _ _ c.in-Some.ensures.first c.requires.first) c.port_of.ensures c.in-Some.ensures.entries
+returns c = in_words _ _ c.in-Some.first c.args.place _ (one_first c.in-Some.ensures.first c.requires.first)
+    c.port_of.ensures c.in-Some.ensures.entries

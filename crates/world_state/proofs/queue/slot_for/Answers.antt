@@ -1,6 +1,6 @@
-use Rattle.std.{proofs.{Common.{◌∙◌, List, ap, arith, refl, subst, take}, Math.Seq.take-length}, specs.declared.cmp.Reverse.Reverse}
+use Rattle.std.proofs.{Common.{◌∙◌, ap, arith, refl, subst, take}, Math.Seq.take-length}
 use Rattle.world_state.proofs.queue.slot_for.Goals.{else-place-cause-via-else-place-cause, else-place-cause-via-then-place-cause+else-place-rank}
-use Rattle.world_state.{proofs.queue_lemmas.Finding.{is_one, none_more}, specs.{declared.queue.Slotted.Slotted, queue.Finding.NoSlotFor}}
+use Rattle.world_state.{proofs.queue_lemmas.Finding.{is_one, none_more}, specs.queue.Finding.NoSlotFor}
 use Rattle.world_state.proofs.queue.slot_for.Goals as goal
 
 pub returns-then-place-rank-clause-found : goal.returns-then-place-rank-clause-found
@@ -25,5 +25,5 @@ returns-clause-none c =
     let places = c.args.places.now in
     let more = c.places-test.false in
     let most = c.places.auto.slotted-index-end in
-    subst (λ (l : List (Reverse Slotted)). NoSlotFor l c.args.rank c.args.cause) (ap (λ i. take i places) (omega (arith, more, most)) ∙ take-length places)
+    subst (λ l. NoSlotFor l c.args.rank c.args.cause) (ap (λ i. take i places) (omega (arith, more, most)) ∙ take-length places)
     c.places.invariant

@@ -6,5 +6,5 @@ pub returns-in-Some : goal.returns-in-Some
 returns-in-Some c =
     let items = c.args.waiting.now.items in
     let d = c.args.device in
-    least_is items d c.in-Some.first.now
+    least_is
     (subst (λ (o : Option Waits). MatchOption o (NoneAt items d) (IsFirstAt items d)) (sym c.in-Some.ensures.is) c.in-Some.ensures.first)

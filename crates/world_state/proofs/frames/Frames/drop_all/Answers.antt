@@ -1,6 +1,6 @@
 use Rattle.{run_law.specs.records.Order.IsIn, std.proofs.lemmas.Option.slice_get_read, world_state.proofs.Queues.set_queued}
-use Rattle.{std.proofs.Common.{◌+◌, ◌∙◌, ◌≡◌, List, ap, arith, filter, inr, length, refl, subst, sym, ℕ}, world_state.specs.Frames.{Waiting, frames_in}}
-use Rattle.world_state.{proofs.Emptied.{emptied, from_zero, keeps_it, kept_beyond}, specs.declared.{contents.Waits.Waits, queue.Entry.Entry}}
+use Rattle.{std.proofs.Common.{◌+◌, ◌∙◌, ◌≡◌, ap, arith, filter, inr, length, refl, subst, sym}, world_state.specs.Frames.{Waiting, frames_in}}
+use Rattle.world_state.proofs.Emptied.{emptied, from_zero, keeps_it, kept_beyond}
 use Rattle.world_state.proofs.frames.Frames.drop_all.Goals as goal
 
 pub invariant_of-self : goal.invariant_of-self
@@ -12,7 +12,7 @@ invariant_of-self c =
     let at = slice_get_read b.queues.items (length b.queues.items) c.args.device.0 c.index_mut.result.now refl (omega (arith, test, len, ok))
     c.index_mut.ensures.value in
     set_queued b.queues.items c.args.device.0 c.index_mut.result.now c.new.result c.self.invariant at
-    (λ e there. absurd (subst (λ (l : List (Entry Waits)). IsIn e l) c.new.ensures there))
+    (λ e there. absurd (subst (λ l. IsIn e l) c.new.ensures there))
 
 pub returns-then-index-len : goal.returns-then-index-len
 returns-then-index-len c =
@@ -24,7 +24,7 @@ returns-then-index-len c =
     let at = slice_get_read b.queues.items (length b.queues.items) k c.index_mut.result.now refl (omega (arith, test, len, ok)) c.index_mut.ensures.value in
     let zero : 0 + k ≡ k = omega arith in
     emptied 0 k b.queues.items c.index_mut.result.now c.new.result (from_zero b.queues.items c.self.invariant) at c.new.ensures
-    ∙ ap (λ (n : ℕ). filter (keeps_it n) (frames_in b.queues.items)) zero
+    ∙ ap (λ n. filter (keeps_it n) (frames_in b.queues.items)) zero
     ∙ ap (λ (w : Waiting). filter (keeps_it k) w.items) c.self.view_is
 
 pub returns-else-index-len : goal.returns-else-index-len

@@ -19,7 +19,7 @@ returns-in-None-clause-is c =
     let d = c.args.device.0 in
     let at : slice_get qs d ≡ None = subst (λ (l : List (Queue Waits)). slice_get l d ≡ None) c.deref.ensures.value
     (slice_get_past c.deref.result.now d c.in-None.ensures.lookup.3) in
-    subst (λ (w : Waiting). None ≡ first_of w d) c.self.view_is (sym (ap (option_and_then first_frame) at))
+    subst (λ w. None ≡ first_of w d) c.self.view_is (sym (ap (option_and_then first_frame) at))
 
 pub returns-in-None-clause-first : goal.returns-in-None-clause-first
 returns-in-None-clause-first c =

@@ -12,7 +12,7 @@ invariant_of-self c =
     let was = c.index_mut.result.now in
     let is = c.put.new.self in
     let put : Entry Waits = record { place = c.place_of.result; content = one } in
-    let lt = has_room qs d (slice_get qs d) refl (subst (λ (w : Waiting). 0 < room_of w d) (sym c.self.view_is) c.requires.room) in
+    let lt = has_room qs d (slice_get qs d) refl (subst (λ w. 0 < room_of w d) (sym c.self.view_is) c.requires.room) in
     let at = slice_get_read qs (length qs) d was refl lt c.index_mut.ensures.value in
     set_queued qs d was is c.self.invariant at (λ e there.
     elim (in_permuted is.entries (put ∷ was.entries) e (IsPermutation-sym _ _ c.put.ensures.entries) there) [
@@ -28,7 +28,7 @@ returns c =
     let was = c.index_mut.result.now in
     let is = c.put.new.self in
     let put : Entry Waits = record { place = c.place_of.result; content = one } in
-    let lt = has_room qs d (slice_get qs d) refl (subst (λ (w : Waiting). 0 < room_of w d) (sym c.self.view_is) c.requires.room) in
+    let lt = has_room qs d (slice_get qs d) refl (subst (λ w. 0 < room_of w d) (sym c.self.view_is) c.requires.room) in
     let at = slice_get_read qs (length qs) d was refl lt c.index_mut.ensures.value in
     subst (λ (w : Waiting). IsPermutation (one ∷ w.items) (frames_in (slice_set qs d is))) c.self.view_is
     (one_more_in qs d was is one at (IsPermutation-map content_of (put ∷ was.entries) is.entries c.put.ensures.entries))

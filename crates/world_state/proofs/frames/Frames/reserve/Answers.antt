@@ -1,5 +1,5 @@
 use Rattle.{run_law.specs.records.Order.IsIn, std.specs.{Option.option_map_or, Prelude.OnOk}, world_state.specs.{Frames.Waiting, queue.Queues.Queue}}
-use Rattle.{std.proofs.Common.{◌<◌, ◌∙◌, List, Option, ap, length, refl, subst, sym}, world_state.specs.declared.{contents.Waits.Waits, queue.Entry.Entry}}
+use Rattle.{std.proofs.Common.{◌<◌, ◌∙◌, Option, ap, length, refl, subst, sym}, world_state.specs.declared.contents.Waits.Waits}
 use Rattle.{std.proofs.lemmas.Option.slice_get_read, tte_units.proofs.general_lemmas.Lists.set_same, world_state.proofs.Queues.{same_in, set_queued}}
 use Rattle.world_state.proofs.frames.Frames.reserve.Goals as goal
 
@@ -11,7 +11,7 @@ invariant_of-self c =
     let lt = subst (λ (w : Waiting). d < length w.queues) (sym c.self.view_is) c.in-Ok.ensures.there in
     let at = slice_get_read qs (length qs) d was refl lt c.index_mut.ensures.value in
     set_queued qs d was c.reserve.new.self c.self.invariant at
-    (λ e there. c.self.invariant d was e at (subst (λ (l : List (Entry Waits)). IsIn e l) c.reserve.ensures.entries there))
+    (λ e there. c.self.invariant d was e at (subst (λ l. IsIn e l) c.reserve.ensures.entries there))
 
 pub returns-in-Ok-clause-items : goal.returns-in-Ok-clause-items
 returns-in-Ok-clause-items c =

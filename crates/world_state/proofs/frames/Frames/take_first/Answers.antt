@@ -11,7 +11,7 @@ invariant_of-self c =
     let d = c.args.device.0 in
     let was = c.index_mut.result.now in
     let is = c.take_first.new.self in
-    let lt = has_first qs d (slice_get qs d) refl (subst (λ (w : Waiting). is_some (first_of w d) ≡ true) (sym c.self.view_is) c.requires.some) in
+    let lt = has_first qs d (slice_get qs d) refl (subst (λ w. is_some (first_of w d) ≡ true) (sym c.self.view_is) c.requires.some) in
     let at = slice_get_read qs (length qs) d was refl lt c.index_mut.ensures.value in
     let taken = subst (λ (o : Option (Entry Waits)). IfSome o (λ e. IsPermutation was.entries (e ∷ is.entries))) c.unwrap.ensures
     c.take_first.ensures.entries in
@@ -22,9 +22,9 @@ returns-clause-is c =
     let qs = c.self.inside.queues.items in
     let d = c.args.device.0 in
     let was = c.index_mut.result.now in
-    let lt = has_first qs d (slice_get qs d) refl (subst (λ (w : Waiting). is_some (first_of w d) ≡ true) (sym c.self.view_is) c.requires.some) in
+    let lt = has_first qs d (slice_get qs d) refl (subst (λ w. is_some (first_of w d) ≡ true) (sym c.self.view_is) c.requires.some) in
     let at = slice_get_read qs (length qs) d was refl lt c.index_mut.ensures.value in
-    subst (λ (w : Waiting). first_of w d ≡ Some c.unwrap.result.content) c.self.view_is
+    subst (λ w. first_of w d ≡ Some c.unwrap.result.content) c.self.view_is
     (ap (option_and_then first_frame) at ∙ ap (option_map content_of) (sym c.take_first.ensures.head ∙ c.unwrap.ensures))
 
 pub returns-clause-items : goal.returns-clause-items
@@ -33,7 +33,7 @@ returns-clause-items c =
     let d = c.args.device.0 in
     let was = c.index_mut.result.now in
     let is = c.take_first.new.self in
-    let lt = has_first qs d (slice_get qs d) refl (subst (λ (w : Waiting). is_some (first_of w d) ≡ true) (sym c.self.view_is) c.requires.some) in
+    let lt = has_first qs d (slice_get qs d) refl (subst (λ w. is_some (first_of w d) ≡ true) (sym c.self.view_is) c.requires.some) in
     let at = slice_get_read qs (length qs) d was refl lt c.index_mut.ensures.value in
     let taken = subst (λ (o : Option (Entry Waits)). IfSome o (λ e. IsPermutation was.entries (e ∷ is.entries))) c.unwrap.ensures
     c.take_first.ensures.entries in

@@ -11,7 +11,7 @@ returns-in-Some-clause-is c =
     (slice_get_read c.deref.result.now (length c.deref.result.now) spot.device.0 c.in-Some.shelf.now refl c.in-Some.ensures.lookup.3.0
     c.in-Some.ensures.lookup.1) in
     let found : option_copied c.find.result ≡ at_place spot.vl.0 c.in-Some.shelf.now = c.find.ensures in
-    found ∙ sym (ap (option_and_then (at_place spot.vl.0)) at) ∙ ap (λ (w : Shelved). frame_at w spot) c.self.view_is
+    found ∙ sym (ap (option_and_then (at_place spot.vl.0)) at) ∙ ap (λ w. frame_at w spot) c.self.view_is
 
 pub returns-in-Some-clause-held : goal.returns-in-Some-clause-held
 returns-in-Some-clause-held c =
@@ -24,7 +24,7 @@ returns-in-None-clause-is c =
     let spot = c.args.spot in
     let at : slice_get c.self.inside.shelves.items spot.device.0 ≡ None = subst (λ (l : List Places). slice_get l spot.device.0 ≡ None) c.deref.ensures.value
     (slice_get_past c.deref.result.now spot.device.0 c.in-None.ensures.lookup.3) in
-    subst (λ (w : Shelved). None ≡ frame_at w spot) c.self.view_is (sym (ap (option_and_then (at_place spot.vl.0)) at))
+    subst (λ w. None ≡ frame_at w spot) c.self.view_is (sym (ap (option_and_then (at_place spot.vl.0)) at))
 
 pub returns-in-None-clause-held : goal.returns-in-None-clause-held
 returns-in-None-clause-held c =

@@ -1,5 +1,5 @@
 use Rattle.std.proofs.Common.{◌%◌, ◌/◌, ◌^◌, ◌∙◌, ◌≡◌, ◌≤◌, All, List, ap, arith, map, subst, sym, ℕ}
-use Rattle.world_state.{proofs.SlotOrder.{first_slot, least_time}, specs.{timers.{SlotKeys.timer_of, Times.{IsFirst, never}}, declared.timers.{Due.Due, Timer.Timer}}}
+use Rattle.world_state.{proofs.SlotOrder.{first_slot, least_time}, specs.{timers.{SlotKeys.timer_of, Times.{IsFirst, never}}, declared.timers.Timer.Timer}}
 use Rattle.world_state.proofs.timers.Timers.first.Goals as goal
 
 pub returns-then-time-clause-none : goal.returns-then-time-clause-none

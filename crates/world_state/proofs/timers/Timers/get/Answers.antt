@@ -1,5 +1,5 @@
 use Rattle.std.proofs.Common.{◌%◌, ◌/◌, ◌<◌, ◌^◌, ◌∙◌, ◌≡◌, List, Some, ap, arith, length, map, sym, ℕ}
-use Rattle.std.{proofs.{Common.slice_get, lemmas.List.length-map}, specs.List.slice_index}
+use Rattle.std.proofs.{Common.slice_get, lemmas.List.length-map}
 use Rattle.world_state.{proofs.SlotOrder.timer_at, specs.{declared.timers.Timer.Timer, timers.SlotKeys.timer_of}}
 use Rattle.world_state.proofs.timers.Timers.get.Goals as goal
 
@@ -17,5 +17,5 @@ returns c =
     let made : timer_of key ≡ record { time = c.time_of.result; rank = c.rank_of.result } =
     ap (λ (n : ℕ). let t : Timer = record { time = n; rank = key % 2 ^ 64 / 2 ^ 56 } in t) (sym time)
     ∙ ap (λ (n : ℕ). let t : Timer = record { time = c.time_of.result; rank = n } in t) (sym rank) in
-    sym (ap (λ (l : List Timer). slice_get l slot) c.self.view_is) ∙ timer_at keys slot few ∙ ap (λ (k : ℕ). Some (timer_of k)) (sym c.get-key.ensures)
+    sym (ap (λ (l : List Timer). slice_get l slot) c.self.view_is) ∙ timer_at keys slot few ∙ ap (λ k. Some (timer_of k)) (sym c.get-key.ensures)
     ∙ ap (λ (t : Timer). Some t) made

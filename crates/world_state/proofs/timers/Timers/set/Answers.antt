@@ -1,4 +1,4 @@
-use Rattle.std.{proofs.{Common.{◌%◌, ◌*◌, ◌+◌, ◌/◌, ◌<◌, ◌^◌, ◌∙◌, ◌≡◌, List, ap, arith, map, set, ℕ}, lemmas.List.map-set}}
+use Rattle.std.proofs.{Common.{◌%◌, ◌/◌, ◌^◌, ◌∙◌, ◌≡◌, List, ap, arith, map, set, ℕ}, lemmas.List.map-set}
 use Rattle.world_state.specs.{declared.timers.Timer.Timer, timers.SlotKeys.timer_of}
 use Rattle.world_state.proofs.timers.Timers.set.Goals as goal
 
