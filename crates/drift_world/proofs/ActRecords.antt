@@ -9,7 +9,7 @@ use Rattle.{net_plan.specs.declared.ids.RowId.RowId, run_law.specs.{machines.Ans
 use Rattle.{run_law.{specs.declared.steps.Act.Act}, schedule_tables.specs.Entries.IsEntry, world_law.specs.world.Moves.IsPutIn}
 use Rattle.{std.{proofs.lemmas.Bool.ne_eqb, specs.Option.option_map}, world_state.proofs.Made.made_octets}
 use Rattle.{schedule_tables.specs.declared.entry.Entry.Entry, sync_state.specs.declared.answers.Verdict.Verdict, world_state.specs.declared.hands.AtHand.AtHand}
-use Rattle.sync_state.specs.declared.{answers.Verdict.TheVariants.{AsyncClique, Cleared, Corrected, SyncClique}}
+use Rattle.sync_state.specs.declared.answers.Verdict.TheVariants.{AsyncClique, Cleared, Corrected, SyncClique}
 use Rattle.{sync_state.specs.declared.state.State.{State as Standing}, world_state.specs.declared.{contents.Timed.TheVariants.Made, outcomes.Outcomes.Outcomes}}
 use Rattle.world_law.{proofs.steps_lemmas.acting.{Held.{IsHeldFrame, held_frame}, Stage.StageAt}, specs.steps.Acting.{AreActBodies, first_bodies, joining_bodies}}
 use Rattle.world_state.specs.Acting.{AreOutcomes, IsHeldIn, bodies_of, body_of, corrected_by, dispatched_by, emitted_by, first_by, joined_by}
@@ -32,14 +32,14 @@ module _ (other network : Network) (now : ℕ) (hs : List Happening) where
   pub order_then : (o : Option Settled) (old new : List Settled) → IsSomePut o old new → InOrder (all_at old) → InOrder (all_at new)
   order_then None old new put order = subst (λ (l : List Settled). InOrder (all_at l)) (sym put) order
   order_then (Some z) old new put order =
-      order_put (settled_at network now z) (all_at old) (all_at new) order (is_put_in network now z old new put.0 put.1 order)
+      order_put order (is_put_in network now z old new put.0 put.1 order)
 
   one_by : (o : Option Settled) (old new : List Settled) → IsSomePut o old new → InOrder (all_at old) → IsOwn other network now hs o
       → ArePutIn other hs now (body_of o) (all_at old) (all_at new)
   one_by None old new put order own = ap all_at put
   one_by (Some z) old new put order own = (
     all_at new,
-    subst (λ (h : Happening). IsPutIn h (all_at old) (all_at new)) own (is_put_in network now z old new put.0 put.1 order),
+    subst (λ h. IsPutIn h (all_at old) (all_at new)) own (is_put_in network now z old new put.0 put.1 order),
     refl,
   )
 
@@ -50,7 +50,7 @@ module _ (other network : Network) (now : ℕ) (hs : List Happening) where
       (one_by second mid new two (order_then None old mid one order) also)
   both_put (Some z) second old mid new one two order own also = (
     all_at mid,
-    subst (λ (h : Happening). IsPutIn h (all_at old) (all_at mid)) own (is_put_in network now z old mid one.0 one.1 order),
+    subst (λ h. IsPutIn h (all_at old) (all_at mid)) own (is_put_in network now z old mid one.0 one.1 order),
     one_by second mid new two (order_then (Some z) old mid one order) also,
   )
 
@@ -111,9 +111,10 @@ of_correction s hs now device was adjustment cycle Cleared = record { bodies = r
 -- ---- a dispatch
 
 -- the sender's octets are the frame of the law
-made_is : (network : Network) (cycle : ℕ) (entry : Entry) (place : ℕ) → IsEntry network place entry
+made_is : {network : Network} (cycle : ℕ) {entry : Entry} {place : ℕ} → IsEntry network place entry
     → octets_of network (Made entry.row.vl cycle) ≡ tt_frame network entry.row.vl cycle
-made_is network cycle entry place is = made_octets network entry.row.vl cycle (slice_get_within network.vl entry.row.vl.0 entry.vl is.vl)
+made_is {network} cycle {entry} is =
+    made_octets network entry.row.vl cycle (slice_get_within network.vl entry.row.vl.0 entry.vl is.vl)
 
 module _ (s : Scenario) (hs : List Happening) (now : ℕ) (device : DeviceId) (was : Standing) (adjustment : Units) (row : RowId) (cycle : ℕ) (entry : Entry)
     (hand : AtHand) where
@@ -148,8 +149,8 @@ module _ (s : Scenario) (hs : List Happening) (now : ℕ) (device : DeviceId) (w
           hand.cause,
           is,
           at,
-          ap (λ (o : Option Settled). body_of o ++ body_of outcomes.second) first
-              ∙ ap (λ (o : Option Settled). body_of (Some (told cut)) ++ body_of o) second ∙ told_body cut,
+          ap (λ o. body_of o ++ body_of outcomes.second) first
+              ∙ ap (λ o. body_of (Some (told cut)) ++ body_of o) second ∙ told_body cut,
         );
         first = subst (IsOwn s.network s.network now hs) (sym first) (told_own octets cut);
         second = subst (IsOwn s.network s.network now hs) (sym second) tt;
@@ -172,34 +173,39 @@ not_zero : (n : ℕ) (a b : List ℕ) → 1 ≤ n → b ≡ (if n == 0 then a el
 not_zero n a b le = sym (ap (λ (c : Bool). if c then a else b) (ne_eqb n 0 (λ e. omega (arith, e, le))))
 
 -- the frame that is held
-of_held : (s : Scenario) (hs : List Happening) (stored : List Holding) (now : ℕ) (device : DeviceId) (was : Standing) (adjustment : Units) (row : RowId)
-    (cycle : ℕ) (entry : Entry) (outcomes : Outcomes) (hand : Option AtHand) → IsEntry s.network row.0 entry
-    → IsHeldFrame s hs (map (stored_as s.network) stored) now device entry cycle → IsHeldIn stored device entry.row.vl hand
-    → outcomes.first ≡ option_map (dispatched_by (is_cut s entry.row.link (way_from s.network device entry.row.link) now) device entry cycle) hand
+of_held : {s : Scenario} {hs : List Happening} (stored : List Holding) {now : ℕ} {device : DeviceId} (was : Standing)
+    (adjustment : Units) (row : RowId) {cycle : ℕ} {entry : Entry} (outcomes : Outcomes) (hand : Option AtHand)
+    → IsEntry s.network row.0 entry → IsHeldFrame s hs (map (stored_as s.network) stored) now device entry cycle
+    → IsHeldIn stored device entry.row.vl hand → outcomes.first ≡ option_map
+    (dispatched_by (is_cut s entry.row.link (way_from s.network device entry.row.link) now) device entry cycle) hand
     → outcomes.second ≡ None → AreProper s hs now device was adjustment (acts.Dispatch row cycle) outcomes
-of_held s hs stored now device was adjustment row cycle entry outcomes None is held none first second =
+of_held {s} stored was adjustment row outcomes None is held none first second =
     let found = in_stored s.network stored held.there.0 held.there.1 in
     absurd (none found.0 found.1 (ap (λ (e : Stored). e.device) (sym found.2) ∙ held.there.2)
     (ap (λ (e : Stored). e.vl) (sym found.2) ∙ held.there.3))
-of_held s hs stored now device was adjustment row cycle entry outcomes (Some hand) is held (h, there, of_device, of_vl, same) first second =
+of_held {s} {hs} stored {now} {device} was adjustment row {cycle} {entry} outcomes (Some hand) is held
+    (h, there, of_device, of_vl, same) first second =
     let e = stored_as s.network h in
     let i = stored_in s.network stored h there in
     let cause : hand.cause ≡ h.number = ap (λ (a : AtHand). a.cause) same in
     let octets : octets_of s.network hand.octets ≡ octets_from hs hand.cause =
     ap (λ (a : AtHand). octets_of s.network a.octets) same ∙ held.octets e i of_device of_vl ∙ ap (octets_from hs) (sym cause) in
-    let some : 1 ≤ hand.cause = subst (λ (n : ℕ). 1 ≤ n) (sym cause) (held.some e i of_device of_vl) in
+    let some : 1 ≤ hand.cause = subst (λ n. 1 ≤ n) (sym cause) (held.some e i of_device of_vl) in
     of_dispatch s hs now device was adjustment row cycle entry hand outcomes is
-    (subst (λ (n : ℕ). HasAtHand s.network hs device entry now n cycle) (sym cause) (held.hand e i of_device of_vl))
+    (subst (λ n. HasAtHand s.network hs device entry now n cycle) (sym cause) (held.hand e i of_device of_vl))
     (octets ∙ not_zero hand.cause (tt_frame s.network entry.row.vl cycle) (octets_from hs hand.cause) some) first second
 
 -- a dispatch
-of_row : {M : Type 0} (stands : M → Network → DeviceId → Node → Type 0) (s : Scenario) (hs coming : List Happening) (mark cursor : List ℕ)
-    (stored : List Holding) (now : ℕ) (device : DeviceId) (machine : M) (node : Node) (was : Standing) (adjustment : Units) (row : RowId) (cycle : ℕ)
-    (outcomes : Outcomes) (r : ℕ) (more : List ℕ) → StageAt stands s hs coming mark cursor now device machine node r more → AreStored hs (map (stored_as s.network) stored)
-    → IsFirstTask s.network device node (moment_of s device now).reading.0 (doing (dispatching row cycle))
+of_row : {M : Type 0} {stands : M → Network → DeviceId → Node → Type 0} {s : Scenario} {hs coming : List Happening}
+    {mark cursor : List ℕ} (stored : List Holding) {now : ℕ} {device : DeviceId} {machine : M} {node : Node}
+    (was : Standing) (adjustment : Units) (row : RowId) (cycle : ℕ) (outcomes : Outcomes) {r : ℕ} {more : List ℕ}
+    → StageAt stands s hs coming mark cursor now device machine node r more
+    → AreStored hs (map (stored_as s.network) stored) → IsFirstTask s.network device node
+    (moment_of s device now).reading.0 (doing (dispatching row cycle))
     → AreOutcomes s stored now (length hs + 1) device was adjustment (acts.Dispatch row cycle) outcomes
     → AreProper s hs now device was adjustment (acts.Dispatch row cycle) outcomes
-of_row stands s hs coming mark cursor stored now device machine node was adjustment row cycle outcomes r more st are first is =
+of_row {stands} {s} {hs} {coming} {mark} {cursor} stored {now} {device} {machine} {node} was adjustment row cycle
+    outcomes {r} {more} st are first is =
     let p = first.pending in
     let entry = p.1.own.1.entry in
     let d = is entry p.1.own.1.is in
@@ -208,31 +214,35 @@ of_row stands s hs coming mark cursor stored now device machine node was adjustm
           let hand : AtHand = record { cause = 0; octets = Made entry.row.vl cycle } in
           let cut = is_cut s entry.row.link (way_from s.network device entry.row.link) now in
           of_dispatch s hs now device was adjustment row cycle entry hand outcomes p.1.own.1.is (inl (sender, refl))
-          (made_is s.network cycle entry row.0 p.1.own.1.is)
+          (made_is cycle p.1.own.1.is)
           (d.0.is ∙ ap (λ (o : Option AtHand). option_map (dispatched_by cut device entry cycle) o) (d.0.of_hand.sender sender)) d.1
       | inr other ↦
-          of_held s hs stored now device was adjustment row cycle entry outcomes d.0.hand p.1.own.1.is
+          of_held stored was adjustment row outcomes d.0.hand p.1.own.1.is
           (held_frame stands s hs coming mark cursor now device machine node row cycle (map (stored_as s.network) stored) r more st are p first.due other)
           (d.0.of_hand.held other) d.0.is d.1
     ]
 
 -- ---- an act
 
-same_outcomes : (s : Scenario) (hs : List Happening) (now : ℕ) (device : DeviceId) (was : Standing) (adjustment : Units) (act : Act) (a b : Outcomes) → a ≡ b
+same_outcomes : {s : Scenario} {hs : List Happening} {now : ℕ} {device : DeviceId} {was : Standing}
+    {adjustment : Units} {act : Act} (a : Outcomes) {b : Outcomes} → a ≡ b
     → AreProper s hs now device was adjustment act b → AreProper s hs now device was adjustment act a
-same_outcomes s hs now device was adjustment act a b same = subst (λ (o : Outcomes). AreProper s hs now device was adjustment act o) (sym same)
+same_outcomes {s} {hs} {now} {device} {was} {adjustment} {act} a same =
+    subst (λ o. AreProper s hs now device was adjustment act o) (sym same)
 
 -- the records of an act of a device of a world that stands
-pub proper : {M : Type 0} (stands : M → Network → DeviceId → Node → Type 0) (s : Scenario) (hs coming : List Happening) (mark cursor : List ℕ)
-    (stored : List Holding) (now : ℕ) (device : DeviceId) (machine : M) (node after : Node) (was : Standing) (adjustment : Units) (act : Act)
-    (outcomes : Outcomes) (r : ℕ) (more : List ℕ) → StageAt stands s hs coming mark cursor now device machine node r more
-    → AreStored hs (map (stored_as s.network) stored) → IsActOf s.network device node (moment_of s device now) act after
-    → AreOutcomes s stored now (length hs + 1) device was adjustment act outcomes
+pub proper : {M : Type 0} {stands : M → Network → DeviceId → Node → Type 0} {s : Scenario}
+    {hs coming : List Happening} {mark cursor : List ℕ} (stored : List Holding) {now : ℕ} {device : DeviceId}
+    {machine : M} {node : Node} (after : Node) (was : Standing) (adjustment : Units) (act : Act)
+    (outcomes : Outcomes) {r : ℕ} {more : List ℕ}
+    → StageAt stands s hs coming mark cursor now device machine node r more
+    → AreStored hs (map (stored_as s.network) stored) → IsActOf s.network device node
+    (moment_of s device now) act after → AreOutcomes s stored now (length hs + 1) device was adjustment act outcomes
     → AreProper s hs now device was adjustment act outcomes
-proper stands s hs coming mark cursor stored now device machine node after was adjustment (acts.Send frame) outcomes r more st are acted is =
+proper stored after was adjustment (acts.Send frame) outcomes st are acted is =
     grind (arith, same_outcomes, settled_at, first_fine)
-proper stands s hs coming mark cursor stored now device machine node after was adjustment (acts.Emit sent heard) outcomes r more st are acted is =
-    same_outcomes s hs now device was adjustment (acts.Emit sent heard) outcomes (emitted_by s.network (length hs + 1) device sent heard) is
+proper {s} {hs} stored {now} {device} after was adjustment (acts.Emit sent heard) outcomes st are acted is =
+    same_outcomes {s = s} {hs = hs} {now = now} {device = device} {was = was} {adjustment = adjustment} {act = acts.Emit sent heard} outcomes {b = emitted_by s.network (length hs + 1) device sent heard} is
     (record {
       bodies = ap (λ (l : List NoteBody). kinds.Compressed device sent.opened sent.at sent.cycle sent.members (judged_as heard) ∷ l)
           (joining (length hs + 1) device heard);
@@ -241,8 +251,7 @@ proper stands s hs coming mark cursor stored now device machine node after was a
       first_fine = (tt, omega arith);
       second_fine = joining_fine (length hs + 1) device heard;
     })
-proper stands s hs coming mark cursor stored now device machine node after was adjustment (acts.Correct cycle verdict) outcomes r more st are acted is =
-    same_outcomes s hs now device was adjustment (acts.Correct cycle verdict) outcomes (corrected_by (length hs + 1) device was cycle adjustment verdict) is
-    (of_correction s hs now device was adjustment cycle verdict)
-proper stands s hs coming mark cursor stored now device machine node after was adjustment (acts.Dispatch row cycle) outcomes r more st are acted is =
-    of_row stands s hs coming mark cursor stored now device machine node was adjustment row cycle outcomes r more st are acted.0 is
+proper {s} {hs} stored {now} {device} after was adjustment (acts.Correct cycle verdict) outcomes st are acted is =
+    same_outcomes outcomes is (of_correction s hs now device was adjustment cycle verdict)
+proper stored after was adjustment (acts.Dispatch row cycle) outcomes st are acted is =
+    of_row stored was adjustment row cycle outcomes st are acted.0 is

@@ -52,8 +52,8 @@ put_stays : (network : Network) (now : ℕ) (o : Option Settled) (old new : List
 put_stays network now None old new put order h there = subst (λ (l : List Settled). IsIn h (map (settled_at network now) l)) (sym put) there
 put_stays network now (Some z) old new put order h there =
     let p = is_put_in network now z old new put.0 put.1 order in
-    subst (λ (l : List Happening). IsIn h l) (sym p.is)
-    (elim (in_parts h p.front p.back (subst (λ (l : List Happening). IsIn h l) p.was there)) [
+    subst (λ l. IsIn h l) (sym p.is)
+    (elim (in_parts h p.front p.back (subst (λ l. IsIn h l) p.was there)) [
       | inl a ↦ in_left h p.front (settled_at network now z ∷ p.back) a
       | inr b ↦ in_right h p.front (settled_at network now z ∷ p.back) (inr b)
     ])
@@ -62,7 +62,7 @@ put_there : (network : Network) (now : ℕ) (z : Settled) (old new : List Settle
     → IsIn (settled_at network now z) (map (settled_at network now) new)
 put_there network now z old new put order =
     let p = is_put_in network now z old new put.0 put.1 order in
-    subst (λ (l : List Happening). IsIn (settled_at network now z) l) (sym p.is)
+    subst (λ l. IsIn (settled_at network now z) l) (sym p.is)
     (in_right (settled_at network now z) p.front (settled_at network now z ∷ p.back) (inl refl))
 
 -- what an act dispatches is a row of the network
@@ -80,12 +80,14 @@ IsLeftIn stands s now device machine (Now part) =
     (node : Node) → keeps stands machine s.network device node → IsFirstPart s.network device node (pos (s.reading device now)) part
 IsLeftIn stands s now device machine (Next due) = IsIdle stands s now device machine
 
-pub left_in : {C M : Type 0} (reading : C → ℕ → ℕ) (stands : M → Network → DeviceId → Node → Type 0) (network : Network) (state : State C M)
-    (device : DeviceId) (left : ToDo) → IsLeft reading stands network state device left → (s : Scenario) (machine : Kept M) → IsOf reading s network state
-    → slice_get state.machines.items device.0 ≡ Some machine → IsLeftIn stands s state.time device machine left
-left_in reading stands network state device Give left s machine of there = tt
-left_in reading stands network state device (Now part) left s machine of there = λ node is. left s machine node of there is
-left_in reading stands network state device (Next due) left s machine of there = left.1 s machine of there
+pub left_in : {C M : Type 0} {reading : C → ℕ → ℕ} (stands : M → Network → DeviceId → Node → Type 0)
+    {network : Network} {state : State C M} (device : DeviceId) (left : ToDo)
+    → IsLeft reading stands network state device left → {s : Scenario} (machine : Kept M)
+    → IsOf reading s network state → slice_get state.machines.items device.0 ≡ Some machine
+    → IsLeftIn stands s state.time device machine left
+left_in stands device Give left machine of there = tt
+left_in stands device (Now part) left {s} machine of there = λ node is. left s machine node of there is
+left_in stands device (Next due) left {s} machine of there = left.1 s machine of there
 
 module _ {C M : Type 0} (reading : C → ℕ → ℕ) (stands : M → Network → DeviceId → Node → Type 0) (network : Network) (state : State C M) (part : Part)
     (device : DeviceId) (machine : Kept M) (lt : device.0 < length network.device) (there : slice_get state.machines.items device.0 ≡ Some machine)
@@ -98,7 +100,7 @@ module _ {C M : Type 0} (reading : C → ℕ → ℕ) (stands : M → Network �
 
   first_part : (s : Scenario) (notes : List Note) → Old s notes → (node : Node) → keeps stands machine s.network device node
       → IsFirstPart s.network device node (pos (s.reading device state.time)) part
-  first_part s notes old node is = due s machine node (shows_of reading (keeps stands) s network state notes old) there is
+  first_part s notes old node is = due s machine node (shows_of network state old) there is
 
   task_now : (s : Scenario) (notes : List Note) → Old s notes → (node : Node) → keeps stands machine s.network device node
       → HasTaskBy s device node state.time
@@ -110,7 +112,7 @@ module _ {C M : Type 0} (reading : C → ℕ → ℕ) (stands : M → Network �
   kept_at s notes old =
       let m = old.devices device (subst (λ (n : Network). device.0 < length n.device) old.same lt) in
       let same : m.0 ≡ machine = same_Some m.0 machine (sym m.1 ∙ there) in
-      elim (subst (λ (x : Kept M). IsHeld (keeps stands) s (happenings s.network notes) (map (settled_at network state.time) state.settled.items) old.cursor state.time device x) same m.2) [
+      elim (subst (λ x. IsHeld (keeps stands) s (happenings s.network notes) (map (settled_at network state.time) state.settled.items) old.cursor state.time device x) same m.2) [
         | inl k ↦ k
         | inr out ↦ let task = task_now s notes old out.node out.is in absurd (no_task s.network device out.node task.0 out.shows task.1)
       ]
@@ -125,7 +127,7 @@ module _ {C M : Type 0} (reading : C → ℕ → ℕ) (stands : M → Network �
         device,
         k.node,
         k.is,
-        subst (MayAct at.s.network device k.node) (sym (reads at.s (shows_of reading (keeps stands) at.s network state at.notes at.is)))
+        subst (MayAct at.s.network device k.node) (sym (reads at.s (shows_of network state at.is)))
             (record {
               call = may_act_now at.s device k.node state.time k.ready (at.is.steady device) at.is.limit;
               due = λ has. task_now at.s at.notes at.is k.node k.is;
@@ -154,14 +156,14 @@ module _ {C M : Type 0} (reading : C → ℕ → ℕ) (stands : M → Network �
   of_part s notes old act after acted =
       let k = kept_at s notes old in
       let new = acted_at s notes old act after acted in
-      act_place_is s.network state.time device k.node (moment_of s device state.time) act new.0 part new.1 (first_part s notes old k.node k.is)
+      act_place_is state.time (moment_of s device state.time) act new.0 new.1 (first_part s notes old k.node k.is)
 
   of_rank : (s : Scenario) (notes : List Note) (old : Old s notes) (act : Act) (after : Kept M)
       → HasActed (keeps stands) s.network device (moment_of s device state.time) act machine after → rank_of_act act ≡ part_rank part
   of_rank s notes old act after acted =
       let k = kept_at s notes old in
       let new = acted_at s notes old act after acted in
-      act_rank_is s.network device k.node (moment_of s device state.time) act new.0 part new.1 (first_part s notes old k.node k.is)
+      act_rank_is (moment_of s device state.time) act new.0 new.1 (first_part s notes old k.node k.is)
 
   comes : (s : Scenario) (notes : List Note) (old : Old s notes) (act : Act) (after : Kept M) → First_ s notes old
       → HasActed (keeps stands) s.network device (moment_of s device state.time) act machine after
@@ -201,13 +203,13 @@ module _ {C M : Type 0} (reading : C → ℕ → ℕ) (stands : M → Network �
       → AreOutcomes s state.stored.items state.time (state.given + 1) device was adjustment act outcomes
       → AreProper s (happenings s.network notes) state.time device was adjustment act outcomes
   proper_at s notes old first act after was adjustment outcomes acted are =
-      let number : state.given + 1 ≡ length (happenings s.network notes) + 1 = ap (λ (n : ℕ). n + 1) (old.given ∙ length_is s notes) in
+      let number : state.given + 1 ≡ length (happenings s.network notes) + 1 = ap (λ n. n + 1) (old.given ∙ length_is s notes) in
       let st = staged s notes old first act after acted in
       let new = acted st.0 st.1.is (may_act_now s device st.0 state.time st.1.work.ready st.1.steady st.1.limit) st.1.task in
-      proper (keeps stands) s (happenings s.network notes) (map (settled_at network state.time) state.settled.items) old.mark old.cursor state.stored.items state.time device machine st.0 new.0 was adjustment
-      act outcomes (rank_of_act act) (act_rest s.network device act) st.1
-      (subst (λ (n : Network). AreStored (happenings s.network notes) (map (stored_as n) state.stored.items)) old.same old.stored) new.1
-      (subst (λ (n : ℕ). AreOutcomes s state.stored.items state.time n device was adjustment act outcomes) number are)
+      proper state.stored.items new.0 was adjustment
+      act outcomes st.1
+      (subst (λ n. AreStored (happenings s.network notes) (map (stored_as n) state.stored.items)) old.same old.stored) new.1
+      (subst (λ n. AreOutcomes s state.stored.items state.time n device was adjustment act outcomes) number are)
 
   -- what is settled stays fit
   pub octets_then : (s : Scenario) (hs : List Happening) (was : Standing) (adjustment : Units) (act : Act) (outcomes : Outcomes) (mid new : List Settled)
@@ -248,13 +250,13 @@ module _ {C M : Type 0} (reading : C → ℕ → ℕ) (stands : M → Network �
           → (first : Settled) × (others : List Settled) × (new ≡ first ∷ others) × (is_at_source first.body ≡ true)
       by None e early = absurd early
       by (Some z) e early =
-          let put = subst (λ (o : Option Settled). IsSomePut o state.settled.items mid) e one in
+          let put = subst (λ o. IsSomePut o state.settled.items mid) e one in
           let then = order_then s.network network state.time hs outcomes.first state.settled.items mid one order in
           let last = order_then s.network network state.time hs outcomes.second mid new two then in
           let there = put_stays network state.time outcomes.second mid new two then (settled_at network state.time z)
           (put_there network state.time z state.settled.items mid put order) in
           let f = low_first network state.time 6 new z last there early in
-          let four = each_of (λ (x : Settled). 4 ≤ rank x.body) new f.0 least (subst (λ (l : List Settled). IsIn f.0 l) (sym f.2) (inl refl)) in
+          let four = each_of (λ (x : Settled). 4 ≤ rank x.body) new f.0 least (subst (λ l. IsIn f.0 l) (sym f.2) (inl refl)) in
           let six = f.3 in
           (f.0, f.1, f.2, at_rank f.0.body (record { least = omega (arith, four); no_change = λ e. omega (arith, e, six); either = inl (omega (arith, six)) }))
 
@@ -267,7 +269,7 @@ module _ {C M : Type 0} (reading : C → ℕ → ℕ) (stands : M → Network �
       let k = kept_at s notes old in
       let law = lawful reading (keeps stands) s (world_of network state) notes old device in
       let same = of_rank s notes old act after acted in
-      let grows = left_no_sooner s.network device k.node (moment_of s device state.time) act new left old.range old.rules
+      let grows = left_no_sooner {device = device} {node = k.node} {moment = moment_of s device state.time} act {new = new} {left = left} old.range old.rules
       (kept_from_zero (keeps stands) s (happenings s.network notes) (map (settled_at network state.time) state.settled.items) old.cursor state.time device machine k law)
       (may_act_now s device k.node state.time k.ready (old.steady device) old.limit) is first in
       omega (arith, same, grows)
@@ -299,9 +301,9 @@ module _ {C M : Type 0} (reading : C → ℕ → ℕ) (stands : M → Network �
         λ b.
             not_before_own state.time (rank_of_act act) device.0 (act_more s.network act)
             (chain (state.time ∷ rank_of_act act ∷ device.0 ∷ act_more s.network act) (behind place) (place_of_act state.time device act)
-            (subst (λ (q : List ℕ). IsBefore q (behind place)) (act_stands s.network state.time device act) (before_behind place))
-            (subst (λ (q : List ℕ). IsBefore (behind place) q) (sym (of_part s notes old act after acted))
-            (subst (λ (q : List ℕ). IsBefore q (part_place part state.time device)) gone.1 b))),
+            (subst (λ q. IsBefore q (behind place)) (act_stands s.network state.time device act) (before_behind place))
+            (subst (λ q. IsBefore (behind place) q) (sym (of_part s notes old act after acted))
+            (subst (λ q. IsBefore q (part_place part state.time device)) gone.1 b))),
       )
     where
       own : AreProper s (happenings s.network notes) state.time device was adjustment act outcomes
@@ -330,6 +332,6 @@ module _ {C M : Type 0} (reading : C → ℕ → ℕ) (stands : M → Network �
           (map (settled_at network state.time) new)
       puts =
           both_put s.network network state.time (happenings s.network notes) outcomes.first outcomes.second state.settled.items mid new one two
-          (settled_in_order reading (keeps stands) s (world_of network state) notes old)
-          (subst (λ (n : Network). IsOwn s.network n state.time (happenings s.network notes) outcomes.first) (sym old.same) own.first)
-          (subst (λ (n : Network). IsOwn s.network n state.time (happenings s.network notes) outcomes.second) (sym old.same) own.second)
+          (settled_in_order old)
+          (subst (λ n. IsOwn s.network n state.time (happenings s.network notes) outcomes.first) (sym old.same) own.first)
+          (subst (λ n. IsOwn s.network n state.time (happenings s.network notes) outcomes.second) (sym old.same) own.second)

@@ -103,7 +103,7 @@ module _ {C M : Type 0} (last_step : C → ℕ) (reading : C → ℕ → ℕ) (s
   from_then (Next due) is from at lt = tt
   from_then (Now other) is from at lt =
       let m = at.is.devices device (subst (λ (n : Network). device.0 < length n.device) at.is.same lt) in
-      let of = shows_of reading (keeps stands) at.s network first at.notes at.is in
+      let of = shows_of network first at.is in
       let node = node_at at.s at.notes at.is m.0 m.2 in
       first_no_sooner at.s.network device node.0 _ other part (is at.s m.0 node.0 of m.1 node.1) (from at.s m.0 node.0 of m.1 node.1)
 
@@ -196,7 +196,7 @@ module _ {C M : Type 0} (last_step : C → ℕ) (reading : C → ℕ → ℕ) (s
       let still = turn.still s notes old f in
       let given = still.new.given in
       let long = length-map now.settled.items (settled_at network now.time) in
-      subst (λ (t : ℕ). ComesFirst reading (keeps stands) s (world_of network now) notes still.new (part_place part t device)) (sym (now_time now left acts turn))
+      subst (λ t. ComesFirst reading (keeps stands) s (world_of network now) notes still.new (part_place part t device)) (sym (now_time now left acts turn))
       (record { none = still.none; after = still.after; room = omega (arith, numbers, given, long) })
 
   pub comes_at : (now : State C M) (left : ToDo) (acts : ℕ) → Turn now left acts → now.given + length now.settled.items + 2 < numbers_end
@@ -214,14 +214,14 @@ module _ {C M : Type 0} (last_step : C → ℕ) (reading : C → ℕ → ℕ) (s
   still_then now new left acts turn numbers acted s notes old f =
       let was = turn.still s notes old f in
       let time = now_time now left acts turn in
-      let then = subst (λ (t : ℕ). StandsFrom reading stands s (world_of network new) notes (part_place part t device)) time
+      let then = subst (λ t. StandsFrom reading stands s (world_of network new) notes (part_place part t device)) time
       (acted.then_stands s notes was.new (comes_first now left acts turn numbers s notes old f)) in
       let cursor = then.0.cursor in
       record {
         new = then.0;
         none = λ w source not_yet before. elim (either_way w cursor) [
           | inl lt ↦ not_yet lt
-          | inr (inl e) ↦ then.1 (subst (λ (q : List ℕ). IsBefore q (part_place part first.time device)) e before)
+          | inr (inl e) ↦ then.1 (subst (λ q. IsBefore q (part_place part first.time device)) e before)
           | inr (inr gt) ↦ then.1 (chain cursor w (part_place part first.time device) gt before)
         ];
         after = λ z there before.
@@ -230,13 +230,13 @@ module _ {C M : Type 0} (last_step : C → ℕ) (reading : C → ℕ → ℕ) (s
             let now_is : new.time ≡ first.time = ap (λ (x : State C M). x.time) acted.same ∙ time in
             not_earlier new.time first.time (own_place made.0) (part_rank part ∷ device.0 ∷ []) (omega (arith, now_is))
             (λ e. higher (rank made.0.body) (part_rank part) (key (option_map_or (λ frame. frame.members.0) made.0.frame 0) made.0.body) (device.0 ∷ []) high)
-            (subst (λ (h : Happening). IsBefore (place_of h) (part_place part first.time device)) (sym made.2) before);
+            (subst (λ h. IsBefore (place_of h) (part_place part first.time device)) (sym made.2) before);
       }
 
   due_now : (now : State C M) (s : Scenario) (notes : List Note) (machine : Kept M) → Due now → Stands reading (keeps stands) s (world_of network now) notes
       → slice_get now.machines.items device.0 ≡ Some machine → IsDueNow (keeps stands) s.network device (moment_of s device now.time) machine
   due_now now s notes machine due old there = λ node is.
-      let f = (due s machine node (shows_of reading (keeps stands) s network now notes old) there is).is in (f.task, f.pending, f.due)
+      let f = (due s machine node (shows_of network now old) there is).is in (f.task, f.pending, f.due)
 
   times_then : (now new : State C M) (left : ToDo) (acts : ℕ) (turn : Turn now left acts) → Due now
       → IsActed last_step reading stands network part device now new
@@ -251,9 +251,9 @@ module _ {C M : Type 0} (last_step : C → ℕ) (reading : C → ℕ → ℕ) (s
       let same : act.1 ≡ last = some_same act.1 last (slice_get new.machines.items device.0) act.2 there_last in
       acts_add_up (keeps stands) s.network device (moment_of s device first.time) act.0 acts machine mid.0 last old.range old.rules
       (turn.times s notes old f machine mid.0 there mid.1)
-      (subst (λ (t : ℕ). IsDueNow (keeps stands) s.network device (moment_of s device t) mid.0) time (due_now now s notes mid.0 due was.new mid.1))
-      (subst (λ (x : Kept M). HasActed (keeps stands) s.network device (moment_of s device first.time) act.0 mid.0 x) same
-      (subst (λ (t : ℕ). HasActed (keeps stands) s.network device (moment_of s device t) act.0 mid.0 act.1) time act.3))
+      (subst (λ t. IsDueNow (keeps stands) s.network device (moment_of s device t) mid.0) time (due_now now s notes mid.0 due was.new mid.1))
+      (subst (λ x. HasActed (keeps stands) s.network device (moment_of s device first.time) act.0 mid.0 x) same
+      (subst (λ t. HasActed (keeps stands) s.network device (moment_of s device t) act.0 mid.0 act.1) time act.3))
 
   -- it acts at most so often
   few_then : (now new : State C M) (left : ToDo) (acts : ℕ) (turn : Turn now left acts) → Due now

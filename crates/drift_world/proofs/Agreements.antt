@@ -43,26 +43,29 @@ all_come (e ∷ es) device t past =
     all_one t (amount e.time) (step_by device (amount e.time) e.what) (rate_steps es device) (past e (inl refl))
     (step_at device (amount e.time) e.what) (all_come es device t (λ d i. past d (inr i)))
 
--- what a clock reads from then on is what its value reads
-pub reads_value : {C : Type 0} (fresh : ℕ → C) (after_step : C → ℕ → ℤ → C) (reading : C → ℕ → ℕ) (network : Network) (events : List Event)
-    (device : DeviceId) (t : ℕ) → ((e : Event) → IsIn e events → amount e.time ≤ t)
-    → reading_of fresh after_step reading network events device t ≡ reading (clock_of fresh after_step network events device) t
-reads_value fresh after_step reading network events device t past =
-    ap (λ (l : List RateStep). reading (value_after after_step (fresh (amount network.grain)) l) t)
-    (up_to-all t (rate_steps events device) (all_come events device t past))
+module _ {C : Type 0} (fresh : ℕ → C) (after_step : C → ℕ → ℤ → C) (reading : C → ℕ → ℕ) where
+  -- what a clock reads from then on is what its value reads
+  pub reads_value : (network : Network) (events : List Event) (device : DeviceId) (t : ℕ)
+      → ((e : Event) → IsIn e events → amount e.time ≤ t)
+      → reading_of fresh after_step reading network events device t
+      ≡ reading (clock_of fresh after_step network events device) t
+  reads_value network events device t past =
+      ap (λ l. reading (value_after after_step (fresh (amount network.grain)) l) t)
+      (up_to-all t (rate_steps events device) (all_come events device t past))
 
--- ---- up to the event
+  -- ---- up to the event
 
--- a step does not change what is read at its time
-step_reads : {C : Type 0} (fresh : ℕ → C) (after_step : C → ℕ → ℤ → C) (reading : C → ℕ → ℕ) (grain : C → ℕ) (count : C → ℕ → ℕ)
-    (law : IsLawful fresh after_step reading grain count) (clock : C) (t : ℕ) (rate : ℤ) → reading (after_step clock t rate) t ≡ reading clock t
-step_reads fresh after_step reading grain count law clock t rate = grind arith
+  -- a step does not change what is read at its time
+  step_reads : {grain : C → ℕ} {count : C → ℕ → ℕ} (law : IsLawful fresh after_step reading grain count) (clock : C)
+      (t : ℕ) (rate : ℤ) → reading (after_step clock t rate) t ≡ reading clock t
+  step_reads law clock t rate = grind arith
 
-one_reads : {C : Type 0} (fresh : ℕ → C) (after_step : C → ℕ → ℤ → C) (reading : C → ℕ → ℕ) (grain : C → ℕ) (count : C → ℕ → ℕ)
-    (law : IsLawful fresh after_step reading grain count) (clock : C) (time x : ℕ) (o : Option RateStep) → Holds o (λ s. s.at ≡ time) → x ≤ time
+one_reads : {C : Type 0} {fresh : ℕ → C} {after_step : C → ℕ → ℤ → C} {reading : C → ℕ → ℕ} {grain : C → ℕ}
+    {count : C → ℕ → ℕ} (law : IsLawful fresh after_step reading grain count) (clock : C) (time x : ℕ)
+    (o : Option RateStep) → Holds o (λ s. s.at ≡ time) → x ≤ time
     → reading (value_after after_step clock (up_to x (one_of o))) x ≡ reading clock x
-one_reads fresh after_step reading grain count law clock time x None at le = refl
-one_reads fresh after_step reading grain count law clock time x (Some step) at le = grind (arith, cases_lt, lt-leb, le-leb, step_reads)
+one_reads law clock time x None at le = refl
+one_reads law clock time x (Some step) at le = grind (arith, cases_lt, lt-leb, le-leb, step_reads)
 
 pub reads_same : {C : Type 0} (fresh : ℕ → C) (after_step : C → ℕ → ℤ → C) (reading : C → ℕ → ℕ) (grain : C → ℕ) (count : C → ℕ → ℕ)
     → IsLawful fresh after_step reading grain count → (network : Network) (past : List Event) (event : Event) (device : DeviceId) (x : ℕ)

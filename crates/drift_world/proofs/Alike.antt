@@ -1,61 +1,65 @@
 -- A world stands also where its lists have what they had in another order.
 use Rattle.drift_world.proofs.Words.{◌↔◌, AtPort, DeviceId, IsIn, List, Network, Node, Note, OnWire, Scenario, StandsBehind, World, ℕ}
 
--- other wires and ports, with the same on them and at them
-with_lists : {C M : Type 0} (reading : C → ℕ → ℕ) (stands : M → Network → DeviceId → Node → Type 0) (s : Scenario) (world : World C M) (notes : List Note)
-    (wires : List OnWire) (ports : List AtPort) (p : List ℕ) → ((e : OnWire) → IsIn e wires ↔ IsIn e world.wires)
-    → ((e : AtPort) → IsIn e ports ↔ IsIn e world.ports) → StandsBehind reading stands s world notes p
-    → StandsBehind reading stands s (record world { wires = wires; ports = ports }) notes p
-with_lists reading stands s world notes wires ports p on at behind =
-    let it = behind.0 in (
-      record {
-        same = it.same;
-        range = it.range;
-        rules = it.rules;
-        forward = it.forward;
-        steady = it.steady;
-        precise = it.precise;
-        mark = it.mark;
-        cursor = it.cursor;
-        run = it.run;
-        ahead = it.ahead;
-        of_now = it.of_now;
-        not_later = it.not_later;
-        limit = it.limit;
-        lines = it.lines;
-        given = it.given;
-        ended = it.ended;
-        befallen = it.befallen;
-        clocks = it.clocks;
-        broken = it.broken;
-        ways = it.ways;
-        room = it.room;
-        known = it.known;
-        devices = it.devices;
-        early = it.early;
-        untold = it.untold;
-        wires = record {
-          real = λ e there. it.wires.real e ((on e).0 there);
-          all = λ t device link cause a late waits. let found = it.wires.all t device link cause a late waits in (found.0, (on found.0).1 found.1, found.2);
-        };
-        ports = record {
-          real = λ e there. it.ports.real e ((at e).0 there);
-          all = λ t device link cause d waits. let found = it.ports.all t device link cause d waits in (found.0, (at found.0).1 found.1, found.2);
-        };
-        waiting = it.waiting;
-        stored = it.stored;
-        are = it.are;
-        shown = it.shown;
-      },
-      behind.1,
-    )
+module _ {C M : Type 0} (reading : C → ℕ → ℕ) (stands : M → Network → DeviceId → Node → Type 0) (s : Scenario)
+    (world : World C M) (notes : List Note) where
+  -- other wires and ports, with the same on them and at them
+  with_lists : (wires : List OnWire) (ports : List AtPort) (p : List ℕ)
+      → ((e : OnWire) → IsIn e wires ↔ IsIn e world.wires) → ((e : AtPort) → IsIn e ports ↔ IsIn e world.ports)
+      → StandsBehind reading stands s world notes p → StandsBehind reading stands s
+      (record world { wires = wires; ports = ports }) notes p
+  with_lists wires ports p on at behind =
+      let it = behind.0 in (
+        record {
+          same = it.same;
+          range = it.range;
+          rules = it.rules;
+          forward = it.forward;
+          steady = it.steady;
+          precise = it.precise;
+          mark = it.mark;
+          cursor = it.cursor;
+          run = it.run;
+          ahead = it.ahead;
+          of_now = it.of_now;
+          not_later = it.not_later;
+          limit = it.limit;
+          lines = it.lines;
+          given = it.given;
+          ended = it.ended;
+          befallen = it.befallen;
+          clocks = it.clocks;
+          broken = it.broken;
+          ways = it.ways;
+          room = it.room;
+          known = it.known;
+          devices = it.devices;
+          early = it.early;
+          untold = it.untold;
+          wires = record {
+            real = λ e there. it.wires.real e ((on e).0 there);
+            all = λ t device link cause a late waits. let found = it.wires.all t device link cause a late waits in
+                (found.0, (on found.0).1 found.1, found.2);
+          };
+          ports = record {
+            real = λ e there. it.ports.real e ((at e).0 there);
+            all = λ t device link cause d waits. let found = it.ports.all t device link cause d waits in
+                (found.0, (at found.0).1 found.1, found.2);
+          };
+          waiting = it.waiting;
+          stored = it.stored;
+          are = it.are;
+          shown = it.shown;
+        },
+        behind.1,
+      )
 
-pub with_wires : {C M : Type 0} (reading : C → ℕ → ℕ) (stands : M → Network → DeviceId → Node → Type 0) (s : Scenario) (world : World C M)
-    (notes : List Note) (wires : List OnWire) (p : List ℕ) → ((e : OnWire) → IsIn e wires ↔ IsIn e world.wires)
-    → StandsBehind reading stands s world notes p → StandsBehind reading stands s (record world { wires = wires }) notes p
-with_wires reading stands s world notes wires p on = with_lists reading stands s world notes wires world.ports p on (λ e. (λ i. i, λ i. i))
+  pub with_wires : (wires : List OnWire) (p : List ℕ) → ((e : OnWire) → IsIn e wires ↔ IsIn e world.wires)
+      → StandsBehind reading stands s world notes p → StandsBehind reading stands s
+      (record world { wires = wires }) notes p
+  with_wires wires p on = with_lists wires world.ports p on (λ e. (λ i. i, λ i. i))
 
-pub with_ports : {C M : Type 0} (reading : C → ℕ → ℕ) (stands : M → Network → DeviceId → Node → Type 0) (s : Scenario) (world : World C M)
-    (notes : List Note) (ports : List AtPort) (p : List ℕ) → ((e : AtPort) → IsIn e ports ↔ IsIn e world.ports)
-    → StandsBehind reading stands s world notes p → StandsBehind reading stands s (record world { ports = ports }) notes p
-with_ports reading stands s world notes ports p at = with_lists reading stands s world notes world.wires ports p (λ e. (λ i. i, λ i. i)) at
+  pub with_ports : (ports : List AtPort) (p : List ℕ) → ((e : AtPort) → IsIn e ports ↔ IsIn e world.ports)
+      → StandsBehind reading stands s world notes p → StandsBehind reading stands s
+      (record world { ports = ports }) notes p
+  with_ports ports p at = with_lists world.wires ports p (λ e. (λ i. i, λ i. i)) at

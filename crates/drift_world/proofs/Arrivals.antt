@@ -17,17 +17,18 @@ pub record HoldsOfControl (P : Arrival → Type 0) (frame : Pcf) : Type 0 where
   pub passes : (way : Way) → P (arrivals.Passes frame way)
   pub both : (way : Way) (point : Units) → P (arrivals.PassesAndWaits frame way point)
 
-taken_so : (P : Arrival → Type 0) (frame : Pcf) (point : Units) (relay parent : Bool) → HoldsOfControl P frame
-    → P (if relay then (if parent then arrivals.Passes frame Up else arrivals.PassesAndWaits frame Down point) else arrivals.Waits frame point)
-taken_so P frame point true true h = h.passes Up
-taken_so P frame point true false h = h.both Down point
-taken_so P frame point false parent h = h.waits point
+taken_so : (P : Arrival → Type 0) {frame : Pcf} (point : Units) (relay parent : Bool) → HoldsOfControl P frame → P
+    (if relay then (if parent then arrivals.Passes frame Up else arrivals.PassesAndWaits frame Down point) else
+    arrivals.Waits frame point)
+taken_so P point true true h = h.passes Up
+taken_so P point true false h = h.both Down point
+taken_so P point false parent h = h.waits point
 
 fault_so : (P : Arrival → Type 0) (network : Network) (device : DeviceId) (link : LinkId) (at : Standpoint) (frame : Pcf) (fault : Option Reason)
     → HoldsOfControl P (on_arrival network link frame) → P (frame_or_fault network device link at frame fault)
 fault_so P network device link at frame (Some reason) h = h.dropped reason
 fault_so P network device link at frame None h =
-    taken_so P (on_arrival network link frame) (point_on_arrival network at (clock_on_arrival network link frame)) (is_relay network device)
+    taken_so P (point_on_arrival network at (clock_on_arrival network link frame)) (is_relay network device)
     (is_parent_of network device link) h
 
 pub control_so : (P : Arrival → Type 0) (network : Network) (device : DeviceId) (link : LinkId) (at : Standpoint) (frame : Pcf)

@@ -50,11 +50,12 @@ rank_most other = omega arith
 -- ---- it may be given
 
 -- its source is worked off, so no other stands before it that is not
-pub own_gives : {C M : Type 0} (reading : C → ℕ → ℕ) (stands : M → Network → DeviceId → Node → Type 0) (network : Network) (state : State C M)
-    (z : Settled) (others : List Settled) (s : Scenario) (notes : List Note) → is_at_source z.body ≡ true → state.settled.items ≡ z ∷ others
+pub own_gives : {C M : Type 0} {reading : C → ℕ → ℕ} (stands : M → Network → DeviceId → Node → Type 0)
+    (network : Network) (state : State C M) (z : Settled) (others : List Settled) {s : Scenario} {notes : List Note}
+    → is_at_source z.body ≡ true → state.settled.items ≡ z ∷ others
     → (old : Stands reading (keeps stands) s (world_of network state) notes)
     → NoSourceBefore s (happenings s.network notes) old.cursor (place_of (settled_at network state.time z))
-own_gives reading stands network state z others s notes source whole old =
+own_gives stands network state z others source whole old =
     let shown = settled_at network state.time z in
     let there : IsIn shown (map (settled_at network state.time) state.settled.items) =
     subst (λ (l : List Settled). IsIn shown (map (settled_at network state.time) l)) (sym whole) (inl refl) in
@@ -79,9 +80,11 @@ each_above network now low (x ∷ xs) order first y (inr i) =
       | inl less ↦ absurd (order.0 (settled_at network now y) (is_mapped (settled_at network now) xs y i) (inr (refl, inl less)))
     ]
 
-pub all_above : {C M : Type 0} (reading : C → ℕ → ℕ) (stands : M → Network → DeviceId → Node → Type 0) (network : Network) (state : State C M) (low : ℕ)
-    (s : Scenario) (notes : List Note) → Stands reading (keeps stands) s (world_of network state) notes
-    → ((z : Settled) (others : List Settled) → state.settled.items ≡ z ∷ others → low < rank z.body) → AreAbove low state
-all_above reading stands network state low s notes old first =
+pub all_above : {C M : Type 0} {reading : C → ℕ → ℕ} (stands : M → Network → DeviceId → Node → Type 0)
+    (network : Network) (state : State C M) (low : ℕ) {s : Scenario} {notes : List Note}
+    → Stands reading (keeps stands) s (world_of network state) notes
+    → ((z : Settled) (others : List Settled) → state.settled.items ≡ z ∷ others → low < rank z.body)
+    → AreAbove low state
+all_above stands network state low old first =
     all_of (λ (z : Settled). low < rank z.body) state.settled.items
-    (each_above network state.time low state.settled.items (settled_in_order reading (keeps stands) s (world_of network state) notes old) first)
+    (each_above network state.time low state.settled.items (settled_in_order old) first)

@@ -57,8 +57,8 @@ module _ (s : Scenario) (now : ℕ) (x : Happening) (number : ℕ) (giving : Giv
         let frames : e.frame ≡ giving.frame = same_Some _ _ (sym for.of_frame ∙ frame) in
         let points : e.point.0 ≡ point_of (pos giving.reading) clock s.network.dmax.0 =
         for.at_point ∙ ap (λ (d : DeviceId). point_of (pos (s.reading d (time_of x))) for.clock s.network.dmax.0) device
-        ∙ ap (λ (k : ℕ). point_of (pos (s.reading giving.device (time_of x))) k s.network.dmax.0) clocks
-        ∙ ap (λ (r : ℕ). point_of (pos r) clock s.network.dmax.0) (sym reads_so) in
+        ∙ ap (λ k. point_of (pos (s.reading giving.device (time_of x))) k s.network.dmax.0) clocks
+        ∙ ap (λ r. point_of (pos r) clock s.network.dmax.0) (sym reads_so) in
         (same_waiting e (waiting_as one) device links (cause_is ∙ sym numbered) frames points, device, links)
 
     arrival_waits : (b : Bool) → (not giving.broken && waits_for s.network giving.device link) ≡ b
@@ -73,9 +73,9 @@ module _ (s : Scenario) (now : ℕ) (x : Happening) (number : ℕ) (giving : Giv
           waits = for.waits;
           at_point = for.at_point;
         }) in
-        let whole : giving.broken ≡ false = broken_so ∙ ap (λ (d : DeviceId). is_broken s d (time_of x)) (sym o.1) ∙ sound in
+        let whole : giving.broken ≡ false = broken_so ∙ ap (λ d. is_broken s d (time_of x)) (sym o.1) ∙ sound in
         let wait : waits_for s.network giving.device link ≡ true =
-        ap (λ (d : DeviceId). waits_for s.network d link) (sym o.1) ∙ ap (waits_for s.network w.device) (sym o.2) ∙ for.waits in
+        ap (λ d. waits_for s.network d link) (sym o.1) ∙ ap (waits_for s.network w.device) (sym o.2) ∙ for.waits in
         let both : (not giving.broken && waits_for s.network giving.device link) ≡ true =
         ap (λ (c : Bool). not c && waits_for s.network giving.device link) whole ∙ wait in
         let no_bool : true ≡ false = sym both ∙ e in absurd cc))
@@ -94,7 +94,7 @@ module _ (s : Scenario) (now : ℕ) (x : Happening) (number : ℕ) (giving : Giv
                     arrived = is;
                     of_frame = frame;
                     waits = parts.1;
-                    at_point = ap (λ (r : ℕ). point_of (pos r) clock s.network.dmax.0) reads_so;
+                    at_point = ap (λ r. point_of (pos r) clock s.network.dmax.0) reads_so;
                   },
                   sym broken_so ∙ parts.0,
                 ))
@@ -112,9 +112,9 @@ module _ (s : Scenario) (now : ℕ) (x : Happening) (number : ℕ) (giving : Giv
             let device : a.device ≡ giving.device = same_Some _ _ (ap giver_of (sym a.is) ∙ by) in
             let is : x.note.body ≡ Arrived giving.device a.link a.cause a.clock = a.is ∙ ap (λ (d : DeviceId). Arrived d a.link a.cause a.clock) device in
             arrival_waits a.link a.cause a.clock is _ refl
-            (subst (λ (b : NoteBody). IsOneMore (awaited_by s.network giving.broken b (Some giving.frame) giving.reading giving.number) old new) is more)
+            (subst (λ b. IsOneMore (awaited_by s.network giving.broken b (Some giving.frame) giving.reading giving.number) old new) is more)
         | inr a ↦
             subst (λ (l : List Waits). AreAwaited s x number (map waiting_as old) (map waiting_as l))
-            (sym (subst (λ (o : Option Waits). IsOneMore o old new) (a.none s.network giving.broken (Some giving.frame) giving.reading giving.number) more))
+            (sym (subst (λ o. IsOneMore o old new) (a.none s.network giving.broken (Some giving.frame) giving.reading giving.number) more))
             (none_awaited s x number (map waiting_as old) (λ w for sound. a.apart w.device w.link for.from for.clock for.arrived))
       ]

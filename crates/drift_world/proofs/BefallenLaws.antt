@@ -34,9 +34,10 @@ way_found : (s : Scenario) (now : ℕ) (link : LinkId) (ups : List WayState) (o 
 way_found s now link ups None found is = absurd cc
 way_found s now link ups (Some w) found is = record { way = w; found = found; is = same_Some _ _ is }
 
-way_up : (s : Scenario) (now : ℕ) (ups downs : List WayState) → AreWays s now (map way_as ups) (map way_as downs) → (link : LinkId)
-    → link.0 < length s.network.link → IsUp s now link ups
-way_up s now ups downs ways link lt = way_found s now link ups (slice_get ups link.0) refl (sym (slice_get-map way_as ups link.0) ∙ ways.up link lt)
+way_up : {s : Scenario} {now : ℕ} (ups downs : List WayState) → AreWays s now (map way_as ups) (map way_as downs)
+    → (link : LinkId) → link.0 < length s.network.link → IsUp s now link ups
+way_up {s} {now} ups downs ways link lt =
+    way_found s now link ups (slice_get ups link.0) refl (sym (slice_get-map way_as ups link.0) ∙ ways.up link lt)
 
 -- ---- what an event puts on wires
 
@@ -52,7 +53,7 @@ module _ (s : Scenario) where
     λ there. inl (subst (λ (l : List (Entry Content)). IsIn y (filter_map (on_wire s.network) l)) put there),
     λ h. elim h [
       | inl there ↦ subst (λ (l : List (Entry Content)). IsIn y (filter_map (on_wire s.network) l)) (sym put) there
-      | inr more ↦ absurd (subst (λ (l : List OnWire). IsIn y l) on more)
+      | inr more ↦ absurd (subst (λ l. IsIn y l) on more)
     ],
   )
   with_it (Some e) ws old new on put y = (
@@ -61,14 +62,14 @@ module _ (s : Scenario) where
         elim (in_permuted new (e ∷ old) of.0 (IsPermutation-sym _ _ put) of.1) [
           | inl own ↦
               let same : y ≡ on.0 = same_Some _ _ (sym of.2 ∙ ap (on_wire s.network) own ∙ on.1) in
-              inr (subst (λ (l : List OnWire). IsIn y l) (sym on.2) (inl same))
+              inr (subst (λ l. IsIn y l) (sym on.2) (inl same))
           | inr rest ↦ inl (is_given (on_wire s.network) old of.0 y rest of.2)
         ],
     λ h. elim h [
       | inl there ↦
           let of = given_of (on_wire s.network) old y there in
           is_given (on_wire s.network) new of.0 y (in_permuted (e ∷ old) new of.0 put (inr of.1)) of.2
-      | inr more ↦ elim (subst (λ (l : List OnWire). IsIn y l) on.2 more) [
+      | inr more ↦ elim (subst (λ l. IsIn y l) on.2 more) [
         | inl same ↦
             is_given (on_wire s.network) new e y (in_permuted (e ∷ old) new e put (inl refl)) (on.1 ∙ ap (λ (v : OnWire). Some v) (sym same))
         | inr none ↦ absurd none
@@ -92,9 +93,9 @@ module _ (s : Scenario) where
     sent_as : (link : LinkId) (octets : List ℕ) (l : Link) (w : WayState) (cut : Bool) → w.cut ≡ cut → w.delay ≡ delay_at s link Up now
         → IsOn (sent_up s.network now number link octets l w) (if cut then [] else sent_on s now number link octets l ∷ [])
     sent_as link octets l w true is delay =
-        subst (λ (o : Option (Entry Content)). IsOn o []) (sym (ap (λ (b : Bool). if b then None else Some (entry_up link octets l w)) is)) refl
+        subst (λ o. IsOn o []) (sym (ap (λ (b : Bool). if b then None else Some (entry_up link octets l w)) is)) refl
     sent_as link octets l w false is delay =
-        subst (λ (o : Option (Entry Content)). IsOn o (sent_on s now number link octets l ∷ []))
+        subst (λ o. IsOn o (sent_on s now number link octets l ∷ []))
         (sym (ap (λ (b : Bool). if b then None else Some (entry_up link octets l w)) is)) (
           sent_on s now number link octets l,
           ap (λ (d : ℕ). let y : OnWire = record {
@@ -116,7 +117,7 @@ module _ (s : Scenario) where
         (if is_cut s link Up now then [] else option_map_or (λ (l : Link). sent_on s now number link octets l ∷ []) o [])
     by_link link octets None found = no_wires (is_cut s link Up now)
     by_link link octets (Some l) found =
-        let up = way_up s now ups downs ways link (slice_get_within s.network.link link.0 l found) in
+        let up = way_up ups downs ways link (slice_get_within s.network.link link.0 l found) in
         subst (λ (o : Option WayState). IsOn (option_and_then (sent_up s.network now number link octets l) o)
         (if is_cut s link Up now then [] else sent_on s now number link octets l ∷ [])) (sym up.found)
         (sent_as link octets l up.way (is_cut s link Up now) (ap (λ (v : WayNow). v.cut) up.is) (ap (λ (v : WayNow). v.delay) up.is))
@@ -134,7 +135,7 @@ module _ (s : Scenario) (hs : List Happening) (now : ℕ) where
   -- what is settled stays in order
   order_some : (o : Option Settled) (old new : List Settled) → IsSomePut o old new → InOrder (map shown old) → InOrder (map shown new)
   order_some None old new put order = subst (λ (l : List Settled). InOrder (map shown l)) (sym put) order
-  order_some (Some z) old new put order = order_put (shown z) _ _ order (is_put_in s.network now z old new put.0 put.1 order)
+  order_some (Some z) old new put order = order_put order (is_put_in s.network now z old new put.0 put.1 order)
 
   module _ (broken : List Bool) (ups downs : List WayState) (ways : AreWays s now (map way_as ups) (map way_as downs)) (number : ℕ) (old new : List Settled)
       (order : InOrder (map shown old)) where
@@ -157,7 +158,7 @@ module _ (s : Scenario) (hs : List Happening) (now : ℕ) where
         (map shown old) (map shown new)
     send_put link None found put = ap (map shown) put
     send_put link (Some l) found put =
-        let up = way_up s now ups downs ways link (slice_get_within s.network.link link.0 l found) in
+        let up = way_up ups downs ways link (slice_get_within s.network.link link.0 l found) in
         let first = subst (λ (o : Option WayState). IsSomePut (option_and_then (lost_on number link l) o) old new) up.found put in
         lost_put link l (is_cut s link Up now)
         (subst (λ (b : Bool). IsSomePut (if b then Some (bare (kinds.Lost l.child link number)) else None) old new)
@@ -273,7 +274,7 @@ module _ {C M : Type 0} (reading : C → ℕ → ℕ) (stands : Kept M → Netwo
       let hs = happenings s.network notes in
       let world = world_of s.network state in
       let long : length world.befell ≡ length state.befell.items = length-map state.befell.items befell_as in
-      let from_none = subst (λ (l : List Settled). AreSettledBy s.network state.broken.items state.ups.items state.time state.befell.items l settled
+      let from_none = subst (λ l. AreSettledBy s.network state.broken.items state.ups.items state.time state.befell.items l settled
       state.under_way.entries entries) none_settled so in
       let step = befell_step reading stands s world notes (filter_map (on_wire s.network) entries) (map (settled_at s.network state.time) settled) old pending
       (omega (arith, few, long))
@@ -340,7 +341,7 @@ module _ {C M : Type 0} (reading : C → ℕ → ℕ) (stands : Kept M → Netwo
 
   pub all_fresh : AreUnderWay network state.under_way.entries → (b : Befallen) → IsIn b state.befell.items → IsFreshOf state.under_way.entries b.number
   all_fresh are = fresh_of reading stands s state notes (subst Standing old.same old) pending
-      (subst (λ (n : Network). AreUnderWay n state.under_way.entries) old.same are)
+      (subst (λ n. AreUnderWay n state.under_way.entries) old.same are)
 
 -- ---- the records need no octets
 
@@ -349,19 +350,22 @@ turned_octets number device None z e = absurd cc
 turned_octets number device (Some true) z e = absurd cc
 turned_octets number device (Some false) z e = subst have_octets (same_Some _ _ e) tt
 
-cut_octets : (number : ℕ) (link : LinkId) (l : Link) (cut : Bool) (z : Settled) → (if cut then Some (bare (kinds.Lost l.child link number)) else None) ≡ Some z
-    → have_octets z
-cut_octets number link l true z e = subst have_octets (same_Some _ _ e) tt
-cut_octets number link l false z e = absurd cc
+module _ (number : ℕ) (link : LinkId) where
+  cut_octets : (l : Link) (cut : Bool) (z : Settled) →
+      (if cut then Some (bare (kinds.Lost l.child link number)) else None) ≡ Some z → have_octets z
+  cut_octets l true z e = subst have_octets (same_Some _ _ e) tt
+  cut_octets l false z e = absurd cc
 
-way_octets : (number : ℕ) (link : LinkId) (l : Link) (o : Option WayState) (z : Settled) → option_and_then (lost_on number link l) o ≡ Some z → have_octets z
-way_octets number link l None z e = absurd cc
-way_octets number link l (Some w) z e = cut_octets number link l w.cut z e
+  way_octets : (l : Link) (o : Option WayState) (z : Settled) → option_and_then (lost_on number link l) o ≡ Some z
+      → have_octets z
+  way_octets l None z e = absurd cc
+  way_octets l (Some w) z e = cut_octets l w.cut z e
 
-link_octets : (number : ℕ) (link : LinkId) (ups : List WayState) (o : Option Link) (z : Settled)
-    → option_and_then (λ l. option_and_then (lost_on number link l) (slice_get ups link.0)) o ≡ Some z → have_octets z
-link_octets number link ups None z e = absurd cc
-link_octets number link ups (Some l) z e = way_octets number link l (slice_get ups link.0) z e
+  link_octets : (ups : List WayState) (o : Option Link) (z : Settled)
+      → option_and_then (λ l. option_and_then (lost_on number link l) (slice_get ups link.0)) o ≡ Some z
+      → have_octets z
+  link_octets ups None z e = absurd cc
+  link_octets ups (Some l) z e = way_octets l (slice_get ups link.0) z e
 
 record_octets : (network : Network) (broken : List Bool) (ups : List WayState) (number : ℕ) (what : What) (z : Settled)
     → record_of network broken ups number what ≡ Some z → have_octets z
@@ -369,9 +373,11 @@ record_octets network broken ups number (events.On device) z e = turned_octets n
 record_octets network broken ups number (events.Send link octets) z e = link_octets number link ups (link_at network link) z e
 record_octets network broken ups number other z e = absurd cc
 
-pub octets_settled : (network : Network) (broken : List Bool) (ups : List WayState) (time : ℕ) (befell : List Befallen) (old new : List Settled)
-    (before after : List (Entry Content)) → AreSettledBy network broken ups time befell old new before after → All have_octets old → All have_octets new
-octets_settled network broken ups time [] old new before after so all = subst (All have_octets) (sym so.0) all
-octets_settled network broken ups time (b ∷ befell) old new before after (mid, between, one, put, rest) all =
-    octets_settled network broken ups time befell mid new between after rest
-    (all_put_some have_octets _ old mid one (record_octets network broken ups b.number b.what) all)
+module _ (network : Network) (broken : List Bool) (ups : List WayState) where
+  pub octets_settled : (time : ℕ) (befell : List Befallen) (old new : List Settled)
+      (before after : List (Entry Content)) → AreSettledBy network broken ups time befell old new before after
+      → All have_octets old → All have_octets new
+  octets_settled time [] old new before after so all = subst (All have_octets) (sym so.0) all
+  octets_settled time (b ∷ befell) old new before after (mid, between, one, put, rest) all =
+      octets_settled time befell mid new between after rest
+      (all_put_some have_octets _ old mid one (record_octets b.number b.what) all)

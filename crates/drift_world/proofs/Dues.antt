@@ -57,7 +57,7 @@ module _ {C M : Type 0} (reading : C → ℕ → ℕ) (stands : M → Network �
       let node = node_of reading stands network old well.running device timed.machine of_it timed.of_machine in
       let by = due_by timed.clock timed.machine device old.time timed.act timed.part due node.0 node.1
       (least timed.machine network device node.0 timed.of_machine node.1) timed.acts in
-      subst (λ (n : ℕ). IsTimerBy reading clock due n timer) (sym now)
-      (subst (λ (t : Timer). IsTimerBy reading clock due old.time t) timer_is
-      (subst (λ (k : C). IsTimerBy reading k due old.time was) clock_is
+      subst (λ n. IsTimerBy reading clock due n timer) (sym now)
+      (subst (λ t. IsTimerBy reading clock due old.time t) timer_is
+      (subst (λ k. IsTimerBy reading k due old.time was) clock_is
       (record { by = by; part = timed.part; rank_is = refl })))

@@ -40,29 +40,32 @@ waits_elsewhere old new device what is away w at = grind (arith, not, breaks_at,
 -- ---- the timers
 
 -- the timers are right, where those of the device that the event changes are set
-pub timed_by_event : {C M : Type 0} (reading : C → ℕ → ℕ) (stands : M → Network → DeviceId → Node → Type 0) (network : Network)
-    (old mid new : State C M) (what : What) → AreTimed reading stands network old
+pub timed_by_event : {C M : Type 0} {reading : C → ℕ → ℕ} {stands : M → Network → DeviceId → Node → Type 0}
+    {network : Network} {old : State C M} (mid new : State C M) (what : What) → AreTimed reading stands network old
     → ((device : DeviceId) → device.0 < length network.device → IsElsewhere what device
     → (slice_get mid.clocks.items device.0 ≡ slice_get old.clocks.items device.0)
     × (slice_get mid.machines.items device.0 ≡ slice_get old.machines.items device.0)
-    × ((w : Waits) → w.device.0 ≡ device.0 → IsIn w mid.waiting.items ↔ IsIn w old.waiting.items)) → mid.timers ≡ old.timers → mid.time ≡ old.time
-    → new ≡ record mid { timers = new.timers } → ((device : DeviceId) → device_in what ≡ Some device → IsTimed reading stands network new.timers new device)
-    → length new.timers ≡ length mid.timers → ((device : DeviceId) → device.0 < length network.device → IsElsewhere what device
-    → (slice_get new.timers device.0 ≡ slice_get mid.timers device.0)
-    × (slice_get new.timers (length network.device + device.0) ≡ slice_get mid.timers (length network.device + device.0)))
+    × ((w : Waits) → w.device.0 ≡ device.0 → IsIn w mid.waiting.items ↔ IsIn w old.waiting.items))
+    → mid.timers ≡ old.timers → mid.time ≡ old.time → new ≡ record mid { timers = new.timers }
+    → ((device : DeviceId) → device_in what ≡ Some device → IsTimed reading stands network new.timers new device)
+    → length new.timers ≡ length mid.timers → ((device : DeviceId) → device.0 < length network.device
+    → IsElsewhere what device → (slice_get new.timers device.0 ≡ slice_get mid.timers device.0)
+    × (slice_get new.timers (length network.device + device.0)
+    ≡ slice_get mid.timers (length network.device + device.0)))
     → (AreFrom mid.time mid.timers → AreFrom new.time new.timers) → AreTimed reading stands network new
-timed_by_event {C} {M} reading stands network old mid new what are away timers time same own sized others later = record {
-  sized = sized ∙ ap length timers ∙ are.sized;
-  each = λ device there. each device there (device_in what) refl;
-  later = later (subst (λ (n : ℕ). AreFrom n mid.timers) (sym time)
-      (subst (λ (l : List Timer). AreFrom old.time l) (sym timers) are.later));
-}
+timed_by_event {C} {M} {reading} {stands} {network} {old} mid new what are away timers time same own sized others
+    later = record {
+      sized = sized ∙ ap length timers ∙ are.sized;
+      each = λ device there. each device there (device_in what) refl;
+      later = later (subst (λ n. AreFrom n mid.timers) (sym time)
+          (subst (λ l. AreFrom old.time l) (sym timers) are.later));
+    }
   where
     still : (device : DeviceId) → device.0 < length network.device → IsElsewhere what device → IsTimed reading stands network new.timers new device
     still device there else_where =
         let is = away device there else_where in
         let kept = others device there else_where in
-        still_timed reading stands network old new device (are.each device there)
+        still_timed new (are.each device there)
         (ap (λ (s : State C M). slice_get s.clocks.items device.0) same ∙ is.0)
         (ap (λ (s : State C M). slice_get s.machines.items device.0) same ∙ is.1)
         (λ w at. subst (λ (s : State C M). IsIn w s.waiting.items ↔ IsIn w old.waiting.items) (sym same) (is.2 w at))

@@ -40,8 +40,8 @@ module _ {C M : Type 0} (reading : C → ℕ → ℕ) (stands : M → Network �
   worked w (IsSource.acting t device task a) b =
       let p = placed_so s.network t device task in
       let late = p.late in
-      subst (λ (q : List ℕ). IsBefore q old.cursor) (sym p.is)
-      (by_time t p.rank (device.0 ∷ p.rest) (omega (arith, late)) (subst (λ (q : List ℕ). IsBefore q (world.now ∷ 2 ∷ [])) p.is b))
+      subst (λ q. IsBefore q old.cursor) (sym p.is)
+      (by_time t p.rank (device.0 ∷ p.rest) (omega (arith, late)) (subst (λ q. IsBefore q (world.now ∷ 2 ∷ [])) p.is b))
   worked w (IsSource.departing t device link cause d) b = by_time t 8 (device.0 ∷ link.0 ∷ cause ∷ []) (omega arith) b
   worked w (IsSource.following t cause h it) b = by_time t 2 [] (omega arith) b
   worked w (IsSource.befalling time line what r) b = subst (λ (n : ℕ). IsBefore (n ∷ 1 ∷ []) old.cursor) (ap amount (sym r.at)) (told r.before r.event r.is)
@@ -60,9 +60,9 @@ module _ {C M : Type 0} (reading : C → ℕ → ℕ) (stands : M → Network �
   nothing y due not here =
       let from = sourced s hs y due in
       let is_worked = worked from.place from.source (source_before from.place (place_of y) (world.now ∷ 2 ∷ []) from.no_later here) in
-      let are = subst (λ (l : List Happening). AreSettled s hs l old.mark old.cursor world.now) none_coming old.are in
-      (are.full [] [] y refl (λ n i. absurd i) (λ n i. absurd i) not (subst (λ (l : List Happening). IsDue s l y) (sym (append-nil hs)) due)
-      (subst (λ (l : List Happening). IsWorkedOff s l old.cursor y) (sym (append-nil hs)) (from.place, from.own, from.source, is_worked))).1
+      let are = subst (λ l. AreSettled s hs l old.mark old.cursor world.now) none_coming old.are in
+      (are.full [] [] y refl (λ n i. absurd i) (λ n i. absurd i) not (subst (λ l. IsDue s l y) (sym (append-nil hs)) due)
+      (subst (λ l. IsWorkedOff s l old.cursor y) (sym (append-nil hs)) (from.place, from.own, from.source, is_worked))).1
 
   -- the records are the run behind the events of the instant
   pub run_behind_events : IsScenarioRun s (world.now ∷ 2 ∷ []) notes

@@ -26,38 +26,42 @@ pub below_without : (number : ℕ) (old new : List (Entry Content)) (taken : Ent
     → AreBelow number new
 below_without number old new taken same below e there = below e (in_permuted _ _ e (IsPermutation-sym _ _ same) (inr there))
 
--- each device and each link has its parts, where there are as many, and no clock has changed
-pub sized_so : {C M : Type 0} (last_step : C → ℕ) (network : Network) (old new : State C M) → IsSized last_step network old
-    → new.clocks ≡ old.clocks → length new.machines.items ≡ length old.machines.items → new.broken ≡ old.broken → new.ups ≡ old.ups
-    → new.downs ≡ old.downs → new.time ≡ old.time → new.shown ≡ old.shown → IsSized last_step network new
-sized_so {C} last_step network old new z clocks machines broken ups downs time shown = grind (arith, length)
+module _ {C M : Type 0} (last_step : C → ℕ) (network : Network) (old : State C M) where
+  -- each device and each link has its parts, where there are as many, and no clock has changed
+  pub sized_so : (new : State C M) → IsSized last_step network old → new.clocks ≡ old.clocks
+      → length new.machines.items ≡ length old.machines.items → new.broken ≡ old.broken → new.ups ≡ old.ups
+      → new.downs ≡ old.downs → new.time ≡ old.time → new.shown ≡ old.shown → IsSized last_step network new
+  sized_so new z clocks machines broken ups downs time shown = grind (arith, length)
 
--- what a state keeps it keeps with less that is settled, and elsewhere in memory
-pub sound_same : {C M : Type 0} (last_step : C → ℕ) (network : Network) (old new : State C M) → IsSound last_step network old
-    → new.clocks ≡ old.clocks → new.machines ≡ old.machines → new.broken ≡ old.broken → new.ups ≡ old.ups → new.downs ≡ old.downs → new.time ≡ old.time
-    → new.shown ≡ old.shown → new.given ≡ old.given → new.under_way.entries ≡ old.under_way.entries → new.waiting.items ≡ old.waiting.items
-    → All (λ z. HasItsOctets z.body z.octets) new.settled.items → IsSound last_step network new
-sound_same {C} last_step network old new sound clocks machines broken ups downs time shown given entries waiting octets =
-    let z = sound.sized in
-    let fit = sound.fit in
-    let number = ap (λ (k : ℕ). k + 1) (sym given) in
-    record {
-      sized = sized_so last_step network old new sound.sized clocks (ap (λ v. length v.items) machines) broken ups downs time shown;
-      under_way = subst (AreUnderWay network) (sym entries) sound.under_way;
-      fit = record {
-        ups = subst (λ v. All IsShort v.items) (sym ups) fit.ups;
-        downs = subst (λ v. All IsShort v.items) (sym downs) fit.downs;
-        octets = octets;
-        below = subst (λ (k : ℕ). AreBelow k new.under_way.entries) number (subst (AreBelow (old.given + 1)) (sym entries) fit.below);
-        waits_below = subst (λ (k : ℕ). All (λ (w : Waits). w.cause < k) new.waiting.items) number
-            (subst (All (λ (w : Waits). w.cause < old.given + 1)) (sym waiting) fit.waits_below);
-        apart = subst AreApart (sym waiting) fit.apart;
-      };
-    }
+  -- what a state keeps it keeps with less that is settled, and elsewhere in memory
+  pub sound_same : (new : State C M) → IsSound last_step network old → new.clocks ≡ old.clocks
+      → new.machines ≡ old.machines → new.broken ≡ old.broken → new.ups ≡ old.ups → new.downs ≡ old.downs
+      → new.time ≡ old.time → new.shown ≡ old.shown → new.given ≡ old.given
+      → new.under_way.entries ≡ old.under_way.entries → new.waiting.items ≡ old.waiting.items
+      → All (λ z. HasItsOctets z.body z.octets) new.settled.items → IsSound last_step network new
+  sound_same new sound clocks machines broken ups downs time shown given entries waiting octets =
+      let z = sound.sized in
+      let fit = sound.fit in
+      let number = ap (λ k. k + 1) (sym given) in
+      record {
+        sized = sized_so new sound.sized clocks (ap (λ v. length v.items) machines) broken ups downs time shown;
+        under_way = subst (AreUnderWay network) (sym entries) sound.under_way;
+        fit = record {
+          ups = subst (λ v. All IsShort v.items) (sym ups) fit.ups;
+          downs = subst (λ v. All IsShort v.items) (sym downs) fit.downs;
+          octets = octets;
+          below = subst (λ k. AreBelow k new.under_way.entries) number
+              (subst (AreBelow (old.given + 1)) (sym entries) fit.below);
+          waits_below = subst (λ (k : ℕ). All (λ (w : Waits). w.cause < k) new.waiting.items) number
+              (subst (All (λ (w : Waits). w.cause < old.given + 1)) (sym waiting) fit.waits_below);
+          apart = subst AreApart (sym waiting) fit.apart;
+        };
+      }
 
--- where only timers are set anew it is as sound as it was
-pub sound_timers : {C M : Type 0} (last_step : C → ℕ) (network : Network) (old new : State C M) → new ≡ record old { timers = new.timers }
-    → IsSound last_step network old → IsSound last_step network new
-sound_timers {C} {M} last_step network old new same is =
-    subst (λ (s : State C M). IsSound last_step network s) (sym same)
-    (sound_same last_step network old (record old { timers = new.timers }) is refl refl refl refl refl refl refl refl refl refl is.fit.octets)
+  -- where only timers are set anew it is as sound as it was
+  pub sound_timers : (new : State C M) → new ≡ record old { timers = new.timers } → IsSound last_step network old
+      → IsSound last_step network new
+  sound_timers new same is =
+      subst (λ s. IsSound last_step network s) (sym same)
+      (sound_same (record old { timers = new.timers })
+      is refl refl refl refl refl refl refl refl refl refl is.fit.octets)

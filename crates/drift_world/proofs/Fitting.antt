@@ -47,26 +47,27 @@ apart_kept q (x ∷ xs) apart =
       | false ↦ rest
     ]
 
--- one more with a greater cause
-pub apart_more : (number : ℕ) (one : Waits) (old new : List Waits) → IsPermutation (one ∷ old) new → one.cause ≡ number
-    → All (λ w. w.cause < number) old → AreApart old → AreApart new
-apart_more number one old new more cause all apart =
-    IsDistinct-IsPermutation nat_eq flips (map cause_of (one ∷ old)) (map cause_of new) (IsPermutation-map cause_of _ _ more)
-    (IsDistinct-cons nat_eq one.cause (map cause_of old) (all_apart cause_of one.cause old (λ v there same.
-    let at = in_get old v there in
-    let low = in_all (λ (w : Waits). w.cause < number) old at.0 v all at.1 in
-    omega (arith, low, same, cause))) apart)
+module _ (number : ℕ) (one : Waits) (old new : List Waits) (more : IsPermutation (one ∷ old) new)
+    (cause : one.cause ≡ number) (all : All (λ w. w.cause < number) old) where
+  -- one more with a greater cause
+  pub apart_more : AreApart old → AreApart new
+  apart_more apart =
+      IsDistinct-IsPermutation nat_eq flips (map cause_of (one ∷ old)) (map cause_of new)
+      (IsPermutation-map cause_of _ _ more)
+      (IsDistinct-cons nat_eq one.cause (map cause_of old) (all_apart cause_of one.cause old (λ v there same.
+      let at = in_get old v there in
+      let low = in_all (λ (w : Waits). w.cause < number) old at.0 v all at.1 in
+      omega (arith, low, same, cause))) apart)
 
-pub below_one_more : (number : ℕ) (one : Waits) (old new : List Waits) → IsPermutation (one ∷ old) new → one.cause ≡ number
-    → All (λ w. w.cause < number) old → All (λ w. w.cause < number + 1) new
-below_one_more number one old new more cause all = all_of (λ (w : Waits). w.cause < number + 1) new (λ v there.
-    elim (in_permuted new (one ∷ old) v (IsPermutation-sym _ _ more) there) [
-      | inl own ↦ let e = ap cause_of own in omega (arith, e, cause)
-      | inr was ↦
-          let at = in_get old v was in
-          let low = in_all (λ (w : Waits). w.cause < number) old at.0 v all at.1 in
-          omega (arith, low)
-    ])
+  pub below_one_more : All (λ w. w.cause < number + 1) new
+  below_one_more = all_of (λ (w : Waits). w.cause < number + 1) new (λ v there.
+      elim (in_permuted new (one ∷ old) v (IsPermutation-sym _ _ more) there) [
+        | inl own ↦ let e = ap cause_of own in omega (arith, e, cause)
+        | inr was ↦
+            let at = in_get old v was in
+            let low = in_all (λ (w : Waits). w.cause < number) old at.0 v all at.1 in
+            omega (arith, low)
+      ])
 
 pub below_more : (n : ℕ) (q : Waits → Bool) (xs : List Waits) → All (λ w. w.cause < n) xs → All (λ w. w.cause < n + 1) (filter q xs)
 below_more n q xs all k d lt =

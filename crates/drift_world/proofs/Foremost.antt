@@ -38,7 +38,7 @@ module _ {C M : Type 0} (reading : C → ℕ → ℕ) (stands : M → Network �
     (running : IsRunning reading stands network state) where
   -- no place before the present time is still to be worked off
   past : (p q : List ℕ) → p ≡ q → (IsBefore p running.is.cursor → ⊥) → IsBefore q (state.time ∷ []) → ⊥
-  past p q same not b = not (subst (λ (r : List ℕ). IsBefore r running.is.cursor) (sym same) (running.is.ahead q (running.is.of_now q b)))
+  past p q same not b = not (subst (λ r. IsBefore r running.is.cursor) (sym same) (running.is.ahead q (running.is.of_now q b)))
 
   entry_later : (e : Entry Content) (content : Content) → e.content ≡ content → IsIn e state.under_way.entries → e.place.rank ≡ rank_of content
       → state.time ≤ e.place.at
@@ -87,8 +87,8 @@ module _ {C M : Type 0} (reading : C → ℕ → ℕ) (stands : M → Network �
       let same : own.0 ≡ machine = let e : Some own.0 ≡ Some machine = sym own.1 ∙ held in cc in
       let is : (node : Node) × keeps stands own.0 s.network device node = elim own.2 [ inl k ↦ (k.node, k.is) | inr o ↦ (o.node, o.is) ] in (
         is.0,
-        subst (λ (k : Kept M). keeps stands k network device is.0) same
-            (subst (λ (k : Network). keeps stands own.0 k device is.0) (sym running.is.same) is.1),
+        subst (λ k. keeps stands k network device is.0) same
+            (subst (λ k. keeps stands own.0 k device is.0) (sym running.is.same) is.1),
       )
 
   -- where nothing is before a time, no timer is
@@ -146,12 +146,12 @@ pub record HasShape (devices : ℕ) (due : Due) (p : List ℕ) : Type 0 where
   pub least : 3 ≤ rank
   pub most : rank ≤ 6
 
-shape_of : {C M : Type 0} (reading : C → ℕ → ℕ) (network : Network) (state : State C M) (due : Due) (p : List ℕ)
-    → (3 ≤ due.rank) × (due.rank ≤ 6) → (p ≡ due_place (length network.device) due) ⊎ IsRipePlace reading network state due p
-    → HasShape (length network.device) due p
-shape_of reading network state due p ranks (inl e) =
+shape_of : {C M : Type 0} {reading : C → ℕ → ℕ} {network : Network} {state : State C M} {due : Due} {p : List ℕ}
+    → (3 ≤ due.rank) × (due.rank ≤ 6) → (p ≡ due_place (length network.device) due)
+    ⊎ IsRipePlace reading network state due p → HasShape (length network.device) due p
+shape_of {network} {due} ranks (inl e) =
     record { rank = due.rank; rest = device_of_slot (length network.device) due.slot ∷ []; is = e; least = ranks.0; most = ranks.1 }
-shape_of reading network state due p ranks (inr r) = grind arith
+shape_of ranks (inr r) = grind arith
 
 module _ {C M : Type 0} (last_step : C → ℕ) (reading : C → ℕ → ℕ) (stands : M → Network → DeviceId → Node → Type 0) (network : Network)
     (state : State C M) (place : Option DueAt) (due : Option Due) (well : IsWell last_step reading stands network state)
@@ -185,7 +185,7 @@ module _ {C M : Type 0} (last_step : C → ℕ) (reading : C → ℕ → ℕ) (s
       → (state.ended ≡ true → state.shown < length network.device → IsBefore (now ∷ 14 ∷ state.shown ∷ []) p → ⊥)
       → HasNothingBefore reading stands network state p
   are_not p in_time places dues befell clocks =
-      nothing_before last_step reading stands network state place due p well.sound.sized well.timed firsts
+      nothing_before {p = p} well.sound.sized well.timed firsts
       (record {
         in_time = in_time;
         under_way = if_some (λ (q : DueAt). IsBefore (numbers_of q) p → ⊥) place (λ q e. places q e (place_later q e) (first_rank q e));
@@ -233,8 +233,8 @@ module _ {C M : Type 0} (last_step : C → ℕ) (reading : C → ℕ → ℕ) (s
       (are_not (now ∷ rank ∷ rest) (of_run now (rank ∷ rest) well.sound.sized.limit)
       (λ r e le either.
       let one : q ≡ r = let both : Some q ≡ Some r = sym is ∙ e in cc in
-      subst (λ (x : DueAt). IsBefore (numbers_of x) (now ∷ rank ∷ rest) → ⊥) one
-      (subst (λ (p : List ℕ). IsBefore p (now ∷ rank ∷ rest) → ⊥) same (never_self (now ∷ rank ∷ rest))))
+      subst (λ x. IsBefore (numbers_of x) (now ∷ rank ∷ rest) → ⊥) one
+      (subst (λ p. IsBefore p (now ∷ rank ∷ rest) → ⊥) same (never_self (now ∷ rank ∷ rest))))
       (λ d e le. inl (dues d e le)) (none_befell (now ∷ rank ∷ rest) calm) (λ ended more. clocks_after rank rest lt))
 
   -- what arrives now
@@ -248,14 +248,14 @@ module _ {C M : Type 0} (last_step : C → ℕ) (reading : C → ℕ → ℕ) (s
       → d.time ≡ state.time → (p ≡ due_place (length network.device) d) ⊎ IsRipePlace reading network state d p
       → HasNothingBefore reading stands network state p
   slot_first d p calm no_arrival is at of_slot =
-      let shape = shape_of reading network state d p (due_ranks_are d is) of_slot in
+      let shape = shape_of (due_ranks_are d is) of_slot in
       let rank = shape.rank in
       let least = shape.least in
       let most = shape.most in
       let of_now : p ≡ now ∷ rank ∷ shape.rest = shape.is ∙ ap (λ (n : ℕ). n ∷ rank ∷ shape.rest) at in
-      are_not p (subst (λ (l : List ℕ). IsBefore ((2 ^ 60 + 1) ∷ []) l → ⊥) (sym of_now) (of_run now (rank ∷ shape.rest) well.sound.sized.limit))
+      are_not p (subst (λ l. IsBefore ((2 ^ 60 + 1) ∷ []) l → ⊥) (sym of_now) (of_run now (rank ∷ shape.rest) well.sound.sized.limit))
       (λ q e le either.
-      subst (λ (l : List ℕ). IsBefore (numbers_of q) l → ⊥) (sym of_now)
+      subst (λ l. IsBefore (numbers_of q) l → ⊥) (sym of_now)
       (not_earlier q.at now (q.rank ∷ q.device ∷ q.link ∷ q.cause ∷ []) (rank ∷ shape.rest) le
       (λ same. higher q.rank rank (q.device ∷ q.link ∷ q.cause ∷ []) shape.rest
       (elim either [
@@ -264,13 +264,13 @@ module _ {C M : Type 0} (last_step : C → ℕ) (reading : C → ℕ → ℕ) (s
       ]))))
       (λ x e le.
       let same : d ≡ x = let both : Some d ≡ Some x = sym is ∙ e in cc in
-      subst (λ (y : Due). (IsBefore (due_place (length network.device) y) p → ⊥) ⊎ IsRipePlace reading network state y p) same
+      subst (λ y. (IsBefore (due_place (length network.device) y) p → ⊥) ⊎ IsRipePlace reading network state y p) same
       (elim of_slot [
-        | inl own ↦ inl (subst (λ (l : List ℕ). IsBefore l p → ⊥) own (never_self p))
+        | inl own ↦ inl (subst (λ l. IsBefore l p → ⊥) own (never_self p))
         | inr ripe ↦ inr ripe
       ]))
       (none_befell p calm)
-      (λ ended more. subst (λ (l : List ℕ). IsBefore (now ∷ 14 ∷ state.shown ∷ []) l → ⊥) (sym of_now)
+      (λ ended more. subst (λ l. IsBefore (now ∷ 14 ∷ state.shown ∷ []) l → ⊥) (sym of_now)
       (clocks_after rank shape.rest (omega (arith, most))))
 
   -- what leaves now

@@ -58,9 +58,9 @@ unwrapped : (o : Option ℕ) (n : ℕ) → IsSome1 o → 1 ≤ n → 1 ≤ unwra
 unwrapped None n is some = some
 unwrapped (Some m) n is some = is
 
-pub forward : (network : Network) (f : DeviceId → ℕ → ℕ) (all : List Event) → IsInRange network → AreWithinHypothesis network all
-    → IsForward (scenario network f all)
-forward network f all range within link way device t receives = of (link_at network link) refl
+pub forward : {network : Network} (f : DeviceId → ℕ → ℕ) (all : List Event) → IsInRange network
+    → AreWithinHypothesis network all → IsForward (scenario network f all)
+forward {network} f all range within link way device t receives = of (link_at network link) refl
   where
     of : (o : Option Link) → link_at network link ≡ o → 1 ≤ delay_at (scenario network f all) link way t
     of None none =

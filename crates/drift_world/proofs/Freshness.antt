@@ -85,9 +85,9 @@ module _ {C M : Type 0} (fresh : ℕ → C) (last_step : C → ℕ) (network : N
             ended = first.ended;
             shown = first.shown;
           })
-          (forward network (reading_of fresh after_step reading network []) [] range (none_within network))
+          (forward (reading_of fresh after_step reading network []) [] range (none_within network))
           (λ device. steady fresh after_step reading (keeps_clock_laws fresh after_step reading grain count law)
-          (begins_at_zero fresh after_step reading grain count law) network [] device range rules (none_within network) (λ e i. absurd i))
+          (begins_at_zero fresh after_step reading grain count law) [] device range rules (none_within network) (λ e i. absurd i))
           (λ device. begins_at_zero fresh after_step reading grain count law (amount network.grain) [])
           (let least = range.precision.least in omega (arith, ints, least)) range rules;
       clocks = λ device lt. ap (λ cs. slice_get cs device.0) first.clocks ∙ found_in _ _ _ lt;

@@ -7,17 +7,18 @@ use Rattle.drift_world.proofs.Words.{IsPermutation-sym, IsPutOn, Left, LinkId, L
 use Rattle.drift_world.proofs.Words.{Timed, TtSent, Waits, WayState, ap, arith, at_port, changed_device, delay_by, in_permuted, inl, inr, length, link_at, map}
 use Rattle.drift_world.proofs.Words.{not, numbers_of, on_wire, rank_of, receiver_of, refl, settled_at, stored_as, subst, sym, waiting_as}
 use Rattle.{run_law.specs.declared.note.NoteBody.TheVariants.{Clock, Corrected, Event, Sent}, std.proofs.lemmas.List.Elements.{All-weaker}}
-use Rattle.{std.{proofs.Common.slice_get, specs.{Option.option_map, Prelude.All}}}
+use Rattle.std.{proofs.Common.slice_get, specs.{Option.option_map, Prelude.All}}
 use Rattle.{world_law.proofs.steps_lemmas.hearing.Receptions.receiver_in, world_state.specs.Giving.{awaited_by, control_on_wire, place_on_wire, timed_on_wire}}
 
 -- ---- what is put to ports
 
 -- what is there now was there before, or is at a port by the record of this number
-pub from_ports : {C M : Type 0} (reading : C → ℕ → ℕ) (network : Network) (old new : State C M) (body : NoteBody) (frame : Option Pcf) (number : ℕ)
-    (giving : Option Giving) → IsGivenOut reading network old new body frame number giving → (e : Entry Content) → IsIn e new.under_way.entries
-    → IsIn e old.under_way.entries ⊎ ((e.place.cause ≡ number) × (e.place.rank ≡ 8))
-from_ports reading network old new body frame number None out e there = inl (subst (λ (l : List (Entry Content)). IsIn e l) out.none there)
-from_ports reading network old new body frame number (Some g) out e there =
+pub from_ports : {C M : Type 0} {reading : C → ℕ → ℕ} {network : Network} {old new : State C M} {body : NoteBody}
+    {frame : Option Pcf} {number : ℕ} (giving : Option Giving)
+    → IsGivenOut reading network old new body frame number giving → (e : Entry Content)
+    → IsIn e new.under_way.entries → IsIn e old.under_way.entries ⊎ ((e.place.cause ≡ number) × (e.place.rank ≡ 8))
+from_ports None out e there = inl (subst (λ l. IsIn e l) out.none there)
+from_ports (Some g) out e there =
     elim (out.put.real e there) [
       | inl before ↦ inl before
       | inr to ↦ inr (ap (λ (x : Entry Content). x.place.cause) to.3 ∙ out.giver.numbered, ap (λ (x : Entry Content). x.place.rank) to.3)
@@ -101,31 +102,33 @@ same_cause : (p q : DueAt) → numbers_of p ≡ numbers_of q → p.cause ≡ q.c
 unfolding cause_in
 same_cause p q e = ap cause_in e
 
--- it is sound with what is put on a wire, where all else is by records before, or at ports
-pub wire_sound : (network : Network) (number : ℕ) (old new : List (Entry Content)) (o : Option (Entry Content)) → IfSome o (IsOnWire network number)
-    → IsPutOn o old new → ((d : Entry Content) → IsIn d old → (d.place.cause < number) ⊎ (d.place.rank ≡ 8)) → AreUnderWay network old → AreUnderWay network new
-wire_sound network number old new None is put apart was = subst (AreUnderWay network) (sym put) was
-wire_sound network number old new (Some e) is put apart was =
-    sound_with network old new e was put (is.two ∙ sym is.kind) is.device is.link
-    (λ d there same.
-    let rank = same_rank d.place e.place same in
-    let cause = same_cause d.place e.place same in
-    let two = is.two in
-    let own = is.cause in
-    elim (apart d there) [
-      | inl low ↦ omega (arith, low, cause, own)
-      | inr port ↦ omega (arith, port, rank, two)
-    ])
+module _ (network : Network) (number : ℕ) (old new : List (Entry Content)) where
+  -- it is sound with what is put on a wire, where all else is by records before, or at ports
+  pub wire_sound : (o : Option (Entry Content)) → IfSome o (IsOnWire network number) → IsPutOn o old new
+      → ((d : Entry Content) → IsIn d old → (d.place.cause < number) ⊎ (d.place.rank ≡ 8)) → AreUnderWay network old
+      → AreUnderWay network new
+  wire_sound None is put apart was = subst (AreUnderWay network) (sym put) was
+  wire_sound (Some e) is put apart was =
+      sound_with network old new e was put (is.two ∙ sym is.kind) is.device is.link
+      (λ d there same.
+      let rank = same_rank d.place e.place same in
+      let cause = same_cause d.place e.place same in
+      let two = is.two in
+      let own = is.cause in
+      elim (apart d there) [
+        | inl low ↦ omega (arith, low, cause, own)
+        | inr port ↦ omega (arith, port, rank, two)
+      ])
 
--- what is there now was there before, or is by the record of this number
-pub from_wire : (network : Network) (number : ℕ) (old new : List (Entry Content)) (o : Option (Entry Content)) → IfSome o (IsOnWire network number)
-    → IsPutOn o old new → (e : Entry Content) → IsIn e new → IsIn e old ⊎ (e.place.cause ≡ number)
-from_wire network number old new None is put e there = inl (subst (λ (l : List (Entry Content)). IsIn e l) put there)
-from_wire network number old new (Some d) is put e there =
-    elim (in_permuted new (d ∷ old) e (IsPermutation-sym _ _ put) there) [
-      | inl own ↦ inr (ap (λ (x : Entry Content). x.place.cause) own ∙ is.cause)
-      | inr rest ↦ inl rest
-    ]
+  -- what is there now was there before, or is by the record of this number
+  pub from_wire : (o : Option (Entry Content)) → IfSome o (IsOnWire network number) → IsPutOn o old new
+      → (e : Entry Content) → IsIn e new → IsIn e old ⊎ (e.place.cause ≡ number)
+  from_wire None is put e there = inl (subst (λ l. IsIn e l) put there)
+  from_wire (Some d) is put e there =
+      elim (in_permuted new (d ∷ old) e (IsPermutation-sym _ _ put) there) [
+        | inl own ↦ inr (ap (λ (x : Entry Content). x.place.cause) own ∙ is.cause)
+        | inr rest ↦ inl rest
+      ]
 
 -- ---- what waits
 
@@ -146,39 +149,41 @@ one_more : (body : NoteBody) (number : ℕ) (old new : List Waits) (o : Option W
 one_more body number old new None so is = inl is
 one_more body number old new (Some w) so is = inr (record { one = w; cause = so.0; device = so.1; is = is })
 
-pub waits_more : {C M : Type 0} (reading : C → ℕ → ℕ) (network : Network) (old new : State C M) (body : NoteBody) (frame : Option Pcf) (number : ℕ)
-    (giving : Option Giving) → IsGivenOut reading network old new body frame number giving
+pub waits_more : {C M : Type 0} {reading : C → ℕ → ℕ} {network : Network} {old new : State C M} {body : NoteBody}
+    {frame : Option Pcf} {number : ℕ} (giving : Option Giving)
+    → IsGivenOut reading network old new body frame number giving
     → (new.waiting.items ≡ old.waiting.items) ⊎ HasOneMore body number old.waiting.items new.waiting.items
-waits_more reading network old new body frame number None out = inl out.no_wait
-waits_more reading network old new body frame number (Some g) out = grind (arith, one_more, awaited_so)
+waits_more None out = inl out.no_wait
+waits_more (Some g) out = grind (arith, one_more, awaited_so)
 
 waits_at : (number : ℕ) (xs ys : List Waits) → ys ≡ xs → All (λ w. w.cause < number) xs → All (λ w. w.cause < number + 1) ys
 waits_at number xs ys is all = subst (λ (l : List Waits). All (λ w. w.cause < number + 1) l) (sym is)
     (All-weaker (λ (w : Waits). w.cause < number) (λ (w : Waits). w.cause < number + 1) (λ w lt. omega (arith, lt)) xs all)
 
-pub waits_below : (body : NoteBody) (number : ℕ) (old new : List Waits) → (new ≡ old) ⊎ HasOneMore body number old new → All (λ w. w.cause < number) old
-    → All (λ w. w.cause < number + 1) new
-waits_below body number old new (inl same) all = waits_at number old new same all
-waits_below body number old new (inr more) all = below_one_more number more.one old new more.is more.cause all
+module _ (body : NoteBody) (number : ℕ) (old new : List Waits) where
+  pub waits_below : (new ≡ old) ⊎ HasOneMore body number old new → All (λ w. w.cause < number) old
+      → All (λ w. w.cause < number + 1) new
+  waits_below (inl same) all = waits_at number old new same all
+  waits_below (inr more) all = below_one_more number more.one old new more.is more.cause all
 
-pub waits_apart : (body : NoteBody) (number : ℕ) (old new : List Waits) → (new ≡ old) ⊎ HasOneMore body number old new → All (λ w. w.cause < number) old
-    → AreApart old → AreApart new
-waits_apart body number old new (inl same) all apart = subst AreApart (sym same) apart
-waits_apart body number old new (inr more) all apart = apart_more number more.one old new more.is more.cause all apart
+  pub waits_apart : (new ≡ old) ⊎ HasOneMore body number old new → All (λ w. w.cause < number) old → AreApart old
+      → AreApart new
+  waits_apart (inl same) all apart = subst AreApart (sym same) apart
+  waits_apart (inr more) all apart = apart_more number more.one old new more.is more.cause all apart
 
--- of other devices the same frames wait
-pub waits_elsewhere : (body : NoteBody) (number : ℕ) (old new : List Waits) → (new ≡ old) ⊎ HasOneMore body number old new
-    → (w : Waits) → (w.device.0 ≡ changed_device body → ⊥) → IsIn w new ↔ IsIn w old
-waits_elsewhere body number old new (inl same) w apart =
-    (λ i. subst (λ (l : List Waits). IsIn w l) same i, λ i. subst (λ (l : List Waits). IsIn w l) (sym same) i)
-waits_elsewhere body number old new (inr more) w apart = (
-  λ i.
-      elim (in_permuted new (more.one ∷ old) w (IsPermutation-sym _ _ more.is) i) [
-        | inl e ↦ absurd (apart (ap (λ (x : Waits). x.device.0) e ∙ more.device))
-        | inr was ↦ was
-      ],
-  λ i. in_permuted (more.one ∷ old) new w more.is (inr i),
-)
+  -- of other devices the same frames wait
+  pub waits_elsewhere : (new ≡ old) ⊎ HasOneMore body number old new → (w : Waits)
+      → (w.device.0 ≡ changed_device body → ⊥) → IsIn w new ↔ IsIn w old
+  waits_elsewhere (inl same) w apart =
+      (λ i. subst (λ l. IsIn w l) same i, λ i. subst (λ l. IsIn w l) (sym same) i)
+  waits_elsewhere (inr more) w apart = (
+    λ i.
+        elim (in_permuted new (more.one ∷ old) w (IsPermutation-sym _ _ more.is) i) [
+          | inl e ↦ absurd (apart (ap (λ (x : Waits). x.device.0) e ∙ more.device))
+          | inr was ↦ was
+        ],
+    λ i. in_permuted (more.one ∷ old) new w more.is (inr i),
+  )
 
 -- ---- another state with the same
 
@@ -192,16 +197,17 @@ popped_world {C} {M} network old new first entries waiting stored settled same =
     grind (arith, world_of, on_wire, at_port, map, waiting_as, stored_as, settled_at, with_first)
 
 -- what the timers are for changes as it did since then
-pub changes_since : {C M : Type 0} (device : ℕ) (old mid new : State C M) → mid.clocks ≡ old.clocks → mid.time ≡ old.time → mid.ended ≡ old.ended
-    → mid.machines ≡ old.machines → mid.waiting.items ≡ old.waiting.items → ChangesOnly device mid new → ChangesOnly device old new
-changes_since device old mid new clocks time ended machines waiting c = record {
+pub changes_since : {C M : Type 0} {device : ℕ} (old : State C M) {mid new : State C M} → mid.clocks ≡ old.clocks
+    → mid.time ≡ old.time → mid.ended ≡ old.ended → mid.machines ≡ old.machines
+    → mid.waiting.items ≡ old.waiting.items → ChangesOnly device mid new → ChangesOnly device old new
+changes_since old clocks time ended machines waiting c = record {
   clocks = c.clocks ∙ clocks;
   time = c.time ∙ time;
   ended = c.ended ∙ ended;
   machines = λ i apart. c.machines i apart ∙ ap (λ v. slice_get v.items i) machines;
   waiting = λ w apart. (
-    λ i. subst (λ (l : List Waits). IsIn w l) waiting ((c.waiting w apart).0 i),
-    λ i. (c.waiting w apart).1 (subst (λ (l : List Waits). IsIn w l) (sym waiting) i),
+    λ i. subst (λ l. IsIn w l) waiting ((c.waiting w apart).0 i),
+    λ i. (c.waiting w apart).1 (subst (λ l. IsIn w l) (sym waiting) i),
   );
 }
 

@@ -33,15 +33,15 @@ no_port network ups downs (Dropped a b c d) frame octets time number = tt
 no_port network ups downs (Clock a b c d) frame octets time number = tt
 
 -- the record that is given has the frame and the octets that are kept with it
-first_is : {C M : Type 0} (reading : C → ℕ → ℕ) (stands : M → Network → DeviceId → Node → Type 0) (s : Scenario)
-    (world : World C M) (notes : List Note) (z : Happening) (rest : List Happening) → Stands reading stands s world notes
-    → world.settled ≡ z ∷ rest
+first_is : {C M : Type 0} {reading : C → ℕ → ℕ} {stands : M → Network → DeviceId → Node → Type 0} {s : Scenario}
+    {world : World C M} {notes : List Note} (z : Happening) (rest : List Happening)
+    → Stands reading stands s world notes → world.settled ≡ z ∷ rest
     → happening s.network (happenings s.network notes) (note_of notes z) ≡ record z { note = note_of notes z }
-first_is reading stands s world notes z rest old is =
+first_is {s} {notes} z rest old is =
     let hs = happenings s.network notes in
     let due = (old.are.founded [] rest z is).1 in
     let same : z ≡ happening s.network hs z.note =
-    due.same ∙ ap (λ (l : List Happening). happening s.network l z.note) (append-nil hs) in
+    due.same ∙ ap (λ l. happening s.network l z.note) (append-nil hs) in
     ap (λ (h : Happening). let x : Happening = record h { note = note_of notes z } in x) (sym same)
 
 -- it is given: what it launches is under way, or waits, and what a switch took by it is held
@@ -62,35 +62,43 @@ GivesOn {C} {M} reading stands s network =
       given = state.given + 1;
     }) (notes ++ note_of notes (settled_at network state.time first) ∷ []) (behind (place_of (settled_at network state.time first)))
 
-given_stands : {C M : Type 0} (reading : C → ℕ → ℕ) (stands : Kept M → Network → DeviceId → Node → Type 0) (s : Scenario)
-    → GivesOn {C = C} {M = M} reading stands s s.network
-given_stands {C} {M} reading stands s state after notes first rest giving entries held old none may out sent stored =
-    let number = length notes + 1 in
-    let z = settled_at s.network state.time first in
-    let others = map (settled_at s.network state.time) rest in
-    let world = with_first s.network state first rest in
-    let x : Happening = happening s.network (happenings s.network notes) (note_of notes z) in
-    let is = first_is reading stands s world notes z others old refl in
-    let frame : x.frame ≡ first.frame = ap (λ (h : Happening). h.frame) is in
-    let octets : x.octets ≡ octets_in s.network first.octets = ap (λ (h : Happening). h.octets) is in
-    let of : IsOf reading s s.network state = record { same = refl; clocks = old.clocks; broken = old.broken; ways = old.ways } in
-    let own = subst (λ (f : Option Pcf). IsGivenOut reading s.network state after first.body f number giving) (sym frame) out in
-    let both = given_out reading s state after x number giving of old.range refl (λ d by no. may.framed d by (sym frame ∙ no)) may.arrived own in
-    let put = puts s state.time state.ups.items state.downs.items old.ways x number refl after.under_way.entries entries first.body first.frame first.octets
-    refl
-    may.with_octets frame octets sent in
-    let taken = taken_by s.network x number state.stored.items held first.body first.octets refl may.with_octets octets stored in
-    given_step reading stands s world notes z others (filter_map (on_wire s.network) entries) (filter_map at_port entries) (map waiting_as after.waiting.items)
-    (map (stored_as s.network) held) old refl none
-    (put_from s x number _ _ _ (wires_kept (length s.network.link) s.network s.network state.ups.items state.downs.items first.body giving
-    state.under_way.entries after.under_way.entries out.put out.none) put)
-    (given_then s x number _ _ _ (ports_kept (wire_entry s.network state.ups.items state.downs.items first.body first.frame first.octets state.time number)
-    after.under_way.entries entries
-    (no_port s.network state.ups.items state.downs.items first.body first.frame first.octets state.time number) sent) both.0)
-    both.1
-    taken
+module _ {C M : Type 0} (reading : C → ℕ → ℕ) (stands : Kept M → Network → DeviceId → Node → Type 0)
+    (s : Scenario) where
+  given_stands : GivesOn {C = C} {M = M} reading stands s s.network
+  given_stands state after notes first rest giving entries held old none may out sent stored =
+      let number = length notes + 1 in
+      let z = settled_at s.network state.time first in
+      let others = map (settled_at s.network state.time) rest in
+      let world = with_first s.network state first rest in
+      let x : Happening = happening s.network (happenings s.network notes) (note_of notes z) in
+      let is = first_is z others old refl in
+      let frame : x.frame ≡ first.frame = ap (λ (h : Happening). h.frame) is in
+      let octets : x.octets ≡ octets_in s.network first.octets = ap (λ (h : Happening). h.octets) is in
+      let of : IsOf reading s s.network state =
+      record { same = refl; clocks = old.clocks; broken = old.broken; ways = old.ways } in
+      let own = subst (λ f. IsGivenOut reading s.network state after first.body f number giving)
+      (sym frame) out in
+      let both = given_out x giving of old.range refl (λ d by no. may.framed d by (sym frame ∙ no)) may.arrived own in
+      let put = puts s state.time state.ups.items state.downs.items old.ways x number refl after.under_way.entries
+      entries first.body first.frame first.octets
+      refl
+      may.with_octets frame octets sent in
+      let taken = taken_by s.network x number state.stored.items held first.body first.octets refl may.with_octets
+      octets stored in
+      given_step reading stands s world notes z others (filter_map (on_wire s.network) entries)
+      (filter_map at_port entries) (map waiting_as after.waiting.items)
+      (map (stored_as s.network) held) old refl none
+      (put_from s x number _ _ _ (wires_kept (length s.network.link) s.network s.network state.ups.items
+      state.downs.items first.body giving
+      state.under_way.entries after.under_way.entries out.put out.none) put)
+      (given_then s x number _ _ _ (ports_kept (wire_entry s.network state.ups.items state.downs.items first.body
+      first.frame first.octets state.time number)
+      after.under_way.entries entries
+      (no_port s.network state.ups.items state.downs.items first.body first.frame first.octets state.time number)
+      sent) both.0)
+      both.1
+      taken
 
--- and so it is on the scenario's network, by whatever name
-pub given_on : {C M : Type 0} (reading : C → ℕ → ℕ) (stands : Kept M → Network → DeviceId → Node → Type 0) (s : Scenario) (network : Network)
-    → s.network ≡ network → GivesOn {C = C} {M = M} reading stands s network
-given_on {C} {M} reading stands s network same = subst (GivesOn {C = C} {M = M} reading stands s) same (given_stands {C = C} {M = M} reading stands s)
+  -- and so it is on the scenario's network, by whatever name
+  pub given_on : (network : Network) → s.network ≡ network → GivesOn {C = C} {M = M} reading stands s network
+  given_on network same = subst (GivesOn {C = C} {M = M} reading stands s) same (given_stands)

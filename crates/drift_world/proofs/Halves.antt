@@ -13,7 +13,7 @@ module _ {C M : Type 0} (reading : C → ℕ → ℕ) (stands : M → Network �
     of_clock = ap (λ (c : _). slice_get c.items device.0) clocks ∙ is.of_clock;
     ripe = is.ripe;
     of_ripe = slot ∙ is.of_ripe;
-    ripens = subst (λ (n : ℕ). IsRipeAt reading is.clock new.waiting.items device.0 n is.ripe) (sym time)
+    ripens = subst (λ n. IsRipeAt reading is.clock new.waiting.items device.0 n is.ripe) (sym time)
         (subst (λ (w : _). IsRipeAt reading is.clock w.items device.0 old.time is.ripe) (sym waiting) is.ripens);
   }
 
@@ -28,7 +28,7 @@ module _ {C M : Type 0} (reading : C → ℕ → ℕ) (stands : M → Network �
     act = is.act;
     part = is.part;
     of_act = slot ∙ is.of_act;
-    acts = subst (λ (n : ℕ). ActsAt reading stands network is.clock is.machine device n is.act is.part) (sym time) is.acts;
+    acts = subst (λ n. ActsAt reading stands network is.clock is.machine device n is.act is.part) (sym time) is.acts;
   }
 
 module _ {C M : Type 0} (reading : C → ℕ → ℕ) (stands : M → Network → DeviceId → Node → Type 0) (network : Network) (old mid new : State C M)

@@ -70,10 +70,11 @@ module _ (network other : Network) (hs : List Happening) (device : DeviceId) (li
         delivered = λ vl cycle. record { frame = refl; octets = of };
       })
 
-told_settled : (network other : Network) (now : ℕ) (hs : List Happening) (place : DueAt) (signal : SignalSent) (is : Arrival)
-    → IsTold network other hs (record { 0 = place.device }) (record { 0 = place.link }) place.cause signal is → settled_at network now (arrived place is signal)
+told_settled : {network other : Network} (now : ℕ) {hs : List Happening} (place : DueAt) {signal : SignalSent}
+    {is : Arrival} → IsTold network other hs (record { 0 = place.device })
+    (record { 0 = place.link }) place.cause signal is → settled_at network now (arrived place is signal)
     ≡ settled_as other hs now (arrival_body (record { 0 = place.device }) (record { 0 = place.link }) place.cause is)
-told_settled network other now hs place signal is so = grind (arith, units_of, octets_in, frame_by)
+told_settled now place so = grind (arith, units_of, octets_in, frame_by)
 
 -- the record has its octets, where it needs them
 sent_octets : (place : DueAt) (given : _) (is : Arrival) → have_octets (arrived place is (signals.Octets given))
@@ -128,7 +129,7 @@ module _ {C M : Type 0} (reading : C → ℕ → ℕ) (stands : Kept M → Netwo
 
   -- octets of the schedule are no control frame
   pub as_sent : IsAsSent network signal
-  as_sent = by signal (λ octets is. plain_on_wire s hs old.run.founded old.range e (old.wires.real e there).0 octets is)
+  as_sent = by signal (λ octets is. plain_on_wire s hs old.run.founded old.range (old.wires.real e there).0 octets is)
     where
       by : (x : SignalSent) → ((octets : List ℕ) → signal_as network x ≡ timed octets → signal_of octets ≡ timed octets) → IsAsSent network x
       by (signals.Control frame) plain = tt
@@ -144,7 +145,7 @@ module _ {C M : Type 0} (reading : C → ℕ → ℕ) (stands : Kept M → Netwo
     held : IsHeld stands s hs (map (settled_at s.network state.time) state.settled.items) old.cursor state.time e.device machine
     held =
         let own = old.devices e.device (device_there s hs e old.range (old.wires.real e there).0) in
-        subst (λ (x : Kept M). IsHeld stands s hs (map (settled_at s.network state.time) state.settled.items) old.cursor state.time e.device x) (some_same own.0 machine _ own.1 found) own.2
+        subst (λ x. IsHeld stands s hs (map (settled_at s.network state.time) state.settled.items) old.cursor state.time e.device x) (some_same own.0 machine _ own.1 found) own.2
 
     called : (node : Node) (m : Moment) → Type 0
     called node m = MayCall s.network e.device node m arriving
@@ -156,14 +157,14 @@ module _ {C M : Type 0} (reading : C → ℕ → ℕ) (stands : Kept M → Netwo
           | inl k ↦ (
             k.node,
             k.is,
-            subst (λ (m : Moment). MayCall s.network e.device k.node m arriving) (sym now)
+            subst (λ m. MayCall s.network e.device k.node m arriving) (sym now)
                 (may_call s old.cursor state.time e.device k.node arriving (place.device ∷ place.link ∷ place.cause ∷ []) k.ready k.phase
                 (old.steady e.device) old.limit not_gone),
           )
           | inr k ↦ (
             k.node,
             k.is,
-            subst (λ (m : Moment). MayCall s.network e.device k.node m arriving) (sym now)
+            subst (λ m. MayCall s.network e.device k.node m arriving) (sym now)
                 (may_call s old.cursor state.time e.device k.node arriving (place.device ∷ place.link ∷ place.cause ∷ []) k.ready k.phase
                 (old.steady e.device) old.limit not_gone),
           )
@@ -187,7 +188,7 @@ module _ {C M : Type 0} (reading : C → ℕ → ℕ) (stands : Kept M → Netwo
         let answer : result ≡ arrival_at s.network e.device node_of.0 moment e.link (signal_as network signal) =
         (hears s.network e.device node_of.0 node_of.1 node_of.2 (may_come_so octets are)).0
         ∙ ap (arrival_at s.network e.device node_of.0 moment e.link) are.is in
-        subst (λ (is : Arrival). have_octets (arrived place is signal)) (sym answer)
+        subst (λ is. have_octets (arrived place is signal)) (sym answer)
         (arrival_octets network s.network e.device node_of.0 moment place e.link signal)
 
     -- and the world stands again
@@ -218,11 +219,11 @@ module _ {C M : Type 0} (reading : C → ℕ → ℕ) (stands : Kept M → Netwo
         (λ frame is. frame_told s hs old.run.founded e it frame is) (λ given is. octets_told s hs old.run.founded e it given is)) in
         let step = heard_step reading stands s world notes e machine heard octets result machines (filter_map (on_wire network) rest)
         (map (settled_at network state.time) settled) old there at (subst (ComesFirst reading stands s world notes old) numbers first) found are.is may
-        (subst (λ (m : Moment). HasHeard stands s.network e.device m e.link octets result machine heard) now (hears s.network e.device)) set
+        (subst (λ m. HasHeard stands s.network e.device m e.link octets result machine heard) now (hears s.network e.device)) set
         (wires_without network state.under_way.entries rest taken under took e refl)
         (one_put_in s.network network state.time hs (arrival_body e.device e.link e.cause result) (arrived place result signal) state.settled.items settled
-        put_at put (settled_in_order reading stands s world notes old)
-        (told_settled network s.network state.time hs place signal result so)) in
+        put_at put (settled_in_order old)
+        (told_settled state.time place so)) in
         let after : World C (Kept M) = record world {
           early = false;
           machines = machines;
@@ -231,4 +232,4 @@ module _ {C M : Type 0} (reading : C → ℕ → ℕ) (stands : Kept M → Netwo
         } in
         with_ports reading stands s after notes (filter_map at_port rest) (behind (numbers_of place))
         (ports_stay network state.under_way.entries rest taken under took refl)
-        (subst (λ (p : List ℕ). StandsBehind reading stands s after notes (behind p)) (sym numbers) step)
+        (subst (λ p. StandsBehind reading stands s after notes (behind p)) (sym numbers) step)

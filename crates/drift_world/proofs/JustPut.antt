@@ -108,16 +108,19 @@ copied_none X None h = h
 copied_none X (Some c) h = tt
 
 -- what a world finds on a wire is what the record put there
-pub shown_put : {C M : Type 0} (fresh : ℕ → C) (after_step : C → ℕ → ℤ → C) (reading : C → ℕ → ℕ)
-    (stands : M → Network → DeviceId → Node → Type 0) (own network : Network) (state : State C M) (events : List Event) (notes : List Note) (number : ℕ)
-    (h : Happening) → AreUnderWay own state.under_way.entries → StandsUnder fresh after_step reading stands network (world_of own state) events notes
+pub shown_put : {C M : Type 0} {fresh : ℕ → C} {after_step : C → ℕ → ℤ → C} {reading : C → ℕ → ℕ}
+    {stands : M → Network → DeviceId → Node → Type 0} {own network : Network} (state : State C M)
+    {events : List Event} {notes : List Note} {number : ℕ} {h : Happening} → AreUnderWay own state.under_way.entries
+    → StandsUnder fresh after_step reading stands network (world_of own state) events notes
     → IsOfNow (happenings network notes) state.time number h
-    → IsOnOwnLink (scenario network (reading_of fresh after_step reading network events) events) h → (found : Option (Bor Content))
-    → IfSome found (λ c. HoldsAt state.under_way.entries 2 number c.now) → IfNone found (HoldsNoneAt state.under_way.entries 2 number)
-    → (result : Option (Bor Sent)) → option_copied result ≡ on_wire_in (option_copied found)
-    → option_map (signal_as network) (option_copied result) ≡ put_by (scenario network (reading_of fresh after_step reading network events) events) h
-shown_put fresh after_step reading stands own network state events notes number h under_way st of within found some none result is =
+    → IsOnOwnLink (scenario network (reading_of fresh after_step reading network events) events) h
+    → (found : Option (Bor Content)) → IfSome found (λ c. HoldsAt state.under_way.entries 2 number c.now)
+    → IfNone found (HoldsNoneAt state.under_way.entries 2 number) → (result : Option (Bor Sent))
+    → option_copied result ≡ on_wire_in (option_copied found) → option_map (signal_as network) (option_copied result)
+    ≡ put_by (scenario network (reading_of fresh after_step reading network events) events) h
+shown_put {fresh} {after_step} {reading} {stands} {own} {network} state {events} {notes} {number} {h} under_way st of
+    within found some none result is =
     let s = scenario network (reading_of fresh after_step reading network events) events in
     let put = just_put reading (keeps stands) s own state notes st.is under_way number h of (option_copied found)
     (copied_some (HoldsAt state.under_way.entries 2 number) found some) (copied_none (HoldsNoneAt state.under_way.entries 2 number) found none) within in
-    ap (λ (n : Network). option_map (signal_as n) (option_copied result)) (sym st.is.same) ∙ ap (option_map (signal_as own)) is ∙ put
+    ap (λ n. option_map (signal_as n) (option_copied result)) (sym st.is.same) ∙ ap (option_map (signal_as own)) is ∙ put

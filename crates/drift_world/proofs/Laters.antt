@@ -14,9 +14,9 @@ at_most (pos m) n not = grind (arith, ints)
 at_most (negsuc m) n not = omega (arith, ints)
 
 -- an event within the hypothesis is in the range of times
-pub time_limit : (network : Network) (events : List Event) (event : Event) → IsInRange network → IsWithinHypothesis network events event
-    → event.time.0 ≤ℤ pos (2 ^ 60)
-time_limit network events event range within =
+pub time_limit : {network : Network} (events : List Event) (event : Event) → IsInRange network
+    → IsWithinHypothesis network events event → event.time.0 ≤ℤ pos (2 ^ 60)
+time_limit {network} events event range within =
     let late = at_most event.time.0 (2 ^ 20 * amount network.cycle) (within Late) in
     let least = range.cycle.least in
     let most = range.cycle.most in
@@ -27,14 +27,15 @@ time_limit network events event range within =
 -- ---- no record is left
 
 -- none that is before the mark follows the run up to it
-none_earlier : (s : Scenario) (mark later : List ℕ) (notes : List Note) (note : Note) → IsScenarioRun s mark notes
-    → IsScenarioRun s later (notes ++ note ∷ []) → IsBefore (place_of (happening s.network (happenings s.network notes) note)) mark → ⊥
-none_earlier s mark later notes note whole more before =
+none_earlier : (s : Scenario) {mark later : List ℕ} (notes : List Note) (note : Note) → IsScenarioRun s mark notes
+    → IsScenarioRun s later (notes ++ note ∷ []) → IsBefore
+    (place_of (happening s.network (happenings s.network notes) note)) mark → ⊥
+none_earlier s notes note whole more before =
     let hs = happenings s.network notes in
     let h = happening s.network hs note in
     let last = more.founded hs [] h (one_more s.network notes note) in
     let other = whole.full hs [] h (sym (append-nil hs)) last.0 (λ g none. absurd none) last.1 before in
-    never_self (place_of h) (subst (λ (p : List ℕ). IsBefore p (place_of h)) other.2 (last.0 other.0 other.1))
+    never_self (place_of h) (subst (λ p. IsBefore p (place_of h)) other.2 (last.0 other.0 other.1))
 
 -- the world has come to the time of the event, which may befall it
 pub record IsThere {C M : Type 0} (fresh : ℕ → C) (after_step : C → ℕ → ℤ → C) (reading : C → ℕ → ℕ)
@@ -66,9 +67,9 @@ module _ {C M : Type 0} (fresh : ℕ → C) (after_step : C → ℕ → ℤ → 
       let at : note.time.0 ≡ pos mid.now = ap (λ (u : Units). u.0) before.0 in
       let amount_is : amount note.time ≡ mid.now = ap amount before.0 in
       elim (cases_lt old.now (amount event.time)) [
-        | inl later ↦ absurd (none_earlier _ _ _ notes note (comes.none_left (omega (arith, ints, later, time))) more.is.run
+        | inl later ↦ absurd (none_earlier _ notes note (comes.none_left (omega (arith, ints, later, time))) more.is.run
             (inl (omega (arith, ints, lt, time, at, amount_is))))
-        | inr now ↦ absurd (none_earlier _ _ _ notes note comes.is.is.run more.is.run
+        | inr now ↦ absurd (none_earlier _ notes note comes.is.is.run more.is.run
             (comes.is.is.of_now _ (inl (omega (arith, ints, lt, time, at, amount_is, now)))))
       ]
 
@@ -77,7 +78,7 @@ module _ {C M : Type 0} (fresh : ℕ → C) (after_step : C → ℕ → ℤ → 
       (reached : IfNone o (Reaches old mid event.time)) where
     -- the same events and records leave the world there
     stands_there : StandsUnder fresh after_step reading stands network mid events notes
-    stands_there = subst (λ (l : List Note). StandsUnder fresh after_step reading stands network mid events l)
+    stands_there = subst (λ l. StandsUnder fresh after_step reading stands network mid events l)
         (ap (λ (p : Option Note). notes ++ option_to_list p) (none_due o more before) ∙ append-nil notes) more
 
     -- the world has come to the time of the event
@@ -85,7 +86,7 @@ module _ {C M : Type 0} (fresh : ℕ → C) (after_step : C → ℕ → ℤ → 
     has_reached =
         let R : Option Note → Type 0 = λ p. IfNone p (Reaches old mid event.time) in
         let reaches : Reaches old mid event.time = subst R (none_due o more before) reached in
-        reaches opens.unended opens.time (time_limit network events event comes.is.is.range comes.within)
+        reaches opens.unended opens.time (time_limit events event comes.is.is.range comes.within)
 
     -- the event may befall it
     open_there : IsOpenTo mid event

@@ -15,37 +15,45 @@ within_and P xs i (Some x) e and = slice_get_within xs i x e
 
 -- ---- the device that gives a frame, and the link
 
-pub giver_gives : (network : Network) (body : NoteBody) (device giver : DeviceId) (link : LinkId) → Gives network body device link
-    → giver_of body ≡ Some giver → device ≡ giver
-giver_gives network (Sent master cycle) device giver link gives by = gives.0 ∙ same_Some _ _ by
-giver_gives network (Compressed cm opened at cycle members verdict) device giver link gives by = gives.0 ∙ same_Some _ _ by
-giver_gives network (Arrived relay from cause clock) device giver link gives by = gives.0 ∙ same_Some _ _ by
-giver_gives network other device giver link gives by = absurd gives
+module _ (network : Network) where
+  pub giver_gives : (body : NoteBody) (device giver : DeviceId) (link : LinkId) → Gives network body device link
+      → giver_of body ≡ Some giver → device ≡ giver
+  giver_gives (Sent master cycle) device giver link gives by = gives.0 ∙ same_Some _ _ by
+  giver_gives (Compressed cm opened at cycle members verdict) device giver link gives by = gives.0 ∙ same_Some _ _ by
+  giver_gives (Arrived relay from cause clock) device giver link gives by = gives.0 ∙ same_Some _ _ by
+  giver_gives other device giver link gives by = absurd gives
 
-pub gives_within : (network : Network) (body : NoteBody) (device : DeviceId) (link : LinkId) → Gives network body device link → link.0 < length network.link
-gives_within network (Sent master cycle) device link gives = within_and (λ (l : Link). l.child ≡ device) network.link link.0 _ refl gives.1
-gives_within network (Compressed cm opened at cycle members verdict) device link gives =
-    within_and (λ (l : Link). l.parent ≡ device) network.link link.0 _ refl gives.1
-gives_within network (Arrived relay from cause clock) device link gives = grind (arith, within_and)
-gives_within network other device link gives = absurd gives
+  pub gives_within : (body : NoteBody) (device : DeviceId) (link : LinkId) → Gives network body device link
+      → link.0 < length network.link
+  gives_within (Sent master cycle) device link gives =
+      within_and (λ (l : Link). l.child ≡ device) network.link link.0 _ refl gives.1
+  gives_within (Compressed cm opened at cycle members verdict) device link gives =
+      within_and (λ (l : Link). l.parent ≡ device) network.link link.0 _ refl gives.1
+  gives_within (Arrived relay from cause clock) device link gives = grind (arith, within_and)
+  gives_within other device link gives = absurd gives
 
-pub gives_by : (network : Network) (body : NoteBody) (device : DeviceId) (link : LinkId) → Gives network body device link → giver_of body ≡ Some device
-gives_by network (Sent master cycle) device link gives = ap (λ (d : DeviceId). Some d) (sym gives.0)
-gives_by network (Compressed cm opened at cycle members verdict) device link gives = ap (λ (d : DeviceId). Some d) (sym gives.0)
-gives_by network (Arrived relay from cause clock) device link gives = ap (λ (d : DeviceId). Some d) (sym gives.0)
-gives_by network other device link gives = absurd gives
+  pub gives_by : (body : NoteBody) (device : DeviceId) (link : LinkId) → Gives network body device link
+      → giver_of body ≡ Some device
+  gives_by (Sent master cycle) device link gives = ap (λ (d : DeviceId). Some d) (sym gives.0)
+  gives_by (Compressed cm opened at cycle members verdict) device link gives =
+      ap (λ (d : DeviceId). Some d) (sym gives.0)
+  gives_by (Arrived relay from cause clock) device link gives = ap (λ (d : DeviceId). Some d) (sym gives.0)
+  gives_by other device link gives = absurd gives
 
-child_in : (network : Network) (device : DeviceId) (i : ℕ) (o : Option Link) → slice_get network.link i ≡ o → IsInRange network
-    → IsSomeAnd o (λ l. l.child ≡ device) → device.0 < length network.device
-child_in network device i None e range and = absurd and
-child_in network device i (Some l) e range and =
-    subst (λ (d : DeviceId). d.0 < length network.device) and (in_all (IsLinkInRange network) network.link i l range.links e).child
+module _ (network : Network) (device : DeviceId) (i : ℕ) where
+  child_in : (o : Option Link) → slice_get network.link i ≡ o → IsInRange network
+      → IsSomeAnd o (λ l. l.child ≡ device) → device.0 < length network.device
+  child_in None e range and = absurd and
+  child_in (Some l) e range and =
+      subst (λ (d : DeviceId). d.0 < length network.device) and
+      (in_all (IsLinkInRange network) network.link i l range.links e).child
 
-parent_in : (network : Network) (device : DeviceId) (i : ℕ) (o : Option Link) → slice_get network.link i ≡ o → IsInRange network
-    → IsSomeAnd o (λ l. l.parent ≡ device) → device.0 < length network.device
-parent_in network device i None e range and = absurd and
-parent_in network device i (Some l) e range and =
-    subst (λ (d : DeviceId). d.0 < length network.device) and (in_all (IsLinkInRange network) network.link i l range.links e).parent
+  parent_in : (o : Option Link) → slice_get network.link i ≡ o → IsInRange network
+      → IsSomeAnd o (λ l. l.parent ≡ device) → device.0 < length network.device
+  parent_in None e range and = absurd and
+  parent_in (Some l) e range and =
+      subst (λ (d : DeviceId). d.0 < length network.device) and
+      (in_all (IsLinkInRange network) network.link i l range.links e).parent
 
 pub gives_in : (network : Network) (body : NoteBody) (device : DeviceId) (link : LinkId) → IsInRange network → Gives network body device link
     → device.0 < length network.device
@@ -92,9 +100,9 @@ module _ (s : Scenario) (now : ℕ) (ups downs : List WayState) (ways : AreWays 
     held_so : (link : LinkId) → link.0 < length s.network.link → giving.time + hold_by s.network ups downs giving.device link
         ≡ time_of x + hold_at s link (way_from s.network giving.device link) (time_of x)
     held_so link lt =
-        ap (λ (t : ℕ). t + hold_by s.network ups downs giving.device link) (time ∙ sym at)
-        ∙ ap (λ (h : ℕ). time_of x + h)
-        (hold_is giving.device link lt ∙ ap (λ (t : ℕ). hold_at s link (way_from s.network giving.device link) t) (sym at))
+        ap (λ t. t + hold_by s.network ups downs giving.device link) (time ∙ sym at)
+        ∙ ap (λ h. time_of x + h)
+        (hold_is giving.device link lt ∙ ap (λ t. hold_at s link (way_from s.network giving.device link) t) (sym at))
 
     given_so : (link : LinkId) → link.0 < length s.network.link → Gives s.network x.note.body giving.device link → IsGivenBy s x (port_of link)
     given_so link lt gives =
@@ -116,7 +124,7 @@ module _ (s : Scenario) (now : ℕ) (ups downs : List WayState) (ways : AreWays 
           all = λ device link gives.
               let lt = gives_within s.network x.note.body device link gives in
               let own = giver_gives s.network x.note.body device giving.device link gives by in
-              let to = subst (λ (d : DeviceId). Gives s.network x.note.body d link) own gives in (
+              let to = subst (λ d. Gives s.network x.note.body d link) own gives in (
                 port_of link,
                 is_given at_port new (entry_at_port s.network ups downs giving link) (port_of link) (put.all link lt to) refl,
                 subst (λ (d : DeviceId). port_place (port_of link)
@@ -129,23 +137,26 @@ module _ (s : Scenario) (now : ℕ) (ups downs : List WayState) (ways : AreWays 
 
 -- ---- what is under way is sound then
 
-pub sound_after : {C M : Type 0} (reading : C → ℕ → ℕ) (network : Network) (state : State C M) (body : NoteBody) (frame : Option Pcf) (number : ℕ)
-    (old new : List (Entry Content)) (giving : Option Giving) → IfSome giving (IsGiver reading network state body frame number)
-    → IfSome giving (λ g. AreBelow g.number old → AreUnderWay network old → AreUnderWay network new) → IfNone giving (new ≡ old)
-    → AreBelow number old → AreUnderWay network old → AreUnderWay network new
-sound_after reading network state body frame number old new None giver sound none below was = subst (AreUnderWay network) (sym none) was
-sound_after reading network state body frame number old new (Some g) giver sound none below was =
-    sound (subst (λ (k : ℕ). AreBelow k old) (sym giver.numbered) below) was
+pub sound_after : {C M : Type 0} (reading : C → ℕ → ℕ) {network : Network} (state : State C M) (body : NoteBody)
+    (frame : Option Pcf) (number : ℕ) {old : List (Entry Content)} (new : List (Entry Content))
+    (giving : Option Giving) → IfSome giving (IsGiver reading network state body frame number)
+    → IfSome giving (λ g. AreBelow g.number old → AreUnderWay network old → AreUnderWay network new)
+    → IfNone giving (new ≡ old) → AreBelow number old → AreUnderWay network old → AreUnderWay network new
+sound_after reading {network} state body frame number new None giver sound none below was =
+    subst (AreUnderWay network) (sym none) was
+sound_after reading state body frame number {old} new (Some g) giver sound none below was =
+    sound (subst (λ k. AreBelow k old) (sym giver.numbered) below) was
 
 -- ---- what is given out, as the law asks for it
 
 -- what the device gives to links is in its port, or waits
-pub given_out : {C M : Type 0} (reading : C → ℕ → ℕ) (s : Scenario) (old new : State C M) (x : Happening) (number : ℕ) (giving : Option Giving)
-    → IsOf reading s s.network old → IsInRange s.network → time_of x ≡ old.time → HasItsFrame x.note.body x.frame
-    → ArrivedAt (length s.network.device) x.note.body → IsGivenOut reading s.network old new x.note.body x.frame number giving
+pub given_out : {C M : Type 0} {reading : C → ℕ → ℕ} {s : Scenario} {old new : State C M} (x : Happening)
+    {number : ℕ} (giving : Option Giving) → IsOf reading s s.network old → IsInRange s.network → time_of x ≡ old.time
+    → HasItsFrame x.note.body x.frame → ArrivedAt (length s.network.device) x.note.body
+    → IsGivenOut reading s.network old new x.note.body x.frame number giving
     → AreGiven s x number (filter_map at_port old.under_way.entries) (filter_map at_port new.under_way.entries)
     × AreAwaited s x number (map waiting_as old.waiting.items) (map waiting_as new.waiting.items)
-given_out reading s old new x number (Some g) of range at framed arrived out =
+given_out {reading} {s} {old} {new} x {number} (Some g) of range at framed arrived out =
     let by = out.giver in
     let frame = by.of_frame in
     let clock = of.clocks g.device by.there in
@@ -156,7 +167,7 @@ given_out reading s old new x number (Some g) of range at framed arrived out =
           new.under_way.entries out.put,
       awaits s old.time x number g at by.by by.numbered frame read broken old.waiting.items new.waiting.items out.waits,
     )
-given_out reading s old new x number None of range at framed arrived out =
+given_out {s} {old} x {number} None of range at framed arrived out =
     let none : (device : DeviceId) (link : LinkId) → Gives s.network x.note.body device link → ⊥ = λ device link gives.
     let by = gives_by s.network x.note.body device link gives in
     framed device by (out.no_giver device by (gives_in s.network x.note.body device link range gives)) in (

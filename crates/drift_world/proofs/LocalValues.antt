@@ -1,7 +1,7 @@
 -- The values that local clocks show, where the machines' adjustments are small.
 use Rattle.{drift_world.proofs.Agreements.reads_value, net_plan.specs.declared.event.Event.Event, sync_state.specs.correction.Deviation.IsSmall}
 use Rattle.drift_world.proofs.Words.{◌+◌, ◌<◌, ◌^◌, ◌∙◌, ◌≡◌, ◌≤◌, Bool, DeviceId, DeviceState, Happening, IfSome, IsComplete, IsHeld, Kept, List, Network}
-use Rattle.drift_world.proofs.Words.{Node, Note, Option, Scenario, Shows, Stands, Units, ap, arith, false, happenings, inl, inr, ints, is_broken, keeps, length, map, settled_at}
+use Rattle.drift_world.proofs.Words.{Node, Note, Option, Scenario, Shows, Stands, Units, ap, arith, false, happenings, inl, inr, ints, is_broken, keeps, length}
 use Rattle.{drift_world.proofs.Words.{local_shown, reading_of, subst, sym, true, world_of, ℕ, ℤ}, world_state.specs.declared.kept.Kept.TheVariants.{Out, Sound}}
 use Rattle.{drift_world.specs.{Locals.{AreSmall, IsLocalValue}, declared.state.State.State}, world_law.proofs.giving.GivenParts.{no_later_breaks, some_same}}
 use Rattle.{drift_world.specs.Running.clock_of, world_law.specs.world.World.HaveBefallen}
@@ -23,47 +23,51 @@ shown_small false states.Integrating reading adjustment low small = tt
 shown_small false states.Joining reading adjustment low small = tt
 
 -- what is kept of a device stands for a node of it, with a small adjustment unless it is broken
-small_held : {M : Type 0} (stands : M → Network → DeviceId → Node → Type 0) → AreSmall stands → (s : Scenario) (hs coming : List Happening)
-    (mark cursor : List ℕ) (now : ℕ) (device : DeviceId) (kept : Kept M) → HaveBefallen s mark now → IsHeld (keeps stands) s hs coming cursor now device kept
-    → (node : Node) × keeps stands kept s.network device node × (is_broken s device now ≡ false → IsSmall node.standing.adjustment.0)
-small_held stands small s hs coming mark cursor now device kept befallen (inl k) = grind (arith, small_kept, no_later_breaks)
-small_held stands small s hs coming mark cursor now device kept befallen (inr k) =
+small_held : {M : Type 0} (stands : M → Network → DeviceId → Node → Type 0) → AreSmall stands
+    → {s : Scenario} {hs coming : List Happening} {mark cursor : List ℕ} {now : ℕ} {device : DeviceId}
+    {kept : Kept M} → HaveBefallen s mark now → IsHeld (keeps stands) s hs coming cursor now device kept
+    → (node : Node) × keeps stands kept s.network device node
+    × (is_broken s device now ≡ false → IsSmall node.standing.adjustment.0)
+small_held stands small befallen (inl k) = grind (arith, small_kept, no_later_breaks)
+small_held stands small befallen (inr k) =
     (k.node, k.is, λ sound. (let no : true ≡ false = sym k.broken ∙ sound in absurd cc))
 
-pub local_value : {C M : Type 0} (reading : C → ℕ → ℕ) (stands : M → Network → DeviceId → Node → Type 0) → AreSmall stands → (s : Scenario)
-    (own : Network) (state : State C M) (notes : List Note) (device : DeviceId) (t : ℕ) (shown : Option ℤ)
-    → Stands reading (keeps stands) s (world_of own state) notes → device.0 < length own.device → t ≤ 2 ^ 60
-    → (shows : Shows reading stands state device t shown) → reading shows.clock t ≡ s.reading device t → IfSome shown IsLocalValue
-local_value reading stands small s own state notes device t shown old lt limit shows reads =
+pub local_value : {C M : Type 0} {reading : C → ℕ → ℕ} {stands : M → Network → DeviceId → Node → Type 0}
+    → AreSmall stands → {s : Scenario} (own : Network) {state : State C M} {notes : List Note} {device : DeviceId}
+    {t : ℕ} {shown : Option ℤ} → Stands reading (keeps stands) s (world_of own state) notes
+    → device.0 < length own.device → t ≤ 2 ^ 60 → (shows : Shows reading stands state device t shown)
+    → reading shows.clock t ≡ s.reading device t → IfSome shown IsLocalValue
+local_value {reading} {stands} small {s} own {state} {notes} {device} {t} old lt limit shows reads =
     let hs = happenings s.network notes in
     let now = state.time in
     let there : device.0 < length s.network.device = subst (λ (n : Network). device.0 < length n.device) old.same lt in
     let held = old.devices device there in
     let same : held.0 ≡ shows.kept = some_same held.0 shows.kept _ held.1 shows.kept_is in
-    let node = small_held stands small s hs (map (settled_at own state.time) state.settled.items) old.mark old.cursor now device held.0 old.befallen held.2 in
-    let is = shows.is s.network node.0 (subst (λ (k : Kept _). keeps stands k s.network device node.0) same node.1) in
+    let node = small_held stands small old.befallen held.2 in
+    let is = shows.is s.network node.0 (subst (λ k. keeps stands k s.network device node.0) same node.1) in
     let broken : is_broken s device now ≡ shows.broken = some_same _ _ _ (old.broken device there) shows.broken_is in
     let low = (old.steady device).low t limit in
     subst (λ (o : Option ℤ). IfSome o IsLocalValue) (sym is)
     (shown_small shows.broken node.0.standing.state (reading shows.clock t) node.0.standing.adjustment
-    (subst (λ (n : ℕ). n ≤ 2 ^ 60 + 2 ^ 51) (sym reads) low) (λ sound. node.2 (broken ∙ sound)))
+    (subst (λ n. n ≤ 2 ^ 60 + 2 ^ 51) (sym reads) low) (λ sound. node.2 (broken ∙ sound)))
 
 -- what the clock of a device reads at a time up to which the records are all of the run
-pub complete_reads : {C M : Type 0} (fresh : ℕ → C) (after_step : C → ℕ → ℤ → C) (reading : C → ℕ → ℕ)
-    (stands : M → Network → DeviceId → Node → Type 0) (own : Network) (state : State C M) (t : ℕ) (events : List Event) (notes : List Note)
-    (device : DeviceId) (shown : Option ℤ) → device.0 < length own.device
-    → IsComplete fresh after_step reading stands own (world_of own state) t events notes → (shows : Shows reading stands state device t shown)
+pub complete_reads : {C M : Type 0} {fresh : ℕ → C} {after_step : C → ℕ → ℤ → C} {reading : C → ℕ → ℕ}
+    {stands : M → Network → DeviceId → Node → Type 0} {own : Network} {state : State C M} {t : ℕ}
+    {events : List Event} {notes : List Note} {device : DeviceId} {shown : Option ℤ} → device.0 < length own.device
+    → IsComplete fresh after_step reading stands own (world_of own state) t events notes
+    → (shows : Shows reading stands state device t shown)
     → reading shows.clock t ≡ reading_of fresh after_step reading own events device t
-complete_reads fresh after_step reading stands own state t events notes device shown lt complete shows =
+complete_reads {fresh} {after_step} {reading} {own} {t} {events} {device} lt complete shows =
     let clock : shows.clock ≡ clock_of fresh after_step own events device = some_same _ _ _ shows.clock_is (complete.is.clocks device lt) in
     ap (λ c. reading c t) clock ∙ sym (reads_value fresh after_step reading own events device t complete.past)
 
 -- what it reads at the present time
-pub now_reads : {C M : Type 0} (reading : C → ℕ → ℕ) (stands : M → Network → DeviceId → Node → Type 0) (s : Scenario) (own : Network)
-    (state : State C M) (notes : List Note) (device : DeviceId) (t : ℕ) (shown : Option ℤ)
+pub now_reads : {C M : Type 0} {reading : C → ℕ → ℕ} {stands : M → Network → DeviceId → Node → Type 0} {s : Scenario}
+    (own : Network) {state : State C M} {notes : List Note} {device : DeviceId} {t : ℕ} {shown : Option ℤ}
     → Stands reading (keeps stands) s (world_of own state) notes → device.0 < length own.device → t ≡ state.time
     → (shows : Shows reading stands state device t shown) → reading shows.clock t ≡ s.reading device t
-now_reads reading stands s own state notes device t shown old lt at shows =
+now_reads {reading} {s} own {device} {t} old lt at shows =
     let there : device.0 < length s.network.device = subst (λ (n : Network). device.0 < length n.device) old.same lt in
     let own_clock = old.clocks device there in
     let clock : own_clock.0 ≡ shows.clock = some_same _ _ _ own_clock.1 shows.clock_is in

@@ -4,7 +4,7 @@ use Rattle.world_law.{proofs.runs.Worlds.length_is, specs.world.World.IsDueAs}
 use Rattle.{drift_clock.specs.Readings.value_after, drift_world.specs.Running.clock_of, run_law.{proofs.runs.Places.either_way, specs.records.Happenings.up_to}}
 use Rattle.{drift_world.proofs.{Agreements.{all_come, reads_value}, Words.{true, world_of, ℕ, ℤ}}, run_law.specs.device.States.{adjustment_after, state_after}}
 use Rattle.drift_world.proofs.Words.{◌++◌, ◌+◌, ◌<◌, ◌∙◌, ◌∷◌, ◌≡◌, ◌≤◌, Bool, DeviceId, DeviceState, Happening, IsBefore, IsComplete, IsDue, IsIn}
-use Rattle.drift_world.proofs.Words.{IsScenarioRun, Kept, List, Network, Node, Note, Option, RateStep, Scenario, Shows, Stands, Units, World, [], amount, ap}
+use Rattle.drift_world.proofs.Words.{IsScenarioRun, List, Network, Node, Note, Option, RateStep, Scenario, Shows, Stands, Units, World, [], amount, ap}
 use Rattle.drift_world.proofs.Words.{append-nil, arith, breaks_at, chain, false, filter, happenings, inl, inr, is_broken, keeps, le-leb, length, list_any}
 use Rattle.drift_world.proofs.Words.{local_shown, nat_le, never_self, numbered_in, place_of, rate_steps, reading_of, refl, scenario, subst, suc, sym, time_of}
 use Rattle.{drift_world.specs.{Locals.{HasCome, IsLocalClock}, declared.state.State.State}, world_law.proofs.devices.Shown.{all_past, held_shows}}
@@ -43,30 +43,30 @@ module _ {C M : Type 0} (reading : C → ℕ → ℕ) (stands : M → Network �
   -- where the world has come behind the time, only events of its instant are worked off
   none_early : world.early ≡ true → world.settled ≡ []
   none_early early = no_first world.settled (λ z rest same.
-      let begun = old.are.begun z (subst (λ (l : List Happening). IsIn z l) (sym same) (inl refl)) in
+      let begun = old.are.begun z (subst (λ l. IsIn z l) (sym same) (inl refl)) in
       never_self (world.now ∷ 2 ∷ []) (old.early early (world.now ∷ 2 ∷ []) begun))
 
   -- where it is at the time still, what is to come would be a record of the run
   none_now : world.now ≡ t → world.settled ≡ []
   none_now at = no_first world.settled (λ z rest same.
       let hs = happenings s.network notes in
-      let there : IsIn z world.settled = subst (λ (l : List Happening). IsIn z l) (sym same) (inl refl) in
-      let first = subst (λ (l : List Happening). IsDueAs s l z) (append-nil hs) (old.are.founded [] rest z same).1 in
+      let there : IsIn z world.settled = subst (λ l. IsIn z l) (sym same) (inl refl) in
+      let first = subst (λ l. IsDueAs s l z) (append-nil hs) (old.are.founded [] rest z same).1 in
       let y = happening s.network hs (note_of notes z) in
       let place : place_of y ≡ place_of z = ap place_of (sym first.same) in
       let due : IsDue s hs y =
-      record { number = ap (λ (n : ℕ). n + 1) (length_is s notes); same = refl; begun = first.begun; cause = first.cause } in
+      record { number = ap (λ n. n + 1) (length_is s notes); same = refl; begun = first.begun; cause = first.cause } in
       let behind = old.are.behind_mark z there in
       let of_now = old.are.of_now z there in
       let before : (h : Happening) → IsIn h hs → IsBefore (place_of h) (place_of y) = λ h i.
-      subst (λ (p : List ℕ). IsBefore (place_of h) p) (sym place)
+      subst (λ p. IsBefore (place_of h) p) (sym place)
       (let marked = old.run.within h i in elim (either_way (place_of h) (place_of z)) [
         | inl lt ↦ lt
-        | inr (inl e) ↦ absurd (behind (subst (λ (p : List ℕ). IsBefore p old.mark) e marked))
+        | inr (inl e) ↦ absurd (behind (subst (λ p. IsBefore p old.mark) e marked))
         | inr (inr gt) ↦ absurd (behind (chain (place_of z) (place_of h) old.mark gt marked))
       ]) in
       let other = run.full hs [] y (sym (append-nil hs)) before (λ h none. absurd none) due (inl (omega (arith, of_now, at))) in
-      behind (subst (λ (p : List ℕ). IsBefore p old.mark) (other.2 ∙ place) (old.run.within other.0 other.1)))
+      behind (subst (λ p. IsBefore p old.mark) (other.2 ∙ place) (old.run.within other.0 other.1)))
 
   none_left : HasCome world (happenings s.network notes) t → world.settled ≡ []
   none_left (inl past) = none_early past.1
@@ -120,12 +120,14 @@ shown_is s hs device t false states.Integrating x a broken in_state reads adjust
 shown_is s hs device t false states.Joining x a broken in_state reads adjusts =
     λ step. (let no : ◌≡◌ {A = DeviceState} states.Joining states.Synchronised = sym in_state ∙ step.synchronised in cc)
 
-pub local_is : {C M : Type 0} (fresh : ℕ → C) (after_step : C → ℕ → ℤ → C) (reading : C → ℕ → ℕ) (stands : M → Network → DeviceId → Node → Type 0)
-    (own network : Network) (state : State C M) (t : ℕ) (events : List Event) (notes : List Note) (device : DeviceId) (shown : Option ℤ)
-    → device.0 < length own.device → IsComplete fresh after_step reading stands network (world_of own state) t events notes
-    → Shows reading stands state device t shown
-    → IsLocalClock (scenario network (reading_of fresh after_step reading network events) events) (happenings network notes) device t shown
-local_is fresh after_step reading stands own network state t events notes device shown lt complete shows =
+pub local_is : {C M : Type 0} {fresh : ℕ → C} {after_step : C → ℕ → ℤ → C} {reading : C → ℕ → ℕ}
+    {stands : M → Network → DeviceId → Node → Type 0} (own : Network) {network : Network} {state : State C M} {t : ℕ}
+    {events : List Event} {notes : List Note} {device : DeviceId} {shown : Option ℤ} → device.0 < length own.device
+    → IsComplete fresh after_step reading stands network (world_of own state) t events notes
+    → Shows reading stands state device t shown → IsLocalClock
+    (scenario network (reading_of fresh after_step reading network events) events)
+    (happenings network notes) device t shown
+local_is {fresh} {after_step} {reading} {stands} own {network} {state} {t} {events} {notes} {device} lt complete shows =
     let s = scenario network (reading_of fresh after_step reading network events) events in
     let world = world_of own state in
     let hs = happenings network notes in
@@ -144,7 +146,7 @@ local_is fresh after_step reading stands own network state t events notes device
     ap (up_to now) all ∙ all_up_to now hs (λ h i. (let was = past h i in omega (arith, was, le))) ∙ sym (all_up_to t hs past) in
     let node = at.0 in
     let machine : held.0 ≡ shows.kept = some_same held.0 shows.kept _ held.1 shows.kept_is in
-    let is = shows.is network node (subst (λ (k : Kept _). keeps stands k network device node) machine at.1) in
+    let is = shows.is network node (subst (λ k. keeps stands k network device node) machine at.1) in
     let broken : is_broken s device t ≡ shows.broken =
     sym (still_broken s device t now le complete.past) ∙ some_same _ _ _ (old.broken device there) shows.broken_is in
     let clock : shows.clock ≡ clock_of fresh after_step network events device = some_same _ _ _ shows.clock_is (complete.is.clocks device there) in
@@ -152,5 +154,5 @@ local_is fresh after_step reading stands own network state t events notes device
     ap (λ c. reading c t) clock ∙ sym (reads_value fresh after_step reading network events device t complete.past) in
     subst (IsLocalClock s hs device t) (sym is)
     (shown_is s hs device t shows.broken node.standing.state (reading shows.clock t) node.standing.adjustment broken
-    (sym (at.2.state ∙ ap (λ (l : List Happening). state_after s l device) same)) reads
-    (at.2.adjustment ∙ ap (λ (l : List Happening). adjustment_after s l device) same))
+    (sym (at.2.state ∙ ap (λ l. state_after s l device) same)) reads
+    (at.2.adjustment ∙ ap (λ l. adjustment_after s l device) same))

@@ -9,17 +9,19 @@ use Rattle.sync_state.specs.declared.state.State.TheVariants as states
 -- ---- where only events of the instant are worked off
 
 -- nothing is to come
-pub none_coming : {C M : Type 0} (reading : C → ℕ → ℕ) (stands : M → Network → DeviceId → Node → Type 0) (s : Scenario) (world : World C M)
-    (notes : List Note) (old : Stands reading stands s world notes) → world.early ≡ true → world.settled ≡ []
-none_coming reading stands s world notes old early = no_first world.settled (λ z rest same.
-    let begun = old.are.begun z (subst (λ (l : List Happening). IsIn z l) (sym same) (inl refl)) in
+pub none_coming : {C M : Type 0} {reading : C → ℕ → ℕ} {stands : M → Network → DeviceId → Node → Type 0}
+    {s : Scenario} {world : World C M} {notes : List Note} (old : Stands reading stands s world notes)
+    → world.early ≡ true → world.settled ≡ []
+none_coming {world} old early = no_first world.settled (λ z rest same.
+    let begun = old.are.begun z (subst (λ l. IsIn z l) (sym same) (inl refl)) in
     never_self (world.now ∷ 2 ∷ []) (old.early early (world.now ∷ 2 ∷ []) begun))
 
 -- no device has acted at the instant
-not_acted : {M : Type 0} (stands : M → Network → DeviceId → Node → Type 0) (s : Scenario) (hs coming : List Happening) (cursor : List ℕ) (now : ℕ)
-    (device : DeviceId) (machine : M) (k : IsKept stands s hs coming cursor now device machine)
+not_acted : {M : Type 0} {stands : M → Network → DeviceId → Node → Type 0} {s : Scenario}
+    {hs coming : List Happening} {cursor : List ℕ} {now : ℕ} {device : DeviceId} {machine : M}
+    (k : IsKept stands s hs coming cursor now device machine)
     → ((p : List ℕ) → IsBefore p cursor → IsBefore p (now ∷ 2 ∷ [])) → k.up ≡ now
-not_acted stands s hs coming cursor now device machine k early = elim k.acted [
+not_acted {now} k early = elim k.acted [
   | inl yet ↦ yet.0
   | inr over ↦ absurd (never_self (now ∷ 2 ∷ []) (early (now ∷ 2 ∷ []) (over.1 (now ∷ 2 ∷ []) (inr (refl, inl (omega arith))))))
 ]
@@ -30,23 +32,25 @@ record ShowsSound (s : Scenario) (hs : List Happening) (device : DeviceId) (now 
   pub adjustment : node.standing.adjustment ≡ adjustment_before s hs device now
 
 -- unless the device is broken, its machine stands for such a node
-sound_shows : {M : Type 0} (stands : M → Network → DeviceId → Node → Type 0) (s : Scenario) (hs coming : List Happening) (cursor : List ℕ) (now : ℕ)
-    (device : DeviceId) (machine : M) → IsHeld stands s hs coming cursor now device machine → coming ≡ []
+sound_shows : {M : Type 0} {stands : M → Network → DeviceId → Node → Type 0} {s : Scenario}
+    {hs coming : List Happening} {cursor : List ℕ} {now : ℕ} {device : DeviceId} {machine : M}
+    → IsHeld stands s hs coming cursor now device machine → coming ≡ []
     → ((p : List ℕ) → IsBefore p cursor → IsBefore p (now ∷ 2 ∷ []))
-    → (node : Node) × stands machine s.network device node × (is_broken s device now ≡ false → ShowsSound s hs device now node)
-sound_shows stands s hs coming cursor now device machine (inl k) empty early =
-    let up = not_acted stands s hs coming cursor now device machine k early in
+    → (node : Node) × stands machine s.network device node
+    × (is_broken s device now ≡ false → ShowsSound s hs device now node)
+sound_shows {s} {hs} {coming} {now} {device} (inl k) empty early =
+    let up = not_acted k early in
     let all : hs ++ coming ≡ hs = ap (λ (l : List Happening). hs ++ l) empty ∙ append-nil hs in (
       k.node,
       k.is,
       λ sound. record {
-        state = k.left.state ∙ ap (λ (n : ℕ). state_before s (hs ++ coming) device n) up ∙ ap (λ (l : List Happening). state_before s l device now) all;
+        state = k.left.state ∙ ap (λ n. state_before s (hs ++ coming) device n) up ∙ ap (λ l. state_before s l device now) all;
         adjustment =
-            k.left.counted.adjustment ∙ ap (λ (n : ℕ). adjustment_before s (hs ++ coming) device n) up
-            ∙ ap (λ (l : List Happening). adjustment_before s l device now) all;
+            k.left.counted.adjustment ∙ ap (λ n. adjustment_before s (hs ++ coming) device n) up
+            ∙ ap (λ l. adjustment_before s l device now) all;
       },
     )
-sound_shows stands s hs coming cursor now device machine (inr k) empty early = (k.node, k.is, λ sound. (let no : true ≡ false = sym k.broken ∙ sound in cc))
+sound_shows (inr k) empty early = (k.node, k.is, λ sound. (let no : true ≡ false = sym k.broken ∙ sound in cc))
 
 -- ---- what is shown
 
@@ -63,21 +67,21 @@ shown_before s hs device t false states.Integrating x a broken reads shows = λ 
 shown_before s hs device t false states.Joining x a broken reads shows = λ step.
     (let no : ◌≡◌ {A = DeviceState} states.Joining states.Synchronised = (shows broken).0 ∙ step.synchronised in cc)
 
-pub local_is_before : {C M : Type 0} (reading : C → ℕ → ℕ) (stands : M → Network → DeviceId → Node → Type 0) (s : Scenario) (own : Network)
-    (state : State C M) (notes : List Note) (device : DeviceId) (t : ℕ) (shown : Option ℤ)
-    → Stands reading (keeps stands) s (world_of own state) notes → state.early ≡ true → device.0 < length own.device → t ≡ state.time
-    → Shows reading stands state device t shown → IsLocalClockBefore s (happenings s.network notes) device state.time shown
-local_is_before reading stands s own state notes device t shown old early lt at shows =
+pub local_is_before : {C M : Type 0} {reading : C → ℕ → ℕ} {stands : M → Network → DeviceId → Node → Type 0}
+    {s : Scenario} (own : Network) {state : State C M} {notes : List Note} {device : DeviceId} {t : ℕ}
+    {shown : Option ℤ} → Stands reading (keeps stands) s (world_of own state) notes → state.early ≡ true
+    → device.0 < length own.device → t ≡ state.time → Shows reading stands state device t shown
+    → IsLocalClockBefore s (happenings s.network notes) device state.time shown
+local_is_before {reading} {stands} {s} own {state} {notes} {device} {t} old early lt at shows =
     let world = world_of own state in
     let hs = happenings s.network notes in
     let now = world.now in
     let there : device.0 < length s.network.device = subst (λ (n : Network). device.0 < length n.device) old.same lt in
     let held = old.devices device there in
-    let machine = sound_shows (keeps stands) s hs world.settled old.cursor now device held.0 held.2
-    (none_coming reading (keeps stands) s world notes old early) (old.early early) in
+    let machine = sound_shows held.2 (none_coming old early) (old.early early) in
     let node = machine.0 in
     let same : held.0 ≡ shows.kept = some_same held.0 shows.kept _ held.1 shows.kept_is in
-    let is = shows.is s.network node (subst (λ (k : Kept _). keeps stands k s.network device node) same machine.1) in
+    let is = shows.is s.network node (subst (λ k. keeps stands k s.network device node) same machine.1) in
     let broken : is_broken s device now ≡ shows.broken = some_same _ _ _ (old.broken device there) shows.broken_is in
     let own_clock = old.clocks device there in
     let clock : own_clock.0 ≡ shows.clock = some_same _ _ _ own_clock.1 shows.clock_is in

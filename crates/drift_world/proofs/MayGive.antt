@@ -18,82 +18,103 @@ record MayBut (network : Network) (body : NoteBody) (frame : Option Pcf) : Type 
 
 -- ---- what arrived
 
-arrives_in : (s : Scenario) (h : Happening) (device : DeviceId) (link : LinkId) (t : ℕ) (signal : _) → IsInRange s.network → Arrives s h device link t signal
+arrives_in : {s : Scenario} {h : Happening} {device : DeviceId} {link : LinkId} {t : ℕ} {signal : _}
+    → IsInRange s.network → Arrives s h device link t signal
     → (link.0 < length s.network.link) × (device.0 < length s.network.device)
-arrives_in s h device link t signal range a = (
+arrives_in {s} {device} {link} range a = (
   link_within s.network.link link.0 a.way (link_at s.network link) device refl a.receiver,
   receiver_in s.network a.way link (link_at s.network link) device refl range a.receiver,
 )
 
-arrived_may : (s : Scenario) (hs : List Happening) (time : Units) (device : DeviceId) (link : LinkId) (cause clock : ℕ) (frame : Option Pcf)
-    → IsInRange s.network → IsFounded place_of (IsDue s) hs → IsArrivedRecord s hs device (amount time) link cause clock
-    → frame ≡ frame_by s.network hs (Arrived device link cause clock) → MayBut s.network (Arrived device link cause clock) frame
-arrived_may s hs time device link cause clock frame range founded a own =
-    let so = arrived_so s hs device (amount time) link cause clock a in
-    let there = arrives_in s so.putting device link (amount time) _ range so.arrives in
-    let put = founded_at s hs so.putting founded (numbered_in hs cause so.putting so.there) in
-    let put_frame : so.putting.frame ≡ Some so.came =
-    launched_frame s put.front so.putting (time_of so.putting) link so.arrives.way so.came so.putting.note.body (ap (λ (h : Happening). h.frame) put.due.same)
-    so.arrives.put in
-    let has : frame ≡ Some (with_clock clock so.came) = own
-    ∙ ap (λ (o : Option Happening). option_map (with_clock clock) (option_and_then (λ h. h.frame) o)) so.there
-    ∙ ap (option_map (with_clock clock)) put_frame in
-    record {
-      by = there.0;
-      young = arrived_young s hs device (amount time) link cause clock a;
-      arrived = there.1;
-      framed = λ d is none. let bad : None ≡ Some (with_clock clock so.came) = sym none ∙ has in absurd cc;
-    }
+module _ (s : Scenario) (hs : List Happening) (time : Units) where
+  arrived_may : {device : DeviceId} {link : LinkId} {cause clock : ℕ} (frame : Option Pcf) → IsInRange s.network
+      → IsFounded place_of (IsDue s) hs → IsArrivedRecord s hs device (amount time) link cause clock
+      → frame ≡ frame_by s.network hs (Arrived device link cause clock)
+      → MayBut s.network (Arrived device link cause clock) frame
+  arrived_may {device} {link} {cause} {clock} frame range founded a own =
+      let so = arrived_so s hs device (amount time) link cause clock a in
+      let there = arrives_in range so.arrives in
+      let put = founded_at s hs so.putting founded (numbered_in hs cause so.putting so.there) in
+      let put_frame : so.putting.frame ≡ Some so.came =
+      launched_frame s put.front so.putting (time_of so.putting) link so.arrives.way so.came so.putting.note.body
+      (ap (λ (h : Happening). h.frame) put.due.same)
+      so.arrives.put in
+      let has : frame ≡ Some (with_clock clock so.came) = own
+      ∙ ap (λ (o : Option Happening). option_map (with_clock clock) (option_and_then (λ h. h.frame) o)) so.there
+      ∙ ap (option_map (with_clock clock)) put_frame in
+      record {
+        by = there.0;
+        young = arrived_young s hs device (amount time) link cause clock a;
+        arrived = there.1;
+        framed = λ d is none. let bad : None ≡ Some (with_clock clock so.came) = sym none ∙ has in absurd cc;
+      }
 
--- ---- by its cause
+  -- ---- by its cause
 
-caused_may : (s : Scenario) (hs : List Happening) (time : Units) (body : NoteBody) (frame : Option Pcf) → IsInRange s.network
-    → IsFounded place_of (IsDue s) hs → IsCaused s hs time body → frame ≡ frame_by s.network hs body → MayBut s.network body frame
-caused_may s hs time (Arrived d l c k) frame range founded caused own = arrived_may s hs time d l c k frame range founded caused own
-caused_may s hs time (Sent d k) frame range founded caused own =
-    record { by = tt; young = tt; arrived = tt; framed = λ e is none. let bad : None ≡ Some _ = sym none ∙ own in absurd cc }
-caused_may s hs time (Compressed d o a k m v) frame range founded caused own =
-    record { by = tt; young = tt; arrived = tt; framed = λ e is none. let bad : None ≡ Some _ = sym none ∙ own in absurd cc }
-caused_may s hs time (Event a b) frame range founded caused own = record { by = tt; young = tt; arrived = tt; framed = λ e is none. absurd cc }
-caused_may s hs time (Permanent a b c d e) frame range founded caused own = record { by = tt; young = tt; arrived = tt; framed = λ e is none. absurd cc }
-caused_may s hs time (Corrected a b c d) frame range founded caused own = record { by = tt; young = tt; arrived = tt; framed = λ e is none. absurd cc }
-caused_may s hs time (Changed a b c d) frame range founded caused own = record { by = tt; young = tt; arrived = tt; framed = λ e is none. absurd cc }
-caused_may s hs time (Left a b c d) frame range founded caused own = record { by = tt; young = tt; arrived = tt; framed = λ e is none. absurd cc }
-caused_may s hs time (Lost a b c) frame range founded caused own = record { by = tt; young = tt; arrived = tt; framed = λ e is none. absurd cc }
-caused_may s hs time (TtSent a b c d e) frame range founded caused own = record { by = tt; young = tt; arrived = tt; framed = λ e is none. absurd cc }
-caused_may s hs time (Accepted a b c d e) frame range founded caused own = record { by = tt; young = tt; arrived = tt; framed = λ e is none. absurd cc }
-caused_may s hs time (Delivered a b c d e) frame range founded caused own = record { by = tt; young = tt; arrived = tt; framed = λ e is none. absurd cc }
-caused_may s hs time (Dropped a b c d) frame range founded caused own = record { by = tt; young = tt; arrived = tt; framed = λ e is none. absurd cc }
-caused_may s hs time (Clock a b c d) frame range founded caused own = record { by = tt; young = tt; arrived = tt; framed = λ e is none. absurd cc }
+  caused_may : (body : NoteBody) (frame : Option Pcf) → IsInRange s.network → IsFounded place_of (IsDue s) hs
+      → IsCaused s hs time body → frame ≡ frame_by s.network hs body → MayBut s.network body frame
+  caused_may (Arrived d l c k) frame range founded caused own = arrived_may frame range founded caused own
+  caused_may (Sent d k) frame range founded caused own =
+      record { by = tt; young = tt; arrived = tt; framed = λ e is none. let bad : None ≡ Some _ = sym none ∙ own in absurd cc }
+  caused_may (Compressed d o a k m v) frame range founded caused own =
+      record { by = tt; young = tt; arrived = tt; framed = λ e is none. let bad : None ≡ Some _ = sym none ∙ own in absurd cc }
+  caused_may (Event a b) frame range founded caused own =
+      record { by = tt; young = tt; arrived = tt; framed = λ e is none. absurd cc }
+  caused_may (Permanent a b c d e) frame range founded caused own =
+      record { by = tt; young = tt; arrived = tt; framed = λ e is none. absurd cc }
+  caused_may (Corrected a b c d) frame range founded caused own =
+      record { by = tt; young = tt; arrived = tt; framed = λ e is none. absurd cc }
+  caused_may (Changed a b c d) frame range founded caused own =
+      record { by = tt; young = tt; arrived = tt; framed = λ e is none. absurd cc }
+  caused_may (Left a b c d) frame range founded caused own =
+      record { by = tt; young = tt; arrived = tt; framed = λ e is none. absurd cc }
+  caused_may (Lost a b c) frame range founded caused own =
+      record { by = tt; young = tt; arrived = tt; framed = λ e is none. absurd cc }
+  caused_may (TtSent a b c d e) frame range founded caused own =
+      record { by = tt; young = tt; arrived = tt; framed = λ e is none. absurd cc }
+  caused_may (Accepted a b c d e) frame range founded caused own =
+      record { by = tt; young = tt; arrived = tt; framed = λ e is none. absurd cc }
+  caused_may (Delivered a b c d e) frame range founded caused own =
+      record { by = tt; young = tt; arrived = tt; framed = λ e is none. absurd cc }
+  caused_may (Dropped a b c d) frame range founded caused own =
+      record { by = tt; young = tt; arrived = tt; framed = λ e is none. absurd cc }
+  caused_may (Clock a b c d) frame range founded caused own =
+      record { by = tt; young = tt; arrived = tt; framed = λ e is none. absurd cc }
 
 -- ---- the first of what is settled
 
-first_may : {C M : Type 0} (reading : C → ℕ → ℕ) (stands : M → Network → DeviceId → Node → Type 0) (s : Scenario) (world : World C M) (notes : List Note)
-    (z : Happening) (rest : List Happening) → Stands reading stands s world notes → world.settled ≡ z ∷ rest → MayBut s.network z.note.body z.frame
-first_may reading stands s world notes z rest old is =
-    let hs = happenings s.network notes in
-    let due : IsDueAs s hs z = subst (λ (l : List Happening). IsDueAs s l z) (append-nil hs) (old.are.founded [] rest z is).1 in
-    caused_may s hs z.note.time z.note.body z.frame old.range old.run.founded due.cause (ap (λ (h : Happening). h.frame) due.same)
+module _ {C M : Type 0} (reading : C → ℕ → ℕ) (stands : M → Network → DeviceId → Node → Type 0) (s : Scenario)
+    (world : World C M) (notes : List Note) where
+  first_may : (z : Happening) (rest : List Happening) → Stands reading stands s world notes
+      → world.settled ≡ z ∷ rest → MayBut s.network z.note.body z.frame
+  first_may z rest old is =
+      let hs = happenings s.network notes in
+      let due : IsDueAs s hs z =
+      subst (λ l. IsDueAs s l z) (append-nil hs) (old.are.founded [] rest z is).1 in
+      caused_may s hs z.note.time z.note.body z.frame old.range old.run.founded due.cause
+      (ap (λ (h : Happening). h.frame) due.same)
 
--- it may be given, with its octets
-pub may_be_given : {C M : Type 0} (reading : C → ℕ → ℕ) (stands : M → Network → DeviceId → Node → Type 0) (s : Scenario) (world : World C M)
-    (notes : List Note) (network : Network) (now : ℕ) (first : Settled) (rest : List Happening) → Stands reading stands s world notes → network ≡ s.network
-    → world.settled ≡ settled_at network now first ∷ rest → HasItsOctets first.body first.octets → MayBeGiven network first.body first.frame first.octets
-may_be_given reading stands s world notes network now first rest old same is has =
-    let may = subst (λ (n : Network). MayBut n first.body first.frame) (sym same)
-    (first_may reading stands s world notes (settled_at network now first) rest old is) in
-    record { by = may.by; young = may.young; arrived = may.arrived; with_octets = has; framed = may.framed }
+  -- it may be given, with its octets
+  pub may_be_given : (network : Network) (now : ℕ) (first : Settled) (rest : List Happening)
+      → Stands reading stands s world notes → network ≡ s.network
+      → world.settled ≡ settled_at network now first ∷ rest → HasItsOctets first.body first.octets
+      → MayBeGiven network first.body first.frame first.octets
+  may_be_given network now first rest old same is has =
+      let may = subst (λ (n : Network). MayBut n first.body first.frame) (sym same)
+      (first_may (settled_at network now first) rest old is) in
+      record { by = may.by; young = may.young; arrived = may.arrived; with_octets = has; framed = may.framed }
 
--- ---- what the clocks read
+  -- ---- what the clocks read
 
--- no clock is much ahead of the time
-pub low_now : {C M : Type 0} (reading : C → ℕ → ℕ) (stands : M → Network → DeviceId → Node → Type 0) (s : Scenario) (world : World C M) (notes : List Note)
-    → Stands reading stands s world notes → (devices : ℕ) → devices ≡ length s.network.device → length world.clocks ≡ devices → (k : ℕ) (clock : C)
-    → slice_get world.clocks k ≡ Some clock → reading clock world.now ≤ 2 ^ 60 + 2 ^ 51
-low_now {C} reading stands s world notes old devices same all k clock at =
-    let within = slice_get_within world.clocks k clock at in
-    let device : DeviceId = record { 0 = k } in
-    let own = old.clocks device (omega (arith, within, all, same)) in
-    let is : clock ≡ own.0 = same_Some _ _ (sym at ∙ own.1) in
-    let low = (old.steady device).low world.now old.limit in
-    subst (λ (n : ℕ). n ≤ 2 ^ 60 + 2 ^ 51) (own.2 world.now (omega arith) ∙ ap (λ (c : C). reading c world.now) (sym is)) low
+  -- no clock is much ahead of the time
+  pub low_now : Stands reading stands s world notes → (devices : ℕ) → devices ≡ length s.network.device
+      → length world.clocks ≡ devices → (k : ℕ) (clock : C) → slice_get world.clocks k ≡ Some clock
+      → reading clock world.now ≤ 2 ^ 60 + 2 ^ 51
+  low_now old devices same all k clock at =
+      let within = slice_get_within world.clocks k clock at in
+      let device : DeviceId = record { 0 = k } in
+      let own = old.clocks device (omega (arith, within, all, same)) in
+      let is : clock ≡ own.0 = same_Some _ _ (sym at ∙ own.1) in
+      let low = (old.steady device).low world.now old.limit in
+      subst (λ n. n ≤ 2 ^ 60 + 2 ^ 51) (own.2 world.now (omega arith) ∙ ap (λ (c : C). reading c world.now)
+      (sym is)) low

@@ -43,7 +43,7 @@ due_same now [] (y ∷ ys) same = let e : Some y ≡ None = same 0 in absurd cc
 due_same now (x ∷ xs) [] same = let e : None ≡ Some x = same 0 in absurd cc
 due_same now (x ∷ xs) (y ∷ ys) same =
     let head : y ≡ x = let e : Some y ≡ Some x = same 0 in cc in
-    ap (λ (t : Timer). work_of now t + due_work now ys) head ∙ ap (λ (n : ℕ). work_of now x + n) (due_same now xs ys (λ j. same (suc j)))
+    ap (λ t. work_of now t + due_work now ys) head ∙ ap (λ n. work_of now x + n) (due_same now xs ys (λ j. same (suc j)))
 
 -- less, where one adds less
 due_falls : (now : ℕ) (xs ys : List Timer) (i : ℕ) (a b : Timer) → ((j : ℕ) → (j ≡ i → ⊥) → slice_get ys j ≡ slice_get xs j) → slice_get xs i ≡ Some a
@@ -121,11 +121,11 @@ module _ {C M : Type 0} (last_step : C → ℕ) (reading : C → ℕ → ℕ) (s
               let reads : reading timed.clock timed.act ≡ s.reading device mid.time =
               ap (λ (n : ℕ). reading timed.clock n) (omega (arith, le, from, time)) ∙ ap (λ (k : C). reading k mid.time) (sym clock_is)
               ∙ sym (own.2 mid.time (omega arith)) in
-              let less = idle s timed.machine (shows_of reading (keeps stands) s network mid running.notes running.is) held node.0 task.0
-              (subst (λ (k : Network). keeps stands timed.machine k device node.0) running.is.same node.1)
-              (subst (λ (k : Network). IsPending k device node.0 task.0) running.is.same task.1) in
-              let more = subst (λ (k : Network). reading_for k node.0 task.0 ≤ℤ pos (s.reading device mid.time)) running.is.same
-              (subst (λ (n : ℕ). reading_for network node.0 task.0 ≤ℤ pos n) reads task.2) in
+              let less = idle s timed.machine (shows_of network mid running.is) held node.0 task.0
+              (subst (λ k. keeps stands timed.machine k device node.0) running.is.same node.1)
+              (subst (λ k. IsPending k device node.0 task.0) running.is.same task.1) in
+              let more = subst (λ k. reading_for k node.0 task.0 ≤ℤ pos (s.reading device mid.time)) running.is.same
+              (subst (λ n. reading_for network node.0 task.0 ≤ℤ pos n) reads task.2) in
               absurd (omega (arith, ints, less, more))
         ],
       )
@@ -144,8 +144,8 @@ module _ {C M : Type 0} (last_step : C → ℕ) (reading : C → ℕ → ℕ) (s
       (λ slot ne. others slot ne ∙ ap (λ (l : List Timer). slice_get l slot) (ap (λ (t : State C M). t.timers) acted)) active.due is
       (omega (arith, less, before)) in
       inr (
-        ap (λ (t : State C M). burden network t) same ∙ ap (λ (t : State C M). burden network t) acted,
-        subst (λ (n : ℕ). due_work n (drop (length network.device) new.timers) < acting network old) (sym time) falls,
+        ap (λ t. burden network t) same ∙ ap (λ t. burden network t) acted,
+        subst (λ n. due_work n (drop (length network.device) new.timers) < acting network old) (sym time) falls,
       )
 
   part_work : (part : Part) → 0 < 7 - part_rank part
@@ -205,17 +205,17 @@ module _ {C M : Type 0} (last_step : C → ℕ) (reading : C → ℕ → ℕ) (s
       sum_less : (until : ℕ) (old new : State C M) → new.time ≡ old.time → burden network new < burden network old
           → ((until - new.time) + burden network new) < ((until - old.time) + burden network old)
       sum_less until old new time lt = plus (until - new.time) (until - old.time) (burden network new) (burden network old)
-          (ap (λ (t : ℕ). until - t) time) lt
+          (ap (λ t. until - t) time) lt
         where
           plus : (a b c d : ℕ) → a ≡ b → c < d → a + c < b + d
           plus a b c d e l = omega (arith, e, l)
   less_nears until old new well time (inr same) =
       evenly (until - new.time) (until - old.time) (burden network new) (burden network old) (7 * length network.device) (acting network new)
-      (acting network old) (ap (λ (t : ℕ). until - t) time) same.0 same.1
+      (acting network old) (ap (λ t. until - t) time) same.0 same.1
     where
       evenly : (a b c d n x y : ℕ) → a ≡ b → c ≡ d → x < y → (a + c) * (n + 1) + x < (b + d) * (n + 1) + y
       evenly a b c d n x y e f l =
-          subst (λ (k : ℕ). (a + c) * (n + 1) + x < k * (n + 1) + y) (let g : a + c ≡ b + d = omega (arith, e, f) in g) (omega (arith, l))
+          subst (λ k. (a + c) * (n + 1) + x < k * (n + 1) + y) (let g : a + c ≡ b + d = omega (arith, e, f) in g) (omega (arith, l))
 
   -- so does one where time passes
   pub passing_nears : (until time : ℕ) (early : Bool) (old new : State C M) → IsWell last_step reading stands network new
@@ -223,7 +223,7 @@ module _ {C M : Type 0} (last_step : C → ℕ) (reading : C → ℕ → ℕ) (s
   passing_nears until time early old new well same later within =
       fewer ((until - new.time) + burden network new) ((until - old.time) + burden network old) (7 * length network.device) (acting network new)
       (acting network old)
-      (plus new.time (burden network new) (burden network old) (ap (λ (t : State C M). t.time) same) (ap (λ (t : State C M). burden network t) same))
+      (plus new.time (burden network new) (burden network old) (ap (λ (t : State C M). t.time) same) (ap (λ t. burden network t) same))
       (acting_most new well)
     where
       plus : (t c d : ℕ) → t ≡ time → c ≡ d → (until - t) + c < (until - old.time) + d
@@ -246,7 +246,7 @@ settled_less network old new was is most same = grind (arith, length)
 pub shown_less : {C M : Type 0} (network : Network) (old new : State C M)
     → new ≡ record old { early = false; settled = new.settled; shown = old.shown + 1 } → old.shown < length network.device → IsLess network old new
 shown_less network old new acted more =
-    let sum = ap (λ (t : State _ _). burden network t) acted in inl (omega (arith, sum, more))
+    let sum = ap (λ t. burden network t) acted in inl (omega (arith, sum, more))
 
 pub on_both : {A E : Type 0} (result : Result A E) (P Q R : Type 0) → OnOk result P → OnOk result Q → (P → Q → R) → OnOk result R
 on_both (Ok a) P Q R p q f = f p q
@@ -254,20 +254,22 @@ on_both (Err e) P Q R p q f = tt
 
 -- ---- turns
 
--- what nears a state with more room nears the state before it
--- a turn of a state that is no farther than another
-pub no_farther : {C M : Type 0} (network : Network) (until : ℕ) (old new : State C M) (turn : Turn) → Nears network until old new turn
-    → IsNoFarther network until old new turn
-no_farther network until old new Gives nears = tt
-no_farther network until old new Ends nears = tt
-no_farther network until old new GoesOn nears = let lt : distance network until new < distance network until old = nears in omega (arith, lt)
+module _ {C M : Type 0} (network : Network) (until : ℕ) (old : State C M) where
+  -- what nears a state with more room nears the state before it
+  -- a turn of a state that is no farther than another
+  pub no_farther : (new : State C M) (turn : Turn) → Nears network until old new turn
+      → IsNoFarther network until old new turn
+  no_farther new Gives nears = tt
+  no_farther new Ends nears = tt
+  no_farther new GoesOn nears =
+      let lt : distance network until new < distance network until old = nears in omega (arith, lt)
 
-pub nears_behind : {C M : Type 0} (network : Network) (until : ℕ) (old mid new : State C M) (turn : Turn)
-    → distance network until mid ≤ distance network until old → Nears network until mid new turn → Nears network until old new turn
-nears_behind network until old mid new Gives le nears = tt
-nears_behind network until old mid new Ends le nears = tt
-nears_behind network until old mid new GoesOn le nears =
-    let lt : distance network until new < distance network until mid = nears in omega (arith, le, lt)
+  pub nears_behind : (mid new : State C M) (turn : Turn) → distance network until mid ≤ distance network until old
+      → Nears network until mid new turn → Nears network until old new turn
+  nears_behind mid new Gives le nears = tt
+  nears_behind mid new Ends le nears = tt
+  nears_behind mid new GoesOn le nears =
+      let lt : distance network until new < distance network until mid = nears in omega (arith, le, lt)
 
 pub no_more : (a b : ℕ) → a ≡ b → a ≤ b
 no_more a b e = omega (arith, e)

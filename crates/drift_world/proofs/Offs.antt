@@ -6,7 +6,7 @@ use Rattle.drift_world.proofs.Words.{false_from_ne_true, if◌then◌else◌, in
 use Rattle.{drift_world.proofs.Words.{time_of, true, turns_on, ℕ, ℤ}, tte_units.specs.declared.frames.members.Members.Members, world_law.specs.device.Own.moves}
 use Rattle.{net_plan.specs.declared.event.Event.Event, run_law.specs.runs.DueRecords.IsEventRecord, sync_state.specs.declared.state.State.State}
 use Rattle.{net_plan.specs.declared.event.What.TheVariants.On, sync_state.specs.{Standing.{point_in, state_at_start}, declared.plan.SyncPlan.SyncPlan}}
-use Rattle.{run_law.specs.{declared.judgement.{Reason.Reason, Why.Why}, device.StateChanges.ChangesState}}
+use Rattle.run_law.specs.{declared.judgement.{Reason.Reason, Why.Why}, device.StateChanges.ChangesState}
 use Rattle.{precision_law.proofs.traffic_lemmas.spans.Forward.ripe_integrates, sync_state.specs.declared.answers.Verdict.TheVariants.Corrected}
 use Rattle.run_law.{proofs.{control.Verdicts.role_not, scenario.Devices.on_by}, specs.{control.{Emissions.Emits, Hearing.heard_as}, records.Happenings.earlier}}
 use Rattle.run_law.specs.{control.Collections.{master_of, observation_window, point_fault, points_of}, declared.judgement.Judgement.TheVariants.Integrates}
@@ -62,7 +62,7 @@ module _ (s : Scenario) (device : DeviceId) (begins : state_at_start (start_of s
   no_point : (hs : List Happening) (t cycle : ℕ) → ((h : Happening) → IsIn h hs → moves device h.note.body ≡ false)
       → point_in (state_before s hs device t) (next_cycle s hs device t) ≡ Some cycle → ⊥
   no_point hs t cycle still e =
-      let bad : None ≡ Some cycle = sym (ap (λ (z : State). point_in z (next_cycle s hs device t)) (off_then hs t still)) ∙ e in cc
+      let bad : None ≡ Some cycle = sym (ap (λ z. point_in z (next_cycle s hs device t)) (off_then hs t still)) ∙ e in cc
 
   no_frame : (hs : List Happening) (t : ℕ) (link : LinkId) (cause : ℕ) (point : Units)
       → ((h : Happening) → IsIn h hs → moves device h.note.body ≡ false) → BecomesPermanent s hs device t link cause point ripe.Integrates → ⊥
@@ -108,14 +108,14 @@ module _ (s : Scenario) (device : DeviceId) (begins : state_at_start (start_of s
       → ((h : Happening) → IsIn h hs → (line : ℕ) → h.note.body ≡ notes.Event line (On device) → ⊥) → IsCaused s hs time body → moves device body ≡ true → ⊥
   stays hs time (notes.State other state cause why) still untold c own =
       no_change hs (amount time) state cause why still untold
-      (subst (λ (d : DeviceId). ChangesState s hs d (amount time) state cause why) (one_device device other own) c)
+      (subst (λ d. ChangesState s hs d (amount time) state cause why) (one_device device other own) c)
   stays hs time (notes.Corrected other cycle by adjustment) still untold c own =
       no_point hs (amount time) cycle still
-      (subst (λ (d : DeviceId). ComesToCorrection s hs d (amount time) cycle
+      (subst (λ d. ComesToCorrection s hs d (amount time) cycle
       (Corrected by)) (one_device device other own) c.corrected).next
   stays hs time (notes.Permanent other link cause point Integrates) still untold c own =
       no_frame hs (amount time) link cause point still
-      (subst (λ (d : DeviceId). BecomesPermanent s hs d (amount time) link cause point ripe.Integrates) (one_device device other own) c)
+      (subst (λ d. BecomesPermanent s hs d (amount time) link cause point ripe.Integrates) (one_device device other own) c)
   stays hs time (notes.Compressed other opened at cycle members Integrates) still untold c own =
       let e = subst (λ (d : DeviceId). Emits s hs d (amount time) (record { opened = opened; at = at; cycle = cycle; members = members }) Integrates)
       (one_device device other own) c in

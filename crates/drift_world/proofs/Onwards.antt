@@ -46,7 +46,7 @@ module _ {C M : Type 0} (fresh : ℕ → C) (after_step : C → ℕ → ℤ → 
     begun = begun_before;
     same = λ device x le. reads_same fresh after_step reading grain count law network events event device x (omega (arith, le, now_is));
     steady = λ device. steady fresh after_step reading (keeps_clock_laws fresh after_step reading grain count law)
-        (begins_at_zero fresh after_step reading grain count law) network (events ++ event ∷ []) device under.is.range under.is.rules
+        (begins_at_zero fresh after_step reading grain count law) (events ++ event ∷ []) device under.is.range under.is.rules
         (all_within network events event under.within within) begun_all;
     reads = λ device clock is t late.
         let lt : device.0 < length network.device = let there = slice_get_within state.clocks.items device.0 clock is in omega (arith, there, many) in
@@ -55,7 +55,7 @@ module _ {C M : Type 0} (fresh : ℕ → C) (after_step : C → ℕ → ℤ → 
         reads_value fresh after_step reading network (events ++ event ∷ []) device t (λ e i. let past = past_all e i in omega (arith, past, late))
         ∙ ap (λ (c : C). reading c t) (clock_more fresh after_step network events event device
         ∙ ap (clock_after after_step device event.time event.what) own);
-    forward = forward network (reading_of fresh after_step reading network (events ++ event ∷ [])) (events ++ event ∷ []) under.is.range
+    forward = forward (reading_of fresh after_step reading network (events ++ event ∷ [])) (events ++ event ∷ []) under.is.range
         (all_within network events event under.within within);
   }
 
@@ -118,7 +118,7 @@ module _ {C M E : Type 0} (fresh : ℕ → C) (after_step : C → ℕ → ℤ �
       more_ok (λ (note : Note). StandsUnder fresh after_step reading stands network (world_of network new) (events ++ event ∷ []) (notes ++ note ∷ []))
       (λ (note : Note). IsRunOf network h (events ++ event ∷ []) (behind_events state.time) (notes ++ note ∷ []))
       _ result
-      (λ known note it. subst (λ (t : ℕ). IsRunOf network h (events ++ event ∷ []) (behind_events t) (notes ++ note ∷ [])) still.0
+      (λ known note it. subst (λ t. IsRunOf network h (events ++ event ∷ []) (behind_events t) (notes ++ note ∷ [])) still.0
       (run_behind_events reading (keeps stands) (scenario network h (events ++ event ∷ [])) (world_of network new) (notes ++ note ∷ []) it.is
       (still.1 ∙ early)))
       clocks (goes_on events notes under within)
@@ -161,7 +161,7 @@ module _ {C M : Type 0} (fresh : ℕ → C) (after_step : C → ℕ → ℤ → 
       → IsWithinHypothesis n events event → StandsUnder fresh after_step reading stands n (world_of network new) (events ++ event ∷ []) (notes ++ note ∷ [])
       × IsRunOf n (reading_of fresh after_step reading n (events ++ event ∷ [])) (events ++ event ∷ []) (behind_events world.now) (notes ++ note ∷ [])
   befalls n events notes under within =
-      let here = subst (λ (w : World C (Kept M)). StandsUnder fresh after_step reading stands n w events notes) (sym view) under in
+      let here = subst (λ w. StandsUnder fresh after_step reading stands n w events notes) (sym view) under in
       let early : state.early ≡ true = ap (λ (w : World C (Kept M)). w.early) view ∙ open_to.early in
       let time : event.time.0 ≡ pos state.time = open_to.time ∙ ap (λ (w : World C (Kept M)). pos w.now) (sym view) in
       let own = subst (λ (w : World C (Kept M)). IsOfNetwork w.network event.what) (sym view) of_network in

@@ -29,13 +29,14 @@ arrived_device place (arrivals.Passes frame way) signal e = refl
 arrived_device place (arrivals.PassesAndWaits frame way point) signal e = refl
 arrived_device place other signal e = absurd (omega (arith, e))
 
--- so does that of a frame that left
-pub departed_own : (network : Network) (reading : ℕ) (cut : Bool) (e : AtPort) → rank (departed network reading cut e).body ≡ 8
-    → own_place (departed network reading cut e) ≡ 8 ∷ e.device.0 ∷ e.link.0 ∷ e.cause ∷ []
-departed_own network reading cut e = grind (arith, option_map_or, rank, departure_body)
+module _ (network : Network) (reading : ℕ) (cut : Bool) (e : AtPort) where
+  -- so does that of a frame that left
+  pub departed_own : rank (departed network reading cut e).body ≡ 8
+      → own_place (departed network reading cut e) ≡ 8 ∷ e.device.0 ∷ e.link.0 ∷ e.cause ∷ []
+  departed_own = grind (arith, option_map_or, rank, departure_body)
 
-pub departed_none : (network : Network) (reading : ℕ) (cut : Bool) (e : AtPort) → changed_device (departed network reading cut e).body ≡ 2 ^ 32
-departed_none network reading cut e = grind (arith, changed_device, departure_body)
+  pub departed_none : changed_device (departed network reading cut e).body ≡ 2 ^ 32
+  departed_none = grind (arith, changed_device, departure_body)
 
 pub left_own : (network : Network) (now : ℕ) (place : DueAt) (one : Option Settled) → place.at ≡ now → place.rank ≡ 8
     → IfSome one (λ z. rank z.body ≡ 8 → own_place z ≡ 8 ∷ place.device ∷ place.link ∷ place.cause ∷ [])
@@ -77,35 +78,37 @@ put_ahead z settled none = record {
 }
 
 -- and nowhere else
-pub put_first : (z : Settled) (settled new : List Settled) (at : ℕ) → IsPutAt z settled (z ∷ settled) 0 → IsPutAt z settled new at → new ≡ z ∷ settled
-put_first z settled new zero front put = put.is ∙ sym front.is
-put_first z settled new (suc k) front put = let within = put.within in
+pub put_first : {z : Settled} {settled : List Settled} (new : List Settled) (at : ℕ)
+    → IsPutAt z settled (z ∷ settled) 0 → IsPutAt z settled new at → new ≡ z ∷ settled
+put_first new zero front put = put.is ∙ sym front.is
+put_first {z} new (suc k) front put = let within = put.within in
     absurd (front.none k z (omega arith) (omega (arith, within)) (put.behind k z (omega arith)))
 
 -- so is its record, where a frame is judged
-pub judged_first : (number : ℕ) (w : Waits) (is : Ripe) (settled : List Settled) → IsJudged is
-    → IsPutAt (ripe_record w is) settled (ripe_record w is ∷ settled) 0 → AreSettledSo number w is settled (ripe_record w is ∷ settled)
-judged_first number w ripe.Integrates settled judged front = absurd judged
-judged_first number w (ripe.Dropped reason) settled judged front = absurd judged
-judged_first number w other settled judged front = record { mid = _; at = 0; first = front; more = refl }
+pub judged_first : (number : ℕ) (w : Waits) (is : Ripe) {settled : List Settled} → IsJudged is
+    → IsPutAt (ripe_record w is) settled (ripe_record w is ∷ settled) 0
+    → AreSettledSo number w is settled (ripe_record w is ∷ settled)
+judged_first number w ripe.Integrates judged front = absurd judged
+judged_first number w (ripe.Dropped reason) judged front = absurd judged
+judged_first number w other judged front = record { mid = _; at = 0; first = front; more = refl }
 
--- the world of a state in which it is settled first, elsewhere in memory
-pub first_world : {C M : Type 0} (network : Network) (old new : State C M) (first : Settled) (rest : List Settled)
-    → new.under_way.entries ≡ old.under_way.entries → new.waiting.items ≡ old.waiting.items → new.stored.items ≡ old.stored.items
-    → rest ≡ old.settled.items
-    → new ≡ record old { under_way = new.under_way; waiting = new.waiting; stored = new.stored; settled = new.settled }
-    → with_first network new first rest ≡ with_first network old first old.settled.items
-first_world {C} {M} network old new first rest entries waiting stored is same =
-    grind (arith, world_of, on_wire, at_port, map, waiting_as, stored_as, settled_at, with_first)
+module _ {C M : Type 0} (network : Network) (old new : State C M) (first : Settled) where
+  -- the world of a state in which it is settled first, elsewhere in memory
+  pub first_world : (rest : List Settled) → new.under_way.entries ≡ old.under_way.entries
+      → new.waiting.items ≡ old.waiting.items → new.stored.items ≡ old.stored.items → rest ≡ old.settled.items → new
+      ≡ record old { under_way = new.under_way; waiting = new.waiting; stored = new.stored; settled = new.settled }
+      → with_first network new first rest ≡ with_first network old first old.settled.items
+  first_world rest entries waiting stored is same =
+      grind (arith, world_of, on_wire, at_port, map, waiting_as, stored_as, settled_at, with_first)
 
-pub settled_first : {C M : Type 0} (network : Network) (old new : State C M) (first : Settled)
-    → new.under_way.entries ≡ old.under_way.entries → new.waiting.items ≡ old.waiting.items → new.stored.items ≡ old.stored.items
-    → new.settled.items ≡ first ∷ old.settled.items
-    → new ≡ record old { under_way = new.under_way; waiting = new.waiting; stored = new.stored; settled = new.settled }
-    → world_of network new ≡ with_first network old first old.settled.items
-settled_first {C} {M} network old new first entries waiting stored settled same =
-    ap (λ (zs : List Settled). let w : World C (Kept M) = record (world_of network new) { settled = map (settled_at network new.time) zs } in w) settled
-    ∙ first_world network old new first old.settled.items entries waiting stored refl same
+  pub settled_first : new.under_way.entries ≡ old.under_way.entries → new.waiting.items ≡ old.waiting.items
+      → new.stored.items ≡ old.stored.items → new.settled.items ≡ first ∷ old.settled.items → new
+      ≡ record old { under_way = new.under_way; waiting = new.waiting; stored = new.stored; settled = new.settled }
+      → world_of network new ≡ with_first network old first old.settled.items
+  settled_first entries waiting stored settled same =
+      ap (λ (zs : List Settled). let w : World C (Kept M) = record (world_of network
+      new) { settled = map (settled_at network new.time) zs } in w) settled
+      ∙ first_world old.settled.items entries waiting stored refl same
 
 -- no source that is not worked off stands before the place that was worked off last
 pub none_before_last : (s : Scenario) (hs : List Happening) (cursor p q : List ℕ) → cursor ≡ behind p → q ≡ p → NoSourceBefore s hs cursor q
@@ -113,8 +116,9 @@ none_before_last s hs cursor p q at same = λ w source not b.
     not (subst (IsBefore w) (sym at) (chain w p (behind p) (subst (IsBefore w) same b) (before_behind p)))
 
 -- what changes one device changes no other by another step of it
-pub changes_both : {C M : Type 0} (device : ℕ) (old mid new : State C M) → ChangesOnly device old mid → ChangesOnly device mid new → ChangesOnly device old new
-changes_both device old mid new a b = record {
+pub changes_both : {C M : Type 0} {device : ℕ} {old mid new : State C M} → ChangesOnly device old mid
+    → ChangesOnly device mid new → ChangesOnly device old new
+changes_both a b = record {
   clocks = b.clocks ∙ a.clocks;
   time = b.time ∙ a.time;
   ended = b.ended ∙ a.ended;
@@ -123,10 +127,12 @@ changes_both device old mid new a b = record {
 }
 
 -- nothing that is settled stands before a record that stands at the place of the source that comes first
-pub none_ahead : {C M : Type 0} (last_step : C → ℕ) (reading : C → ℕ → ℕ) (stands : M → Network → DeviceId → Node → Type 0) (network : Network)
-    (old : State C M) (source : Source) (one : Settled) → MayWork last_step reading stands network old source → IsNow source
-    → place_of (settled_at network old.time one) ≡ source_place old.time source → IsPutAt one old.settled.items (one ∷ old.settled.items) 0
-none_ahead last_step reading stands network old source one may now at =
+pub none_ahead : {C M : Type 0} {last_step : C → ℕ} {reading : C → ℕ → ℕ}
+    {stands : M → Network → DeviceId → Node → Type 0} {network : Network} {old : State C M} {source : Source}
+    (one : Settled) → MayWork last_step reading stands network old source → IsNow source
+    → place_of (settled_at network old.time one) ≡ source_place old.time source
+    → IsPutAt one old.settled.items (one ∷ old.settled.items) 0
+none_ahead {last_step} {reading} {stands} {network} {old} {source} one may now at =
     let first = (is_at last_step reading stands network old source may now).first in
     put_ahead one old.settled.items (λ d i before.
     first.after (settled_at network old.time d) (is_mapped (settled_at network old.time) old.settled.items d i)

@@ -50,19 +50,20 @@ kind_grows Dispatch Sending le = absurd (let no : 3 ≤ 1 = le in omega (arith, 
 kind_grows Dispatch Correction le = part_most Late
 kind_grows Dispatch Dispatch le = part_most Late
 
--- nothing is of an earlier part than the first of all
-pub none_sooner : (network : Network) (device : DeviceId) (node : Node) (reading : ℤ) (part : Part) → IsFirstPart network device node reading part
-    → IsNoSooner network device node reading part
-none_sooner network device node reading part first = λ task pending due.
-    subst (λ (p : Part). part_rank p ≤ part_rank (part_of (kind_of task))) first.of_part
-    (kind_grows first.kind (kind_of task) (first.is.first task pending due))
+module _ (network : Network) (device : DeviceId) (node : Node) (reading : ℤ) (part : Part) where
+  -- nothing is of an earlier part than the first of all
+  pub none_sooner : IsFirstPart network device node reading part → IsNoSooner network device node reading part
+  none_sooner first = λ task pending due.
+      subst (λ p. part_rank p ≤ part_rank (part_of (kind_of task))) first.of_part
+      (kind_grows first.kind (kind_of task) (first.is.first task pending due))
 
--- so the first is of no earlier part than all are
-pub first_no_sooner : (network : Network) (device : DeviceId) (node : Node) (reading : ℤ) (part low : Part) → IsFirstPart network device node reading part
-    → IsNoSooner network device node reading low → part_rank low ≤ part_rank part
-first_no_sooner network device node reading part low first none =
-    subst (λ (p : Part). part_rank low ≤ part_rank p) first.of_part
-    (subst (λ (k : TaskKind). part_rank low ≤ part_rank (part_of k)) first.is.of_kind (none first.is.task first.is.pending first.is.due))
+  -- so the first is of no earlier part than all are
+  pub first_no_sooner : (low : Part) → IsFirstPart network device node reading part
+      → IsNoSooner network device node reading low → part_rank low ≤ part_rank part
+  first_no_sooner low first none =
+      subst (λ p. part_rank low ≤ part_rank p) first.of_part
+      (subst (λ k. part_rank low ≤ part_rank (part_of k)) first.is.of_kind
+      (none first.is.task first.is.pending first.is.due))
 
 -- a task stands where its part does
 pub placed_by : (network : Network) (t : ℕ) (device : DeviceId) (task : Task)
@@ -75,11 +76,12 @@ placed_by network t device (doing (dispatching row cycle)) = (_, refl)
 -- ---- the first of all is of one part
 
 -- two first kinds are of one part
-same_rank : (network : Network) (device : DeviceId) (node : Node) (reading : ℤ) (a b : TaskKind) → IsFirstKind network device node reading a
-    → IsFirstKind network device node reading b → order_of_kind a ≡ order_of_kind b
-same_rank network device node reading a b one other =
-    let low = subst (λ (k : TaskKind). order_of_kind a ≤ order_of_kind k) other.of_kind (one.first other.task other.pending other.due) in
-    let high = subst (λ (k : TaskKind). order_of_kind b ≤ order_of_kind k) one.of_kind (other.first one.task one.pending one.due) in
+same_rank : {network : Network} {device : DeviceId} {node : Node} {reading : ℤ} {a b : TaskKind}
+    → IsFirstKind network device node reading a → IsFirstKind network device node reading b
+    → order_of_kind a ≡ order_of_kind b
+same_rank {a} {b} one other =
+    let low = subst (λ k. order_of_kind a ≤ order_of_kind k) other.of_kind (one.first other.task other.pending other.due) in
+    let high = subst (λ k. order_of_kind b ≤ order_of_kind k) one.of_kind (other.first one.task one.pending one.due) in
     omega (arith, low, high)
 
 abbrev part_by : ℕ → Part
@@ -91,10 +93,11 @@ is_by Sending = refl
 is_by Correction = refl
 is_by Dispatch = refl
 
-pub one_part : (network : Network) (device : DeviceId) (node : Node) (reading : ℤ) (kind : TaskKind) (part : Part)
-    → IsFirstPart network device node reading part → IsFirstKind network device node reading kind → part_of kind ≡ part
-one_part network device node reading kind part is first =
-    is_by kind ∙ ap part_by (same_rank network device node reading kind is.kind first is.is) ∙ sym (is_by is.kind) ∙ is.of_part
+pub one_part : {network : Network} {device : DeviceId} {node : Node} {reading : ℤ} {kind : TaskKind} {part : Part}
+    → IsFirstPart network device node reading part → IsFirstKind network device node reading kind
+    → part_of kind ≡ part
+one_part {kind} is first =
+    is_by kind ∙ ap part_by (same_rank first is.is) ∙ sym (is_by is.kind) ∙ is.of_part
 
 -- ---- an act
 
@@ -121,13 +124,12 @@ place_by now device (acts.Correct cycle verdict) = refl
 place_by now device (acts.Dispatch row cycle) = refl
 
 -- what is done is of the part of what is first, and stands there
-pub act_place_is : (network : Network) (now : ℕ) (device : DeviceId) (node : Node) (moment : Moment) (act : Act) (new : Node) (part : Part)
-    → IsActOf network device node moment act new → IsFirstPart network device node moment.reading.0 part
-    → place_of_act now device act ≡ part_place part now device
-act_place_is network now device node moment act new part is first =
+pub act_place_is : {network : Network} (now : ℕ) {device : DeviceId} {node : Node} (moment : Moment) (act : Act)
+    (new : Node) {part : Part} → IsActOf network device node moment act new
+    → IsFirstPart network device node moment.reading.0 part → place_of_act now device act ≡ part_place part now device
+act_place_is {network} now {device} {node} moment act new is first =
     place_by now device act
-    ∙ ap (λ (p : Part). part_place p now device)
-    (one_part network device node moment.reading.0 (kind_by act) part first (act_kind network device node moment act new is))
+    ∙ ap (λ p. part_place p now device) (one_part first (act_kind network device node moment act new is))
 
 rank_by : (act : Act) → rank_of_act act ≡ part_rank (part_of (kind_by act))
 rank_by (acts.Send frame) = refl
@@ -135,10 +137,11 @@ rank_by (acts.Emit sent heard) = refl
 rank_by (acts.Correct cycle verdict) = refl
 rank_by (acts.Dispatch row cycle) = refl
 
-pub act_rank_is : (network : Network) (device : DeviceId) (node : Node) (moment : Moment) (act : Act) (new : Node) (part : Part)
-    → IsActOf network device node moment act new → IsFirstPart network device node moment.reading.0 part → rank_of_act act ≡ part_rank part
-act_rank_is network device node moment act new part is first =
-    rank_by act ∙ ap part_rank (one_part network device node moment.reading.0 (kind_by act) part first (act_kind network device node moment act new is))
+pub act_rank_is : {network : Network} {device : DeviceId} {node : Node} (moment : Moment) (act : Act) (new : Node)
+    {part : Part} → IsActOf network device node moment act new
+    → IsFirstPart network device node moment.reading.0 part → rank_of_act act ≡ part_rank part
+act_rank_is {network} {device} {node} moment act new is first =
+    rank_by act ∙ ap part_rank (one_part first (act_kind network device node moment act new is))
 
 -- ---- what is left behind an act
 
@@ -159,17 +162,18 @@ heads m n xs ys (inl lt) = omega (arith, lt)
 heads m n xs ys (inr (e, b)) = omega (arith, e)
 
 -- what a device that has acted has still to do is of no earlier part than what it did
-pub left_no_sooner : (network : Network) (device : DeviceId) (node : Node) (moment : Moment) (act : Act) (new : Node) (left : Part) → IsInRange network
-    → KeepsRules network → IsFromZero network device node → MayCall network device node moment acting → IsActOf network device node moment act new
+pub left_no_sooner : {network : Network} {device : DeviceId} {node : Node} {moment : Moment} (act : Act) {new : Node}
+    {left : Part} → IsInRange network → KeepsRules network → IsFromZero network device node
+    → MayCall network device node moment acting → IsActOf network device node moment act new
     → IsFirstPart network device new moment.reading.0 left → rank_of_act act ≤ part_rank left
-left_no_sooner network device node moment act new left range rules zero may is first =
+left_no_sooner {network} {device} {node} {moment} act {new} range rules zero may is first =
     let f = first.is in
     let x = act_head network act in
     let y = order_head network f.task in
     let le = heads (order_of_kind (kind_by act)) (order_of_kind (kind_of f.task)) x.0 y.0
-    (subst (λ (q : List ℕ). IsBefore (order_of_kind (kind_by act) ∷ x.0) q) y.1
-    (subst (λ (q : List ℕ). IsBefore q (order_of network f.task)) x.1
+    (subst (λ q. IsBefore (order_of_kind (kind_by act) ∷ x.0) q) y.1
+    (subst (λ q. IsBefore q (order_of network f.task)) x.1
     (acts_grow network device node moment act new f.task range rules zero may is f.pending f.due))) in
-    subst (λ (p : Part). rank_of_act act ≤ part_rank p) first.of_part
-    (subst (λ (k : TaskKind). rank_of_act act ≤ part_rank (part_of k)) f.of_kind
-    (subst (λ (n : ℕ). n ≤ part_rank (part_of (kind_of f.task))) (sym (rank_by act)) (kind_grows (kind_by act) (kind_of f.task) le)))
+    subst (λ p. rank_of_act act ≤ part_rank p) first.of_part
+    (subst (λ k. rank_of_act act ≤ part_rank (part_of k)) f.of_kind
+    (subst (λ n. n ≤ part_rank (part_of (kind_of f.task))) (sym (rank_by act)) (kind_grows (kind_by act) (kind_of f.task) le)))

@@ -28,7 +28,7 @@ module _ (network : Network) (now : ℕ) where
       → IsBefore (place_of (shown x)) (place_of (shown z))
   sooner_still x y z order before = elim (either_way (place_of (shown x)) (place_of (shown z))) [
     | inl sooner ↦ sooner
-    | inr (inl same) ↦ absurd (order (subst (λ (p : List ℕ). IsBefore (place_of (shown y)) p) (sym same) before))
+    | inr (inl same) ↦ absurd (order (subst (λ p. IsBefore (place_of (shown y)) p) (sym same) before))
     | inr (inr later) ↦ absurd (order (chain (place_of (shown y)) (place_of (shown z)) (place_of (shown x)) before later))
   ]
 
@@ -37,11 +37,11 @@ module _ (network : Network) (now : ℕ) where
       → AllBefore place_of (map shown (take at old)) (place_of (shown z))
   all_before zero old z order le behind h there = absurd there
   all_before (suc at) [] z order le behind h there = absurd there
-  all_before (suc zero) (x ∷ old) z order le behind h (inl e) = subst (λ (h : Happening). IsBefore (place_of h) (place_of (shown z))) (sym e)
+  all_before (suc zero) (x ∷ old) z order le behind h (inl e) = subst (λ h. IsBefore (place_of h) (place_of (shown z))) (sym e)
       (timed x z (behind 0 z refl))
   all_before (suc (suc at)) (x ∷ []) z order le behind h there = absurd (omega (arith, le))
   all_before (suc (suc at)) (x ∷ (y ∷ old)) z order le behind h (inl e) =
-      subst (λ (h : Happening). IsBefore (place_of h) (place_of (shown z))) (sym e)
+      subst (λ h. IsBefore (place_of h) (place_of (shown z))) (sym e)
       (sooner_still x y z (order.0 (shown y) (inl refl))
       (all_before (suc at) (y ∷ old) z order.1 (omega (arith, le)) (λ k d e. behind (suc k) d (omega (arith, e))) (shown y) (inl refl)))
   all_before (suc zero) (x ∷ old) z order le behind h (inr rest) = absurd rest
@@ -53,7 +53,7 @@ module _ (network : Network) (now : ℕ) where
       → NoneBefore place_of (map shown (drop at old)) (place_of (shown z))
   none_before zero [] z none h there before = absurd there
   none_before zero (x ∷ old) z none h (inl e) before = none 0 z (omega arith) (omega arith)
-      (untimed x z (subst (λ (h : Happening). IsBefore (place_of h) (place_of (shown z))) e before))
+      (untimed x z (subst (λ h. IsBefore (place_of h) (place_of (shown z))) e before))
   none_before zero (x ∷ old) z none h (inr rest) before = none_before zero old z (λ k d le lt. none (suc k) d (omega arith) (omega (arith, lt))) h rest before
   none_before (suc at) [] z none h there before = absurd there
   none_before (suc at) (x ∷ old) z none h there before =
@@ -71,22 +71,26 @@ module _ (network : Network) (now : ℕ) where
         none = none_before at old z put.none;
       }
 
--- one record is put in, as the law says it
-pub one_put_in : (other network : Network) (now : ℕ) (hs : List Happening) (body : NoteBody) (z : Settled) (old new : List Settled) (at : ℕ)
-    → IsPutAt z old new at → InOrder (map (settled_at network now) old) → settled_at network now z ≡ settled_as other hs now body
-    → ArePutIn other hs now (body ∷ []) (map (settled_at network now) old) (map (settled_at network now) new)
-one_put_in other network now hs body z old new at put order is = (
-  map (settled_at network now) new,
-  subst (λ (h : Happening). IsPutIn h (map (settled_at network now) old) (map (settled_at network now) new)) is (is_put_in network now z old new at put order),
-  refl,
-)
+module _ (other network : Network) (now : ℕ) (hs : List Happening) (body : NoteBody) (z : Settled)
+    (old new : List Settled) where
+  -- one record is put in, as the law says it
+  pub one_put_in : (at : ℕ) → IsPutAt z old new at → InOrder (map (settled_at network now) old)
+      → settled_at network now z ≡ settled_as other hs now body
+      → ArePutIn other hs now (body ∷ []) (map (settled_at network now) old) (map (settled_at network now) new)
+  one_put_in at put order is = (
+    map (settled_at network now) new,
+    subst (λ h. IsPutIn h (map (settled_at network now) old) (map (settled_at network now) new)) is
+        (is_put_in network now z old new at put order),
+    refl,
+  )
 
--- a record is put in, or there is none
-pub some_put_in : (other network : Network) (now : ℕ) (hs : List Happening) (body : NoteBody) (z : Settled) (old new : List Settled) (none : Bool)
-    → IsSomePut (if none then None else Some z) old new → InOrder (map (settled_at network now) old) → settled_at network now z ≡ settled_as other hs now body
-    → ArePutIn other hs now (if none then [] else body ∷ []) (map (settled_at network now) old) (map (settled_at network now) new)
-some_put_in other network now hs body z old new true put order is = ap (map (settled_at network now)) put
-some_put_in other network now hs body z old new false put order is = one_put_in other network now hs body z old new put.0 put.1 order is
+  -- a record is put in, or there is none
+  pub some_put_in : (none : Bool) → IsSomePut (if none then None else Some z) old new
+      → InOrder (map (settled_at network now) old) → settled_at network now z ≡ settled_as other hs now body
+      → ArePutIn other hs now (if none then [] else body ∷ []) (map (settled_at network now) old)
+      (map (settled_at network now) new)
+  some_put_in true put order is = ap (map (settled_at network now)) put
+  some_put_in false put order is = one_put_in put.0 put.1 order is
 
 -- the record of a frame that leaves
 pub departed_is : (other network : Network) (now : ℕ) (hs : List Happening) (e : AtPort) (d : Departure) → frame_from hs e.cause ≡ Some e.frame
@@ -96,8 +100,9 @@ departed_is other network now hs e too_old of = refl
 departed_is other network now hs e on_cut_way of = refl
 
 -- the frame of what is at a port is that of the record that gave it
-pub frame_of_port : (s : Scenario) (hs : List Happening) (e : AtPort) → IsAtPort s hs e → frame_from hs e.cause ≡ Some e.frame
-frame_of_port s hs e it = ap (option_and_then (λ h. h.frame)) it.there ∙ it.gave.of_frame
+pub frame_of_port : {s : Scenario} {hs : List Happening} {e : AtPort} → IsAtPort s hs e
+    → frame_from hs e.cause ≡ Some e.frame
+frame_of_port it = ap (option_and_then (λ h. h.frame)) it.there ∙ it.gave.of_frame
 
 -- ---- with it what is settled is in order
 
@@ -109,24 +114,28 @@ order_with w (x ∷ front) back order before none = (
     | inl f ↦ order.0 h (in_left h front back f) b
     | inr (inl same) ↦
         never_self (place_of x) (chain (place_of x) (place_of w) (place_of x) (before x (inl refl))
-        (subst (λ (y : Happening). IsBefore (place_of y) (place_of x)) same b))
+        (subst (λ y. IsBefore (place_of y) (place_of x)) same b))
     | inr (inr r) ↦ order.0 h (in_right h front back r) b
   ],
   order_with w front back order.1 (λ h i. before h (inr i)) none,
 )
 
-pub order_put : (w : Happening) (old new : List Happening) → InOrder old → IsPutIn w old new → InOrder new
-order_put w old new order put = subst InOrder (sym put.is) (order_with w put.front put.back (subst InOrder put.was order) put.before put.none)
+pub order_put : {w : Happening} {old new : List Happening} → InOrder old → IsPutIn w old new → InOrder new
+order_put {w} order put =
+    subst InOrder (sym put.is) (order_with w put.front put.back (subst InOrder put.was order) put.before put.none)
 
 -- two records are put in, one after the other
-pub two_put_in : (other network : Network) (now : ℕ) (hs : List Happening) (first second : NoteBody) (y z : Settled) (old mid new : List Settled) (at
-    then_at : ℕ) → IsPutAt y old mid at → IsPutAt z mid new then_at → InOrder (map (settled_at network now) old)
-    → settled_at network now y ≡ settled_as other hs now first → settled_at network now z ≡ settled_as other hs now second
-    → ArePutIn other hs now (first ∷ second ∷ []) (map (settled_at network now) old) (map (settled_at network now) new)
-two_put_in other network now hs first second y z old mid new at then_at put put_then order is is_then =
-    let one = subst (λ (h : Happening). IsPutIn h (map (settled_at network now) old) (map (settled_at network now) mid)) is
+pub two_put_in : (other network : Network) (now : ℕ) (hs : List Happening) (first second : NoteBody) (y : Settled)
+    {z : Settled} (old : List Settled) {mid new : List Settled} (at : ℕ) {then_at : ℕ} → IsPutAt y old mid at
+    → IsPutAt z mid new then_at → InOrder (map (settled_at network now) old)
+    → settled_at network now y ≡ settled_as other hs now first
+    → settled_at network now z ≡ settled_as other hs now second
+    → ArePutIn other hs now (first ∷ second ∷ []) (map (settled_at network now) old)
+    (map (settled_at network now) new)
+two_put_in other network now hs first second y {z} old {mid} {new} at {then_at} put put_then order is is_then =
+    let one = subst (λ h. IsPutIn h (map (settled_at network now) old) (map (settled_at network now) mid)) is
     (is_put_in network now y old mid at put order) in (
       map (settled_at network now) mid,
       one,
-      one_put_in other network now hs second z mid new then_at put_then (order_put _ _ _ order one) is_then,
+      one_put_in other network now hs second z mid new then_at put_then (order_put order one) is_then,
     )

@@ -5,7 +5,7 @@ use Rattle.{drift_world.proofs.Rising.{InOrder, settled_in_order}, world_state.s
 use Rattle.{drift_world.proofs.Puts.{one_put_in, two_put_in}, world_state.proofs.{Swaps.{stayed, stays, was_there}, queue_lemmas.Bags.each_apart}}
 use Rattle.drift_world.proofs.Words.{◌+◌, ◌<◌, ◌^◌, ◌↔◌, ◌∙◌, ◌∷◌, ◌≡◌, ◌≤ℤ◌, ◌≤◌, AreApart, ArePutIn, ComesFirst, DeviceId, Happening, IsAt, IsIn}
 use Rattle.drift_world.proofs.Words.{IsPermutation, IsPermutation-map, IsPutAt, Joining, Kept, List, Moment, Network, Node, Note, Option, Scenario, Settled}
-use Rattle.drift_world.proofs.Words.{Some, Stands, StandsBehind, StandsFor, Units, Waiting, Waits, [], ap, arith, behind, false, frame_from}
+use Rattle.drift_world.proofs.Words.{Some, Stands, StandsBehind, StandsFor, Units, Waits, [], ap, arith, behind, false, frame_from}
 use Rattle.drift_world.proofs.Words.{get_or_from_slice_get, happenings, in_get, is_mapped, is_set, keeps, length, map, moment_of, pos, refl}
 use Rattle.drift_world.proofs.Words.{ripe_place, settled_as, settled_at, slice_get_within, slice_set, subst, sym, units_of, waiting_as, world_of, ℕ}
 use Rattle.{drift_world.specs.declared.state.State.State, tte_units.proofs.general_lemmas.Naturals.flips, world_law.proofs.giving.GivenParts.some_same}
@@ -37,15 +37,15 @@ module _ (w : Waits) (old new : List Waits) (t : IsPermutation old (w ∷ new)) 
     λ there.
         let from = from_map waiting_as new e there in
         let v = from.0 in (
-          subst (λ (x : Waiting). IsIn x (map waiting_as old)) (sym from.2) (is_mapped waiting_as old v (stayed w old new t v from.1)),
+          subst (λ x. IsIn x (map waiting_as old)) (sym from.2) (is_mapped waiting_as old v (stayed w old new t v from.1)),
           λ place. others v from.1 (same_cause now v (sym (ap (ripe_place now) from.2) ∙ place)),
         ),
     λ h.
         let from = from_map waiting_as old e h.0 in
         let v = from.0 in
-        subst (λ (x : Waiting). IsIn x (map waiting_as new)) (sym from.2)
+        subst (λ x. IsIn x (map waiting_as new)) (sym from.2)
         (is_mapped waiting_as new v (stays w old new t v from.1 (λ same. h.1 (ap (ripe_place now) from.2
-        ∙ ap (λ (x : Waits). ripe_place now (waiting_as x)) same)))),
+        ∙ ap (λ x. ripe_place now (waiting_as x)) same)))),
   )
 
 pub below_taken : (number : ℕ) (w : Waits) (old new : List Waits) → IsPermutation old (w ∷ new) → All (λ v. v.cause < number) old
@@ -89,18 +89,18 @@ module _ {C M : Type 0} (reading : C → ℕ → ℕ) (stands : M → Network �
   point : (s : Scenario) (notes : List Note) → Stands reading (keeps stands) s (world_of network state) notes → w.point.0 ≤ℤ pos (s.reading w.device state.time)
   point s notes old =
       let it = old.clocks w.device (within s notes old) in
-      subst (λ (n : ℕ). w.point.0 ≤ℤ pos n) (reads s notes old it.0 it.1) (reached it.0 it.1)
+      subst (λ n. w.point.0 ≤ℤ pos n) (reads s notes old it.0 it.1) (reached it.0 it.1)
 
   pub low : (s : Scenario) (notes : List Note) → Stands reading (keeps stands) s (world_of network state) notes → (clock : C)
       → slice_get state.clocks.items w.device.0 ≡ Some clock → reading clock state.time ≤ 2 ^ 60 + 2 ^ 51
-  low s notes old clock own = subst (λ (n : ℕ). n ≤ 2 ^ 60 + 2 ^ 51) (sym (reads s notes old clock own)) ((old.steady w.device).low state.time old.limit)
+  low s notes old clock own = subst (λ n. n ≤ 2 ^ 60 + 2 ^ 51) (sym (reads s notes old clock own)) ((old.steady w.device).low state.time old.limit)
 
   pub moment_is : (s : Scenario) (notes : List Note) → Stands reading (keeps stands) s (world_of network state) notes → (clock : C)
       → slice_get state.clocks.items w.device.0 ≡ Some clock → (number : ℕ) → number ≡ reading clock state.time → (time read : Units)
       → time ≡ units_of state.time → read ≡ units_of number → moment_by time read ≡ moment_of s w.device state.time
   moment_is s notes old clock own number is time read a b =
-      ap (λ (t : Units). moment_by t read) a ∙ ap (moment_by (units_of state.time)) b
-      ∙ ap (λ (n : ℕ). moment_by (units_of state.time) (units_of n)) (is ∙ reads s notes old clock own)
+      ap (λ t. moment_by t read) a ∙ ap (moment_by (units_of state.time)) b
+      ∙ ap (λ n. moment_by (units_of state.time) (units_of n)) (is ∙ reads s notes old clock own)
 
   pub asked : (at : IsAt reading stands network state (ripe_place state.time (waiting_as w))) (machine : Kept M) (moment : Moment)
       → slice_get state.machines.items w.device.0 ≡ Some machine → moment ≡ moment_of at.s w.device state.time
@@ -113,7 +113,7 @@ module _ {C M : Type 0} (reading : C → ℕ → ℕ) (stands : M → Network �
         s.network,
         w.device,
         ask.node,
-        subst (λ (m : Kept M). keeps stands m s.network w.device ask.node) machine_is ask.is,
+        subst (λ m. keeps stands m s.network w.device ask.node) machine_is ask.is,
         record { call = ask.asked.call; reached = ask.asked.ripens.reached; in_time = ask.asked.ripens.in_time; ripens = λ hearing. ask.asked.ripens },
       )
 
@@ -130,7 +130,7 @@ module _ (s : Scenario) (network : Network) (now : ℕ) (hs : List Happening) (w
       (map (settled_at network now) new)
   judged_in verdict old mid new at put same order =
       one_put_in s.network network now hs (kinds.Permanent w.device w.link w.cause w.point verdict) (judged_so w verdict) old new at
-      (subst (λ (l : List Settled). IsPutAt (judged_so w verdict) old l at) (sym same) put) order
+      (subst (λ l. IsPutAt (judged_so w verdict) old l at) (sym same) put) order
       (frame_is s network now hs w verdict of)
 
   pub are_put_in : (number : ℕ) (result : Ripe) (old new : List Settled) → AreSettledSo number w result old new
@@ -145,11 +145,11 @@ module _ (s : Scenario) (network : Network) (now : ℕ) (hs : List Happening) (w
   are_put_in number ripe.Ignored old new a order = judged_in judgements.Ignored old a.mid new a.at a.first a.more order
   are_put_in number ripe.Integrates old new a order =
       two_put_in s.network network now hs (kinds.Permanent w.device w.link w.cause w.point judgements.Integrates)
-      (kinds.State w.device Joining number whys.Frame) (judged_so w judgements.Integrates) _ old a.mid new a.at a.more.0 a.first a.more.1 order
+      (kinds.State w.device Joining number whys.Frame) (judged_so w judgements.Integrates) old a.at a.first a.more.1 order
       (frame_is s network now hs w judgements.Integrates of) refl
   are_put_in number (ripe.Dropped reason) old new a order =
       one_put_in s.network network now hs (kinds.Dropped w.device w.link w.cause reason) (ripe_record w (ripe.Dropped reason)) old new a.at
-      (subst (λ (l : List Settled). IsPutAt (ripe_record w (ripe.Dropped reason)) old l a.at) (sym a.more) a.first) order refl
+      (subst (λ l. IsPutAt (ripe_record w (ripe.Dropped reason)) old l a.at) (sym a.more) a.first) order refl
 
 -- none of them needs octets
 pub record_fits : (w : Waits) (result : Ripe) → have_octets (ripe_record w result)
@@ -166,30 +166,35 @@ joined_fits : (number : ℕ) (device : DeviceId) (result : Ripe) (z : Settled) �
 joined_fits number device ripe.Integrates z e = subst have_octets (some_same _ z _ refl e) tt
 joined_fits number device other z e = absurd cc
 
-pub octets_fit : (number : ℕ) (w : Waits) (result : Ripe) (old new : List Settled) → AreSettledSo number w result old new
-    → All have_octets old → All have_octets new
-octets_fit number w result old new a all =
+pub octets_fit : {number : ℕ} {w : Waits} {result : Ripe} {old new : List Settled}
+    → AreSettledSo number w result old new → All have_octets old → All have_octets new
+octets_fit {number} {w} {result} {old} {new} a all =
     all_put_some have_octets (joined_record number w.device result) a.mid new a.more (joined_fits number w.device result)
     (all_put have_octets (ripe_record w result) old a.mid a.at a.first (record_fits w result) all)
 
 -- ---- so the state stands behind it
 
-pub ripened : {C M : Type 0} (reading : C → ℕ → ℕ) (stands : M → Network → DeviceId → Node → Type 0) (network : Network) (state : State C M)
-    (w : Waits) (new : List Waits) (machine after : Kept M) (result : Ripe) (settled : List Settled)
-    → IsPermutation state.waiting.items (w ∷ new) → AreApart state.waiting.items
-    → ((clock : C) → slice_get state.clocks.items w.device.0 ≡ Some clock → w.point.0 ≤ℤ pos (reading clock state.time))
-    → w.device.0 < length state.machines.items → slice_get state.machines.items w.device.0 ≡ Some machine
+pub ripened : {C M : Type 0} {reading : C → ℕ → ℕ} (stands : M → Network → DeviceId → Node → Type 0)
+    (network : Network) (state : State C M) {w : Waits} (new : List Waits) (machine after : Kept M) {result : Ripe}
+    {settled : List Settled} → IsPermutation state.waiting.items (w ∷ new) → AreApart state.waiting.items
+    → ((clock : C) → slice_get state.clocks.items w.device.0 ≡ Some clock
+    → w.point.0 ≤ℤ pos (reading clock state.time)) → w.device.0 < length state.machines.items
+    → slice_get state.machines.items w.device.0 ≡ Some machine
     → AreSettledSo (state.given + 1) w result state.settled.items settled
-    → (s : Scenario) (notes : List Note) (old : Stands reading (keeps stands) s (world_of network state) notes)
+    → {s : Scenario} {notes : List Note} {old : Stands reading (keeps stands) s (world_of network state) notes}
     → ComesFirst reading (keeps stands) s (world_of network state) notes old (ripe_place state.time (waiting_as w))
-    → HasRipened (keeps stands) s.network w.device (moment_of s w.device state.time) w.link w.frame w.point result machine after
-    → StandsBehind reading (keeps stands) s (record (world_of network state) {
+    → HasRipened (keeps stands) s.network w.device
+    (moment_of s w.device state.time) w.link w.frame w.point result machine after
+    → StandsBehind reading (keeps stands) s
+    (record (world_of network state) {
       early = false;
       machines = slice_set state.machines.items w.device.0 after;
       waiting = map waiting_as new;
       settled = map (settled_at network state.time) settled;
-    }) notes (behind (ripe_place state.time (waiting_as w)))
-ripened reading stands network state w new machine after result settled t apart reached many own put s notes old first has =
+    }) notes
+    (behind (ripe_place state.time (waiting_as w)))
+ripened {reading} stands network state {w} new machine after {result} {settled} t apart reached many own
+    put {s} {notes} {old} first has =
     let world = world_of network state in
     let there = was_there w state.waiting.items new t in
     let hs = happenings s.network notes in
@@ -200,4 +205,4 @@ ripened reading stands network state w new machine after result settled t apart 
     (map waiting_as new) (map (settled_at network state.time) settled) old inside (point reading stands network state w there reached s notes old) first own has
     (is_set state.machines.items w.device.0 after many) (without w state.waiting.items new t apart state.time)
     (are_put_in s network state.time hs w of (length notes + 1) result state.settled.items settled
-    (subst (λ (n : ℕ). AreSettledSo (n + 1) w result state.settled.items settled) old.given put) (settled_in_order reading (keeps stands) s world notes old))
+    (subst (λ n. AreSettledSo (n + 1) w result state.settled.items settled) old.given put) (settled_in_order old))

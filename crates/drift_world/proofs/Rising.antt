@@ -1,6 +1,6 @@
 -- What is settled is in the order of its places.
 use Rattle.drift_world.proofs.Words.{◌++◌, ◌∙◌, ◌∷◌, ◌≡◌, AreSettled, DeviceId, Happening, IsBefore, IsIn, List, Network, Node}
-use Rattle.drift_world.proofs.Words.{NoneBefore, Note, Scenario, Stands, World, [], ap, append_assoc, chain, happenings, in_right, inl}
+use Rattle.drift_world.proofs.Words.{NoneBefore, Note, Scenario, Stands, World, [], ap, append_assoc, chain, in_right, inl}
 use Rattle.drift_world.proofs.Words.{never_self, parted, place_of, refl, sym, ℕ}
 
 -- none is before one that stands before it
@@ -20,21 +20,21 @@ rise_in_order (x ∷ xs) up = (
   rise_in_order xs up.1,
 )
 
-settled_rise : (s : Scenario) (hs coming : List Happening) (mark cursor : List ℕ) (now : ℕ) → AreSettled s hs coming mark cursor now
-    → (front xs : List Happening) → coming ≡ front ++ xs → Rises xs
-settled_rise s hs coming mark cursor now are front [] is = tt
-settled_rise s hs coming mark cursor now are front (x ∷ xs) is = (
+settled_rise : {s : Scenario} {hs coming : List Happening} {mark cursor : List ℕ} {now : ℕ}
+    → AreSettled s hs coming mark cursor now → (front xs : List Happening) → coming ≡ front ++ xs → Rises xs
+settled_rise are front [] is = tt
+settled_rise {coming} are front (x ∷ xs) is = (
   λ y there.
       let split = parted y xs there in
       let whole : coming ≡ (front ++ x ∷ split.0) ++ y ∷ split.1 = is ∙ ap (λ (l : List Happening). front ++ x ∷ l) split.2
       ∙ sym (append_assoc front (x ∷ split.0) (y ∷ split.1)) in
       (are.founded (front ++ x ∷ split.0) split.1 y whole).0 x (in_right x front (x ∷ split.0) (inl refl)),
-  settled_rise s hs coming mark cursor now are (front ++ x ∷ []) xs (is ∙ sym (append_assoc front (x ∷ []) xs)),
+  settled_rise are (front ++ x ∷ []) xs (is ∙ sym (append_assoc front (x ∷ []) xs)),
 )
 
 -- what is settled of a world that stands is in order
-pub settled_in_order : {C M : Type 0} (reading : C → ℕ → ℕ) (stands : M → Network → DeviceId → Node → Type 0) (s : Scenario)
-    (world : World C M) (notes : List Note) → Stands reading stands s world notes → InOrder world.settled
-settled_in_order reading stands s world notes old =
-    rise_in_order world.settled
-    (settled_rise s (happenings s.network notes) world.settled old.mark old.cursor world.now old.are [] world.settled refl)
+pub settled_in_order : {C M : Type 0} {reading : C → ℕ → ℕ} {stands : M → Network → DeviceId → Node → Type 0}
+    {s : Scenario} {world : World C M} {notes : List Note} → Stands reading stands s world notes
+    → InOrder world.settled
+settled_in_order {world} old =
+    rise_in_order world.settled (settled_rise old.are [] world.settled refl)

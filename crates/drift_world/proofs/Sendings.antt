@@ -65,18 +65,18 @@ module _ (s : Scenario) (now : ℕ) (ups downs : List WayState) (ways : AreWays 
         record {
           same_link = links;
           same_signal = sig;
-          receives = ap (λ (k : LinkId). receiver_of s.network k (way_from s.network device link)) (sym links)
-              ∙ ap (λ (w : Way). receiver_of s.network l w) (sym on) ∙ a.receiver;
-          arrives = a.at ∙ ap (λ (k : LinkId). time_of x + time_on_port s.network k g + delay_at s k a.way (time_of x)) links
-              ∙ ap (λ (q : Signal). time_of x + time_on_port s.network link q + delay_at s link a.way (time_of x)) sig
-              ∙ ap (λ (w : Way). time_of x + time_on_port s.network link signal + delay_at s link w (time_of x)) on;
+          receives = ap (λ k. receiver_of s.network k (way_from s.network device link)) (sym links)
+              ∙ ap (λ w. receiver_of s.network l w) (sym on) ∙ a.receiver;
+          arrives = a.at ∙ ap (λ k. time_of x + time_on_port s.network k g + delay_at s k a.way (time_of x)) links
+              ∙ ap (λ q. time_of x + time_on_port s.network link q + delay_at s link a.way (time_of x)) sig
+              ∙ ap (λ w. time_of x + time_on_port s.network link signal + delay_at s link w (time_of x)) on;
         }
 
     time_so : link.0 < length s.network.link → now + time_on_port s.network link signal + delay_by s.network ups downs device link
         ≡ time_of x + time_on_port s.network link signal + delay_at s link (way_from s.network device link) (time_of x)
     time_so lt =
-        ap (λ (d : ℕ). now + time_on_port s.network link signal + d) (delay_is s now ups downs ways device link lt)
-        ∙ ap (λ (t : ℕ). t + time_on_port s.network link signal + delay_at s link (way_from s.network device link) t) (sym at)
+        ap (λ d. now + time_on_port s.network link signal + d) (delay_is s now ups downs ways device link lt)
+        ∙ ap (λ t. t + time_on_port s.network link signal + delay_at s link (way_from s.network device link) t) (sym at)
 
     pub sends : (o : Option DeviceId) → receiver_of s.network link (way_from s.network device link) ≡ o
         → IsPutOn (option_map (λ (p : DueAt). let e : Entry Content = record { place = p; content = Wire sent } in e) (option_map placed o)) old new
@@ -95,7 +95,7 @@ module _ (s : Scenario) (now : ℕ) (ups downs : List WayState) (ways : AreWays 
                     let same : y ≡ w = same_Some _ _ (sym of.2 ∙ ap (on_wire s.network) own) in
                     inr (subst (λ (v : OnWire). (v.cause ≡ number) × Arrives s x v.device v.link v.at v.signal) (sym same) (
                       refl,
-                      subst (λ (g : Signal). Arrives s x receiver link w.at g) (sym as_signal)
+                      subst (λ g. Arrives s x receiver link w.at g) (sym as_signal)
                           (record { way = way_from s.network device link; put = put; receiver = found; at = time_so lt }),
                     ))
                 | inr rest ↦ inl (is_given (on_wire s.network) old of.0 y rest of.2)

@@ -6,9 +6,10 @@ use Rattle.std.proofs.Common.{negsuc}
 use Rattle.net_plan.specs.declared.event.What.TheVariants as events
 use Rattle.run_law.specs.declared.outside.Outside.TheVariants as outside
 
-pub sets_short : (network : Network) (past : List Event) (event : Event) → IsInRange network → IsWithinHypothesis network past event → (what : What)
-    → event.what ≡ what → IsOfNetwork network what → HoldsATime what → SetsShort what
-sets_short network past event range within (events.Wire link way delay) same there hold =
+pub sets_short : {network : Network} (past : List Event) (event : Event) → IsInRange network
+    → IsWithinHypothesis network past event → (what : What) → event.what ≡ what → IsOfNetwork network what
+    → HoldsATime what → SetsShort what
+sets_short {network} past event range within (events.Wire link way delay) same there hold =
     let it = found network.link link.0 there in
     let l = it.0 in
     let known = in_all (IsLinkInRange network) network.link link.0 l range.links it.1 in
@@ -29,7 +30,7 @@ sets_short network past event range within (events.Wire link way delay) same the
     out : (d w j : ℤ) → 2 ^ 62 ≤ unsigned_abs d → pos 1 ≤ℤ w → w ≤ℤ pos (2 ^ 40) → pos 0 ≤ℤ j → j ≤ℤ pos (2 ^ 40) → (d <ℤ w) ⊎ ((w +ℤ j) <ℤ d)
     out (pos n) w j far a b c d = inr (omega (arith, ints, far, a, b, c, d))
     out (negsuc n) w j far a b c d = inl (omega (arith, ints, far, a, b, c, d))
-sets_short network past event range within (events.Hold link way hold) same there begun =
+sets_short {network} past event range within (events.Hold link way hold) same there begun =
     let it = found network.link link.0 there in
     let l = it.0 in
     let known = in_all (IsLinkInRange network) network.link link.0 l range.links it.1 in
@@ -44,5 +45,5 @@ sets_short network past event range within (events.Hold link way hold) same ther
         long = subst (λ (o : Option Link). IsSomeAnd o (λ l. l.hold.0 <ℤ hold.0)) (sym it.1) (omega (arith, ints, far, begun, most));
       }))
     ]
-sets_short network past event range within (events.Rate device rate) same there hold = tt
-sets_short network past event range within other same there hold = tt
+sets_short past event range within (events.Rate device rate) same there hold = tt
+sets_short past event range within other same there hold = tt

@@ -4,21 +4,23 @@ use Rattle.drift_world.proofs.Words.{Stands, Up, Way, WayState, ap, false, if◌
 use Rattle.{drift_world.{proofs.Words.{way_now, world_of, ℕ}, specs.declared.state.State.State}, world_state.specs.Leaving.{departed, departure_in}}
 use Rattle.{std.{proofs.Common.arith, specs.{List.slice_get, Option.option_map}}, world_law.proofs.giving.GivenParts.some_same}
 
-pub shows_of : {C M : Type 0} (reading : C → ℕ → ℕ) (stands : Kept M → Network → DeviceId → Node
-    → Type 0) (s : Scenario) (network : Network) (state : State C M) (notes : List Note) → Stands reading stands s (world_of network state) notes
-    → IsOf reading s network state
-shows_of reading stands s network state notes old = record { same = old.same; clocks = old.clocks; broken = old.broken; ways = old.ways }
+pub shows_of : {C M : Type 0} {reading : C → ℕ → ℕ} {stands : Kept M → Network → DeviceId → Node → Type 0}
+    {s : Scenario} (network : Network) (state : State C M) {notes : List Note}
+    → Stands reading stands s (world_of network state) notes → IsOf reading s network state
+shows_of network state old = record { same = old.same; clocks = old.clocks; broken = old.broken; ways = old.ways }
 
-way_is : (s : Scenario) (now : ℕ) (ups downs : List WayState) (link : LinkId) (up : Way) (ways : List WayState) (way : WayState)
-    → slice_get (map way_as ways) link.0 ≡ Some (way_now s now link up) → slice_get ways link.0 ≡ Some way → way_as way ≡ way_now s now link up
-way_is s now ups downs link up ways way is found = some_same _ _ _ (slice_get-map way_as ways link.0 ∙ ap (option_map way_as) found) is
+module _ (s : Scenario) (now : ℕ) (ups downs : List WayState) (link : LinkId) where
+  way_is : (up : Way) (ways : List WayState) (way : WayState)
+      → slice_get (map way_as ways) link.0 ≡ Some (way_now s now link up) → slice_get ways link.0 ≡ Some way
+      → way_as way ≡ way_now s now link up
+  way_is up ways way is found = some_same _ _ _ (slice_get-map way_as ways link.0 ∙ ap (option_map way_as) found) is
 
--- the way on which a device sends is as the scenario has it
-pub way_by : (s : Scenario) (now : ℕ) (ups downs : List WayState) (link : LinkId) (way : WayState) (down : Bool)
-    → AreWays s now (map way_as ups) (map way_as downs) → link.0 < length s.network.link → slice_get (if down then downs else ups) link.0 ≡ Some way
-    → way_as way ≡ way_now s now link (if down then Down else Up)
-way_by s now ups downs link way true are lt found = way_is s now ups downs link Down downs way (are.down link lt) found
-way_by s now ups downs link way false are lt found = way_is s now ups downs link Up ups way (are.up link lt) found
+  -- the way on which a device sends is as the scenario has it
+  pub way_by : (way : WayState) (down : Bool) → AreWays s now (map way_as ups) (map way_as downs)
+      → link.0 < length s.network.link → slice_get (if down then downs else ups) link.0 ≡ Some way
+      → way_as way ≡ way_now s now link (if down then Down else Up)
+  way_by way true are lt found = way_is Down downs way (are.down link lt) found
+  way_by way false are lt found = way_is Up ups way (are.up link lt) found
 
 -- the record of what leaves
 pub departure_is : (s : Scenario) (now : ℕ) (e : AtPort) (network : Network) (reading : ℕ) (cut : Bool) → network ≡ s.network

@@ -57,17 +57,18 @@ octets_same a b e = cc
 frame_same : (a b : Pcf) → control (Ok a) ≡ control (Ok b) → a ≡ b
 frame_same a b e = cc
 
-this_frame : (s : Scenario) (front : List Happening) (h : Happening) (frame : Pcf) → IsDue s front h → PutsThis h (control (Ok frame)) → h.frame ≡ Some frame
-this_frame s front h frame due (PutsThis.dispatched device link cause vl cycle is e) = absurd cc
-this_frame s front h frame due (PutsThis.sent line link octets is e) =
-    ap (λ (x : Happening). x.frame) due.same ∙ ap (frame_by s.network front) is ∙ decoded_of _ _ octets frame e
-this_frame s front h frame due (PutsThis.leaving f of e) = of ∙ ap (λ (x : Pcf). Some x) (frame_same f frame e)
+module _ (s : Scenario) (front : List Happening) (h : Happening) where
+  this_frame : (frame : Pcf) → IsDue s front h → PutsThis h (control (Ok frame)) → h.frame ≡ Some frame
+  this_frame frame due (PutsThis.dispatched device link cause vl cycle is e) = absurd cc
+  this_frame frame due (PutsThis.sent line link octets is e) =
+      ap (λ (x : Happening). x.frame) due.same ∙ ap (frame_by s.network front) is ∙ decoded_of _ _ octets frame e
+  this_frame frame due (PutsThis.leaving f of e) = of ∙ ap (λ (x : Pcf). Some x) (frame_same f frame e)
 
-this_octets : (s : Scenario) (front : List Happening) (h : Happening) (octets : List ℕ) → IsDue s front h → PutsThis h (timed octets) → h.octets ≡ octets
-this_octets s front h octets due (PutsThis.dispatched device link cause vl cycle is e) = octets_same h.octets octets e
-this_octets s front h octets due (PutsThis.sent line link given is e) =
-    ap (λ (x : Happening). x.octets) due.same ∙ ap (octets_by s.network front) is ∙ (as_they_are _ _ given octets e).1
-this_octets s front h octets due (PutsThis.leaving f of e) = absurd cc
+  this_octets : (octets : List ℕ) → IsDue s front h → PutsThis h (timed octets) → h.octets ≡ octets
+  this_octets octets due (PutsThis.dispatched device link cause vl cycle is e) = octets_same h.octets octets e
+  this_octets octets due (PutsThis.sent line link given is e) =
+      ap (λ (x : Happening). x.octets) due.same ∙ ap (octets_by s.network front) is ∙ (as_they_are _ _ given octets e).1
+  this_octets octets due (PutsThis.leaving f of e) = absurd cc
 
 module _ (s : Scenario) (hs : List Happening) (founded : IsFounded place_of (IsDue s) hs) (e : OnWire) (it : IsOnWire s hs e) where
   puts_it : PutsThis it.putting e.signal
@@ -124,7 +125,7 @@ module _ (s : Scenario) (hs : List Happening) (founded : IsFounded place_of (IsD
       let within = numbered_within at.front cause g is in
       let number = at.due.number in
       let number_so = number_is s hs k h founded there in (
-        ap (λ (l : List Happening). numbered l cause) at.whole ∙ numbered_front at.front (h ∷ at.rest) cause g is,
+        ap (λ l. numbered l cause) at.whole ∙ numbered_front at.front (h ∷ at.rest) cause g is,
         omega (arith, within, number, number_so, le),
       )
 
@@ -190,23 +191,25 @@ module _ (s : Scenario) (hs : List Happening) (founded : IsFounded place_of (IsD
       accepted_so device link cause vl cycle a.signal a refl (own_octets (kinds.Accepted device link cause vl cycle) is)
   plain_next other is t = absurd cc
 
-all_plain : (s : Scenario) (hs : List Happening) → IsFounded place_of (IsDue s) hs → IsInRange s.network → (n : ℕ) → ArePlainTo hs n
-all_plain s hs founded range zero zero h le there timed_so = absurd cc
-all_plain s hs founded range zero (suc k) h le there timed_so = absurd (omega (arith, le))
-all_plain s hs founded range (suc n) k h le there timed_so =
-    plain_next s hs founded range n (all_plain s hs founded range n) k h (omega (arith, le)) there h.note.body refl timed_so
+module _ (s : Scenario) (hs : List Happening) (founded : IsFounded place_of (IsDue s) hs)
+    (range : IsInRange s.network) where
+  all_plain : (n : ℕ) → ArePlainTo hs n
+  all_plain zero zero h le there timed_so = absurd cc
+  all_plain zero (suc k) h le there timed_so = absurd (omega (arith, le))
+  all_plain (suc n) k h le there timed_so =
+      plain_next s hs founded range n (all_plain n) k h (omega (arith, le)) there h.note.body refl timed_so
 
--- octets of the schedule that are on a wire are no control frame
-pub plain_on_wire : (s : Scenario) (hs : List Happening) → IsFounded place_of (IsDue s) hs → IsInRange s.network → (e : OnWire) → IsOnWire s hs e
-    → (octets : List ℕ) → e.signal ≡ timed octets → signal_of octets ≡ timed octets
-plain_on_wire s hs founded range e it octets is =
-    plain_signal octets (by (subst (λ (g : Signal). PutsThis it.putting g) is (puts_it s hs founded e it)))
-  where
-    by : PutsThis it.putting (timed octets) → IsPlain octets
-    by (PutsThis.dispatched device link cause vl cycle body same) =
-        subst IsPlain (octets_same it.putting.octets octets same)
-        (all_plain s hs founded range e.cause e.cause it.putting (omega arith) it.there (ap is_timed body))
-    by (PutsThis.sent line link given body same) =
-        let so = as_they_are (field 12 2 given == pcf_type) (decoded given) given octets same in
-        subst IsPlain so.1 so.0
-    by (PutsThis.leaving f of same) = absurd cc
+  -- octets of the schedule that are on a wire are no control frame
+  pub plain_on_wire : {e : OnWire} → IsOnWire s hs e → (octets : List ℕ) → e.signal ≡ timed octets
+      → signal_of octets ≡ timed octets
+  plain_on_wire {e} it octets is =
+      plain_signal octets (by (subst (λ (g : Signal). PutsThis it.putting g) is (puts_it s hs founded e it)))
+    where
+      by : PutsThis it.putting (timed octets) → IsPlain octets
+      by (PutsThis.dispatched device link cause vl cycle body same) =
+          subst IsPlain (octets_same it.putting.octets octets same)
+          (all_plain e.cause e.cause it.putting (omega arith) it.there (ap is_timed body))
+      by (PutsThis.sent line link given body same) =
+          let so = as_they_are (field 12 2 given == pcf_type) (decoded given) given octets same in
+          subst IsPlain so.1 so.0
+      by (PutsThis.leaving f of same) = absurd cc

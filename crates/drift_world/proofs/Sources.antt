@@ -2,8 +2,8 @@
 use Rattle.{device_rules.specs.FirstKinds.kind_of, drift_world.proofs.Parts.{part_least, part_most, placed_by}}
 use Rattle.drift_world.proofs.Words.{◌+◌, ◌-◌, ◌<◌, ◌^◌, ◌∙◌, ◌∷◌, ◌≡◌, ◌≤ℤ◌, ◌≤◌, ◌⊎◌, AreFirsts, AreNotBefore, AreTimed, AreUnderWay, Bool, Content, DeviceId}
 use Rattle.drift_world.proofs.Words.{Down, Due, DueAt, Happening, HasNothingBefore, IfNone, IfSome, IsBefore, IsDue, IsFirst, IsFounded, IsIn, IsInRange}
-use Rattle.drift_world.proofs.Words.{IsLinkInRange, IsSized, Kept, List, Network, Node, None, Note, Option, Scenario, Some, Stands, Up, Waiting, Waits, Way, []}
-use Rattle.drift_world.proofs.Words.{◌*◌, amount, ap, arith, at_port, cases_eq, cases_lt, chain, given_of, happenings}
+use Rattle.drift_world.proofs.Words.{IsLinkInRange, IsSized, List, Network, Node, None, Note, Option, Scenario, Some, Stands, Up, Waiting, Waits, Way, []}
+use Rattle.drift_world.proofs.Words.{◌*◌, amount, ap, arith, at_port, cases_eq, cases_lt, chain, given_of}
 use Rattle.drift_world.proofs.Words.{if◌then◌else◌, in_all, inl, inr, keeps, le-ltb, length, lt-ltb, map, never, numbers_of, on_wire, place_of, pos}
 use Rattle.{drift_world.proofs.Words.{reading_for, refl, ripe_place, slice_get_within, subst, sym, waiting_as, world_of, ℕ}, std.proofs.Common.{slice_get}}
 use Rattle.drift_world.specs.{Parts.{IsNoSooner, part_of, part_rank}, Stepping.IsActTimed, declared.part.Part.Part}
@@ -44,20 +44,21 @@ slot_most devices slot = elim (cases_lt slot devices) [
   | inr le ↦ let is = slot_high devices slot le in omega (arith, is)
 ]
 
--- no timer is earlier than the first, and one of its rank and of a lower slot is later
-least_slot : (timers : List Timer) (due : Due) (slot : ℕ) (t : Timer) → IsFirstDue timers due → slice_get timers slot ≡ Some t → due.time ≤ t.time
-least_slot timers due slot t first at = elim (cases_lt t.time due.time) [
-  | inl lt ↦ absurd (first.least slot t at (inl lt))
-  | inr le ↦ le
-]
+module _ {timers : List Timer} {due : Due} (slot : ℕ) (t : Timer) (first : IsFirstDue timers due) where
+  -- no timer is earlier than the first, and one of its rank and of a lower slot is later
+  least_slot : slice_get timers slot ≡ Some t → due.time ≤ t.time
+  least_slot at = elim (cases_lt t.time due.time) [
+    | inl lt ↦ absurd (first.least slot t at (inl lt))
+    | inr le ↦ le
+  ]
 
-lower_slot : (timers : List Timer) (due : Due) (slot : ℕ) (t : Timer) → IsFirstDue timers due → slice_get timers slot ≡ Some t → t.rank ≡ due.rank
-    → slot < due.slot → due.time < t.time
-lower_slot timers due slot t first at same lower = elim (cases_lt due.time t.time) [
-  | inl lt ↦ lt
-  | inr le ↦
-      let least = least_slot timers due slot t first at in absurd (first.least slot t at (inr (omega (arith, le, least), inr (same, inl lower))))
-]
+  lower_slot : slice_get timers slot ≡ Some t → t.rank ≡ due.rank → slot < due.slot → due.time < t.time
+  lower_slot at same lower = elim (cases_lt due.time t.time) [
+    | inl lt ↦ lt
+    | inr le ↦
+        let least = least_slot at in absurd (first.least slot
+        t at (inr (omega (arith, le, least), inr (same, inl lower))))
+  ]
 
 -- a place before another is before what is farther
 farther : (t r s u q d e : ℕ) → d ≤ e → IsBefore (t ∷ r ∷ s ∷ []) (u ∷ q ∷ d ∷ []) → IsBefore (t ∷ r ∷ s ∷ []) (u ∷ q ∷ e ∷ [])
@@ -67,9 +68,10 @@ farther t r s u q d e le (inr (a, inr (b, inl lt))) = inr (a, inr (b, inl (omega
 farther t r s u q d e le (inr (a, inr (b, inr (c, x)))) = absurd x
 
 -- the frames that wait at a device, by its timer, are not due before the first
-ripe_slot : (devices : ℕ) (timers : List Timer) (due : Due) (slot time : ℕ) → IsFirstDue timers due
-    → slice_get timers slot ≡ Some (record { time = time; rank = 3 }) → IsBefore (time ∷ 3 ∷ slot ∷ []) (due_place devices due) → ⊥
-ripe_slot devices timers due slot time first at b =
+ripe_slot : (devices : ℕ) {timers : List Timer} {due : Due} (slot time : ℕ) → IsFirstDue timers due
+    → slice_get timers slot ≡ Some (record { time = time; rank = 3 })
+    → IsBefore (time ∷ 3 ∷ slot ∷ []) (due_place devices due) → ⊥
+ripe_slot devices {due} slot time first at b =
     first.least slot (record { time = time; rank = 3 }) at
     (farther time 3 slot due.time due.rank (device_of_slot devices due.slot) due.slot (slot_most devices due.slot) b)
 
@@ -85,9 +87,10 @@ shifted t r s u q d n e is (inr (a, inl lt)) = inr (a, inl lt)
 shifted t r s u q d n e is (inr (a, inr (b, inl lt))) = inr (a, inr (b, inl (omega (arith, lt, is))))
 shifted t r s u q d n e is (inr (a, inr (b, inr (c, x)))) = absurd x
 
-act_slot : (devices : ℕ) (timers : List Timer) (due : Due) (device time rank : ℕ) → IsFirstDue timers due → (due.slot < devices → due.rank ≡ 3) → 4 ≤ rank
-    → slice_get timers (devices + device) ≡ Some (record { time = time; rank = rank }) → IsBefore (time ∷ rank ∷ device ∷ []) (due_place devices due) → ⊥
-act_slot devices timers due device time rank first ripe high at b =
+act_slot : (devices : ℕ) {timers : List Timer} {due : Due} (device time rank : ℕ) → IsFirstDue timers due
+    → (due.slot < devices → due.rank ≡ 3) → 4 ≤ rank → slice_get timers (devices + device)
+    ≡ Some (record { time = time; rank = rank }) → IsBefore (time ∷ rank ∷ device ∷ []) (due_place devices due) → ⊥
+act_slot devices {due} device time rank first ripe high at b =
     first.least (devices + device) (record { time = time; rank = rank }) at
     (elim (cases_lt due.slot devices) [
       | inl low ↦
@@ -148,25 +151,25 @@ module _ {C M : Type 0} (last_step : C → ℕ) (reading : C → ℕ → ℕ) (s
       absurd (omega (arith, past, le, most))
   waits_by (Some d) first none (inl not) w clock there own of_it time at t le most reached b =
       not_sooner (time ∷ 3 ∷ w.device.0 ∷ []) (due_place (length network.device) d) p
-      (ripe_slot (length network.device) state.timers d w.device.0 time first at) not
+      (ripe_slot (length network.device) w.device.0 time first at) not
       (chain (time ∷ 3 ∷ w.device.0 ∷ []) (ripe_place t (waiting_as w)) p (ripe_earlier t time w.device.0 (amount w.point) (parting w) le) b)
   waits_by (Some d) first none (inr r) w clock there own of_it time at t le most reached b =
       let timer : Timer = record { time = time; rank = 3 } in
-      let least : d.time ≤ time = least_slot state.timers d w.device.0 timer first at in
+      let least : d.time ≤ time = least_slot w.device.0 timer first at in
       let by = same_time t d.time (3 ∷ w.device.0 ∷ amount w.point ∷ parting w) (3 ∷ r.one.device.0 ∷ amount r.one.point ∷ parting r.one)
-      (omega (arith, least, le)) (subst (λ (q : List ℕ). IsBefore (ripe_place t (waiting_as w)) q) r.place b) in
+      (omega (arith, least, le)) (subst (λ q. IsBefore (ripe_place t (waiting_as w)) q) r.place b) in
       let now : t ≡ d.time = by.0 in
       let one = r.at in
       let low : r.one.device.0 ≤ w.device.0 = elim (cases_lt w.device.0 d.slot) [
         | inl lt ↦
-            let later : d.time < time = lower_slot state.timers d w.device.0 timer first at (sym (ripe_rank d first r.there)) lt in absurd (omega (arith, later, le, now))
+            let later : d.time < time = lower_slot w.device.0 timer first at (sym (ripe_rank d first r.there)) lt in absurd (omega (arith, later, le, now))
         | inr ge ↦ omega (arith, ge, one)
       ] in
       let same : w.device.0 ≡ d.slot = same_slot w.device.0 r.one.device.0 (amount w.point ∷ parting w) (amount r.one.point ∷ parting r.one) low by.1
       ∙ one in
       r.none w clock there same (subst (λ (n : ℕ). slice_get state.clocks.items n ≡ Some clock) same own)
       (subst (λ (n : ℕ). w.point.0 ≤ℤ pos (reading clock n)) now reached)
-      (subst (λ (n : ℕ). IsBefore (ripe_place n (waiting_as w)) p) now b)
+      (subst (λ n. IsBefore (ripe_place n (waiting_as w)) p) now b)
 
   -- a task that is due is not before where the timer of its device stands
   behind_timer : (device : DeviceId) (node : Node) (task : Task) (clock : C) (t act : ℕ) (part : Part) → act ≤ t → t ≤ 2 ^ 60
@@ -177,7 +180,7 @@ module _ {C M : Type 0} (last_step : C → ℕ) (reading : C → ℕ → ℕ) (s
       let rank = part_rank (part_of (kind_of task)) in
       not_sooner_than t act rank (part_rank part) device.0 q.0 le
       (λ e. late (omega (arith, le, most)) task pending (subst (λ (n : ℕ). reading_for network node task ≤ℤ pos (reading clock n)) e reached))
-      (subst (λ (l : List ℕ). IsBefore l (act ∷ part_rank part ∷ device.0 ∷ [])) q.1 b)
+      (subst (λ l. IsBefore l (act ∷ part_rank part ∷ device.0 ∷ [])) q.1 b)
 
   -- nor is it before the place
   acts_by : (due : Option Due) → IfSome due (λ d. IsFirstDue state.timers d) → IfNone due (AreFrom never state.timers)
@@ -196,22 +199,22 @@ module _ {C M : Type 0} (last_step : C → ℕ) (reading : C → ℕ → ℕ) (s
       not_sooner (task_place network t device task) place p
       (behind_timer device node task timed.clock t timed.act timed.part le most (λ lt. timed.acts.late lt node kept) pending reached)
       (not_sooner place (due_place (length network.device) d) p
-      (act_slot (length network.device) state.timers d device.0 timed.act (part_rank timed.part) first (ripe_rank d first) (part_least timed.part) timed.of_act)
+      (act_slot (length network.device) device.0 timed.act (part_rank timed.part) first (ripe_rank d first) (part_least timed.part) timed.of_act)
       not) b
   acts_by (Some d) first none (inr r) device node task t from most timed kept pending reached b =
       let q = placed_by network t device task in
       let rank = part_rank (part_of (kind_of task)) in
       let le = timed.acts.none node task kept pending t from most reached in
-      let least : d.time ≤ timed.act = least_slot state.timers d (length network.device + device.0) (record { time = timed.act; rank = part_rank timed.part }) first timed.of_act in
+      let least : d.time ≤ timed.act = least_slot (length network.device + device.0) (record { time = timed.act; rank = part_rank timed.part }) first timed.of_act in
       let by = same_time t d.time (rank ∷ device.0 ∷ q.0) (3 ∷ r.one.device.0 ∷ amount r.one.point ∷ parting r.one) (omega (arith, least, le))
-      (subst (λ (l : List ℕ). IsBefore l (ripe_place d.time (waiting_as r.one))) q.1
-      (subst (λ (l : List ℕ). IsBefore (task_place network t device task) l) r.place b)) in
+      (subst (λ l. IsBefore l (ripe_place d.time (waiting_as r.one))) q.1
+      (subst (λ l. IsBefore (task_place network t device task) l) r.place b)) in
       ranked_before rank (device.0 ∷ q.0) (r.one.device.0 ∷ amount r.one.point ∷ parting r.one) (part_least (part_of (kind_of task))) by.1
 
   -- nor what is under way
   under_way_by : (place : Option DueAt) → IfSome place (λ q. IsFirst state.under_way.entries q) → IfNone place (state.under_way.entries ≡ [])
       → IfSome place (λ q. IsBefore (numbers_of q) p → ⊥) → (e : Entry Content) → IsIn e state.under_way.entries → IsBefore (numbers_of e.place) p → ⊥
-  under_way_by None first none not e there b = subst (λ (es : List (Entry Content)). IsIn e es) none there
+  under_way_by None first none not e there b = subst (λ es. IsIn e es) none there
   under_way_by (Some q) first none not e there b = not_sooner (numbers_of e.place) (numbers_of q) p (first.none e there) not b
 
   all_by : (place : Option DueAt) (due : Option Due) → AreFirsts state place due → AreNotBefore reading network state place due p
@@ -233,28 +236,31 @@ module _ {C M : Type 0} (last_step : C → ℕ) (reading : C → ℕ → ℕ) (s
         let of_it : device.0 < length network.device = omega (arith, few, sizes) in
         let timed = (are.each device of_it).act in
         let q = placed_by network t device task in
-        let most = in_run t (part_rank (part_of (kind_of task))) (device.0 ∷ q.0) p in_time (subst (λ (l : List ℕ). IsBefore l p) q.1 b) in
+        let most = in_run t (part_rank (part_of (kind_of task))) (device.0 ∷ q.0) p in_time (subst (λ l. IsBefore l p) q.1 b) in
         let clock_is = some_same _ _ _ own timed.of_clock in
         let machine_is = some_same _ _ _ held timed.of_machine in
         acts_by due firsts.some_due firsts.no_due not.timers device node task t from most timed
-        (subst (λ (k : Kept M). keeps stands k network device node) machine_is kept) pending
+        (subst (λ k. keeps stands k network device node) machine_is kept) pending
         (subst (λ (k : C). reading_for network node task ≤ℤ pos (reading k t)) clock_is reached) b;
     befell = not.befell;
     clocks = not.clocks;
   }
 
 -- where the first of each kind is not before the place, nothing is
-pub nothing_before : {C M : Type 0} (last_step : C → ℕ) (reading : C → ℕ → ℕ) (stands : M → Network → DeviceId → Node → Type 0) (network : Network)
-    (state : State C M) (place : Option DueAt) (due : Option Due) (p : List ℕ)
-    → IsSized last_step network state → AreTimed reading stands network state → AreFirsts state place due
-    → AreNotBefore reading network state place due p → HasNothingBefore reading stands network state p
-nothing_before last_step reading stands network state place due p sized are firsts not =
+pub nothing_before : {C M : Type 0} {last_step : C → ℕ} {reading : C → ℕ → ℕ}
+    {stands : M → Network → DeviceId → Node → Type 0} {network : Network} {state : State C M} {place : Option DueAt}
+    {due : Option Due} {p : List ℕ} → IsSized last_step network state → AreTimed reading stands network state
+    → AreFirsts state place due → AreNotBefore reading network state place due p
+    → HasNothingBefore reading stands network state p
+nothing_before {last_step} {reading} {stands} {network} {state} {place} {due} {p} sized are firsts not =
     all_by last_step reading stands network state sized are p not.in_time place due firsts not
 
 -- nothing is before what is not behind a place before which nothing is
-pub sooner_too : {C M : Type 0} (reading : C → ℕ → ℕ) (stands : M → Network → DeviceId → Node → Type 0) (network : Network) (state : State C M)
-    (w p : List ℕ) → HasNothingBefore reading stands network state w → (IsBefore w p → ⊥) → HasNothingBefore reading stands network state p
-sooner_too reading stands network state w p has not = record {
+pub sooner_too : {C M : Type 0} {reading : C → ℕ → ℕ} {stands : M → Network → DeviceId → Node → Type 0}
+    {network : Network} {state : State C M} {w : List ℕ} (p : List ℕ)
+    → HasNothingBefore reading stands network state w → (IsBefore w p → ⊥)
+    → HasNothingBefore reading stands network state p
+sooner_too {w} p has not = record {
   under_way = λ e there. not_sooner _ w p (has.under_way e there) not;
   waiting = λ one clock there own t from reached. not_sooner _ w p (has.waiting one clock there own t from reached) not;
   acting = λ device machine clock node task held own kept pending t from reached.
@@ -326,21 +332,21 @@ module _ {C M : Type 0} (reading : C → ℕ → ℕ) (stands : M → Network �
         let act_now : timed.act ≡ state.time = sym time ∙ now in
         let read : reading timed.clock timed.act ≡ s.reading device state.time = ap (reading timed.clock) act_now
         ∙ ap (λ (k : C). reading k state.time) (sym clock_is) ∙ sym (own.2 state.time (omega arith)) in
-        subst (λ (k : Network). IsNoSooner k device node (pos (s.reading device state.time)) part) of.same
-        (subst (λ (n : ℕ). IsNoSooner network device node (pos n) part) read
+        subst (λ k. IsNoSooner k device node (pos (s.reading device state.time)) part) of.same
+        (subst (λ n. IsNoSooner network device node (pos n) part) read
         (λ task pending reached.
         let late = timed.acts.late (omega (arith, act_now, soon)) node
-        (subst (λ (k : Kept M). keeps stands k network device node) machine_is
-        (subst (λ (k : Network). keeps stands machine k device node) (sym of.same) kept)) task pending reached in
+        (subst (λ k. keeps stands k network device node) machine_is
+        (subst (λ k. keeps stands machine k device node) (sym of.same) kept)) task pending reached in
         omega (arith, late, is)));
   }
 
 -- ---- of the world of a state
 
 -- the device at which a frame waits is one of the network
-waits_there : (s : Scenario) (hs : List Happening) (e : Waiting) → IsInRange s.network → IsFounded place_of (IsDue s) hs → IsWaitingFor s hs e
-    → e.device.0 < length s.network.device
-waits_there s hs e range founded it =
+waits_there : {s : Scenario} {hs : List Happening} {e : Waiting} → IsInRange s.network
+    → IsFounded place_of (IsDue s) hs → IsWaitingFor s hs e → e.device.0 < length s.network.device
+waits_there {s} {hs} {e} range founded it =
     let c = come_of s hs e it founded in
     by_way c.so.arrives.way (received s.network e.device e.link c.so.arrives.way c.so.arrives.receiver)
   where
@@ -378,27 +384,27 @@ module _ {C M : Type 0} (last_step : C → ℕ) (reading : C → ℕ → ℕ) (s
     wires = λ e i b.
         let g = given_of (on_wire network) state.under_way.entries e i in
         has.under_way g.0 g.1
-        (subst (λ (q : List ℕ). IsBefore q p) (wire_numbers network g.0.place g.0.content e g.2 (under_way.kinds g.0 g.1)) b);
+        (subst (λ q. IsBefore q p) (wire_numbers network g.0.place g.0.content e g.2 (under_way.kinds g.0 g.1)) b);
     ports = λ e i b.
         let g = given_of at_port state.under_way.entries e i in
-        has.under_way g.0 g.1 (subst (λ (q : List ℕ). IsBefore q p) (port_numbers g.0.place g.0.content e g.2 (under_way.kinds g.0 g.1)) b);
+        has.under_way g.0 g.1 (subst (λ q. IsBefore q p) (port_numbers g.0.place g.0.content e g.2 (under_way.kinds g.0 g.1)) b);
     waiting = λ e i t from reached b.
         let w = made_of waiting_as state.waiting.items e i in
-        let of_it = waits_there s (happenings s.network notes) e old.range old.run.founded (old.waiting.real e i) in
+        let of_it = waits_there old.range old.run.founded (old.waiting.real e i) in
         let own = old.clocks e.device of_it in
         has.waiting w.0 own.0 w.1 (ap (λ (x : Waiting). slice_get state.clocks.items x.device.0) w.2 ∙ own.1) t from
-        (subst (λ (x : Waiting). x.point.0 ≤ℤ pos (reading own.0 t)) (sym w.2) (subst (λ (n : ℕ). e.point.0 ≤ℤ pos n) (own.2 t from) reached))
-        (subst (λ (x : Waiting). IsBefore (ripe_place t x) p) (sym w.2) b);
+        (subst (λ (x : Waiting). x.point.0 ≤ℤ pos (reading own.0 t)) (sym w.2) (subst (λ n. e.point.0 ≤ℤ pos n) (own.2 t from) reached))
+        (subst (λ x. IsBefore (ripe_place t x) p) (sym w.2) b);
     acting = λ device machine node task held kept pending t from reached b.
         let within = slice_get_within state.machines.items device.0 machine held in
         let sizes = sized.machines in
         let own = old.clocks device (few device.0 (omega (arith, within, sizes))) in
         has.acting device machine own.0 node task held own.1
-        (subst (λ (k : Network). keeps stands machine k device node) (sym old.same) kept)
-        (subst (λ (k : Network). IsPending k device node task) (sym old.same) pending) t from
-        (subst (λ (k : Network). reading_for k node task ≤ℤ pos (reading own.0 t)) (sym old.same)
-        (subst (λ (n : ℕ). reading_for s.network node task ≤ℤ pos n) (own.2 t from) reached))
-        (subst (λ (k : Network). IsBefore (task_place k t device task) p) (sym old.same) b);
+        (subst (λ k. keeps stands machine k device node) (sym old.same) kept)
+        (subst (λ k. IsPending k device node task) (sym old.same) pending) t from
+        (subst (λ k. reading_for k node task ≤ℤ pos (reading own.0 t)) (sym old.same)
+        (subst (λ n. reading_for s.network node task ≤ℤ pos n) (own.2 t from) reached))
+        (subst (λ k. IsBefore (task_place k t device task) p) (sym old.same) b);
     befell = has.befell;
     clocks = λ device of_it ended shown b.
         has.clocks ended

@@ -20,9 +20,9 @@ little : (seen rho grain d precision : ℕ) → rho ≤ 1000000 → 1 ≤ grain 
     → 10 ^ 9 * d ≤ rho * 1 + 2 * grain * 10 ^ 9 → seen < precision
 little seen rho grain d precision slow some many at measures = omega (arith, slow, some, many, at, measures)
 
-no_jump : (rho grain precision : ℕ) (reading : ℕ → ℕ) → rho ≤ 1000000 → 1 ≤ grain → 80 * grain ≤ precision → KeepsClockLaws rho grain reading → (t : ℕ)
-    → reading (t + 1) < reading t + precision
-no_jump rho grain precision reading slow some many laws t =
+no_jump : {rho grain : ℕ} (precision : ℕ) {reading : ℕ → ℕ} → rho ≤ 1000000 → 1 ≤ grain → 80 * grain ≤ precision
+    → KeepsClockLaws rho grain reading → (t : ℕ) → reading (t + 1) < reading t + precision
+no_jump {rho} {grain} precision {reading} slow some many laws t =
     let one : t + 1 - t ≡ 1 = omega arith in
     let fell = laws.never_falls t (t + 1) (omega arith) in
     let seen = reading (t + 1) - reading t in
@@ -36,9 +36,9 @@ ahead : (seen rho grain d t : ℕ) → grain ≤ 2 ^ 20 → t ≤ 2 ^ 60 → rho
     → 10 ^ 9 * d ≤ rho * t + 2 * grain * 10 ^ 9 → seen ≤ 2 ^ 60 + 2 ^ 51
 ahead seen rho grain d t fine early slow at measures = omega (arith, fine, early, slow, at, measures)
 
-low : (rho grain : ℕ) (reading : ℕ → ℕ) → rho ≤ 1000000 → grain ≤ 2 ^ 20 → KeepsClockLaws rho grain reading → reading 0 ≡ 0 → (t : ℕ)
-    → t ≤ 2 ^ 60 → reading t ≤ 2 ^ 60 + 2 ^ 51
-low rho grain reading slow fine laws zero_first t early =
+low : {rho grain : ℕ} {reading : ℕ → ℕ} → rho ≤ 1000000 → grain ≤ 2 ^ 20 → KeepsClockLaws rho grain reading
+    → reading 0 ≡ 0 → (t : ℕ) → t ≤ 2 ^ 60 → reading t ≤ 2 ^ 60 + 2 ^ 51
+low {rho} {grain} {reading} slow fine laws zero_first t early =
     let since : t - 0 ≡ t = omega arith in
     let seen : reading t - reading 0 ≡ reading t = omega (arith, zero_first) in
     let drift = subst (λ (n : ℕ). 10 ^ 9 * abs_diff (reading t - reading 0) n ≤ rho * n + 2 * grain * 10 ^ 9) since (laws.drifts 0 t (omega arith)) in
@@ -46,26 +46,26 @@ low rho grain reading slow fine laws zero_first t early =
     let at : reading t ≤ t + abs_diff (reading t) t = omega arith in
     ahead (reading t) rho grain (abs_diff (reading t) t) t fine early (mul-le-mul_right t slow) at measures
 
-steady_by : (rho grain precision : ℕ) (reading : ℕ → ℕ) → rho ≤ 1000000 → 1 ≤ grain → grain ≤ 2 ^ 20 → 80 * grain ≤ precision
-    → KeepsClockLaws rho grain reading → reading 0 ≡ 0 → IsSteady reading precision
-steady_by rho grain precision reading slow some fine many laws zero_first = record {
+steady_by : {rho grain : ℕ} (precision : ℕ) {reading : ℕ → ℕ} → rho ≤ 1000000 → 1 ≤ grain → grain ≤ 2 ^ 20
+    → 80 * grain ≤ precision → KeepsClockLaws rho grain reading → reading 0 ≡ 0 → IsSteady reading precision
+steady_by {rho} {grain} precision {reading} slow some fine many laws zero_first = record {
   never_falls = laws.never_falls;
-  no_jump = no_jump rho grain precision reading slow some many laws;
+  no_jump = no_jump precision slow some many laws;
   no_leap = no_leap rho grain reading slow fine laws;
-  low = low rho grain reading slow fine laws zero_first;
+  low = low slow fine laws zero_first;
 }
 
 -- the readings of each clock of a network are steady, whatever the events within the hypothesis
-pub steady : {C : Type 0} (fresh : ℕ → C) (after_step : C → ℕ → ℤ → C) (reading : C → ℕ → ℕ) → AlwaysKeepsClockLaws fresh after_step reading
-    → AlwaysBeginsAtZero fresh after_step reading → (network : Network) (events : List Event) (device : DeviceId) → IsInRange network → KeepsRules network
+pub steady : {C : Type 0} (fresh : ℕ → C) (after_step : C → ℕ → ℤ → C) (reading : C → ℕ → ℕ)
+    → AlwaysKeepsClockLaws fresh after_step reading → AlwaysBeginsAtZero fresh after_step reading
+    → {network : Network} (events : List Event) (device : DeviceId) → IsInRange network → KeepsRules network
     → AreWithinHypothesis network events → ((e : Event) → IsIn e events → pos 0 ≤ℤ e.time.0)
     → IsSteady (reading_of fresh after_step reading network events device) (amount network.precision)
-steady fresh after_step reading laws zero_first network events device range rules within begun =
+steady fresh after_step reading laws zero_first {network} events device range rules within begun =
     let least = range.grain.least in
     let most = range.grain.most in
     let some : 1 ≤ amount network.grain = omega (arith, ints, least) in
     let fine : amount network.grain ≤ 2 ^ 20 = omega (arith, ints, least, most) in
-    steady_by network.rho (amount network.grain) (amount network.precision) (reading_of fresh after_step reading network events device) range.rho some fine
-    (many_grains network rules)
+    steady_by (amount network.precision) range.rho some fine (many_grains network rules)
     (laws network.rho (amount network.grain) (rate_steps events device) range.rho some (history network events device within begun))
     (zero_first (amount network.grain) (rate_steps events device))

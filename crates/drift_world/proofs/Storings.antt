@@ -58,7 +58,7 @@ module _ (network : Network) (x : Happening) (number : ℕ) (held new : List Hol
     kept = λ e there not_taken.
         let of = from_map (stored_as network) held e there in
         let is = subst (λ (s : Stored). is_accepted s.device s.vl x.note.body ≡ false) of.2 not_taken in
-        subst (λ (s : Stored). IsIn s (map (stored_as network) new)) (sym of.2)
+        subst (λ s. IsIn s (map (stored_as network) new)) (sym of.2)
         (is_mapped (stored_as network) new of.0
         (in_permuted _ _ of.0 instead
         (inr (in_kept (λ (h : Holding). not (is_held_of one.device one.vl h)) held of.0 of.1 (not_from_false _ (sym (by of.0.device of.0.vl) ∙ is))))));
@@ -89,37 +89,38 @@ has_some : (device : DeviceId) (link : _) (cause : ℕ) (vl : VlId) (cycle : ℕ
 has_some device link cause vl cycle None has e = has
 has_some device link cause vl cycle (Some o) has e = cc
 
-same_taken : (network : Network) (x : Happening) (number : ℕ) (held new : List Holding) → new ≡ held
-    → ((device : DeviceId) (vl : VlId) → is_accepted device vl x.note.body ≡ false)
-    → AreTaken x number (map (stored_as network) held) (map (stored_as network) new)
-same_taken network x number held new same none =
-    subst (λ (l : List Holding). AreTaken x number (map (stored_as network) held) (map (stored_as network) l)) (sym same)
-    (none_taken x number (map (stored_as network) held) none)
+module _ (network : Network) (x : Happening) (number : ℕ) (held new : List Holding) where
+  same_taken : new ≡ held → ((device : DeviceId) (vl : VlId) → is_accepted device vl x.note.body ≡ false)
+      → AreTaken x number (map (stored_as network) held) (map (stored_as network) new)
+  same_taken same none =
+      subst (λ (l : List Holding). AreTaken x number (map (stored_as network) held) (map (stored_as network) l))
+      (sym same)
+      (none_taken x number (map (stored_as network) held) none)
 
--- what the switch took by it is held, and nothing else changes
-pub taken_by : (network : Network) (x : Happening) (number : ℕ) (held new : List Holding) (body : NoteBody) (octets : Option Timed) → x.note.body ≡ body
-    → HasItsOctets body octets → x.octets ≡ octets_in network octets
-    → IsStoredBy body octets number held new → AreTaken x number (map (stored_as network) held) (map (stored_as network) new)
-taken_by network x number held new (Accepted d l c v k) octets is has own stored = by_accepted network x number held new d v octets
-    (λ other of_vl. ap (is_accepted other of_vl) is) (has_some d l c v k octets has) own stored
-taken_by network x number held new (Arrived a b c d) octets is has own same =
-    same_taken network x number held new same (λ device vl. ap (is_accepted device vl) is)
-taken_by network x number held new (Permanent a b c d e) octets is has own same =
-    same_taken network x number held new same (λ device vl. ap (is_accepted device vl) is)
-taken_by network x number held new (Compressed a b c d e f) octets is has own same =
-    same_taken network x number held new same (λ device vl. ap (is_accepted device vl) is)
-taken_by network x number held new (Corrected a b c d) octets is has own same =
-    same_taken network x number held new same (λ device vl. ap (is_accepted device vl) is)
-taken_by network x number held new (Changed a b c d) octets is has own same =
-    same_taken network x number held new same (λ device vl. ap (is_accepted device vl) is)
-taken_by network x number held new (Left a b c d) octets is has own same =
-    same_taken network x number held new same (λ device vl. ap (is_accepted device vl) is)
-taken_by network x number held new (TtSent a b c d e) octets is has own same =
-    same_taken network x number held new same (λ device vl. ap (is_accepted device vl) is)
-taken_by network x number held new (Delivered a b c d e) octets is has own same =
-    same_taken network x number held new same (λ device vl. ap (is_accepted device vl) is)
-taken_by network x number held new (Dropped a b c d) octets is has own same =
-    same_taken network x number held new same (λ device vl. ap (is_accepted device vl) is)
-taken_by network x number held new (Clock a b c d) octets is has own same =
-    same_taken network x number held new same (λ device vl. ap (is_accepted device vl) is)
-taken_by network x number held new other octets is has own same = same_taken network x number held new same (λ device vl. ap (is_accepted device vl) is)
+  -- what the switch took by it is held, and nothing else changes
+  pub taken_by : (body : NoteBody) (octets : Option Timed) → x.note.body ≡ body → HasItsOctets body octets
+      → x.octets ≡ octets_in network octets → IsStoredBy body octets number held new
+      → AreTaken x number (map (stored_as network) held) (map (stored_as network) new)
+  taken_by (Accepted d l c v k) octets is has own stored = by_accepted network x number held new d v octets
+      (λ other of_vl. ap (is_accepted other of_vl) is) (has_some d l c v k octets has) own stored
+  taken_by (Arrived a b c d) octets is has own same =
+      same_taken same (λ device vl. ap (is_accepted device vl) is)
+  taken_by (Permanent a b c d e) octets is has own same =
+      same_taken same (λ device vl. ap (is_accepted device vl) is)
+  taken_by (Compressed a b c d e f) octets is has own same =
+      same_taken same (λ device vl. ap (is_accepted device vl) is)
+  taken_by (Corrected a b c d) octets is has own same =
+      same_taken same (λ device vl. ap (is_accepted device vl) is)
+  taken_by (Changed a b c d) octets is has own same =
+      same_taken same (λ device vl. ap (is_accepted device vl) is)
+  taken_by (Left a b c d) octets is has own same =
+      same_taken same (λ device vl. ap (is_accepted device vl) is)
+  taken_by (TtSent a b c d e) octets is has own same =
+      same_taken same (λ device vl. ap (is_accepted device vl) is)
+  taken_by (Delivered a b c d e) octets is has own same =
+      same_taken same (λ device vl. ap (is_accepted device vl) is)
+  taken_by (Dropped a b c d) octets is has own same =
+      same_taken same (λ device vl. ap (is_accepted device vl) is)
+  taken_by (Clock a b c d) octets is has own same =
+      same_taken same (λ device vl. ap (is_accepted device vl) is)
+  taken_by other octets is has own same = same_taken same (λ device vl. ap (is_accepted device vl) is)

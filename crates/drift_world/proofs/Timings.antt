@@ -13,45 +13,48 @@ use Rattle.{drift_world.specs.declared.state.State.State, run_law.specs.machines
 abbrev pub IsLow : {C : Type 0} → (C → ℕ → ℕ) → C → ℕ → Type 0
 IsLow reading clock now = (u : ℕ) → now ≤ u → u ≤ 2 ^ 60 → reading clock u ≤ 2 ^ 60 + 2 ^ 51
 
--- it is not past
-pub not_past : {C : Type 0} (reading : C → ℕ → ℕ) (clock : C) (now : ℕ) (value : Option Units) (time : ℕ) → now ≤ 2 ^ 60
-    → IsTimeFor reading clock now value time → now ≤ time
-not_past reading clock now None time limit is = omega (arith, is, limit)
-not_past reading clock now (Some value) time limit (inl is) = let e = is.0 in omega (arith, e, limit)
-not_past reading clock now (Some value) time limit (inr is) = is.from_now
+module _ {C : Type 0} (reading : C → ℕ → ℕ) (clock : C) where
+  -- it is not past
+  pub not_past : (now : ℕ) (value : Option Units) (time : ℕ) → now ≤ 2 ^ 60 → IsTimeFor reading clock now value time
+      → now ≤ time
+  not_past now None time limit is = omega (arith, is, limit)
+  not_past now (Some value) time limit (inl is) = let e = is.0 in omega (arith, e, limit)
+  not_past now (Some value) time limit (inr is) = is.from_now
 
--- before it the clock reads less
-pub reads_less : {C : Type 0} (reading : C → ℕ → ℕ) (clock : C) (now : ℕ) (value : Units) (time u : ℕ) → IsLow reading clock now
-    → IsTimeFor reading clock now (Some value) time → now ≤ u → u ≤ 2 ^ 60 → value.0 ≤ℤ pos (reading clock u) → time ≤ u
-reads_less reading clock now value time u low (inl is) from most reached =
-    let above = is.1 in let most_read = low u from most in absurd (omega (arith, ints, above, reached, most_read))
-reads_less reading clock now value time u low (inr is) from most reached =
-    elim (cases_lt u time) [
-      | inl sooner ↦ let less = is.not_before u from sooner in absurd (omega (arith, ints, less, reached))
-      | inr le ↦ le
-    ]
+  -- before it the clock reads less
+  pub reads_less : (now : ℕ) (value : Units) (time u : ℕ) → IsLow reading clock now
+      → IsTimeFor reading clock now (Some value) time → now ≤ u → u ≤ 2 ^ 60 → value.0 ≤ℤ pos (reading clock u)
+      → time ≤ u
+  reads_less now value time u low (inl is) from most reached =
+      let above = is.1 in let most_read = low u from most in absurd (omega (arith, ints, above, reached, most_read))
+  reads_less now value time u low (inr is) from most reached =
+      elim (cases_lt u time) [
+        | inl sooner ↦ let less = is.not_before u from sooner in absurd (omega (arith, ints, less, reached))
+        | inr le ↦ le
+      ]
 
--- at it, it reads so much
-pub reads_so : {C : Type 0} (reading : C → ℕ → ℕ) (clock : C) (now : ℕ) (value : Units) (time : ℕ) → IsTimeFor reading clock now (Some value) time
-    → time < never → value.0 ≤ℤ pos (reading clock time)
-reads_so reading clock now value time (inl is) true_time = let e = is.0 in absurd (omega (arith, e, true_time))
-reads_so reading clock now value time (inr is) true_time = is.reached
+  -- at it, it reads so much
+  pub reads_so : (now : ℕ) (value : Units) (time : ℕ) → IsTimeFor reading clock now (Some value) time → time < never
+      → value.0 ≤ℤ pos (reading clock time)
+  reads_so now value time (inl is) true_time = let e = is.0 in absurd (omega (arith, e, true_time))
+  reads_so now value time (inr is) true_time = is.reached
 
--- ---- the timers of a device are right
+  -- ---- the timers of a device are right
 
-pub ripe_timed : {C : Type 0} (reading : C → ℕ → ℕ) (clock : C) (waiting : List Waits) (device now : ℕ) (point : Option Units) (time : ℕ)
-    → IsLow reading clock now → IsLeastPoint waiting device point → IsTimeFor reading clock now point time → IsRipeAt reading clock waiting device now time
-ripe_timed reading clock waiting device now None time low none is = grind arith
-ripe_timed reading clock waiting device now (Some point) time low least is = record {
-  none = λ w there at u from most reached.
-      let le = least.1 w there at in reads_less reading clock now point time u low is from most (omega (arith, ints, le, reached));
-  one = λ true_time. (
-    least.0.0,
-    least.0.1,
-    least.0.2,
-    subst (λ (p : Units). p.0 ≤ℤ pos (reading clock time)) (sym least.0.3) (reads_so reading clock now point time is true_time),
-  );
-}
+  pub ripe_timed : (waiting : List Waits) (device now : ℕ) (point : Option Units) (time : ℕ)
+      → IsLow reading clock now → IsLeastPoint waiting device point → IsTimeFor reading clock now point time
+      → IsRipeAt reading clock waiting device now time
+  ripe_timed waiting device now None time low none is = grind arith
+  ripe_timed waiting device now (Some point) time low least is = record {
+    none = λ w there at u from most reached.
+        let le = least.1 w there at in reads_less now point time u low is from most (omega (arith, ints, le, reached));
+    one = λ true_time. (
+      least.0.0,
+      least.0.1,
+      least.0.2,
+      subst (λ (p : Units). p.0 ≤ℤ pos (reading clock time)) (sym least.0.3) (reads_so now point time is true_time),
+    );
+  }
 
 pub acts_timed : {C M : Type 0} (reading : C → ℕ → ℕ) (stands : M → Network → DeviceId → Node → Type 0) (network : Network) (clock : C) (machine : Kept M)
     (device : DeviceId) (now : ℕ) (due : Option Units) (time : ℕ) (part : Part)
@@ -79,14 +82,16 @@ acts_timed reading stands network clock machine device now (Some due) time part 
 -- ---- they stay so
 
 -- where the device is as it was, and time has not gone back
-pub still_timed : {C M : Type 0} (reading : C → ℕ → ℕ) (stands : M → Network → DeviceId → Node → Type 0) (network : Network) (old new : State C M)
-    (device : DeviceId) → IsTimed reading stands network old.timers old device → slice_get new.clocks.items device.0 ≡ slice_get old.clocks.items device.0
+pub still_timed : {C M : Type 0} {reading : C → ℕ → ℕ} {stands : M → Network → DeviceId → Node → Type 0}
+    {network : Network} {old : State C M} (new : State C M) {device : DeviceId}
+    → IsTimed reading stands network old.timers old device
+    → slice_get new.clocks.items device.0 ≡ slice_get old.clocks.items device.0
     → slice_get new.machines.items device.0 ≡ slice_get old.machines.items device.0
-    → ((w : Waits) → w.device.0 ≡ device.0 → IsIn w new.waiting.items ↔ IsIn w old.waiting.items) → old.time ≤ new.time
-    → slice_get new.timers device.0 ≡ slice_get old.timers device.0
-    → slice_get new.timers (length network.device + device.0) ≡ slice_get old.timers (length network.device + device.0)
-    → IsTimed reading stands network new.timers new device
-still_timed reading stands network old new device is clocks machines waiting later ripe act = record {
+    → ((w : Waits) → w.device.0 ≡ device.0 → IsIn w new.waiting.items ↔ IsIn w old.waiting.items)
+    → old.time ≤ new.time → slice_get new.timers device.0 ≡ slice_get old.timers device.0
+    → slice_get new.timers (length network.device + device.0)
+    ≡ slice_get old.timers (length network.device + device.0) → IsTimed reading stands network new.timers new device
+still_timed new is clocks machines waiting later ripe act = record {
   ripe = record {
     clock = is.ripe.clock;
     of_clock = clocks ∙ is.ripe.of_clock;
@@ -125,11 +130,11 @@ module _ {C M : Type 0} (reading : C → ℕ → ℕ) (stands : M → Network �
     each = λ other there.
         elim (cases_eq other.0 device.0) [
           | inl e ↦
-              subst (λ (d : DeviceId). IsTimed reading stands network new.timers new d) (ap (λ (n : ℕ). let d : DeviceId = record { 0 = n } in d) (sym e))
+              subst (λ d. IsTimed reading stands network new.timers new d) (ap (λ (n : ℕ). let d : DeviceId = record { 0 = n } in d) (sym e))
               keyed.timed
           | inr ne ↦
               let same = keyed.sets.same in
-              still_timed reading stands network old new other (are.each other there)
+              still_timed new (are.each other there)
               (ap (λ (s : State C M). slice_get s.clocks.items other.0) same ∙ clocks other.0 ne)
               (ap (λ (s : State C M). slice_get s.machines.items other.0) same ∙ machines other.0 ne)
               (λ w at. subst (λ (s : State C M). IsIn w s.waiting.items ↔ IsIn w old.waiting.items) (sym same)
@@ -141,8 +146,8 @@ module _ {C M : Type 0} (reading : C → ℕ → ℕ) (stands : M → Network �
               ∙ ap (λ (l : List Timer). slice_get l (length network.device + other.0)) timers)
         ];
     later = keyed.sets.later
-        (subst (λ (n : ℕ). AreFrom n mid.timers) (sym time)
-        (subst (λ (l : List Timer). AreFrom old.time l) (sym timers) are.later));
+        (subst (λ n. AreFrom n mid.timers) (sym time)
+        (subst (λ l. AreFrom old.time l) (sym timers) are.later));
   }
     where
       apart : (slot : ℕ) → (slot ≡ device.0 → ⊥) → (slot ≡ length network.device + device.0 → ⊥)
@@ -162,13 +167,13 @@ module _ {C M : Type 0} (reading : C → ℕ → ℕ) (stands : M → Network �
   unmoved old new are clocks machines waiting time timers = record {
     sized = ap length timers ∙ are.sized;
     each = λ device there.
-        still_timed reading stands network old new device (are.each device there) (ap (λ (c : _). slice_get c.items device.0) clocks)
+        still_timed new (are.each device there) (ap (λ (c : _). slice_get c.items device.0) clocks)
         (ap (λ (l : _). slice_get l device.0) machines)
-        (λ w at. subst (λ (l : List Waits). IsIn w l ↔ IsIn w old.waiting.items) (sym waiting) ((λ i. i), (λ i. i)))
+        (λ w at. subst (λ l. IsIn w l ↔ IsIn w old.waiting.items) (sym waiting) ((λ i. i), (λ i. i)))
         (omega (arith, time)) (ap (λ (l : List Timer). slice_get l device.0) timers)
         (ap (λ (l : List Timer). slice_get l (length network.device + device.0)) timers);
-    later = subst (λ (n : ℕ). AreFrom n new.timers) (sym time)
-        (subst (λ (l : List Timer). AreFrom old.time l) (sym timers) are.later);
+    later = subst (λ n. AreFrom n new.timers) (sym time)
+        (subst (λ l. AreFrom old.time l) (sym timers) are.later);
   }
 
   -- a step of none of the devices
@@ -178,13 +183,13 @@ module _ {C M : Type 0} (reading : C → ℕ → ℕ) (stands : M → Network �
     sized = ap length timers ∙ are.sized;
     each = λ device there.
         let time = c.time in
-        still_timed reading stands network old new device (are.each device there) (ap (λ (k : _). slice_get k.items device.0) c.clocks)
+        still_timed new (are.each device there) (ap (λ (k : _). slice_get k.items device.0) c.clocks)
         (c.machines device.0 (λ e. omega (arith, e, there, none)))
         (λ w at. c.waiting w (λ e. omega (arith, e, at, there, none)))
         (omega (arith, time)) (ap (λ (l : List Timer). slice_get l device.0) timers)
         (ap (λ (l : List Timer). slice_get l (length network.device + device.0)) timers);
-    later = subst (λ (n : ℕ). AreFrom n new.timers) (sym c.time)
-        (subst (λ (l : List Timer). AreFrom old.time l) (sym timers) are.later);
+    later = subst (λ n. AreFrom n new.timers) (sym c.time)
+        (subst (λ l. AreFrom old.time l) (sym timers) are.later);
   }
 
   pub unchanged : (old new : State C M) → AreTimed reading stands network old → ((device : ℕ) → ChangesOnly device old new) → new.timers ≡ old.timers
@@ -197,7 +202,7 @@ module _ {C M : Type 0} (reading : C → ℕ → ℕ) (stands : M → Network �
   passed old t early are later none = record {
     sized = are.sized;
     each = λ device there.
-        still_timed reading stands network old (record old { time = t; early = early }) device (are.each device there) refl refl
+        still_timed (record old { time = t; early = early }) (are.each device there) refl refl
         (λ w at. ((λ i. i), (λ i. i))) later refl refl;
     later = none;
   }
@@ -217,17 +222,18 @@ module _ {C M : Type 0} (last_step : C → ℕ) (reading : C → ℕ → ℕ) (s
   -- what a state keeps does not depend on its timers
   pub sized_with : IsSized last_step network old → IsSized last_step network state
   sized_with is =
-      subst (λ (s : State C M). IsSized last_step network s) (sym same)
+      subst (λ s. IsSized last_step network s) (sym same)
       (sized_so last_step network old (record old { timers = state.timers }) is refl refl refl refl refl refl refl)
 
   pub running_with : IsRunning reading stands network old → IsRunning reading stands network state
-  running_with is = subst (λ (s : State C M). IsRunning reading stands network s) (sym same) (record { s = is.s; notes = is.notes; is = is.is })
+  running_with is = subst (λ s. IsRunning reading stands network s) (sym same) (record { s = is.s; notes = is.notes; is = is.is })
 
 -- so timers may be set when others have been
-pub may_still : {C M : Type 0} (last_step : C → ℕ) (reading : C → ℕ → ℕ) (stands : M → Network → DeviceId → Node → Type 0) (network : Network)
-    (device : DeviceId) (IsSet : ℕ → Type 0) (old new : State C M) → MayRekey last_step reading stands network old device → SetsOnly IsSet old new
+pub may_still : {C M : Type 0} {last_step : C → ℕ} {reading : C → ℕ → ℕ}
+    {stands : M → Network → DeviceId → Node → Type 0} {network : Network} {device : DeviceId} (IsSet : ℕ → Type 0)
+    {old new : State C M} → MayRekey last_step reading stands network old device → SetsOnly IsSet old new
     → MayRekey last_step reading stands network new device
-may_still last_step reading stands network device IsSet old new may sets = grind arith
+may_still IsSet may sets = grind arith
 
 module _ {C M : Type 0} (reading : C → ℕ → ℕ) (stands : M → Network → DeviceId → Node → Type 0) (network : Network) where
   -- one device more
@@ -240,15 +246,15 @@ module _ {C M : Type 0} (reading : C → ℕ → ℕ) (stands : M → Network �
       record {
         same = same ∙ ap (λ (s : State C M). let k : State C M = record s { timers = new.timers } in k) are.same;
         sized = keyed.sets.sized ∙ are.sized;
-        later = subst (λ (n : ℕ). AreFrom n new.timers) (now ∙ was)
-            (keyed.sets.later (subst (λ (n : ℕ). AreFrom n mid.timers) (sym was) are.later));
+        later = subst (λ n. AreFrom n new.timers) (now ∙ was)
+            (keyed.sets.later (subst (λ n. AreFrom n mid.timers) (sym was) are.later));
         each = λ other less of_it.
             elim (cases_eq other.0 device.0) [
               | inl e ↦
-                  subst (λ (d : DeviceId). IsTimed reading stands network new.timers new d) (ap (λ (n : ℕ). let d : DeviceId = record { 0 = n } in d) (sym e))
+                  subst (λ d. IsTimed reading stands network new.timers new d) (ap (λ (n : ℕ). let d : DeviceId = record { 0 = n } in d) (sym e))
                   keyed.timed
               | inr ne ↦
-                  still_timed reading stands network mid new other (are.each other (omega (arith, less, ne)) of_it)
+                  still_timed new (are.each other (omega (arith, less, ne)) of_it)
                   (ap (λ (s : State C M). slice_get s.clocks.items other.0) same)
                   (ap (λ (s : State C M). slice_get s.machines.items other.0) same)
                   (λ w at. subst (λ (s : State C M). IsIn w s.waiting.items ↔ IsIn w mid.waiting.items) (sym same) ((λ i. i), (λ i. i)))

@@ -10,7 +10,7 @@ module _ {C M : Type 0} (last_step : C → ℕ) (reading : C → ℕ → ℕ) (s
   -- what it gives after a step, it gives after the state before
   pub gives_then : (E : Type 0) (old mid new : State C M) (note : Note) (result : Result Turn E) → mid.time ≡ old.time → mid.given ≡ old.given
       → IfOk result (GivesAt mid new note) → IfOk result (WorkSays network old new note)
-  gives_then E old mid new note (Ok Gives) time given says = (says.0, says.1 ∙ time, says.2 ∙ ap (λ (n : ℕ). n + 1) given)
+  gives_then E old mid new note (Ok Gives) time given says = (says.0, says.1 ∙ time, says.2 ∙ ap (λ n. n + 1) given)
   gives_then E old mid new note (Ok GoesOn) time given says = absurd says
   gives_then E old mid new note (Ok Ends) time given says = absurd says
   gives_then E old mid new note (Err e) time given says = tt

@@ -41,7 +41,7 @@ split_at (x ∷ xs) p up =
             front = x ∷ rest.front;
             back = rest.back;
             whole = ap (λ (l : List Happening). x ∷ l) rest.whole;
-            before = λ y there. elim there [ inl e ↦ subst (λ (h : Happening). IsBefore (place_of h) p) (sym e) sooner | inr inside ↦ rest.before y inside ];
+            before = λ y there. elim there [ inl e ↦ subst (λ h. IsBefore (place_of h) p) (sym e) sooner | inr inside ↦ rest.before y inside ];
             none = rest.none;
           }
       | inr later ↦
@@ -52,7 +52,7 @@ split_at (x ∷ xs) p up =
             before = λ y there. absurd there;
             none = λ y there b.
                 elim there [
-                  | inl e ↦ later (subst (λ (h : Happening). IsBefore (place_of h) p) e b)
+                  | inl e ↦ later (subst (λ h. IsBefore (place_of h) p) e b)
                   | inr inside ↦ later (chain (place_of x) (place_of y) p (up.0 y inside) b)
                 ];
           }
@@ -126,7 +126,7 @@ module _ {C M : Type 0} (reading : C → ℕ → ℕ) (stands : M → Network �
       let m = found.0 in
       let at_place : place_of m ≡ place = found.2 in
       let time_is : time_of m ≡ world.now = ap first_of at_place ∙ now_is in
-      let soon : IsBefore (place_of m) (world.now ∷ 2 ∷ []) = subst (λ (q : List ℕ). IsBefore q (world.now ∷ 2 ∷ [])) (sym at_place)
+      let soon : IsBefore (place_of m) (world.now ∷ 2 ∷ []) = subst (λ q. IsBefore q (world.now ∷ 2 ∷ [])) (sym at_place)
       (inr (now_is, inl (omega arith))) in
       elim (before_others m world.now soon) [
         | inl past ↦ absurd (omega (arith, past, time_is))

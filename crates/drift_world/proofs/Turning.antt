@@ -1,6 +1,6 @@
 -- A turn of a world: what comes first, and what the steps keep.
 use Rattle.{drift_world.proofs.Fits.{sound_same, sound_timers}, world_law.proofs.{acts.NoActs.nothing_comes_before, runs.Worlds.nothing_settled_is_all}}
-use Rattle.{drift_world.proofs.{Foremost.timers_later, Rising.{InOrder, settled_in_order}}}
+use Rattle.drift_world.proofs.{Foremost.timers_later, Rising.{InOrder, settled_in_order}}
 use Rattle.drift_world.{proofs.{AtSource.{IsSourceRank, at_rank, own_gives, rank_most, ranks}, Sources.{of_world, sooner_too}}, specs.{Stepping.IsRekeyed, declared.{source.Source.Source, state.State.State}}}
 use Rattle.drift_world.proofs.{Timings.{passed, rekeyed, unchanged}, Words.{numbers_of, option_map_or, own_place, place_of, rank, refl, settled_at, subst, sym, true, world_of, ℕ}}
 use Rattle.drift_world.proofs.Words.{◌++◌, ◌+◌, ◌<◌, ◌^◌, ◌↔◌, ◌∙◌, ◌∷◌, ◌≡◌, ◌≤◌, AreFirsts, AreSettled, AreTimed, Bool, ChangesOnly, ComesFirst, DeviceId}
@@ -43,9 +43,10 @@ higher_not now r q xs ys lt (inl b) = omega (arith, b)
 higher_not now r q xs ys lt (inr (e, inl b)) = omega (arith, lt, b)
 higher_not now r q xs ys lt (inr (e, inr (f, b))) = omega (arith, lt, f)
 
-not_ahead : (network : Network) (now : ℕ) (source : Source) (first : Settled) → IsShaped now source → source_rank source < rank first.body
-    → IsBefore (place_of (settled_at network now first)) (source_place now source) → ⊥
-not_ahead network now source first shape lt before =
+not_ahead : (network : Network) {now : ℕ} {source : Source} (first : Settled) → IsShaped now source
+    → source_rank source < rank first.body → IsBefore (place_of (settled_at network now first))
+    (source_place now source) → ⊥
+not_ahead network {now} {source} first shape lt before =
     higher_not now (rank first.body) (source_rank source) (key (option_map_or (λ frame. frame.members.0) first.frame 0) first.body) shape.rest lt
     (subst (IsBefore (now ∷ own_place first)) shape.place before)
 
@@ -73,14 +74,14 @@ none_sooner : (network : Network) (now : ℕ) (settled : List Settled) (w : List
     → ((first : Settled) (others : List Settled) → settled ≡ first ∷ others → IsBefore (place_of (settled_at network now first)) w → ⊥)
     → (z : Happening) → IsIn z (map (settled_at network now) settled) → IsBefore (place_of z) w → ⊥
 none_sooner network now [] w order not z there before = absurd there
-none_sooner network now (x ∷ xs) w order not z (inl e) before = not x xs refl (subst (λ (h : Happening). IsBefore (place_of h) w) e before)
+none_sooner network now (x ∷ xs) w order not z (inl e) before = not x xs refl (subst (λ h. IsBefore (place_of h) w) e before)
 none_sooner network now (x ∷ xs) w order not z (inr rest) before =
     let first = place_of (settled_at network now x) in
     order.0 z rest (before_later (place_of z) first w before (not x xs refl))
 
 -- one step after the other
-pub after_then : {C M : Type 0} (old mid new : State C M) → IsAfter old mid → IsAfter mid new → IsAfter old new
-after_then old mid new first second = grind arith
+pub after_then : {C M : Type 0} {old mid new : State C M} → IsAfter old mid → IsAfter mid new → IsAfter old new
+after_then first second = grind arith
 
 module _ {C M : Type 0} (last_step : C → ℕ) (reading : C → ℕ → ℕ) (stands : M → Network → DeviceId → Node → Type 0) (network : Network) where
   pub passed_after : (old new : State C M) (until : ℕ) (turn : Turn) → IsPassed last_step reading stands network until old new turn → IsAfter old new
@@ -97,8 +98,8 @@ module _ {C M : Type 0} (last_step : C → ℕ) (reading : C → ℕ → ℕ) (s
   comes_first state source s notes may now old =
       let w = source_place state.time source in
       let shape = shaped reading stands network state source may.foremost.there now in
-      let after = none_sooner network state.time state.settled.items w (settled_in_order reading (keeps stands) s (world_of network state) notes old)
-      (λ z others whole. not_ahead network state.time source z shape (may.first z others whole)) in
+      let after = none_sooner network state.time state.settled.items w (settled_in_order old)
+      (λ z others whole. not_ahead network z shape (may.first z others whole)) in
       let given = old.given in
       let numbers = may.room.numbers in
       let many = length-map state.settled.items (settled_at network state.time) in
@@ -122,7 +123,7 @@ module _ {C M : Type 0} (last_step : C → ℕ) (reading : C → ℕ → ℕ) (s
       let w = source_place state.time source in
       let p = place_of (settled_at network state.time z) in
       let before = ahead_before reading stands network state source z foremost.there ahead in
-      sooner_too reading stands network state w p foremost.nothing (λ b. never_self p (chain p w p before b))
+      sooner_too p foremost.nothing (λ b. never_self p (chain p w p before b))
 
   -- where what is settled comes first, it may be given: one of the rank of the source stands where its own does
   pub may_give_first : (state : State C M) (source : Source) → IsForemost reading stands network state source → SettledFirst state.settled.items source
@@ -146,8 +147,8 @@ module _ {C M : Type 0} (last_step : C → ℕ) (reading : C → ℕ → ℕ) (s
       → NoSourceBefore s (happenings s.network notes) old.cursor (place_of (settled_at network state.time z))
   first_gives state z others s notes sound nothing whole old =
       let p = place_of (settled_at network state.time z) in
-      let after = none_sooner network state.time state.settled.items p (settled_in_order reading (keeps stands) s (world_of network state) notes old)
-      (λ x rest is. λ b. never_self p (subst (λ (y : Settled). IsBefore (place_of (settled_at network state.time y)) p) (first_is x rest is) b)) in
+      let after = none_sooner network state.time state.settled.items p (settled_in_order old)
+      (λ x rest is. λ b. never_self p (subst (λ y. IsBefore (place_of (settled_at network state.time y)) p) (first_is x rest is) b)) in
       nothing_comes_before reading (keeps stands) s (world_of network state) notes p old after
       (of_world last_step reading stands s network state notes old sound.sized p sound.under_way nothing)
     where
@@ -160,7 +161,7 @@ module _ {C M : Type 0} (last_step : C → ℕ) (reading : C → ℕ → ℕ) (s
       → NoSourceBefore s (happenings s.network notes) old.cursor (place_of (settled_at network state.time may.first))
   gives_first state may s notes sound old = elim may.before [
     | inl nothing ↦ first_gives state may.first may.others s notes sound nothing may.whole old
-    | inr source ↦ own_gives reading stands network state may.first may.others s notes source may.whole old
+    | inr source ↦ own_gives stands network state may.first may.others source may.whole old
   ]
 
   -- where nothing is settled, and nothing under way before a later time, the records are the run up to it
@@ -170,10 +171,10 @@ module _ {C M : Type 0} (last_step : C → ℕ) (reading : C → ℕ → ℕ) (s
   whole_run state s notes until sound none empty later old =
       let settled : (world_of network state).settled ≡ [] = ap (map (settled_at network state.time)) empty in
       nothing_settled_is_all s notes old.mark old.cursor state.time until old.run
-      (subst (λ (l : List Happening). AreSettled s (happenings s.network notes) l old.mark old.cursor state.time) settled old.are)
+      (subst (λ l. AreSettled s (happenings s.network notes) l old.mark old.cursor state.time) settled old.are)
       (λ p before. before_later_time p (state.time + 1) until (omega (arith, later)) (old.not_later p (old.ahead p before)))
       (nothing_comes_before reading (keeps stands) s (world_of network state) notes (until ∷ []) old
-      (λ z there. absurd (subst (λ (l : List Happening). IsIn z l) settled there))
+      (λ z there. absurd (subst (λ l. IsIn z l) settled there))
       (of_world last_step reading stands s network state notes old sound.sized (until ∷ []) sound.under_way none))
 
   -- ---- what steps keep
@@ -205,7 +206,7 @@ module _ {C M : Type 0} (last_step : C → ℕ) (reading : C → ℕ → ℕ) (s
   rekeyed_step device old mid new well sound there changes timers given still keyed =
       let same = keyed.sets.same in
       let on = λ (s : Scenario) (notes : List Note) (is : Stands reading (keeps stands) s (world_of network old) notes).
-      subst (λ (t : State C M). Stands reading (keeps stands) s (world_of network t) notes) (sym same) (still s notes is) in
+      subst (λ t. Stands reading (keeps stands) s (world_of network t) notes) (sym same) (still s notes is) in
       let at : new.time ≡ old.time = ap (λ (t : State C M). t.time) same ∙ changes.time in
       record {
         well = record {
@@ -231,7 +232,7 @@ module _ {C M : Type 0} (last_step : C → ℕ) (reading : C → ℕ → ℕ) (s
     well = step.well;
     after = step.after;
     stands_then = λ s notes is.
-        subst (λ (l : List Note). Stands reading (keeps stands) s (world_of network new) l) (sym (append-nil notes)) (step.still s notes is);
+        subst (λ l. Stands reading (keeps stands) s (world_of network new) l) (sym (append-nil notes)) (step.still s notes is);
   }
 
   -- a turn behind a step
@@ -241,7 +242,7 @@ module _ {C M : Type 0} (last_step : C → ℕ) (reading : C → ℕ → ℕ) (s
       → IsKept last_step reading stands network mid new more → IsKept last_step reading stands network old new more
   kept_then old mid new more after still kept = record {
     well = kept.well;
-    after = after_then old mid new after kept.after;
+    after = after_then after kept.after;
     stands_then = λ s notes is. kept.stands_then s notes (still s notes is);
   }
 
@@ -252,14 +253,14 @@ module _ {C M : Type 0} (last_step : C → ℕ) (reading : C → ℕ → ℕ) (s
       → new ≡ record mid { timers = new.timers } → AreTimed reading stands network new → IsKept last_step reading stands network old new more
   kept_timers old mid new more run sound after stands_more same timed =
       let on = λ (s : Scenario) (notes : List Note) (is : Stands reading (keeps stands) s (world_of network old) notes).
-      subst (λ (t : State C M). Stands reading (keeps stands) s (world_of network t) (notes ++ more)) (sym same) (stands_more s notes is) in
+      subst (λ t. Stands reading (keeps stands) s (world_of network t) (notes ++ more)) (sym same) (stands_more s notes is) in
       record {
         well = record {
           sound = sound_timers last_step network mid new same sound;
           running = record { s = run.s; notes = run.notes ++ more; is = on run.s run.notes run.is };
           timed = timed;
         };
-        after = subst (λ (t : State C M). IsAfter old t) (sym same) (record { clocks = after.clocks; ended = after.ended; later = after.later });
+        after = subst (λ t. IsAfter old t) (sym same) (record { clocks = after.clocks; ended = after.ended; later = after.later });
         stands_then = on;
       }
 
@@ -297,7 +298,7 @@ module _ {C M : Type 0} (last_step : C → ℕ) (reading : C → ℕ → ℕ) (s
       })
       (ap (λ (t : State C M). t.timers) same) (ap (λ (t : State C M). t.given) same)
       (λ s notes is.
-      subst (λ (t : State C M). Stands reading (keeps stands) s (world_of network t) notes) (sym same)
+      subst (λ t. Stands reading (keeps stands) s (world_of network t) notes) (sym same)
       (subst
       (λ (l : List Settled). Stands reading (keeps stands) s (record (world_of network old) { settled = map (settled_at network old.time) l }) notes)
       (sym items) is))
@@ -339,21 +340,23 @@ err_open E old new (Ok t) until early same = tt
 err_open E old new (Err e) until early same = omega (arith, early, same)
 
 -- where time passes, what is first stays so, and the room is as it was
-pub firsts_passed : {C M : Type 0} (old new : State C M) (place : Option DueAt) (due : Option Due)
+pub firsts_passed : {C M : Type 0} {old : State C M} (new : State C M) {place : Option DueAt} {due : Option Due}
     → new ≡ record old { time = new.time; early = new.early } → AreFirsts old place due → AreFirsts new place due
-firsts_passed old new place due same are =
-    subst (λ (t : State _ _). AreFirsts t place due) (sym same)
+firsts_passed new {place} {due} same are =
+    subst (λ t. AreFirsts t place due) (sym same)
     (record { some_place = are.some_place; no_place = are.no_place; some_due = are.some_due; no_due = are.no_due })
 
-pub room_passed : {C M : Type 0} (old new : State C M) → new ≡ record old { time = new.time; early = new.early } → HasRoom old → HasRoom new
-room_passed old new same room = subst (λ (t : State _ _). HasRoom t) (sym same) (record { places = room.places; numbers = room.numbers })
+pub room_passed : {C M : Type 0} {old : State C M} (new : State C M)
+    → new ≡ record old { time = new.time; early = new.early } → HasRoom old → HasRoom new
+room_passed new same room =
+    subst (λ t. HasRoom t) (sym same) (record { places = room.places; numbers = room.numbers })
 
 -- ---- one turn after the other
 
 -- what a turn says of the state before it, it says of one with as many records given
 pub says_then : {C M : Type 0} (old mid new : State C M) (until : ℕ) (note : Note) (turn : Turn) → mid.given ≡ old.given
     → mid.ended ≡ old.ended → TurnSays mid new until note turn → TurnSays old new until note turn
-says_then old mid new until note Gives given ended says = (says.0, says.1, says.2 ∙ ap (λ (n : ℕ). n + 1) given)
+says_then old mid new until note Gives given ended says = (says.0, says.1, says.2 ∙ ap (λ n. n + 1) given)
 says_then old mid new until note GoesOn given ended says = (says.0, says.1 ∙ given)
 says_then old mid new until note Ends given ended says = λ is limit. says (ended ∙ is) limit
 

@@ -19,8 +19,8 @@ wide v r a is fits0 fits1 = record { low = omega (arith, ints, is, fits0, fits1)
 sound_shown : (broken : Bool) (state : DeviceState) (reading : ℕ) (adjustment : Units) (r a : ℤ) → broken ≡ false → Synchronised ≡ state → r ≡ pos reading
     → a ≡ adjustment.0 → Some (r +ℤ a) ≡ local_shown broken state reading adjustment
 sound_shown broken state reading adjustment r a sound in_step reads adjusts =
-    ap (λ (v : ℤ). Some (v +ℤ a)) reads ∙ ap (λ (v : ℤ). Some (pos reading +ℤ v)) adjusts
-    ∙ ap (λ (b : Bool). local_shown b Synchronised reading adjustment) (sym sound) ∙ ap (λ (s : DeviceState). local_shown broken s reading adjustment) in_step
+    ap (λ v. Some (v +ℤ a)) reads ∙ ap (λ v. Some (pos reading +ℤ v)) adjusts
+    ∙ ap (λ b. local_shown b Synchronised reading adjustment) (sym sound) ∙ ap (λ s. local_shown broken s reading adjustment) in_step
 
 none_shown : (broken : Bool) (state : DeviceState) (reading : ℕ) (adjustment : Units) → (state ≡ Synchronised → ⊥)
     → None ≡ local_shown broken state reading adjustment
@@ -48,7 +48,7 @@ returns-then-index-clause-shows g c =
       broken = c.index-2.result.now;
       broken_is = read_at w.broken.items i c.index-2.result.now (omega (arith, there, broken)) c.index-2.ensures;
       is = λ network node k. elim c.then-index.branch [
-        | then-index-via-then-index v ↦ ap (λ (b : Bool). local_shown b node.standing.state reading node.standing.adjustment) (sym v.if-index.true)
+        | then-index-via-then-index v ↦ ap (λ b. local_shown b node.standing.state reading node.standing.adjustment) (sym v.if-index.true)
         | then-index-via-else-index+then-ne v ↦ none_shown c.index-2.result.now node.standing.state reading node.standing.adjustment
             (λ same. let is = v.state.ensures network c.args.device node k ∙ same in false≢true (sym (rw is at v.if-ne.ensures)))
       ];

@@ -63,7 +63,7 @@ act_part-requires-clause-from g c = c.requires.may.foremost.there.late
 pub act_part-requires-clause-above : goal.act_part-requires-clause-above
 act_part-requires-clause-above g c =
     let run = c.requires.may.well.running in
-    all_above g.C.Clock.reading g.M.Machine.stands c.args.network.now c.args.self.now (part_rank c.args.part) run.s run.notes run.is c.requires.may.first
+    all_above g.M.Machine.stands c.args.network.now c.args.self.now (part_rank c.args.part) run.is c.requires.may.first
 
 pub rekey_act-requires : goal.rekey_act-requires
 rekey_act-requires g c = record { may = may_set g (goal.at.rekey_act-requires g c).After-act_part }

@@ -1,7 +1,7 @@
 use Rattle.drift_world.proofs.{ActRecords.AreProper, ActSteps.{above_then, acted_once, asked_to_act, later_then, left_in, never_broken, octets_then, own_then}}
 use Rattle.drift_world.proofs.{ActSteps.{proper_at, row_within}, Rising.{InOrder, settled_in_order}}
 use Rattle.{drift_world.proofs.{Fits.sized_so, Showings.shows_of}, world_law.{proofs.giving.GivenParts.some_same, specs.world.Calls.IsStateOf}}
-use Rattle.drift_world.proofs.Words.{◌≡◌, HasActed, Kept, List, Moment, Note, Scenario, Some, Stands, arith, happenings, is_set, keeps, length, length-set}
+use Rattle.drift_world.proofs.Words.{◌≡◌, HasActed, List, Note, Scenario, Some, Stands, arith, happenings, is_set, keeps, length, length-set}
 use Rattle.drift_world.proofs.{Words.{map, moment_of, refl, settled_at, slice_get_read, slice_set, subst, world_of}, state.State.act_once.Goals.After-outcomes_of-outcomes}
 use Rattle.std.proofs.Common.{slice_get}
 use Rattle.drift_world.proofs.state.State.act_once.Given as given
@@ -40,8 +40,8 @@ acted_at : (g : given.Over) (c : After-outcomes_of-outcomes g) (s : Scenario) (n
     → HasActed (keeps g.M.Machine.stands) s.network c.args.device (moment_of s c.args.device c.args.self.now.time) c.in-Some.act c.index_mut.result.now
     c.act.new.self
 acted_at g c s notes old =
-    subst (λ (m : Moment). HasActed (keeps g.M.Machine.stands) s.network c.args.device m c.in-Some.act c.index_mut.result.now c.act.new.self)
-    (c.requires.moment s (shows_of g.C.Clock.reading (keeps g.M.Machine.stands) s c.args.network.now c.args.self.now notes old))
+    subst (λ m. HasActed (keeps g.M.Machine.stands) s.network c.args.device m c.in-Some.act c.index_mut.result.now c.act.new.self)
+    (c.requires.moment s (shows_of c.args.network.now c.args.self.now old))
     (c.in-Some.ensures.acted s.network c.args.device)
 
 pub outcomes_of-outcomes-requires-clause-row : goal.outcomes_of-outcomes-requires-clause-row
@@ -53,8 +53,8 @@ outcomes_of-outcomes-requires-clause-row g c =
     let at = c.requires.comes in
     row_within g.C.Clock.reading g.M.Machine.stands c.args.network.now c.args.self.now c.args.part c.args.device c.index_mut.result.now c.requires.there read c.requires.due
     c.requires.above at c.in-Some.act c.act.new.self
-    (subst (λ (m : Moment). HasActed (keeps g.M.Machine.stands) at.s.network c.args.device m c.in-Some.act c.index_mut.result.now c.act.new.self)
-    (c.requires.moment at.s (shows_of g.C.Clock.reading (keeps g.M.Machine.stands) at.s c.args.network.now c.args.self.now at.notes at.is))
+    (subst (λ m. HasActed (keeps g.M.Machine.stands) at.s.network c.args.device m c.in-Some.act c.index_mut.result.now c.act.new.self)
+    (c.requires.moment at.s (shows_of c.args.network.now c.args.self.now at.is))
     (c.in-Some.ensures.acted at.s.network c.args.device))
 
 -- its records are those of the law
@@ -63,7 +63,7 @@ own : (g : given.Over) (c : After-outcomes_of-outcomes g) → let at = c.require
     c.outcomes_of-outcomes.result
 own g c =
     let at = c.requires.comes in
-    let of = shows_of g.C.Clock.reading (keeps g.M.Machine.stands) at.s c.args.network.now c.args.self.now at.notes at.is in
+    let of = shows_of c.args.network.now c.args.self.now at.is in
     proper_at g.C.Clock.reading g.M.Machine.stands c.args.network.now c.args.self.now c.args.part c.args.device c.index_mut.result.now c.requires.there (held g c)
     c.requires.due c.requires.above at.s at.notes at.is at.first c.in-Some.act
     c.act.new.self c.shown-was.result.state c.shown-is.result.adjustment c.outcomes_of-outcomes.result (acted_at g c at.s at.notes at.is)
@@ -102,7 +102,7 @@ sorted : (g : given.Over) (c : After-outcomes_of-outcomes g)
     → InOrder (map (settled_at c.args.network.now c.args.self.now.time) c.args.self.now.settled.items)
 sorted g c =
     let at = c.requires.comes in
-    settled_in_order g.C.Clock.reading (keeps g.M.Machine.stands) at.s (world_of c.args.network.now c.args.self.now) at.notes at.is
+    settled_in_order at.is
 
 pub returns-clause-own : goal.returns-clause-own
 returns-clause-own g c = λ yes.
@@ -136,8 +136,8 @@ returns-clause-later g c = λ left is_left.
     later_then K.reading stands network w c.args.part device c.index_mut.result.now lt (held g here) c.requires.due c.requires.above c.requires.comes
     c.in-Some.act after left (acted_at g here)
     (λ s notes old.
-    let of = shows_of K.reading (keeps stands) s network w notes old in
-    left_in K.reading stands network _ device left is_left s after
+    let of = shows_of network w old in
+    left_in {reading = K.reading} stands {network = network} device left is_left {s = s} after
     (record { same = of.same; clocks = of.clocks; broken = of.broken; ways = of.ways }) set.there)
 
 pub returns-clause-stands : goal.returns-clause-stands
@@ -154,7 +154,7 @@ returns-clause-stands g c = λ s notes old first.
     let read = held g (goal.at.returns-clause-stands g c).After-outcomes_of-outcomes in
     let was = slice_get_read w.machines.items (length w.machines.items) device.0 c.index.result.now refl (omega (arith, lt, many)) c.index.ensures in
     let set = is_set w.machines.items device.0 after (omega (arith, lt, many)) in
-    let of = shows_of K.reading (keeps stands) s network w notes old in
+    let of = shows_of network w old in
     let put = c.put_both.ensures in
     let same : c.index.result.now ≡ machine = some_same _ _ _ was read in
     let longer = length-set w.machines.items device.0 after in
@@ -165,9 +165,9 @@ returns-clause-stands g c = λ s notes old first.
     c.shown-was.result.adjustment c.shown-is.result.adjustment c.in-Some.act
     c.outcomes_of-outcomes.result put.0 c.put_both.new.settled.items _ set put.1 put.2 s notes old first
     (acted_at g (goal.at.returns-clause-stands g c).After-outcomes_of-outcomes s notes old)
-    (subst (λ (m : Kept _). IsStateOf (keeps stands) s.network device m c.shown-was.result.state c.shown-was.result.adjustment) same
+    (subst (λ m. IsStateOf (keeps stands) s.network device m c.shown-was.result.state c.shown-was.result.adjustment) same
     (c.shown-was.ensures s.network device))
-    (subst (λ (m : Kept _). IsStateOf (keeps stands) s.network device m c.shown-is.result.state c.shown-is.result.adjustment) now_is
+    (subst (λ m. IsStateOf (keeps stands) s.network device m c.shown-is.result.state c.shown-is.result.adjustment) now_is
     (c.shown-is.ensures s.network device))
     (c.outcomes_of-outcomes.ensures s (record { same = of.same; clocks = of.clocks; broken = of.broken; ways = of.ways }))
 
@@ -185,6 +185,6 @@ returns-clause-acted g c = λ s notes machine old there.
       c.in-Some.act,
       after,
       (is_set w.machines.items device.0 after (omega (arith, lt, many))).there,
-      subst (λ (m : Kept _). HasActed (keeps stands) s.network device (moment_of s device w.time) c.in-Some.act m after) same
+      subst (λ m. HasActed (keeps stands) s.network device (moment_of s device w.time) c.in-Some.act m after) same
           (acted_at g (goal.at.returns-clause-acted g c).After-outcomes_of-outcomes s notes old),
     )

@@ -87,7 +87,7 @@ returns-clause-stands g c = λ f h past notes old follows may.
       shown = 0;
     } in
     let then_ = scenario network h (past ++ event ∷ []) in
-    let befell_is = c.in_ok-keep_befallen.ensures.ok ∙ ap (λ (n : ℕ). world.befell ++ also_befell (n + 1) event.what) old.given in
+    let befell_is = c.in_ok-keep_befallen.ensures.ok ∙ ap (λ n. world.befell ++ also_befell (n + 1) event.what) old.given in
     let note : ℕ → ℕ → What → Note = λ number line what. record { number = number + 1; time = event.time; body = kinds.Event (line + 1) what } in
     let note_is : note w.given w.lines c.args.event.now.what ≡ note_of_event notes past event =
     ap (λ (n : ℕ). note n w.lines c.args.event.now.what) old.given ∙ ap (λ (n : ℕ). note (length notes) n c.args.event.now.what) old.lines
@@ -95,9 +95,9 @@ returns-clause-stands g c = λ f h past notes old follows may.
       note_is,
       subst (λ (n : Note). Stands K.reading stands then_ (after (map befell_as c.keep_befallen.new.befell.items) c.ends-self.result) (notes ++ n ∷ []))
           (sym note_is)
-          (subst (λ (over : Bool). Stands K.reading stands then_ (after (map befell_as c.keep_befallen.new.befell.items) over)
+          (subst (λ over. Stands K.reading stands then_ (after (map befell_as c.keep_befallen.new.befell.items) over)
           (notes ++ note_of_event notes past event ∷ [])) (sym c.ends-self.ensures)
-          (subst (λ (l : List Befell). Stands K.reading stands then_ (after l (ends_world event.what)) (notes ++ note_of_event notes past event ∷ []))
+          (subst (λ l. Stands K.reading stands then_ (after l (ends_world event.what)) (notes ++ note_of_event notes past event ∷ []))
           (sym befell_is) step)),
     )
 

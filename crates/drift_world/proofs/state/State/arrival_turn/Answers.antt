@@ -1,9 +1,9 @@
 use Rattle.drift_world.{proofs.{Dues.due_stays, state.State.arrival_turn.Goals.{After-give_in_turn-turn, After-put_in}}, specs.declared.state.State.State}
 use Rattle.drift_world.proofs.{Fits.{all_put, have_octets, sound_same}, Timings.rekeyed, Words.{length, place_of, rank, refl, settled_at, subst, sym}}
-use Rattle.drift_world.proofs.Words.{world_of, ℕ}
+use Rattle.drift_world.proofs.Words.{world_of}
 use Rattle.drift_world.{proofs.{Halves.set_act, OwnPlaces.{changes_both, none_ahead, runs_first, stands_first}}, specs.Turns.given_in}
 use Rattle.drift_world.{proofs.Turning.{comes_first, is_at, kept_timers, rekeyed_step, runs_on, step_kept}, specs.declared.source.Source.TheVariants.Arrival}
-use Rattle.drift_world.proofs.Words.{◌++◌, ◌∙◌, ◌∷◌, ◌≡◌, ChangesOnly, DeviceId, IsPutAt, IsSound, List, Note, Scenario, Settled, Stands, ap, arith, keeps}
+use Rattle.drift_world.proofs.Words.{◌++◌, ◌∙◌, ◌∷◌, ◌≡◌, ChangesOnly, DeviceId, IsPutAt, IsSound, List, Note, Scenario, Stands, ap, arith, keeps}
 use Rattle.drift_world.proofs.state.State.arrival_turn.Given as given
 use Rattle.drift_world.proofs.state.State.arrival_turn.Goals as goal
 
@@ -15,10 +15,9 @@ hear_wire-record-requires-clause-comes g c = is_at g.C.Clock.last_step g.C.Clock
 
 pub give_in_turn-turn-requires-clause-front : goal.give_in_turn-turn-requires-clause-front
 give_in_turn-turn-requires-clause-front g c =
-    subst (λ (l : List Settled). IsPutAt c.hear_wire-record.result l (c.hear_wire-record.result ∷ l) 0)
+    subst (λ l. IsPutAt c.hear_wire-record.result l (c.hear_wire-record.result ∷ l) 0)
     (sym (ap (λ (t : State _ _). t.settled.items) c.hear_wire-record.ensures.same))
-    (none_ahead g.C.Clock.last_step g.C.Clock.reading g.M.Machine.stands c.args.network.now c.args.self.now (Arrival c.args.place)
-    c.hear_wire-record.result c.requires.may tt
+    (none_ahead c.hear_wire-record.result c.requires.may tt
     (c.hear_wire-record.ensures.own (omega (arith, c.rank_of.ensures, c.number.ensures, c.if-rank_of-number.true))))
 
 pub give_in_turn-turn-requires-clause-running : goal.give_in_turn-turn-requires-clause-running
@@ -27,8 +26,7 @@ give_in_turn-turn-requires-clause-running g c =
     runs_first g.C.Clock.last_step g.C.Clock.reading g.M.Machine.stands c.args.network.now c.args.self.now c.hear_wire-record.new.self (Arrival c.args.place)
     one c.requires.may tt (ap (λ (t : State _ _). t.settled.items) c.hear_wire-record.ensures.same)
     (c.hear_wire-record.ensures.stands (one ∷ c.args.self.now.settled.items) 0
-    (none_ahead g.C.Clock.last_step g.C.Clock.reading g.M.Machine.stands c.args.network.now c.args.self.now (Arrival c.args.place)
-    c.hear_wire-record.result c.requires.may tt
+    (none_ahead c.hear_wire-record.result c.requires.may tt
     (c.hear_wire-record.ensures.own (omega (arith, c.rank_of.ensures, c.number.ensures, c.if-rank_of-number.true)))))
 
 arriving : (g : given.Over) (c : After-give_in_turn-turn g) → rank c.hear_wire-record.result.body ≡ 2
@@ -44,10 +42,10 @@ given_so g c =
     stands_first g.C.Clock.last_step g.C.Clock.reading g.M.Machine.stands c.args.network.now c.args.self.now c.hear_wire-record.new.self (Arrival c.args.place)
     one c.requires.may tt (ap (λ (t : State _ _). t.settled.items) hear.same)
     (hear.stands (one ∷ c.args.self.now.settled.items) 0
-    (none_ahead g.C.Clock.last_step g.C.Clock.reading g.M.Machine.stands c.args.network.now c.args.self.now (Arrival c.args.place) one c.requires.may tt
+    (none_ahead one c.requires.may tt
     (hear.own (arriving g c))))
     c.give_in_turn-turn.new.self _
-    (ap (λ (t : ℕ). place_of (settled_at c.args.network.now t one)) hear.others.time ∙ hear.own (arriving g c))
+    (ap (λ t. place_of (settled_at c.args.network.now t one)) hear.others.time ∙ hear.own (arriving g c))
     c.give_in_turn-turn.ensures.stands
 
 pub rekey_from-requires : goal.rekey_from-requires
@@ -82,8 +80,8 @@ returns-then-rank_of-number-clause-kept g c =
     let may = c.requires.may in
     let hear = c.hear_wire-record.ensures in
     let give = c.give_in_turn-turn.ensures in
-    let changes : ChangesOnly device.0 c.args.self.now gave = changes_both device.0 c.args.self.now mid gave hear.others
-    (subst (λ (d : ℕ). ChangesOnly d mid gave) (hear.device (arriving g (goal.at.returns-then-rank_of-number-clause-kept g c).After-give_in_turn-turn))
+    let changes : ChangesOnly device.0 c.args.self.now gave = changes_both hear.others
+    (subst (λ d. ChangesOnly d mid gave) (hear.device (arriving g (goal.at.returns-then-rank_of-number-clause-kept g c).After-give_in_turn-turn))
     give.others) in
     let time = changes.time in
     kept_timers g.C.Clock.last_step g.C.Clock.reading g.M.Machine.stands c.args.network.now c.args.self.now gave c.rekey_from.new.self _ may.well.running
@@ -113,7 +111,7 @@ still g c s notes old =
     let put = c.put_in.ensures.is in
     let hear = c.hear_wire-record.ensures in
     (hear.stands c.put_in.new.settled.items put.0
-    (subst (λ (l : List Settled). IsPutAt c.hear_wire-record.result l c.put_in.new.settled.items put.0) (ap (λ (t : State _ _). t.settled.items) hear.same)
+    (subst (λ l. IsPutAt c.hear_wire-record.result l c.put_in.new.settled.items put.0) (ap (λ (t : State _ _). t.settled.items) hear.same)
     put.1)
     s notes old (comes_first g.C.Clock.last_step g.C.Clock.reading g.M.Machine.stands c.args.network.now c.args.self.now (Arrival c.args.place) s notes
     c.requires.may tt old)).0

@@ -16,7 +16,7 @@ timers_are g c =
     c.set.ensures
     ∙ ap (λ (r : ℕ). slice_set w.timers (length c.as_slice-devices.result.now + c.args.device) (let t : Timer = record { time = w.time; rank = r } in t))
     (c.number.ensures ∙ c.rank.ensures)
-    ∙ ap (λ (n : ℕ). slice_set w.timers (n + c.args.device) (timer g c)) (ap length c.as_slice-devices.ensures)
+    ∙ ap (λ n. slice_set w.timers (n + c.args.device) (timer g c)) (ap length c.as_slice-devices.ensures)
 
 set_at : (g : Over) (c : After-set g) → slice_get c.set.new.self (length c.args.network.now.device + c.args.device) ≡ Some (timer g c)
 set_at g c =
@@ -39,10 +39,10 @@ returns-clause-timed g c =
     let own = old.clocks device of_it in
     let has = old.devices device of_it in
     let first : (node : _) → keeps S has.0 network device node → IsFirstPart network device node (pos (K.reading own.0 w.time)) c.args.part = λ node kept.
-    subst (λ (n : ℕ). IsFirstPart network device node (pos n) c.args.part) (own.2 w.time (omega arith))
-    (subst (λ (k : Network). IsFirstPart k device node (pos (s.reading device w.time)) c.args.part) (sym old.same)
-    (c.requires.first s has.0 node (shows_of K.reading (keeps S) s network w c.requires.may.running.notes old) has.1
-    (subst (λ (k : Network). keeps S has.0 k device node) old.same kept))) in
+    subst (λ n. IsFirstPart network device node (pos n) c.args.part) (own.2 w.time (omega arith))
+    (subst (λ k. IsFirstPart k device node (pos (s.reading device w.time)) c.args.part) (sym old.same)
+    (c.requires.first s has.0 node (shows_of network w old) has.1
+    (subst (λ k. keeps S has.0 k device node) old.same kept))) in
     record {
       clock = own.0;
       of_clock = own.1;

@@ -39,7 +39,7 @@ returns-clause-is g c = λ s of.
     let clock = of.clocks device there in
     let own = c.reading_of-reading.ensures in
     let read = own.2 ∙ ap (λ k. g.C.Clock.reading k w.time) (some_same _ _ _ own.1 clock.1) ∙ sym (clock.2 w.time (omega arith)) in
-    let way = subst (λ (n : Network). slice_get (if is_parent_of n device link then w.downs.items else w.ups.items) link.0 ≡ Some c.way_from-way.result)
+    let way = subst (λ n. slice_get (if is_parent_of n device link then w.downs.items else w.ups.items) link.0 ≡ Some c.way_from-way.result)
     of.same c.way_from-way.ensures in
     let cut = ap (λ (k : WayNow). k.cut) (way_by s w.time w.ups.items w.downs.items link c.way_from-way.result (is_parent_of s.network device link) of.ways
     here way) in

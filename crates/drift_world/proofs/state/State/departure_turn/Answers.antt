@@ -1,7 +1,7 @@
 use Rattle.drift_world.{proofs.Fits.{all_put, have_octets, sound_same}, specs.declared.{source.Source.TheVariants.Departure, state.State.State}}
 use Rattle.drift_world.proofs.{OwnPlaces.{changes_both, none_ahead, runs_first, stands_first}, Turning.{comes_first, kept_timers, plain_step, step_kept}}
-use Rattle.drift_world.proofs.{Timings.aside, Words.ℕ}
-use Rattle.drift_world.proofs.Words.{◌∙◌, ◌∷◌, ◌≡◌, ChangesOnly, IsPutAt, List, Settled, ap, arith, changed_device, place_of, rank, refl, settled_at, subst}
+use Rattle.drift_world.proofs.{Timings.aside}
+use Rattle.drift_world.proofs.Words.{◌∙◌, ◌∷◌, ◌≡◌, ChangesOnly, IsPutAt, ap, arith, changed_device, place_of, rank, refl, settled_at, subst}
 use Rattle.drift_world.proofs.Words.{sym}
 use Rattle.drift_world.proofs.state.State.departure_turn.Goals as goal
 
@@ -19,10 +19,9 @@ returns-in_default-clause-kept g c =
 
 pub give_in_turn-requires-clause-front : goal.give_in_turn-requires-clause-front
 give_in_turn-requires-clause-front g c =
-    subst (λ (l : List Settled). IsPutAt c.in-Some.record l (c.in-Some.record ∷ l) 0)
+    subst (λ l. IsPutAt c.in-Some.record l (c.in-Some.record ∷ l) 0)
     (sym (ap (λ (t : State _ _). t.settled.items) c.in-Some.ensures.same))
-    (none_ahead g.C.Clock.last_step g.C.Clock.reading g.M.Machine.stands c.args.network.now
-    c.args.self.now (Departure c.args.place) c.in-Some.record c.requires.may tt
+    (none_ahead c.in-Some.record c.requires.may tt
     (c.in-Some.ensures.own (omega (arith, c.rank_of.ensures, c.number.ensures, c.if-rank_of-number.true))))
 
 pub give_in_turn-requires-clause-running : goal.give_in_turn-requires-clause-running
@@ -31,8 +30,7 @@ give_in_turn-requires-clause-running g c =
     c.in-Some.record c.requires.may tt (ap (λ (t : State _ _). t.settled.items) c.in-Some.ensures.same)
     (c.in-Some.ensures.stands (c.in-Some.record ∷ c.args.self.now.settled.items) (
       0,
-      none_ahead g.C.Clock.last_step g.C.Clock.reading g.M.Machine.stands
-          c.args.network.now c.args.self.now (Departure c.args.place) c.in-Some.record c.requires.may tt
+      none_ahead c.in-Some.record c.requires.may tt
           (c.in-Some.ensures.own (omega (arith, c.rank_of.ensures, c.number.ensures, c.if-rank_of-number.true))),
     ))
 
@@ -51,7 +49,7 @@ returns-then-rank_of-number-clause-kept g c =
     let eight : rank one.body ≡ 8 = omega (arith, is, leaving, test) in
     let far = left.none in
     let few = may.range.few_devices in
-    let changes : ChangesOnly other c.args.self.now gave = changes_both other c.args.self.now mid gave (left.others other) give.others in
+    let changes : ChangesOnly other c.args.self.now gave = changes_both (left.others other) give.others in
     let time = changes.time in
     kept_timers g.C.Clock.last_step g.C.Clock.reading g.M.Machine.stands c.args.network.now c.args.self.now gave gave _ may.well.running give.sound
     (record { clocks = changes.clocks; ended = changes.ended; later = omega (arith, time) })
@@ -59,10 +57,9 @@ returns-then-rank_of-number-clause-kept g c =
     (ap (λ (t : State _ _). t.settled.items) left.same)
     (left.stands (one ∷ c.args.self.now.settled.items) (
       0,
-      none_ahead g.C.Clock.last_step g.C.Clock.reading g.M.Machine.stands c.args.network.now c.args.self.now (Departure c.args.place) one may tt
-          (left.own eight),
+      none_ahead one may tt (left.own eight),
     )) gave _
-    (ap (λ (t : ℕ). place_of (settled_at c.args.network.now t one)) (left.others 0).time ∙ left.own eight) give.stands)
+    (ap (λ t. place_of (settled_at c.args.network.now t one)) (left.others 0).time ∙ left.own eight) give.stands)
     refl
     (aside g.C.Clock.reading g.M.Machine.stands c.args.network.now other c.args.self.now gave may.well.timed (omega (arith, far, few)) changes
     (ap (λ (t : State _ _). t.timers) give.same ∙ ap (λ (t : State _ _). t.timers) left.same))
@@ -74,7 +71,7 @@ returns-clause-kept g c =
     let one = c.in-Some.record in
     let put = c.put_in.ensures.is in
     let after : State _ _ = record mid { settled = c.put_in.new.settled } in
-    let own = subst (λ (l : List Settled). IsPutAt one l c.put_in.new.settled.items put.0) (ap (λ (t : State _ _). t.settled.items) left.same) put.1 in
+    let own = subst (λ l. IsPutAt one l c.put_in.new.settled.items put.0) (ap (λ (t : State _ _). t.settled.items) left.same) put.1 in
     step_kept g.C.Clock.last_step g.C.Clock.reading g.M.Machine.stands c.args.network.now c.args.self.now after
     (plain_step g.C.Clock.last_step g.C.Clock.reading g.M.Machine.stands c.args.network.now c.args.self.now after c.requires.may.well
     (sound_same g.C.Clock.last_step c.args.network.now mid after left.sound refl refl refl refl refl refl refl refl refl refl

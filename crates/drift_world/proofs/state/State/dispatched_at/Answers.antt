@@ -1,12 +1,12 @@
 use Rattle.{drift_world.proofs.Showings.way_by, std.specs.List.slice_get}
-use Rattle.drift_world.proofs.Words.{◌<◌, ◌∙◌, ◌≡◌, Bool, Network, None, Some, WayNow, ap, if◌then◌else◌, is_parent_of, length, slice_get_within, subst}
-use Rattle.{schedule_tables.{proofs.EntryLemmas.one_entry, specs.declared.entry.Entry.Entry}, world_state.specs.Acting.{IsDispatched, dispatched_by}}
+use Rattle.drift_world.proofs.Words.{◌<◌, ◌∙◌, ◌≡◌, Network, None, Some, WayNow, ap, if◌then◌else◌, is_parent_of, length, slice_get_within, subst}
+use Rattle.{schedule_tables.proofs.EntryLemmas.one_entry, world_state.specs.Acting.{IsDispatched, dispatched_by}}
 use Rattle.drift_world.proofs.state.State.dispatched_at.Goals as goal
 
 pub returns-in_err-hand : goal.returns-in_err-hand
 returns-in_err-hand g c = λ s entry of is.
     let w = c.args.self.now in
-    subst (λ (e : Entry). IsDispatched s w.stored.items w.time c.args.device e c.args.cycle c.from_residual.result)
+    subst (λ e. IsDispatched s w.stored.items w.time c.args.device e c.args.cycle c.from_residual.result)
     (one_entry c.args.network.now c.args.row.0 c.entry_of-entry.result entry c.entry_of-entry.ensures.is is)
     (record { hand = None; of_hand = c.in_err-hand.ensures; is = c.from_residual.ensures })
 
@@ -19,14 +19,14 @@ returns g c = λ s entry of is.
     let link = found.row.link in
     let here : link.0 < length s.network.link = subst (λ (n : Network). link.0 < length n.link) of.same
     (slice_get_within network.link link.0 found.link c.entry_of-entry.ensures.is.link) in
-    let way = subst (λ (n : Network). slice_get (if is_parent_of n device link then w.downs.items else w.ups.items) link.0 ≡ Some c.way_from-way.result)
+    let way = subst (λ n. slice_get (if is_parent_of n device link then w.downs.items else w.ups.items) link.0 ≡ Some c.way_from-way.result)
     of.same c.way_from-way.ensures in
     let cut = ap (λ (k : WayNow). k.cut) (way_by s w.time w.ups.items w.downs.items link c.way_from-way.result (is_parent_of s.network device link) of.ways
     here way) in
-    subst (λ (e : Entry). IsDispatched s w.stored.items w.time device e c.args.cycle (Some c.dispatched.result))
+    subst (λ e. IsDispatched s w.stored.items w.time device e c.args.cycle (Some c.dispatched.result))
     (one_entry network c.args.row.0 found entry c.entry_of-entry.ensures.is is)
     (record {
       hand = Some c.in_ok-hand.hand;
       of_hand = c.in_ok-hand.ensures;
-      is = ap Some (c.dispatched.ensures ∙ ap (λ (b : Bool). dispatched_by b device found c.args.cycle c.in_ok-hand.hand) cut);
+      is = ap Some (c.dispatched.ensures ∙ ap (λ b. dispatched_by b device found c.args.cycle c.in_ok-hand.hand) cut);
     })

@@ -107,4 +107,4 @@ returns-clause-others g c =
       settled = c.pop_front.new.self;
     } in
     subst (λ (n : Note). ChangesOnly (changed_device n.body) w c.give_first.new.self) (sym c.give_first.ensures.note)
-    (changes_since (changed_device first.body) w popped c.give_first.new.self refl refl refl refl c.make_room.ensures.waiting c.give_first.ensures.others)
+    (changes_since w refl refl refl refl c.make_room.ensures.waiting c.give_first.ensures.others)

@@ -1,4 +1,4 @@
-use Rattle.drift_world.proofs.{Fits.sized_so, Givings.given_on, Words.{world_of, ℕ}, state.State.give_first.Goals.After-launch_octets}
+use Rattle.drift_world.proofs.{Fits.sized_so, Givings.given_on, Words.world_of, state.State.give_first.Goals.After-launch_octets}
 use Rattle.drift_world.proofs.Gave.{from_ports, from_wire, waits_apart, waits_below, waits_elsewhere, waits_more, wire_is, wire_sound}
 use Rattle.drift_world.proofs.Words.{◌++◌, ◌+◌, ◌∙◌, ◌∷◌, ◌≡◌, ChangesOnly, IfSome, IsGivenOut, IsPutOn, IsSound, IsStoredBy}
 use Rattle.drift_world.proofs.Words.{Note, StandsBehind, Units, [], ap, arith, behind, changed_device, inl, inr, keeps, length}
@@ -39,10 +39,10 @@ returns-clause-sound g c =
     subst (λ (q : State _ _). IsPutOn (wire_entry network q.ups.items q.downs.items first.body first.frame first.octets q.time number)
     two.under_way.entries three.under_way.entries) c.launch_frame.ensures.same c.launch_octets.ensures.sent in
     let on = wire_is network w.ups.items w.downs.items c.requires.range number first.body first.frame first.octets w.time in
-    let ports = from_ports g.C.Clock.reading network w two first.body first.frame number giving out in
+    let ports = from_ports giving out in
     let wires = from_wire network number two.under_way.entries three.under_way.entries wire on sent in
     let mid = c.launch_frame.ensures.sound fit.below c.requires.sound.under_way in
-    let more = waits_more g.C.Clock.reading network w two first.body first.frame number giving out in
+    let more = waits_more giving out in
     let last = gave_all g (goal.at.returns-clause-sound g c).After-launch_octets in
     let whole : IsSound g.C.Clock.last_step network (record w {
       under_way = three.under_way;
@@ -83,22 +83,22 @@ returns-clause-stands g c = λ s notes old none.
     let z = settled_at network w.time first in
     let two = c.launch_frame.new.self in
     let three = c.launch_octets.new.self in
-    let number : w.given + 1 ≡ length notes + 1 = ap (λ (n : ℕ). n + 1) old.given in
+    let number : w.given + 1 ≡ length notes + 1 = ap (λ n. n + 1) old.given in
     let given = c.launch_frame.ensures.given in
-    let out = subst (λ (k : ℕ). IsGivenOut K.reading network w two first.body first.frame k given.0) number given.1 in
-    let sent = subst (λ (k : ℕ). IsPutOn (wire_entry network w.ups.items w.downs.items first.body first.frame first.octets w.time k)
+    let out = subst (λ k. IsGivenOut K.reading network w two first.body first.frame k given.0) number given.1 in
+    let sent = subst (λ k. IsPutOn (wire_entry network w.ups.items w.downs.items first.body first.frame first.octets w.time k)
     two.under_way.entries three.under_way.entries) number
     (subst (λ (q : State _ _). IsPutOn (wire_entry network q.ups.items q.downs.items first.body first.frame first.octets q.time (w.given + 1))
     two.under_way.entries three.under_way.entries) c.launch_frame.ensures.same c.launch_octets.ensures.sent) in
     let held : IsStoredBy first.body first.octets (length notes + 1) w.stored.items three.stored.items =
-    subst (λ (k : ℕ). IsStoredBy first.body first.octets k w.stored.items three.stored.items) number
+    subst (λ k. IsStoredBy first.body first.octets k w.stored.items three.stored.items) number
     (subst (λ (q : State _ _). IsStoredBy first.body first.octets (w.given + 1) q.stored.items three.stored.items) c.launch_frame.ensures.same
     c.launch_octets.ensures.stored) in
     let step = given_on K.reading stands s network (sym old.same) w two notes first w.settled.items given.0 three.under_way.entries three.stored.items old
     none
     c.requires.may out sent held in
     let last = gave_all g (goal.at.returns-clause-stands g c).After-launch_octets in
-    subst (λ (q : State _ _). StandsBehind K.reading stands s (world_of network q) (notes ++ note_of notes z ∷ []) (behind (place_of z))) (sym last)
+    subst (λ q. StandsBehind K.reading stands s (world_of network q) (notes ++ note_of notes z ∷ []) (behind (place_of z))) (sym last)
     step
 
 pub returns-clause-others : goal.returns-clause-others
@@ -108,8 +108,7 @@ returns-clause-others g c =
     let number = w.given + 1 in
     let two = c.launch_frame.new.self in
     let three = c.launch_octets.new.self in
-    let more = waits_more g.C.Clock.reading c.args.network.now w two first.body first.frame number c.launch_frame.ensures.given.0
-    c.launch_frame.ensures.given.1 in
+    let more = waits_more c.launch_frame.ensures.given.0 c.launch_frame.ensures.given.1 in
     let last = gave_all g (goal.at.returns-clause-others g c).After-launch_octets in
     let whole : ChangesOnly (changed_device first.body) w (record w {
       under_way = three.under_way;

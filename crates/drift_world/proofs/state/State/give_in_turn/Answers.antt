@@ -1,6 +1,6 @@
 use Rattle.drift_world.proofs.{Fits.{all_put, have_octets, sound_same}, Gave.{changes_since, unchanged}, OwnPlaces.{first_world, put_first, settled_first}}
 use Rattle.drift_world.{proofs.{MayGive.{low_now, may_be_given}, Words.ℕ}, specs.declared.state.State.State}
-use Rattle.drift_world.proofs.Words.{◌++◌, ◌+◌, ◌∙◌, ◌∷◌, ◌≡◌, List, NoSourceBefore, Note, Stands, StandsBehind, World, [], ap, append-nil, behind}
+use Rattle.drift_world.proofs.Words.{◌++◌, ◌+◌, ◌∙◌, ◌∷◌, ◌≡◌, NoSourceBefore, Note, Stands, StandsBehind, World, [], ap, append-nil, behind}
 use Rattle.drift_world.proofs.Words.{changed_device, happenings, keeps, length, map, note_of, place_of, refl, settled_at, subst, sym, units_of, with_first}
 use Rattle.drift_world.proofs.Words.{world_of}
 use Rattle.drift_world.proofs.state.State.give_in_turn.Goals as goal
@@ -24,10 +24,10 @@ returns-in-Err-clause-stands g c = λ s notes old none.
       stored = c.make_room.new.stored;
       settled = c.put_in.new.settled;
     } in
-    subst (λ (l : List Note). Stands g.C.Clock.reading (keeps g.M.Machine.stands) s (world_of network new) l) (sym (append-nil notes))
-    (subst (λ (v : World _ _). Stands g.C.Clock.reading (keeps g.M.Machine.stands) s v notes)
+    subst (λ l. Stands g.C.Clock.reading (keeps g.M.Machine.stands) s (world_of network new) l) (sym (append-nil notes))
+    (subst (λ v. Stands g.C.Clock.reading (keeps g.M.Machine.stands) s v notes)
     (sym (settled_first network w new c.args.first room.entries room.waiting room.stored
-    (put_first c.args.first _ _ put.0 c.requires.front put.1) refl))
+    (put_first _ put.0 c.requires.front put.1) refl))
     old)
 
 pub returns-in-Err-clause-others : goal.returns-in-Err-clause-others
@@ -88,4 +88,4 @@ returns-clause-others g c =
       waiting = c.make_room.new.waiting;
       stored = c.make_room.new.stored;
     } in
-    changes_since (changed_device c.args.first.body) w mid c.give_first.new.self refl refl refl refl c.make_room.ensures.waiting c.give_first.ensures.others
+    changes_since w refl refl refl refl c.make_room.ensures.waiting c.give_first.ensures.others

@@ -1,5 +1,5 @@
 use Rattle.drift_world.{proofs.{Turning.{gives_first, kept_timers, plain_step, step_kept}, state.State.give_next.Goals.In-Ok}, specs.declared.state.State.State}
-use Rattle.drift_world.proofs.Words.{◌++◌, ◌∙◌, ◌∷◌, ◌≡◌, ChangesOnly, List, Note, NoteBody, Scenario, Stands, World, [], ap, arith}
+use Rattle.drift_world.proofs.Words.{◌++◌, ◌∙◌, ◌∷◌, ◌≡◌, ChangesOnly, List, Note, Scenario, Stands, World, [], ap, arith}
 use Rattle.drift_world.proofs.Words.{changed_device, keeps, note_of, settled_at, subst, sym, units_of, world_of}
 use Rattle.drift_world.proofs.state.State.give_next.Given as given
 use Rattle.drift_world.proofs.state.State.give_next.Goals as goal
@@ -34,7 +34,7 @@ returns-in-Ok-clause-kept g c =
     (record { clocks = ap (λ (t : State _ _). t.clocks) E.same; ended = ap (λ (t : State _ _). t.ended) E.same; later = omega (arith, time) })
     (λ s notes old. (given_so g (goal.at.returns-in-Ok-clause-kept g c).In-Ok s notes old).1) c.rekey_after.ensures.same
     (c.rekey_after.ensures.timed c.args.self.now well.timed
-    (subst (λ (b : NoteBody). ChangesOnly (changed_device b) c.args.self.now mid) (sym c.body.ensures) E.others)
+    (subst (λ b. ChangesOnly (changed_device b) c.args.self.now mid) (sym c.body.ensures) E.others)
     (ap (λ (t : State _ _). t.machines) E.same) (ap (λ (t : State _ _). t.timers) E.same))
 
 pub returns-in-Ok-clause-says : goal.returns-in-Ok-clause-says
@@ -55,7 +55,7 @@ returns-in-Err-clause-kept g c =
     (plain_step g.C.Clock.last_step g.C.Clock.reading g.M.Machine.stands c.args.network.now c.args.self.now c.give.new.self c.requires.well E.sound E.unmoved
     (ap (λ (t : State _ _). t.timers) E.same)
     (ap (λ (v : World _ _). v.given) E.err)
-    (λ s notes old. subst (λ (v : World _ _). Stands g.C.Clock.reading (keeps g.M.Machine.stands) s v notes) (sym E.err) old))
+    (λ s notes old. subst (λ v. Stands g.C.Clock.reading (keeps g.M.Machine.stands) s v notes) (sym E.err) old))
 
 pub returns-in-Err-clause-err : goal.returns-in-Err-clause-err
 returns-in-Err-clause-err g c = ap (λ (t : State _ _). t.time) c.in-Err.ensures.same

@@ -110,7 +110,7 @@ returns-clause-stands g c = λ settled index put s notes old first.
       there = set_same w.machines.items device.0 heard.new.kept (omega (arith, machines, within, kept));
       same = λ i apart. set_aside w.machines.items device.0 i heard.new.kept apart;
     })
-    (subst (λ (z : Settled). IsPutAt z w.settled.items settled index) c.arrived.ensures put)
+    (subst (λ z. IsPutAt z w.settled.items settled index) c.arrived.ensures put)
 
 pub returns-clause-others : goal.returns-clause-others
 returns-clause-others g c = record {

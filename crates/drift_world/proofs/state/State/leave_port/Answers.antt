@@ -2,7 +2,7 @@ use Rattle.{drift_world.proofs.{Alike.with_wires, OwnPlaces.left_own, Showings.s
 use Rattle.{drift_world.proofs.Fits.{below_without, sized_so}, world_law.{proofs.steps_lemmas.steps.LeftSteps.left_step, specs.steps.Steps.departure_now}}
 use Rattle.drift_world.proofs.{Rising.settled_in_order, Words.{length_permutation, map, numbers_of, on_wire, refl, settled_at, subst, sym, world_of, ℕ}}
 use Rattle.{drift_world.proofs.Puts.{departed_is, frame_of_port, some_put_in}, world_state.proofs.UnderWays.{ports_without, sound_without, wires_stay}}
-use Rattle.drift_world.proofs.Words.{◌+◌, ◌∷◌, ◌≡◌, ComesFirst, Content, IsPermutation-sym, IsSomePut, List, Option, Port, Settled, StandsBehind, World, [], ap}
+use Rattle.drift_world.proofs.Words.{◌+◌, ◌∷◌, ◌≡◌, ComesFirst, Content, IsPermutation-sym, IsSomePut, Port, StandsBehind, World, [], ap}
 use Rattle.drift_world.proofs.Words.{arith, at_port, behind, departure_body, false, happenings, in_permuted, inl, is_broken, is_given, keeps}
 use Rattle.std.specs.List.{filter_map}
 use Rattle.drift_world.proofs.state.State.leave_port.Goals as goal
@@ -42,9 +42,9 @@ returns-clause-stands g c = λ settled was s notes old first.
     let numbers : numbers_of place ≡ place.at ∷ 8 ∷ place.device ∷ place.link ∷ place.cause ∷ [] = ap
     (λ (r : ℕ). place.at ∷ r ∷ place.device ∷ place.link ∷ place.cause ∷ []) c.requires.port in
     let there = is_given at_port w.under_way.entries taken e (in_permuted _ _ taken (IsPermutation-sym _ _ took.ensures) (inl refl)) refl in
-    let given = frame_of_port s hs e (old.ports.real e there).0 in
-    let of = shows_of K.reading stands s network w notes old in
-    let put = subst (λ (o : Option Settled). IsSomePut o w.settled.items settled)
+    let given = frame_of_port (old.ports.real e there).0 in
+    let of = shows_of network w old in
+    let put = subst (λ o. IsSomePut o w.settled.items settled)
     (c.departure.ensures.is s (record { same = of.same; clocks = of.clocks; broken = of.broken; ways = of.ways })) was in
     let step = left_step K.reading stands s world notes e (filter_map at_port took.new.under_way.entries)
     (map (settled_at network w.time) settled) old there now_is
@@ -52,7 +52,7 @@ returns-clause-stands g c = λ settled was s notes old first.
     (ports_without network w.under_way.entries took.new.under_way.entries taken c.requires.sound.under_way took.ensures e refl)
     (some_put_in s.network network w.time hs (departure_body e (departure_now s e w.time)) _ w.settled.items settled
     (is_broken s e.device w.time) put
-    (settled_in_order K.reading stands s world notes old) (departed_is s.network network w.time hs e (departure_now s e w.time) given)) in
+    (settled_in_order old) (departed_is s.network network w.time hs e (departure_now s e w.time) given)) in
     let after : World _ _ = record world {
       ports = filter_map at_port took.new.under_way.entries;
       early = false;
@@ -60,7 +60,7 @@ returns-clause-stands g c = λ settled was s notes old first.
     } in
     with_wires K.reading stands s after notes (filter_map (on_wire network) took.new.under_way.entries) (behind (numbers_of place))
     (wires_stay network w.under_way.entries took.new.under_way.entries taken c.requires.sound.under_way took.ensures refl)
-    (subst (λ (p : List ℕ). StandsBehind K.reading stands s after notes (behind p)) (sym numbers) step)
+    (subst (λ p. StandsBehind K.reading stands s after notes (behind p)) (sym numbers) step)
 
 pub returns-clause-shorter : goal.returns-clause-shorter
 returns-clause-shorter g c = let same = length_permutation _ _ c.take_port-frame.ensures in omega (arith, same)

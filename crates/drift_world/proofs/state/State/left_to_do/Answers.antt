@@ -24,12 +24,12 @@ read g c s of = ap (λ (m : Moment). m.reading.0) (c.requires.moment s of)
 pub returns-then-is_reached : goal.returns-then-is_reached
 returns-then-is_reached g c = λ s machine node of there is.
     let here = (goal.at.returns-then-is_reached g c).After-is_reached in
-    let kept = subst (λ (m : Kept _). keeps g.M.Machine.stands m s.network c.args.device node) (sym (held g here machine there)) is in
+    let kept = subst (λ m. keeps g.M.Machine.stands m s.network c.args.device node) (sym (held g here machine there)) is in
     let due = some_due s.network c.args.device node c.due-due.result c.args.moment.reading.0 (c.due-due.ensures s.network c.args.device node kept)
     (c.is_reached.ensures.reached c.if-is_reached.true) in
     record {
       kind = c.first_kind.result;
-      is = subst (λ (z : ℤ). IsFirstKind s.network c.args.device node z c.first_kind.result) (read g here s of)
+      is = subst (λ z. IsFirstKind s.network c.args.device node z c.first_kind.result) (read g here s of)
           (c.first_kind.ensures s.network c.args.device node kept due);
       of_part = sym c.of.ensures;
     }
@@ -38,10 +38,10 @@ pub returns-else-is_reached : goal.returns-else-is_reached
 returns-else-is_reached g c =
     let here = (goal.at.returns-else-is_reached g c).After-is_reached in (
       λ machine network d node at is.
-          c.due-due.ensures network d node (subst (λ (m : Kept _). keeps g.M.Machine.stands m network d node) (sym (held g here machine at)) is),
+          c.due-due.ensures network d node (subst (λ m. keeps g.M.Machine.stands m network d node) (sym (held g here machine at)) is),
       λ s machine of there node task is pending.
-          let kept = subst (λ (m : Kept _). keeps g.M.Machine.stands m s.network c.args.device node) (sym (held g here machine there)) is in
-          subst (λ (z : ℤ). z <ℤ reading_for s.network node task) (read g here s of)
+          let kept = subst (λ m. keeps g.M.Machine.stands m s.network c.args.device node) (sym (held g here machine there)) is in
+          subst (λ z. z <ℤ reading_for s.network node task) (read g here s of)
           (none_due s.network c.args.device node c.due-due.result c.args.moment.reading.0 (c.due-due.ensures s.network c.args.device node kept)
           (c.is_reached.ensures.later c.if-is_reached.false) task pending),
     )

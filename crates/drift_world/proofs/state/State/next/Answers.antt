@@ -1,6 +1,6 @@
 use Rattle.drift_world.{proofs.Turning.{after_then, kept_then}, specs.Turns.{IsKept, TurnsTo, given_in}}
 use Rattle.drift_world.proofs.Words.{◌+◌, ◌∙◌, List, Note, Ok, OutOfMemory, Stands, Turn, Units, ap, append-nil, arith, ints, keeps, refl, subst, sym, world_of}
-use Rattle.drift_world.{proofs.{Words.ℕ, state.State.next.Goals.{After-turn, In-Ok-Ends, In-Ok-GoesOn}}, specs.declared.next.Turn.TheVariants.{Ends, GoesOn}}
+use Rattle.drift_world.{proofs.state.State.next.Goals.{After-turn, In-Ok-Ends, In-Ok-GoesOn}, specs.declared.next.Turn.TheVariants.{Ends, GoesOn}}
 use Rattle.drift_world.proofs.state.State.next.Given as given
 use Rattle.drift_world.proofs.state.State.next.Goals as goal
 
@@ -46,7 +46,7 @@ returns-in-Ok-Gives-clause-given g c = λ some.
     c.in-Ok-Gives.field-0-is c.in-Ok-Gives.ensures.turns).says in
     let time = ap (λ (u : Units). u.0) says.0 in
     let early = says.1 in
-    (says.0, omega (arith, ints, time, early), says.2 ∙ ap (λ (n : ℕ). n + 1) c.turns.invariant.given)
+    (says.0, omega (arith, ints, time, early), says.2 ∙ ap (λ n. n + 1) c.turns.invariant.given)
 
 pub returns-in-Ok-Ends-clause-kept : goal.returns-in-Ok-Ends-clause-kept
 returns-in-Ok-Ends-clause-kept g c =
@@ -87,7 +87,7 @@ turns-preserved g c =
     (given_in {E = OutOfMemory} (Ok t) c.turn.new.note)) c.in-Ok-GoesOn.field-0-is c.in-Ok-GoesOn.ensures.kept in
     record {
       well = kept.well;
-      after = after_then c.args.self.now c.turns.self c.turn.new.self before.after kept.after;
+      after = after_then before.after kept.after;
       still = λ s notes is.
           subst (Stands g.C.Clock.reading (keeps g.M.Machine.stands) s (world_of c.args.network.now c.turn.new.self)) (append-nil notes)
           (kept.stands_then s notes (before.still s notes is));

@@ -1,6 +1,6 @@
 use Rattle.{device_rules.specs.FirstKinds.{kind_of}, run_law.specs.machines.Calls.HasDue, world_law.proofs.giving.GivenParts.some_same}
 use Rattle.drift_world.{proofs.Parts.{none_sooner, part_least}, specs.Parts.{IsNoSooner, part_of}}
-use Rattle.drift_world.proofs.Words.{◌∙◌, ◌≡◌, ◌≤ℤ◌, Kept, Units, amount, ap, arith, keeps, pos, reading_for, slice_get_read, subst, sym, ℤ}
+use Rattle.drift_world.proofs.Words.{◌∙◌, ◌≡◌, ◌≤ℤ◌, amount, ap, arith, keeps, pos, reading_for, slice_get_read, subst, sym, ℤ}
 use Rattle.drift_world.proofs.state.State.part_at.Goals as goal
 
 pub returns-then-time-self : goal.returns-then-time-self
@@ -21,14 +21,14 @@ returns g c = λ clock machine network d node own at kept task pending reached.
     (slice_get_read w.machines.items w.machines.len c.args.device c.index-2.result.now w.machines.ok.0 (omega (arith, machines, there, kept_ok))
     c.index-2.ensures) at in
     let reads : c.read-reading.result.0 ≡ pos (K.reading clock c.args.time) = c.read-reading.ensures
-    ∙ ap (λ (t : Units). pos (K.reading c.index.result.now (amount t))) c.from_amount.ensures.value
+    ∙ ap (λ t. pos (K.reading c.index.result.now (amount t))) c.from_amount.ensures.value
     ∙ ap (λ (k : _). pos (K.reading k c.args.time)) clock_is in
-    let due : HasDue network d node c.read-reading.result.0 = (task, pending, subst (λ (z : ℤ). reading_for network node task ≤ℤ z) (sym reads) reached) in
-    subst (λ (z : ℤ). IsNoSooner network d node z c.of.result) reads
+    let due : HasDue network d node c.read-reading.result.0 = (task, pending, subst (λ z. reading_for network node task ≤ℤ z) (sym reads) reached) in
+    subst (λ z. IsNoSooner network d node z c.of.result) reads
     (none_sooner network d node c.read-reading.result.0 c.of.result
     (record {
       kind = c.first_kind.result;
-      is = c.first_kind.ensures network d node (subst (λ (m : Kept _). keeps g.M.Machine.stands m network d node) (sym machine_is) kept) due;
+      is = c.first_kind.ensures network d node (subst (λ m. keeps g.M.Machine.stands m network d node) (sym machine_is) kept) due;
       of_part = sym c.of.ensures;
     }))
     task pending reached

@@ -3,8 +3,7 @@ use Rattle.drift_world.proofs.state.State.rekey.Goals as goal
 
 pub rekey_act-requires : goal.rekey_act-requires
 rekey_act-requires g c = record {
-  may = may_still g.C.Clock.last_step g.C.Clock.reading g.M.Machine.stands c.args.network.now (record { 0 = c.args.device }) _ c.args.self.now
-      c.rekey_ripe.new.self c.requires.may c.rekey_ripe.ensures.sets;
+  may = may_still _ c.requires.may c.rekey_ripe.ensures.sets;
 }
 
 pub returns : goal.returns

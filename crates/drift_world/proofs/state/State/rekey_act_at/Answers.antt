@@ -16,7 +16,7 @@ timers_are g c =
     c.set.ensures
     ∙ ap (λ (r : ℕ). slice_set w.timers (length c.as_slice-devices.result.now + c.args.device)
     (let t : Timer = record { time = c.time_for-act.result; rank = r } in t)) (c.number.ensures ∙ c.rank.ensures)
-    ∙ ap (λ (n : ℕ). slice_set w.timers (n + c.args.device) (timer g c)) (ap length c.as_slice-devices.ensures)
+    ∙ ap (λ n. slice_set w.timers (n + c.args.device) (timer g c)) (ap length c.as_slice-devices.ensures)
 
 pub returns-clause-timed : goal.returns-clause-timed
 returns-clause-timed g c =

@@ -1,6 +1,6 @@
-use Rattle.drift_world.proofs.{Dues.acts_by, Words.{◌+◌, ◌<◌, ◌∙◌, ◌≡◌, DeviceId, Network, Option, Some, ap, arith, length, refl, slice_get-get_or, subst, ℕ}}
+use Rattle.drift_world.proofs.{Dues.acts_by, Words.{◌+◌, ◌<◌, ◌∙◌, ◌≡◌, DeviceId, Network, Some, ap, arith, length, refl, slice_get-get_or, subst, ℕ}}
 use Rattle.{run_law.specs.machines.Tasks.IsDueReading, std.proofs.Common.{get_or, slice_get}}
-use Rattle.{tte_units.specs.declared.units.Units.Units, world_state.specs.{declared.timers.Timer.Timer, timers.Times.unset}}
+use Rattle.world_state.specs.{declared.timers.Timer.Timer, timers.Times.unset}
 use Rattle.drift_world.proofs.state.State.rekey_act_from.Goals as goal
 
 pub returns-then-keeps_part : goal.returns-then-keeps_part
@@ -33,7 +33,7 @@ returns-then-keeps_part g c =
         part = before.part;
         of_act = at ∙ ap (λ (r : ℕ). Some (let t : Timer = record { time = timer.time; rank = r } in t)) before.rank_is;
         acts = acts_by K.reading S network own.0 has.0 device w.time timer.time before.part c.args.before
-            (λ node is. subst (λ (d : Option Units). IsDueReading network device node d) (c.is_same.ensures c.if-is_same.true)
+            (λ node is. subst (λ d. IsDueReading network device node d) (c.is_same.ensures c.if-is_same.true)
             (c.due_of-due.ensures has.0 network device node has.1 is))
             before.by
             (λ node kept. c.keeps_part.ensures c.if-keeps_part.true timer before.part at before.rank_is own.0 has.0 network device node own.1 has.1 kept);

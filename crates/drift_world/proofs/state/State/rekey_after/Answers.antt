@@ -1,4 +1,4 @@
-use Rattle.drift_world.proofs.{Halves.set_ripe, Words.{◌^◌, ◌∙◌, ◌≡◌, ArrivedAt, ChangesOnly, NoteBody, ap, arith, changed_device, length, refl, subst, sym}}
+use Rattle.drift_world.proofs.{Halves.set_ripe, Words.{◌^◌, ◌∙◌, ◌≡◌, ArrivedAt, ChangesOnly, ap, arith, changed_device, length, refl, subst, sym}}
 use Rattle.{drift_world.proofs.{Said.far_kind, Timings.{aside, rekeyed}}, run_law.specs.plain.Bodies.body_of}
 use Rattle.drift_world.proofs.state.State.rekey_after.Goals as goal
 
@@ -12,7 +12,7 @@ returns-in-Arrived-clause-timed g c = λ before are changes machines timers.
     let device = c.in-Arrived.device in
     let keyed = c.rekey_ripe.ensures in
     let there = subst (ArrivedAt (length network.device)) (sym c.body.view_is ∙ ap body_of c.in-Arrived.is) c.requires.arrived in
-    let only = subst (λ (b : NoteBody). ChangesOnly (changed_device b) before w) (sym c.body.view_is ∙ ap body_of c.in-Arrived.is) changes in
+    let only = subst (λ b. ChangesOnly (changed_device b) before w) (sym c.body.view_is ∙ ap body_of c.in-Arrived.is) changes in
     rekeyed K.reading S network device before w new are there only timers
     (set_ripe K.reading S network before w new device there (are.each device there) only.clocks only.time machines timers keyed.timed keyed.sets)
 

@@ -1,5 +1,5 @@
 use Rattle.drift_world.proofs.{Fits.sized_so, Ripenings.{asked, below_taken, device_in, low, moment_by, moment_is, others_wait, ripened, still_apart}}
-use Rattle.drift_world.proofs.Words.{◌+◌, ◌<◌, ◌≡◌, IsIn, List, Moment, Note, Scenario, Some, Stands, arith, is_set, keeps, length, length-set}
+use Rattle.drift_world.proofs.Words.{◌+◌, ◌<◌, ◌≡◌, IsIn, List, Note, Scenario, Some, Stands, arith, is_set, keeps, length, length-set}
 use Rattle.{drift_world.proofs.Words.{length_permutation, moment_of, refl, slice_get_read, subst, world_of}, world_law.specs.steps.Ripening.HasRipened}
 use Rattle.{drift_world.proofs.state.State.ripen_waits.Goals.{After-index_mut, After-take_first-waits}, world_state.proofs.Swaps.was_there}
 use Rattle.std.proofs.Common.{slice_get}
@@ -94,12 +94,12 @@ returns-clause-stands g c = λ settled put s notes old first.
     let one = c.take_first-waits.result in
     let lt = within g (goal.at.returns-clause-stands g c).After-take_first-waits in
     let many = c.requires.sound.sized.machines in
-    ripened g.C.Clock.reading g.M.Machine.stands c.args.network.now c.args.self.now one c.take_first-waits.new.self.items c.index_mut.result.now
-    c.ripen-ripe.new.self
-    c.ripen-ripe.result settled c.take_first-waits.ensures.items c.requires.sound.fit.apart
+    ripened g.M.Machine.stands c.args.network.now c.args.self.now c.take_first-waits.new.self.items
+    c.index_mut.result.now
+    c.ripen-ripe.new.self c.take_first-waits.ensures.items c.requires.sound.fit.apart
     (λ clock own. c.requires.reached one clock c.take_first-waits.ensures.is own) (omega (arith, lt, many))
-    (held g (goal.at.returns-clause-stands g c).After-index_mut) put s notes old first
-    (subst (λ (m : Moment). HasRipened (keeps g.M.Machine.stands) s.network one.device m one.link one.frame one.point c.ripen-ripe.result c.index_mut.result.now
+    (held g (goal.at.returns-clause-stands g c).After-index_mut) put first
+    (subst (λ m. HasRipened (keeps g.M.Machine.stands) s.network one.device m one.link one.frame one.point c.ripen-ripe.result c.index_mut.result.now
     c.ripen-ripe.new.self) (now_is g (goal.at.returns-clause-stands g c).After-index_mut s notes old)
     (λ node. c.ripen-ripe.ensures s.network one.device node))
 

@@ -55,7 +55,8 @@ past : {C M : Type 0} (reading : C → ℕ → ℕ) (stands : M → Network → 
 past reading stands network old new w is one same judged front stands_past =
     stands_past (one ∷ old.settled.items)
     (subst (λ (x : Settled). AreSettledSo (old.given + 1) w is old.settled.items (x ∷ old.settled.items)) (sym same)
-    (judged_first (old.given + 1) w is old.settled.items judged (subst (λ (x : Settled). IsPutAt x old.settled.items (x ∷ old.settled.items) 0) same front)))
+    (judged_first (old.given + 1) w is judged (subst
+    (λ x. IsPutAt x old.settled.items (x ∷ old.settled.items) 0) same front)))
 
 -- nothing that is settled stands before its record
 ahead : {C M : Type 0} (last_step : C → ℕ) (reading : C → ℕ → ℕ) (stands : M → Network → DeviceId → Node → Type 0) (network : Network)
@@ -63,12 +64,12 @@ ahead : {C M : Type 0} (last_step : C → ℕ) (reading : C → ℕ → ℕ) (st
     → first_of state.waiting one.device.0 ≡ Some w → z ≡ ripe_record w is → IsJudged is
     → IsPutAt z state.settled.items (z ∷ state.settled.items) 0
 ahead last_step reading stands network state one w is z may at same judged =
-    none_ahead last_step reading stands network state (Ripening w) z (first_ripe last_step reading stands network state one w may at) tt
-    (ap (λ (x : Settled). place_of (settled_at network state.time x)) same ∙ judged_own network state.time w is judged)
+    none_ahead z (first_ripe last_step reading stands network state one w may at) tt
+    (ap (λ x. place_of (settled_at network state.time x)) same ∙ judged_own network state.time w is judged)
 
 pub give_in_turn-turn-requires-clause-front : goal.give_in_turn-turn-requires-clause-front
 give_in_turn-turn-requires-clause-front g c =
-    subst (λ (l : List Settled). IsPutAt c.record_of-record.result l (c.record_of-record.result ∷ l) 0)
+    subst (λ l. IsPutAt c.record_of-record.result l (c.record_of-record.result ∷ l) 0)
     (sym (ap (λ (t : State _ _). t.settled.items) c.ripen_waits-ripened.ensures.same))
     (ahead g.C.Clock.last_step g.C.Clock.reading g.M.Machine.stands c.args.network.now c.args.self.now c.args.one c.ripen_waits-ripened.result.waits
     c.ripen_waits-ripened.result.ripe c.record_of-record.result c.requires.may c.ripen_waits-ripened.ensures.is c.record_of-record.ensures
@@ -108,8 +109,8 @@ given_so g c =
     c.ripen_waits-ripened.result.ripe c.record_of-record.result c.requires.may c.ripen_waits-ripened.ensures.is c.record_of-record.ensures
     (c.is_judged.ensures.0 c.if-is_judged.true))
     c.ripen_waits-ripened.ensures.stands) c.give_in_turn-turn.new.self _
-    (ap (λ (t : ℕ). place_of (settled_at c.args.network.now t one)) c.ripen_waits-ripened.ensures.others.time
-    ∙ ap (λ (x : Settled). place_of (settled_at c.args.network.now c.args.self.now.time x)) c.record_of-record.ensures
+    (ap (λ t. place_of (settled_at c.args.network.now t one)) c.ripen_waits-ripened.ensures.others.time
+    ∙ ap (λ x. place_of (settled_at c.args.network.now c.args.self.now.time x)) c.record_of-record.ensures
     ∙ judged_own c.args.network.now c.args.self.now.time got.waits got.ripe (c.is_judged.ensures.0 c.if-is_judged.true))
     c.give_in_turn-turn.ensures.stands
 
@@ -178,7 +179,7 @@ still g c s notes old =
     let got = c.ripen_waits-ripened.result in
     let rip = c.ripen_waits-ripened.ensures in
     (rip.stands c.settle_ripe.new.settled.items
-    (subst (λ (l : List Settled). AreSettledSo (c.args.self.now.given + 1) got.waits got.ripe l c.settle_ripe.new.settled.items) (ap (λ (t : State _ _). t.settled.items) rip.same)
+    (subst (λ l. AreSettledSo (c.args.self.now.given + 1) got.waits got.ripe l c.settle_ripe.new.settled.items) (ap (λ (t : State _ _). t.settled.items) rip.same)
     c.settle_ripe.ensures)
     s notes old (comes_first g.C.Clock.last_step g.C.Clock.reading g.M.Machine.stands c.args.network.now c.args.self.now (Ripening got.waits) s notes
     (first_ripe g.C.Clock.last_step g.C.Clock.reading g.M.Machine.stands c.args.network.now c.args.self.now c.args.one c.ripen_waits-ripened.result.waits
@@ -191,7 +192,7 @@ sound_after g c =
     let mid = c.ripen_waits-ripened.new.self in
     let sound = c.ripen_waits-ripened.ensures.sound in
     sound_same g.C.Clock.last_step c.args.network.now mid _ sound refl refl refl refl refl refl refl refl refl refl
-    (octets_fit (c.args.self.now.given + 1) got.waits got.ripe mid.settled.items c.settle_ripe.new.settled.items c.settle_ripe.ensures sound.fit.octets)
+    (octets_fit c.settle_ripe.ensures sound.fit.octets)
 
 pub rekey_from-requires-2 : goal.rekey_from-requires-2
 rekey_from-requires-2 g c =

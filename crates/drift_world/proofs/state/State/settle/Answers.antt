@@ -1,4 +1,4 @@
-use Rattle.drift_world.proofs.Words.{Stands, World, ap, keeps, subst, sym, world_of}
+use Rattle.drift_world.proofs.Words.{Stands, ap, keeps, subst, sym, world_of}
 use Rattle.drift_world.{proofs.{Nearings.{on_both, settled_less}, Turning.{either_end, plain_step}}, specs.declared.state.State.State}
 use Rattle.drift_world.proofs.state.State.settle.Goals as goal
 
@@ -11,7 +11,7 @@ returns-clause-step g c =
     c.requires.may.well step.sound step.others (ap (λ (t : State _ _). t.timers) step.same) step.given
     (λ s notes old. either_end c.settle_befallen.result _ _ (Stands g.C.Clock.reading (keeps g.M.Machine.stands) s after notes)
     (step.stands s notes old) step.err (λ is. is.0)
-    (λ same. subst (λ (v : World _ _). Stands g.C.Clock.reading (keeps g.M.Machine.stands) s v notes) (sym same) old))
+    (λ same. subst (λ v. Stands g.C.Clock.reading (keeps g.M.Machine.stands) s v notes) (sym same) old))
 
 pub returns-clause-less : goal.returns-clause-less
 returns-clause-less g c =

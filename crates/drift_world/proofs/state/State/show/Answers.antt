@@ -20,4 +20,4 @@ pub returns-clause-less : goal.returns-clause-less
 returns-clause-less g c =
     let there = c.requires.may.foremost.there in
     shown_less c.args.network.now c.args.self.now c.show_clock.new.self c.show_clock.ensures.same
-    (subst (λ (n : ℕ). n < length c.args.network.now.device) there.next there.more)
+    (subst (λ n. n < length c.args.network.now.device) there.next there.more)

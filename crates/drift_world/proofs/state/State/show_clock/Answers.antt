@@ -1,6 +1,6 @@
 use Rattle.{drift_world.proofs.Fits.{all_put, have_octets}, run_law.proofs.runs.Determined.same_units, world_law.proofs.giving.GivenParts.some_same}
 use Rattle.{drift_world.proofs.{Rising.settled_in_order, Puts.one_put_in}, run_law.specs.declared.note.NoteBody.TheVariants.{Clock as Shown}}
-use Rattle.drift_world.proofs.Words.{◌<◌, ◌∙◌, ◌≡◌, DeviceId, Network, None, NoteBody, Settled, Units, amount, ap, arith, happenings, keeps, length, pos, refl}
+use Rattle.drift_world.proofs.Words.{◌<◌, ◌∙◌, ◌≡◌, DeviceId, Network, None, NoteBody, Settled, amount, ap, arith, happenings, keeps, length, pos, refl}
 use Rattle.{drift_world.proofs.Words.{settled_at, slice_get_read, subst, sym, units_of, world_of}, world_law.proofs.steps_lemmas.steps.ClockSteps.clock_step}
 use Rattle.drift_world.proofs.state.State.show_clock.Goals as goal
 
@@ -50,7 +50,7 @@ returns-clause-stands g c = λ s notes old ended first.
     let same : own.0 ≡ c.index.result.now = some_same _ _ _ own.1
     (slice_get_read w.clocks.items w.clocks.len w.shown c.index.result.now w.clocks.ok.0 (omega (arith, clocks, more, held)) c.index.ensures) in
     let read : c.read-reading.result ≡ units_of (s.reading device w.time) = same_units _ _
-    (c.read-reading.ensures ∙ ap (λ (t : Units). pos (K.reading c.index.result.now (amount t))) c.from_amount.ensures.value
+    (c.read-reading.ensures ∙ ap (λ t. pos (K.reading c.index.result.now (amount t))) c.from_amount.ensures.value
     ∙ ap (λ k. pos (K.reading k w.time)) (sym same) ∙ ap pos (sym (own.2 w.time (omega arith)))) in
     let put = c.put_in.ensures.is in
     let shows : NoteBody → Settled = λ body. record { body = body; frame = None; octets = None } in
@@ -61,5 +61,5 @@ returns-clause-stands g c = λ s notes old ended first.
     (λ node is. (c.state.ensures s.network device node is, c.adjustment.ensures s.network device node is))
     (one_put_in s.network network w.time hs (Shown device (units_of (s.reading device w.time)) c.adjustment.result c.state.result)
     (shows (Shown device c.read-reading.result c.adjustment.result c.state.result))
-    w.settled.items c.put_in.new.settled.items put.0 put.1 (settled_in_order K.reading (keeps g.M.Machine.stands) s world notes old)
+    w.settled.items c.put_in.new.settled.items put.0 put.1 (settled_in_order old)
     (ap (λ r. settled_at network w.time (shows (Shown device r c.adjustment.result c.state.result))) read))

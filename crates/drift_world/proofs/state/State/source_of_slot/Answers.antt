@@ -1,6 +1,6 @@
 use Rattle.drift_world.proofs.Words.{◌-◌, ◌∙◌, ◌∷◌, ◌≡◌, ◌≤◌, DeviceId, Due, IfNone, Option, Waits, [], ap, arith, inl, length, refl, subst, sym, ℕ}
 use Rattle.drift_world.proofs.{Sources.{due_acts, due_part, due_ripe, slot_high}, state.State.source_of_slot.Given.Over}
-use Rattle.drift_world.{proofs.state.State.source_of_slot.Goals.{After-of_rank, else-slot-devices, then-slot-devices+in_default}, specs.{Parts.part_rank, Turns.IsActive, declared.part.Part.Part}}
+use Rattle.drift_world.{proofs.state.State.source_of_slot.Goals.{After-of_rank, else-slot-devices, then-slot-devices+in_default}, specs.{Parts.part_rank, Turns.IsActive}}
 use Rattle.drift_world.proofs.state.State.source_of_slot.Goals as goal
 
 -- the timer that is due
@@ -35,7 +35,7 @@ returns-clause-there g c =
     let le = high g c in
     let is = due_part g.C.Clock.reading g.M.Machine.stands c.args.network.now c.args.self.now (due g c) c.requires.well.timed c.requires.due le in
     let device : DeviceId = record { 0 = c.args.slot - length c.as_slice-devices.result.now } in
-    subst (λ (p : Part). IsActive g.C.Clock.reading g.M.Machine.stands c.args.network.now c.args.self.now p device) (sym (c.of_rank.ensures is.0 is.1))
+    subst (λ p. IsActive g.C.Clock.reading g.M.Machine.stands c.args.network.now c.args.self.now p device) (sym (c.of_rank.ensures is.0 is.1))
     (due_acts g.C.Clock.reading g.M.Machine.stands c.args.network.now c.args.self.now (due g c) c.requires.well.timed c.requires.due device is.0
     refl limit (omega (arith, le, len)) (let few = is.2 in omega (arith, few, le, len)) is.1)
 
@@ -47,7 +47,7 @@ returns-clause-place g c =
     let slot = c.args.slot in
     let now = c.args.self.now.time in
     inl
-    (ap (λ (p : Part). now ∷ part_rank p ∷ (slot - length c.as_slice-devices.result.now) ∷ []) (c.of_rank.ensures is.0 is.1)
+    (ap (λ p. now ∷ part_rank p ∷ (slot - length c.as_slice-devices.result.now) ∷ []) (c.of_rank.ensures is.0 is.1)
     ∙ ap (λ (n : ℕ). now ∷ n ∷ (slot - length c.as_slice-devices.result.now) ∷ []) (sym is.1)
-    ∙ ap (λ (n : ℕ). now ∷ c.args.rank ∷ (slot - n) ∷ []) len
+    ∙ ap (λ n. now ∷ c.args.rank ∷ (slot - n) ∷ []) len
     ∙ ap (λ (n : ℕ). now ∷ c.args.rank ∷ n ∷ []) (sym (slot_high (length c.args.network.now.device) slot le)))

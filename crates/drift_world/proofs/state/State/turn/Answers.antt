@@ -1,4 +1,4 @@
-use Rattle.drift_world.{proofs.{TurnSays.turns_then, Nearings.no_more}, specs.{Nearing.distance, Turns.IsStep, declared.state.State.State}}
+use Rattle.drift_world.{proofs.{TurnSays.turns_then, Nearings.no_more}, specs.{Nearing.distance, Turns.IsStep}}
 use Rattle.drift_world.proofs.{Turning.{kept_then, roomier, step_kept}, Words.{◌∙◌, OutOfMemory, ap, arith, sym}, state.State.turn.Goals.After-make_places}
 use Rattle.drift_world.proofs.state.State.turn.Given as given
 use Rattle.drift_world.proofs.state.State.turn.Goals as goal
@@ -47,6 +47,6 @@ returns g c =
       kept = kept_then g.C.Clock.last_step g.C.Clock.reading g.M.Machine.stands c.args.network.now c.args.self.now mid new _ step.after step.still turn.kept;
       turns = turns_then g.C.Clock.last_step g.C.Clock.reading g.M.Machine.stands c.args.network.now OutOfMemory c.args.self.now mid new c.args.until
           c.roomy_turn.new.note c.roomy_turn.result step.given step.after.ended step.still
-          (no_more _ _ (ap (λ (t : State _ _). distance c.args.network.now c.args.until t) c.make_places.ensures.same)) turn.turns;
+          (no_more _ _ (ap (λ t. distance c.args.network.now c.args.until t) c.make_places.ensures.same)) turn.turns;
       err = turn.err;
     }

@@ -1,7 +1,7 @@
 use Rattle.drift_world.{proofs.Laters.{IsThere, is_there, time_limit}, specs.{Later.{ComesBehind, MayApplyAgain}, Running.{event_note, option_given}}}
 use Rattle.{drift_world.proofs.{Retries.if_given, world.World.apply.Goals.In-Ok}, net_plan.specs.declared.event.Event.Event}
-use Rattle.drift_world.proofs.Words.{◌++◌, ◌+◌, ◌<ℤ◌, ◌∙◌, ◌∷◌, ◌≡◌, Bool, IfSome, IsOfNetwork, IsRunOf, IsWithinHypothesis, Kept, List, Network, Note}
-use Rattle.drift_world.proofs.Words.{StandsUnder, World, [], ap, append-nil, arith, behind_events, ints, pos, reading_of, subst, sym, true, units_of, ℕ, ℤ}
+use Rattle.drift_world.proofs.Words.{◌++◌, ◌+◌, ◌<ℤ◌, ◌∙◌, ◌∷◌, ◌≡◌, Bool, IfSome, IsOfNetwork, IsRunOf, IsWithinHypothesis, List, Network, Note}
+use Rattle.drift_world.proofs.Words.{StandsUnder, [], ap, append-nil, arith, behind_events, ints, pos, reading_of, subst, sym, true, units_of, ℕ, ℤ}
 use Rattle.drift_world.proofs.world.World.apply.Given as given
 use Rattle.drift_world.proofs.world.World.apply.Goals as goal
 
@@ -13,13 +13,13 @@ before_it given note now until is = if_given given note (λ (n : Note). (n.time 
 pub next_given-requires-clause-limit : goal.next_given-requires-clause-limit
 next_given-requires-clause-limit g c =
     let may = c.requires.may in
-    let limit = time_limit c.args.self.now.network may.events c.args.event.now may.comes.is.is.range may.comes.within in
+    let limit = time_limit may.events c.args.event.now may.comes.is.is.range may.comes.within in
     omega (arith, ints, limit)
 
 pub returns-in-Err-clause-stands : goal.returns-in-Err-clause-stands
 returns-in-Err-clause-stands g c = λ network events notes comes.
     let K = g.C.Clock in
-    subst (λ (l : List Note). StandsUnder K.fresh K.after_step K.reading g.M.Machine.stands network c.next_given.new.self events l) (append-nil notes)
+    subst (λ l. StandsUnder K.fresh K.after_step K.reading g.M.Machine.stands network c.next_given.new.self events l) (append-nil notes)
     (c.in-Err.ensures.stands network events notes comes.is)
 
 -- the world is where the event may befall it
@@ -47,15 +47,15 @@ befall-requires g c =
     let event = c.args.event.now in
     let is = own g (goal.at.befall-requires g c).In-Ok in
     record {
-      line = c.requires.line ∙ ap (λ (n : ℕ). n + 1) (sym is.lines);
+      line = c.requires.line ∙ ap (λ n. n + 1) (sym is.lines);
       now = is.opens;
       within = record {
         events = may.events;
         notes = may.notes;
-        is = subst (λ (n : Network). StandsUnder g.C.Clock.fresh g.C.Clock.after_step g.C.Clock.reading g.M.Machine.stands n mid may.events may.notes)
+        is = subst (λ n. StandsUnder g.C.Clock.fresh g.C.Clock.after_step g.C.Clock.reading g.M.Machine.stands n mid may.events may.notes)
             (sym is.same) is.so;
-        of_network = subst (λ (n : Network). IsOfNetwork n event.what) (sym is.same) may.of_network;
-        within = subst (λ (n : Network). IsWithinHypothesis n may.events event) (sym is.same) may.comes.within;
+        of_network = subst (λ n. IsOfNetwork n event.what) (sym is.same) may.of_network;
+        within = subst (λ n. IsWithinHypothesis n may.events event) (sym is.same) may.comes.within;
       };
       hold = c.requires.hold;
     }
@@ -72,18 +72,18 @@ returns-in-Ok-befall-clause-run g c = λ network events notes comes.
     let is = there g (goal.at.returns-in-Ok-befall-clause-run g c).In-Ok network events notes comes in
     let all = events ++ c.args.event.now ∷ [] in
     let f = reading_of g.C.Clock.fresh g.C.Clock.after_step g.C.Clock.reading network all in
-    subst (λ (n : ℕ). IsRunOf network f all (behind_events n) (notes ++ c.note.result ∷ [])) is.now
+    subst (λ n. IsRunOf network f all (behind_events n) (notes ++ c.note.result ∷ [])) is.now
     (subst (λ (note : Note). IsRunOf network f all (behind_events c.next_given.new.self.now) (notes ++ note ∷ [])) (sym c.note.ensures)
     (c.in-Ok-befall.ensures.run network events notes is.so comes.within))
 
 pub returns-in-Ok-befall-clause-note : goal.returns-in-Ok-befall-clause-note
 returns-in-Ok-befall-clause-note g c =
-    c.note.ensures ∙ c.in-Ok-befall.ensures.note ∙ ap (λ (n : ℕ).
+    c.note.ensures ∙ c.in-Ok-befall.ensures.note ∙ ap (λ n.
     event_note (n + 1) c.args.line c.args.event.now) (own g (goal.at.returns-in-Ok-befall-clause-note g c).In-Ok).given
 
 pub returns-in-Ok-befall-clause-at : goal.returns-in-Ok-befall-clause-at
 returns-in-Ok-befall-clause-at g c = record {
-  now = ap (λ (n : ℕ). pos n) c.befall.ensures.still.0 ∙ (own g (goal.at.returns-in-Ok-befall-clause-at g c).In-Ok).reached.time;
+  now = ap (λ n. pos n) c.befall.ensures.still.0 ∙ (own g (goal.at.returns-in-Ok-befall-clause-at g c).In-Ok).reached.time;
   early = c.befall.ensures.still.1 ∙ (own g (goal.at.returns-in-Ok-befall-clause-at g c).In-Ok).opens.early;
 }
 
@@ -91,10 +91,10 @@ returns-in-Ok-befall-clause-at g c = record {
 
 pub returns-in-Err-befall-clause-stands : goal.returns-in-Err-befall-clause-stands
 returns-in-Err-befall-clause-stands g c = λ network events notes comes.
-    subst (λ (w : World _ (Kept _)). StandsUnder g.C.Clock.fresh g.C.Clock.after_step g.C.Clock.reading g.M.Machine.stands network w events notes)
+    subst (λ w. StandsUnder g.C.Clock.fresh g.C.Clock.after_step g.C.Clock.reading g.M.Machine.stands network w events notes)
     (sym c.in-Err-befall.ensures.err) (there g (goal.at.returns-in-Err-befall-clause-stands g c).In-Ok network events notes comes).so
 
 pub returns-in-Err-befall-clause-err : goal.returns-in-Err-befall-clause-err
 returns-in-Err-befall-clause-err g c =
-    subst (λ (w : World _ (Kept _)). MayApplyAgain c.args.self.now w c.args.event.now.time) (sym c.in-Err-befall.ensures.err)
+    subst (λ w. MayApplyAgain c.args.self.now w c.args.event.now.time) (sym c.in-Err-befall.ensures.err)
     (own g (goal.at.returns-in-Err-befall-clause-err g c).In-Ok).again

@@ -1,7 +1,7 @@
 use Rattle.{drift_world.proofs.{Elsewhere.timed_by_event, Fits.sound_timers, Onwards.befalls, Shortness.sets_short}, net_plan.specs.declared.event.Event.Event}
 use Rattle.{drift_world.{proofs.Timings.unmoved, specs.declared.state.State.State}, precision_law.proofs.traffic_lemmas.safety_lemmas.Histories.slow_rate}
-use Rattle.drift_world.proofs.Words.{◌++◌, ◌∙◌, ◌∷◌, ◌≡◌, AreTimed, IsLawful, IsRunOf, IsSound, IsWithinHypothesis, Kept, List, Network, Note, Stands}
-use Rattle.drift_world.proofs.Words.{StandsUnder, World, [], ap, arith, behind_events, keeps, length, reading_of, refl, scenario, subst, sym, world_of}
+use Rattle.drift_world.proofs.Words.{◌++◌, ◌∙◌, ◌∷◌, ◌≡◌, AreTimed, IsLawful, IsRunOf, IsSound, IsWithinHypothesis, List, Network, Note, Stands}
+use Rattle.drift_world.proofs.Words.{StandsUnder, [], ap, arith, behind_events, keeps, length, reading_of, refl, scenario, subst, sym, world_of}
 use Rattle.drift_world.proofs.world.World.befall.Given as given
 use Rattle.drift_world.proofs.world.World.befall.Goals as goal
 
@@ -15,7 +15,8 @@ apply-requires-clause-slow g c = λ device rate same.
 pub apply-requires-clause-short : goal.apply-requires-clause-short
 apply-requires-clause-short g c =
     let may = c.requires.within in
-    sets_short c.args.self.now.network may.events c.args.event.now may.is.is.range may.within c.args.event.now.what refl may.of_network c.requires.hold
+    sets_short may.events c.args.event.now may.is.is.range may.within c.args.event.now.what refl may.of_network
+    c.requires.hold
 
 -- the laws of the clocks
 lawful : (g : given.Over) → IsLawful g.C.Clock.fresh g.C.Clock.after_step g.C.Clock.reading g.C.Clock.grain_of g.C.Clock.count
@@ -38,13 +39,13 @@ invariant_of-self g c =
     let new = c.apply.new.self in
     let well = c.self.invariant in
     let kept = c.in-Err.ensures.kept in
-    let view = subst (λ (n : Network). world_of n new ≡ world_of n state) c.network-network.ensures.value c.in-Err.ensures.err in
+    let view = subst (λ n. world_of n new ≡ world_of n state) c.network-network.ensures.value c.in-Err.ensures.err in
     record {
-      sound = subst (λ (n : Network). IsSound K.last_step n new) c.network-network.ensures.value c.apply.ensures.sound;
+      sound = subst (λ n. IsSound K.last_step n new) c.network-network.ensures.value c.apply.ensures.sound;
       running = record {
         s = well.running.s;
         notes = well.running.notes;
-        is = subst (λ (w : World _ (Kept _)). Stands K.reading (keeps g.M.Machine.stands) well.running.s w well.running.notes) (sym view) well.running.is;
+        is = subst (λ w. Stands K.reading (keeps g.M.Machine.stands) well.running.s w well.running.notes) (sym view) well.running.is;
       };
       timed = unmoved K.reading g.M.Machine.stands accepted state new well.timed (ap (λ (s : State _ _). s.clocks) kept)
           (ap (λ (s : State _ _). s.machines.items) kept) (ap (λ (s : State _ _). s.waiting.items) kept) (ap (λ (s : State _ _). s.time) kept)
@@ -64,7 +65,7 @@ rekey_by-requires-clause-running g c =
       s = scenario network (reading_of K.fresh K.after_step K.reading network events) events;
       notes = may.notes ++ c.in-Ok.note ∷ [];
       is = (befalls K.fresh K.after_step K.reading K.grain_of K.count (lawful g) g.M.Machine.stands own c.self.inside.state c.apply.new.self c.args.self.now
-          (ap (λ (n : Network). world_of n c.self.inside.state) c.network-network.ensures.value ∙ c.self.view_is) c.args.event.now c.in-Ok.note
+          (ap (λ n. world_of n c.self.inside.state) c.network-network.ensures.value ∙ c.self.view_is) c.args.event.now c.in-Ok.note
           (c.self.invariant.sound.sized.clocks ∙ ap (λ (n : Network). length n.device) (sym c.network-network.ensures.value)) c.requires.now
           c.requires.hold may.of_network c.in-Ok.ensures.still c.in-Ok.ensures.clocks c.in-Ok.ensures.stands network may.events may.notes may.is
           may.within).0.is;
@@ -80,13 +81,13 @@ befallen g c network events notes under within =
     let K = g.C.Clock in
     let own = c.network-network.result.now in
     let it = befalls K.fresh K.after_step K.reading K.grain_of K.count (lawful g) g.M.Machine.stands own c.self.inside.state c.apply.new.self c.args.self.now
-    (ap (λ (n : Network). world_of n c.self.inside.state) c.network-network.ensures.value ∙ c.self.view_is) c.args.event.now c.in-Ok.note
+    (ap (λ n. world_of n c.self.inside.state) c.network-network.ensures.value ∙ c.self.view_is) c.args.event.now c.in-Ok.note
     (c.self.invariant.sound.sized.clocks ∙ ap (λ (n : Network). length n.device) (sym c.network-network.ensures.value)) c.requires.now
     c.requires.hold c.requires.within.of_network c.in-Ok.ensures.still c.in-Ok.ensures.clocks c.in-Ok.ensures.stands network events notes under within in
     let same : world_of own c.apply.new.self ≡ world_of c.self.inside.accepted.now c.rekey_by.new.self =
-    ap (λ (n : Network). world_of n c.apply.new.self) c.network-network.ensures.value
-    ∙ ap (λ (s : State _ _). world_of c.self.inside.accepted.now s) (sym c.rekey_by.ensures.same) in (
-      subst (λ (w : World _ (Kept _)). StandsUnder K.fresh K.after_step K.reading g.M.Machine.stands network w (events ++ c.args.event.now ∷ [])
+    ap (λ n. world_of n c.apply.new.self) c.network-network.ensures.value
+    ∙ ap (λ s. world_of c.self.inside.accepted.now s) (sym c.rekey_by.ensures.same) in (
+      subst (λ w. StandsUnder K.fresh K.after_step K.reading g.M.Machine.stands network w (events ++ c.args.event.now ∷ [])
           (notes ++ c.in-Ok.note ∷ [])) same it.0,
       it.1,
     )
@@ -102,17 +103,17 @@ invariant_of-self-2 g c =
     let state = c.self.inside.state in
     let mid = c.apply.new.self in
     let new = c.rekey_by.new.self in
-    let was = subst (λ (n : Network). AreTimed K.reading g.M.Machine.stands n state) (sym c.network-network.ensures.value) c.self.invariant.timed in
+    let was = subst (λ n. AreTimed K.reading g.M.Machine.stands n state) (sym c.network-network.ensures.value) c.self.invariant.timed in
     record {
       sound = sound_timers K.last_step accepted mid new c.rekey_by.ensures.same
-          (subst (λ (n : Network). IsSound K.last_step n mid) c.network-network.ensures.value c.apply.ensures.sound);
+          (subst (λ n. IsSound K.last_step n mid) c.network-network.ensures.value c.apply.ensures.sound);
       running = record {
         s = scenario network (reading_of K.fresh K.after_step K.reading network events) events;
         notes = may.notes ++ c.in-Ok.note ∷ [];
         is = (befallen g c network may.events may.notes may.is may.within).0.is;
       };
-      timed = subst (λ (n : Network). AreTimed K.reading g.M.Machine.stands n new) c.network-network.ensures.value
-          (timed_by_event K.reading g.M.Machine.stands own state mid new c.args.event.now.what was c.in-Ok.ensures.others c.apply.ensures.timers
+      timed = subst (λ n. AreTimed K.reading g.M.Machine.stands n new) c.network-network.ensures.value
+          (timed_by_event mid new c.args.event.now.what was c.in-Ok.ensures.others c.apply.ensures.timers
           c.apply.ensures.still.0 c.rekey_by.ensures.same c.rekey_by.ensures.timed c.rekey_by.ensures.sized c.rekey_by.ensures.others
           c.rekey_by.ensures.later);
     }

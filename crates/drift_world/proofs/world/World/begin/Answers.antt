@@ -1,5 +1,5 @@
 use Rattle.drift_world.{proofs.{Fits.sound_timers, Freshness.{first_sound, first_stands}, Words.world_of}, specs.Beginning.{AreFresh, IsFirstState}}
-use Rattle.drift_world.proofs.Words.{AreTimed, IsInRange, IsLawful, KeepsRules, Kept, Network, StandsUnder, World, [], ap, reading_of, scenario, subst, sym}
+use Rattle.drift_world.proofs.Words.{AreTimed, IsInRange, IsLawful, KeepsRules, StandsUnder, [], ap, reading_of, scenario, subst, sym}
 use Rattle.drift_world.proofs.world.World.begin.Given as given
 use Rattle.drift_world.proofs.world.World.begin.Goals as goal
 
@@ -18,7 +18,7 @@ pub rekey_all-requires-clause-sized : goal.rekey_all-requires-clause-sized
 rekey_all-requires-clause-sized g c =
     (first_sound g.C.Clock.fresh g.C.Clock.last_step c.network-network.result.now c.args.machines.items c.in_ok-state.state c.in_ok-state.ensures
     (subst IsInRange (sym c.network-network.ensures.value) c.network-network.ensures.range)
-    (subst (λ (n : Network). AreFresh g.M.Machine.stands n c.args.machines.items) (sym c.network-network.ensures.value) c.requires).each).sized
+    (subst (λ n. AreFresh g.M.Machine.stands n c.args.machines.items) (sym c.network-network.ensures.value) c.requires).each).sized
 
 pub rekey_all-requires-clause-running : goal.rekey_all-requires-clause-running
 rekey_all-requires-clause-running g c =
@@ -27,7 +27,7 @@ rekey_all-requires-clause-running g c =
     let under = first_stands K.fresh K.last_step network c.args.machines.items c.in_ok-state.state c.in_ok-state.ensures K.after_step K.reading K.grain_of
     K.count
     (lawful g) g.M.Machine.stands
-    (subst (λ (n : Network). AreFresh g.M.Machine.stands n c.args.machines.items) (sym c.network-network.ensures.value) c.requires)
+    (subst (λ n. AreFresh g.M.Machine.stands n c.args.machines.items) (sym c.network-network.ensures.value) c.requires)
     (subst IsInRange (sym c.network-network.ensures.value) c.network-network.ensures.range)
     (subst KeepsRules (sym c.network-network.ensures.value) c.network-network.ensures.rules) in
     record { s = scenario network (reading_of K.fresh K.after_step K.reading network []) []; notes = []; is = under.is }
@@ -36,7 +36,7 @@ rekey_all-requires-clause-running g c =
 first : (g : given.Over) (c : goal.After-rekey_all g)
     → IsFirstState g.C.Clock.fresh g.C.Clock.last_step c.args.accepted.now c.args.machines.items c.in_ok-state.state
 first g c =
-    subst (λ (n : Network). IsFirstState g.C.Clock.fresh g.C.Clock.last_step n c.args.machines.items c.in_ok-state.state) c.network-network.ensures.value
+    subst (λ n. IsFirstState g.C.Clock.fresh g.C.Clock.last_step n c.args.machines.items c.in_ok-state.state) c.network-network.ensures.value
     c.in_ok-state.ensures
 
 stands : (g : given.Over) (c : goal.After-rekey_all g)
@@ -44,7 +44,7 @@ stands : (g : given.Over) (c : goal.After-rekey_all g)
     (world_of c.args.accepted.now c.rekey_all.new.self) [] []
 stands g c =
     let K = g.C.Clock in
-    subst (λ (w : World _ (Kept _)). StandsUnder K.fresh K.after_step K.reading g.M.Machine.stands c.args.accepted.now w [] [])
+    subst (λ w. StandsUnder K.fresh K.after_step K.reading g.M.Machine.stands c.args.accepted.now w [] [])
     (ap (world_of c.args.accepted.now) (sym c.rekey_all.ensures.same))
     (first_stands K.fresh K.last_step c.args.accepted.now c.args.machines.items c.in_ok-state.state (first g c) K.after_step K.reading K.grain_of K.count
     (lawful g)
@@ -58,7 +58,7 @@ invariant_of-result g c =
       sound = sound_timers K.last_step network c.in_ok-state.state c.rekey_all.new.self c.rekey_all.ensures.same
           (first_sound K.fresh K.last_step network c.args.machines.items c.in_ok-state.state (first g c) c.network-network.ensures.range c.requires.each);
       running = record { s = scenario network (reading_of K.fresh K.after_step K.reading network []) []; notes = []; is = (stands g c).is };
-      timed = subst (λ (n : Network). AreTimed K.reading g.M.Machine.stands n c.rekey_all.new.self) c.network-network.ensures.value c.rekey_all.ensures.timed;
+      timed = subst (λ n. AreTimed K.reading g.M.Machine.stands n c.rekey_all.new.self) c.network-network.ensures.value c.rekey_all.ensures.timed;
     }
 
 pub returns-clause-stands : goal.returns-clause-stands

@@ -23,9 +23,9 @@ returns-clause-local g c = λ network events notes complete.
     let K = g.C.Clock in
     let world = c.args.self.now in
     let own = c.self.inside.accepted.now in
-    local_is K.fresh K.after_step K.reading g.M.Machine.stands own network c.self.inside.state (amount c.args.t) events notes c.args.device c.local_of.result
+    local_is own
     (subst (λ (w : World _ (Kept _)). c.args.device.0 < length w.network.device) (sym c.self.view_is) c.requires.there)
-    (subst (λ (w : World _ (Kept _)). IsComplete K.fresh K.after_step K.reading g.M.Machine.stands network w (amount c.args.t) events notes)
+    (subst (λ w. IsComplete K.fresh K.after_step K.reading g.M.Machine.stands network w (amount c.args.t) events notes)
     (sym c.self.view_is)
     complete)
     c.local_of.ensures.shows

@@ -1,5 +1,5 @@
 use Rattle.{drift_world.proofs.{LocalValues.{complete_reads, local_value, now_reads}, LocalsBefore.local_is_before}, world_law.proofs.giving.GivenParts.some_same}
-use Rattle.drift_world.proofs.{Locals.{clock_stepped, local_is}, Words.{in_all, inl, inr, ints, keeps, length, reading_of, scenario, subst, sym, ℕ}}
+use Rattle.drift_world.proofs.{Locals.{clock_stepped, local_is}, Words.{in_all, inl, inr, ints, keeps, length, reading_of, scenario, subst, sym}}
 use Rattle.drift_world.proofs.Words.{◌<◌, ◌^◌, ◌∙◌, ◌≤◌, IsComplete, IsLocalClockBefore, Kept, Stands, StandsUnder, World, amount, ap, arith, happenings}
 use Rattle.drift_world.proofs.world.World.local_at.Given as given
 use Rattle.drift_world.proofs.world.World.local_at.Goals as goal
@@ -35,9 +35,8 @@ pub returns-clause-local : goal.returns-clause-local
 returns-clause-local g c = λ network events notes complete.
     let K = g.C.Clock in
     let own = c.self.inside.accepted.now in
-    local_is K.fresh K.after_step K.reading g.M.Machine.stands own network c.self.inside.state (amount c.args.t) events notes c.args.device c.local_of.result
-    (there g c)
-    (subst (λ (w : World _ (Kept _)). IsComplete K.fresh K.after_step K.reading g.M.Machine.stands network w (amount c.args.t) events notes)
+    local_is own (there g c)
+    (subst (λ w. IsComplete K.fresh K.after_step K.reading g.M.Machine.stands network w (amount c.args.t) events notes)
     (sym c.self.view_is)
     complete)
     c.local_of.ensures.shows
@@ -50,9 +49,9 @@ returns-clause-before g c = λ network events notes under now.
     let state = c.self.inside.state in
     let s = scenario network (reading_of K.fresh K.after_step K.reading network events) events in
     let viewed = ap (λ (w : World _ (Kept _)). w.now) c.self.view_is in
-    subst (λ (n : ℕ). IsLocalClockBefore s (happenings network notes) c.args.device n c.local_of.result) (viewed ∙ sym now.0)
-    (local_is_before K.reading S s own state notes c.args.device (amount c.args.t) c.local_of.result
-    (subst (λ (w : World _ (Kept _)). Stands K.reading (keeps S) s w notes) (sym c.self.view_is) under.is)
+    subst (λ n. IsLocalClockBefore s (happenings network notes) c.args.device n c.local_of.result) (viewed ∙ sym now.0)
+    (local_is_before own
+    (subst (λ w. Stands K.reading (keeps S) s w notes) (sym c.self.view_is) under.is)
     (ap (λ (w : World _ (Kept _)). w.early) c.self.view_is ∙ now.1) (there g c) (now.0 ∙ sym viewed)
     c.local_of.ensures.shows)
 
@@ -70,9 +69,8 @@ returns-clause-small g c = λ small.
       | inl may ↦
           let complete = subst (λ (w : World _ (Kept _)). IsComplete K.fresh K.after_step K.reading S w.network w (amount c.args.t) may.events may.notes)
           (sym c.self.view_is) may.is in
-          local_value K.reading S small (scenario own (reading_of K.fresh K.after_step K.reading own may.events) may.events) own state may.notes
-          c.args.device (amount c.args.t) c.local_of.result complete.is.is (there g c) limit shows
-          (complete_reads K.fresh K.after_step K.reading S own state (amount c.args.t) may.events may.notes c.args.device c.local_of.result (there g c) complete
+          local_value small own complete.is.is (there g c) limit shows
+          (complete_reads (there g c) complete
           shows)
       | inr now ↦
           let may = now.1 in
@@ -80,7 +78,7 @@ returns-clause-small g c = λ small.
           may.is
           in
           let s = scenario own (reading_of K.fresh K.after_step K.reading own may.events) may.events in
-          local_value K.reading S small s own state may.notes c.args.device (amount c.args.t) c.local_of.result under.is (there g c) limit shows
-          (now_reads K.reading S s own state may.notes c.args.device (amount c.args.t) c.local_of.result under.is (there g c)
+          local_value small own under.is (there g c) limit shows
+          (now_reads own under.is (there g c)
           (now.0 ∙ sym (ap (λ (w : World _ (Kept _)). w.now) c.self.view_is)) shows)
     ]

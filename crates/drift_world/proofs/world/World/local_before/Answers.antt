@@ -1,4 +1,4 @@
-use Rattle.drift_world.proofs.{LocalsBefore.local_is_before, Words.{reading_of, scenario, subst, sym, ℕ}}
+use Rattle.drift_world.proofs.{LocalsBefore.local_is_before, Words.{reading_of, scenario, subst, sym}}
 use Rattle.drift_world.proofs.Words.{◌<◌, ◌∙◌, ◌≤◌, IsLocalClockBefore, Kept, Stands, World, amount, ap, arith, happenings, in_all, ints, keeps, length}
 use Rattle.drift_world.proofs.world.World.local_before.Goals as goal
 
@@ -17,10 +17,10 @@ returns-clause-local g c = λ network events notes under early.
     let own = c.self.inside.accepted.now in
     let state = c.self.inside.state in
     let s = scenario network (reading_of K.fresh K.after_step K.reading network events) events in
-    subst (λ (n : ℕ). IsLocalClockBefore s (happenings network notes) c.args.device n c.local_of.result)
+    subst (λ n. IsLocalClockBefore s (happenings network notes) c.args.device n c.local_of.result)
     (ap (λ (w : World _ (Kept _)). w.now) c.self.view_is)
-    (local_is_before K.reading S s own state notes c.args.device (amount c.from_amount-now.result) c.local_of.result
-    (subst (λ (w : World _ (Kept _)). Stands K.reading (keeps S) s w notes) (sym c.self.view_is) under.is)
+    (local_is_before own
+    (subst (λ w. Stands K.reading (keeps S) s w notes) (sym c.self.view_is) under.is)
     (ap (λ (w : World _ (Kept _)). w.early) c.self.view_is ∙ early)
     (subst (λ (w : World _ (Kept _)). c.args.device.0 < length w.network.device) (sym c.self.view_is) c.requires.there)
     (ap amount c.from_amount-now.ensures.value)

@@ -1,4 +1,4 @@
-use Rattle.drift_world.proofs.Words.{◌++◌, ◌<ℤ◌, ◌∷◌, ◌≡◌, Bool, ComesUpTo, Err, None, Note, Ok, OutOfMemory, StandsUnder, Units, [], amount, arith, given_by}
+use Rattle.drift_world.proofs.Words.{◌++◌, ◌<ℤ◌, ◌∷◌, ◌≡◌, Bool, ComesUpTo, Err, None, Note, Ok, OutOfMemory, StandsUnder, [], amount, arith, given_by}
 use Rattle.{drift_world.{proofs.Words.{ints, subst, sym, units_of}, specs.Running.next_of}, precision_law.specs.traffic.safety.Headline.IsSafeFront}
 use Rattle.drift_world.proofs.world.World.next.Goals as goal
 
@@ -33,15 +33,15 @@ returns-in-Ok-false-clause-stands g c = λ network events notes under.
 pub returns-in-Ok-false-clause-complete : goal.returns-in-Ok-false-clause-complete
 returns-in-Ok-false-clause-complete g c = λ network events notes under lt.
     let K = g.C.Clock in
-    subst (λ (u : Units). IsSafeFront K.fresh K.after_step K.reading network events (amount u) notes) c.bounded-time.ensures.is
+    subst (λ u. IsSafeFront K.fresh K.after_step K.reading network events (amount u) notes) c.bounded-time.ensures.is
     (c.in-Ok-false.ensures.complete network events notes under (c.bounded-time.ensures.later lt) c.in-Ok-false.field-0-test)
 
 pub returns-in-Ok-false-clause-reached : goal.returns-in-Ok-false-clause-reached
 returns-in-Ok-false-clause-reached g c =
-    subst (λ (u : Units). ComesUpTo {E = OutOfMemory} c.args.self.now c.next_given.new.self u (Ok None)) c.bounded-time.ensures.is
+    subst (λ u. ComesUpTo {E = OutOfMemory} c.args.self.now c.next_given.new.self u (Ok None)) c.bounded-time.ensures.is
     (subst (λ (more : Bool). ComesUpTo {E = OutOfMemory} c.args.self.now c.next_given.new.self c.bounded-time.result (next_of (Ok more) c.next_given.new.note))
     c.in-Ok-false.field-0-test c.in-Ok-false.ensures.reached)
 
 pub returns-in-Err-clause-reached : goal.returns-in-Err-clause-reached
 returns-in-Err-clause-reached g c =
-    subst (λ (u : Units). ComesUpTo c.args.self.now c.next_given.new.self u (Err c.in-Err.error)) c.bounded-time.ensures.is c.in-Err.ensures.reached
+    subst (λ u. ComesUpTo c.args.self.now c.next_given.new.self u (Err c.in-Err.error)) c.bounded-time.ensures.is c.in-Err.ensures.reached

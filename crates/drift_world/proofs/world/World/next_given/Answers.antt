@@ -8,7 +8,7 @@ use Rattle.drift_world.proofs.world.World.next_given.Goals as goal
 
 -- the view is that of the network that is answered
 viewed : (g : given.Over) (c : goal.After-next g) → world_of c.network.result.now c.self.inside.state ≡ c.args.self.now
-viewed g c = ap (λ (n : Network). world_of n c.self.inside.state) c.network.ensures.value ∙ c.self.view_is
+viewed g c = ap (λ n. world_of n c.self.inside.state) c.network.ensures.value ∙ c.self.view_is
 
 pub returns-then-until-from_amount-clause-complete : goal.returns-then-until-from_amount-clause-complete
 returns-then-until-from_amount-clause-complete g c = λ network events notes under lt none.
@@ -22,9 +22,9 @@ returns-clause-stands g c = λ network events notes under.
     let K = g.C.Clock in
     let S = g.M.Machine.stands in
     let s = scenario network (reading_of K.fresh K.after_step K.reading network events) events in
-    let old = subst (λ (w : World _ (Kept _)). StandsUnder K.fresh K.after_step K.reading S network w events notes) (sym (viewed g c)) under in
+    let old = subst (λ w. StandsUnder K.fresh K.after_step K.reading S network w events notes) (sym (viewed g c)) under in
     record {
-      is = subst (λ (n : Network). Stands K.reading (keeps S) s (world_of n c.next.new.self) (notes ++ given_by (next_of c.next.result c.next.new.note)))
+      is = subst (λ n. Stands K.reading (keeps S) s (world_of n c.next.new.self) (notes ++ given_by (next_of c.next.result c.next.new.note)))
           c.network.ensures.value
           (c.next.ensures.kept.stands_then s notes old.is);
       clocks = λ device there. ap (λ (k : _). slice_get k.items device.0) c.next.ensures.kept.after.clocks ∙ old.clocks device there;
@@ -55,7 +55,7 @@ returns-clause-complete g c = λ network events notes under lt.
     let S = g.M.Machine.stands in
     let f = reading_of K.fresh K.after_step K.reading network events in
     let s = scenario network f events in
-    let old = subst (λ (w : World _ (Kept _)). StandsUnder K.fresh K.after_step K.reading S network w events notes) (sym (viewed g c)) under in
+    let old = subst (λ w. StandsUnder K.fresh K.after_step K.reading S network w events notes) (sym (viewed g c)) under in
     let whole = subst (λ (t : ℕ). IfOk c.next.result (λ more. more ≡ false → IsScenarioRun s (t ∷ []) notes)) c.amount.ensures.value
     (c.next.ensures.complete s notes old.is) in
     let admitted : IsUnder network events = record {
@@ -80,6 +80,6 @@ returns-clause-reached g c =
     let new = c.next.new.self in
     let Steps = λ (n : Network). (s : Scenario) (notes : List Note) → Stands K.reading (keeps S) s (world_of n state) notes
     → Stands K.reading (keeps S) s (world_of n new) (notes ++ given_by (next_of c.next.result c.next.new.note)) in
-    subst (λ (w : World _ (Kept _)). ComesUpTo w (world_of own new) c.args.until (next_of c.next.result c.next.new.note)) c.self.view_is
+    subst (λ w. ComesUpTo w (world_of own new) c.args.until (next_of c.next.result c.next.new.note)) c.self.view_is
     (comes_up_to K.reading S own state new _ c.next.result c.next.new.note c.args.until c.amount.result c.amount.ensures.whole c.next.ensures.kept.after
     c.self.invariant.running (subst Steps c.network.ensures.value c.next.ensures.kept.stands_then) c.next.ensures.reached c.next.ensures.err)

@@ -7,10 +7,10 @@ returns g c = λ network events notes h stands of within.
     let K = g.C.Clock in
     let own = c.self.inside.accepted.now in
     let state = c.self.inside.state in
-    shown_put K.fresh K.after_step K.reading g.M.Machine.stands own network state events notes c.args.number h c.self.invariant.sound.under_way
-    (subst (λ (w : World _ (Kept _)). StandsUnder K.fresh K.after_step K.reading g.M.Machine.stands network w events notes) (sym c.self.view_is) stands)
+    shown_put state c.self.invariant.sound.under_way
+    (subst (λ w. StandsUnder K.fresh K.after_step K.reading g.M.Machine.stands network w events notes) (sym c.self.view_is) stands)
     (subst (λ (w : World _ (Kept _)). IsOfNow (happenings network notes) w.now c.args.number h) (sym c.self.view_is) of) within c.find.result
     (subst (λ (r : ℕ). IfSome c.find.result (λ content. HoldsAt state.under_way.entries r c.args.number content.now)) c.number-rank.ensures
     c.find.ensures.found)
-    (subst (λ (r : ℕ). IfNone c.find.result (HoldsNoneAt state.under_way.entries r c.args.number)) c.number-rank.ensures c.find.ensures.none)
+    (subst (λ r. IfNone c.find.result (HoldsNoneAt state.under_way.entries r c.args.number)) c.number-rank.ensures c.find.ensures.none)
     c.signal_in.result c.signal_in.ensures
