@@ -21,9 +21,9 @@ has_out s now number other b i = absurd i
 turned_there : {s : Scenario} {hs : List Happening} {mark cursor : List ℕ} {now : ℕ} {befell : List Befell}
     {settled : List Happening} (device : DeviceId) → IsSettling s hs mark cursor now befell settled
     → is_turned_on_at s device now ≡ true → is_broken s device now ≡ false → IsTurnedOnBy settled device now
-turned_there {s} {hs} {now} device m on sound =
+turned_there {s} {hs} {mark} {now} device m on sound =
     let it = on_by_event s device now on in
-    let h = recorded s it.0 it.1 m.run it.2 (m.befallen.begun it.0 it.1 it.2) (m.befallen.told it.0 it.1 it.2) in
+    let h = recorded s mark hs it.0 it.1 m.run it.2 (m.befallen.begun it.0 it.1 it.2) (m.befallen.told it.0 it.1 it.2) in
     let body = notes.State device Integrating h.0 whys.On in
     let here : IsIn body (bodies_of s now h.0 (events.On device)) = subst (λ (x : Bool). IsIn body (if x then [] else body ∷ []))
     (sym sound) (inl refl) in

@@ -32,10 +32,10 @@ on_so : (s : Scenario) {hs : List Happening} {now n : ℕ} (line : ℕ) (d : Dev
 on_so s {hs} {now} {n} line d {h} founded it is =
     on_by_record s now d (event_due s hs h line (events.On d) founded (numbered_in hs n h it.there) is) it.same_time
 
-module _ (s : Scenario) (hs : List Happening) (now : ℕ) (device : DeviceId) (body : NoteBody) where
-  pub rest_outcome : IsFounded place_of (IsDue s) hs → IsOutcome s hs now body → IsAtRest s device now body
-  rest_outcome founded (IsOutcome.losing d link n it) = inl refl
-  rest_outcome founded (IsOutcome.turning d n line h sound it is) =
+module _ (s : Scenario) (hs : List Happening) (now : ℕ) (device : DeviceId) where
+  pub rest_outcome : (body : NoteBody) → IsFounded place_of (IsDue s) hs → IsOutcome s hs now body → IsAtRest s device now body
+  rest_outcome body founded (IsOutcome.losing d link n it) = inl refl
+  rest_outcome body founded (IsOutcome.turning d n line h sound it is) =
       elim (cases_Bool (device.0 == d.0)) [
         | inr other ↦ inl other
         | inl same ↦ inr (
@@ -45,15 +45,15 @@ module _ (s : Scenario) (hs : List Happening) (now : ℕ) (device : DeviceId) (b
       ]
 
   -- it does not move a broken one
-  out_unmoved : is_broken s device now ≡ true → IsOutcome s hs now body → moves device body ≡ false
-  out_unmoved broken (IsOutcome.losing d link n it) = refl
-  out_unmoved broken (IsOutcome.turning d n line h sound it is) = grind (arith, cases_Bool, is_broken, alike)
+  out_unmoved : (body : NoteBody) → is_broken s device now ≡ true → IsOutcome s hs now body → moves device body ≡ false
+  out_unmoved body broken (IsOutcome.losing d link n it) = refl
+  out_unmoved body broken (IsOutcome.turning d n line h sound it is) = grind (arith, cases_Bool, is_broken, alike)
 
   -- nor one that no event turns on
-  off_unmoved : IsFounded place_of (IsDue s) hs → is_turned_on_at s device now ≡ false → IsOutcome s hs now body
-      → moves device body ≡ false
-  off_unmoved founded off (IsOutcome.losing d link n it) = refl
-  off_unmoved founded off (IsOutcome.turning d n line h sound it is) =
+  off_unmoved : (body : NoteBody) → IsFounded place_of (IsDue s) hs → is_turned_on_at s device now ≡ false
+      → IsOutcome s hs now body → moves device body ≡ false
+  off_unmoved body founded off (IsOutcome.losing d link n it) = refl
+  off_unmoved body founded off (IsOutcome.turning d n line h sound it is) =
       elim (cases_Bool (device.0 == d.0)) [
         | inr other ↦ other
         | inl same ↦
