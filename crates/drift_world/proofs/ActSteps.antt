@@ -7,8 +7,8 @@ use Rattle.drift_world.specs.{Acting.{AreAbove, IsDueAt, IsIdle, IsLeft, StandsF
 use Rattle.drift_world.specs.declared.part.{Part.Part, ToDo.{ToDo, TheVariants.{Give, Next, Now}}}
 use Rattle.{drift_world.proofs.Fits.{all_put_some, have_octets}, world_state.specs.declared.outcomes.Outcomes.Outcomes}
 use Rattle.{run_law.specs.{declared.steps.Act.Act, machines.{Answers.IsActOf, Calls.MayAct}}, std.specs.List.slice_get}
-use Rattle.drift_world.proofs.Words.{◌<◌, ◌≡◌, ◌≤◌, ArePutIn, ComesFirst, DeviceId, Happening, HasActed, IsAt, IsBefore, IsHeld, IsIn, IsOf, IsSomePut}
-use Rattle.drift_world.proofs.Words.{◌∙◌, ◌∷◌, IfSome, IsSomeAnd, Kept, List, Moment, Network, Node, None, Note, Option, Scenario, Settled, Some, Stands, StandsFor, Units, [], arith}
+use Rattle.drift_world.proofs.Words.{◌+◌, ◌<◌, ◌≡◌, ◌≤◌, ArePutIn, ComesFirst, DeviceId, Happening, HasActed, IsAt, IsBefore, IsHeld, IsIn, IsOf, IsSomePut}
+use Rattle.drift_world.proofs.Words.{◌∙◌, ◌∷◌, IfSome, IsSomeAnd, Kept, List, Moment, Network, Node, None, Note, Option, Scenario, Settled, Some, Stands, StandsFor, Units, [], ap, arith}
 use Rattle.drift_world.proofs.Words.{cases_lt, chain, false, happenings, in_parts, in_right, inl, inr, keeps, length, map, moment_of, pos, rank, refl, same_Some}
 use Rattle.drift_world.proofs.Words.{settled_at, slice_get_within, stored_as, subst, sym, true, world_of, ℕ}
 use Rattle.run_law.{proofs.runs.Places.{before_behind, in_left}, specs.records.Order.behind}

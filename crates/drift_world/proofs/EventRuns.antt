@@ -1,7 +1,7 @@
 -- Where only events of the present instant are worked off, the records given are the run behind them.
 use Rattle.drift_world.proofs.Words.{◌+◌, ◌<◌, ◌∷◌, ◌≡◌, ◌≤◌, AreSettled, DeviceId, Happening, IsBefore, IsDue, IsIn, IsScenarioRun, List, Network, Node, Note}
 use Rattle.drift_world.proofs.Words.{Scenario, Stands, World, [], amount, ap, append-nil, arith, chain, happenings, inl, inr, never_self, place_of, refl, subst}
-use Rattle.{drift_world.proofs.Words.{sym, true, ℕ}, world_law.specs.world.World.IsWorkedOff}
+use Rattle.{drift_world.proofs.Words.{sym, true, ℕ}, world_law.specs.world.World.{IsDueAs, IsWorkedOff}}
 use Rattle.world_law.proofs.runs.{Next.none_due, Sourced.sourced, TaskPlaces.placed_so}
 use Rattle.{net_plan.specs.declared.event.Event.Event, world_law.{proofs.runs.Firsts.source_before, specs.source.{Next.NoneDueBefore, Sources.IsSource}}}
 use Rattle.run_law.proofs.runs.Grow.{move_mark}
@@ -61,7 +61,8 @@ module _ {C M : Type 0} (reading : C → ℕ → ℕ) (stands : M → Network �
       let from = sourced s hs y due in
       let is_worked = worked from.place from.source (source_before from.place (place_of y) (world.now ∷ 2 ∷ []) from.no_later here) in
       let are = subst (λ l. AreSettled s hs l old.mark old.cursor world.now) none_coming old.are in
-      (are.full [] [] y refl (λ n i. absurd i) (λ n i. absurd i) not (subst (λ l. IsDue s l y) (sym (append-nil hs)) due)
+      (are.full [] [] y refl (λ n i. absurd i) (λ n i. absurd i) not
+      (subst (λ l. IsDueAs s l y) (sym (append-nil hs)) (record { same = due.same; begun = due.begun; cause = due.cause }))
       (subst (λ l. IsWorkedOff s l old.cursor y) (sym (append-nil hs)) (from.place, from.own, from.source, is_worked))).1
 
   -- the records are the run behind the events of the instant

@@ -142,10 +142,10 @@ module _ {C M : Type 0} (reading : C → ℕ → ℕ) (stands : Kept M → Netwo
 
   module _ (machine : Kept M) (moment : Moment) (found : slice_get state.machines.items place.device ≡ Some machine)
       (now : moment ≡ moment_of s e.device state.time) where
-    held : IsHeld stands s hs (map (settled_at s.network state.time) state.settled.items) old.cursor state.time e.device machine
+    held : IsHeld stands s hs (map (settled_at network state.time) state.settled.items) old.cursor state.time e.device machine
     held =
         let own = old.devices e.device (device_there s hs e old.range (old.wires.real e there).0) in
-        subst (λ x. IsHeld stands s hs (map (settled_at s.network state.time) state.settled.items) old.cursor state.time e.device x) (some_same own.0 machine _ own.1 found) own.2
+        subst (λ x. IsHeld stands s hs (map (settled_at network state.time) state.settled.items) old.cursor state.time e.device x) (some_same own.0 machine _ own.1 found) own.2
 
     called : (node : Node) (m : Moment) → Type 0
     called node m = MayCall s.network e.device node m arriving
