@@ -5,3 +5,4 @@ pub mod steps
 pub mod befalling
 pub mod hearing
 pub mod ripening
+pub mod turns

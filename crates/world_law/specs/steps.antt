@@ -5,3 +5,4 @@ pub mod Acting
 pub mod Repeating
 pub mod Befalling
 pub mod Ending
+pub mod Turns

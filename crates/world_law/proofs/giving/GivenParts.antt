@@ -48,10 +48,10 @@ key_long : (members : ℕ) (body : NoteBody) → 1 ≤ length (key members body)
 key_long m (notes.Event line what) = omega arith
 key_long m other = omega arith
 
-abbrev IsNoSourceRank : ℕ → Type 0
+abbrev pub IsNoSourceRank : ℕ → Type 0
 IsNoSourceRank r = (2 ≡ r → ⊥) × (3 ≡ r → ⊥) × (8 ≡ r → ⊥) × (14 ≡ r → ⊥) × ((r < 4) ⊎ (6 < r))
 
-source_kinds : (body : NoteBody) → (is_at_source body ≡ true) ⊎ IsNoSourceRank (rank body)
+pub source_kinds : (body : NoteBody) → (is_at_source body ≡ true) ⊎ IsNoSourceRank (rank body)
 source_kinds (notes.Arrived device link cause clock) = inl refl
 source_kinds (notes.Permanent device link cause point verdict) = inl refl
 source_kinds (notes.Left device link cause clock) = inl refl

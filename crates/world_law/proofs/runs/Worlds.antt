@@ -84,3 +84,26 @@ nothing_settled_is_all s notes mark cursor now until run settled within none =
     ] in
     move_mark place_of (IsDue s) mark (until ∷ []) hs run (λ n i. within (place_of n) (run.within n i))
     (none_due place_of (IsDue s) mark hs (until ∷ []) run.within free)
+
+-- where nothing to come is before the place up to which all is worked off, the records given are the run up to there
+pub given_up_to : {s : Scenario} (notes : List Note) {coming : List Happening} {mark cursor : List ℕ} {now : ℕ}
+    → IsScenarioRun s mark notes
+    → AreSettled s (happenings s.network notes) coming mark cursor now
+    → ((z : Happening) → IsIn z coming → IsBefore (place_of z) cursor → ⊥)
+    → ((p : List ℕ) → IsBefore p mark → IsBefore p cursor) → IsScenarioRun s cursor notes
+given_up_to {s} notes {coming} {mark} {cursor} run settled ahead up_to =
+    let hs = happenings s.network notes in
+    let free : NoneDueBefore place_of (IsDue s) mark hs cursor = λ y due not here.
+    let from = sourced s hs y due in
+    let found = settled.full [] coming y refl (λ n i. absurd i)
+    (λ o i b. ahead o i (chain (place_of o) (place_of y) cursor b here)) not (due_now due)
+    (worked_now {s = s} {hs = hs} cursor y (
+      from.place,
+      from.own,
+      from.source,
+      source_before from.place
+          (place_of y) cursor from.no_later here,
+    )) in
+    ahead found.0 found.1 (subst (λ q. IsBefore q cursor) (sym found.2) here) in
+    move_mark place_of (IsDue s) mark cursor hs run (λ n i. up_to (place_of n) (run.within n i))
+    (none_due place_of (IsDue s) mark hs cursor run.within free)

@@ -1,7 +1,7 @@
 ghost use Rattle.world_law.specs.steps.{Acting.ActedStep, Arriving.HeardStep, Befalling.BefellStep};
 ghost use Rattle.world_law.specs.steps.Repeating.{ActsAddUp, ActsAreBounded, ActsBringFew, NoActYet};
 ghost use Rattle.world_law.specs.steps.{Ending.CorrectionEnds, Ripening.RipenedStep};
-ghost use Rattle.world_law.specs.steps.Steps.{AppliedStep, Begun, ClockStep, LeftStep, PassedStep};
+ghost use Rattle.world_law.specs.steps.{Steps.{AppliedStep, Begun, ClockStep, LeftStep, PassedStep}, Turns.{ActedTurn, ClockTurn, HeardTurn, LeftTurn, RipenedTurn}};
 
 use drift_clock::Clock;
 use run_law::Machine;
@@ -29,6 +29,32 @@ pub fn left_step<C: Clock, M: Machine + Drop>()
 /// Where a world stands and the clock of a device is shown at the end, it stands again.
 pub fn clock_step<C: Clock, M: Machine + Drop>()
     ensures { ClockStep C.reading M.stands }
+{}
+
+/// Where a world stands at one frontier and the clock of a device is shown at the end, it stands behind it with its record
+/// given.
+pub fn clock_turn<C: Clock, M: Machine + Drop>()
+    ensures { ClockTurn C.reading M.stands }
+{}
+
+/// Where a world stands at one frontier and a frame at a port leaves, it stands behind it, with the record that stands there given.
+pub fn left_turn<C: Clock, M: Machine + Drop>()
+    ensures { LeftTurn C.reading M.stands }
+{}
+
+/// Where a world stands at one frontier and a frame on a wire arrives, it stands behind it, with the record that stands there given.
+pub fn heard_turn<C: Clock, M: Machine + Drop>()
+    ensures { HeardTurn C.reading M.stands }
+{}
+
+/// Where a world stands at one frontier and the first frame that waits is permanent, it stands behind it, with the record that stands there given.
+pub fn ripened_turn<C: Clock, M: Machine + Drop>()
+    ensures { RipenedTurn C.reading M.stands }
+{}
+
+/// Where a world stands at one frontier and a device acts, it stands behind it, with the record that stands there given.
+pub fn acted_turn<C: Clock, M: Machine + Drop>()
+    ensures { ActedTurn C.reading M.stands }
 {}
 
 /// Where a world stands and an event befalls, before all else of its instant, it stands again.

@@ -1,0 +1,250 @@
+-- The turn of a source, where the world stands behind it with its records to come: what stands there is given.
+use Rattle.world_law.proofs.steps_lemmas.Words.{◌++◌, ◌+◌, ◌<◌, ◌∙◌, ◌∷◌, ◌≡◌, ◌≤◌, ◌⊎◌, AllBefore, ArePutIn, DeviceId, Happening, IsBefore, IsIn}
+use Rattle.world_law.proofs.steps_lemmas.Words.{IsPutIn, List, Network, NoneBefore, Node, Note, NoteBody, Scenario, Stands, StandsBehind, World, [], ap, append-nil, arith}
+use Rattle.world_law.proofs.steps_lemmas.Words.{before_behind, behind, cases_Bool, chain, either_way, false, happenings, in_left, in_parts, in_right, inl, inr, is_at_source}
+use Rattle.world_law.proofs.steps_lemmas.Words.{never_self, place_of, rank, refl, second, settled_as, subst, sym, time_of, true, ℕ}
+use Rattle.world_law.proofs.{giving.{Given.given_at, GivenParts.{source_kinds, up_to_place}}, runs.Worlds.given_up_to}
+use Rattle.world_law.specs.steps.Turns.{IsTurn, StandsAt, next_note, starts_there}
+
+-- ---- one frontier
+
+module _ {C M : Type 0} {reading : C → ℕ → ℕ} {stands : M → Network → DeviceId → Node → Type 0} {s : Scenario}
+    {world : World C M} {notes : List Note} where
+  -- where nothing to come is before the place up to which all is worked off, that is the frontier
+  pub raised : (st : Stands reading stands s world notes)
+      → ((z : Happening) → IsIn z world.settled → IsBefore (place_of z) st.cursor → ⊥)
+      → StandsAt reading stands s world notes st.cursor
+  raised st ahead = (
+    record {
+      same = st.same;
+      range = st.range;
+      rules = st.rules;
+      forward = st.forward;
+      steady = st.steady;
+      precise = st.precise;
+      mark = st.cursor;
+      cursor = st.cursor;
+      run = given_up_to notes st.run st.are ahead st.ahead;
+      ahead = λ p b. b;
+      of_now = λ p b. st.ahead p (st.of_now p b);
+      not_later = st.not_later;
+      limit = st.limit;
+      lines = st.lines;
+      given = st.given;
+      ended = st.ended;
+      befallen = record {
+        past = st.befallen.past;
+        told = λ i e at. st.ahead _ (st.befallen.told i e at);
+        begun = st.befallen.begun;
+        sent = st.befallen.sent;
+      };
+      clocks = st.clocks;
+      broken = st.broken;
+      ways = st.ways;
+      room = st.room;
+      known = st.known;
+      devices = st.devices;
+      early = st.early;
+      untold = st.untold;
+      wires = st.wires;
+      ports = st.ports;
+      waiting = st.waiting;
+      stored = st.stored;
+      are = record {
+        of_now = st.are.of_now;
+        behind_mark = ahead;
+        founded = st.are.founded;
+        by = st.are.by;
+        full = λ front back y e before none not due worked. st.are.full front back y e before none
+            (λ b. not (st.ahead (place_of y) b)) due worked;
+        not_past = st.are.not_past;
+        worked = st.are.worked;
+        begun = st.are.begun;
+      };
+      shown = st.shown;
+    },
+    refl,
+    refl,
+  )
+
+  -- and where there is one, nothing to come stands at its source
+  pub late_at : {p : List ℕ} → StandsAt reading stands s world notes p → (z : Happening) → IsIn z world.settled
+      → is_at_source z.note.body ≡ false
+  late_at st z i = elim (cases_Bool (is_at_source z.note.body)) [
+    | inr no_it ↦ no_it
+    | inl is ↦
+        absurd (st.0.are.behind_mark z i (subst (λ q. IsBefore (place_of z) q) (st.2 ∙ sym st.1)
+        (st.0.are.worked z i is)))
+  ]
+
+-- ---- what is put in
+
+-- each that is there then was there, or is one of these
+put_is : (network : Network) (hs : List Happening) (now : ℕ) (bodies : List NoteBody) (old new : List Happening)
+    → ArePutIn network hs now bodies old new
+    → (z : Happening) → IsIn z new → IsIn z old
+    ⊎ ((body : NoteBody) × IsIn body bodies × (z ≡ settled_as network hs now body))
+put_is network hs now [] old new put z i = inl (subst (λ l. IsIn z l) put i)
+put_is network hs now (body ∷ bodies) old new (mid, first, rest) z i =
+    elim (put_is network hs now bodies mid new rest z i) [
+      | inr more ↦ inr (more.0, inr more.1, more.2)
+      | inl there ↦ elim (in_parts z first.front (settled_as network hs now body ∷ first.back)
+          (subst (λ l. IsIn z l) first.is there)) [
+            | inl f ↦ inl (subst (λ l. IsIn z l) (sym first.was) (in_left z first.front first.back f))
+            | inr (inl e) ↦ inr (body, inl refl, e)
+            | inr (inr b) ↦ inl (subst (λ l. IsIn z l) (sym first.was) (in_right z first.front first.back b))
+          ]
+    ]
+
+-- what is put in behind a place is so with a record before all others that stands there
+put_behind : (network : Network) (hs : List Happening) (now : ℕ) (bodies : List NoteBody) (z : Happening)
+    (old new : List Happening)
+    → ((body : NoteBody) → IsIn body bodies → IsBefore (place_of z) (place_of (settled_as network hs now body)))
+    → ArePutIn network hs now bodies old new → ArePutIn network hs now bodies (z ∷ old) (z ∷ new)
+put_behind network hs now [] z old new later put = ap (λ (l : List Happening). z ∷ l) put
+put_behind network hs now (body ∷ bodies) z old new later (mid, first, rest) = (
+  z ∷ mid,
+  record {
+    front = z ∷ first.front;
+    back = first.back;
+    was = ap (λ (l : List Happening). z ∷ l) first.was;
+    is = ap (λ (l : List Happening). z ∷ l) first.is;
+    before = λ h i. elim i [
+      | inl e ↦ subst (λ (g : Happening). IsBefore (place_of g) (place_of (settled_as network hs now body))) (sym e)
+          (later body (inl refl))
+      | inr more ↦ first.before h more
+    ];
+    none = first.none;
+  },
+  put_behind network hs now bodies z mid new (λ other i. later other (inr i)) rest,
+)
+
+-- ---- the turn
+
+-- the rank of a source
+abbrev pub IsTurnRank : ℕ → Type 0
+IsTurnRank r = (2 ≡ r) ⊎ ((3 ≡ r) ⊎ ((8 ≡ r) ⊎ ((14 ≡ r) ⊎ ((4 ≤ r) × (r ≤ 6)))))
+
+-- what does not stand at its source does not stand where one does
+late_apart : (z : Happening) (now r : ℕ) (more : List ℕ) → IsTurnRank r → is_at_source z.note.body ≡ false
+    → place_of z ≡ now ∷ r ∷ more → ⊥
+late_apart z now r more kind late at =
+    let same : rank z.note.body ≡ r = ap second at in
+    elim (source_kinds z.note.body) [
+      | inl is ↦ let bad : false ≡ true = sym late ∙ is in cc
+      | inr none ↦ elim kind [
+        | inl two ↦ none.0 (two ∙ sym same)
+        | inr (inl three) ↦ none.1 (three ∙ sym same)
+        | inr (inr (inl eight)) ↦ none.2 (eight ∙ sym same)
+        | inr (inr (inr (inl last))) ↦ none.3 (last ∙ sym same)
+        | inr (inr (inr (inr act))) ↦ elim none.4 [
+          | inl low ↦ let most = act.0 in omega (arith, low, most, same)
+          | inr high ↦ let most = act.1 in omega (arith, high, most, same)
+        ]
+      ]
+    ]
+
+-- where the world with the records to come stands behind the source, it stands there with those that stand at it given
+pub turn_by : {C M : Type 0} {reading : C → ℕ → ℕ} {stands : M → Network → DeviceId → Node → Type 0} {s : Scenario}
+    {world : World C M}
+    {notes : List Note} {p : List ℕ} → StandsAt reading stands s world notes p
+    → (r : ℕ) (more_place : List ℕ) → IsTurnRank r
+    → (bodies : List NoteBody) (mid new : World C M) (more : List Note) → mid.settled ≡ world.settled
+    → NoneBefore place_of world.settled (world.now ∷ r ∷ more_place)
+    → ((body : NoteBody) (others : List NoteBody) → bodies ≡ body ∷ others → is_at_source body ≡ true
+    → (place_of (settled_as s.network (happenings s.network notes) mid.now body) ≡ world.now ∷ r ∷ more_place)
+    × ((other : NoteBody) → IsIn other others
+    → IsBefore (world.now ∷ r ∷ more_place)
+    (place_of (settled_as s.network (happenings s.network notes) mid.now other))))
+    → (starts_there bodies ≡ false → (body : NoteBody) → IsIn body bodies → is_at_source body ≡ false)
+    → ((settled : List Happening) → ArePutIn s.network (happenings s.network notes) mid.now bodies world.settled settled
+    → StandsBehind reading stands s (record mid { settled = settled }) notes (behind (world.now ∷ r ∷ more_place)))
+    → IsTurn s notes bodies mid new more → StandsAt reading stands s new (notes ++ more)
+    (behind (world.now ∷ r ∷ more_place))
+turn_by {C} {M} {reading} {stands} {s} {world} {notes} {p} old r rest kind bodies mid new more same none at late step
+    (IsTurn.gives body others is own g) =
+    let hs = happenings s.network notes in
+    let here = world.now ∷ r ∷ rest in
+    let z = settled_as s.network hs mid.now body in
+    let place = (at body others is own).0 in
+    let put : ArePutIn s.network hs mid.now (body ∷ others) world.settled (z ∷ new.settled) = (
+      z ∷ world.settled,
+      record {
+        front = [];
+        back = world.settled;
+        was = refl;
+        is = refl;
+        before = λ h i. absurd i;
+        none = subst (λ q. NoneBefore place_of world.settled q) (sym place) none;
+      },
+      put_behind s.network hs mid.now others z world.settled new.settled
+          (λ other i. subst (λ q. IsBefore q (place_of (settled_as s.network hs mid.now other))) (sym place)
+          ((at body others is own).1 other i))
+          (subst (λ l. ArePutIn s.network hs mid.now others l new.settled) same g.put),
+    ) in
+    let behind_it = step (z ∷ new.settled) (subst (λ l. ArePutIn s.network hs mid.now l world.settled (z ∷ new.settled))
+    (sym is) put) in
+    let then_ = given_at reading stands s (record mid { settled = z ∷ new.settled }) notes z new.settled new.wires
+    new.ports new.waiting new.stored
+    behind_it.0 refl
+    (λ w source waits b. waits (subst (λ q. IsBefore w q) (sym behind_it.1)
+    (chain w here (behind here) (subst (λ q. IsBefore w q) place b) (before_behind here))))
+    g.wires g.ports g.waiting g.stored in
+    let after : World C M = record mid {
+      wires = new.wires;
+      ports = new.ports;
+      waiting = new.waiting;
+      stored = new.stored;
+      settled = new.settled;
+      given = mid.given + 1;
+    } in
+    subst (λ (x : World C M). StandsAt reading stands s x (notes ++ more) (behind here)) (sym g.same)
+    (subst (λ (l : List Note). StandsAt reading stands s after (notes ++ l) (behind here)) (sym g.note)
+    (subst (λ q. StandsAt reading stands s after (notes ++ next_note notes mid.now body ∷ []) (behind q)) place then_))
+turn_by {C} {M} {reading} {stands} {s} {world} {notes} {p} old r rest kind bodies mid new more same none at late step
+    (IsTurn.puts not_there g) =
+    let hs = happenings s.network notes in
+    let here = world.now ∷ r ∷ rest in
+    let behind_it = step new.settled (subst (λ l. ArePutIn s.network hs mid.now bodies l new.settled) same g.put) in
+    let st = behind_it.0 in
+    let off : (z : Happening) → IsIn z new.settled → is_at_source z.note.body ≡ false = λ z i.
+    elim (put_is s.network hs mid.now bodies world.settled new.settled
+    (subst (λ l. ArePutIn s.network hs mid.now bodies l new.settled) same g.put) z i) [
+      | inl was ↦ late_at old z was
+      | inr it ↦ ap (λ (h : Happening). is_at_source h.note.body) it.2 ∙ late not_there it.0 it.1
+    ] in
+    let ahead : (z : Happening) → IsIn z new.settled → IsBefore (place_of z) st.cursor → ⊥ = λ z i b.
+    elim (up_to_place (place_of z) here (subst (λ q. IsBefore (place_of z) q) behind_it.1 b)) [
+      | inl e ↦ late_apart z world.now r rest kind (off z i) e
+      | inr lt ↦
+          elim (up_to_place here (place_of z)
+          (st.are.not_past z i here (subst (λ q. IsBefore here q) (sym behind_it.1) (before_behind here)))) [
+            | inl e ↦ never_self here (subst (λ q. IsBefore q here) (sym e) lt)
+            | inr gt ↦ never_self here (chain here (place_of z) here gt lt)
+          ]
+    ] in
+    let up = raised st ahead in
+    subst (λ (x : World C M). StandsAt reading stands s x (notes ++ more) (behind here)) (sym g.same)
+    (subst (λ (l : List Note). StandsAt reading stands s (record mid { settled = new.settled }) (notes ++ l)
+    (behind here)) (sym g.none)
+    (subst (λ (l : List Note). StandsAt reading stands s (record mid { settled = new.settled }) l (behind here))
+    (sym (append-nil notes))
+    (subst (λ q. StandsAt reading stands s (record mid { settled = new.settled }) notes q) behind_it.1 up)))
+
+-- ---- of one record
+
+-- a list of one
+pub one_of : (P : NoteBody → Type 0) (body : NoteBody) (b : NoteBody) (others : List NoteBody)
+    → body ∷ [] ≡ b ∷ others → P body
+    → P b × ((other : NoteBody) → IsIn other others → ⊥)
+one_of P body b others is it =
+    let same : body ≡ b = cc in
+    let none : [] ≡ others = cc in
+    (subst P same it, λ other i. subst (λ l. IsIn other l) (sym none) i)
+
+pub few_late : (bodies : List NoteBody) → ((b : NoteBody) (others : List NoteBody) → bodies ≡ b ∷ others → others ≡ [])
+    → starts_there bodies ≡ false
+    → (body : NoteBody) → IsIn body bodies → is_at_source body ≡ false
+few_late [] few late body i = absurd i
+few_late (x ∷ xs) few late body (inl e) = ap is_at_source e ∙ late
+few_late (x ∷ xs) few late body (inr more) = absurd (subst (λ l. IsIn body l) (few x xs refl) more)
