@@ -1,5 +1,5 @@
 -- A source is worked off, and its records are put in among those to come.
-pub mod Renumbers
+pub mod Numberless
 pub mod Alike
 pub mod Idle
 pub mod PutIn

@@ -146,7 +146,7 @@ kept_no_act {M} {stands} {s} {hs} {coming} {mark} {cursor} {p} {now} {t} {device
     past worked befallen later le idle a not b =
     elim (cases_lt now t) [
       | inr ge ↦ let same : t ≡ now =
-          omega (arith, ge, le) in at_once (subst (λ n. IsActing s hs n device task) same a)
+          omega (arith, ge, le) in at_present (subst (λ n. IsActing s hs n device task) same a)
           (subst (λ n. IsBefore (task_place s.network n device task) cursor → ⊥) same not)
           (subst (λ n. IsBefore (task_place s.network n device task) p) same b)
       | inl lt ↦
@@ -160,9 +160,9 @@ kept_no_act {M} {stands} {s} {hs} {coming} {mark} {cursor} {p} {now} {t} {device
           afterwards lt k0.0 idle0 law0
     ]
   where
-    at_once : IsActing s hs now device task → (IsBefore (task_place s.network now device task) cursor → ⊥)
+    at_present : IsActing s hs now device task → (IsBefore (task_place s.network now device task) cursor → ⊥)
         → IsBefore (task_place s.network now device task) p → ⊥
-    at_once a not b =
+    at_present a not b =
         let js = hs ++ coming in
         let past_all : (h : Happening) → IsIn h js → time_of h ≤ now = λ h i. elim (in_parts h hs coming i) [
           | inl given ↦ past.past h given

@@ -19,7 +19,7 @@ use Rattle.world_law.proofs.runs.{Firsts.{arriving_more, departing_more, numbere
 use Rattle.world_law.{proofs.giving.Storing.stored_then, specs.world.Moves.{AreAwaited, AreGiven, ArePut, AreTaken, GivenStep}}
 use Rattle.world_law.proofs.giving.GivenAs.{settled_then}
 use Rattle.world_law.proofs.giving.GivenParts.{IsGiving, over_itself, same_permanent, some_same, up_to_place, worked_by_then}
-use Rattle.world_law.specs.{device.Plain.renumbered, world.World.IsDueAs}
+use Rattle.world_law.specs.{device.Plain.with_number, world.World.IsDueAs}
 use Rattle.run_law.specs.declared.judgement.Judgement.TheVariants as judgements
 use Rattle.run_law.specs.declared.note.NoteBody.TheVariants as kinds
 use Rattle.world_law.specs.{source.First.NoSourceBefore, steps.Turns.StandsAt, world.World.{Stands, Stored, World}}
@@ -87,19 +87,19 @@ changes_by js gs device t same = sym (changes_at_plain js device t) ∙ ap (λ l
 module _ {s : Scenario} {hs : List Happening} {z : Happening} {rest : List Happening} {mark cursor : List ℕ} {now : ℕ}
     (g : IsGiving s hs z rest mark cursor now) {n : ℕ} (is : n ≡ length hs + 1) where
   -- the source is worked off, though the record is given
-  worked_yet : (w : List ℕ) → IsSource s (hs ++ renumbered n z ∷ []) w → IsBefore w (behind (place_of z)) → IsBefore w cursor
-  worked_yet w source under = worked_by_then g (renumbered n z ∷ []) (over_itself z n) w source under
+  worked_yet : (w : List ℕ) → IsSource s (hs ++ with_number n z ∷ []) w → IsBefore w (behind (place_of z)) → IsBefore w cursor
+  worked_yet w source under = worked_by_then g (with_number n z ∷ []) (over_itself z n) w source under
 
-  here_then : (cause : ℕ) → cause ≡ n → numbered (hs ++ renumbered n z ∷ []) cause ≡ Some (renumbered n z)
-  here_then cause e = numbered_next hs [] (renumbered n z) cause (e ∙ is)
+  here_then : (cause : ℕ) → cause ≡ n → numbered (hs ++ with_number n z ∷ []) cause ≡ Some (with_number n z)
+  here_then cause e = numbered_next hs [] (with_number n z) cause (e ∙ is)
 
-  there_still : (h : Happening) (cause : ℕ) → numbered hs cause ≡ Some h → numbered (hs ++ renumbered n z ∷ []) cause ≡ Some h
-  there_still h cause there = numbered_still hs (renumbered n z) h cause there
+  there_still : (h : Happening) (cause : ℕ) → numbered hs cause ≡ Some h → numbered (hs ++ with_number n z ∷ []) cause ≡ Some h
+  there_still h cause there = numbered_still hs (with_number n z) h cause there
 
   -- ---- wires
 
-  wires_then : {wires new : List OnWire} → AreOnWires s hs cursor now false wires → ArePut s (renumbered n z) n wires new
-      → AreOnWires s (hs ++ renumbered n z ∷ []) (behind (place_of z)) now false new
+  wires_then : {wires new : List OnWire} → AreOnWires s hs cursor now false wires → ArePut s (with_number n z) n wires new
+      → AreOnWires s (hs ++ with_number n z ∷ []) (behind (place_of z)) now false new
   wires_then {wires} {new} are put = record {
     real = λ e i. elim (put.real e i) [
       | inl old ↦
@@ -110,7 +110,7 @@ module _ {s : Scenario} {hs : List Happening} {z : Happening} {rest : List Happe
           (record { putting = was.0.putting; there = there; arrives = was.0.arrives }, λ open_. absurd cc, λ b. was.2 (worked_yet (wire_place e) source b))
       | inr it ↦
           let later = arrives_later g.forward it.1 in (
-            record { putting = renumbered n z; there = here_then e.cause it.0; arrives = it.1 },
+            record { putting = with_number n z; there = here_then e.cause it.0; arrives = it.1 },
             λ open_. absurd cc,
             λ b. elim (no_higher e.at 2 (time_of z) (rank z.note.body) _ (key (members_in z) z.note.body) (up_to_place (wire_place e) (place_of z) b)) [
               | inl lt ↦ omega (arith, later, lt)
@@ -119,7 +119,7 @@ module _ {s : Scenario} {hs : List Happening} {z : Happening} {rest : List Happe
           )
     ];
     all = λ t device link cause a told not.
-        elim (arriving_more s hs (renumbered n z) t device link cause a) [
+        elim (arriving_more s hs (with_number n z) t device link cause a) [
           | inl old ↦ let found =
               are.all t device link cause old (λ open_. absurd cc) (λ b. not (g.are.not_past z (inl refl) _ b)) in (found.0, put.kept found.0 found.1, found.2)
           | inr it ↦
@@ -130,8 +130,8 @@ module _ {s : Scenario} {hs : List Happening} {z : Happening} {rest : List Happe
 
   -- ---- ports
 
-  ports_then : {ports new : List AtPort} → AreAtPorts s hs cursor ports → AreGiven s (renumbered n z) n ports new
-      → AreAtPorts s (hs ++ renumbered n z ∷ []) (behind (place_of z)) new
+  ports_then : {ports new : List AtPort} → AreAtPorts s hs cursor ports → AreGiven s (with_number n z) n ports new
+      → AreAtPorts s (hs ++ with_number n z ∷ []) (behind (place_of z)) new
   ports_then {ports} {new} are put = record {
     real = λ e i. elim (put.real e i) [
       | inl old ↦
@@ -143,7 +143,7 @@ module _ {s : Scenario} {hs : List Happening} {z : Happening} {rest : List Happe
       | inr it ↦
           let low = gives_rank s.network z.note.body e.device e.link it.1.gives in
           let held = it.1.held in (
-            record { giving = renumbered n z; there = here_then e.cause it.0; gave = it.1 },
+            record { giving = with_number n z; there = here_then e.cause it.0; gave = it.1 },
             λ b. elim (no_higher e.at 8 (time_of z) (rank z.note.body) _ (key (members_in z) z.note.body) (up_to_place (port_place e) (place_of z) b)) [
               | inl lt ↦ omega (arith, held, lt)
               | inr same ↦ omega (arith, low, same.1)
@@ -151,7 +151,7 @@ module _ {s : Scenario} {hs : List Happening} {z : Happening} {rest : List Happe
           )
     ];
     all = λ t device link cause d not.
-        elim (departing_more s hs (renumbered n z) t device link cause d) [
+        elim (departing_more s hs (with_number n z) t device link cause d) [
           | inl old ↦ let found = are.all t device link cause old (λ b. not (g.are.not_past z (inl refl) _ b)) in (found.0, put.kept found.0 found.1, found.2)
           | inr it ↦
               let found = put.all device link it.1 in (
@@ -165,12 +165,12 @@ module _ {s : Scenario} {hs : List Happening} {z : Happening} {rest : List Happe
 
   -- ---- what waits
 
-  waiting_then : {waiting new : List Waiting} → HaveBefallen s mark now → AreWaiting s hs cursor now waiting → AreAwaited s (renumbered n z) n waiting new
-      → AreWaiting s (hs ++ renumbered n z ∷ []) (behind (place_of z)) now new
+  waiting_then : {waiting new : List Waiting} → HaveBefallen s mark now → AreWaiting s hs cursor now waiting → AreAwaited s (with_number n z) n waiting new
+      → AreWaiting s (hs ++ with_number n z ∷ []) (behind (place_of z)) now new
   waiting_then {waiting} {new} befallen are put = record {
     real = λ e i. elim (put.real e i) [
       | inl old ↦ let was = are.real e old in record { arrival = was.arrival; there = there_still was.arrival e.cause was.there; awaited = was.awaited }
-      | inr it ↦ record { arrival = renumbered n z; there = here_then e.cause it.0; awaited = it.1 }
+      | inr it ↦ record { arrival = with_number n z; there = here_then e.cause it.0; awaited = it.1 }
     ];
     later = λ e i t r b.
         let p = r.permanent in
@@ -186,7 +186,7 @@ module _ {s : Scenario} {hs : List Happening} {z : Happening} {rest : List Happe
               are.later e old t (record { frame = r.frame; permanent = same_permanent hs p there })
               (subst (λ q. IsBefore q cursor) at yet)
           | inr it ↦
-              let arrival : renumbered n z ≡ p.arrival = some_same (renumbered n z) p.arrival _ (here_then e.cause it.0) p.there in
+              let arrival : with_number n z ≡ p.arrival = some_same (with_number n z) p.arrival _ (here_then e.cause it.0) p.there in
               let two : rank z.note.body ≡ 2 = ap (λ (h : Happening). rank h.note.body) arrival ∙ ap rank p.arrived in
               let from = p.reached.from_on in
               let at : time_of z ≡ time_of p.arrival = ap time_of arrival in
@@ -198,7 +198,7 @@ module _ {s : Scenario} {hs : List Happening} {z : Happening} {rest : List Happe
     sound = λ e i. elim (put.real e i)
         [ inl old ↦ are.sound e old | inr it ↦ subst (λ t. is_broken s e.device t ≡ false) (g.are.of_now z (inl refl)) it.2 ];
     all = λ e it sound not.
-        elim (numbered_more hs (renumbered n z) it.arrival e.cause it.there) [
+        elim (numbered_more hs (with_number n z) it.arrival e.cause it.there) [
           | inl old ↦
               put.kept e (are.all e (record { arrival = it.arrival; there = old; awaited = it.awaited }) sound (λ t r b.
               not t (record {
@@ -219,20 +219,20 @@ module _ {s : Scenario} {hs : List Happening} {z : Happening} {rest : List Happe
 
   -- ---- devices
 
-  alone_now : (y : Happening) → IsIn y (renumbered n z ∷ []) → time_of y ≡ now
+  alone_now : (y : Happening) → IsIn y (with_number n z ∷ []) → time_of y ≡ now
   alone_now y (inl e) = ap time_of e ∙ g.are.of_now z (inl refl)
   alone_now y (inr none) = absurd none
 
   -- where the acts of the device are before what follows the record, what acts by the records with it, acts by those before
   act_back : (device : DeviceId) → IsBefore (act_place now device) (behind (place_of z)) → (task : Task)
-      → IsActing s (hs ++ renumbered n z ∷ []) now device task → IsActing s hs now device task
+      → IsActing s (hs ++ with_number n z ∷ []) now device task → IsActing s hs now device task
   act_back device b task a =
       let at = g.are.of_now z (inl refl) in
       elim (no_higher now 4 (time_of z) (rank z.note.body) (device.0 ∷ []) (key (members_in z) z.note.body)
       (up_to_place (act_place now device) (place_of z) b)) [
         | inl lt ↦ absurd (omega (arith, at, lt))
         | inr same ↦
-            acting_back hs (renumbered n z ∷ []) (λ y i. let t = alone_now y i in omega (arith, t))
+            acting_back hs (with_number n z ∷ []) (λ y i. let t = alone_now y i in omega (arith, t))
             (λ y i. elim i [
               | inl e ↦ let same_rank : rank y.note.body ≡ rank z.note.body = ap (λ (h : Happening). rank h.note.body) e in omega (arith, same_rank, same.1)
               | inr none ↦ absurd none
@@ -240,7 +240,7 @@ module _ {s : Scenario} {hs : List Happening} {z : Happening} {rest : List Happe
       ]
 
   acted_then : {up : ℕ} {device : DeviceId} (node : Node) → IsActedUpTo s hs now device node cursor up
-      → IsActedUpTo s (hs ++ renumbered n z ∷ []) now device node (behind (place_of z)) up
+      → IsActedUpTo s (hs ++ with_number n z ∷ []) now device node (behind (place_of z)) up
   acted_then node (inr over) = inr (over.0, λ p b. g.are.not_past z (inl refl) p (over.1 p b))
   acted_then {device} node (inl still) =
       inl (
@@ -250,18 +250,18 @@ module _ {s : Scenario} {hs : List Happening} {z : Happening} {rest : List Happe
             (act_back device (acts_before s.network now device task (behind (place_of z)) b) task a),
       )
 
-  out_then : {device : DeviceId} → IsActedOut s hs now device cursor → IsActedOut s (hs ++ renumbered n z ∷ []) now device (behind (place_of z))
+  out_then : {device : DeviceId} → IsActedOut s hs now device cursor → IsActedOut s (hs ++ with_number n z ∷ []) now device (behind (place_of z))
   out_then {device} out =
       let past = g.are.not_past z (inl refl) (act_place now device) out.past in
       record { past = past; all = λ task a. g.are.not_past z (inl refl) _ (out.all task (act_back device past task a)) }
 
   -- a device whose own frame tells it the time has no frame left once the record of that is given
-  joins_then : {device : DeviceId} → IsJoiningNow s hs (z ∷ rest) device now → IsActedOut s (hs ++ renumbered n z ∷ []) now device (behind (place_of z))
-      ⊎ (IsJustTold s ((hs ++ renumbered n z ∷ []) ++ rest) device now ⊎ IsJoiningNow s (hs ++ renumbered n z ∷ []) rest device now)
+  joins_then : {device : DeviceId} → IsJoiningNow s hs (z ∷ rest) device now → IsActedOut s (hs ++ with_number n z ∷ []) now device (behind (place_of z))
+      ⊎ (IsJustTold s ((hs ++ with_number n z ∷ []) ++ rest) device now ⊎ IsJoiningNow s (hs ++ with_number n z ∷ []) rest device now)
   joins_then {device} j =
-      let same : earlier now (hs ++ renumbered n z ∷ []) ≡ earlier now hs = earlier_still now hs (renumbered n z ∷ [])
+      let same : earlier now (hs ++ with_number n z ∷ []) ≡ earlier now hs = earlier_still now hs (with_number n z ∷ [])
       (λ y i. let t = alone_now y i in omega (arith, t)) in
-      let looking : state_before s (hs ++ renumbered n z ∷ []) device now ≡ Integrating = ap (λ l. if is_turned_on_at s device now
+      let looking : state_before s (hs ++ with_number n z ∷ []) device now ≡ Integrating = ap (λ l. if is_turned_on_at s device now
       then Integrating else state_after s l device) same ∙ j.looking in
       elim j.there [
         | inr more ↦ inr (inr (record { looking = looking; by = j.by; there = more; sent = j.sent; joins = j.joins }))
@@ -271,52 +271,52 @@ module _ {s : Scenario} {hs : List Happening} {z : Happening} {rest : List Happe
             inl (record {
               past = chain (act_place now device) (place_of z) (behind (place_of z))
                   (joined_place z device now (g.are.of_now z (inl refl)) z.note.body refl four joins) (before_behind (place_of z));
-              all = λ task a. absurd (gone_acts looking (joined_points hs (renumbered n z) device joins) a);
+              all = λ task a. absurd (gone_acts looking (joined_points hs (with_number n z) device joins) a);
             })
       ]
 
   -- the records, those to come too, tell what they told but for its number
-  alike_then : plains (hs ++ z ∷ rest) ≡ plains ((hs ++ renumbered n z ∷ []) ++ rest)
-  alike_then = plains_parts hs (z ∷ rest) ∙ sym (plains_parts hs (renumbered n z ∷ rest)) ∙ ap plains (sym (append_assoc hs (renumbered n z ∷ []) rest))
+  alike_then : plains (hs ++ z ∷ rest) ≡ plains ((hs ++ with_number n z ∷ []) ++ rest)
+  alike_then = plains_parts hs (z ∷ rest) ∙ sym (plains_parts hs (with_number n z ∷ rest)) ∙ ap plains (sym (append_assoc hs (with_number n z ∷ []) rest))
 
-  earlier_then : earlier now (hs ++ z ∷ rest) ≡ earlier now ((hs ++ renumbered n z ∷ []) ++ rest)
+  earlier_then : earlier now (hs ++ z ∷ rest) ≡ earlier now ((hs ++ with_number n z ∷ []) ++ rest)
   earlier_then =
       let late : (y : Happening) → IsIn y rest → now ≤ time_of y = λ y i. let t = g.are.of_now y (inr i) in omega (arith, t) in
       let at = g.are.of_now z (inl refl) in
       let all : (y : Happening) → IsIn y (z ∷ rest) → now ≤ time_of y = λ y i. let t = g.are.of_now y i in omega (arith, t) in
-      let given : (y : Happening) → IsIn y (renumbered n z ∷ rest) → now ≤ time_of y = λ y i.
+      let given : (y : Happening) → IsIn y (with_number n z ∷ rest) → now ≤ time_of y = λ y i.
       elim i [ inl e ↦ let t : time_of y ≡ time_of z = ap time_of e in omega (arith, t, at) | inr more ↦ late y more ] in
-      earlier_still now hs (z ∷ rest) all ∙ sym (earlier_still now hs (renumbered n z ∷ rest) given)
-      ∙ ap (earlier now) (sym (append_assoc hs (renumbered n z ∷ []) rest))
+      earlier_still now hs (z ∷ rest) all ∙ sym (earlier_still now hs (with_number n z ∷ rest) given)
+      ∙ ap (earlier now) (sym (append_assoc hs (with_number n z ∷ []) rest))
 
   -- each of them is one of those before, but for its number, and the other way round
-  one_then : (h : Happening) → IsIn h ((hs ++ renumbered n z ∷ []) ++ rest) → (y : Happening) × IsIn y (hs ++ z ∷ rest) × (time_of y ≡ time_of h)
+  one_then : (h : Happening) → IsIn h ((hs ++ with_number n z ∷ []) ++ rest) → (y : Happening) × IsIn y (hs ++ z ∷ rest) × (time_of y ≡ time_of h)
       × (y.note.body ≡ h.note.body)
-  one_then h i = elim (in_parts h hs (renumbered n z ∷ rest) (subst (λ l. IsIn h l) (append_assoc hs (renumbered n z ∷ []) rest) i)) [
+  one_then h i = elim (in_parts h hs (with_number n z ∷ rest) (subst (λ l. IsIn h l) (append_assoc hs (with_number n z ∷ []) rest) i)) [
     | inl old ↦ (h, in_left h hs (z ∷ rest) old, refl, refl)
     | inr (inl e) ↦ (z, in_right z hs (z ∷ rest) (inl refl), ap time_of (sym e), ap (λ (k : Happening). k.note.body) (sym e))
     | inr (inr more) ↦ (h, in_right h hs (z ∷ rest) (inr more), refl, refl)
   ]
 
-  one_before : (h : Happening) → IsIn h (hs ++ z ∷ rest) → (y : Happening) × IsIn y ((hs ++ renumbered n z ∷ []) ++ rest) × (time_of y ≡ time_of h)
+  one_before : (h : Happening) → IsIn h (hs ++ z ∷ rest) → (y : Happening) × IsIn y ((hs ++ with_number n z ∷ []) ++ rest) × (time_of y ≡ time_of h)
       × (y.note.body ≡ h.note.body)
   one_before h i =
-      let over : (y : Happening) → IsIn y (hs ++ renumbered n z ∷ rest) → IsIn y ((hs ++ renumbered n z ∷ []) ++ rest) = λ y j.
-      subst (λ l. IsIn y l) (sym (append_assoc hs (renumbered n z ∷ []) rest)) j in
+      let over : (y : Happening) → IsIn y (hs ++ with_number n z ∷ rest) → IsIn y ((hs ++ with_number n z ∷ []) ++ rest) = λ y j.
+      subst (λ l. IsIn y l) (sym (append_assoc hs (with_number n z ∷ []) rest)) j in
       elim (in_parts h hs (z ∷ rest) i) [
-        | inl old ↦ (h, over h (in_left h hs (renumbered n z ∷ rest) old), refl, refl)
+        | inl old ↦ (h, over h (in_left h hs (with_number n z ∷ rest) old), refl, refl)
         | inr (inl e) ↦ (
-          renumbered n z,
-          over _ (in_right _ hs (renumbered n z ∷ rest) (inl refl)),
+          with_number n z,
+          over _ (in_right _ hs (with_number n z ∷ rest) (inl refl)),
           ap time_of (sym e),
           ap (λ (k : Happening). k.note.body) (sym e),
         )
-        | inr (inr more) ↦ (h, over h (in_right h hs (renumbered n z ∷ rest) (inr more)), refl, refl)
+        | inr (inr more) ↦ (h, over h (in_right h hs (with_number n z ∷ rest) (inr more)), refl, refl)
       ]
 
   kept_then : {M : Type 0} {stands : M → Network → DeviceId → Node → Type 0} {device : DeviceId} {machine : M}
       → IsKept stands s hs (z ∷ rest) cursor now device machine
-      → IsKept stands s (hs ++ renumbered n z ∷ []) rest (behind (place_of z)) now device machine
+      → IsKept stands s (hs ++ with_number n z ∷ []) rest (behind (place_of z)) now device machine
   kept_then {device} k =
       let later = earlier_then in
       record {
@@ -360,7 +360,7 @@ module _ {s : Scenario} {hs : List Happening} {z : Happening} {rest : List Happe
 
   held_then : {M : Type 0} {stands : M → Network → DeviceId → Node → Type 0} {device : DeviceId} {machine : M}
       → IsHeld stands s hs (z ∷ rest) cursor now device machine
-      → IsHeld stands s (hs ++ renumbered n z ∷ []) rest (behind (place_of z)) now device machine
+      → IsHeld stands s (hs ++ with_number n z ∷ []) rest (behind (place_of z)) now device machine
   held_then (inl k) = inl (kept_then k)
   held_then {device} (inr k) = inr (record {
     node = k.node;
@@ -376,7 +376,7 @@ module _ {s : Scenario} {hs : List Happening} {z : Happening} {rest : List Happe
   -- ---- events
 
   untold_then : {pending : Bool} {befell : List Befell} → pending ≡ false → AreUntold hs cursor now pending befell
-      → AreUntold (hs ++ renumbered n z ∷ []) (behind (place_of z)) now pending befell
+      → AreUntold (hs ++ with_number n z ∷ []) (behind (place_of z)) now pending befell
   untold_then {befell} told untold = record {
     done = λ same number h it. g.are.not_past z (inl refl) (now ∷ 2 ∷ []) (g.are.begun z (inl refl));
     none = untold.none;
@@ -387,7 +387,7 @@ module _ {s : Scenario} {hs : List Happening} {z : Happening} {rest : List Happe
     in_order = untold.in_order;
   }
 
-  known_then : AreOfNetwork s (hs ++ z ∷ rest) → AreOfNetwork s ((hs ++ renumbered n z ∷ []) ++ rest)
+  known_then : AreOfNetwork s (hs ++ z ∷ rest) → AreOfNetwork s ((hs ++ with_number n z ∷ []) ++ rest)
   known_then known = record {
     unmoved = λ device none h i. let y = one_then h i in ap (moves device) (sym y.3) ∙ known.unmoved device none y.0 y.1;
     never_on = known.never_on;
@@ -437,12 +437,12 @@ given_at {C} {M} reading stands s world notes z rest wires ports waiting stored 
     awaited taken =
     let hs = happenings s.network notes in
     let n = length notes + 1 in
-    let x = renumbered n z in
+    let x = with_number n z in
     let number : n ≡ length hs + 1 = ap (λ k. k + 1) (length_is s notes) in
     let are : AreSettled s hs (z ∷ rest) old.mark old.cursor world.now = subst (λ l. AreSettled s hs l old.mark old.cursor world.now)
     settled old.are in
     let due : IsDueAs s hs z = subst (λ l. IsDueAs s l z) (append-nil hs) (are.founded [] rest z refl).1 in
-    let is_x : happening s.network hs (note_of notes z) ≡ x = sym (ap (renumbered n) due.same) in
+    let is_x : happening s.network hs (note_of notes z) ≡ x = sym (ap (with_number n) due.same) in
     let back : hs ++ x ∷ [] ≡ happenings s.network (notes ++ note_of notes z ∷ []) = ap (λ (h : Happening). hs ++ h ∷ []) (sym is_x)
     ∙ sym (one_more s.network notes (note_of notes z)) in
     let giving : IsGiving s hs z rest old.mark old.cursor world.now =

@@ -7,7 +7,7 @@ use Rattle.world_law.proofs.Words.{◌++◌, ◌<◌, ◌∙◌, ◌∷◌, ◌�
 use Rattle.world_law.proofs.Words.{IsSource, LinkId, List, NoSourceBefore, NoteBody, Option, Pcf, Scenario, Some, Units, [], amount, ap, arith}
 use Rattle.world_law.proofs.Words.{before_behind, before_later, before_or_not, behind, chain, either_way, in_left, inl, inr, is_at_source, is_broken, key}
 use Rattle.world_law.proofs.Words.{length, list_any, members_in, nat_le, never_self, numbered, place_of, same_kept, slice_get, true}
-use Rattle.world_law.specs.device.Plain.{renumbered}
+use Rattle.world_law.specs.device.Plain.{with_number}
 use Rattle.run_law.specs.declared.note.NoteBody.TheVariants as notes
 
 -- ---- events so far
@@ -102,7 +102,7 @@ abbrev pub AreOver : Happening → List Happening → Type 0
 AreOver z zs = (y : Happening) → IsIn y zs → (time_of y ≡ time_of z) × (IsBefore (place_of y) (place_of z) → ⊥)
 
 -- so it is of itself, whatever its number
-pub over_itself : (z : Happening) (n : ℕ) → AreOver z (renumbered n z ∷ [])
+pub over_itself : (z : Happening) (n : ℕ) → AreOver z (with_number n z ∷ [])
 over_itself z n y (inl same) = (ap time_of same, λ b. never_self (place_of z) (subst (λ p. IsBefore p (place_of z)) (ap place_of same) b))
 over_itself z n y (inr none) = absurd none
 

@@ -1,6 +1,6 @@
 -- A device acts: what is to come with its records.
 use Rattle.world_law.proofs.putting.{Numbering.AreOne, PutShown.change_of}
-use Rattle.world_law.specs.{device.Plain.renumbered, world.World.IsDueAs}
+use Rattle.world_law.specs.{device.Plain.with_number, world.World.IsDueAs}
 use Rattle.world_law.proofs.Words.{◌++◌, ◌+◌, ◌∙◌, ◌∷◌, ◌≡◌, ◌≤◌, ◌⊎◌, AllBefore, ChangesState, DeviceId, Happening, IsBefore, IsCaused, IsDue}
 use Rattle.world_law.proofs.Words.{IsFounded, IsIn, IsOfThisTime, IsOwnSource, IsSource, List, NoneBefore, NoteBody, Scenario, Some, State, Why}
 use Rattle.world_law.proofs.Words.{[], rows_place, ap, append_assoc, arith, in_left, in_right, inl, inr, length, members_in}
@@ -22,9 +22,9 @@ none_between (x ∷ c) p all none = absurd (none x (inl refl) (all x (inl refl))
 pub one_at : {s : Scenario} {hs : List Happening} {w y : Happening} → IsDueAs s hs w → IsDueAs s hs y → place_of w ≡ place_of y → AreOne w y
 one_at {s} {hs} {w} {y} due is same =
     let k = length hs + 1 in
-    ap (renumbered 0) (due_is_determined s hs (renumbered k w) (renumbered k y)
-    (record { number = refl; same = ap (renumbered k) due.same; begun = due.begun; cause = due.cause })
-    (record { number = refl; same = ap (renumbered k) is.same; begun = is.begun; cause = is.cause }) same)
+    ap (with_number 0) (due_is_determined s hs (with_number k w) (with_number k y)
+    (record { number = refl; same = ap (with_number k) due.same; begun = due.begun; cause = due.cause })
+    (record { number = refl; same = ap (with_number k) is.same; begun = is.begun; cause = is.cause }) same)
 
 -- where a record to come stands at the very place of the one that is put in, it is that one, so it was put in before
 pub there_already : {s : Scenario} {hs : List Happening} (front back : List Happening) {mark cursor : List ℕ} {now r : ℕ} {more : List ℕ} {w : Happening}

@@ -114,7 +114,7 @@ frames_end s hs w device none sooner =
     frames_put s hs [] w device none (λ h i. elim (in_parts h hs [] i) [ inl front ↦ sooner h front | inr back ↦ absurd back ])
     ∙ ap (λ l. frames_taken s l device) (append-nil hs)
 
--- ---- a record that bears on nothing, put in with those behind it renumbered
+-- ---- a record that bears on nothing, put in
 
 pub idle_taking : (device : DeviceId) (body : NoteBody) → IsIdle body → IsNoTaking device body
 idle_taking device (notes.Left other by from clock) i at = refl

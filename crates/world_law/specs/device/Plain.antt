@@ -2,9 +2,9 @@
 use Rattle.std.specs.Prelude.{List, map, ℕ}
 use Rattle.run_law.specs.records.Happenings.{Happening}
 
--- the record with another number
-abbrev pub renumbered : ℕ → Happening → Happening
-renumbered k h = record h { note = record h.note { number = k } }
+-- the record with this number
+abbrev pub with_number : ℕ → Happening → Happening
+with_number k h = record h { note = record h.note { number = k } }
 
 -- a record without its number
 abbrev pub plain : Happening → Happening
