@@ -7,7 +7,7 @@ use Rattle.std.proofs.lemmas.{List.length_push, Option.slice_get_cases}
 use Rattle.world_law.proofs.Words.{◌++◌, ◌+◌, ◌<◌, ◌∙◌, ◌∷◌, ◌≡◌, ◌≤◌, ◌⊎◌, AreAtPorts, AreClusters, AreOfNetwork, AreOnWires, AreSettled, AreWaiting}
 use Rattle.world_law.proofs.Words.{AtPort, Bool, Device, DeviceId, Happening, HaveBefallen, Integrating, IsActedOut, IsActing, IsBefore, IsDue}
 use Rattle.world_law.proofs.Words.{IsFounded, IsHeld, IsIn, IsJoiningNow, IsKept, IsSource, List, Network}
-use Rattle.world_law.proofs.Words.{Node, None, Note, NoteBody, OnWire, Pcf, Scenario, Some, State, Synchronised}
+use Rattle.world_law.proofs.Words.{Node, None, Note, NoteBody, OnWire, Pcf, Scenario, Some, Synchronised}
 use Rattle.world_law.proofs.Words.{Task, Waiting, [], act_place, adjustment_after, amount, ap, append-nil, append_assoc, arith, before_behind}
 use Rattle.world_law.proofs.Words.{before_next_time, behind, cases_Bool, chain, changed_at, clock_place, device_at, earlier, ends_stretch, eqb-true, false}
 use Rattle.world_law.proofs.Words.{filter, filter_map, happening, happenings, if◌then◌else◌, in_left, in_parts, in_right, inl, inr, ints}

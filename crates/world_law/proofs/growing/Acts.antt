@@ -2,10 +2,10 @@
 use Rattle.{run_law.specs.device.States.is_synchronised, world_law.proofs.{acts.Acted.{acted, heard_so}, growing.{Few.few_are_emitted, Openings.from_zero}}}
 use Rattle.{run_law.specs.machines.Tasks.{IsFirstTask, order_of}, world_law.specs.device.Growing.{ActsAreFew, AreActs, AreRising, IsDueFrame}}
 use Rattle.{schedule_tables.specs.Dispatches.dispatch_order, world_law.proofs.{Words.{subst, sym, true, ℕ, ℤ}, acts.Ready.{acting_last, last_is}}}
-use Rattle.std.{proofs.lemmas.Bool.ne_eqb, specs.{List.IsDistinct, Prelude.All}}
+use Rattle.std.{proofs.lemmas.Bool.ne_eqb, specs.{List.IsDistinct}}
 use Rattle.world_law.proofs.Words.{◌++◌, ◌+ℤ◌, ◌+◌, ◌<ℤ◌, ◌<◌, ◌==◌, ◌∙◌, ◌∷◌, ◌≡◌, ◌≤ℤ◌, ◌≤◌, ◌⊎◌, Act, AllByRecursion, AreClusters, AsyncClique, Bool}
 use Rattle.world_law.proofs.Words.{Cleared, Compressed, Corrected, DeviceId, IsActOf, IsBefore, IsFromZero, IsIn, IsInRange, IsPending, KeepsRules, List}
-use Rattle.world_law.proofs.Words.{MayCall, Moment, Network, Node, Point, Summary, SyncClique, Task, Verdict, [], acting, after_correction}
+use Rattle.world_law.proofs.Words.{MayCall, Moment, Network, Node, Summary, SyncClique, Task, Verdict, [], acting, after_correction}
 use Rattle.world_law.proofs.Words.{after_emission, amount, ap, arith, called, cases_lt, chain, correcting, dispatching, doing, emitting, false, if◌then◌else◌}
 use Rattle.world_law.proofs.Words.{inl, inr, ints, length, never_self, no_cluster, observation_window, own_hearing, plan_of, pos, reading_for, refl, sending}
 use Rattle.world_law.proofs.growing.{FewRows.{IsRowOf, few_rows, row_of}, Growing.{acts_grow, nothing_behind_correction, nothing_sent_behind_sending, wide}}

@@ -2,7 +2,7 @@
 use Rattle.{schedule_tables.specs.Schedule.leaves, std.specs.{Cmp.IsEquivalence, List.{IsDistinct, count_by}}}
 use Rattle.{schedule_tables.specs.declared.rule.Rule.TheVariants.RowsOfDevice, std.proofs.lemmas.Bool.{cases_eq, ne_eqb, or_cases, or_left, or_right}}
 use Rattle.{std.proofs.lemmas.{List.Sums.length-filter, Map.Made.length-le_from_is_member}, world_law.proofs.Words.{source_of, subst, suc, sym, true, zero, ℕ}}
-use Rattle.world_law.proofs.Words.{◌+◌, ◌==◌, ◌∷◌, ◌≡◌, ◌≤◌, AllByRecursion, Bool, DeviceId, Entry, IsEntry, KeepsRules, List, Network, Row, Some, [], ap}
+use Rattle.world_law.proofs.Words.{◌+◌, ◌==◌, ◌∷◌, ◌≡◌, ◌≤◌, AllByRecursion, Bool, DeviceId, Entry, IsEntry, KeepsRules, List, Network, Row, Some, []}
 use Rattle.world_law.proofs.Words.{arith, cases_Bool, eq-eqb, eqb-true, filter, if◌then◌else◌, inl, inr, length, list_any, option_map_or, refl, slice_get}
 
 abbrev eqn : ℕ → ℕ → Bool

@@ -1,7 +1,7 @@
 -- Lists with one more at the end.
 use Rattle.std.proofs.{Common.{cond, drop}, lemmas.List.{Elements.filter_map-append, Sums.suffix_len-le-length, drop-append-le, length_push, reverse-append}}
 use Rattle.{std.specs.List.{prefix_len, suffix_len}, world_law.proofs.Words.{length, not}}
-use Rattle.world_law.proofs.Words.{◌++◌, ◌+◌, ◌-◌, ◌∷◌, ◌≡◌, Bool, List, None, Option, [], after_last, ap, append-nil, arith, cons_option, false, filter_map}
+use Rattle.world_law.proofs.Words.{◌++◌, ◌+◌, ◌∷◌, ◌≡◌, Bool, List, None, Option, [], after_last, ap, append-nil, arith, cons_option, false, filter_map}
 pub use Rattle.tte_units.proofs.general_lemmas.Lists.{after_one as behind_yes, filter_off as filter_no, filter_on as filter_yes}
 
 pub map_none : {X Y : Type 0} (f : X → Option Y) (xs : List X) (x : X) → f x ≡ None → filter_map f (xs ++ x ∷ []) ≡ filter_map f xs

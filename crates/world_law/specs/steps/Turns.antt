@@ -5,7 +5,7 @@ use Rattle.std.specs.Prelude.{◌++◌, ◌+◌, ◌<◌, ◌∷◌, ◌≡◌, 
 use Rattle.net_plan.specs.declared.{ids.DeviceId.DeviceId, network.Network.Network}
 use Rattle.run_law.specs.{control.Wires.signal_of, declared.{note.{Note.Note, NoteBody.NoteBody}, steps.{Arrival.Arrival, Ripe.Ripe}}}
 use Rattle.run_law.specs.{machines.{Calls.MayArrive, Nodes.Node}, records.Order.{IsIn, behind}, scenario.Scenarios.Scenario}
-use Rattle.run_law.specs.records.Happenings.{Happening, happening, happenings}
+use Rattle.run_law.specs.records.Happenings.{happening, happenings}
 use Rattle.sync_state.specs.declared.state.State.{State}
 use Rattle.tte_units.specs.{Amount.units_of, declared.units.Units.Units}
 use Rattle.world_law.specs.source.Sources.{task_place}

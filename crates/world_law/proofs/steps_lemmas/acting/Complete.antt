@@ -1,7 +1,7 @@
 -- All that is due of a device that has acted is among the records to come.
 use Rattle.run_law.specs.runs.DueRecords.{IsCorrectedRecord}
 use Rattle.world_law.proofs.steps_lemmas.Words.{◌∙◌, ◌∷◌, ◌≡◌, AsyncClique, Bool}
-use Rattle.world_law.proofs.steps_lemmas.Words.{ComesToCorrection, Compressed, DeviceId}
+use Rattle.world_law.proofs.steps_lemmas.Words.{ComesToCorrection, DeviceId}
 use Rattle.world_law.proofs.steps_lemmas.Words.{Dispatches, Happening, Integrating, IsCaused, IsOwnSource}
 use Rattle.world_law.proofs.steps_lemmas.Words.{LinkId, List, NoteBody, Scenario, SyncClique, Units, VlId, []}
 use Rattle.world_law.proofs.steps_lemmas.Words.{amount, ap, arith, cases_Bool, dispatch_body}

@@ -10,7 +10,7 @@ use Rattle.world_law.proofs.steps_lemmas.Words.{adjustment_by, ap, append-nil, a
 use Rattle.world_law.proofs.steps_lemmas.Words.{correcting, dispatching, earlier, ends_stretch, false, filter, filter-append, if◌then◌else◌, in_left, in_right}
 use Rattle.world_law.proofs.steps_lemmas.Words.{inl, inr, is_broken, is_cm, is_synchronised, is_turned_on_at, moves, no_cluster, none_in, none_kept}
 use Rattle.world_law.proofs.steps_lemmas.Words.{not_turned_on, observation_window, place_of, pos, rank, recorded_cycle, refl, sending}
-use Rattle.world_law.proofs.steps_lemmas.{Words.{state_by, subst, sym, time_of, true, value_of, with_clique, ℕ, ℤ}, acting.Work.IsAtWork}
+use Rattle.world_law.proofs.steps_lemmas.{Words.{state_by, subst, sym, time_of, true, value_of, with_clique, ℕ}, acting.Work.IsAtWork}
 use Rattle.world_law.proofs.steps_lemmas.acting.{GoesOn.IsPutAs, Moves.{IsBase, IsCorrectedSo, changed_by, cliques, corrects, joiner_corrects, one_earlier}}
 use Rattle.run_law.specs.declared.judgement.Why.TheVariants as whys
 use Rattle.run_law.specs.declared.note.NoteBody.TheVariants as kinds

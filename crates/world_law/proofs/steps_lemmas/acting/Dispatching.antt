@@ -1,6 +1,6 @@
 -- A device dispatches a row's frame: its record, and how the device stands then.
 use Rattle.{net_plan.proofs.SameIds.{same_link, same_vl}, run_law.proofs.law.FirstPlaces.in_filter, schedule_tables.specs.Windows.OccursIn}
-use Rattle.{run_law.proofs.timed.Rows.at_hand_by, std.proofs.Common.{◌*◌, Contains}}
+use Rattle.{run_law.proofs.timed.Rows.at_hand_by, std.proofs.Common.{◌*◌}}
 use Rattle.schedule_tables.{proofs.EntryLemmas.one_entry, specs.Entries.{IsEntry, source_of}}
 use Rattle.schedule_tables.specs.Dispatches.{dispatch_order}
 use Rattle.run_law.proofs.law.FirstPlaces.{numbered_front}
@@ -17,7 +17,7 @@ use Rattle.world_law.proofs.steps_lemmas.Words.{dispatches_same, dispatching, do
 use Rattle.world_law.proofs.steps_lemmas.Words.{inr, is_accepted, is_cut, key, last_in, last_unfollowed, length, members_in, moment_of, moves, nat_lt}
 use Rattle.world_law.proofs.steps_lemmas.Words.{numbered_within, option_to_list, place_of, pos, rank, reaches_back, reading_for, record_of}
 use Rattle.world_law.proofs.steps_lemmas.Words.{refl, same_device, subst, sym, time_of, true, up_back, value_is, way_from, with_done, ℕ}
-use Rattle.world_law.proofs.steps_lemmas.{Words.ℤ, acting.{Sending.{HasSentIt, as_put, taken_then}, Work.{IsAtWork, all_earlier, reaches}}}
+use Rattle.world_law.proofs.steps_lemmas.{acting.{Sending.{HasSentIt, as_put, taken_then}, Work.{IsAtWork, all_earlier, reaches}}}
 use Rattle.world_law.proofs.steps_lemmas.acting.GoesOn.{IsPutAs, does, goes_on, left_on, put_now, sent_alike}
 use Rattle.world_law.proofs.steps_lemmas.acting.{Kept.{may_act_now, ready_after}, Stage.{IsActRecordAt, StageAt}}
 use Rattle.run_law.specs.declared.note.NoteBody.TheVariants as kinds

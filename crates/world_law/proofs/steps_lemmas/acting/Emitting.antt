@@ -1,13 +1,13 @@
 -- A compression master that has emitted, and has not joined by its own frame, is at work still.
 use Rattle.{run_law.specs.machines.Answers.{after_emission, hearings}, world_law.proofs.steps_lemmas.acting.{Stays.{IsSameBut, heard_by_these}, Work.IsAtWork}}
 use Rattle.{run_law.specs.{records.Frames.integration_frame, scenario.Devices.channel_of}, std.proofs.Common.Contains}
-use Rattle.world_law.proofs.steps_lemmas.Words.{◌++◌, ◌+◌, ◌<ℤ◌, ◌∙◌, ◌∷◌, ◌≡◌, ◌≤ℤ◌, Bool, Channel, Compressed}
+use Rattle.world_law.proofs.steps_lemmas.Words.{◌++◌, ◌<ℤ◌, ◌∙◌, ◌∷◌, ◌≡◌, ◌≤ℤ◌, Bool, Channel, Compressed}
 use Rattle.world_law.proofs.steps_lemmas.Words.{Contains-append_left, Contains-push_cases, DeviceId, Happening, HasDoneFrom, Hearing, IsAlike}
 use Rattle.world_law.proofs.steps_lemmas.Words.{IsIn, IsReadyAt, Judgement, List, Moment, Network, Node, None, Option, Pcf}
 use Rattle.world_law.proofs.steps_lemmas.Words.{Scenario, Some, Units, [], acting, ap, append-nil, arith, called, cons_option}
 use Rattle.world_law.proofs.steps_lemmas.Words.{false, hearing_by, if◌then◌else◌, inl}
 use Rattle.world_law.proofs.steps_lemmas.Words.{inr, moves, option_map, option_map_or, option_to_list, pos}
-use Rattle.world_law.proofs.steps_lemmas.Words.{refl, ripe_as, self, subst, sym, true, undone_alike, value_of, waiting_alike, ℕ, ℤ}
+use Rattle.world_law.proofs.steps_lemmas.Words.{refl, ripe_as, self, subst, sym, true, undone_alike, value_of, waiting_alike, ℕ}
 use Rattle.world_law.proofs.steps_lemmas.acting.GoesOn.{IsPutAs, goes_on, left_on}
 use Rattle.run_law.specs.declared.judgement.Judgement.TheVariants as judgements
 use Rattle.run_law.specs.declared.note.NoteBody.TheVariants as kinds

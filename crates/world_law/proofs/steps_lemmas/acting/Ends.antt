@@ -1,6 +1,6 @@
 -- Behind its correction point nothing more is due of a device at the instant.
 use Rattle.{run_law.specs.{machines.Tasks.IsWaiting, records.Ranks.rank}, world_law.specs.steps.{Acting.{Acts, place_of_act, rank_of_act}, Ending.CorrectionEnds}}
-use Rattle.world_law.proofs.steps_lemmas.Words.{◌++◌, ◌+◌, ◌<◌, ◌≡◌, ◌≤◌, Act, AsyncClique, Cleared, ComesFirst, Compressed, Corrected, DeviceId, Happening}
+use Rattle.world_law.proofs.steps_lemmas.Words.{◌++◌, ◌+◌, ◌<◌, ◌≡◌, ◌≤◌, AsyncClique, Cleared, ComesFirst, Compressed, Corrected, DeviceId, Happening}
 use Rattle.world_law.proofs.steps_lemmas.Words.{HasActed, HasDoneFrom, HasSentFrom, HasTaskBy, Integrating, IsDueNow, IsIn, List, Network, Node, Note, NoteBody}
 use Rattle.world_law.proofs.steps_lemmas.Words.{Scenario, Stands, SyncClique, Verdict, World, arith, correcting, doing, emitting, happenings, moment_of, never_both}
 use Rattle.world_law.proofs.steps_lemmas.Words.{no_cluster, observation_window, point_number, refl, subst, ℕ}

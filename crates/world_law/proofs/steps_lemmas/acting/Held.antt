@@ -3,9 +3,9 @@ use Rattle.{run_law.{proofs.law.FirstPlaces.in_filter, specs.machines.Tasks.HasF
 use Rattle.{run_law.specs.records.Happenings.octets_from, world_law.proofs.{rows.Reached.IsForwarded, steps_lemmas.acting.{Stage.StageAt, Work.reaches}}}
 use Rattle.{run_law.specs.timed.Dispatching.{HasAccepted, last_accepted}, world_law.proofs.rows.AtHand.{IsReaching, at_hand, filter_earlier, taken_sooner}}
 use Rattle.world_law.proofs.steps_lemmas.Words.{◌++◌, ◌+◌, ◌≡◌, ◌≤ℤ◌, ◌≤◌, Bool, DeviceId, Entry, Happening, HasAtHand, IsIn, IsPending, List, Network, Node}
-use Rattle.world_law.proofs.steps_lemmas.Words.{None, Reaches, RowId, Scenario, Some, VlId, amount, ap, arith, by_number, dispatching, doing, earlier}
+use Rattle.world_law.proofs.steps_lemmas.Words.{None, Reaches, RowId, Scenario, Some, VlId, amount, arith, by_number, dispatching, doing, earlier}
 use Rattle.world_law.proofs.steps_lemmas.Words.{earlier_still, filter, in_left, inl, inr, is_accepted, last_in, last_or, numbered, option_map_or, pos}
-use Rattle.world_law.{proofs.steps_lemmas.Words.{reading_for, subst, suc, sym, value_is, zero, ℕ, ℤ}, specs.world.World.{AreStored, Stored, last_taking}}
+use Rattle.world_law.{proofs.steps_lemmas.Words.{reading_for, subst, suc, sym, value_is, zero, ℕ}, specs.world.World.{AreStored, Stored, last_taking}}
 
 -- the switch holds the frame of the entry's virtual link, and it is at hand by the record of its number
 pub record IsHeldFrame (s : Scenario) (hs : List Happening) (stored : List Stored) (now : ℕ) (device : DeviceId) (entry : Entry) (cycle : ℕ) : Type 0 where

@@ -1,7 +1,7 @@
 -- A device that has something due at the present instant: how it stands before it acts, and what is due then.
 use Rattle.sync_state.specs.{Verdicts.HasVerdict, membership.Summary.Summarizes}
 use Rattle.{run_law.specs.timed.Dispatching.Sends, world_law.{proofs.runs.SourcesBack.standing_in, specs.source.Sources.IsAtCorrection}}
-use Rattle.{sync_state.specs.Standing.next_point, world_law.proofs.{devices.TurnedOn.quiet_joins, steps_lemmas.Words.{up_back, value_of, ℕ, ℤ}}}
+use Rattle.{sync_state.specs.Standing.next_point, world_law.proofs.{devices.TurnedOn.quiet_joins, steps_lemmas.Words.{up_back, value_of, ℕ}}}
 use Rattle.world_law.proofs.acts.Dues.{same_standing}
 use Rattle.world_law.proofs.steps_lemmas.Words.{◌++◌, ◌+◌, ◌-ℤ◌, ◌<ℤ◌, ◌||◌, ◌∙◌, ◌∷◌, ◌≡◌, ◌≤ℤ◌, ◌≤◌, AreClusters, Bool, ClockTask, ComesTo, ComesToCorrection}
 use Rattle.world_law.proofs.steps_lemmas.Words.{Compressed, DeviceId, Emits, Happening, HasDoneFrom, HasSentFrom, HasTaskBy, Integrating, IsAtRest, IsIn}

@@ -33,7 +33,8 @@ on_so s {hs} {now} {n} line d {h} founded it is =
     on_by_record s now d (event_due s hs h line (events.On d) founded (numbered_in hs n h it.there) is) it.same_time
 
 module _ (s : Scenario) (hs : List Happening) (now : ℕ) (device : DeviceId) where
-  pub rest_outcome : (body : NoteBody) → IsFounded place_of (IsDue s) hs → IsOutcome s hs now body → IsAtRest s device now body
+  pub rest_outcome : (body : NoteBody) → IsFounded place_of (IsDue s) hs → IsOutcome s hs now body
+      → IsAtRest s device now body
   rest_outcome body founded (IsOutcome.losing d link n it) = inl refl
   rest_outcome body founded (IsOutcome.turning d n line h sound it is) =
       elim (cases_Bool (device.0 == d.0)) [
@@ -45,7 +46,8 @@ module _ (s : Scenario) (hs : List Happening) (now : ℕ) (device : DeviceId) wh
       ]
 
   -- it does not move a broken one
-  out_unmoved : (body : NoteBody) → is_broken s device now ≡ true → IsOutcome s hs now body → moves device body ≡ false
+  out_unmoved : (body : NoteBody) → is_broken s device now ≡ true → IsOutcome s hs now body
+      → moves device body ≡ false
   out_unmoved body broken (IsOutcome.losing d link n it) = refl
   out_unmoved body broken (IsOutcome.turning d n line h sound it is) = grind (arith, cases_Bool, is_broken, alike)
 

@@ -1,5 +1,5 @@
 -- A control frame that comes up from a switch, and one that a switch takes from below, is of one master.
-use Rattle.net_plan.{proofs.Shape.rules_give_trees, specs.{Paths.{IsPath, IsTree, IsUplink}, declared.tables.{Device.Device, Role.TheVariants.{Cm, Relay}}}}
+use Rattle.net_plan.{proofs.Shape.rules_give_trees, specs.{Paths.{IsPath, IsTree, IsUplink}, declared.tables.{Device.Device, Role.TheVariants.{Relay}}}}
 use Rattle.{net_plan.specs.Places.{IsCmOf, IsRoleOf, device_at, is_end_system}, run_law.specs.records.Happenings.{frame_by, frame_in, with_clock}}
 use Rattle.{net_plan.specs.Rules.IsChildOf, run_law.proofs.{law.FirstPlaces.number_is, scenario.Devices.master_end}, schedule_tables.proofs.Margins.shape_rules}
 use Rattle.{run_law.specs.control.Arrivals.{are_others, is_of_other_member}, schedule_tables.specs.declared.rule.Rule.TheVariants.Joints}

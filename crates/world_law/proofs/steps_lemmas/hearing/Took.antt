@@ -1,10 +1,10 @@
 -- A device that took a frame has the tasks that it had, and such as are for later readings.
-use Rattle.{run_law.specs.machines.Answers.with_taken, world_law.proofs.steps_lemmas.Words.{reading_for, refl, sending, subst, sym, true, value_of, ℕ, ℤ}}
+use Rattle.{run_law.specs.machines.Answers.with_taken, world_law.proofs.steps_lemmas.Words.{reading_for, refl, sending, subst, sym, true, value_of, ℕ}}
 use Rattle.{run_law.specs.machines.Nodes.{last_taken_frame, local_at}, tte_units.proofs.general_lemmas.{Integers.ahead_yet, Lists.{last_kept, last_pushed}}}
 use Rattle.std.proofs.Common.{IsSomeAnd}
 use Rattle.world_law.proofs.steps_lemmas.Words.{◌+ℤ◌, ◌<ℤ◌, ◌==◌, ◌≡◌, ◌≤ℤ◌, ◌⊎◌, Bool, ClockTask, DeviceId, Happening, HasDoneFrom, HasSentFrom, IsDeedOf}
 use Rattle.world_law.proofs.steps_lemmas.Words.{IsLeft, IsPending, IsReadyAt, IsSteady, IsUndone, IsWaiting, List, Moment, Network, Node, Option, Scenario}
-use Rattle.world_law.proofs.steps_lemmas.Words.{Some, TakenFrame, Task, VlId, [], amount, ap, arith, arriving, called, cases_Bool, correcting, dispatching}
+use Rattle.world_law.proofs.steps_lemmas.Words.{Some, TakenFrame, Task, VlId, amount, arith, arriving, called, cases_Bool, correcting, dispatching}
 use Rattle.world_law.proofs.steps_lemmas.Words.{doing, emitting, false, filter, filter-append, if◌then◌else◌, inl, inr, ints, last_or, moment_of, pos}
 
 -- the device that took a frame by the call

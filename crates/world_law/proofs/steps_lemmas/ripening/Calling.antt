@@ -1,5 +1,5 @@
 -- A device that a world keeps may be called, as its source comes.
-use Rattle.{run_law.specs.machines.Calls.order_of_phase, world_law.proofs.steps_lemmas.{Words.{subst, sym, whole, ℕ, ℤ}, hearing.Calling.ranked_so}}
+use Rattle.{run_law.specs.machines.Calls.order_of_phase, world_law.proofs.steps_lemmas.{Words.{subst, sym, whole, ℕ}, hearing.Calling.ranked_so}}
 use Rattle.world_law.proofs.steps_lemmas.Words.{◌<ℤ◌, ◌<◌, ◌^◌, ◌∷◌, ◌≡◌, ◌≤◌, DeviceId, Happening, IsBefore, IsKept, IsSteady, List, MayCall, Network, Node}
 use Rattle.world_law.proofs.steps_lemmas.Words.{Phase, Scenario, amount, ap, arith, cases_lt, inl, inr, ints, moment_of, pos, rank_of_call, reading_for, refl}
 

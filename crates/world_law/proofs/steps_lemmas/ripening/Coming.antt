@@ -2,7 +2,7 @@
 use Rattle.world_law.proofs.steps_lemmas.Words.{◌<◌}
 use Rattle.world_law.proofs.acts.NoActs.{turning_stretch}
 use Rattle.world_law.proofs.steps_lemmas.Words.{◌++◌, ◌∙◌, ◌∷◌, ◌≡◌, ◌≤◌, DeviceId, Happening, IsAtRest, IsBefore, IsCaused, IsIn, IsMoving}
-use Rattle.world_law.proofs.steps_lemmas.Words.{IsOfThisTime, IsOwnSource, List, NoteBody, Scenario, State, amount, ap, arith, before_later}
+use Rattle.world_law.proofs.steps_lemmas.Words.{IsOfThisTime, IsOwnSource, List, NoteBody, Scenario, amount, ap, arith, before_later}
 use Rattle.world_law.proofs.steps_lemmas.Words.{ends_stretch, false, inl, inr, key, members_in, no_higher, numbered_in, numbered_parts}
 use Rattle.world_law.proofs.steps_lemmas.{Words.{place_of, rank, refl, subst, sym, time_of, ℕ}, ripening.Merely.IsMere}
 use Rattle.world_law.proofs.{Words.{in_left, is_at_source, parted, true}, putting.Moving.off_source}

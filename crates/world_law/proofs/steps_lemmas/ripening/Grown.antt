@@ -1,7 +1,7 @@
 -- A device after a frame that is permanent and tells it no time stands as the records leave it, with that of the frame put in.
 use Rattle.{run_law.specs.{control.Corrections.heard_by, machines.Answers.hearings}, std.proofs.Common.arith}
 use Rattle.world_law.proofs.{devices.Borne.{cleared_alike, tell_owned}, steps_lemmas.Words.{refl, ripe_as, same_kept, self, since_at, sym, time_of, true, ℕ}}
-use Rattle.world_law.proofs.steps_lemmas.Words.{◌&&◌, ◌++◌, ◌+◌, ◌==◌, ◌||◌, ◌∙◌, ◌∷◌, ◌≡◌, Bool, DeviceId, Happening, Hearing, Integrating, IsIn, IsLeft}
+use Rattle.world_law.proofs.steps_lemmas.Words.{◌&&◌, ◌++◌, ◌==◌, ◌||◌, ◌∙◌, ◌∷◌, ◌≡◌, Bool, DeviceId, Happening, Hearing, Integrating, IsIn, IsLeft}
 use Rattle.world_law.proofs.steps_lemmas.Words.{Judgement, LinkId, List, Moment, Network, Node, None, Pcf, Phase, Point, Scenario, Some, Units, []}
 use Rattle.world_law.proofs.steps_lemmas.Words.{adjustment_before, after_last, after_more, after_permanence, ap, append-nil, append_assoc, called, changed_at}
 use Rattle.world_law.proofs.steps_lemmas.Words.{changes_adjustment, channel_of_link, cycle_in, earlier, ends_stretch, false, filter, filter-append, filter_map}

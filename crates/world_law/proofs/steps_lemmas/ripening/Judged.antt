@@ -4,7 +4,7 @@ use Rattle.{run_law.{proofs.law.FirstPlaces.in_filter, specs.records.Order.is_be
 use Rattle.{run_law.{proofs.records.Order.{all_kept, before_is, none_any}, specs.control.Collections.ripe_by_role}, world_law.proofs.devices.Resting.in_time_of}
 use Rattle.{run_law.specs.control.Hearing.{heard_by_schedule, heard_enough}, world_law.proofs.steps_lemmas.ripening.Ripens.{IsRipe, reach_now, ripe_more}}
 use Rattle.run_law.specs.control.Permanence.{BecomesPermanent, IsCollectedOrDropped, IsJudgedBy, IsPermanenceOutcome, before_permanence}
-use Rattle.world_law.proofs.steps_lemmas.Words.{◌&&◌, ◌++◌, ◌+◌, ◌-◌, ◌==◌, ◌∙◌, ◌∷◌, ◌≡◌, Bool, DeviceId, Happening, Integrating, IsAtRest, IsBefore, IsIn}
+use Rattle.world_law.proofs.steps_lemmas.Words.{◌&&◌, ◌++◌, ◌+◌, ◌==◌, ◌∙◌, ◌∷◌, ◌≡◌, Bool, DeviceId, Happening, Integrating, IsAtRest, IsBefore, IsIn}
 use Rattle.world_law.proofs.steps_lemmas.Words.{IsLeft, IsPermanenceOutcomeAt, Joining, List, Members, Network, Node, None, Off, Option, Pcf, Point, Reason}
 use Rattle.world_law.proofs.steps_lemmas.Words.{Ripe, Scenario, Some, State, SyncPlan, Synchronised, Units, Waiting, [], adjustment_after}
 use Rattle.world_law.proofs.steps_lemmas.Words.{adjustment_at_hearing, adjustment_before, after_last, after_more, all_up_to, amount, and_parts, and_right}

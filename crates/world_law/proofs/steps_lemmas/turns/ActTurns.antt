@@ -1,10 +1,10 @@
 -- The turns of what a device does by itself.
 use Rattle.world_law.proofs.steps_lemmas.Words.{◌++◌, ◌+◌, ◌<◌, ◌∙◌, ◌∷◌, ◌≡◌, ◌≤◌, Act, Bool, DeviceId, Happening, IsBefore, IsIn, List, Network, NoneBefore, Node, NoteBody}
-use Rattle.world_law.proofs.steps_lemmas.Words.{Ripe, Scenario, StandsBehind, State, Units, [], ap, arith, behind, cases_Bool, false, happenings, if◌then◌else◌, inl, inr}
-use Rattle.world_law.proofs.steps_lemmas.Words.{is_at_source, is_cut, length, place_of, rank, refl, settled_as, subst, sym, task_place, time_of, true, way_from, ℕ}
+use Rattle.world_law.proofs.steps_lemmas.Words.{Ripe, Scenario, StandsBehind, State, Units, [], ap, arith, behind, false, happenings, if◌then◌else◌, inl, inr}
+use Rattle.world_law.proofs.steps_lemmas.Words.{is_at_source, is_cut, length, place_of, rank, refl, settled_as, subst, sym, time_of, true, way_from, ℕ}
 use Rattle.world_law.proofs.steps_lemmas.Words.{Joining, Verdict}
 use Rattle.world_law.proofs.steps_lemmas.{acting.{ActedSteps.acted_step, First.{act_rest, act_stands, late_rank, low_rank}}, turns.Turns.{one_of, turn_by}}
-use Rattle.world_law.specs.steps.{Acting.{AreActBodies, correction_bodies, first_bodies, joining_bodies, rank_of_act, task_of}, Turns.{ActedTurn, StandsAt, starts_there}}
+use Rattle.world_law.specs.steps.{Acting.{AreActBodies, correction_bodies, first_bodies, joining_bodies, rank_of_act}, Turns.{ActedTurn, StandsAt, starts_there}}
 use Rattle.run_law.specs.declared.note.NoteBody.TheVariants as kinds
 use Rattle.run_law.specs.declared.steps.Act.TheVariants as acts
 use Rattle.run_law.specs.declared.steps.Ripe.TheVariants as ripe

@@ -1,9 +1,9 @@
 -- The turns of what leaves, arrives and is permanent.
 use Rattle.run_law.specs.{control.Leaving.{Departure, leaves, on_cut_way, too_old}, records.Happenings.frame_from}
 use Rattle.world_law.proofs.steps_lemmas.Words.{◌++◌, ◌+◌, ◌∙◌, ◌∷◌, ◌≡◌, AtPort, Bool, DeviceId, Happening, IsBefore, IsIn, Joining, Judgement, LinkId, List, Network}
-use Rattle.world_law.proofs.steps_lemmas.Words.{Node, NoteBody, Option, Pcf, Ripe, Scenario, Some, StandsBehind, Waiting, [], amount, ap, arith, arrival_body, behind, cases_Bool}
-use Rattle.world_law.proofs.steps_lemmas.Words.{false, happenings, if◌then◌else◌, inl, inr, is_at_source, is_broken, length, members_in, place_of, port_place, refl}
-use Rattle.world_law.proofs.steps_lemmas.Words.{ripe_place, settled_as, subst, sym, true, wire_place, ℕ}
+use Rattle.world_law.proofs.steps_lemmas.Words.{Node, NoteBody, Option, Pcf, Ripe, Some, StandsBehind, Waiting, [], amount, ap, arith, arrival_body, behind, cases_Bool}
+use Rattle.world_law.proofs.steps_lemmas.Words.{false, happenings, if◌then◌else◌, inl, inr, is_at_source, is_broken, length, place_of, port_place, refl}
+use Rattle.world_law.proofs.steps_lemmas.Words.{settled_as, subst, sym, true, wire_place, ℕ}
 use Rattle.world_law.proofs.steps_lemmas.{hearing.HeardSteps.heard_step, ripening.{Ripens.ripe_more, RipenedSteps.ripened_step}, steps.LeftSteps.left_step}
 use Rattle.world_law.proofs.steps_lemmas.turns.Turns.{few_late, one_of, turn_by}
 use Rattle.run_law.specs.declared.steps.{Arrival.Arrival}

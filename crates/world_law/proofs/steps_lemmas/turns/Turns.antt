@@ -1,8 +1,8 @@
 -- The turn of a source, where the world stands behind it with its records to come: what stands there is given.
-use Rattle.world_law.proofs.steps_lemmas.Words.{◌++◌, ◌+◌, ◌<◌, ◌∙◌, ◌∷◌, ◌≡◌, ◌≤◌, ◌⊎◌, AllBefore, ArePutIn, DeviceId, Happening, IsBefore, IsIn}
-use Rattle.world_law.proofs.steps_lemmas.Words.{IsPutIn, List, Network, NoneBefore, Node, Note, NoteBody, Scenario, Stands, StandsBehind, World, [], ap, append-nil, arith}
-use Rattle.world_law.proofs.steps_lemmas.Words.{before_behind, behind, cases_Bool, chain, either_way, false, happenings, in_left, in_parts, in_right, inl, inr, is_at_source}
-use Rattle.world_law.proofs.steps_lemmas.Words.{never_self, place_of, rank, refl, second, settled_as, subst, sym, time_of, true, ℕ}
+use Rattle.world_law.proofs.steps_lemmas.Words.{◌++◌, ◌+◌, ◌∙◌, ◌∷◌, ◌≡◌, ◌≤◌, ◌⊎◌, ArePutIn, DeviceId, Happening, IsBefore, IsIn}
+use Rattle.world_law.proofs.steps_lemmas.Words.{List, Network, NoneBefore, Node, Note, NoteBody, Scenario, Stands, StandsBehind, World, [], ap, append-nil, arith}
+use Rattle.world_law.proofs.steps_lemmas.Words.{before_behind, behind, cases_Bool, chain, false, happenings, in_left, in_parts, in_right, inl, inr, is_at_source}
+use Rattle.world_law.proofs.steps_lemmas.Words.{never_self, place_of, rank, refl, second, settled_as, subst, sym, true, ℕ}
 use Rattle.world_law.proofs.{giving.{Given.given_at, GivenParts.{source_kinds, up_to_place}}, runs.Worlds.given_up_to}
 use Rattle.world_law.specs.steps.Turns.{IsTurn, StandsAt, next_note, starts_there}
 
