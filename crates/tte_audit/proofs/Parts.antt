@@ -90,9 +90,9 @@ unfolding head_of
 one_text network n m octets left rest named a b = ap (head_of []) (sym (split_line named a) ∙ split_line named b)
 
 -- where the octets before the first LF are a record's text, its line is the first
-pub record_at : (network : Network) (octets : List ℕ) (i : ℕ) (note : Note) → position is_line_end octets ≡ Some i → IsTextOf network note (take i octets)
-    → BeginsWithRecord network note octets (drop (i + 1) octets)
-record_at network octets i note e h =
+pub record_at : {network : Network} (octets : List ℕ) (i : ℕ) {note : Note} → position is_line_end octets ≡ Some i
+    → IsTextOf network note (take i octets) → BeginsWithRecord network note octets (drop (i + 1) octets)
+record_at {network} octets i {note} e h =
     record { of_network = h.of_network; in_range = h.in_range; text = text_of network octets i note e h }
   where
     text_of : (network : Network) (octets : List ℕ) (i : ℕ) (note : Note) → position is_line_end octets ≡ Some i → IsTextOf network note (take i octets)

@@ -6,9 +6,9 @@ use Rattle.tte_traces.proofs.Words.{IsInRange, IsTraceAnswer, LinesOf, List, Net
 
 -- ---- records
 
-pub records_before : (network : Network) (events : List Event) (mark : List ℕ) → IsInRange network
+pub records_before : {network : Network} (events : List Event) (mark : List ℕ) → IsInRange network
     → (notes : List Note) × AreRecordsBefore network events mark notes
-records_before network events mark range =
+records_before {network} events mark range =
     runs_exist_to_each_mark (record { network = network; reading = clock_reading network events; events = events }) mark range
 
 pub all_records : {network : Network} (events : List Event) → IsInRange network → HaveEnded events

@@ -68,7 +68,7 @@ module _ (hs : List Happening) (device : DeviceId) (t cause : ℕ) where
   pub turned_on : bringer_of hs device t cause ≡ bringers.TurnsOn
       → (line : ℕ) × (h : Happening) × IsOfThisTime hs t cause h × (h.note.body ≡ notes.Event line (On device))
   turned_on e =
-      let found = record_of bringers.TurnsOn e (λ x. cc) in
+      let found = record_of hs device t cause bringers.TurnsOn e (λ x. cc) in
       let by = turns_on_by device found.h.note.body found.is in
       (by.0, found.h, found.there, by.1)
 
@@ -76,6 +76,6 @@ module _ (hs : List Happening) (device : DeviceId) (t cause : ℕ) where
       → (cycle : ℕ) × (by : Units) × (adjustment : Units) × (h : Happening) × IsOfThisTime hs t cause h
       × (h.note.body ≡ notes.Corrected device cycle by adjustment)
   corrected e =
-      let found = record_of bringers.Corrects e (λ x. cc) in
+      let found = record_of hs device t cause bringers.Corrects e (λ x. cc) in
       let by = corrects_by device found.h.note.body found.is in
       (by.0, by.1, by.2, found.h, found.there, by.3)

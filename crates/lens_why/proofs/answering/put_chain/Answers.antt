@@ -6,8 +6,7 @@ pub records-init : goal.records-init
 records-init g c =
     let r = c.requires.record in
     record {
-      told = told_none c.args.network.now c.args.report.now.octets c.args.first (shown_by g.K.Sink c.args.out.now) r.notes r.end r.report r.number
-          r.there;
+      told = told_none c.args.first (shown_by g.K.Sink c.args.out.now) r.report r.number r.there;
       quiet = refl;
     }
 

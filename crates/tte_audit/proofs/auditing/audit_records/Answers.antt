@@ -58,7 +58,7 @@ records-smaller c =
     let network = c.args.network.now in
     let rest = c.records.rest.now in
     let line = subst (λ r. IsLineSwept network (c.records.records + 1) c.records.sweep c.take_line.new.sweep rest r) c.in-Ok-take_line.is c.take_line.ensures in
-    let less = shorter network line.0 rest c.in-Ok-take_line.left.now line.1.begins in
+    let less = shorter line.1.begins in
     omega (arith, less)
 
 pub records-preserved : goal.records-preserved
@@ -67,11 +67,10 @@ records-preserved c =
     let rest = c.records.rest.now in
     let line = subst (λ r. IsLineSwept network (c.records.records + 1) c.records.sweep c.take_line.new.sweep rest r) c.in-Ok-take_line.is c.take_line.ensures in
     let left = c.in-Ok-take_line.left.now in
-    let less = shorter network line.0 rest left line.1.begins in
+    let less = shorter line.1.begins in
     let few = c.records.invariant.few in
     record {
-      under = going_on network c.args.report.now rest left c.records.records c.records.sweep c.take_line.new.sweep line.0 c.requires.named
-          c.records.invariant.under line.1 line.2;
+      under = going_on c.take_line.new.sweep c.requires.named c.records.invariant.under line.1 line.2;
       few = omega (arith, less, few);
     }
 

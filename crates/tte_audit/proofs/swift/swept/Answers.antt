@@ -22,7 +22,7 @@ records-init c =
       end = end;
       right = told.1.right;
       ends = ends;
-      way = at_first network report notes end c.as_slice.result.now c.in-Ok.sweep placed
+      way = at_first report notes c.as_slice.result.now placed
           (c.in-Ok.ensures (events_of notes) told.1.follows.remembers (only_end network notes end told.1.right ends));
       few = omega arith;
     }
@@ -44,7 +44,7 @@ take_line-requires-clause-same c = c.records.invariant.way.swept.of_network
 pub records-smaller : goal.records-smaller
 records-smaller c =
     let gone = c.in-Some-take_line.ensures in
-    let less = shorter c.args.network.now gone.0 c.records.left.octets.now c.in-Some-take_line.next.octets.now gone.1.begins in
+    let less = shorter gone.1.begins in
     omega (arith, less)
 
 pub records-preserved : goal.records-preserved
@@ -54,15 +54,15 @@ records-preserved c =
     let left = c.records.left in
     let next = c.in-Some-take_line.next in
     let gone = c.in-Some-take_line.ensures in
-    let less = shorter network gone.0 left.octets.now next.octets.now gone.1.begins in
+    let less = shorter gone.1.begins in
     let few = on.few in
     record {
       notes = on.notes;
       end = on.end;
       right = on.right;
       ends = on.ends;
-      way = goes_on network c.args.report.now left.octets.now next.octets.now on.notes on.end left.places.now next.places.now c.records.records
-          c.records.sweep c.take_line.new.sweep gone.0 c.requires.named on.right on.way gone.1 gone.2 gone.3;
+      way = goes_on c.args.report.now left.octets.now next.octets.now on.notes on.end left.places.now next.places.now
+          c.records.records c.records.sweep c.take_line.new.sweep gone.0 c.requires.named on.right on.way gone.1 gone.2 gone.3;
       few = omega (arith, less, few);
     }
 

@@ -26,7 +26,7 @@ records-smaller g c =
     let some = c.requires.report in
     let so = c.records.invariant some.0 some.1 some.2 in
     let next = c.in-Some.ensures so.rest so.left in
-    fewer_left c.args.network.now c.next_in.new.note so.rest next.0 c.records.records c.next_in.new.self next.1 so.left next.2
+    fewer_left c.next_in.new.note c.records.records c.next_in.new.self next.1 so.left next.2
 
 pub records-preserved : goal.records-preserved
 records-preserved g c notes end r =

@@ -43,8 +43,8 @@ record-requires-clause-may g c =
       notes = u.notes ++ h.more;
       instant = Some (amount c.args.time);
       old = u.old;
-      given = given_in network u.events (u.notes ++ h.more) c.next_given.new.note c.args.time c.next_unit.result c.args.world.now c.notes.world
-          c.next_given.new.self c.in-Ok-true.field-0 c.in-Ok-true.field-0-test h.stands
+      given = given_in network u.events (u.notes ++ h.more) c.next_given.new.note c.args.time c.next_unit.result c.args.world.now
+          c.in-Ok-true.field-0 c.in-Ok-true.field-0-test h.stands
           (c.in-Ok-true.ensures.stands network u.events (u.notes ++ h.more) h.stands)
           c.in-Ok-true.ensures.before u.at.now c.notes.invariant.now c.next_unit.ensures;
       sees = h.sees;

@@ -35,7 +35,7 @@ record-requires-clause-may g c =
       notes = u.notes ++ h.more;
       instant = None;
       old = u.old;
-      given = given_before network u.events (u.notes ++ h.more) c.next_given.new.note c.args.until c.next_given.new.self c.in-Ok-true.field-0
+      given = given_before network u.events (u.notes ++ h.more) c.next_given.new.note c.args.until c.in-Ok-true.field-0
           c.in-Ok-true.field-0-test
           (c.in-Ok-true.ensures.stands network u.events (u.notes ++ h.more) h.stands) c.in-Ok-true.ensures.before;
       sees = h.sees;

@@ -8,7 +8,7 @@ pub records-init : goal.records-init
 records-init g c = record {
   marked = λ notes left. subst (λ ms. IsMarked c.args.network.now c.args.sketch.now.view c.args.sketch.now.marks notes c.args.first ms
       (shown_by g.K.Sink c.args.out.now) (shown_by g.K.Sink c.args.out.now)) (sym c.marks-marks.ensures)
-      (marked_first c.args.network.now c.args.sketch.now.view c.args.sketch.now.marks notes c.args.first (shown_by g.K.Sink c.args.out.now) left);
+      (marked_first c.args.sketch.now.view c.args.sketch.now.marks c.args.first (shown_by g.K.Sink c.args.out.now) left);
   quiet = refl;
 }
 
@@ -32,7 +32,7 @@ records-smaller g c =
     let network = c.args.network.now in
     let h = c.records.invariant.marked c.requires.left.0 c.requires.left.1 in
     let next = c.in-Some.ensures h.rest h.left in
-    left_less network c.records.records c.next.new.self c.in-Some.note next.0
+    left_less c.records.records c.next.new.self c.in-Some.note
     (subst (λ ns. AreLeft network c.records.records ns) next.1 h.left) next.2
 
 pub records-preserved : goal.records-preserved
