@@ -380,4 +380,4 @@ module _ (network : Network) (broken : List Bool) (ups : List WayState) where
   octets_settled time [] old new before after so all = subst (All have_octets) (sym so.0) all
   octets_settled time (b ∷ befell) old new before after (mid, between, one, put, rest) all =
       octets_settled time befell mid new between after rest
-      (all_put_some have_octets _ old mid one (record_octets b.number b.what) all)
+      (all_put_some have_octets _ old mid one (record_octets network broken ups b.number b.what) all)
