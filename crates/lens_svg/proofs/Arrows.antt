@@ -113,42 +113,42 @@ taken_none network plan = record { more = []; whole = sym (append-nil plan.marks
 
 shown_at : (view : View) (note : Note) (notes : List Note) (side : Side) → side_in view note ≡ side
     → shown view (note ∷ notes) ≡ (if is_within side then note ∷ shown view notes else shown view notes)
-shown_at view note notes side e = ap (λ s. if is_within s then note ∷ shown view notes else shown view notes) e
+shown_at view note notes side e = ap (λ (s : Side). if is_within s then note ∷ shown view notes else shown view notes) e
 
 mark_is : (network : Network) (plan : Plan) (note : Note) → IsMarkOf network (mark_of network plan (moved plan.pen (moment note)) note) note
 mark_is network plan note = record { number = refl; time = refl; seat = refl; device = refl; cause = refl; look = refl }
 
-taken_at : {network : Network} (plan : Plan) {after : Plan} (note : Note) {notes : List Note} (side : Side)
-    → side_in plan.view note ≡ side → AreTaken network (took_at side network plan note) after notes
-    → AreTaken network plan after (note ∷ notes)
-taken_at {network} plan note {notes} Before e h = record {
+taken_at : (network : Network) (plan after : Plan) (note : Note) (notes : List Note) (side : Side) → side_in plan.view note ≡ side
+    → AreTaken network (took_at side network plan note) after notes → AreTaken network plan after (note ∷ notes)
+taken_at network plan after note notes Before e h = record {
   more = h.more;
   whole = h.whole;
-  marks = subst (λ ns. AreMarksOf network h.more ns) (sym (shown_at plan.view note notes Before e)) h.marks;
+  marks = subst (λ (ns : List Note). AreMarksOf network h.more ns) (sym (shown_at plan.view note notes Before e)) h.marks;
 }
-taken_at {network} plan note {notes} Within e h =
+taken_at network plan after note notes Within e h =
     let mark = mark_of network plan (moved plan.pen (moment note)) note in record {
       more = mark ∷ h.more;
       whole = h.whole ∙ append_assoc plan.marks (mark ∷ []) h.more;
       marks =
-          subst (λ ns. AreMarksOf network (mark ∷ h.more) ns) (sym (shown_at plan.view note notes Within e))
+          subst (λ (ns : List Note). AreMarksOf network (mark ∷ h.more) ns) (sym (shown_at plan.view note notes Within e))
           (mark_is network plan note, h.marks);
     }
-taken_at {network} plan note {notes} Passed e h = record {
+taken_at network plan after note notes Passed e h = record {
   more = h.more;
   whole = h.whole;
-  marks = subst (λ ns. AreMarksOf network h.more ns) (sym (shown_at plan.view note notes Passed e)) h.marks;
+  marks = subst (λ (ns : List Note). AreMarksOf network h.more ns) (sym (shown_at plan.view note notes Passed e)) h.marks;
 }
-taken_at {network} plan note {notes} Behind e h = record {
+taken_at network plan after note notes Behind e h = record {
   more = h.more;
   whole = h.whole;
-  marks = subst (λ ns. AreMarksOf network h.more ns) (sym (shown_at plan.view note notes Behind e)) h.marks;
+  marks = subst (λ (ns : List Note). AreMarksOf network h.more ns) (sym (shown_at plan.view note notes Behind e)) h.marks;
 }
 
 pub taken_all : (network : Network) (plan : Plan) (notes : List Note) → AreTaken network plan (plan_behind network plan notes) notes
 taken_all network plan [] = taken_none network plan
 taken_all network plan (note ∷ notes) =
-    taken_at plan note (side_in plan.view note) refl (taken_all network (took network plan note) notes)
+    taken_at network plan (plan_behind network (took network plan note) notes) note notes (side_in plan.view note) refl
+    (taken_all network (took network plan note) notes)
 
 -- ---- where marks stand
 
@@ -220,11 +220,11 @@ module _ (network : Network) (plan : Plan) (note : Note) (next time : ℕ) (numb
   follows_took Passed e = record { placed = placed_still; long = long_more h.long }
   follows_took Behind e = record { placed = h.placed; long = inr (drawn_behind plan.view note e) }
 
-follows_all : (network : Network) {plan : Plan} (notes : List Note) {next time : ℕ} → NumbersFollow next notes
-    → NeverFall time notes → Follows plan next time → ArePlaced (plan_behind network plan notes)
-follows_all network [] numbers falls h = h.placed
-follows_all network {plan} (note ∷ notes) {next} {time} numbers falls h =
-    follows_all network notes numbers.1 falls.1
+follows_all : (network : Network) (plan : Plan) (notes : List Note) (next time : ℕ) → NumbersFollow next notes → NeverFall time notes
+    → Follows plan next time → ArePlaced (plan_behind network plan notes)
+follows_all network plan [] next time numbers falls h = h.placed
+follows_all network plan (note ∷ notes) next time numbers falls h =
+    follows_all network (took network plan note) notes (next + 1) (moment note) numbers.1 falls.1
     (follows_took network plan note next time numbers.0 falls.0 h (side_in plan.view note) refl)
 
 none_there : (place : ℕ) (mark : Mark) → slice_get [] place ≡ Some mark → ⊥
@@ -281,7 +281,7 @@ module _ (plan : Plan) (placed : ArePlaced plan) where
   arrow_each : (place : ℕ) (cause mark : Mark) → slice_get plan.marks place ≡ Some cause → ComesAcross mark cause → way_of plan mark ≡ Some (arrow cause mark)
   arrow_each place cause mark there comes =
       let at : mark_at plan mark.cause ≡ Some cause =
-      ap (λ n. mark_at plan n) (sym comes.number) ∙ finds plan placed place cause there in
+      ap (λ (n : ℕ). mark_at plan n) (sym comes.number) ∙ finds plan placed place cause there in
       ap (λ (o : Option Mark). option_and_then (λ c. way_between c mark) o) at ∙ between cause mark comes.apart
 
   arrow_from : (mark : Mark) (element : Element) (o : Option Mark) → mark_at plan mark.cause ≡ o
@@ -299,8 +299,8 @@ module _ (plan : Plan) (placed : ArePlaced plan) where
 pub arrows_are_causes : ArrowsAreCauses
 arrows_are_causes network view notes numbers falls =
     let taken = taken_all network (begun network view) notes in (
-      subst (λ ms. AreMarksOf network ms (shown view notes)) (sym taken.whole) taken.marks,
+      subst (λ (ms : List Mark). AreMarksOf network ms (shown view notes)) (sym taken.whole) taken.marks,
       has_arrows (plan_of network view notes)
-          (follows_all network {plan = begun network view} notes {next = 1} {time = 0} numbers falls
+          (follows_all network (begun network view) notes 1 0 numbers falls
           (record { placed = λ place mark there. absurd (none_there place mark there); long = inl (omega arith) })),
     )

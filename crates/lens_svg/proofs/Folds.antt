@@ -7,4 +7,4 @@ fold_listed {X = X} {Y = Y} f a all listed same i d within y z before next =
     next
     ∙ ap (λ (v : Y). f v (get_or listed i d)) before
     ∙ ap (λ (xs : List X). f (fold f a (take i all)) (get_or xs i d)) same
-    ∙ sym (fold_more f a all i d (subst (λ xs. i < length xs) same within))
+    ∙ sym (fold_more f a all i d (subst (λ (xs : List X). i < length xs) same within))

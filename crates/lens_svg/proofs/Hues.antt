@@ -39,13 +39,13 @@ hues_begin front (note ∷ rest) =
 
 hues_long : (front rest : List Note) → length (hues_of (front ++ rest)) ≡ length (hues_of front) + length rest
 hues_long front [] =
-    let same = ap (λ ns. length (hues_of ns)) (append-nil front) in
+    let same = ap (λ (ns : List Note). length (hues_of ns)) (append-nil front) in
     omega (arith, same)
 hues_long front (note ∷ rest) =
     let later = hues_long (front ++ note ∷ []) rest in
     let more = ap length (more_hues front note) in
     let long = length-append (hues_of front) (hue_of (hues_of front) note.body ∷ []) in
-    let same = ap (λ ns. length (hues_of ns)) (append_assoc front (note ∷ []) rest) in
+    let same = ap (λ (ns : List Note). length (hues_of ns)) (append_assoc front (note ∷ []) rest) in
     omega (arith, later, more, long, same)
 
 as_long : (notes : List Note) → length (hues_of notes) ≡ length notes
@@ -138,7 +138,7 @@ module _ (network : Network) (plan : Plan) (front : List Note) (note : Note) (ti
   hues_more = by h.hues
     where
       by : (plan.hues ≡ hues_of front) ⊎ (plan.view.span.to < time) → (hues_with plan.hues note.body ≡ hues_of (front ++ note ∷ [])) ⊎ (plan.view.span.to < moment note)
-      by (inl same) = inl (ap (λ hs. hues_with hs note.body) same ∙ sym (more_hues front note))
+      by (inl same) = inl (ap (λ (hs : List Hue). hues_with hs note.body) same ∙ sym (more_hues front note))
       by (inr past) = inr (omega (arith, past, later))
 
   abbrev mark : Mark
@@ -152,7 +152,7 @@ module _ (network : Network) (plan : Plan) (front : List Note) (note : Note) (ti
           let place : note.number - 1 ≡ length front = omega (arith, number) in
           ap (λ (n : ℕ). slice_get (hues_of (front ++ note ∷ [])) n) place
           ∙ hue_at front [] note
-          ∙ ap (λ hs. Some (hue_of hs note.body)) (sym same)
+          ∙ ap (λ (hs : List Hue). Some (hue_of hs note.body)) (sym same)
       by (inr past) = let most = (drawn_within plan.view note e).1 in absurd (omega (arith, past, later, most))
 
   hues_took : (side : Side) → side_in plan.view note ≡ side → HasHues (took_at side network plan note) (front ++ note ∷ []) (moment note)
@@ -176,20 +176,19 @@ module _ (network : Network) (plan : Plan) (front : List Note) (note : Note) (ti
   hues_took Passed e = record { hues = hues_more; marks = still; numbers = counted }
   hues_took Behind e = record { hues = inr (drawn_behind plan.view note e); marks = still; numbers = counted }
 
-hues_behind : (network : Network) {plan : Plan} {front : List Note} (rest : List Note) {time : ℕ}
-    → NumbersFollow (length front + 1) rest → NeverFall time rest → HasHues plan front time → (mark : Mark)
-    → IsIn mark (plan_behind network plan rest).marks → slice_get (hues_of (front ++ rest)) (mark.number - 1)
-    ≡ Some mark.hue
-hues_behind network {front} [] numbers falls h mark of =
-    ap (λ ns. slice_get (hues_of ns) (mark.number - 1)) (append-nil front) ∙ h.marks mark of
-hues_behind network {plan} {front} (note ∷ rest) {time} numbers falls h mark of =
+hues_behind : (network : Network) (plan : Plan) (front rest : List Note) (time : ℕ) → NumbersFollow (length front + 1) rest → NeverFall time rest
+    → HasHues plan front time
+    → (mark : Mark) → IsIn mark (plan_behind network plan rest).marks → slice_get (hues_of (front ++ rest)) (mark.number - 1) ≡ Some mark.hue
+hues_behind network plan front [] time numbers falls h mark of =
+    ap (λ (ns : List Note). slice_get (hues_of ns) (mark.number - 1)) (append-nil front) ∙ h.marks mark of
+hues_behind network plan front (note ∷ rest) time numbers falls h mark of =
     let long = length-append front (note ∷ []) in
-    ap (λ ns. slice_get (hues_of ns) (mark.number - 1)) (sym (append_assoc front (note ∷ []) rest))
-    ∙ hues_behind network rest
-    (subst (λ n. NumbersFollow (n + 1) rest) (sym long) numbers.1) falls.1
+    ap (λ (ns : List Note). slice_get (hues_of ns) (mark.number - 1)) (sym (append_assoc front (note ∷ []) rest))
+    ∙ hues_behind network (took network plan note) (front ++ note ∷ []) rest (moment note)
+    (subst (λ (n : ℕ). NumbersFollow (n + 1) rest) (sym long) numbers.1) falls.1
     (hues_took network plan front note time numbers.0 falls.0 h (side_in plan.view note) refl) mark of
 
 pub marks_have_hues : MarksHaveHues
 marks_have_hues network view notes numbers falls =
-    hues_behind network {plan = begun network view} {front = []} notes {time = 0} numbers falls
+    hues_behind network (begun network view) [] notes 0 numbers falls
     (record { hues = inl refl; marks = λ mark of. absurd of; numbers = λ mark of. absurd of })

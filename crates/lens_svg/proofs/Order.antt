@@ -81,8 +81,8 @@ stand_past pen last inside = grind (arith, nat_tests, inside)
 reached_most : (pen : Pen) (x : ℕ) → (pen.most ≤ (reached pen x).most) × (x ≤ (reached pen x).most)
 reached_most pen x = (grind (arith, nat_tests), grind (arith, nat_tests))
 
-moved_paper : {pen : Pen} (time : ℕ) → IsOnPaper pen → IsOnPaper (moved pen time)
-moved_paper {pen} time h = by (nat_lt pen.time time) refl
+moved_paper : (pen : Pen) (time : ℕ) → IsOnPaper pen → IsOnPaper (moved pen time)
+moved_paper pen time h = by (nat_lt pen.time time) refl
   where
     by : (b : Bool) → nat_lt pen.time time ≡ b → IsOnPaper (moved pen time)
     by true e =
@@ -90,11 +90,11 @@ moved_paper {pen} time h = by (nat_lt pen.time time) refl
         subst IsOnPaper (sym (moved_later pen time true e)) (record { x = most; most = most })
     by false e = subst IsOnPaper (sym (moved_later pen time false e)) h
 
-stand_paper : {pen : Pen} (last : ℕ) → IsOnPaper pen → stand pen last ≤ widest
-stand_paper last h = let x = h.x in grind (arith, nat_tests, x)
+stand_paper : (pen : Pen) (last : ℕ) → IsOnPaper pen → stand pen last ≤ widest
+stand_paper pen last h = let x = h.x in grind (arith, nat_tests, x)
 
-reached_paper : {pen : Pen} (x : ℕ) → IsOnPaper pen → x ≤ widest → IsOnPaper (reached pen x)
-reached_paper x h most = let reach = h.most in record { x = h.x; most = grind (arith, nat_tests, reach, most) }
+reached_paper : (pen : Pen) (x : ℕ) → IsOnPaper pen → x ≤ widest → IsOnPaper (reached pen x)
+reached_paper pen x h most = let reach = h.most in record { x = h.x; most = grind (arith, nat_tests, reach, most) }
 
 -- ---- the pen moves, and has another mark
 
@@ -107,7 +107,7 @@ module _ (pen : Pen) (time : ℕ) (later : pen.time ≤ time) (inside : (moved p
       let t : (moved pen time).time ≡ time = ap (λ (p : Pen). p.time) is in
       let most : (moved pen time).most ≡ pen.most + gap pen.time time =
       ap (λ (p : Pen). p.most) is
-      ∙ capped_whole (pen.most + gap pen.time time) (subst (λ n. n < widest) (ap (λ (p : Pen). p.most) is) inside) in
+      ∙ capped_whole (pen.most + gap pen.time time) (subst (λ (n : ℕ). n < widest) (ap (λ (p : Pen). p.most) is) inside) in
       let x : (moved pen time).x ≡ (moved pen time).most = ap (λ (p : Pen). p.x) is ∙ sym (ap (λ (p : Pen). p.most) is) in
       let hx = h.x in
       let ht = h.time in record {
@@ -122,7 +122,7 @@ module _ (pen : Pen) (time : ℕ) (later : pen.time ≤ time) (inside : (moved p
     where
       by : (b : Bool) → nat_lt pen.time time ≡ b → IsPast (moved pen time) m
       by true e = past_later m h e
-      by false e = subst (λ p. IsPast p m) (sym (moved_later pen time false e)) h
+      by false e = subst (λ (p : Pen). IsPast p m) (sym (moved_later pen time false e)) h
 
 past_reached : (pen : Pen) (x : ℕ) (m : Mark) → IsPast pen m → IsPast (reached pen x) m
 past_reached pen x m h =
@@ -167,8 +167,8 @@ seated_still seats seat x within grows m h = by (m.seat == seat) refl
     by : (b : Bool) → (m.seat == seat) ≡ b → IsSeated (with_at seats seat x) m
     by true e =
         let same : m.seat ≡ seat = eqb-true m.seat seat e in
-        let last = ap (λ s. last_in (with_at seats seat x) s) same ∙ last_same seats seat x within in
-        let old = ap (λ s. last_in seats s) same in
+        let last = ap (λ (s : ℕ). last_in (with_at seats seat x) s) same ∙ last_same seats seat x within in
+        let old = ap (λ (s : ℕ). last_in seats s) same in
         omega (arith, last, old, h, grows)
     by false e =
         let last = last_other seats seat m.seat x (λ same. let test = eq-eqb m.seat seat same in absurd cc) in
@@ -212,7 +212,7 @@ module _ (network : Network) (plan : Plan) (note : Note) (of : IsNoteOf network 
   last = last_in plan.seats mark.seat
 
   on_paper : pen.x ≤ widest
-  on_paper = (moved_paper (moment note) paper).x
+  on_paper = (moved_paper plan.pen (moment note) paper).x
 
   x_inside : mark.x < widest
   x_inside = let more = (reached_most pen mark.x).1 in omega (arith, more, inside)
@@ -231,7 +231,7 @@ module _ (network : Network) (plan : Plan) (note : Note) (of : IsNoteOf network 
         instants = λ less. let apart = both.0.apart (omega (arith, less, t)) in omega (arith, apart, least);
         beside = λ same row. let here = both.0.here (omega (arith, same, t)) in
             let seat = both.1 in
-            let rows = ap (λ s. last_in plan.seats s) row in
+            let rows = ap (λ (s : ℕ). last_in plan.seats s) row in
             let reach : pen.x ≤ last = omega (arith, here, seat, rows) in
             let behind = stand_beside pen last x_inside reach in
             omega (arith, behind, seat, rows);
@@ -281,10 +281,10 @@ took_grows network plan note Before h = (omega arith, h)
 took_grows network plan note Within h =
     let pen = moved plan.pen (moment note) in
     let mark = mark_of network plan pen note in
-    let paper = moved_paper (moment note) h in
+    let paper = moved_paper plan.pen (moment note) h in
     let first = moved_reach plan.pen (moment note) h.most in
     let more = (reached_most pen mark.x).0 in
-    (omega (arith, first, more), reached_paper mark.x paper (stand_paper (last_in plan.seats mark.seat) paper))
+    (omega (arith, first, more), reached_paper pen mark.x paper (stand_paper pen (last_in plan.seats mark.seat) paper))
 took_grows network plan note Passed h = (omega arith, h)
 took_grows network plan note Behind h = (omega arith, h)
 
@@ -313,37 +313,35 @@ record IsInOrder (network : Network) (plan : Plan) (time : ℕ) : Type 0 where
   pub ordered : IsOrdered network plan
   pub behind : IsBehind plan time
 
-order_took : {network : Network} {plan : Plan} (note : Note) {time : ℕ} (side : Side) → side_in plan.view note ≡ side
-    → IsNoteOf network note → time ≤ moment note → IsOnPaper plan.pen
-    → (took_at side network plan note).pen.most < widest → IsInOrder network plan time
+order_took : (network : Network) (plan : Plan) (note : Note) (time : ℕ) (side : Side) → side_in plan.view note ≡ side → IsNoteOf network note
+    → time ≤ moment note → IsOnPaper plan.pen → (took_at side network plan note).pen.most < widest → IsInOrder network plan time
     → IsInOrder network (took_at side network plan note) (moment note)
-order_took {plan} note {time} Before at of later paper inside h = record {
+order_took network plan note time Before at of later paper inside h = record {
   ordered = record { apart = h.ordered.apart; past = h.ordered.past; seated = h.ordered.seated; seats = h.ordered.seats };
   behind = still_behind plan time (moment note) h.behind later;
 }
-order_took {network} {plan} note {time} Within at of later paper inside h =
+order_took network plan note time Within at of later paper inside h =
     let from = (drawn_within plan.view note at).0 in
     let now = not_later plan time (moment note) h.behind later from in
     let t = moved_time plan.pen (moment note) now in
     record { ordered = ordered_drawn network plan note of now paper inside h.ordered; behind = inl (omega (arith, t)) }
-order_took {plan} note {time} Passed at of later paper inside h = record {
+order_took network plan note time Passed at of later paper inside h = record {
   ordered = record { apart = h.ordered.apart; past = h.ordered.past; seated = h.ordered.seated; seats = h.ordered.seats };
   behind = still_behind plan time (moment note) h.behind later;
 }
-order_took {plan} note {time} Behind at of later paper inside h =
+order_took network plan note time Behind at of later paper inside h =
     record { ordered = h.ordered; behind = still_behind plan time (moment note) h.behind later }
 
-order_behind : {network : Network} {plan : Plan} (notes : List Note) {time : ℕ} → All (IsNoteOf network) notes
-    → NeverFall time notes → IsOnPaper plan.pen → (plan_behind network plan notes).pen.most < widest
-    → IsInOrder network plan time → AreApart (plan_behind network plan notes).marks
-order_behind [] of falls paper inside h = h.ordered.apart
-order_behind {network} {plan} (note ∷ notes) of falls paper inside h =
+order_behind : (network : Network) (plan : Plan) (notes : List Note) (time : ℕ) → All (IsNoteOf network) notes → NeverFall time notes → IsOnPaper plan.pen
+    → (plan_behind network plan notes).pen.most < widest → IsInOrder network plan time → AreApart (plan_behind network plan notes).marks
+order_behind network plan [] time of falls paper inside h = h.ordered.apart
+order_behind network plan (note ∷ notes) time of falls paper inside h =
     let side = side_in plan.view note in
     let grows = took_grows network plan note side paper in
     let after = behind_grows network (took network plan note) notes grows.1 in
     let first : (took network plan note).pen.most < widest = omega (arith, after, inside) in
-    order_behind notes (All-tail (IsNoteOf network) note notes of) falls.1 grows.1 inside
-    (order_took note side refl (All-head (IsNoteOf network) note notes of) falls.0 paper first h)
+    order_behind network (took network plan note) notes (moment note) (All-tail (IsNoteOf network) note notes of) falls.1 grows.1 inside
+    (order_took network plan note time side refl (All-head (IsNoteOf network) note notes of) falls.0 paper first h)
 
 -- a picture that fits ends before the edge
 fits_inside : (pen : Pen) → nat_le (width_of pen) widest ≡ true → pen.most < widest
@@ -355,8 +353,7 @@ first_seats devices = let same = length-map {B = ℕ} devices (λ (d : Device). 
 
 pub keeps_order : KeepsOrder
 keeps_order network view notes of falls fit =
-    order_behind {network = network} {plan = begun network view} notes {time = 0} of falls
-    (record { x = omega arith; most = omega arith })
+    order_behind network (begun network view) notes 0 of falls (record { x = omega arith; most = omega arith })
     (fits_inside (plan_of network view notes).pen fit) (record {
       ordered = record {
         apart = tt;

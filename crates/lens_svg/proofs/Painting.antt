@@ -126,53 +126,49 @@ module _ (network : Network) (plan : Plan) (note : Note) (time : ℕ) (later : t
   begins_took Passed e begins = inr (passed_over plan.view note e).0
   begins_took Behind e begins = let past = drawn_behind plan.view note e in absurd (omega (arith, past, most))
 
-module _ (network : Network) where
-  view_took : (plan : Plan) (note : Note) (side : Side) → (took_at side network plan note).view ≡ plan.view
-  view_took plan note Before = refl
-  view_took plan note Within = refl
-  view_took plan note Passed = refl
-  view_took plan note Behind = refl
+view_took : (network : Network) (plan : Plan) (note : Note) (side : Side) → (took_at side network plan note).view ≡ plan.view
+view_took network plan note Before = refl
+view_took network plan note Within = refl
+view_took network plan note Passed = refl
+view_took network plan note Behind = refl
 
-  painted_all : (plan : Plan) (notes : List Note) (time : ℕ) → NeverFall time notes → AreUpTo plan.view.span.to notes
-      → HasBegun plan time → painted (plan_behind network plan notes)
-      ≡ told_after network plan.view (painted plan) notes
-  painted_all plan [] time falls most begins = refl
-  painted_all plan (note ∷ notes) time falls most begins =
-      let side = side_in plan.view note in
-      let next = took network plan note in
-      let view = view_took plan note side in
-      painted_all next notes (moment note) falls.1
-      (subst (λ (v : View). AreUpTo v.span.to notes) (sym view) most.1)
-      (begins_took network plan note time falls.0 most.0 side refl begins)
-      ∙ ap (λ v. told_after network v (painted next) notes) view
-      ∙ ap (λ gs. told_after network plan.view gs notes)
-      (painted_took network plan note time falls.0 most.0 side refl begins)
-      ∙ sym (told_more network plan.view (painted plan) note notes (is_told plan.view note) refl)
+painted_all : (network : Network) (plan : Plan) (notes : List Note) (time : ℕ) → NeverFall time notes → AreUpTo plan.view.span.to notes → HasBegun plan time
+    → painted (plan_behind network plan notes) ≡ told_after network plan.view (painted plan) notes
+painted_all network plan [] time falls most begins = refl
+painted_all network plan (note ∷ notes) time falls most begins =
+    let side = side_in plan.view note in
+    let next = took network plan note in
+    let view = view_took network plan note side in
+    painted_all network next notes (moment note) falls.1
+    (subst (λ (v : View). AreUpTo v.span.to notes) (sym view) most.1)
+    (begins_took network plan note time falls.0 most.0 side refl begins)
+    ∙ ap (λ (v : View). told_after network v (painted next) notes) view
+    ∙ ap (λ (gs : List Ground). told_after network plan.view gs notes) (painted_took network plan note time falls.0 most.0 side refl begins)
+    ∙ sym (told_more network plan.view (painted plan) note notes (is_told plan.view note) refl)
 
-  -- ---- what is drawn later
+-- ---- what is drawn later
 
-  kept_took : (plan : Plan) (note : Note) (side : Side) → side_in plan.view note ≡ side
-      → plan.view.span.from ≤ moment note → (took_at side network plan note).grounds ≡ plan.grounds
-  kept_took plan note Before e from = let less = drawn_before plan.view note e in absurd (omega (arith, less, from))
-  kept_took plan note Within e from = refl
-  kept_took plan note Passed e from = refl
-  kept_took plan note Behind e from = refl
+kept_took : (network : Network) (plan : Plan) (note : Note) (side : Side) → side_in plan.view note ≡ side → plan.view.span.from ≤ moment note
+    → (took_at side network plan note).grounds ≡ plan.grounds
+kept_took network plan note Before e from = let less = drawn_before plan.view note e in absurd (omega (arith, less, from))
+kept_took network plan note Within e from = refl
+kept_took network plan note Passed e from = refl
+kept_took network plan note Behind e from = refl
 
-  grounds_kept : (plan : Plan) (notes : List Note) (time : ℕ) → NeverFall time notes → plan.view.span.from ≤ time
-      → (plan_behind network plan notes).grounds ≡ plan.grounds
-  grounds_kept plan [] time falls from = refl
-  grounds_kept plan (note ∷ notes) time falls from =
-      let side = side_in plan.view note in
-      let first = falls.0 in
-      let later : plan.view.span.from ≤ moment note = omega (arith, from, first) in
-      grounds_kept (took network plan note) notes (moment note) falls.1
-      (subst (λ (v : View). v.span.from ≤ moment note) (sym (view_took plan note side)) later)
-      ∙ kept_took plan note side refl later
+grounds_kept : (network : Network) (plan : Plan) (notes : List Note) (time : ℕ) → NeverFall time notes → plan.view.span.from ≤ time
+    → (plan_behind network plan notes).grounds ≡ plan.grounds
+grounds_kept network plan [] time falls from = refl
+grounds_kept network plan (note ∷ notes) time falls from =
+    let side = side_in plan.view note in
+    let first = falls.0 in
+    let later : plan.view.span.from ≤ moment note = omega (arith, from, first) in
+    grounds_kept network (took network plan note) notes (moment note) falls.1
+    (subst (λ (v : View). v.span.from ≤ moment note) (sym (view_took network plan note side)) later)
+    ∙ kept_took network plan note side refl later
 
-  pub view_behind : (plan : Plan) (notes : List Note) → (plan_behind network plan notes).view ≡ plan.view
-  view_behind plan [] = refl
-  view_behind plan (note ∷ notes) =
-      view_behind (took network plan note) notes ∙ view_took plan note (side_in plan.view note)
+pub view_behind : (network : Network) (plan : Plan) (notes : List Note) → (plan_behind network plan notes).view ≡ plan.view
+view_behind network plan [] = refl
+view_behind network plan (note ∷ notes) = view_behind network (took network plan note) notes ∙ view_took network plan note (side_in plan.view note)
 
 in_span : (side : Side) → is_within side ≡ true → side ≡ Within
 in_span Before e = absurd cc

@@ -33,9 +33,8 @@ text_plain network body n of_network h = line_plain (body_words network body) (b
 note_parts : (number time body : List ℕ) → number ++ codes " " ++ time ++ codes " " ++ body ≡ number ++ space ∷ (time ++ space ∷ body)
 note_parts number time body = simp append_assoc refl
 
-pub note_plain : {network : Network} {note : Note} → IsInRange network → IsNoteOf network note → IsNoteInRange note
-    → IsPlain (note_text network note)
-note_plain {network} {note} n of_network h =
+pub note_plain : (network : Network) (note : Note) → IsInRange network → IsNoteOf network note → IsNoteInRange note → IsPlain (note_text network note)
+note_plain network note n of_network h =
     let number = decimal note.number in
     let time = signed_decimal note.time.0 in
     let body = body_text network note.body in

@@ -16,8 +16,8 @@ use Rattle.sync_state.specs.declared.state.State.TheVariants as states
 
 -- ---- one word
 
-vl_short : {network : Network} (v : VlId) → IsInRange network → HasVl network v → length (vl_name network v) ≤ 16
-vl_short {network} v range of_network =
+vl_short : (network : Network) (v : VlId) → IsInRange network → HasVl network v → length (vl_name network v) ≤ 16
+vl_short network v range of_network =
     let at = some_at network.vl v.0 of_network in
     rw at.1 (in_all (IsVlInRange network) network.vl v.0 at.0 range.vls at.1).name.short
 
@@ -114,15 +114,15 @@ body_short network (bodies.Lost d l n) range of_network h =
     let cause = count_short n h in omega (arith, device, link, cause)
 body_short network (bodies.TtSent d l n v cycle) range of_network h =
     let device = device_short network d range of_network.0 in let link = link_short network l range of_network.1 in
-    let vl = vl_short v range of_network.2 in
+    let vl = vl_short network v range of_network.2 in
     let cause = count_short n h.0 in let number = cycle_short cycle h.1 in omega (arith, device, link, vl, cause, number)
 body_short network (bodies.Accepted d l n v cycle) range of_network h =
     let device = device_short network d range of_network.0 in let link = link_short network l range of_network.1 in
-    let vl = vl_short v range of_network.2 in
+    let vl = vl_short network v range of_network.2 in
     let cause = count_short n h.0 in let number = cycle_short cycle h.1 in omega (arith, device, link, vl, cause, number)
 body_short network (bodies.Delivered d l n v cycle) range of_network h =
     let device = device_short network d range of_network.0 in let link = link_short network l range of_network.1 in
-    let vl = vl_short v range of_network.2 in
+    let vl = vl_short network v range of_network.2 in
     let cause = count_short n h.0 in let number = cycle_short cycle h.1 in omega (arith, device, link, vl, cause, number)
 body_short network (bodies.Dropped d l n reason) range of_network h =
     let device = device_short network d range of_network.0 in let link = link_short network l range of_network.1 in

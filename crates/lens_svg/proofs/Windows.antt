@@ -4,7 +4,5 @@ use Rattle.{net_plan.specs.declared.network.Network.Network, schedule_tables.spe
 use Rattle.std.specs.Prelude.{option_map}
 
 -- the window of an entry is that of the row
-pub window_is : {network : Network} {place : ℕ} {entry : Entry} → IsEntry network place entry
-    → window_at network place ≡ Some (window_of network entry)
-window_is {network} {place} {entry} is =
-    ap (λ (o : Option Entry). option_map (window_of network) o) (entry_is network place entry is)
+pub window_is : (network : Network) (place : ℕ) (entry : Entry) → IsEntry network place entry → window_at network place ≡ Some (window_of network entry)
+window_is network place entry is = ap (λ (o : Option Entry). option_map (window_of network) o) (entry_is network place entry is)

@@ -186,7 +186,7 @@ module _ (network : Network) (octets : List ℕ) (ns : List Note) (end : Units) 
       let row : row_of network vl link ≡ Some h.place =
       ap (λ v. row_of network v link) (sym h.of_vl) ∙ ap (λ l. row_of network h.entry.row.vl l) (sym h.by)
       ∙ row_is_one network h.place h.entry rules h.row in
-      let is : window_by network vl link ≡ Some window = ap (option_and_then (window_at network)) row ∙ window_is h.row in
+      let is : window_by network vl link ≡ Some window = ap (option_and_then (window_at network)) row ∙ window_is network h.place h.entry h.row in
       let tick = tick_is window (offset_in_cycle network clock) (some_length h.entry of.range) h.not_before h.not_behind in record {
         window = window;
         is = is;

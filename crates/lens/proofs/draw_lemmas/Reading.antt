@@ -172,7 +172,7 @@ module _ (network : Network) where
   written : {note : Note} → IsInRange network → IsNoteOf network note → IsNoteInRange note
       → NonePasses (λ c. c == 34) (decimal note.number) × IsPlain (note_text network note)
   written {note} range of h =
-      (no_quote (decimal note.number) ((decimal_is_IsNumeral note.number h.number).0).1, note_plain range of h)
+      (no_quote (decimal note.number) ((decimal_is_IsNumeral note.number h.number).0).1, note_plain network note range of h)
 
   all_written : (view : View) (notes : List Note) → IsInRange network → All (IsNoteOf network) notes
       → All IsNoteInRange notes → AreWritten network (shown view notes)

@@ -1,4 +1,4 @@
-use Rattle.std.proofs.{Common.{arith, sym}, lemmas.List.length-take-le}
+use Rattle.std.{proofs.{Common.{arith, sym}, lemmas.List.length-take-le}}
 use Rattle.lens_svg.proofs.title.push_cut.Goals as goal
 
 pub slice_bounds-push_octets-end : goal.slice_bounds-push_octets-end
