@@ -15,4 +15,3 @@ pub mod Bearing
 pub mod PutShown
 pub mod PutTwo
 pub mod StandsOn
-pub mod PutAct

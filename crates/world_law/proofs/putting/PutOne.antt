@@ -165,7 +165,7 @@ pub unmarked : {s : Scenario} {hs coming : List Happening} {mark cursor : List �
 unmarked {now} {r} {more} m b = m.waits (m.ahead (now ∷ r ∷ more) b)
 
 -- what hears at the instant is aside of what comes from another source
-hears_aside : {s : Scenario} {hs coming : List Happening} (f rest : List Happening) {mark cursor : List ℕ}
+pub hears_aside : {s : Scenario} {hs coming : List Happening} (f rest : List Happening) {mark cursor : List ℕ}
     {now r : ℕ} {more : List ℕ} (x : Happening) (device : DeviceId) → IsMoving s hs coming mark cursor now r more
     → coming ≡ f ++ x ∷ rest → hears device x.note.body ≡ true
     → IsBefore (rows_place now device) (now ∷ r ∷ more) ⊎ (now ∷ r ∷ more ≡ rows_place now device)

@@ -53,20 +53,29 @@ one_shown network hs now body few put =
 
 -- ---- a record that comes first, and the change of state that follows it: its number is the next
 
-abbrev pub change_of : Network → List Happening → List Happening → ℕ → DeviceId → State → Why → Happening
-change_of network hs front now device state why = record_of network hs front now (notes.State device state (length hs + 1) why)
+abbrev pub change_of : Network → List Happening → ℕ → NoteBody → List Happening → DeviceId → State → Why → Happening
+change_of network hs now body mid device state why =
+    record_of network hs (record_of network hs [] now body ∷ mid) now (notes.State device state (length hs + 1) why)
 
+-- the two among what is to come
+abbrev pub pair_put : Network → List Happening → ℕ → NoteBody → List Happening → DeviceId → State → Why → List Happening
+    → List Happening
+pair_put network hs now body mid device state why back =
+    record_of network hs [] now body ∷ (mid ++ change_of network hs now body mid device state why ∷ back)
+
+-- the first stands before all that is to come, the change behind what is between
 pub record IsShownPair (network : Network) (hs : List Happening) (now : ℕ) (body : NoteBody) (device : DeviceId) (state : State) (why : Why)
     (coming settled : List Happening) : Type 0 where
-  pub none : NoneBefore place_of coming (place_of (record_of network hs [] now body))
-  pub front2 : List Happening
-  pub back2 : List Happening
-  pub parts2 : record_of network hs [] now body ∷ coming ≡ front2 ++ back2
-  pub far : length hs < length (hs ++ front2)
-  pub before2 : AllBefore place_of front2 (place_of (change_of network hs front2 now device state why))
-  pub none2 : NoneBefore place_of back2 (place_of (change_of network hs front2 now device state why))
-  pub fresh2 : (y : Happening) → IsIn y back2 → place_of (change_of network hs front2 now device state why) ≡ place_of y → ⊥
-  pub shows : settled ≡ front2 ++ change_of network hs front2 now device state why ∷ back2
+  pub first : NoneBefore place_of coming (place_of (record_of network hs [] now body))
+  pub mid : List Happening
+  pub back : List Happening
+  pub parts : coming ≡ mid ++ back
+  pub before : AllBefore place_of (record_of network hs [] now body ∷ mid)
+      (place_of (change_of network hs now body mid device state why))
+  pub none : NoneBefore place_of back (place_of (change_of network hs now body mid device state why))
+  pub fresh : (y : Happening) → IsIn y back → place_of (change_of network hs now body mid device state why) ≡ place_of y
+      → ⊥
+  pub shows : settled ≡ pair_put network hs now body mid device state why back
 
 first_of : (front back : List Happening) (p : List ℕ) → AllBefore place_of front p → ((z : Happening) → IsIn z (front ++ back) → IsBefore (place_of z) p → ⊥)
     → front ≡ []
@@ -75,53 +84,55 @@ first_of (x ∷ front) back p before above = absurd (above x (inl refl) (before 
 
 -- what is put in first stands first where nothing to come is before it; and no change of the device has its number as its cause yet
 pub two_shown : (network : Network) (hs : List Happening) (now : ℕ) (body : NoteBody) (device : DeviceId)
-    (state : State) (why : Why) {coming mid settled : List Happening} → cause_of body ≤ length hs → rank body < 7
+    (state : State) (why : Why) {coming put_one settled : List Happening} → cause_of body ≤ length hs → rank body < 7
     → ((z : Happening) → IsIn z coming → IsBefore (place_of z) (place_of (settled_as network hs now body)) → ⊥)
     → ((z : Happening) → IsIn z coming → (it : AsState z.note.body) → it.cause ≤ length hs)
-    → IsPutIn (settled_as network hs now body) coming mid
-    → IsPutIn (settled_as network hs now (notes.State device state (length hs + 1) why)) mid settled
+    → IsPutIn (settled_as network hs now body) coming put_one
+    → IsPutIn (settled_as network hs now (notes.State device state (length hs + 1) why)) put_one settled
     → IsShownPair network hs now body device state why coming settled
-two_shown network hs now body device state why {coming} {mid} few low above sole put put2 =
-    let w = record_of network hs [] now body in
+two_shown network hs now body device state why {coming} few low above sole put put2 =
     let same = same_record network hs [] now body few in
     let none_first : put.front ≡ [] = first_of put.front put.back (place_of (settled_as network hs now body)) put.before
     (λ z i. above z (subst (λ l. IsIn z l) (sym put.was) i)) in
     let rest : put.back ≡ coming = sym (put.was ∙ ap (λ (l : List Happening). l ++ put.back) none_first) in
-    let mid_is : mid ≡ w ∷ coming = put.is ∙ ap (λ (l : List Happening). l ++ settled_as network hs now body ∷ put.back) none_first
-    ∙ ap (λ (h : Happening). h ∷ put.back) (sym same) ∙ ap (λ (l : List Happening). w ∷ l) rest in
-    let parts : w ∷ coming ≡ put2.front ++ put2.back = sym mid_is ∙ put2.was in
-    let in_back : (y : Happening) → IsIn y put2.back → IsIn y (w ∷ coming) = λ y i. subst (λ l. IsIn y l) (sym parts)
-    (in_right y put2.front put2.back i) in
+    let one_is : w ∷ coming ≡ put2.front ++ put2.back =
+    sym (put.is ∙ ap (λ (l : List Happening). l ++ settled_as network hs now body ∷ put.back) none_first
+    ∙ ap (λ (h : Happening). h ∷ put.back) (sym same) ∙ ap (λ (l : List Happening). w ∷ l) rest) ∙ put2.was in
+    let x = behind_it put2.front put2.back one_is put2.none in
     record {
-      none = λ z i b. above z i (subst (λ q. IsBefore (place_of z) q) (ap place_of same) b);
-      front2 = put2.front;
-      back2 = put2.back;
-      parts2 = parts;
-      far = longer put2.front put2.back parts put2.none;
-      before2 = put2.before;
-      none2 = put2.none;
-      fresh2 = λ y there e.
+      first = λ z i b. above z i (subst (λ q. IsBefore (place_of z) q) (ap place_of same) b);
+      mid = x.0;
+      back = put2.back;
+      parts = x.2;
+      before = subst (λ l. AllBefore place_of l change_place) x.1 put2.before;
+      none = put2.none;
+      fresh = λ y there e.
           let of_rank : 7 ≡ rank y.note.body = ap second e in
-          elim (in_back y there) [
-            | inl is_w ↦ let six : rank y.note.body ≡ rank body = ap (λ (h : Happening). rank h.note.body) is_w in omega (arith, six, of_rank, low)
-            | inr i ↦ elim (seven y.note.body) [
-              | inr none ↦ none (sym of_rank)
-              | inl it ↦
-                  let places : now ∷ 7 ∷ device.0 ∷ (length hs + 1) ∷ [] ≡ time_of y ∷ 7 ∷ it.device.0 ∷ it.cause ∷ [] = at_now ∙ e
-                  ∙ ap (λ b. time_of y ∷ rank b ∷ Rattle.run_law.specs.records.Ranks.key (Rattle.run_law.specs.records.Ranks.members_in y) b) it.is in
-                  let cause : length hs + 1 ≡ it.cause = cc in
-                  let most = sole y i it in omega (arith, cause, most)
-            ]
+          elim (seven y.note.body) [
+            | inr none ↦ none (sym of_rank)
+            | inl it ↦
+                let places : change_place ≡ time_of y ∷ 7 ∷ it.device.0 ∷ it.cause ∷ [] = e
+                ∙ ap (λ b. time_of y ∷ rank b ∷ Rattle.run_law.specs.records.Ranks.key
+                (Rattle.run_law.specs.records.Ranks.members_in y) b) it.is in
+                let cause : length hs + 1 ≡ it.cause = cc in
+                let most = sole y (subst (λ l. IsIn y l) (sym x.2) (in_right y x.0 put2.back there)) it in
+                omega (arith, cause, most)
           ];
-      shows = put2.is;
+      shows = put2.is
+          ∙ ap (λ (l : List Happening). l ++ settled_as network hs now (notes.State device state (length hs + 1) why)
+          ∷ put2.back) x.1;
     }
   where
-    at_now : now ∷ 7 ∷ device.0 ∷ (length hs + 1) ∷ []
-        ≡ time_of (settled_as network hs now (notes.State device state (length hs + 1) why)) ∷ 7 ∷ device.0 ∷ (length hs + 1) ∷ []
-    at_now = refl
+    w : Happening
+    w = record_of network hs [] now body
 
-    longer : (front back : List Happening) → record_of network hs [] now body ∷ coming ≡ front ++ back
-        → NoneBefore place_of back (place_of (settled_as network hs now (notes.State device state (length hs + 1) why))) → length hs < length (hs ++ front)
-    longer [] back e none = absurd (none (record_of network hs [] now body)
-        (subst (λ l. IsIn (record_of network hs [] now body) l) e (inl refl)) (inr (refl, inl low)))
-    longer (x ∷ front) back e none = let long = length-append hs (x ∷ front) in let one : length (x ∷ front) ≡ length front + 1 = omega arith in omega (arith, long, one)
+    change_place : List ℕ
+    change_place = now ∷ 7 ∷ device.0 ∷ (length hs + 1) ∷ []
+
+    behind_it : (front back : List Happening) → w ∷ coming ≡ front ++ back → NoneBefore place_of back change_place
+        → (mid : List Happening) × (front ≡ w ∷ mid) × (coming ≡ mid ++ back)
+    behind_it [] back e none = absurd (none w (subst (λ l. IsIn w l) e (inl refl)) (inr (refl, inl low)))
+    behind_it (x ∷ mid) back e none =
+        let is : w ≡ x = cc in
+        let rest : coming ≡ mid ++ back = cc in
+        (mid, ap (λ (h : Happening). h ∷ mid) (sym is), rest)

@@ -1,20 +1,20 @@
 -- The step by which a joiner has its first correction, and has the common time from then on.
-use Rattle.world_law.proofs.putting.{Bearing.frames_aside, PutShown.{IsShownPair, change_of}, StandsOn.shown_still}
-use Rattle.world_law.proofs.{putting.{Placing.causes_given, PutAct.{IsActSo, act_pair}}, steps_lemmas.acting.Work.{all_earlier, at_correction}}
-use Rattle.world_law.proofs.{putting.PutTwo.two_by, steps_lemmas.acting.{CorrectSteps.{IsCorrecting, corrected_worked}, Correcting.joiner_over, Moves.IsCorrectedSo, Over.IsOver}}
+use Rattle.world_law.proofs.putting.{Bearing.frames_aside, PutShown.{IsShownPair, change_of, pair_put}, StandsOn.shown_still}
+use Rattle.world_law.proofs.{putting.Placing.causes_given, steps_lemmas.acting.Work.{all_earlier, at_correction}}
+use Rattle.world_law.proofs.{putting.PutTwo.{IsPair, two_by}, steps_lemmas.acting.{CorrectSteps.{IsCorrecting, corrected_worked}, Correcting.joiner_over, Moves.IsCorrectedSo, Over.IsOver}}
 use Rattle.world_law.proofs.steps_lemmas.Words.{IsSource}
 use Rattle.world_law.proofs.steps_lemmas.Words.{◌++◌, ◌+ℤ◌, ◌+◌, ◌<◌, ◌∙◌, ◌∷◌, ◌≡◌, ◌≤◌, ◌⊎◌, AreOfNetwork, ChangesState, Corrected, DeviceId, Happening}
 use Rattle.world_law.proofs.steps_lemmas.Words.{HasCleared, Integrating, IsActing, IsAllOfIt, IsBefore, IsCaused, IsHeld, IsIn, IsKept, IsNoTaking}
 use Rattle.world_law.proofs.steps_lemmas.Words.{IsOfThisTime, IsOwnSource, IsSet, Joining, List, Network, Node, NoneBefore, Note, NoteBody, Scenario, Some}
 use Rattle.world_law.proofs.steps_lemmas.Words.{Stands, StandsBehind, State, Synchronised, Units, World, [], all_without, ap}
 use Rattle.world_law.proofs.steps_lemmas.Words.{arith, bears_on, behind, both_ways, cases_eq, correcting, doing, false, frames_taken}
-use Rattle.world_law.proofs.steps_lemmas.Words.{happenings, hears, held_aside, held_moves, if◌then◌else◌, in_left, in_parts, in_right, inl, inr}
+use Rattle.world_law.proofs.steps_lemmas.Words.{happenings, held_aside, held_moves, if◌then◌else◌, in_left, in_parts, in_right, inl, inr}
 use Rattle.world_law.proofs.steps_lemmas.Words.{is_joined_by, is_turned_on_at, known_aside, length}
 use Rattle.world_law.proofs.steps_lemmas.Words.{moment_of, moves, moves_no_other, ne_eqb, none_in, numbers_end, place_of}
 use Rattle.world_law.proofs.steps_lemmas.Words.{point_number, port_place, ports_move, rank, record_of, refl, slice_get}
-use Rattle.world_law.proofs.steps_lemmas.Words.{Why, append-nil, put_length, stands_on, state_after, subst, sym, time_of, told_wires, true, two_shown, units_of, waiting_moves, wire_place}
+use Rattle.world_law.proofs.steps_lemmas.Words.{Why, put_length, stands_on, state_after, subst, sym, time_of, told_wires, true, two_shown, units_of, waiting_moves, wire_place}
 use Rattle.world_law.proofs.steps_lemmas.Words.{wires_move, ℕ}
-use Rattle.world_law.proofs.steps_lemmas.acting.{AllOfIt.{IsGrown, all_point, grown_more, grown_one}, Stage.{StageAt, at_now, fresh_above, no_row_of, nothing_heard, others_so, stage_of}}
+use Rattle.world_law.proofs.steps_lemmas.acting.{AllOfIt.{IsGrown, all_point, grown_more, grown_one}, Stage.{StageAt, at_now, fresh_above, no_row_of, one_caused, others_so, stage_of}}
 use Rattle.world_law.proofs.steps_lemmas.acting.{Kept.{bare_act, frames_put, kept_over, may_act_now, out_by_acts, ready_after}, Sending.{as_put, taken_then}}
 use Rattle.world_law.proofs.steps_lemmas.acting.Points.{at_point, corrected_cause, no_frames, none_at_point, not_moved, not_on}
 use Rattle.run_law.specs.records.Causes.{device_of}
@@ -23,21 +23,11 @@ use Rattle.run_law.specs.declared.judgement.Why.TheVariants as whys
 use Rattle.run_law.specs.declared.note.NoteBody.TheVariants as kinds
 use Rattle.run_law.specs.declared.steps.Act.TheVariants as acts
 
--- ---- lists
-
--- where the change stands among those behind the first record
-pub pair_parts : (hs coming front2 back2 : List Happening) (w : Happening) → w ∷ coming ≡ front2 ++ back2 → length hs < length (hs ++ front2)
-    → (mid : List Happening) × (front2 ≡ w ∷ mid) × (coming ≡ mid ++ back2)
-pair_parts hs coming [] back2 w parts far = let bare : length (hs ++ []) ≡ length hs = ap length (append-nil hs) in absurd (omega (arith, far, bare))
-pair_parts hs coming (x ∷ mid) back2 w parts far =
-    let a : w ≡ x = cc in
-    let b : coming ≡ mid ++ back2 = cc in
-    (mid, ap (λ (h : Happening). h ∷ mid) (sym a), b)
-
 -- ---- two records are put in, the second a change of state that follows the first
 
 -- the first record is that of the device's act at this place, and the second follows it
-pub record IsActPair (s : Scenario) (hs front2 : List Happening) (now r : ℕ) (more : List ℕ) (device : DeviceId) (body : NoteBody) (state : State)
+pub record IsActPair (s : Scenario) (hs mid : List Happening) (now r : ℕ) (more : List ℕ) (device : DeviceId)
+    (body : NoteBody) (state : State)
     (why : Why) : Type 0 where
   pub own : (m : ℕ) → IsOwnSource s (hs ++ []) now m body (now ∷ r ∷ more)
   pub here : IsSource s (hs ++ []) (now ∷ r ∷ more)
@@ -47,8 +37,9 @@ pub record IsActPair (s : Scenario) (hs front2 : List Happening) (now r : ℕ) (
   pub apart : (other : DeviceId) → (other.0 ≡ device.0 → ⊥) → (bears_on other body ≡ false) × IsNoTaking other body
   pub of_it : device_of body ≡ Some device
   pub follows : (why ≡ whys.Frame) ⊎ (why ≡ whys.Correction)
-  pub changes : (h : Happening) → IsOfThisTime (hs ++ front2) now (length hs + 1) h → h.note.body ≡ body
-      → ChangesState s (hs ++ front2) device now state (length hs + 1) why
+  pub changes : IsOfThisTime (hs ++ record_of s.network hs [] now body ∷ mid) now (length hs + 1)
+      (record_of s.network hs [] now body)
+      → ChangesState s (hs ++ record_of s.network hs [] now body ∷ mid) device now state (length hs + 1) why
 
 pub two_go_by : {C M : Type 0} {reading : C → ℕ → ℕ} {stands : M → Network → DeviceId → Node → Type 0} {s : Scenario}
     {world : World C M} {notes : List Note} (old : Stands reading stands s world notes) {device : DeviceId}
@@ -57,12 +48,14 @@ pub two_go_by : {C M : Type 0} {reading : C → ℕ → ℕ} {stands : M → Net
     (happenings s.network notes) world.settled old.mark old.cursor world.now device machine node r more
     → (q : IsShownPair s.network (happenings s.network notes) world.now body device state why world.settled settled)
     → length notes + length world.settled + 2 < numbers_end
-    → IsActPair s (happenings s.network notes) q.front2 world.now r more device body state why
-    → IsAllOfIt s (happenings s.network notes) (q.front2
-    ++ change_of s.network (happenings s.network notes) q.front2 world.now device state why ∷ q.back2)
-    (world.now ∷ r ∷ more) → IsKept stands s (happenings s.network notes)
-    (q.front2 ++ change_of s.network (happenings s.network notes) q.front2 world.now device state why ∷ q.back2)
-    (behind (world.now ∷ r ∷ more)) world.now device after → IsSet device.0 after world.machines machines
+    → IsActPair s (happenings s.network notes) q.mid world.now r more device body state why
+    → IsAllOfIt s (happenings s.network notes)
+    (pair_put s.network (happenings s.network notes) world.now body q.mid device state why q.back)
+    (world.now ∷ r ∷ more)
+    → IsKept stands s (happenings s.network notes)
+    (pair_put s.network (happenings s.network notes) world.now body q.mid device state why q.back)
+    (behind (world.now ∷ r ∷ more)) world.now device after
+    → IsSet device.0 after world.machines machines
     → StandsBehind reading stands s (record world { early = false; machines = machines; settled = settled }) notes
     (behind (world.now ∷ r ∷ more))
 two_go_by {C} {M} {reading} {stands} {s} {world} {notes} old {device} {machine} {after} {node} {machines} {settled} {body} {state} {why} {r} {more} st q room a all kept set =
@@ -70,46 +63,35 @@ two_go_by {C} {M} {reading} {stands} {s} {world} {notes} old {device} {machine} 
     let now = world.now in
     let coming = world.settled in
     let w = record_of s.network hs [] now body in
-    let v = change_of s.network hs q.front2 now device state why in
-    let new = q.front2 ++ v ∷ q.back2 in
+    let v = change_of s.network hs now body q.mid device state why in
+    let new = pair_put s.network hs now body q.mid device state why q.back in
     let here = now ∷ r ∷ more in
     let high = st.late in
     let low = st.low in
     let ranks : rank body ≡ r = ap second a.stands in
-    let aside : (y : Happening) → IsIn y coming → hears device y.note.body ≡ true → ⊥ =
-    nothing_heard stands s hs [] coming old.mark old.cursor now device machine node st in
-    let so : IsActSo s hs [] coming old.mark old.cursor now r more device body = record {
-      moving = st.moving;
-      late = high;
+    let pair : IsPair s old.mark old.cursor r more q = record {
+      one = one_caused stands s hs [] coming old.mark old.cursor now device machine node st
+          (λ z i. absurd i) q.first a.caused a.own a.here
+          (fresh_above stands s hs [] coming old.mark old.cursor now device machine node st w (omega (arith, ranks)));
+      no_event = λ one. omega (arith, one, ranks, high);
       low = low;
       acts = a.acts;
-      marked = st.marked;
-      given = st.given;
-      own = a.own;
-      here = a.here;
-      cause = a.caused;
-      before = λ z i. absurd i;
-      none = q.none;
-      new = λ y i one. fresh_above stands s hs [] coming old.mark old.cursor now device machine node st w
-          (omega (arith, ranks)) y i (ap place_of one);
-      aside = aside;
+      is_of = a.of_it;
+      follows = a.follows;
+      changes = a.changes;
     } in
-    let x = pair_parts hs coming q.front2 q.back2 w q.parts2 q.far in
-    let aside2 : (z : Happening) → IsIn z q.back2 → hears device z.note.body ≡ true → ⊥ = λ z i.
-    aside z (subst (λ l. IsIn z l) (sym x.2) (in_right z x.0 q.back2 i)) in
-    let pair = act_pair q so (λ one. omega (arith, one, ranks, high)) a.of_it a.follows a.changes aside2 in
-    let long = put_length q.front2 q.back2 v in
-    let between : length (w ∷ coming) ≡ length (q.front2 ++ q.back2) = ap length q.parts2 in
-    let one_more : length (w ∷ coming) ≡ length coming + 1 = omega arith in
+    let long = put_length (w ∷ q.mid) q.back v in
+    let between : length coming ≡ length (q.mid ++ q.back) = ap length q.parts in
+    let one_more : length ((w ∷ q.mid) ++ q.back) ≡ length (q.mid ++ q.back) + 1 = omega arith in
     let later : IsBefore (now ∷ 2 ∷ []) here = inr (refl, inl (omega (arith, high))) in
     let apart_v : (other : DeviceId) → (other.0 ≡ device.0 → ⊥) → bears_on other v.note.body ≡ false = λ other not. ne_eqb other.0 device.0 not in
     subst (λ (l : List Happening). StandsBehind reading stands s (record world { early = false; machines = machines; settled = l }) notes (behind here))
     (sym q.shows)
     (stands_on old r more here machines world.shown st.moving refl (omega (arith, long, between, one_more, room))
-    (two_by s hs [] coming q.front2 q.back2 old.mark old.cursor pair all)
-    (known_aside hs q.front2 q.back2 v (λ other le. moves_no_other other v.note.body
+    (two_by pair all)
+    (known_aside hs (w ∷ q.mid) q.back v (λ other le. moves_no_other other v.note.body
     (apart_v other (λ e. let lt = st.of_it in omega (arith, e, lt, le))))
-    (subst (λ (l : List Happening). AreOfNetwork s (hs ++ l)) q.parts2
+    (subst (λ (l : List Happening). AreOfNetwork s (hs ++ w ∷ l)) q.parts
     (known_aside hs [] coming w (λ other le. no_row_of s device other body st.of_it a.apart le) old.known)))
     (λ other lt. elim (cases_eq other.0 device.0) [
       | inl e ↦
@@ -121,9 +103,9 @@ two_go_by {C} {M} {reading} {stands} {s} {world} {notes} old {device} {machine} 
           let y = a.apart other not in (
             m.0,
             others_so device other m.0 set not m.1,
-            held_aside s hs q.front2 q.back2 v other (apart_v other not) refl
-                (frames_aside s hs q.front2 q.back2 v other (apart_v other not) (λ at. refl))
-                (subst (λ l. IsHeld stands s hs l (behind here) now other m.0) q.parts2
+            held_aside s hs (w ∷ q.mid) q.back v other (apart_v other not) refl
+                (frames_aside s hs (w ∷ q.mid) q.back v other (apart_v other not) (λ at. refl))
+                (subst (λ l. IsHeld stands s hs (w ∷ l) (behind here) now other m.0) q.parts
                 (held_aside s hs [] coming w other y.0 refl (frames_aside s hs [] coming w other y.0 y.1)
                 (held_moves stands s hs coming st.moving (λ task same. not (st.own other task same)) m.2))),
           )
@@ -176,12 +158,11 @@ first_goes_by {reading} {stands} {s} {world} {notes} {old} {device} {machine} {a
     (two_shown s.network hs now body device Synchronised whys.Correction (omega arith) (omega arith)
     (λ z i b. st.moving.after z i b) (causes_given st.moving (omega arith)) x.put.1 x.put.2.1) in
     let w = record_of s.network hs [] now body in
-    let v = change_of s.network hs q.front2 now device Synchronised whys.Correction in
+    let v = change_of s.network hs now body q.mid device Synchronised whys.Correction in
     let new1 = w ∷ world.settled in
-    let new = q.front2 ++ v ∷ q.back2 in
-    let parts = pair_parts hs world.settled q.front2 q.back2 w q.parts2 q.far in
-    let st3 : StageAt stands s hs (parts.0 ++ q.back2) old.mark old.cursor now device machine node 6 (device.0 ∷ []) =
-    subst (λ l. StageAt stands s hs l old.mark old.cursor now device machine node 6 (device.0 ∷ [])) parts.2 st in
+    let new = pair_put s.network hs now body q.mid device Synchronised whys.Correction q.back in
+    let st3 : StageAt stands s hs (q.mid ++ q.back) old.mark old.cursor now device machine node 6 (device.0 ∷ []) =
+    subst (λ l. StageAt stands s hs l old.mark old.cursor now device machine node 6 (device.0 ∷ [])) q.parts st in
     let so : IsCorrectedSo s device (now + 1) node w cycle by adjustment (moment_of s device now) = record {
       body = refl;
       before = omega arith;
@@ -191,21 +172,21 @@ first_goes_by {reading} {stands} {s} {world} {notes} {old} {device} {machine} {a
       reads = refl;
     } in
     let quiet = no_frames s device now node cycle heard (Corrected by) first.pending.0 point in
-    let over : IsOver s (hs ++ new) now device act.0 = subst (λ (l : List Happening). IsOver s (hs ++ (l ++ v ∷ q.back2)) now device act.0) (sym parts.1)
-    (subst (λ m. IsOver s (hs ++ ((w ∷ parts.0) ++ v ∷ q.back2)) now device m) (sym is)
-    (joiner_over [] parts.0 q.back2 v (length hs + 1) heard st3.work off st.calm.off
-    st.calm.broken refl (subst (λ l. NoneBefore place_of l (place_of w)) parts.2 q.none) so joining refl (omega arith) quiet)) in
+    let over : IsOver s (hs ++ new) now device act.0 = subst (λ m. IsOver s (hs ++ new) now device m) (sym is)
+    (joiner_over [] q.mid q.back v (length hs + 1) heard st3.work off st.calm.off
+    st.calm.broken refl (subst (λ l. NoneBefore place_of l (place_of w)) q.parts q.first) so joining refl
+    (omega arith) quiet) in
     let cleared : HasCleared act.0 = subst HasCleared (sym is) (λ m there. absurd (none_in (correcting m) there)) in
     let six : 5 ≤ rank w.note.body = omega arith in
     let g1 : IsGrown s hs world.settled new1 now device =
     grown_one [] world.settled st.work (as_put now w refl (omega arith)) six in
-    let g2 : IsGrown s hs world.settled new now device = grown_more q.front2 q.back2
-    (subst (λ l. IsGrown s hs world.settled l now device) q.parts2 g1)
+    let g2 : IsGrown s hs world.settled new now device = grown_more (w ∷ q.mid) q.back
+    (subst (λ l. IsGrown s hs world.settled (w ∷ l) now device) q.parts g1)
     (as_put now v refl (omega arith)) (omega arith) in
-    let front2_now : (z : Happening) → IsIn z q.front2 → time_of z ≡ now = λ z i.
-    g1.of_now z (subst (λ l. IsIn z l) (sym q.parts2) (in_left z q.front2 q.back2 i)) in
+    let mid_now : (z : Happening) → IsIn z (w ∷ q.mid) → time_of z ≡ now = λ z i.
+    g1.of_now z (subst (λ l. IsIn z (w ∷ l)) (sym q.parts) (in_left z (w ∷ q.mid) q.back i)) in
     let c = corrected_cause stands s hs [] world.settled old.mark old.cursor now device machine node cycle by
-    adjustment st point sum_is q.none in
+    adjustment st point sum_is q.first in
     two_go_by old st q x.first.room
     (record {
       own = λ m. refl;
@@ -217,27 +198,23 @@ first_goes_by {reading} {stands} {s} {world} {notes} {old} {device} {machine} {a
       apart = λ other not. (ne_eqb other.0 device.0 not, λ at. refl);
       of_it = refl;
       follows = inr refl;
-      changes = λ h there e.
-          let same = all_earlier s hs q.front2 world.settled now front2_now (λ z i. (st.work.of_now z i).0) in (
+      changes = λ there.
+          let same = all_earlier s hs (w ∷ q.mid) world.settled now mid_now (λ z i. (st.work.of_now z i).0) in (
             refl,
             ap (λ l. if is_turned_on_at s device now then Integrating else state_after s l device) same ∙ sym st.work.left.state ∙ joining,
-            (cycle, by, adjustment, h, there, e),
+            (cycle, by, adjustment, w, there, refl),
           );
     })
-    (all_point st.work point g2 (
-      w,
-      in_left w q.front2 (v ∷ q.back2) (subst (λ l. IsIn w l) (sym parts.1) (inl refl)),
-      refl,
-    ))
+    (all_point st.work point g2 (w, inl refl, refl))
     (kept_over stands {hs = hs} {new = new} {cursor = behind (rows_place now device)} after act.2 st.work.sound over
     ready cleared
     (ap (λ (m : Node). m.taken) is ∙ taken_then stands s hs [] world.settled old.mark old.cursor now device machine
     node w st refl
-    (λ at. refl) ∙ ap (λ (l : List Happening). frames_taken s (hs ++ l) device) q.parts2
-    ∙ frames_put s hs q.front2 q.back2 now v device
-    (λ h i. elim (in_parts h hs (q.front2 ++ q.back2) i) [
+    (λ at. refl) ∙ ap (λ (l : List Happening). frames_taken s (hs ++ w ∷ l) device) q.parts
+    ∙ frames_put s hs (w ∷ q.mid) q.back now v device
+    (λ h i. elim (in_parts h hs (w ∷ (q.mid ++ q.back)) i) [
       | inl given ↦ st.work.past h (in_left h hs world.settled given)
-      | inr come ↦ let at = g1.of_now h (subst (λ l. IsIn h l) (sym q.parts2) come) in omega (arith, at)
+      | inr come ↦ let at = g1.of_now h (subst (λ l. IsIn h (w ∷ l)) (sym q.parts) come) in omega (arith, at)
     ]) refl (λ at. refl))
     (bare_act s.network device node (moment_of s device now) (acts.Correct cycle (Corrected by)) act.0 act.1 st.bare)
     (λ on. absurd (both_ways (is_turned_on_at s device now) off on)) (ap (λ (m : Node). m.phase) is)

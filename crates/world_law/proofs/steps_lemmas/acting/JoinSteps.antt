@@ -1,5 +1,5 @@
 -- A compression master emits a frame that tells it the time itself, and the cursor goes by.
-use Rattle.{run_law.proofs.control.Verdicts.heard_integrates, world_law.proofs.putting.PutShown.{change_of}}
+use Rattle.{run_law.proofs.control.Verdicts.heard_integrates, world_law.proofs.putting.PutShown.{change_of, pair_put}}
 use Rattle.world_law.proofs.{putting.{Placing.causes_given, PutShown.IsShownPair}, steps_lemmas.Words.{two_shown, ℕ}}
 use Rattle.world_law.proofs.steps_lemmas.Words.{IsSource}
 use Rattle.world_law.proofs.steps_lemmas.Words.{◌++◌, ◌+◌, ◌<◌, ◌∙◌, ◌∷◌, ◌≡◌, ◌≤◌, ArePutIn, AsState, ComesFirst, Compressed, DeviceId, Emits, Happening}
@@ -7,13 +7,13 @@ use Rattle.world_law.proofs.steps_lemmas.Words.{HasActed, HasCleared, HasTurnedO
 use Rattle.world_law.proofs.steps_lemmas.Words.{Joining, Judgement, List, Network, Node, Note, Scenario, Some, Stands, StandsBehind, World, []}
 use Rattle.world_law.proofs.steps_lemmas.Words.{ap, arith, bears_on, behind, both_ways, cases_Bool, correcting}
 use Rattle.world_law.proofs.steps_lemmas.Words.{earlier, emitting, eq-eqb, false, frames_taken, happenings, in_left, in_parts, in_right, inl, inr}
-use Rattle.world_law.proofs.steps_lemmas.Words.{is_joined_by, is_turned_on_at, key, length, members_in, moment_of, ne_eqb}
+use Rattle.world_law.proofs.steps_lemmas.Words.{is_turned_on_at, key, length, members_in, moment_of, ne_eqb}
 use Rattle.world_law.proofs.steps_lemmas.Words.{none_in, observation_window, place_of, plan_of, rank}
 use Rattle.world_law.proofs.steps_lemmas.Words.{record_of, refl, slice_get, state_after, subst, sym, time_of, true, turned_aside, turned_moves}
 use Rattle.world_law.proofs.steps_lemmas.acting.{EmitSteps.{emission_body, emission_rest}, OneAct.all_one, Work.{all_earlier, emits, own_judgement}}
 use Rattle.world_law.specs.steps.Acting.{place_of_act}
 use Rattle.world_law.proofs.steps_lemmas.Words.{HasDoneTask, Moment, Task, append-nil, doing, state_before}
-use Rattle.world_law.proofs.steps_lemmas.acting.{Emitting.node_emitted, FirstStep.{pair_parts, two_go_by}, Over.IsOver, Stage.stage_of}
+use Rattle.world_law.proofs.steps_lemmas.acting.{Emitting.node_emitted, FirstStep.two_go_by, Over.IsOver, Stage.stage_of}
 use Rattle.world_law.proofs.steps_lemmas.acting.Sending.{as_put, taken_then}
 use Rattle.world_law.proofs.steps_lemmas.acting.{GoesOn.{earlier_put, put_now}, JoinStep.{bears_so, joins_so, still_looking}}
 use Rattle.world_law.proofs.steps_lemmas.acting.{JoinsBy.{ChangesIt, joined_over}, Kept.{bare_act, frames_put, kept_over, may_act_now, ready_after}}
@@ -95,29 +95,26 @@ join_goes_by {reading} {stands} {s} {world} {notes} {old} {device} {machine} {af
     (λ z i b. st.moving.after z i b) sole x.put.1 x.put.2.1) in
     let n = length hs in
     let w = record_of s.network hs [] now body in
-    let v = change_of s.network hs q.front2 now device Joining whys.Frame in
-    let new1 = w ∷ world.settled in
-    let new = q.front2 ++ v ∷ q.back2 in
-    let parts = pair_parts hs world.settled q.front2 q.back2 w q.parts2 q.far in
+    let v = change_of s.network hs now body q.mid device Joining whys.Frame in
+    let new = pair_put s.network hs now body q.mid device Joining whys.Frame q.back in
     let put1 = as_put now w refl (omega arith) in
-    let new1_now : (z : Happening) → IsIn z (q.front2 ++ q.back2) → time_of z ≡ now = λ z i.
+    let new1_now : (z : Happening) → IsIn z (w ∷ (q.mid ++ q.back)) → time_of z ≡ now = λ z i.
     (put_now s hs [] world.settled now device node st.work put1 z
-    (subst (λ l. IsIn z l) (sym q.parts2) i)).0 in
+    (subst (λ l. IsIn z (w ∷ l)) (sym q.parts) i)).0 in
     let e : Emits s (hs ++ []) device now sent judgements.Integrates = subst (λ j. Emits s (hs ++ []) device now sent j) v_is
     (emits [] world.settled sent st.work refl first.pending first.due) in
     let lone_frame : (y : Happening) → IsIn y world.settled → (c : Compressed) (u : Judgement) → y.note.body ≡ emission_body device c u → ⊥ = λ y i c u same.
     let high = st.above y i in
     let four : rank y.note.body ≡ 4 = ap rank same in
     omega (arith, high, four) in
-    let in_mid : (z : Happening) → IsIn z parts.0 → IsIn z world.settled = λ z i. subst (λ l. IsIn z l) (sym parts.2)
-    (in_left z parts.0 q.back2 i) in
-    let in_rest : (z : Happening) → IsIn z q.back2 → IsIn z world.settled = λ z i. subst (λ l. IsIn z l) (sym parts.2)
-    (in_right z parts.0 q.back2 i) in
+    let in_mid : (z : Happening) → IsIn z q.mid → IsIn z world.settled = λ z i. subst (λ l. IsIn z l) (sym q.parts)
+    (in_left z q.mid q.back i) in
+    let in_rest : (z : Happening) → IsIn z q.back → IsIn z world.settled = λ z i. subst (λ l. IsIn z l) (sym q.parts)
+    (in_right z q.mid q.back i) in
     let changes_it : (z : Happening) → IsIn z world.settled → bears_on device z.note.body ≡ true → ChangesIt device (now + 1) z = λ z i b.
     (bears_so s device now z (st.work.of_now z i).1 (st.work.of_now z i).0 (resting z i) (lone_frame z i) b).0 in
-    let over : IsOver s (hs ++ new) now device act.0 = subst (λ (l : List Happening). IsOver s (hs ++ (l ++ v ∷ q.back2)) now device act.0) (sym parts.1)
-    (subst (λ m. IsOver s (hs ++ ((w ∷ parts.0) ++ v ∷ q.back2)) now device m) (sym is)
-    (joined_over s hs [] parts.0 q.back2 now device node w v sent (n + 1) moment st.work.left.counted.plan
+    let over : IsOver s (hs ++ new) now device act.0 = subst (λ m. IsOver s (hs ++ new) now device m) (sym is)
+    (joined_over s hs [] q.mid q.back now device node w v sent (n + 1) moment st.work.left.counted.plan
     (st.work.left.counted.broken ∙ sym st.calm.broken) st.calm.off st.calm.falls refl refl refl refl refl refl
     (λ z i b. changes_it z (in_mid z i) b)
     (λ z i. elim (cases_Bool (bears_on device z.note.body)) [
@@ -125,26 +122,26 @@ join_goes_by {reading} {stands} {s} {world} {notes} {old} {device} {machine} {af
       | inl b ↦
           let c = changes_it z (in_rest z i) b in
           let it : AsState z.note.body = record { device = device; state = c.state; cause = c.cause; why = c.why; is = c.is } in
-          absurd (q.none2 z i (early_change n now v c
+          absurd (q.none z i (early_change n now v c
           (st.work.of_now z (in_rest z i)).0 (sole z (in_rest z i) it) refl))
-    ]))) in
+    ])) in
     let ready = ready_after s act.0 (acts.Emit sent ripe.Integrates) st.work.ready st.steady st.precise st.wide may
     act.1
     (ap (λ (m : Node). m.last) is) in
     let cleared : HasCleared act.0 = subst HasCleared (sym is) (λ m there. absurd (none_in (correcting m) there)) in
-    let new_now : (z : Happening) → IsIn z new → time_of z ≡ now = λ z i. elim (in_parts z q.front2 (v ∷ q.back2) i) [
-      | inl f ↦ new1_now z (in_left z q.front2 q.back2 f)
+    let new_now : (z : Happening) → IsIn z new → time_of z ≡ now = λ z i. elim (in_parts z (w ∷ q.mid) (v ∷ q.back) i) [
+      | inl f ↦ new1_now z (in_left z (w ∷ q.mid) q.back f)
       | inr (inl same) ↦ ap time_of same
-      | inr (inr b) ↦ new1_now z (in_right z q.front2 q.back2 b)
+      | inr (inr b) ↦ new1_now z (in_right z (w ∷ q.mid) q.back b)
     ] in
-    let there : IsIn w new = in_left w q.front2 (v ∷ q.back2) (subst (λ l. IsIn w l) (sym parts.1) (inl refl)) in
+    let there : IsIn w new = inl refl in
     let here = behind at in
     let none_w : (at : _) → Rattle.world_law.specs.device.Takings.taken_in device at w.note.body ≡ [] = λ at. refl in
-    let earlier2 : earlier now (hs ++ (q.front2 ++ q.back2)) ≡ earlier now (hs ++ new) =
-    all_earlier s hs (q.front2 ++ q.back2) new now new1_now new_now in
+    let earlier2 : earlier now (hs ++ w ∷ (q.mid ++ q.back)) ≡ earlier now (hs ++ new) =
+    all_earlier s hs (w ∷ (q.mid ++ q.back)) new now new1_now new_now in
     let turned : is_turned_on_at s device now ≡ true → HasTurnedOn s hs new here device now = λ on.
-    turned_aside s hs q.front2 q.back2 v device
-    (subst (λ l. HasTurnedOn s hs l here device now) q.parts2
+    turned_aside s hs (w ∷ q.mid) q.back v device
+    (subst (λ l. HasTurnedOn s hs (w ∷ l) here device now) q.parts
     (turned_aside s hs [] world.settled w device
     (turned_moves s hs world.settled old.mark old.cursor now 4 more st.moving (st.turned on))
     (ap (λ l. state_after s l device)
@@ -160,15 +157,15 @@ join_goes_by {reading} {stands} {s} {world} {notes} {old} {device} {machine} {af
       apart = λ other not. (ne_eqb other.0 device.0 not, λ at. refl);
       of_it = refl;
       follows = inl refl;
-      changes = λ h there e2. (refl, (h, there, ap (is_joined_by device) e2 ∙ eq-eqb device.0 device.0 refl));
+      changes = λ there. (refl, (w, there, eq-eqb device.0 device.0 refl));
     })
     (all_one s hs new now 4 more w (omega arith) (omega arith) there refl)
     (kept_over stands {hs = hs} {new = new} {cursor = here} after act.2 st.work.sound over ready cleared
     (ap (λ (m : Node). m.taken) is ∙ taken_then stands s hs [] world.settled old.mark old.cursor now device machine
     node w st refl none_w
-    ∙ ap (λ (l : List Happening). frames_taken s (hs ++ l) device) q.parts2
-    ∙ frames_put s hs q.front2 q.back2 now v device
-    (λ h i. elim (in_parts h hs (q.front2 ++ q.back2) i) [
+    ∙ ap (λ (l : List Happening). frames_taken s (hs ++ w ∷ l) device) q.parts
+    ∙ frames_put s hs (w ∷ q.mid) q.back now v device
+    (λ h i. elim (in_parts h hs (w ∷ (q.mid ++ q.back)) i) [
       | inl given_one ↦ st.work.past h (in_left h hs world.settled given_one)
       | inr later_one ↦ let at = new1_now h later_one in omega (arith, at)
     ]) refl (λ at. refl))

@@ -214,28 +214,39 @@ module _ {M : Type 0} (stands : M → Network → DeviceId → Node → Type 0) 
       nothing_aside s device now y.note.body (omega (arith, high, late))
       (st.work.still y (in_right y hs (front ++ back) there) (st.work.of_now y there).0) e
 
+  pub one_caused : {body : NoteBody} {r : ℕ} {more : List ℕ} → StageAt stands s hs
+      (front ++ back) mark cursor now device machine node r more
+      → AllBefore place_of front (place_of (record_of s.network hs front now body))
+      → NoneBefore place_of back (place_of (record_of s.network hs front now body))
+      → IsCaused s (hs ++ front) (units_of now) body
+      → ((m : ℕ) → IsOwnSource s (hs ++ front) now m body (now ∷ r ∷ more))
+      → IsSource s (hs ++ front) (now ∷ r ∷ more)
+      → ((y : Happening) → IsIn y back → place_of (record_of s.network hs front now body) ≡ place_of y → ⊥)
+      → IsOne s hs front back mark cursor now r more (record_of s.network hs front now body)
+  one_caused {body} st before none caused own here fresh = record {
+    moving = st.moving;
+    later = let high = st.late in inr (refl, inl (omega (arith, high)));
+    marked = st.marked;
+    given = st.given;
+    at = refl;
+    due = due_of s hs front now body caused;
+    before = before;
+    none = none;
+    fresh = fresh;
+    mine = own (members_in (record_of s.network hs front now body));
+    here = here;
+    aside = λ x i other same yes_it.
+        let e : other ≡ device = same_device other device (st.own other (doing (correcting 0)) (sym same)) in
+        nothing_heard st x i (subst (λ d. hears d x.note.body ≡ true) e yes_it);
+  }
+
   one_act : {body : NoteBody} {r : ℕ} {more : List ℕ} → StageAt stands s hs
       (front ++ back) mark cursor now device machine node r more
       → AllBefore place_of front (place_of (record_of s.network hs front now body))
       → NoneBefore place_of back (place_of (record_of s.network hs front now body))
       → IsActRecordAt s hs front back now device body (now ∷ r ∷ more)
       → IsOne s hs front back mark cursor now r more (record_of s.network hs front now body)
-  one_act {body} st before none a = record {
-    moving = st.moving;
-    later = let high = st.late in inr (refl, inl (omega (arith, high)));
-    marked = st.marked;
-    given = st.given;
-    at = refl;
-    due = due_of s hs front now body a.caused;
-    before = before;
-    none = none;
-    fresh = a.fresh;
-    mine = a.own (members_in (record_of s.network hs front now body));
-    here = a.here;
-    aside = λ x i other same yes_it.
-        let e : other ≡ device = same_device other device (st.own other (doing (correcting 0)) (sym same)) in
-        nothing_heard st x i (subst (λ d. hears d x.note.body ≡ true) e yes_it);
-  }
+  one_act st before none a = one_caused st before none a.caused a.own a.here a.fresh
 
   -- the records with it are founded
   pub lawful_then : {body : NoteBody} {r : ℕ} {more : List ℕ}

@@ -1,10 +1,10 @@
 -- A frame that waits is permanent.
 use Rattle.{net_plan.specs.Ranges.IsLinkInRange, run_law.proofs.runs.Determined.same_units, world_law.specs.source.Sources.IsRipening}
-use Rattle.run_law.{proofs.law.FirstPlaces.numbered_next, specs.records.Happenings.frame_from}
+use Rattle.run_law.specs.records.Happenings.{frame_from}
 use Rattle.tte_units.proofs.general_lemmas.Lists.{in_all}
 use Rattle.world_law.proofs.frames.{Masters.of_master, Proper.{IsReceiver, received}}
 use Rattle.world_law.proofs.putting.{Bearing.{frames_aside, placed_back}, Moving.{stays, worked_or_here}, Placing.causes_given}
-use Rattle.world_law.proofs.putting.{PutShown.same_record, PutTwo.{IsPair, two_by}, StandsOn.shown_still}
+use Rattle.world_law.proofs.putting.{PutShown.{change_of, pair_put, same_record}, PutTwo.{IsPair, two_by}, StandsOn.shown_still}
 use Rattle.world_law.proofs.steps_lemmas.Words.{no_task_at, ◌++◌, ◌+◌, ◌<◌, ◌∙◌, ◌∷◌, ◌≡◌, ◌≤ℤ◌, ◌≤◌, ◌⊎◌, AreOfNetwork}
 use Rattle.world_law.proofs.steps_lemmas.Words.{ArePutIn, AreSettled, AreWaiting, Bool, ComesFirst, DeviceId, Down, Happening}
 use Rattle.world_law.proofs.steps_lemmas.Words.{IsAllOfIt, IsBefore, IsDue, IsFounded, IsHeld, IsIn, IsInRange, IsKept, IsNoTaking}
@@ -14,9 +14,9 @@ use Rattle.world_law.proofs.steps_lemmas.Words.{NoteBody, Option, Pcf, Reason, R
 use Rattle.world_law.proofs.steps_lemmas.Words.{Up, Waiting, Way, World, [], all_without, amount, ap, append-nil, are_past, arith}
 use Rattle.world_law.proofs.steps_lemmas.Words.{bears_on, before_behind, behind, both_ways, cases_Bool, comes_first, due_of, eq-eqb}
 use Rattle.world_law.proofs.steps_lemmas.Words.{eqb-true, false, happenings, held_aside, held_moves, in_left, in_right, inl, inr}
-use Rattle.world_law.proofs.steps_lemmas.Words.{is_broken, is_cm, is_joined_by, is_last, key, known_aside}
-use Rattle.world_law.proofs.steps_lemmas.Words.{last_unfollowed, length, length-append, length_is, members_in, moment_of}
-use Rattle.world_law.proofs.steps_lemmas.Words.{moves_no_other, ne_eqb, never_self, numbered, numbered_front, numbered_in}
+use Rattle.world_law.proofs.steps_lemmas.Words.{is_broken, is_cm, is_last, key, known_aside}
+use Rattle.world_law.proofs.steps_lemmas.Words.{last_unfollowed, length, length_is, members_in, moment_of}
+use Rattle.world_law.proofs.steps_lemmas.Words.{moves_no_other, ne_eqb, never_self, numbered_front, numbered_in}
 use Rattle.world_law.proofs.steps_lemmas.Words.{numbered_within, numbers_end, one_by, one_shown, place_of, port_place, ports_move}
 use Rattle.world_law.proofs.steps_lemmas.Words.{pos, put_length, rank, record_of, refl, ripe_as, ripe_place, same_device}
 use Rattle.world_law.proofs.steps_lemmas.Words.{settled_as, slice_get, some_same, stands_on, subst, sym, time_of, told_wires, true}
@@ -261,13 +261,6 @@ bears_not : (device : DeviceId) (e : Waiting) (verdict : Judgement) (body : Note
     → body ≡ kinds.Permanent e.device e.link e.cause e.point verdict → bears_on device body ≡ false
 bears_not device e verdict body ne is = ap (bears_on device) is ∙ ne_eqb device.0 e.device.0 ne
 
--- the second of two records, where the first stands first, stands behind it
-joined_parts : (w : Happening) (back front2 back2 : List Happening) → w ∷ back ≡ front2 ++ back2 → 0 < length front2
-    → (f2 : List Happening) × (front2 ≡ w ∷ f2) × (back ≡ f2 ++ back2)
-joined_parts w back [] back2 e some = absurd (omega (arith, some))
-joined_parts w back (g ∷ f2) back2 e some =
-    let first : g ≡ w = cc in let rest : back ≡ f2 ++ back2 = cc in (f2, ap (λ (h : Happening). h ∷ f2) first, rest)
-
 rank_not : (a b : Happening) (now : ℕ) (more : List ℕ) → place_of a ≡ now ∷ 3 ∷ more → 4 ≤ rank b.note.body → place_of a ≡ place_of b → ⊥
 rank_not a b now more at high same = grind (arith, time_of, rank, key, members_in)
 
@@ -471,19 +464,12 @@ module _ {C M : Type 0} (reading : C → ℕ → ℕ) (stands : M → Network �
       let place : place_of w ≡ here = here_place now now (members_in w) e judgements.Integrates body refl members refl in
       let shown_at : place_of (settled_as s.network hs now body) ≡ here =
       ap place_of (sym (same_record s.network hs [] now body few)) ∙ place in
-      let pair = two_shown s.network hs now body e.device Joining whys.Frame few (omega arith)
+      let q = two_shown s.network hs now body e.device Joining whys.Frame few (omega arith)
       (λ z i b. r.moving.after z i (subst (λ q. IsBefore (place_of z) q) shown_at b))
       (causes_given r.moving (omega arith)) put.1
       (subst (λ c. IsPutIn (settled_as s.network hs now (kinds.State e.device Joining (c + 1) whys.Frame)) put.0 put.2.0)
       (length_is s notes) put.2.1) in
-      let front2 = pair.front2 in
-      let back2 = pair.back2 in
-      let v = record_of s.network hs front2 now v_body in
-      let far = pair.far in
-      let bare : length (hs ++ []) ≡ length hs = ap length (append-nil hs) in
-      let long_two = length-append hs front2 in
-      let split = joined_parts w world.settled front2 back2 pair.parts2 (omega (arith, far, long_two)) in
-      let f2 = split.0 in
+      let v = change_of s.network hs now body q.mid e.device Joining whys.Frame in
       let a = answered stands s hs world.settled old.mark old.cursor now e machine after ripe.Integrates r k x.master x.has in
       let high = high_now r in
       let becomes = becomes_now s hs world.settled [] old.mark old.cursor now e k.node ripe.Integrates r (λ z i. absurd i) a.hears
@@ -498,7 +484,7 @@ module _ {C M : Type 0} (reading : C → ℕ → ℕ) (stands : M → Network �
         at = refl;
         due = due_of s hs [] now body becomes;
         before = λ z i. absurd i;
-        none = pair.none;
+        none = q.first;
         fresh = λ y i same. rank_not w y now (ripe_more e) place (high y i).1 same;
         mine = sym (here_place now now (members_in w) e judgements.Integrates body refl members refl);
         here =
@@ -506,32 +492,21 @@ module _ {C M : Type 0} (reading : C → ℕ → ℕ) (stands : M → Network �
             (record { frame = e.frame; permanent = permanent_in s hs world.settled old.mark old.cursor now e r [] });
         aside = λ z i device same hears. omega (arith, rank_at _ _ _ _ _ same);
       } in
-      let joined : is_joined_by e.device w.note.body ≡ true = eq-eqb e.device.0 e.device.0 refl in
-      let there_w : numbered (hs ++ front2) n ≡ Some w =
-      ap (λ (l : List Happening). numbered (hs ++ l) n) split.1 ∙ numbered_next hs f2 w n refl in
-      let p : IsPair s hs [] world.settled front2 back2 old.mark old.cursor now 3 (ripe_more e) w v e.device Joining whys.Frame =
-      record {
+      let p : IsPair s old.mark old.cursor 3 (ripe_more e) q = record {
         one = one;
         no_event = λ r1. omega (arith, r1);
         low = omega arith;
         acts = λ six. absurd (omega (arith, six));
         is_of = refl;
-        parts = pair.parts2;
-        far = omega (arith, far, bare);
-        body = ap (λ c. kinds.State e.device Joining (c + 1) whys.Frame) (sym bare);
         follows = inl refl;
-        at = refl;
-        due = due_of s hs front2 now v_body (refl, (w, record { there = there_w; same_time = refl }, joined));
-        before = pair.before2;
-        none = pair.none2;
-        fresh = pair.fresh2;
-        aside = λ z i same hears. omega (arith, rank_at _ _ _ _ _ same);
+        changes = λ there. (refl, (w, there, eq-eqb e.device.0 e.device.0 refl));
       } in
-      let then_ = front2 ++ v ∷ back2 in
-      let high_one : (z : Happening) → IsIn z (front2 ++ back2) → (z ≡ w) ⊎ ((time_of z ≡ now) × (4 ≤ rank z.note.body)) = λ z i.
-      placed_high now [] world.settled w high z (subst (λ l. IsIn z l) (sym pair.parts2) i) in
+      let then_ = pair_put s.network hs now body q.mid e.device Joining whys.Frame q.back in
+      let high_one : (z : Happening) → IsIn z (w ∷ (q.mid ++ q.back)) → (z ≡ w)
+      ⊎ ((time_of z ≡ now) × (4 ≤ rank z.note.body)) = λ z i.
+      placed_high now [] world.settled w high z (subst (λ l. IsIn z (w ∷ l)) (sym q.parts) i) in
       let after_all : (z : Happening) → IsIn z then_ → IsBefore (place_of z) here → ⊥ = λ z i b.
-      elim (placed_back [] front2 back2 v z i) [
+      elim (placed_back [] (w ∷ q.mid) q.back v z i) [
         | inl same ↦ not_before_high now (ripe_more e) v refl (omega arith)
             (subst (λ h. IsBefore (place_of h) here) same b)
         | inr more ↦ elim (high_one z more) [
@@ -539,10 +514,9 @@ module _ {C M : Type 0} (reading : C → ℕ → ℕ) (stands : M → Network �
           | inr h ↦ not_before_high now (ripe_more e) z h.0 h.1 b
         ]
       ] in
-      let there : IsIn w then_ = in_left w front2 (v ∷ back2) (subst (λ l. IsIn w l) (sym split.1) (inl refl)) in
-      let long = put_length front2 back2 v in
-      let same_parts : length (w ∷ world.settled) ≡ length (front2 ++ back2) = ap length pair.parts2 in
-      let one_more : length (w ∷ world.settled) ≡ length world.settled + 1 = omega arith in
+      let long = put_length (w ∷ q.mid) q.back v in
+      let same_parts : length world.settled ≡ length (q.mid ++ q.back) = ap length q.parts in
+      let one_more : length ((w ∷ q.mid) ++ q.back) ≡ length (q.mid ++ q.back) + 1 = omega arith in
       let room = x.room in
       let is_in = in_network r in
       let misses : (device : DeviceId) → (device.0 ≡ e.device.0 → ⊥) → bears_on device body ≡ false = λ device ne.
@@ -551,21 +525,21 @@ module _ {C M : Type 0} (reading : C → ℕ → ℕ) (stands : M → Network �
       ne_eqb device.0 e.device.0 ne in
       let far_off : (device : DeviceId) → length s.network.device ≤ device.0 → device.0 ≡ e.device.0 → ⊥ = λ device le same.
       omega (arith, same, le, is_in) in
-      subst Behind (sym (put.2.2 ∙ pair.shows))
+      subst Behind (sym (put.2.2 ∙ q.shows))
       (ripened_behind waiting old r x.set x.without
       (omega (arith, long, same_parts, one_more, room))
-      (two_by s hs [] world.settled front2 back2 old.mark old.cursor p
+      (two_by p
       (permanent_all s hs world.settled then_ old.mark old.cursor now e k.node w judgements.Integrates r a.hears a.outcome after_all
-      w there place))
-      (known_aside hs front2 back2 v (λ device le. moves_no_other device v_body (stays_out device (far_off device le)))
-      (subst (λ (l : List Happening). AreOfNetwork s (hs ++ l)) pair.parts2
+      w (inl refl) place))
+      (known_aside hs (w ∷ q.mid) q.back v
+      (λ device le. moves_no_other device v_body (stays_out device (far_off device le)))
+      (subst (λ (l : List Happening). AreOfNetwork s (hs ++ w ∷ l)) q.parts
       (known_aside hs [] world.settled w (λ device le. moves_no_other device body (misses device (far_off device le))) old.known)))
-      (subst (λ (l : List Happening). IsKept stands s hs (l ++ v ∷ back2) (behind here) now e.device after) (sym split.1)
-      (joined_kept f2 back2 w v r k a old.precise refl of_frame refl
-      split.2 refl refl pair.none2))
-      (λ device m ne held. held_aside s hs front2 back2 v device (stays_out device ne) refl
-      (frames_aside s hs front2 back2 v device (stays_out device ne) (λ z. refl))
-      (subst (λ l. IsHeld stands s hs l (behind here) now device m) pair.parts2
+      (joined_kept q.mid q.back w v r k a old.precise refl of_frame refl
+      q.parts refl refl q.none)
+      (λ device m ne held. held_aside s hs (w ∷ q.mid) q.back v device (stays_out device ne) refl
+      (frames_aside s hs (w ∷ q.mid) q.back v device (stays_out device ne) (λ z. refl))
+      (subst (λ l. IsHeld stands s hs (w ∷ l) (behind here) now device m) q.parts
       (held_aside s hs [] world.settled w device (misses device ne) refl
       (frames_aside s hs [] world.settled w device (misses device ne) (λ z. refl)) held))))
 
