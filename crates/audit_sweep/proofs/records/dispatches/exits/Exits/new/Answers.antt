@@ -17,6 +17,6 @@ loop-place-preserved c =
 
 pub returns : goal.returns
 returns c =
-    all_exits
+    all_exits {n = c.loop-place.place}
     (let h = c.loop-place-test.false in let e = ap (λ rows. length rows) c.as_slice-place-end.ensures in omega (arith, h, e))
     c.loop-place.invariant
