@@ -65,7 +65,7 @@ pub use Rattle.world_law.proofs.putting.{Moving.{IsAllOfIt, IsMoving, all_withou
 pub use Rattle.world_law.proofs.putting.{Placing.before_it, PutIn.own_time}
 pub use Rattle.world_law.proofs.putting.PutOne.{IsOne, IsUnfollowed, is_last, last_unfollowed, one_by}
 pub use Rattle.world_law.proofs.putting.PutShown.{IsShownPut, due_of, one_shown, put_length, record_of, two_shown}
-pub use Rattle.world_law.proofs.putting.StandsOn.{comes_first, stands_on, told_wires}
+pub use Rattle.world_law.proofs.putting.StandsOn.{acts_on, comes_first, devices_then, ports_still, stands_on, told_wires, waiting_still, wires_still}
 pub use Rattle.world_law.proofs.rows.{AtHand.value_is, Dispatching.IsLawful, Takings.IsNoTaking}
 pub use Rattle.world_law.proofs.runs.{Agreement.changed_before, Foremost.not_on_after}
 pub use Rattle.world_law.proofs.runs.SourcesBack.{at_least, dispatches_back, dispatches_same, earlier_still, no_higher, numbered_parts, reaches_back, up_back}

@@ -1,18 +1,18 @@
 -- The steps by which a device comes to its correction point.
 use Rattle.{run_law.specs.machines.Answers.after_correction, world_law.proofs.steps_lemmas.acting.Sending.{as_put, taken_then, turned_then}}
-use Rattle.world_law.{proofs.putting.{Moving.{settled_moves, stays}, StandsOn.shown_still}, specs.{steps.Acting.{correction_bodies, place_of_act}, world.Calls.IsStateOf}}
-use Rattle.world_law.proofs.{putting.PutOne.corrected_unfollowed, steps_lemmas.Words.{waiting_moves, wire_place, wires_move, with_clique, ℕ}}
+use Rattle.world_law.{proofs.putting.Moving.{settled_moves, stays}, specs.{steps.Acting.{correction_bodies, place_of_act}, world.Calls.IsStateOf}}
+use Rattle.world_law.proofs.{putting.PutOne.corrected_unfollowed, steps_lemmas.Words.{with_clique, ℕ}}
 use Rattle.world_law.proofs.steps_lemmas.Words.{◌++◌, ◌+ℤ◌, ◌+◌, ◌<◌, ◌∙◌, ◌∷◌, ◌≡◌, ◌≤◌, ArePutIn, AsyncClique, Cleared, ComesFirst, Corrected, DeviceId}
-use Rattle.world_law.proofs.steps_lemmas.Words.{Happening, HasActed, HasCleared, Integrating, IsBefore, IsDueNow, IsHeld, IsIn, IsNoTaking, IsReadyAt, IsSet}
+use Rattle.world_law.proofs.steps_lemmas.Words.{Happening, HasActed, HasCleared, Integrating, IsBefore, IsDueNow, IsIn, IsNoTaking, IsReadyAt, IsSet}
 use Rattle.world_law.proofs.steps_lemmas.Words.{IsShownPut, IsUnfollowed, Joining, List, Network, Node, Note, NoteBody, Scenario, Some, Stands, StandsBehind}
 use Rattle.world_law.proofs.steps_lemmas.Words.{State, Summary, SyncClique, Synchronised, Units, Verdict, Why, World, [], acting, adjustment_by}
-use Rattle.world_law.proofs.steps_lemmas.Words.{all_without, ap, arith, behind, called, cases_eq, correcting, doing, earlier_still, ends_stretch}
-use Rattle.world_law.proofs.steps_lemmas.Words.{false, happenings, held_moves, if◌then◌else◌, in_right, inl, inr, is_turned_on_at, length}
-use Rattle.world_law.proofs.steps_lemmas.Words.{moment_of, none_in, numbers_end, one_shown, place_of, point_number, port_place, ports_move, rank}
-use Rattle.world_law.proofs.steps_lemmas.Words.{record_of, refl, slice_get, stands_on, state_after, state_by, subst, sym, told_wires, true, turned_moves}
+use Rattle.world_law.proofs.steps_lemmas.Words.{ap, arith, behind, called, correcting, doing, earlier_still, ends_stretch}
+use Rattle.world_law.proofs.steps_lemmas.Words.{false, happenings, if◌then◌else◌, in_right, inl, inr, is_turned_on_at, length}
+use Rattle.world_law.proofs.steps_lemmas.Words.{moment_of, none_in, numbers_end, one_shown, place_of, point_number, rank, acts_on, devices_then}
+use Rattle.world_law.proofs.steps_lemmas.Words.{record_of, refl, slice_get, state_after, state_by, subst, sym, true, turned_moves}
 use Rattle.world_law.proofs.steps_lemmas.acting.{AllOfIt.{HasOutcome, IsAtPoint, all_point, grown_none, grown_one}, Correcting.{clique_change, clique_over, corrected_over, still_now}}
 use Rattle.world_law.proofs.steps_lemmas.acting.{Clearing.{cleared_more, cleared_over}, Kept.{IsBare, bare_act, kept_over, may_act_now, out_by_acts, ready_after}}
-use Rattle.world_law.proofs.steps_lemmas.acting.{Moves.IsCorrectedSo, Over.IsOver, OneAct.still_came, Stage.{IsActRecordAt, StageAt, one_goes_by, others_so, stage_of}}
+use Rattle.world_law.proofs.steps_lemmas.acting.{Moves.IsCorrectedSo, Over.IsOver, OneAct.still_came, Stage.{IsActRecordAt, StageAt, one_goes_by, stage_of}}
 use Rattle.world_law.proofs.steps_lemmas.acting.Points.{IsClique, at_point, clique_record, corrected_record, no_frames, none_at_point, not_on}
 use Rattle.world_law.proofs.steps_lemmas.Words.{◌⊎◌, Bool, ClockTask, Compressed, Contains-push_cases, HadComeTo, HasDoneTask, Moment, Task, before_behind}
 use Rattle.world_law.proofs.steps_lemmas.Words.{change_still, changed_at, emitting, is_synchronised, rows_place, task_place}
@@ -213,33 +213,13 @@ module _ {C M : Type 0} {reading : C → ℕ → ℕ} {stands : M → Network �
       subst (λ (l : List Happening). StandsBehind reading stands s
       (record world { early = false; machines = machines; settled = l }) notes (behind here))
       (sym x.put)
-      (stands_on old 6 more here machines world.shown st.moving refl old.room
+      (acts_on old 6 more (omega arith) (omega arith) st.moving old.room
       (settled_moves s hs world.settled old.mark old.cursor now 6 more st.moving
       (all_point st.work point
       (grown_none s hs world.settled now device (λ z i. (st.work.of_now z i).0)) tt))
       old.known
-      (λ other lt. elim (cases_eq other.0 device.0) [
-        | inl e ↦
-            let same : device ≡ other = ap (λ (k : ℕ). let d : DeviceId = record { 0 = k } in d) (sym e) in
-            subst (λ (d : DeviceId). (m : M) × (slice_get machines d.0 ≡ Some m) × IsHeld stands s hs world.settled
-            (behind here) now d m) same
-            (after, x.set.there, inl kept)
-        | inr not ↦
-            let m = old.devices other lt in (
-              m.0,
-              others_so device other m.0 x.set not m.1,
-              held_moves stands s hs world.settled st.moving (λ task same. not (st.own other task same)) m.2,
-            )
-      ])
-      later
-      (wires_move s hs world.settled old.mark old.cursor now 6 more world.wires st.moving
-      (told_wires old 6 more st.moving later)
-      (all_without wire_place here world.wires (λ e same. (let two : ◌≡◌ {A = ℕ} 2 6 = cc in omega (arith, two)))))
-      (ports_move s hs world.settled old.mark old.cursor now 6 more world.ports st.moving old.ports
-      (all_without port_place here world.ports (λ e same. (let two : ◌≡◌ {A = ℕ} 8 6 = cc in omega (arith, two)))))
-      (waiting_moves s hs world.settled old.mark old.cursor now 6 more st.moving (λ three. omega (arith, three))
-      old.waiting)
-      (shown_still old 6 more (omega arith) st.moving))
+      (devices_then old 6 more device st.moving (λ other not task same. not (st.own other task same)) x.set (inl kept)
+      (λ other m not held. held)))
 
   -- ---- it finds itself outside the others
 

@@ -1,20 +1,20 @@
 -- The step by which a joiner has its first correction, and has the common time from then on.
-use Rattle.world_law.proofs.putting.{Bearing.frames_aside, PutShown.{IsShownPair, change_of, pair_put}, StandsOn.shown_still}
+use Rattle.world_law.proofs.putting.{Bearing.frames_aside, PutShown.{IsShownPair, change_of, pair_put}}
 use Rattle.world_law.proofs.{putting.Placing.causes_given, steps_lemmas.acting.Work.{all_earlier, at_correction}}
 use Rattle.world_law.proofs.{putting.PutTwo.{IsPair, two_by}, steps_lemmas.acting.{CorrectSteps.{IsCorrecting, corrected_worked}, Correcting.joiner_over, Moves.IsCorrectedSo, Over.IsOver}}
 use Rattle.world_law.proofs.steps_lemmas.Words.{IsSource}
 use Rattle.world_law.proofs.steps_lemmas.Words.{◌++◌, ◌+ℤ◌, ◌+◌, ◌<◌, ◌∙◌, ◌∷◌, ◌≡◌, ◌≤◌, ◌⊎◌, AreOfNetwork, ChangesState, Corrected, DeviceId, Happening}
-use Rattle.world_law.proofs.steps_lemmas.Words.{HasCleared, Integrating, IsActing, IsAllOfIt, IsBefore, IsCaused, IsHeld, IsIn, IsKept, IsNoTaking}
+use Rattle.world_law.proofs.steps_lemmas.Words.{HasCleared, Integrating, IsActing, IsAllOfIt, IsCaused, IsHeld, IsIn, IsKept, IsNoTaking}
 use Rattle.world_law.proofs.steps_lemmas.Words.{IsOfThisTime, IsOwnSource, IsSet, Joining, List, Network, Node, NoneBefore, Note, NoteBody, Scenario, Some}
-use Rattle.world_law.proofs.steps_lemmas.Words.{Stands, StandsBehind, State, Synchronised, Units, World, [], all_without, ap}
-use Rattle.world_law.proofs.steps_lemmas.Words.{arith, bears_on, behind, both_ways, cases_eq, correcting, doing, false, frames_taken}
-use Rattle.world_law.proofs.steps_lemmas.Words.{happenings, held_aside, held_moves, if◌then◌else◌, in_left, in_parts, in_right, inl, inr}
+use Rattle.world_law.proofs.steps_lemmas.Words.{Stands, StandsBehind, State, Synchronised, Units, World, [], ap}
+use Rattle.world_law.proofs.steps_lemmas.Words.{arith, bears_on, behind, both_ways, correcting, doing, false, frames_taken}
+use Rattle.world_law.proofs.steps_lemmas.Words.{happenings, held_aside, if◌then◌else◌, in_left, in_parts, in_right, inl, inr}
 use Rattle.world_law.proofs.steps_lemmas.Words.{is_joined_by, is_turned_on_at, known_aside, length}
 use Rattle.world_law.proofs.steps_lemmas.Words.{moment_of, moves, moves_no_other, ne_eqb, none_in, numbers_end, place_of}
-use Rattle.world_law.proofs.steps_lemmas.Words.{point_number, port_place, ports_move, rank, record_of, refl, slice_get}
-use Rattle.world_law.proofs.steps_lemmas.Words.{Why, put_length, stands_on, state_after, subst, sym, time_of, told_wires, true, two_shown, units_of, waiting_moves, wire_place}
-use Rattle.world_law.proofs.steps_lemmas.Words.{wires_move, ℕ}
-use Rattle.world_law.proofs.steps_lemmas.acting.{AllOfIt.{IsGrown, all_point, grown_more, grown_one}, Stage.{StageAt, at_now, fresh_above, no_row_of, one_caused, others_so, stage_of}}
+use Rattle.world_law.proofs.steps_lemmas.Words.{point_number, rank, record_of, refl}
+use Rattle.world_law.proofs.steps_lemmas.Words.{Why, put_length, state_after, subst, sym, time_of, true, two_shown, units_of}
+use Rattle.world_law.proofs.steps_lemmas.Words.{ℕ, acts_on, devices_then}
+use Rattle.world_law.proofs.steps_lemmas.acting.{AllOfIt.{IsGrown, all_point, grown_more, grown_one}, Stage.{StageAt, fresh_above, no_row_of, one_caused, stage_of}}
 use Rattle.world_law.proofs.steps_lemmas.acting.{Kept.{bare_act, frames_put, kept_over, may_act_now, out_by_acts, ready_after}, Sending.{as_put, taken_then}}
 use Rattle.world_law.proofs.steps_lemmas.acting.Points.{at_point, corrected_cause, no_frames, none_at_point, not_moved, not_on}
 use Rattle.run_law.specs.records.Causes.{device_of}
@@ -64,7 +64,6 @@ two_go_by {C} {M} {reading} {stands} {s} {world} {notes} old {device} {machine} 
     let coming = world.settled in
     let w = record_of s.network hs [] now body in
     let v = change_of s.network hs now body q.mid device state why in
-    let new = pair_put s.network hs now body q.mid device state why q.back in
     let here = now ∷ r ∷ more in
     let high = st.late in
     let low = st.low in
@@ -83,42 +82,21 @@ two_go_by {C} {M} {reading} {stands} {s} {world} {notes} old {device} {machine} 
     let long = put_length (w ∷ q.mid) q.back v in
     let between : length coming ≡ length (q.mid ++ q.back) = ap length q.parts in
     let one_more : length ((w ∷ q.mid) ++ q.back) ≡ length (q.mid ++ q.back) + 1 = omega arith in
-    let later : IsBefore (now ∷ 2 ∷ []) here = inr (refl, inl (omega (arith, high))) in
     let apart_v : (other : DeviceId) → (other.0 ≡ device.0 → ⊥) → bears_on other v.note.body ≡ false = λ other not. ne_eqb other.0 device.0 not in
     subst (λ (l : List Happening). StandsBehind reading stands s (record world { early = false; machines = machines; settled = l }) notes (behind here))
     (sym q.shows)
-    (stands_on old r more here machines world.shown st.moving refl (omega (arith, long, between, one_more, room))
-    (two_by pair all)
+    (acts_on old r more high low st.moving (omega (arith, long, between, one_more, room)) (two_by pair all)
     (known_aside hs (w ∷ q.mid) q.back v (λ other le. moves_no_other other v.note.body
     (apart_v other (λ e. let lt = st.of_it in omega (arith, e, lt, le))))
     (subst (λ (l : List Happening). AreOfNetwork s (hs ++ w ∷ l)) q.parts
     (known_aside hs [] coming w (λ other le. no_row_of s device other body st.of_it a.apart le) old.known)))
-    (λ other lt. elim (cases_eq other.0 device.0) [
-      | inl e ↦
-          let same : device ≡ other = ap (λ (k : ℕ). let d : DeviceId = record { 0 = k } in d) (sym e) in
-          subst (λ (d : DeviceId). (m : M) × (slice_get machines d.0 ≡ Some m) × IsHeld stands s hs new (behind here) now d m) same
-          (after, set.there, inl kept)
-      | inr not ↦
-          let m = old.devices other lt in
-          let y = a.apart other not in (
-            m.0,
-            others_so device other m.0 set not m.1,
-            held_aside s hs (w ∷ q.mid) q.back v other (apart_v other not) refl
-                (frames_aside s hs (w ∷ q.mid) q.back v other (apart_v other not) (λ at. refl))
-                (subst (λ l. IsHeld stands s hs (w ∷ l) (behind here) now other m.0) q.parts
-                (held_aside s hs [] coming w other y.0 refl (frames_aside s hs [] coming w other y.0 y.1)
-                (held_moves stands s hs coming st.moving (λ task same. not (st.own other task same)) m.2))),
-          )
-    ])
-    later
-    (wires_move s hs coming old.mark old.cursor now r more world.wires st.moving
-    (told_wires old r more st.moving later)
-    (all_without wire_place here world.wires (λ e same. at_now e.at now 2 r _ more (λ k. omega (arith, k, high)) same)))
-    (ports_move s hs coming old.mark old.cursor now r more world.ports st.moving old.ports
-    (all_without port_place here world.ports (λ e same. at_now e.at now 8 r _ more (λ k. omega (arith, k, low)) same)))
-    (waiting_moves s hs coming old.mark old.cursor now r more st.moving (λ three. omega (arith, three, high))
-    old.waiting)
-    (shown_still old r more (omega (arith, low)) st.moving))
+    (devices_then old r more device st.moving (λ other not task same. not (st.own other task same)) set (inl kept)
+    (λ other m not held.
+    let y = a.apart other not in
+    held_aside s hs (w ∷ q.mid) q.back v other (apart_v other not) refl
+    (frames_aside s hs (w ∷ q.mid) q.back v other (apart_v other not) (λ at. refl))
+    (subst (λ l. IsHeld stands s hs (w ∷ l) (behind here) now other m) q.parts
+    (held_aside s hs [] coming w other y.0 refl (frames_aside s hs [] coming w other y.0 y.1) held)))))
 
 -- ---- a joiner's first correction
 

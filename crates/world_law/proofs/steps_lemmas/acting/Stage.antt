@@ -3,7 +3,7 @@ use Rattle.world_law.proofs.steps_lemmas.Words.{◌++◌, ◌+◌, ◌<◌, ◌^
 use Rattle.world_law.proofs.steps_lemmas.Words.{Happening, HasCleared, HasTaskBy, HasTurnedOn, IsAllOfIt, IsBefore, IsCaused, IsDue, IsDueNow}
 use Rattle.world_law.proofs.steps_lemmas.Words.{IsFounded, IsHeld, IsIn, IsKept, IsLawful, IsMoving, IsNoTaking, IsOne, IsOwnSource, IsSet, IsShownPut}
 use Rattle.world_law.proofs.steps_lemmas.Words.{IsSource, IsSteady, IsAtRest, Integrating, IsUnfollowed, List, Network, Node, NoneBefore, Note, NoteBody, Scenario, Some, Stands}
-use Rattle.world_law.proofs.steps_lemmas.Words.{StandsBehind, Task, World, [], act_place, all_without, amount, ap, are_past, arith, bears_on, before_behind}
+use Rattle.world_law.proofs.steps_lemmas.Words.{StandsBehind, Task, World, [], act_place, amount, ap, are_past, arith, bears_on, before_behind}
 use Rattle.world_law.proofs.steps_lemmas.Words.{Act, HadComeTo, HasActed, HasDoneTask, acts_first, changed_at, correcting, doing, in_right, of_device, same_device}
 use Rattle.world_law.proofs.steps_lemmas.Words.{second, task_place}
 use Rattle.world_law.proofs.steps_lemmas.{acting.First.{act_more, act_moving, act_rest, act_stands, first_of, late_rank, low_rank}, growing.FromZero.kept_from_zero}
@@ -11,17 +11,17 @@ use Rattle.world_law.{proofs.devices.Working.came_sooner, specs.{device.Growing.
 use Rattle.world_law.proofs.{putting.PutOne.{one_well, unmarked}, rows.Dispatching.founded_with}
 use Rattle.run_law.proofs.runs.Places.{before_or_not}
 use Rattle.world_law.proofs.steps_lemmas.Words.{◌⊎◌, both_ways, chain, either_way}
-use Rattle.world_law.proofs.steps_lemmas.Words.{before_later, behind, cases_eq, due_of, false, frames_taken, happenings}
-use Rattle.world_law.proofs.steps_lemmas.Words.{hears, held_aside, held_moves, in_parts, inl, inr, ints}
+use Rattle.world_law.proofs.steps_lemmas.Words.{before_later, behind, due_of, false, frames_taken, happenings}
+use Rattle.world_law.proofs.steps_lemmas.Words.{hears, held_aside, in_parts, inl, inr, ints}
 use Rattle.world_law.proofs.steps_lemmas.Words.{is_turned_on_at, known_aside, length, members_in, moment_of, moves, moves_no_other, natural}
-use Rattle.world_law.proofs.steps_lemmas.Words.{no_later_breaks, numbers_end, not_on_after, one_by, place_of, port_place, ports_move, pos, put_length}
-use Rattle.world_law.proofs.steps_lemmas.Words.{rank, record_of, refl, slice_get, stands_on, subst, sym, time_of, told_wires, true, units_of, waiting_moves}
-use Rattle.world_law.proofs.steps_lemmas.Words.{wire_place, wires_move, ℕ}
+use Rattle.world_law.proofs.steps_lemmas.Words.{no_later_breaks, numbers_end, not_on_after, one_by, place_of, pos, put_length}
+use Rattle.world_law.proofs.steps_lemmas.Words.{rank, record_of, refl, slice_get, subst, sym, time_of, true, units_of}
+use Rattle.world_law.proofs.steps_lemmas.Words.{ℕ, acts_on, devices_then}
 use Rattle.{schedule_tables.specs.declared.rule.Rule.TheVariants.ScheduleStart, world_law.proofs.steps_lemmas.acting.Starts.{acts_wait, at_work, up_now}}
 use Rattle.run_law.specs.declared.judgement.Why.TheVariants as whys
 use Rattle.run_law.specs.declared.note.NoteBody.TheVariants as kinds
 use Rattle.{std.proofs.lemmas.Option.same_Some, world_law.proofs.putting.Bearing.frames_aside}
-use Rattle.world_law.proofs.{putting.StandsOn.{shown_still, source_told}, steps_lemmas.acting.Kept.{IsBare, may_act_now}}
+use Rattle.world_law.proofs.{putting.StandsOn.{source_told}, steps_lemmas.acting.Kept.{IsBare, may_act_now}}
 use Rattle.world_law.proofs.{rows.Dispatching.lawful, steps_lemmas.{acting.{Over.IsCalm, Work.IsAtWork}, steps.Passed.no_task}}
 
 -- a device that has something due at the source that comes first, which stands at this place: all that is to come has a
@@ -282,15 +282,6 @@ pub no_row_of : (s : Scenario) (device other : DeviceId) (body : NoteBody) → d
     → length s.network.device ≤ other.0 → moves other body ≡ false
 no_row_of s device other body lt apart le = moves_no_other other body (apart other (λ e. omega (arith, e, lt, le))).0
 
--- the machines of the other devices are as they were
-pub others_so : {M : Type 0} (device other : DeviceId) {after : M} (machine : M) {old new : List M}
-    → IsSet device.0 after old new → (other.0 ≡ device.0 → ⊥) → slice_get old other.0 ≡ Some machine
-    → slice_get new other.0 ≡ Some machine
-others_so device other machine set not there = set.same other.0 not ∙ there
-
-pub at_now : (t now k r : ℕ) (ws more : List ℕ) → (k ≡ r → ⊥) → t ∷ k ∷ ws ≡ now ∷ r ∷ more → ⊥
-at_now t now k r ws more not same = not (let e : k ≡ r = cc in e)
-
 pub one_goes_by : {C M : Type 0} {reading : C → ℕ → ℕ} {stands : M → Network → DeviceId → Node → Type 0}
     {s : Scenario} {world : World C M} {notes : List Note} (old : Stands reading stands s world notes)
     {device : DeviceId} {machine after : M} {node : Node} {machines : List M} {settled : List Happening}
@@ -312,43 +303,19 @@ one_goes_by {C} {M} {reading} {stands} {s} {world} {notes} old {device} {machine
     let front = p.front in
     let back = p.back in
     let w = record_of s.network hs front now body in
-    let new = front ++ w ∷ back in
     let here = now ∷ r ∷ more in
-    let high = st.late in
-    let low = st.low in
     let st2 : StageAt stands s hs (front ++ back) old.mark old.cursor now device machine node r more =
     subst (λ l. StageAt stands s hs l old.mark old.cursor now device machine node r more) p.parts st in
     let one = one_act stands s hs front back old.mark old.cursor now device machine node st2 p.before p.none a in
     let long = put_length front back w in
     let same_long : length world.settled ≡ length (front ++ back) = ap length p.parts in
-    let later : IsBefore (now ∷ 2 ∷ []) here = inr (refl, inl (omega (arith, high))) in
     subst (λ (l : List Happening). StandsBehind reading stands s (record world { early = false; machines = machines; settled = l }) notes (behind here))
     (sym p.shows)
-    (stands_on old r more here machines world.shown st.moving refl (omega (arith, long, same_long, room))
-    (one_by one a.lone all)
+    (acts_on old r more st.late st.low st.moving (omega (arith, long, same_long, room)) (one_by one a.lone all)
     (known_aside hs front back w (λ other le. no_row_of s device other body st.of_it a.apart le)
     (subst (λ (l : List Happening). AreOfNetwork s (hs ++ l)) p.parts old.known))
-    (λ other lt. elim (cases_eq other.0 device.0) [
-      | inl e ↦
-          let same : device ≡ other = ap (λ (k : ℕ). let d : DeviceId = record { 0 = k } in d) (sym e) in
-          subst (λ (d : DeviceId). (x : M) × (slice_get machines d.0 ≡ Some x) × IsHeld stands s hs new (behind here) now d x) same
-          (after, set.there, inl kept)
-      | inr not ↦
-          let m = old.devices other lt in
-          let x = a.apart other not in (
-            m.0,
-            others_so device other m.0 set not m.1,
-            held_aside s hs front back w other x.0 refl (frames_aside s hs front back w other x.0 x.1)
-                (subst (λ l. IsHeld stands s hs l (behind here) now other m.0) p.parts
-                (held_moves stands s hs world.settled st.moving (λ task same. not (st.own other task same)) m.2)),
-          )
-    ])
-    later
-    (wires_move s hs world.settled old.mark old.cursor now r more world.wires st.moving
-    (told_wires old r more st.moving later)
-    (all_without wire_place here world.wires (λ e same. at_now e.at now 2 r _ more (λ k. omega (arith, k, high)) same)))
-    (ports_move s hs world.settled old.mark old.cursor now r more world.ports st.moving old.ports
-    (all_without port_place here world.ports (λ e same. at_now e.at now 8 r _ more (λ k. omega (arith, k, low)) same)))
-    (waiting_moves s hs world.settled old.mark old.cursor now r more st.moving (λ three. omega (arith, three, high))
-    old.waiting)
-    (shown_still old r more (omega (arith, low)) st.moving))
+    (devices_then old r more device st.moving (λ other not task same. not (st.own other task same)) set (inl kept)
+    (λ other m not held.
+    let x = a.apart other not in
+    held_aside s hs front back w other x.0 refl (frames_aside s hs front back w other x.0 x.1)
+    (subst (λ l. IsHeld stands s hs l (behind here) now other m) p.parts held))))

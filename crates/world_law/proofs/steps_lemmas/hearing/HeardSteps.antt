@@ -1,9 +1,9 @@
 -- A frame on a wire arrives, and its device's machine hears it.
-use Rattle.world_law.proofs.steps_lemmas.Words.{arith, no_task_at, ◌++◌, ◌==◌, ◌∙◌, ◌∷◌, ◌≡◌, AreOfNetwork, ArePutIn}
-use Rattle.world_law.proofs.steps_lemmas.Words.{DeviceId, Happening, IsHeld, List, Network, Node, Some, StandsBehind, []}
-use Rattle.world_law.proofs.steps_lemmas.Words.{ap, arrival_body, arrival_of, behind, cases_Bool, eq-eqb, eqb-true, false}
-use Rattle.world_law.proofs.steps_lemmas.Words.{happenings, held_aside, held_moves, inl, inr, known_aside, moves_no_other}
-use Rattle.world_law.proofs.steps_lemmas.Words.{same_device, slice_get, some_same, subst, sym, taken_in, true, wire_place, ℕ}
+use Rattle.world_law.proofs.steps_lemmas.Words.{arith, no_task_at, ◌++◌, ◌∙◌, ◌∷◌, ◌≡◌, AreOfNetwork, ArePutIn}
+use Rattle.world_law.proofs.steps_lemmas.Words.{DeviceId, Happening, IsHeld, List, Network, Node, StandsBehind, []}
+use Rattle.world_law.proofs.steps_lemmas.Words.{ap, arrival_body, arrival_of, behind, false, devices_then, ne_eqb}
+use Rattle.world_law.proofs.steps_lemmas.Words.{happenings, held_aside, inl, known_aside, moves_no_other}
+use Rattle.world_law.proofs.steps_lemmas.Words.{some_same, subst, sym, taken_in, wire_place, ℕ}
 use Rattle.world_law.proofs.putting.Bearing.{frames_aside}
 use Rattle.world_law.proofs.steps_lemmas.hearing.Heard.{IsHearingIt, held_answers, held_there, others_take, quiet_for}
 use Rattle.world_law.proofs.steps_lemmas.hearing.{Hearing.{arriving_first, heard_behind, heard_put}, Receptions.device_there}
@@ -52,26 +52,14 @@ heard_step {C} {M} reading stands s world notes e machine heard octets result ma
     (arrival_put s hs r.front r.back old.mark old.cursor now e is r.w r.it)
     (known_aside hs r.front r.back r.w (λ device le. moves_no_other device r.w.note.body (quiet device).bears)
     (subst (λ (l : List Happening). AreOfNetwork s (hs ++ l)) r.whole old.known))
-    (λ device lt. elim (cases_Bool (device.0 == e.device.0)) [
-      | inl mine ↦
-          let it : e.device ≡ device = sym (same_device device e.device (eqb-true device.0 e.device.0 mine)) in
-          subst (λ (d : DeviceId). (x : M) × (slice_get machines d.0 ≡ Some x) × IsHeld stands s hs then_ (behind here) now d x) it (
-            heard,
-            set.there,
-            held_there stands s hs r.front r.back old.mark old.cursor now e machine heard octets result
-                (subst (λ l. IsHearingIt stands s hs l old.mark old.cursor now e machine heard octets result)
-                r.whole h) r.it (ap (λ (l : List Happening). arrival_of s (hs ++ l) e.device now e.link e.cause e.signal) r.whole)
-                (subst (λ l. IsHeld stands s hs l old.cursor now e.device machine) r.whole held),
-          )
-      | inr other ↦
-          let k = old.devices device lt in (
-            k.0,
-            set.same device.0 (λ e_is. (let bad : true ≡ false = sym (eq-eqb device.0 e.device.0 e_is) ∙ other in cc)) ∙ k.1,
-            held_aside s hs r.front r.back r.w device (quiet device).bears r.it.at
-                (frames_aside s hs r.front r.back r.w device (quiet device).bears
-                (λ z. ap (taken_in device z) r.it.body ∙ others_take device e.device e.link e.cause is other z))
-                (held_moves stands s hs (r.front ++ r.back) r.it.moving
-                (no_task_at s.network now device 2 more (inl (omega arith)))
-                (subst (λ l. IsHeld stands s hs l old.cursor now device k.0) r.whole k.2)),
-          )
-    ]))
+    (devices_then old 2 more e.device m (λ other not. no_task_at s.network now other 2 more (inl (omega arith))) set
+    (held_there stands s hs r.front r.back old.mark old.cursor now e machine heard octets result
+    (subst (λ l. IsHearingIt stands s hs l old.mark old.cursor now e machine heard octets result) r.whole h) r.it
+    (ap (λ (l : List Happening). arrival_of s (hs ++ l) e.device now e.link e.cause e.signal) r.whole)
+    (subst (λ l. IsHeld stands s hs l old.cursor now e.device machine) r.whole held))
+    (λ device k not kept.
+    held_aside s hs r.front r.back r.w device (quiet device).bears r.it.at
+    (frames_aside s hs r.front r.back r.w device (quiet device).bears
+    (λ z. ap (taken_in device z) r.it.body
+    ∙ others_take device e.device e.link e.cause is (ne_eqb device.0 e.device.0 not) z))
+    (subst (λ l. IsHeld stands s hs l (behind here) now device k) r.whole kept))))

@@ -3,10 +3,10 @@ use Rattle.world_law.proofs.{putting.StandsOn.shown_still, steps_lemmas.hearing.
 use Rattle.world_law.proofs.steps_lemmas.Words.{◌++◌, ◌+◌, ◌<◌, ◌∷◌, ◌≡◌, ◌≤◌, AreOfNetwork, ArePutIn, AreSettled, Arrival}
 use Rattle.world_law.proofs.steps_lemmas.Words.{ComesFirst, DeviceId, Happening, IsBefore, IsHeld, IsIn, IsMoving, IsPutIn}
 use Rattle.world_law.proofs.steps_lemmas.Words.{IsWithout, List, Network, Node, Note, OnWire, Scenario, Some, Stands}
-use Rattle.world_law.proofs.steps_lemmas.Words.{StandsBehind, World, [], all_without, ap, arith, arrival_body, arrival_of}
-use Rattle.world_law.proofs.steps_lemmas.Words.{behind, comes_first, false, happenings, inr, length, port_place, ports_move, rank}
-use Rattle.world_law.proofs.steps_lemmas.Words.{refl, settled_as, slice_get, stands_on, subst, sym, told_wires, waiting_moves}
-use Rattle.world_law.proofs.steps_lemmas.Words.{wire_place, wires_move, ℕ}
+use Rattle.world_law.proofs.steps_lemmas.Words.{StandsBehind, World, [], ap, arith, arrival_body, arrival_of}
+use Rattle.world_law.proofs.steps_lemmas.Words.{behind, comes_first, false, happenings, inr, length, rank}
+use Rattle.world_law.proofs.steps_lemmas.Words.{refl, settled_as, slice_get, stands_on, subst, sym, told_wires}
+use Rattle.world_law.proofs.steps_lemmas.Words.{wire_place, wires_move, ℕ, ports_still, waiting_still}
 
 wire_at : (e : OnWire) (now : ℕ) → e.at ≡ now → wire_place e ≡ now ∷ 2 ∷ e.device.0 ∷ e.link.0 ∷ e.cause ∷ []
 wire_at e now at = ap (λ (t : ℕ). t ∷ 2 ∷ e.device.0 ∷ e.link.0 ∷ e.cause ∷ []) at
@@ -51,10 +51,9 @@ module _ {C M : Type 0} (reading : C → ℕ → ℕ) (stands : M → Network �
       world.shown m place (omega (arith, long, room)) are known devices later
       (wires_move s hs world.settled old.mark old.cursor world.now 2 more wires m (told_wires old 2 more m later)
       (subst (λ q. IsWithout wire_place q world.wires wires) place without))
-      (ports_move s hs world.settled old.mark old.cursor world.now 2 more world.ports m old.ports
-      (all_without port_place here world.ports (λ w same. (let eight : ◌≡◌ {A = ℕ} 8 2 = cc in omega (arith, eight)))))
-      (waiting_moves s hs world.settled old.mark old.cursor world.now 2 more m (λ three. omega (arith, three))
-      old.waiting) (shown_still old 2 more (omega arith) m)
+      (ports_still old 2 more (λ eight. omega (arith, eight)) m)
+      (waiting_still old 2 more (λ three. omega (arith, three)) m)
+      (shown_still old 2 more (omega arith) m)
 
   -- its record is put in
   pub heard_put : (settled : List Happening) (is : Arrival) {old : Stands reading stands s world notes}

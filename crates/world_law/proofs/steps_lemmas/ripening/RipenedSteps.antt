@@ -11,16 +11,16 @@ use Rattle.world_law.proofs.steps_lemmas.Words.{IsAllOfIt, IsBefore, IsDue, IsFo
 use Rattle.world_law.proofs.steps_lemmas.Words.{IsOfMaster, IsOne, IsParentOf, IsPermanent, IsPutIn, IsSet, IsSource, IsUnfollowed}
 use Rattle.world_law.proofs.steps_lemmas.Words.{IsWaitingFor, IsWithout, Joining, Judgement, LinkId, List, Network, Node, Note}
 use Rattle.world_law.proofs.steps_lemmas.Words.{NoteBody, Option, Pcf, Reason, Ripe, Scenario, Some, Stands, StandsBehind, Units}
-use Rattle.world_law.proofs.steps_lemmas.Words.{Up, Waiting, Way, World, [], all_without, amount, ap, append-nil, are_past, arith}
-use Rattle.world_law.proofs.steps_lemmas.Words.{bears_on, before_behind, behind, both_ways, cases_Bool, comes_first, due_of, eq-eqb}
-use Rattle.world_law.proofs.steps_lemmas.Words.{eqb-true, false, happenings, held_aside, held_moves, in_left, in_right, inl, inr}
+use Rattle.world_law.proofs.steps_lemmas.Words.{Up, Waiting, Way, World, [], amount, ap, append-nil, are_past, arith}
+use Rattle.world_law.proofs.steps_lemmas.Words.{bears_on, before_behind, behind, both_ways, comes_first, due_of, eq-eqb}
+use Rattle.world_law.proofs.steps_lemmas.Words.{false, happenings, held_aside, in_left, in_right, inl, inr}
 use Rattle.world_law.proofs.steps_lemmas.Words.{is_broken, is_cm, is_last, key, known_aside}
 use Rattle.world_law.proofs.steps_lemmas.Words.{last_unfollowed, length, length_is, members_in, moment_of}
 use Rattle.world_law.proofs.steps_lemmas.Words.{moves_no_other, ne_eqb, never_self, numbered_front, numbered_in}
-use Rattle.world_law.proofs.steps_lemmas.Words.{numbered_within, numbers_end, one_by, one_shown, place_of, port_place, ports_move}
-use Rattle.world_law.proofs.steps_lemmas.Words.{pos, put_length, rank, record_of, refl, ripe_as, ripe_place, same_device}
-use Rattle.world_law.proofs.steps_lemmas.Words.{settled_as, slice_get, some_same, stands_on, subst, sym, time_of, told_wires, true}
-use Rattle.world_law.proofs.steps_lemmas.Words.{two_shown, wire_place, wires_move, ℕ}
+use Rattle.world_law.proofs.steps_lemmas.Words.{numbered_within, numbers_end, one_by, one_shown, place_of}
+use Rattle.world_law.proofs.steps_lemmas.Words.{pos, put_length, rank, record_of, refl, ripe_as, ripe_place}
+use Rattle.world_law.proofs.steps_lemmas.Words.{settled_as, some_same, stands_on, subst, sym, time_of, true}
+use Rattle.world_law.proofs.steps_lemmas.Words.{two_shown, ℕ, devices_then, ports_still, wires_still}
 use Rattle.world_law.specs.steps.Ripening.{HasRipened, RipenedStep, ripe_bodies}
 use Rattle.world_law.proofs.steps_lemmas.ripening.Answered.{answered, dropped_kept, high_now, joined_kept, not_before_high, placed_high}
 use Rattle.world_law.proofs.steps_lemmas.ripening.Answered.{quiet_kept}
@@ -157,26 +157,11 @@ ripened_behind {stands} {s} {world} {notes} {e} {after} {machines} waiting {sett
     let m = r.moving in
     let over : IsBefore (now ∷ 2 ∷ []) here = inr (refl, inl (omega arith)) in
     stands_on old 3 more (ripe_place now e) machines world.shown m refl room are known
-    (λ device lt.
-    elim (cases_Bool (Rattle.std.specs.Prelude.◌==◌ device.0 e.device.0)) [
-      | inl same ↦
-          let is = same_device e.device device (sym (eqb-true device.0 e.device.0 same)) in
-          subst (λ (d : DeviceId). (machine : _) × (slice_get machines d.0 ≡ Some machine) × IsHeld stands s hs settled (behind here) now d machine) is
-          (after, set.there, inl kept)
-      | inr other ↦
-          let ne : device.0 ≡ e.device.0 → ⊥ = λ same. both_ways (Rattle.std.specs.Prelude.◌==◌ device.0 e.device.0) other (eq-eqb device.0 e.device.0 same) in
-          let k = old.devices device lt in (
-            k.0,
-            set.same device.0 ne ∙ k.1,
-            others device k.0 ne (held_moves stands s hs world.settled m
-                (no_task_at s.network now device 3 more (inl (omega arith))) k.2),
-          )
-    ])
-    over
-    (wires_move s hs world.settled old.mark old.cursor now 3 more world.wires m (told_wires old 3 more m over)
-    (all_without wire_place here world.wires (λ x same. omega (arith, rank_at _ _ _ _ _ (sym same)))))
-    (ports_move s hs world.settled old.mark old.cursor now 3 more world.ports m old.ports
-    (all_without port_place here world.ports (λ x same. omega (arith, rank_at _ _ _ _ _ (sym same)))))
+    (devices_then old 3 more e.device m (λ other not. no_task_at s.network now other 3 more (inl (omega arith))) set
+    (inl kept)
+    others)
+    over (wires_still old 3 more (λ two. omega (arith, two)) m over)
+    (ports_still old 3 more (λ eight. omega (arith, eight)) m)
     (waiting_ripe waiting r old.waiting without) (shown_still old 3 more (omega arith) m)
 
 -- ---- its device is one of the network

@@ -3,10 +3,10 @@ use Rattle.world_law.proofs.{devices.Shown.{all_past, held_shows}, giving.GivenP
 use Rattle.world_law.{proofs.{giving.Given.device_in, putting.StandsOn.source_told}, specs.steps.Steps.ClockStep}
 use Rattle.world_law.proofs.steps_lemmas.Words.{◌++◌, ◌+◌, ◌<◌, ◌↔◌, ◌∙◌, ◌∷◌, ◌≡◌, ◌≤◌, AreOfNetwork, ArePutIn, DeviceId, Happening, IsBefore, IsHeld}
 use Rattle.world_law.proofs.steps_lemmas.Words.{IsMoving, IsOwnSource, IsSource, List, Network, Node, NoteBody, Scenario, [], no_task_at, adjustment_after}
-use Rattle.world_law.proofs.steps_lemmas.Words.{all_without, ap, arith, at_least, behind, cases_lt, chain, clock_place, comes_first, either_way, false}
+use Rattle.world_law.proofs.steps_lemmas.Words.{ap, arith, at_least, behind, cases_lt, chain, clock_place, comes_first, either_way, false}
 use Rattle.world_law.proofs.steps_lemmas.Words.{happenings, held_moves, inl, inr, is_at_source, key, members_in, place_of}
-use Rattle.world_law.proofs.steps_lemmas.Words.{port_place, ports_move, rank, refl, settled_as, some_same, stands_on, state_after, subst, sym}
-use Rattle.world_law.proofs.steps_lemmas.Words.{StandsBehind, due_of, record_of, time_of, told_wires, true, units_of, up_to, waiting_moves, wire_place, wires_move, ℕ}
+use Rattle.world_law.proofs.steps_lemmas.Words.{rank, refl, settled_as, some_same, stands_on, state_after, subst, sym}
+use Rattle.world_law.proofs.steps_lemmas.Words.{StandsBehind, due_of, record_of, time_of, true, units_of, up_to, ℕ, ports_still, waiting_still, wires_still}
 use Rattle.world_law.{proofs.putting.PutShown.same_record, specs.world.World.IsDueAs}
 use Rattle.run_law.specs.declared.judgement.Why.TheVariants as whys
 use Rattle.run_law.specs.declared.note.NoteBody.TheVariants as kinds
@@ -115,6 +115,7 @@ clock_step {C} {M} reading stands s world notes device machine state adjustment 
     (subst (λ l. ArePutIn s.network hs now (body ∷ []) l settled) empty put)
     ∙ ap (λ (h : Happening). h ∷ []) (sym (same_record s.network hs [] now body (omega arith))) in
     let room = first.room in
+    let later : IsBefore (now ∷ 2 ∷ []) here = inr (refl, inl (omega arith)) in
     subst (λ (l : List Happening). StandsBehind reading stands s (record world { early = false; settled = l; shown = world.shown + 1 }) notes (behind here))
     (sym all)
     (stands_on old 14 more here world.machines (world.shown + 1) m
@@ -129,10 +130,7 @@ clock_step {C} {M} reading stands s world notes device machine state adjustment 
           (held_moves stands s hs [] moving (no_task_at s.network now d 14 more (inr (omega arith)))
           (subst (λ l. IsHeld stands s hs l old.cursor now d k.0) empty k.2)),
     ))
-    (inr (refl, inl (omega arith))) (wires_move s hs world.settled old.mark old.cursor now 14 more world.wires m
-    (told_wires old 14 more m (inr (refl, inl (omega arith))))
-    (all_without wire_place here world.wires (λ e same. (let two : ◌≡◌ {A = ℕ} 2 14 = cc in omega (arith, two)))))
-    (ports_move s hs world.settled old.mark old.cursor now 14 more world.ports m old.ports
-    (all_without port_place here world.ports (λ e same. (let eight : ◌≡◌ {A = ℕ} 8 14 = cc in omega (arith, eight)))))
-    (waiting_moves s hs world.settled old.mark old.cursor now 14 more m (λ three. omega (arith, three)) old.waiting)
+    later (wires_still old 14 more (λ two. omega (arith, two)) m later)
+    (ports_still old 14 more (λ eight. omega (arith, eight)) m)
+    (waiting_still old 14 more (λ three. omega (arith, three)) m)
     (λ d within over. shown_more now world.shown device d shown))

@@ -1,15 +1,15 @@
 -- A frame at a port leaves.
 use Rattle.world_law.proofs.putting.{Moving.settled_moves, Putting.{IsPutting, held_put, known_put, settled_put}, StandsOn.shown_still}
 use Rattle.world_law.specs.steps.Steps.{LeftStep, departure_now}
-use Rattle.world_law.proofs.steps_lemmas.Words.{due_of, one_shown, put_length, record_of}
+use Rattle.world_law.proofs.steps_lemmas.Words.{due_of, one_shown, put_length, record_of, waiting_still, wires_still}
 use Rattle.world_law.proofs.steps_lemmas.Words.{◌++◌, ◌+◌, ◌<◌, ◌∙◌, ◌∷◌, ◌≡◌, ◌≤◌, AreOfNetwork, ArePutIn, AreSettled, AtPort, Bool}
 use Rattle.world_law.proofs.steps_lemmas.Words.{ComesFirst, DeviceId, Happening, IsBefore, IsHeld, IsIn, IsMoving, IsSource, IsWithout, List, Network}
-use Rattle.world_law.proofs.steps_lemmas.Words.{Node, Note, Scenario, Stands, StandsBehind, World, [], all_without, no_task_at, ap}
+use Rattle.world_law.proofs.steps_lemmas.Words.{Node, Note, Scenario, Stands, StandsBehind, World, [], no_task_at, ap}
 use Rattle.world_law.proofs.steps_lemmas.Words.{append_assoc, arith, behind, cases_Bool, cause_of, comes_first}
 use Rattle.world_law.proofs.steps_lemmas.Words.{false, happenings, held_moves, if◌then◌else◌, in_left, in_right, inl, inr}
 use Rattle.world_law.proofs.steps_lemmas.Words.{is_broken, length, members_in, numbers_end, parted}
 use Rattle.world_law.proofs.steps_lemmas.Words.{place_of, port_place, ports_move, rank, refl, stands_on, subst, sym, time_of}
-use Rattle.world_law.{proofs.steps_lemmas.Words.{told_wires, true, units_of, waiting_moves, wire_place, wires_move, ℕ}, specs.world.Outcomes.departure_body}
+use Rattle.world_law.{proofs.steps_lemmas.Words.{true, units_of, ℕ}, specs.world.Outcomes.departure_body}
 use Rattle.world_law.proofs.steps_lemmas.steps.Outcomes.{body_cause, body_caused, body_idle, body_key, body_own, departs_now, few_cause}
 use Rattle.world_law.proofs.steps_lemmas.steps.Outcomes.{nothing_of_broken, outcome_at, own_there}
 
@@ -51,6 +51,7 @@ module _ {C M : Type 0} (reading : C → ℕ → ℕ) (stands : M → Network �
       let m = leaving {old = old} i at first in
       let less : IsWithout port_place here world.ports ports =
       subst (λ q. IsWithout port_place q world.ports ports) place without in
+      let later : IsBefore (world.now ∷ 2 ∷ []) here = inr (refl, inl (omega arith)) in
       stands_on old 8 more (port_place e) world.machines world.shown m place room are known
       (λ device lt.
       let k = old.devices device lt in (
@@ -59,12 +60,9 @@ module _ {C M : Type 0} (reading : C → ℕ → ℕ) (stands : M → Network �
         kept device k.0 (held_moves stands s hs world.settled m
             (no_task_at s.network world.now device 8 more (inr (omega arith))) k.2),
       ))
-      (inr (refl, inl (omega arith))) (wires_move s hs world.settled old.mark old.cursor world.now 8 more world.wires m
-      (told_wires old 8 more m (inr (refl, inl (omega arith))))
-      (all_without wire_place here world.wires (λ w same. (let two : ◌≡◌ {A = ℕ} 2 8 = cc in omega (arith, two)))))
+      later (wires_still old 8 more (λ two. omega (arith, two)) m later)
       (ports_move s hs world.settled old.mark old.cursor world.now 8 more ports m old.ports less)
-      (waiting_moves s hs world.settled old.mark old.cursor world.now 8 more m (λ three. omega (arith, three))
-      old.waiting)
+      (waiting_still old 8 more (λ three. omega (arith, three)) m)
       (shown_still old 8 more (omega arith) m)
 
   -- ---- nothing comes of it, where its device is broken
