@@ -5,7 +5,6 @@ pub mod Idle
 pub mod PutIn
 pub mod Moving
 pub mod Putting
-pub mod AsStates
 pub mod Near
 pub mod NearPut
 pub mod Numbering

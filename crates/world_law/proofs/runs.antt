@@ -8,6 +8,5 @@ pub mod Agreement
 pub mod SameCauses
 pub mod Applies
 pub mod Stays
-pub mod SourcesBack
 pub mod Foremost
 pub mod FoundedAs

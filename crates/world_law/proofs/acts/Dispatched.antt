@@ -2,7 +2,7 @@
 use Rattle.world_law.proofs.Words.{◌++◌, ◌<◌, ◌∙◌, ◌≡◌, ◌⊎◌, DeviceId, Dispatches, Happening, IsDue, IsFounded, IsIn}
 use Rattle.world_law.proofs.Words.{IsSendLost, LinkId, List, None, NoteBody, Scenario, Some, VlId, ap, arith, by_number, cases_Bool}
 use Rattle.world_law.proofs.Words.{if◌then◌else◌, Bool, rank, ◌≤◌, false, true, dispatch_body, earlier, filter, in_filter, inl, inr, is_accepted, is_cut, last_in, numbered}
-use Rattle.world_law.proofs.{Words.{place_of, subst, sym, time_of, way_from, ℕ}, runs.{Agreement.in_earlier, SourcesBack.earlier_still}}
+use Rattle.world_law.proofs.{Words.{ℕ, place_of, subst, sym, time_of, way_from}, runs.Agreement.in_earlier, runs.Firsts.earlier_still}
 use Rattle.run_law.proofs.law.FirstPlaces.{numbered_front}
 use Rattle.run_law.specs.declared.note.NoteBody.TheVariants as kinds
 

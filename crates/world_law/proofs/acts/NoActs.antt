@@ -17,7 +17,7 @@ use Rattle.world_law.proofs.Words.{option_map_or, place_of, point_by, point_in, 
 use Rattle.world_law.proofs.Words.{slice_get_within}
 use Rattle.world_law.proofs.{Words.{state_after, state_before, state_with, subst, sym, time_of, true, ℕ}, devices.Resting.{IsPast, IsWorked, are_past, at_rest}}
 use Rattle.world_law.proofs.{acts.Acting.IsUnmoved, runs.Foremost.{NoActBefore, acting_task, none_but_acts, not_on_after}}
-use Rattle.world_law.proofs.{giving.GivenParts.no_later_breaks, runs.SourcesBack.{earlier_still, of_high_rank}}
+use Rattle.world_law.proofs.{giving.GivenParts.no_later_breaks, runs.Firsts.{earlier_still, of_high_rank}}
 use Rattle.world_law.proofs.lists.Orders.{cases_int}
 use Rattle.world_law.{proofs.rows.Dispatching.{IsLawful, dispatching_task, lawful}, specs.world.Moves.{NothingBefore, NothingComesBefore}}
 use Rattle.run_law.specs.declared.note.NoteBody.TheVariants as notes

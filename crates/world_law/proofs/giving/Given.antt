@@ -1,6 +1,6 @@
 -- The first of what is to come is given: the world stands again.
 use Rattle.world_law.proofs.devices.{Plains.{adjustments_plain, changes_at_plain, filter_plain, plains_parts, states_plain, told_by_others}, Working.worked_on}
-use Rattle.world_law.proofs.{rows.Takings.frames_by_others, runs.TaskPlaces.acts_before}
+use Rattle.world_law.proofs.{rows.AtHand.frames_by_others, runs.TaskPlaces.acts_before}
 use Rattle.run_law.proofs.{law.FirstPlaces.numbered_next, runs.NetworkRuns.one_more}
 use Rattle.world_law.specs.world.World.{AreStored, AreUntold, Befell, IsActedUpTo, IsAwaitedFor, IsAtRest, IsJustTold, is_turning, note_of}
 use Rattle.std.proofs.lemmas.{List.length_push, Option.slice_get_cases}
@@ -14,7 +14,7 @@ use Rattle.world_law.proofs.Words.{filter, filter_map, happening, happenings, if
 use Rattle.world_law.proofs.Words.{is_broken, is_joined_by, is_turned_on_at, key, length, members_in, moves, nat_le, never_self, next_cycle, no_cluster}
 use Rattle.world_law.proofs.Words.{numbered, numbers_end, observation_window, place_of, plains, point_by, point_in, points_of, port_place, rank, refl}
 use Rattle.world_law.proofs.Words.{ripe_place, state_after, state_before, subst, suc, sym, task_place, time_of, true, units_of, up_to, wire_place, ℕ}
-use Rattle.world_law.proofs.{lists.Lists.behind_yes, runs.SourcesBack.{acting_back, arrives_later, earlier_still, gives_rank, no_higher}}
+use Rattle.world_law.proofs.{lists.Lists.behind_yes, runs.Firsts.{acting_back, arrives_later, earlier_still, gives_rank, no_higher}}
 use Rattle.world_law.proofs.runs.{Firsts.{arriving_more, departing_more, numbered_more, numbered_still}, Worlds.{first_settled_is_next, length_is}}
 use Rattle.world_law.{proofs.giving.Storing.stored_then, specs.world.Moves.{AreAwaited, AreGiven, ArePut, AreTaken, GivenStep}}
 use Rattle.world_law.proofs.giving.GivenAs.{settled_then}

@@ -6,7 +6,7 @@ use Rattle.world_law.proofs.Words.{adjustment_with, ap, append_assoc, bears_on, 
 use Rattle.world_law.proofs.Words.{in_left, in_parts, in_right, inl, inr, is_turned_on_at, length, local_before, moves, nat_le, pos}
 use Rattle.world_law.proofs.Words.{state_after, state_before, state_with, sym, taken_by, time_of, up_to, ℕ}
 use Rattle.world_law.specs.world.World.{IsOut}
-use Rattle.world_law.proofs.{devices.Borne.{TellAlike, left_alike, moves_no_other, tell_alike}, rows.Takings.{IsNoTaking, taken_parts, taken_same}}
+use Rattle.world_law.proofs.{devices.Borne.{TellAlike, left_alike, moves_no_other, tell_alike}, rows.AtHand.{IsNoTaking, taken_parts, taken_same}}
 use Rattle.world_law.proofs.{devices.OwnRecords.{keeps_adjustment, keeps_state}, putting.Idle.{drop_one, fold_skip}}
 use Rattle.world_law.proofs.Words.{IsJoiningNow}
 

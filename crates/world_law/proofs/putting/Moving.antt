@@ -7,7 +7,7 @@ use Rattle.world_law.proofs.Words.{HasTurnedOn, IsBefore, IsForward, IsHeld, IsI
 use Rattle.world_law.proofs.Words.{NoneBefore, OnWire, Pcf, Scenario, Waiting, [], amount, ap, append-nil, before_behind, before_later}
 use Rattle.world_law.proofs.Words.{before_or_not, behind, cases_Bool, chain, either_way, false, in_left, inl, inr, is_at_source, members_in, place_of, port_place, refl, ripe_place}
 use Rattle.world_law.proofs.Words.{Task, task_place}
-use Rattle.world_law.proofs.{Words.{subst, sym, time_of, wire_place, ℕ}, giving.GivenParts.up_to_place, runs.SourcesBack.source_back}
+use Rattle.world_law.proofs.{Words.{ℕ, subst, sym, time_of, wire_place}, giving.GivenParts.up_to_place, runs.Firsts.source_back}
 
 -- what a step that works off the source at this place of the instant starts from
 pub record IsMoving (s : Scenario) (hs coming : List Happening) (mark cursor : List ℕ) (now r : ℕ) (more : List ℕ) : Type 0 where

@@ -14,8 +14,8 @@ use Rattle.world_law.proofs.Words.{state_at_hearing, subst, sym, task_place}
 use Rattle.world_law.proofs.{Words.{time_of, timed, timed_arrival, true, ℕ}, giving.GivenParts.same_permanent, putting.PutIn.{at_place, late_source}}
 use Rattle.world_law.proofs.putting.{Alike.{happening_alike, standpoint_in}, Numberless.timed_by}
 use Rattle.world_law.specs.world.World.{IsDueAs}
-use Rattle.world_law.proofs.runs.SourcesBack.{arrives_later, dispatches_back, dispatches_same, earlier_still, gives_rank, numbered_parts, reaches_back}
-use Rattle.world_law.proofs.runs.SourcesBack.{standing_in, up_back}
+use Rattle.world_law.proofs.runs.Firsts.{arrives_later, dispatches_back, dispatches_same, earlier_still, gives_rank, numbered_parts, reaches_back}
+use Rattle.world_law.proofs.runs.Firsts.{standing_in, up_back}
 use Rattle.run_law.specs.declared.judgement.Why.TheVariants as whys
 use Rattle.run_law.specs.declared.note.NoteBody.TheVariants as notes
 

@@ -4,7 +4,7 @@ use Rattle.world_law.proofs.Words.{List, None, Scenario, VlId, [], adjustment_wi
 use Rattle.world_law.proofs.Words.{cases_order, chain, cycle_in, earlier, eqb-true, false, false_from_ne_true, filter, filter-append, has_joined_at}
 use Rattle.world_law.proofs.Words.{if◌then◌else◌, inl, inr, is_before, is_joined_by, is_taken_before, is_turned_on_at, last_or, le-ltb}
 use Rattle.world_law.proofs.Words.{length, list_any, nat_lt, option_and_then, place_of, refl}
-use Rattle.world_law.proofs.{Words.{state_after, state_before, subst, sym, taken_cycle, time_of, ℕ}, runs.SourcesBack.earlier_still}
+use Rattle.world_law.proofs.{Words.{ℕ, state_after, state_before, subst, sym, taken_cycle, time_of}, runs.Firsts.earlier_still}
 use Rattle.world_law.proofs.devices.Borne.{heard_alike, moves_no_other, points_alike}
 use Rattle.world_law.proofs.devices.OwnRecords.{joins_no_other, keeps_adjustment}
 use Rattle.world_law.proofs.putting.Near.{AreNear, HearsAlike}

@@ -10,7 +10,7 @@ use Rattle.world_law.proofs.Words.{rank, refl, state_after, state_at_hearing, su
 use Rattle.world_law.proofs.devices.Plains.{heard_plain, plains_parts, points_plain}
 use Rattle.world_law.proofs.putting.{Alike.happening_alike, Idle.{drop_one, numbered_prefix}, NearPut.not_is}
 use Rattle.world_law.proofs.putting.Near.{AreFrom, AreNear, AsFollower, caused_near, follower_or_not, is_follower, is_following, known_near, own_near}
-use Rattle.world_law.proofs.{putting.Numberless.{hearing_adjustment_plain, hearing_state_plain, last_taken_plain}, runs.SourcesBack.earlier_still}
+use Rattle.world_law.proofs.{putting.Numberless.{hearing_adjustment_plain, hearing_state_plain, last_taken_plain}, runs.Firsts.earlier_still}
 use Rattle.world_law.specs.{device.Plain.with_number, world.World.IsDueAs}
 use Rattle.run_law.specs.declared.judgement.Why.TheVariants as whys
 use Rattle.run_law.specs.declared.note.NoteBody.TheVariants as notes

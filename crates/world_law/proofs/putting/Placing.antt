@@ -4,13 +4,13 @@ use Rattle.world_law.proofs.Words.{IsOwnSource, IsSource, LinkId, List, NoneBefo
 use Rattle.world_law.proofs.Words.{before_behind, before_later, behind, cases_Bool, cases_order, cause_of, chain, either_way, eqb-true, false, in_left}
 use Rattle.world_law.proofs.Words.{in_parts, in_right, inl, inr, is_at_source, is_taken_before, key, length, length-append, members_in, never_self}
 use Rattle.world_law.proofs.{Words.{place_of, rank, refl, subst, sym, time_of, true, ℕ}, putting.PutIn.{own_time, split_three, split_two}}
-use Rattle.world_law.proofs.{giving.GivenParts.up_to_place, putting.NearPut.{IsPlaced, two_placed}, runs.SourcesBack.{at_least, no_higher}}
-use Rattle.world_law.proofs.{putting.Bearing.in_placed, putting.Moving.{IsAllOfIt, IsMoving, off_source, worked_or_here}, runs.SourcesBack.numbered_parts}
+use Rattle.world_law.proofs.{giving.GivenParts.up_to_place, putting.NearPut.{IsPlaced, two_placed}, runs.Firsts.{at_least, no_higher}}
+use Rattle.world_law.proofs.{putting.Bearing.in_placed, putting.Moving.{IsAllOfIt, IsMoving, off_source, worked_or_here}, runs.Firsts.numbered_parts}
 use Rattle.world_law.proofs.putting.Near.{AreFrom, AreNear, AsFollower, IsAsideOf, due_aside, follower_or_not, hears, is_follower, is_following, known_near}
 use Rattle.world_law.proofs.putting.Near.{near_back, own_aside, own_source}
 use Rattle.world_law.proofs.Words.{ChangesState, IsCaused, State, Units, Why, amount, is_joined_by, numbered, numbered_within, parted, Some}
 use Rattle.world_law.specs.world.World.{IsDueAs}
-use Rattle.world_law.proofs.putting.AsStates.{AsState}
+use Rattle.world_law.proofs.putting.PutShown.{AsState}
 use Rattle.schedule_tables.specs.Dispatches.{dispatch_order}
 use Rattle.run_law.specs.declared.judgement.Why.TheVariants as whys
 use Rattle.run_law.specs.declared.note.NoteBody.TheVariants as notes

@@ -3,7 +3,7 @@ use Rattle.world_law.proofs.Words.{◌++◌, ◌∙◌, ◌∷◌, ◌≡◌, �
 use Rattle.world_law.proofs.Words.{IsDropped, IsDue, IsForward, IsFounded, IsIn, IsLost, IsOwnSource, IsSource, LinkId, List, None, NoteBody, Reason, Scenario}
 use Rattle.world_law.proofs.Words.{Some, Units, VlId, [], amount, ap, arith, by_number, cause_of, dispatching, doing, earlier, filter, in_filter, inl, inr}
 use Rattle.world_law.proofs.Words.{is_accepted, last_in, last_or, length, numbered_within, place_of, rank, refl, subst, sym, time_of, ℕ}
-use Rattle.world_law.proofs.runs.SourcesBack.{arrives_later, earlier_still, gives_rank, numbered_parts}
+use Rattle.world_law.proofs.runs.Firsts.{arrives_later, earlier_still, gives_rank, numbered_parts}
 use Rattle.run_law.specs.declared.judgement.Why.TheVariants as whys
 use Rattle.run_law.specs.declared.note.NoteBody.TheVariants as notes
 

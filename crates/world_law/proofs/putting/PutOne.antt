@@ -6,8 +6,9 @@ use Rattle.world_law.proofs.Words.{Integrating, IsBefore, IsCaused, IsDue, IsFou
 use Rattle.world_law.proofs.Words.{Scenario, Some, State, Units, VlId, What, Why, [], rows_place, and_right, ap, append_assoc, arith, bears_on, before_behind}
 use Rattle.world_law.proofs.Words.{behind, cases_Bool, cases_lt, cases_order, cause_of, eqb-true, false, false_from_ne_true, if◌then◌else◌, inl, inr}
 use Rattle.world_law.proofs.Words.{is_at_source, is_joined_by, is_taken_before, is_turned_on_at, le-ltb, members_in, nat_lt, never_self, numbered}
-use Rattle.world_law.proofs.{Words.{place_of, rank, refl, state_after, state_before, subst, suc, sym, time_of, true, ℕ}, runs.SourcesBack.earlier_still}
-use Rattle.world_law.proofs.{giving.GivenParts.some_same, putting.{AsStates.{AsState, numbered_here, seven}, Moving.{IsAllOfIt, IsMoving, off_source, stays}}}
+use Rattle.world_law.proofs.{Words.{ℕ, place_of, rank, refl, state_after, state_before, subst, suc, sym, time_of, true}, runs.Firsts.earlier_still}
+use Rattle.world_law.proofs.putting.PutShown.{AsState, numbered_here, seven}
+use Rattle.world_law.proofs.{giving.GivenParts.some_same, putting.Moving.{IsAllOfIt, IsMoving, off_source, stays}}
 use Rattle.world_law.proofs.Words.{in_left, in_parts, in_right}
 use Rattle.world_law.specs.world.World.{IsDueAs}
 use Rattle.world_law.proofs.putting.Placing.{IsCarried, IsPlacing, IsWell, before_it, hears_source, least_of_own, own_here, placed_well, settled_by, well_of}

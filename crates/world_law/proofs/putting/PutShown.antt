@@ -1,11 +1,33 @@
 -- A record is put in at its place among what is to come, and the change of state that follows it.
-use Rattle.world_law.proofs.Words.{◌++◌, ◌+◌, ◌<◌, ◌∙◌, ◌∷◌, ◌≡◌, ◌≤◌, AllBefore, DeviceId, Happening, IsBefore, IsCaused, IsIn, List, Network, NoneBefore, Note}
-use Rattle.world_law.proofs.Words.{NoteBody, Scenario, State, Why, [], ap, arith, cause_of, in_right, inl, inr, ints, length, length-append, place_of}
-use Rattle.world_law.proofs.Words.{rank, refl, subst, sym, time_of, units_of, ℕ}
-use Rattle.world_law.proofs.putting.{Alike.happening_alike, AsStates.{AsState, seven}, Idle.numbered_prefix}
-use Rattle.world_law.proofs.runs.TaskPlaces.{second}
-use Rattle.world_law.specs.{world.Moves.{IsPutIn, settled_as}, world.World.IsDueAs}
+use Rattle.world_law.proofs.Words.{NoneBefore, Note, NoteBody, Scenario, Some, State, Why, ℕ, [], ap, arith, cause_of, in_right, inl, inr, ints, length}
+use Rattle.world_law.proofs.Words.{length-append, numbered, place_of, rank, refl, slice_get, subst, suc, sym, time_of, units_of}
+use Rattle.world_law.proofs.Words.{◌++◌, ◌+◌, ◌<◌, ◌∙◌, ◌∷◌, ◌≡◌, ◌≤◌, ◌⊎◌, AllBefore, DeviceId, Happening, IsBefore, IsCaused, IsIn, List, Network}
+use Rattle.world_law.specs.world.Moves.{IsPutIn, settled_as}
+use Rattle.world_law.{proofs.putting.Alike.happening_alike, proofs.putting.Idle.numbered_prefix, proofs.runs.TaskPlaces.second, specs.world.World.IsDueAs}
 use Rattle.run_law.specs.declared.note.NoteBody.TheVariants as notes
+
+-- Changes of state among records, and the number of a record put in.
+
+-- the record is a change of state
+pub record AsState (body : NoteBody) : Type 0 where
+  pub device : DeviceId
+  pub state : State
+  pub cause : ℕ
+  pub why : Why
+  pub is : body ≡ notes.State device state cause why
+
+-- a record of this rank is a change of state
+pub seven : (body : NoteBody) → AsState body ⊎ (rank body ≡ 7 → ⊥)
+seven (notes.State device state cause why) = inl (record { device = device; state = state; cause = cause; why = why; is = refl })
+seven other = inr (λ e. omega (arith, e))
+
+get_here : (ps rest : List Happening) (w : Happening) → slice_get (ps ++ w ∷ rest) (length ps) ≡ Some w
+get_here [] rest w = refl
+get_here (h ∷ ps) rest w = get_here ps rest w
+
+-- a record behind so many has the next number
+pub numbered_here : (ps rest : List Happening) (w : Happening) → numbered (ps ++ w ∷ rest) (suc (length ps)) ≡ Some w
+numbered_here ps rest w = get_here ps rest w
 
 -- a record of this body that is to come, given those before it
 abbrev pub record_of : Network → List Happening → List Happening → ℕ → NoteBody → Happening

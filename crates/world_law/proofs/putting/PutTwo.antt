@@ -5,7 +5,7 @@ use Rattle.world_law.proofs.Words.{IsIn, IsOwnSource, IsSource, List, NoteBody, 
 use Rattle.world_law.proofs.Words.{arith, before_behind, behind, cases_lt, cause_of, eqb-true, false, false_from_ne_true, in_left, in_parts, in_right}
 use Rattle.world_law.proofs.Words.{IsOfThisTime, append-nil, inl, inr, is_at_source, length, is_joined_by, key, members_in, never_self, numbered, parted, place_of, rank}
 use Rattle.world_law.proofs.{Words.{refl, subst, suc, sym, time_of, true, ℕ}, giving.GivenParts.some_same, putting.Moving.{IsAllOfIt, stays}}
-use Rattle.world_law.proofs.putting.AsStates.{numbered_here, seven}
+use Rattle.world_law.proofs.putting.PutShown.{numbered_here, seven}
 use Rattle.world_law.specs.world.World.{IsDueAs}
 use Rattle.world_law.proofs.putting.PutOne.{Follows, IsOne, at_number, due_follows, hears_aside, placing_one, unmarked, worked_then}
 use Rattle.world_law.proofs.putting.PutShown.{IsShownPair, change_of, due_of, pair_put, record_of}

@@ -1,6 +1,6 @@
 -- The source that comes first is worked off: the world stands behind it.
 use Rattle.std.proofs.{Common.◌↔◌, lemmas.Bool.cases_eq}
-use Rattle.world_law.{proofs.{giving.GivenParts.up_to_place, runs.SourcesBack.no_higher}, specs.world.World.AreUntold}
+use Rattle.world_law.{proofs.giving.GivenParts.up_to_place, proofs.runs.Firsts.no_higher, specs.world.World.AreUntold}
 use Rattle.world_law.proofs.Words.{◌++◌, ◌+◌, ◌<◌, ◌∙◌, ◌∷◌, ◌≡◌, ◌≤◌, AreAtPorts, AreOfNetwork, AreOnWires, AreSettled, AreWaiting, AtPort, DeviceId}
 use Rattle.world_law.proofs.Words.{Happening, IsBefore, IsHeld, IsSource, List, Network, NoSourceBefore, Node, Note, OnWire, Scenario, Some, Task}
 use Rattle.world_law.proofs.Words.{Stands, Waiting, World, [], ap, arith, before_behind, before_next_time, behind, cases_Bool, chain, clock_place, false}

@@ -2,7 +2,8 @@
 use Rattle.{world_law.proofs.runs.FoundedAs.{AreFoundedAs, IsFoundedAs, founded_as}, schedule_tables.specs.Windows.window_end, std.proofs.Math.Nat.mul-le-mul_right}
 use Rattle.{run_law.specs.device.Standpoints.{natural, offset_in_cycle}, tte_units.proofs.general_lemmas.Naturals.same_heads}
 use Rattle.{schedule_tables.specs.declared.rule.Rule.TheVariants.{Forwarding, WindowEnds}, tte_units.proofs.general_lemmas.Integers.{whole as not_negative}}
-use Rattle.{std.specs.Int.{int_div_euclid, int_rem_euclid}, world_law.proofs.{devices.Resting.in_order, runs.SourcesBack.earlier_still}}
+use Rattle.std.specs.Int.{int_div_euclid, int_rem_euclid}
+use Rattle.world_law.proofs.{devices.Resting.in_order, runs.Firsts.earlier_still}
 use Rattle.world_law.proofs.Words.{◌*◌, ◌+ℤ◌, ◌+◌, ◌-ℤ◌, ◌-◌, ◌<ℤ◌, ◌<◌, ◌∙◌, ◌∷◌, ◌≡◌, ◌≤ℤ◌, ◌≤◌, DeviceId, Entry, Happening, IsCaused, IsEntry}
 use Rattle.world_law.proofs.Words.{IsIn, IsInRange, IsSteady, KeepsRules, List, Network, Reaches, Scenario, VlId, adjustment_after}
 use Rattle.world_law.proofs.Words.{adjustment_before, amount, ap, arith, cases_lt, changed_at, earlier, inl, inr, ints, is_end, local_before}

@@ -1,6 +1,7 @@
 -- Where nothing that a world has under way is before a place, no source that is not worked off is, but for acts.
 use Rattle.{drift_clock.proofs.Reaches.one_reach, std.specs.Prelude.unsigned_abs}
-use Rattle.{run_law.proofs.law.FirstPlaces.numbered_in, world_law.proofs.{giving.GivenParts.{in_get, no_later_breaks, some_same}, runs.SourcesBack.arrives_later}}
+use Rattle.run_law.proofs.law.FirstPlaces.{numbered_in}
+use Rattle.world_law.proofs.{giving.GivenParts.{in_get, no_later_breaks, some_same}, runs.Firsts.arrives_later}
 use Rattle.{run_law.specs.scenario.Scenarios.turns_on, world_law.specs.{source.Sources.IsRipening, world.{Moves.NothingBefore, World.IsWaitingFor}}}
 use Rattle.world_law.proofs.Words.{dispatching, doing, task_place}
 use Rattle.world_law.proofs.Words.{◌&&◌, ◌+◌, ◌<◌, ◌==◌, ◌||◌, ◌∙◌, ◌∷◌, ◌≡◌, ◌≤◌, Bool, DeviceId, Dispatches, Happening, HasDone, HasSent, HasTaskAt}

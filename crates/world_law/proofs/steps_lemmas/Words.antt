@@ -59,16 +59,18 @@ pub use Rattle.world_law.proofs.devices.{Borne.{by_last, moves_no_other}, OwnRec
 pub use Rattle.world_law.proofs.devices.{Plains.{plains_parts, told_by_others}, Resting.are_past, TurnedOn.{all_up_to, next_is_up_to, quiet_rest}}
 pub use Rattle.world_law.proofs.giving.GivenParts.{no_later_breaks, some_same}
 pub use Rattle.world_law.proofs.lists.{Lists.{behind_no, behind_yes, filter_no, filter_yes}, Orders.cases_int}
-pub use Rattle.world_law.proofs.putting.{Bearing.{held_aside, known_aside, turned_aside}, AsStates.AsState}
+pub use Rattle.world_law.proofs.putting.Bearing.{held_aside, known_aside, turned_aside}
+pub use Rattle.world_law.proofs.putting.PutShown.{AsState}
 pub use Rattle.world_law.proofs.putting.Idle.{numbered_prefix}
 pub use Rattle.world_law.proofs.putting.{Moving.{IsAllOfIt, IsMoving, all_without, held_moves, ports_move, turned_moves, waiting_moves, wires_move}, Near.hears}
 pub use Rattle.world_law.proofs.putting.{Placing.before_it, PutIn.own_time}
 pub use Rattle.world_law.proofs.putting.PutOne.{IsOne, IsUnfollowed, is_last, last_unfollowed, one_by}
 pub use Rattle.world_law.proofs.putting.PutShown.{IsShownPut, due_of, one_shown, put_length, record_of, two_shown}
 pub use Rattle.world_law.proofs.putting.StandsOn.{acts_on, comes_first, devices_then, ports_still, stands_on, told_wires, waiting_still, wires_still}
-pub use Rattle.world_law.proofs.rows.{AtHand.value_is, Dispatching.IsLawful, Takings.IsNoTaking}
+pub use Rattle.world_law.proofs.rows.AtHand.{IsNoTaking, value_is}
+pub use Rattle.world_law.proofs.rows.Dispatching.{IsLawful}
 pub use Rattle.world_law.proofs.runs.{Agreement.changed_before, Foremost.not_on_after}
-pub use Rattle.world_law.proofs.runs.SourcesBack.{at_least, dispatches_back, dispatches_same, earlier_still, no_higher, numbered_parts, reaches_back, up_back}
+pub use Rattle.world_law.proofs.runs.Firsts.{at_least, dispatches_back, dispatches_same, earlier_still, no_higher, numbered_parts, reaches_back, up_back}
 pub use Rattle.world_law.proofs.runs.TaskPlaces.{acts_before, acts_first, no_task_at, of_device, placed_so, row_order, second}
 pub use Rattle.world_law.proofs.runs.Worlds.{length_is}
 pub use Rattle.world_law.specs.device.{Deeds.{HadComeTo, HasDoneFrom, HasDoneTask, HasSentFrom, HasWorkedTo}, Left.{HasTaskBy, IsLeft, is_timed}, Own.{bears_on, moves}}

@@ -1,22 +1,18 @@
 -- A device acts: how it stands then, and what is due.
 pub mod ActedSteps
-pub mod AllOfIt
 pub mod Clearing
 pub mod Complete
 pub mod CorrectStep
 pub mod CorrectSteps
 pub mod Correcting
-pub mod DispatchSteps
 pub mod Dispatches
 pub mod Dispatching
 pub mod EmitSteps
-pub mod Emitting
 pub mod Ends
 pub mod First
 pub mod FirstStep
 pub mod GoesOn
 pub mod Held
-pub mod JoinStep
 pub mod JoinSteps
 pub mod JoinsBy
 pub mod Kept
@@ -28,5 +24,4 @@ pub mod SendSteps
 pub mod Sending
 pub mod Stage
 pub mod Starts
-pub mod Stays
 pub mod Work

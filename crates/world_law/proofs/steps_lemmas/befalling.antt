@@ -1,11 +1,9 @@
 -- What comes of the events of an instant is settled.
 pub mod Calm
-pub mod CalmTakings
 pub mod Told
 pub mod Bodies
 pub mod Filled
 pub mod UnderWay
-pub mod Settles
 pub mod Devices
 pub mod Befell
 pub mod Seen

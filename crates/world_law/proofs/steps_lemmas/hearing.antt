@@ -4,13 +4,10 @@ pub mod Judging
 pub mod Called
 pub mod Receptions
 pub mod Putting
-pub mod Hearing
 pub mod Ranked
 pub mod Takings
 pub mod Timed
 pub mod Took
-pub mod Quiet
-pub mod Heard
 pub mod Settling
 pub mod HeardSteps
 pub mod OneMaster

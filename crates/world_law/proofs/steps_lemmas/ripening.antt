@@ -1,12 +1,10 @@
 -- A frame that waits is permanent.
-pub mod Calling
 pub mod Called
 pub mod Hears
 pub mod Merely
 pub mod Grown
 pub mod Clustered
 pub mod Awake
-pub mod Coming
 pub mod Ripens
 pub mod JustTold
 pub mod Judged

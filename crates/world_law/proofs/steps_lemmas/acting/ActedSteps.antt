@@ -5,7 +5,7 @@ use Rattle.world_law.proofs.steps_lemmas.Words.{◌&&◌, ◌<◌, Act, ArePutIn
 use Rattle.world_law.proofs.steps_lemmas.Words.{Joining, List, Members, Network, Node, Note, NoteBody, Off, Ripe, Scenario, Stands, StandsBehind, State, SyncPlan}
 use Rattle.world_law.proofs.steps_lemmas.Words.{Synchronised, World, false, happenings, heard_as, moment_of, nat_le, observation_window, plan_of, ripe_as}
 use Rattle.world_law.proofs.steps_lemmas.Words.{subst, sym, task_place, true, ℕ}
-use Rattle.world_law.proofs.steps_lemmas.acting.{CorrectStep.correct_goes_by, DispatchSteps.dispatches_one, EmitSteps.emits_one, JoinSteps.join_goes_by}
+use Rattle.world_law.proofs.steps_lemmas.acting.{CorrectStep.correct_goes_by, Dispatching.dispatches_one, EmitSteps.emits_one, JoinSteps.join_goes_by}
 use Rattle.world_law.proofs.steps_lemmas.acting.{Kept.may_act_now, OneAct.act_goes_by, SendSteps.sends_one, Stage.stage_of}
 use Rattle.world_law.specs.steps.Acting.{ActedStep, Acts, AreActBodies, place_of_act, rank_of_act, task_of}
 use Rattle.run_law.specs.declared.steps.Act.TheVariants as acts

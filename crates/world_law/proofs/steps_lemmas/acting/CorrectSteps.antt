@@ -10,7 +10,8 @@ use Rattle.world_law.proofs.steps_lemmas.Words.{ap, arith, behind, called, corre
 use Rattle.world_law.proofs.steps_lemmas.Words.{false, happenings, if◌then◌else◌, in_right, inl, inr, is_turned_on_at, length}
 use Rattle.world_law.proofs.steps_lemmas.Words.{moment_of, none_in, numbers_end, one_shown, place_of, point_number, rank, acts_on, devices_then}
 use Rattle.world_law.proofs.steps_lemmas.Words.{record_of, refl, slice_get, state_after, state_by, subst, sym, true, turned_moves}
-use Rattle.world_law.proofs.steps_lemmas.acting.{AllOfIt.{HasOutcome, IsAtPoint, all_point, grown_none, grown_one}, Correcting.{clique_change, clique_over, corrected_over, still_now}}
+use Rattle.world_law.proofs.steps_lemmas.acting.Correcting.{clique_change, clique_over, corrected_over, still_now}
+use Rattle.world_law.proofs.steps_lemmas.acting.Points.{HasOutcome, IsAtPoint, all_point, grown_none, grown_one}
 use Rattle.world_law.proofs.steps_lemmas.acting.{Clearing.{cleared_more, cleared_over}, Kept.{IsBare, bare_act, kept_over, may_act_now, out_by_acts, ready_after}}
 use Rattle.world_law.proofs.steps_lemmas.acting.{Moves.IsCorrectedSo, Over.IsOver, OneAct.still_came, Stage.{IsActRecordAt, StageAt, one_goes_by, stage_of}}
 use Rattle.world_law.proofs.steps_lemmas.acting.Points.{IsClique, at_point, clique_record, corrected_record, no_frames, none_at_point, not_on}

@@ -1,7 +1,8 @@
 -- A device dispatches one row from one place of its order at an instant: so all that is due from there is the record that tells
 -- of it.
 use Rattle.schedule_tables.specs.Dispatches.{dispatch_order}
-use Rattle.{net_plan.specs.declared.tables.Row.Row, world_law.proofs.{rows.OneRow.{one_row, told_alike}, steps_lemmas.acting.Complete.same_told}}
+use Rattle.net_plan.specs.declared.tables.Row.{Row}
+use Rattle.world_law.proofs.{rows.Dispatching.{one_row, told_alike}, steps_lemmas.acting.Complete.same_told}
 use Rattle.{schedule_tables.specs.Entries.IsEntry, world_law.proofs.steps_lemmas.Words.{Entry, Network, Option, option_map_or}}
 use Rattle.world_law.proofs.steps_lemmas.Words.{◌++◌, ◌∙◌, ◌∷◌, ◌≡◌, ◌≤◌, Bool, DeviceId, Dispatches, Happening, IsAllOfIt}
 use Rattle.world_law.proofs.steps_lemmas.Words.{IsCaused, IsIn, IsLawful, IsOwnSource, LinkId, List, NoteBody, RowId, Scenario, Units}

@@ -1,25 +1,22 @@
 -- A device dispatches a row's frame: its record, and how the device stands then.
-use Rattle.{net_plan.proofs.SameIds.{same_link, same_vl}, run_law.proofs.law.FirstPlaces.in_filter, schedule_tables.specs.Windows.OccursIn}
-use Rattle.{run_law.proofs.timed.Rows.at_hand_by, std.proofs.Common.{◌*◌}}
-use Rattle.schedule_tables.{proofs.EntryLemmas.one_entry, specs.Entries.{IsEntry, source_of}}
-use Rattle.schedule_tables.specs.Dispatches.{dispatch_order}
-use Rattle.run_law.proofs.law.FirstPlaces.{numbered_front}
-use Rattle.world_law.proofs.{Words.{AreSettled, IsBefore, IsOwnSource, Some, append_assoc, chain, numbered, parted}, acts.Dispatched.{dispatch_told, send_apart}}
-use Rattle.world_law.proofs.{rows.OneRow.one_row, steps_lemmas.acting.Dispatches.TellsRow}
-use Rattle.world_law.proofs.steps_lemmas.Words.{task_place}
-use Rattle.world_law.proofs.steps_lemmas.Words.{IsSource}
-use Rattle.world_law.proofs.steps_lemmas.Words.{◌++◌, ◌+◌, ◌∙◌, ◌∷◌, ◌≡◌, ◌≤ℤ◌, ◌≤◌, Bool}
-use Rattle.world_law.proofs.steps_lemmas.Words.{Contains-push_cases, DeviceId, Dispatches, Entry, Happening, HasAtHand, HasCleared, Hearing, IsActOf, IsActing}
-use Rattle.world_law.proofs.steps_lemmas.Words.{IsDue, IsFirstTask, IsFounded, IsIn, IsLawful, IsPending, IsReadyAt, LinkId, List, Moment, Network, Node, None}
-use Rattle.world_law.proofs.steps_lemmas.Words.{NoteBody, Option, Reaches, RowId, Scenario, VlId, [], acting, amount, ap, append-nil, arith}
-use Rattle.world_law.proofs.steps_lemmas.Words.{by_number, called, cause_of, changed_before, correcting, dispatch_body, dispatch_late}
-use Rattle.world_law.proofs.steps_lemmas.Words.{dispatches_same, dispatching, doing, earlier, false, filter, hearing_by, if◌then◌else◌, in_left, in_right, inl}
-use Rattle.world_law.proofs.steps_lemmas.Words.{inr, is_accepted, is_cut, key, last_in, last_unfollowed, length, members_in, moment_of, moves, nat_lt}
-use Rattle.world_law.proofs.steps_lemmas.Words.{numbered_within, option_to_list, place_of, pos, rank, reaches_back, reading_for, record_of}
-use Rattle.world_law.proofs.steps_lemmas.Words.{refl, same_device, subst, sym, time_of, true, up_back, value_is, way_from, with_done, ℕ}
-use Rattle.world_law.proofs.steps_lemmas.{acting.{Sending.{HasSentIt, as_put, taken_then}, Work.{IsAtWork, all_earlier, reaches}}}
-use Rattle.world_law.proofs.steps_lemmas.acting.GoesOn.{IsPutAs, does, goes_on, left_on, put_now, sent_alike}
-use Rattle.world_law.proofs.steps_lemmas.acting.{Kept.{may_act_now, ready_after}, Stage.{IsActRecordAt, StageAt}}
+use Rattle.net_plan.proofs.SameIds.{same_link, same_vl}
+use Rattle.run_law.proofs.{law.FirstPlaces.{in_filter, numbered_front}, timed.Rows.at_hand_by}
+use Rattle.schedule_tables.{proofs.EntryLemmas.one_entry, specs.Dispatches.dispatch_order, specs.Entries.{IsEntry, source_of}, specs.Windows.OccursIn}
+use Rattle.std.proofs.Common.{◌*◌}
+use Rattle.world_law.proofs.steps_lemmas.Words.{Dispatches, Entry, Happening, HasActed, HasAtHand, HasCleared, Hearing, IsActOf, IsActing, IsDue}
+use Rattle.world_law.proofs.steps_lemmas.Words.{IsFirstTask, IsFounded, IsIn, IsLawful, IsPending, IsReadyAt, IsSet, IsSource, LinkId, List, Moment}
+use Rattle.world_law.proofs.steps_lemmas.Words.{Network, Node, None, Note, NoteBody, Option, Reaches, RowId, Scenario, Stands, VlId, World, ℕ, [], acting}
+use Rattle.world_law.proofs.steps_lemmas.Words.{amount, ap, append-nil, arith, by_number, called, cause_of, changed_before, correcting, dispatch_body}
+use Rattle.world_law.proofs.steps_lemmas.Words.{dispatch_late, dispatches_same, dispatching, doing, earlier, false, filter, happenings, hearing_by}
+use Rattle.world_law.proofs.steps_lemmas.Words.{if◌then◌else◌, in_left, in_right, inl, inr, is_accepted, is_cut, key, last_in, last_unfollowed, length}
+use Rattle.world_law.proofs.steps_lemmas.Words.{members_in, moment_of, moves, nat_lt, numbered_within, option_to_list, place_of, pos, rank, reaches_back}
+use Rattle.world_law.proofs.steps_lemmas.Words.{reading_for, record_of, refl, same_device, subst, sym, task_place, time_of, true, up_back, value_is}
+use Rattle.world_law.proofs.steps_lemmas.Words.{◌++◌, ◌+◌, ◌<◌, ◌∙◌, ◌∷◌, ◌≡◌, ◌≤ℤ◌, ◌≤◌, ArePutIn, Bool, ComesFirst, Contains-push_cases, DeviceId}
+use Rattle.world_law.proofs.steps_lemmas.acting.{GoesOn.{IsPutAs, does, goes_on, left_on, put_now, sent_alike}, Kept.{may_act_now, ready_after}}
+use Rattle.world_law.proofs.steps_lemmas.acting.{OneAct.IsOneAct, Sending.{HasSentIt, as_put, did_deed, taken_then}, Stage.{IsActRecordAt, StageAt, stage_of}}
+use Rattle.world_law.proofs.{Words.{AreSettled, IsBefore, IsOwnSource, Some, append_assoc, chain, numbered, parted}, rows.Dispatching.one_row}
+use Rattle.world_law.proofs.{acts.Dispatched.{dispatch_told, send_apart}, steps_lemmas.Words.{way_from, with_done}, steps_lemmas.acting.Dispatches.TellsRow}
+use Rattle.world_law.{proofs.steps_lemmas.acting.Work.{IsAtWork, all_earlier, reaches}, specs.steps.Acting.{Acts, place_of_act}}
 use Rattle.run_law.specs.declared.note.NoteBody.TheVariants as kinds
 use Rattle.run_law.specs.declared.steps.Act.TheVariants as acts
 
@@ -58,7 +55,7 @@ pub dispatches_it : {s : Scenario} {hs coming : List Happening} (other : List Ha
 dispatches_it {s} {hs} {coming} other {now} {device} row {entry} {cause} {cycle} w also p due is hand =
     let same = all_earlier s hs coming other now (λ z i. (w.of_now z i).0) also in
     let given : earlier now hs ≡ earlier now (hs ++ other) =
-    sym (Rattle.world_law.proofs.runs.SourcesBack.earlier_still now hs other (λ z i. let at = also z i in omega (arith, at))) in
+    sym (Rattle.world_law.proofs.runs.Firsts.earlier_still now hs other (λ z i. let at = also z i in omega (arith, at))) in
     let frame = p.1.own.1 in
     let one : frame.entry ≡ entry = one_entry s.network row.0 frame.entry entry frame.is is in
     let reached : Reaches s (hs ++ coming) device (pos (cycle * amount s.network.cycle + amount entry.row.offset)) now =
@@ -228,7 +225,7 @@ module _ (s : Scenario) (device of : DeviceId) (now : ℕ) (link : LinkId) (caus
       (if b then kinds.Lost of link cause
       else kinds.TtSent of link cause vl cycle) ≡ false) [ true ↦ refl | false ↦ refl ]
 
-  none_taken : Rattle.world_law.proofs.rows.Takings.IsNoTaking device (dispatch_body s of now link cause vl cycle)
+  none_taken : Rattle.world_law.proofs.rows.AtHand.IsNoTaking device (dispatch_body s of now link cause vl cycle)
   none_taken = grind (arith, is_cut, way_from)
 
 dispatches_on : {s : Scenario} {hs : List Happening} (front back : List Happening) {now : ℕ} {device : DeviceId}
@@ -322,3 +319,60 @@ module _ {M : Type 0} (stands : M → Network → DeviceId → Node → Type 0) 
             st refl (none_taken s device device now link cause vl cycle);
         phase = ap (λ (n : Node). n.phase) is;
       }
+
+-- The step by which a device dispatches a row's frame.
+
+-- the device dispatches a row
+pub dispatches_one : {C M : Type 0} {reading : C → ℕ → ℕ} {stands : M → Network → DeviceId → Node → Type 0}
+    {s : Scenario} {world : World C M} {notes : List Note} {old : Stands reading stands s world notes}
+    {device : DeviceId} {after : M} {bodies : List NoteBody} {machines : List M} (settled : List Happening)
+    (row : RowId) {cycle : ℕ} {entry : Entry} {cause : ℕ}
+    (a : Acts reading stands s world notes old device after bodies)
+    → ComesFirst reading stands s world notes old (place_of_act world.now device (acts.Dispatch row cycle))
+    → ((z : Happening) → IsIn z world.settled → 6 < rank z.note.body)
+    → HasActed stands s.network device (moment_of s device world.now) (acts.Dispatch row cycle) a.machine after
+    → IsEntry s.network row.0 entry → HasAtHand s.network
+    (happenings s.network notes) device entry world.now cause cycle → IsSet device.0 after world.machines machines
+    → ArePutIn s.network (happenings s.network notes) world.now
+    (dispatch_body s device world.now entry.row.link cause entry.row.vl cycle ∷ []) world.settled settled
+    → IsOneAct reading stands s world notes old device a.machine after machines settled (acts.Dispatch row cycle)
+dispatches_one {reading} {stands} {s} {world} {notes} {old} {device} {after} settled
+    row {cycle} {entry} {cause} a first_of above acted is hand set put =
+    let hs = happenings s.network notes in
+    let now = world.now in
+    let stage = stage_of reading stands s world notes old device a.machine after (acts.Dispatch row cycle) a.of_it first_of above a.there a.due acted in
+    let node = stage.0 in
+    let st = stage.1 in
+    let may = may_act_now s device node now st.work.ready st.steady st.limit in
+    let act = acted node st.is may st.task in
+    let first = act.1.0 in
+    let high = dispatch_late s device now entry.row.link cause entry.row.vl cycle in
+    let of_cause = dispatch_cause s device now entry.row.link cause entry.row.vl cycle in
+    let within = hand_within s entry st.given hand in
+    record {
+      room = first_of.room;
+      node = node;
+      then_ = act.0;
+      stood = act.2;
+      st = st;
+      apart = λ x. x;
+      acted = act.1;
+      adjustment = ap (λ (n : Node). n.standing.adjustment) act.1.1;
+      did = λ task has. did_deed s now device node act.0 (moment_of s device now) (dispatching row cycle) task act.1.1 has;
+      body = dispatch_body s device now entry.row.link cause entry.row.vl cycle;
+      at_place = λ low front. absurd (omega (arith, low));
+      late = omega (arith, high);
+      causes = omega (arith, of_cause, within);
+      set = set;
+      put = put;
+      makes = λ front back parts st2 none.
+          let it = has_dispatched_it stands s hs front back old.mark old.cursor now device a.machine after act.0 row
+          st2 first act.1
+          act.1.1 act.2 is hand in
+          record {
+            so = dispatching_record front back row st2 first.pending first.due is hand;
+            told = row_told stands s hs front back old.mark old.cursor now device a.machine row st2 first.pending
+                first.due is hand;
+            it = it;
+          };
+    }

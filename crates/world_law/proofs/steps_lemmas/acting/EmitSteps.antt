@@ -11,7 +11,7 @@ use Rattle.world_law.proofs.steps_lemmas.Words.{Node, None, Note, NoteBody, Ripe
 use Rattle.world_law.proofs.steps_lemmas.Words.{amount, ap, arith, called, correcting, emitting, happenings, hearing_by}
 use Rattle.world_law.proofs.steps_lemmas.Words.{in_right, inl, inr, is_last, last_unfollowed, length, moment_of, ne_eqb, pos}
 use Rattle.world_law.proofs.steps_lemmas.{Words.{rank, record_of, refl, ripe_as, subst, sym, true, ℕ}, acting.Work.{emits, own_judgement}}
-use Rattle.world_law.proofs.steps_lemmas.acting.Emitting.{IsEmitted, StaysBy, emits_on, is_emitted, node_emitted}
+use Rattle.world_law.proofs.steps_lemmas.acting.GoesOn.{IsEmitted, StaysBy, emits_on, is_emitted, node_emitted}
 use Rattle.world_law.proofs.steps_lemmas.acting.{Kept.{may_act_now, ready_after}, Stage.{IsActRecordAt, StageAt, fresh_above, stage_of}}
 use Rattle.world_law.proofs.steps_lemmas.acting.Sending.{HasSentIt, as_put, taken_then}
 use Rattle.run_law.specs.declared.judgement.Judgement.TheVariants as judgements

@@ -1,6 +1,6 @@
 -- What a device does first at an instant comes first: no source and no record to come is between the place where its acts of
 -- this rank begin and that.
-use Rattle.world_law.proofs.growing.Standing.{place_first}
+use Rattle.world_law.proofs.growing.Growing.{place_first}
 use Rattle.world_law.proofs.acts.{Dues.{act_due, came_not, done_or}, NoActs.present}
 use Rattle.world_law.proofs.devices.Working.{came_sooner}
 use Rattle.world_law.specs.{device.Growing.IsFromZero, steps.Acting.{place_of_act, rank_of_act, task_of}}

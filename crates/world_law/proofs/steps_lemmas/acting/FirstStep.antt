@@ -14,7 +14,8 @@ use Rattle.world_law.proofs.steps_lemmas.Words.{moment_of, moves, moves_no_other
 use Rattle.world_law.proofs.steps_lemmas.Words.{point_number, rank, record_of, refl}
 use Rattle.world_law.proofs.steps_lemmas.Words.{Why, put_length, state_after, subst, sym, time_of, true, two_shown, units_of}
 use Rattle.world_law.proofs.steps_lemmas.Words.{ℕ, acts_on, devices_then}
-use Rattle.world_law.proofs.steps_lemmas.acting.{AllOfIt.{IsGrown, all_point, grown_more, grown_one}, Stage.{StageAt, fresh_above, no_row_of, one_caused, stage_of}}
+use Rattle.world_law.proofs.steps_lemmas.acting.Points.{IsGrown, all_point, grown_more, grown_one}
+use Rattle.world_law.proofs.steps_lemmas.acting.Stage.{StageAt, fresh_above, no_row_of, one_caused, stage_of}
 use Rattle.world_law.proofs.steps_lemmas.acting.{Kept.{bare_act, frames_put, kept_over, may_act_now, out_by_acts, ready_after}, Sending.{as_put, taken_then}}
 use Rattle.world_law.proofs.steps_lemmas.acting.Points.{at_point, corrected_cause, no_frames, none_at_point, not_moved, not_on}
 use Rattle.run_law.specs.records.Causes.{device_of}

@@ -1,27 +1,79 @@
 -- A compression master emits a frame that tells it the time itself, and the cursor goes by.
-use Rattle.{run_law.proofs.control.Verdicts.heard_integrates, world_law.proofs.putting.PutShown.{change_of, pair_put}}
-use Rattle.world_law.proofs.{putting.{Placing.causes_given, PutShown.IsShownPair}, steps_lemmas.Words.{two_shown, ℕ}}
-use Rattle.world_law.proofs.steps_lemmas.Words.{IsSource}
+use Rattle.run_law.proofs.control.Verdicts.{heard_integrates}
+use Rattle.world_law.proofs.steps_lemmas.Words.{HasActed, HasCleared, HasDoneTask, HasTurnedOn, Integrating, IsActing, IsAtRest, IsBefore, IsDueNow, IsIn}
+use Rattle.world_law.proofs.steps_lemmas.Words.{IsSet, IsSource, Joining, Judgement, List, Moment, Network, Node, Note, NoteBody, Scenario, Some, Stands}
+use Rattle.world_law.proofs.steps_lemmas.Words.{StandsBehind, Task, World, ℕ, [], ap, append-nil, arith, bears_on, behind, both_ways, cases_Bool}
+use Rattle.world_law.proofs.steps_lemmas.Words.{correcting, doing, earlier, emitting, eq-eqb, eqb-true, false, frames_taken, happenings, if◌then◌else◌}
+use Rattle.world_law.proofs.steps_lemmas.Words.{in_left, in_parts, in_right, inl, inr, is_turned_on_at, key, length, members_in, moment_of, ne_eqb, none_in}
+use Rattle.world_law.proofs.steps_lemmas.Words.{observation_window, place_of, plan_of, rank, record_of, refl, ripe_as, slice_get, state_after, state_before}
 use Rattle.world_law.proofs.steps_lemmas.Words.{◌++◌, ◌+◌, ◌<◌, ◌∙◌, ◌∷◌, ◌≡◌, ◌≤◌, ArePutIn, AsState, ComesFirst, Compressed, DeviceId, Emits, Happening}
-use Rattle.world_law.proofs.steps_lemmas.Words.{HasActed, HasCleared, HasTurnedOn, Integrating, IsActing, IsAtRest, IsBefore, IsDueNow, IsIn, IsSet}
-use Rattle.world_law.proofs.steps_lemmas.Words.{Joining, Judgement, List, Network, Node, Note, Scenario, Some, Stands, StandsBehind, World, []}
-use Rattle.world_law.proofs.steps_lemmas.Words.{ap, arith, bears_on, behind, both_ways, cases_Bool, correcting}
-use Rattle.world_law.proofs.steps_lemmas.Words.{earlier, emitting, eq-eqb, false, frames_taken, happenings, in_left, in_parts, in_right, inl, inr}
-use Rattle.world_law.proofs.steps_lemmas.Words.{is_turned_on_at, key, length, members_in, moment_of, ne_eqb}
-use Rattle.world_law.proofs.steps_lemmas.Words.{none_in, observation_window, place_of, plan_of, rank}
-use Rattle.world_law.proofs.steps_lemmas.Words.{record_of, refl, slice_get, state_after, subst, sym, time_of, true, turned_aside, turned_moves}
-use Rattle.world_law.proofs.steps_lemmas.acting.{EmitSteps.{emission_body, emission_rest}, OneAct.all_one, Work.{all_earlier, emits, own_judgement}}
+use Rattle.world_law.proofs.steps_lemmas.acting.{EmitSteps.{emission_body, emission_rest}, GoesOn.{earlier_put, node_emitted, put_now}, OneAct.all_one}
+use Rattle.world_law.proofs.steps_lemmas.acting.{Kept.{bare_act, frames_put, kept_over, may_act_now, ready_after}, Over.IsOver, Sending.{as_put, taken_then}}
+use Rattle.world_law.proofs.steps_lemmas.acting.{Stage.stage_of, Work.{IsAtWork, all_earlier, emits, own_judgement}}
+use Rattle.world_law.proofs.steps_lemmas.{Words.{subst, sym, time_of, true, turned_aside, turned_moves, two_shown}, acting.JoinsBy.{ChangesIt, joined_over}}
+use Rattle.world_law.proofs.{putting.Placing.causes_given, putting.PutShown.{IsShownPair, change_of, pair_put}, steps_lemmas.acting.FirstStep.two_go_by}
 use Rattle.world_law.specs.steps.Acting.{place_of_act}
-use Rattle.world_law.proofs.steps_lemmas.Words.{HasDoneTask, Moment, Task, append-nil, doing, state_before}
-use Rattle.world_law.proofs.steps_lemmas.acting.{Emitting.node_emitted, FirstStep.two_go_by, Over.IsOver, Stage.stage_of}
-use Rattle.world_law.proofs.steps_lemmas.acting.Sending.{as_put, taken_then}
-use Rattle.world_law.proofs.steps_lemmas.acting.{GoesOn.{earlier_put, put_now}, JoinStep.{bears_so, joins_so, still_looking}}
-use Rattle.world_law.proofs.steps_lemmas.acting.{JoinsBy.{ChangesIt, joined_over}, Kept.{bare_act, frames_put, kept_over, may_act_now, ready_after}}
 use Rattle.run_law.specs.declared.judgement.Judgement.TheVariants as judgements
 use Rattle.run_law.specs.declared.judgement.Why.TheVariants as whys
 use Rattle.run_law.specs.declared.note.NoteBody.TheVariants as kinds
 use Rattle.run_law.specs.declared.steps.Act.TheVariants as acts
 use Rattle.run_law.specs.declared.steps.Ripe.TheVariants as ripe
+
+-- A compression master that emits a frame by which it joins: what bears on it.
+
+-- ---- who joins, was looking for the common time
+
+pub joins_so : (v : Judgement) → ripe_as v ≡ ripe.Integrates → v ≡ judgements.Integrates
+joins_so judgements.Integrates e = refl
+joins_so other e = absurd cc
+
+-- ---- what bears on it behind its frame
+
+-- while the device acts, what is to come bears on it only as its frames, or by a change of its state as it was turned on
+pub bears_so : (s : Scenario) (device : DeviceId) (now : ℕ) (y : Happening) → 4 ≤ rank y.note.body → time_of y ≡ now → IsAtRest s device now y.note.body
+    → ((c : Compressed) (u : Judgement) → y.note.body ≡ emission_body device c u → ⊥) → bears_on device y.note.body ≡ true
+    → ChangesIt device (now + 1) y × AsState y.note.body
+bears_so s device now y late at rest not bears = by_body y.note.body refl (subst (IsAtRest s device now) refl rest) bears
+  where
+    by_body : (body : NoteBody) → y.note.body ≡ body → IsAtRest s device now body → bears_on device body ≡ true → ChangesIt device (now + 1) y
+        × AsState y.note.body
+    by_body (kinds.Permanent other link cause point verdict) e r b = absurd (let k : rank y.note.body ≡ 3 = ap rank e in omega (arith, k, late))
+    by_body (kinds.Compressed other opened out cycle members u) e r b =
+        absurd (not (record { opened = opened; at = out; cycle = cycle; members = members }) u
+        (e ∙ ap (λ (n : ℕ). kinds.Compressed (let d : DeviceId = record { 0 = n } in d) opened out cycle members u) (sym (eqb-true device.0 other.0 b))))
+    by_body (kinds.Corrected other cycle by adjustment) e (inl still) b = absurd (both_ways _ still b)
+    by_body (kinds.Corrected other cycle by adjustment) e (inr on) b = absurd (let bad : false ≡ true = on.0 in cc)
+    by_body (kinds.State other state cause why) e r b = (
+      record {
+        state = state;
+        cause = cause;
+        why = why;
+        is = e ∙ ap (λ (n : ℕ). kinds.State (let d : DeviceId = record { 0 = n } in d) state cause why)
+            (sym (eqb-true device.0 other.0 b));
+        before = omega (arith, at);
+      },
+      record { device = other; state = state; cause = cause; why = why; is = e },
+    )
+    by_body (kinds.Event line what) e r b = absurd (let bad : false ≡ true = b in cc)
+    by_body (kinds.Arrived other link cause clock) e r b = absurd (let bad : false ≡ true = b in cc)
+    by_body (kinds.Sent other cycle) e r b = absurd (let bad : false ≡ true = b in cc)
+    by_body (kinds.Left other link cause clock) e r b = absurd (let bad : false ≡ true = b in cc)
+    by_body (kinds.Lost other link cause) e r b = absurd (let bad : false ≡ true = b in cc)
+    by_body (kinds.TtSent other link cause vl cycle) e r b = absurd (let bad : false ≡ true = b in cc)
+    by_body (kinds.Accepted other link cause vl cycle) e r b = absurd (let bad : false ≡ true = b in cc)
+    by_body (kinds.Delivered other link cause vl cycle) e r b = absurd (let bad : false ≡ true = b in cc)
+    by_body (kinds.Dropped other link cause reason) e r b = absurd (let bad : false ≡ true = b in cc)
+    by_body (kinds.Clock other reading adjustment state) e r b = absurd (let bad : false ≡ true = b in cc)
+
+-- ---- it looks for the time until then
+
+-- a device that looks for the common time neither sends nor comes to a correction, nor dispatches
+pub still_looking : {s : Scenario} {hs coming : List Happening} (front : List Happening) {now : ℕ}
+    {device : DeviceId} {node : Node} → IsAtWork s hs coming now device node → node.standing.state ≡ Integrating
+    → ((z : Happening) → IsIn z front → time_of z ≡ now) → state_before s (hs ++ front) device now ≡ Integrating
+still_looking {s} {hs} {coming} front {now} {device} w looking also =
+    ap (λ l. if is_turned_on_at s device now then Integrating else state_after s l device)
+    (all_earlier s hs front coming now also (λ z i. (w.of_now z i).0)) ∙ sym w.left.state ∙ looking
 
 -- what a step starts from by which the master joins
 pub record IsJoining {C M : Type 0} (reading : C → ℕ → ℕ) (stands : M → Network → DeviceId → Node → Type 0) (s : Scenario) (world : World C M)

@@ -5,7 +5,7 @@ use Rattle.world_law.proofs.steps_lemmas.Words.{◌++◌, ◌+◌, ◌-ℤ◌, �
 use Rattle.world_law.proofs.steps_lemmas.Words.{List, Moment, Node, Scenario, Some, State, Why, [], acting, ap, append-nil, append_assoc, arith, bears_on}
 use Rattle.world_law.proofs.steps_lemmas.Words.{by_last, called, cases_Bool, false, filter, filter-append, if◌then◌else◌, inl, inr, ints, is_broken}
 use Rattle.world_law.proofs.steps_lemmas.Words.{is_turned_on_at, no_cluster, none_in, none_kept, observation_window, plan_of, pos, refl, self, subst}
-use Rattle.world_law.proofs.steps_lemmas.{Words.{sym, time_of, true, value_of, with_joined, ℕ, ℤ}, acting.{Emitting.node_emitted, Over.IsOver}}
+use Rattle.world_law.proofs.steps_lemmas.{Words.{ℕ, ℤ, sym, time_of, true, value_of, with_joined}, acting.GoesOn.node_emitted, acting.Over.IsOver}
 use Rattle.world_law.proofs.steps_lemmas.acting.{Correcting.{left_called, one_in}, Moves.{change_counts, change_leaves, joins}}
 use Rattle.run_law.{proofs.law.FirstPlaces.in_filter, specs.records.Frames.integration_frame}
 use Rattle.run_law.specs.declared.judgement.Judgement.TheVariants as judgements

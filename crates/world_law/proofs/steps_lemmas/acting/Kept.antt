@@ -1,7 +1,7 @@
 -- A device that has acted is kept, as its new node says.
 use Rattle.world_law.proofs.acts.Acted.{acted}
 use Rattle.world_law.{proofs.{acts.Ready.acting_last, putting.Idle.drop_one, steps_lemmas.acting.{Over.IsOver, Work.IsAtWork}}, specs.device.Takings.taken_by}
-use Rattle.world_law.proofs.{rows.Takings.{taken_parts, taken_same}, steps_lemmas.Words.{time_of, true, unsigned_abs, whole, ℕ}}
+use Rattle.world_law.proofs.{rows.AtHand.{taken_parts, taken_same}, steps_lemmas.Words.{ℕ, time_of, true, unsigned_abs, whole}}
 use Rattle.world_law.proofs.steps_lemmas.Words.{◌++◌, ◌+ℤ◌, ◌+◌, ◌<ℤ◌, ◌^◌, ◌∙◌, ◌∷◌, ◌≡◌, ◌≤ℤ◌, ◌≤◌, Act, AsyncClique, Bool, Cleared, Corrected}
 use Rattle.world_law.proofs.steps_lemmas.Words.{DeviceId, Happening, HasCleared, HasTurnedOn, IsActOf, IsBefore, IsIn, IsKept, IsNoTaking, IsReadyAt}
 use Rattle.world_law.proofs.steps_lemmas.Words.{IsSteady, List, MayCall, Moment, Network, Node, Scenario, SyncClique, TakenFrame, [], act_place, acting}

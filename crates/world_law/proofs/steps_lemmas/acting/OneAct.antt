@@ -1,6 +1,6 @@
 -- A device acts, and puts one record: how it stands then, as the cursor goes by.
 use Rattle.world_law.proofs.acts.Dues.{IsDueTask, act_due, done_or}
-use Rattle.world_law.proofs.growing.Standing.{IsCorrection, what_is_left}
+use Rattle.world_law.proofs.growing.Growing.{IsCorrection, what_is_left}
 use Rattle.world_law.proofs.putting.{Moving.stays, Placing.own_here}
 use Rattle.{run_law.proofs.runs.Places.nothing_between, schedule_tables.specs.Dispatches.dispatch_order}
 use Rattle.world_law.proofs.steps_lemmas.Words.{◌++◌, ◌+◌, ◌-ℤ◌, ◌<◌, ◌∙◌, ◌∷◌, ◌≡◌, ◌≤ℤ◌, ◌≤◌, ◌⊎◌, Act, ArePutIn, DeviceId, HadComeTo, Happening}

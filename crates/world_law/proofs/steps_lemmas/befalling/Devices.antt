@@ -1,19 +1,37 @@
 -- Each device when the outcomes of the events of an instant are settled.
-use Rattle.world_law.proofs.devices.Working.{rested, worked_by}
-use Rattle.world_law.proofs.steps_lemmas.Words.{before_behind, chain}
-use Rattle.{net_plan.proofs.SameIds.alike}
-use Rattle.world_law.proofs.steps_lemmas.befalling.{CalmTakings.taken_calm, UnderWay.{IsTelling, goes_on}}
-use Rattle.world_law.proofs.steps_lemmas.Words.{◌++◌, ◌==◌, ◌∙◌, ◌∷◌, ◌≡◌, ◌≤◌, AreOfNetwork, Befell, DeviceId, Happening, HasDoneFrom}
-use Rattle.world_law.proofs.steps_lemmas.Words.{IsAtRest, IsBefore, IsDue, IsFounded, IsHeld, IsIn, IsKept, IsLeft, IsOfThisTime}
-use Rattle.world_law.proofs.steps_lemmas.Words.{IsTurnedOnBy, List, Network, Node, None, NoteBody, Scenario, [], act_place}
-use Rattle.world_law.proofs.steps_lemmas.Words.{acts_before, adjustment_after, ap, append-nil, arith, behind, cases_Bool, changed_at}
-use Rattle.world_law.proofs.steps_lemmas.Words.{changes_adjustment, earlier, earlier_still, false, filter, frames_taken}
-use Rattle.world_law.proofs.steps_lemmas.Words.{in_parts, in_right, inl, inr, is_broken, is_turned_on_at, last_or, moves, never_self, numbered_in}
-use Rattle.world_law.proofs.steps_lemmas.Words.{option_map_or, place_of}
-use Rattle.world_law.proofs.steps_lemmas.{Words.{refl, state_after, subst, sym, time_of, true, up_to, ℕ}, befalling.Told.{event_due, on_by_record}}
-use Rattle.world_law.proofs.steps_lemmas.befalling.{Bodies.{IsOutcome, calm_outcome}, Calm.{adjustment_unmoved, left_all_calm, state_unmoved}}
+use Rattle.net_plan.proofs.SameIds.{alike}
+use Rattle.std.proofs.Common.{flat_map}
+use Rattle.world_law.proofs.steps_lemmas.Words.{IsDue, IsFounded, IsHeld, IsIn, IsKept, IsLeft, IsOfThisTime, IsTurnedOnBy, List, Network, Node, None}
+use Rattle.world_law.proofs.steps_lemmas.Words.{NoteBody, Scenario, ℕ, ℤ, [], act_place, acts_before, adjustment_after, ap, append-nil, arith}
+use Rattle.world_law.proofs.steps_lemmas.Words.{before_behind, behind, cases_Bool, chain, changed_at, changes_adjustment, earlier, earlier_still, false}
+use Rattle.world_law.proofs.steps_lemmas.Words.{filter, frames_taken, in_parts, in_right, inl, inr, is_broken, is_turned_on_at, last_or, local_before}
+use Rattle.world_law.proofs.steps_lemmas.Words.{moves, never_self, numbered_in, option_map_or, place_of, refl, state_after, subst, sym, taken_in, time_of}
+use Rattle.world_law.proofs.steps_lemmas.Words.{◌++◌, ◌==◌, ◌∙◌, ◌∷◌, ◌≡◌, ◌≤◌, AreOfNetwork, Befell, DeviceId, Happening, HasDoneFrom, IsAtRest, IsBefore}
+use Rattle.world_law.proofs.steps_lemmas.befalling.UnderWay.{IsTelling, goes_on}
+use Rattle.world_law.proofs.steps_lemmas.befalling.{Calm.{adjustment_unmoved, is_calm, left_all_calm, state_unmoved}, Told.{event_due, on_by_record}}
+use Rattle.world_law.proofs.{devices.Working.{rested, worked_by}, steps_lemmas.Words.{true, up_to}, steps_lemmas.befalling.Bodies.{IsOutcome, calm_outcome}}
 use Rattle.net_plan.specs.declared.event.What.TheVariants as events
 use Rattle.run_law.specs.declared.note.NoteBody.TheVariants as kinds
+
+-- Such records take no frame of the schedule.
+
+calm_takes : (device : DeviceId) (at : ℤ) (body : NoteBody) → is_calm body ≡ true → taken_in device at body ≡ []
+calm_takes device at (kinds.Lost other link cause) e = refl
+calm_takes device at (kinds.State other state cause why) e = refl
+calm_takes device at other e = absurd cc
+
+-- a list of which a part gives nothing, and the other the same
+flat_calm : {X Y : Type 0} (f g : X → List Y) (hs zs : List X) → ((h : X) → IsIn h hs → f h ≡ g h) → ((z : X) → IsIn z zs → f z ≡ [])
+    → flat_map f (hs ++ zs) ≡ flat_map g hs
+flat_calm f g [] [] same none = refl
+flat_calm {X} {Y} f g [] (z ∷ zs) same none = ap (λ (l : List Y). l ++ flat_map f zs) (none z (inl refl)) ∙ flat_calm f g [] zs same (λ y i. none y (inr i))
+flat_calm {X} {Y} f g (h ∷ hs) zs same none =
+    ap (λ (l : List Y). l ++ flat_map f (hs ++ zs)) (same h (inl refl)) ∙ ap (λ (l : List Y). g h ++ l) (flat_calm f g hs zs (λ y i. same y (inr i)) none)
+
+pub taken_calm : (s : Scenario) (hs zs : List Happening) (device : DeviceId) (now : ℕ) → ((h : Happening) → IsIn h hs → time_of h ≤ now)
+    → ((z : Happening) → IsIn z zs → now ≤ time_of z) → ((z : Happening) → IsIn z zs → is_calm z.note.body ≡ true)
+    → frames_taken s (hs ++ zs) device ≡ frames_taken s hs device
+taken_calm s hs zs device now past late calm = grind (arith, flat_calm, taken_in, local_before, time_of, adjustment_after, earlier_still, calm_takes)
 
 -- what is to come, and where a sound device is turned on, its record
 pub record AreToldOf (s : Scenario) (hs coming : List Happening) (cursor : List ℕ) (now : ℕ) (befell : List Befell) : Type 0 where

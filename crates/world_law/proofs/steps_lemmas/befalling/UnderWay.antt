@@ -1,5 +1,5 @@
 -- What the events of an instant put on wires, and what else is under way when their outcomes are settled.
-use Rattle.world_law.proofs.{runs.SourcesBack.arrives_later, steps_lemmas.Words.{refl, ripe_place, some_same, subst, sym, time_of, true, wire_place, ℕ}}
+use Rattle.world_law.proofs.{runs.Firsts.arrives_later, steps_lemmas.Words.{ℕ, refl, ripe_place, some_same, subst, sym, time_of, true, wire_place}}
 use Rattle.world_law.proofs.steps_lemmas.Words.{◌<◌, ◌∙◌, ◌∷◌, ◌≡◌, ◌≤◌, ◌⊎◌, AreAtPorts, AreOnWires, AreUntold, AreWaiting, Arrives, AtPort, Befell, DeviceId}
 use Rattle.world_law.proofs.steps_lemmas.Words.{Happening, IsBefore, IsEventBody, IsIn, LinkId, List, NoteBody, OnWire, Scenario, Signal, Some, Waiting, What}
 use Rattle.world_law.proofs.steps_lemmas.Words.{[], ap, arith, before_behind, behind, chain, false, has_outcome, inl, inr, launched, numbered, numbered_in}

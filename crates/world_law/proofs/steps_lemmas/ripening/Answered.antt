@@ -1,24 +1,62 @@
 -- The machine answers, and its device is kept, whatever becomes of the frame.
-use Rattle.{run_law.proofs.device.States.joined_or, std.proofs.Common.Contains}
-use Rattle.{run_law.specs.machines.Calls.{IsHearing, MayRipen}, world_law.{proofs.frames.Proper.{link_of, received}, specs.steps.Ripening.HasRipened}}
-use Rattle.world_law.proofs.{putting.{Bearing.placed_back, Placing.causes_given}, steps_lemmas.Words.{time_of, true, turned_aside, ℕ}}
-use Rattle.world_law.proofs.steps_lemmas.Words.{◌++◌, ◌+◌, ◌∙◌, ◌∷◌, ◌≡◌, ◌≤ℤ◌, ◌≤◌, ◌⊎◌, AllBefore, AsState, Bool, Compressed, DeviceId, Happening}
-use Rattle.world_law.proofs.steps_lemmas.Words.{HasSentFrom, HasTurnedOn, IsBefore, IsIn, IsKept, IsLeft, IsNoTaking, IsOfMaster, IsParentOf}
-use Rattle.world_law.proofs.steps_lemmas.Words.{IsPermanenceOutcomeAt, Joining, Judgement, List, MayCall, Network, Node, NoneBefore, NoteBody, Point, Reason}
-use Rattle.world_law.proofs.steps_lemmas.Words.{Ripe, Scenario, Some, State, Waiting, [], after_permanence, all_up_to, ap, append_assoc, arith}
-use Rattle.world_law.proofs.steps_lemmas.Words.{behind, both_ways, called, cases_Bool, channel_of_link, earlier, earlier_still, eq-eqb, eqb-true, false}
-use Rattle.world_law.proofs.steps_lemmas.Words.{frames_taken, has_joined_at, if◌then◌else◌, in_left, in_parts, in_right, inl, inr, is_broken, is_cm, is_off}
-use Rattle.world_law.proofs.steps_lemmas.Words.{key, length, members_in, moment_of, next_is_up_to, no_higher, no_later_breaks, place_of}
-use Rattle.world_law.proofs.steps_lemmas.Words.{pos, rank, refl, ripe_as, ripening, state_after, state_before, state_with, subst, sym, taken_in}
-use Rattle.world_law.proofs.steps_lemmas.{hearing.Quiet.frames_placed, ripening.{Calling.may_call, Grown.IsByRole, JustTold.{all_high, ends_in}, Merely.IsMere}}
-use Rattle.world_law.proofs.steps_lemmas.ripening.{Awake.{still_on, stirs, was_on}, Called.left_called, Coming.{IsLateKind, all_late, late_mere}}
-use Rattle.world_law.proofs.steps_lemmas.ripening.{Joined.{IsJoin, kept_joined, was_looking}, Judged.{Hears, IsKindOf, hears_before, hears_told, outcome_kind}}
+use Rattle.run_law.{proofs.device.States.joined_or, specs.machines.Calls.{IsHearing, MayRipen, order_of_phase}}
+use Rattle.std.proofs.Common.{Contains}
+use Rattle.world_law.proofs.steps_lemmas.Words.{Happening, HasSentFrom, HasTurnedOn, IsBefore, IsIn, IsKept, IsLeft, IsNoTaking, IsOfMaster, IsParentOf}
+use Rattle.world_law.proofs.steps_lemmas.Words.{IsPermanenceOutcomeAt, IsSteady, Joining, Judgement, List, MayCall, Network, Node, NoneBefore, NoteBody}
+use Rattle.world_law.proofs.steps_lemmas.Words.{Phase, Point, Reason, Ripe, Scenario, Some, State, Waiting, ℕ, [], after_permanence, all_up_to, amount, ap}
+use Rattle.world_law.proofs.steps_lemmas.Words.{append_assoc, arith, behind, both_ways, called, cases_Bool, cases_lt, channel_of_link, earlier}
+use Rattle.world_law.proofs.steps_lemmas.Words.{earlier_still, eq-eqb, eqb-true, false, frames_taken, has_joined_at, if◌then◌else◌, in_left, in_parts}
+use Rattle.world_law.proofs.steps_lemmas.Words.{in_right, inl, inr, ints, is_broken, is_cm, is_off, key, length, members_in, moment_of, next_is_up_to}
+use Rattle.world_law.proofs.steps_lemmas.Words.{no_higher, no_later_breaks, place_of, pos, rank, rank_of_call, reading_for, refl, ripe_as, ripening}
+use Rattle.world_law.proofs.steps_lemmas.Words.{state_after, state_before, state_with, subst, sym, taken_in, time_of, true, turned_aside, whole}
+use Rattle.world_law.proofs.steps_lemmas.Words.{◌++◌, ◌+◌, ◌<ℤ◌, ◌<◌, ◌^◌, ◌∙◌, ◌∷◌, ◌≡◌, ◌≤ℤ◌, ◌≤◌, ◌⊎◌, AllBefore, AsState, Bool, Compressed, DeviceId}
 use Rattle.world_law.proofs.steps_lemmas.ripening.Kept.{carried_by_role, carried_called, is_yet, kept_next, next_aside, next_by_role, rests_yet}
-use Rattle.world_law.proofs.steps_lemmas.ripening.Ripens.{IsRipe, come_of, emitted_no_later, may_ripen, points_no_later, ripe_more, sooner_of, sound_of}
+use Rattle.world_law.proofs.steps_lemmas.ripening.Ripens.{IsLateKind, IsRipe, all_late, come_of, emitted_no_later, late_mere, may_ripen, points_no_later}
+use Rattle.world_law.proofs.steps_lemmas.ripening.{Called.left_called, Grown.IsByRole, Joined.{IsJoin, kept_joined, was_looking}, Merely.IsMere}
+use Rattle.world_law.proofs.steps_lemmas.ripening.{Judged.{Hears, IsKindOf, hears_before, hears_told, outcome_kind}, JustTold.{all_high, ends_in}}
+use Rattle.world_law.proofs.steps_lemmas.{hearing.Calling.ranked_so, hearing.Takings.frames_placed, ripening.Awake.{still_on, stirs, was_on}}
+use Rattle.world_law.proofs.{frames.Proper.{link_of, received}, putting.Bearing.placed_back, putting.Placing.causes_given}
+use Rattle.world_law.{proofs.steps_lemmas.ripening.Ripens.{ripe_more, sooner_of, sound_of}, specs.steps.Ripening.HasRipened}
 use Rattle.run_law.specs.declared.judgement.Judgement.TheVariants as judgements
 use Rattle.run_law.specs.declared.judgement.Why.TheVariants as whys
 use Rattle.run_law.specs.declared.note.NoteBody.TheVariants as kinds
 use Rattle.run_law.specs.declared.steps.Ripe.TheVariants as ripe
+
+-- A device that a world keeps may be called, as its source comes.
+
+pub may_call : {M : Type 0} {stands : M → Network → DeviceId → Node → Type 0} {s : Scenario}
+    {hs coming : List Happening} {cursor : List ℕ} {now : ℕ} {device : DeviceId} {machine : M} (phase : Phase)
+    (more : List ℕ) (k : IsKept stands s hs coming cursor now device machine)
+    → IsSteady (s.reading device) (amount s.network.precision) → now ≤ 2 ^ 60
+    → (IsBefore (now ∷ rank_of_call phase ∷ more) cursor → ⊥)
+    → MayCall s.network device k.node (moment_of s device now) phase
+may_call {s} {now} phase more k steady limit waits =
+    let last = whole k.node.last.time.0 k.ready.begun in
+    let time = k.ready.time in
+    let read = k.ready.last in
+    let sooner : amount k.node.last.time ≤ now = omega (arith, ints, last, time) in
+    let fell = steady.never_falls (amount k.node.last.time) now sooner in
+    let low = steady.low now limit in
+    record {
+      later = record {
+        time = time;
+        reading = omega (arith, ints, read, fell);
+        early_enough = omega (arith, ints, limit);
+        low_enough = omega (arith, ints, low);
+      };
+      in_order = λ same.
+          let at : k.node.last.time.0 ≡ pos now = sym (ap (λ (u : _). u.0) same) in
+          let a = ranked_so phase in
+          let b = ranked_so k.node.phase in
+          elim (cases_lt (order_of_phase phase) (order_of_phase k.node.phase)) [
+            | inr ge ↦ ge
+            | inl lt ↦ absurd (waits (k.phase at (now ∷ rank_of_call phase ∷ more) (inr (refl, inl (omega (arith, lt, a, b))))))
+          ];
+      all_done = λ before task p.
+          let lt : amount k.node.last.time < now = omega (arith, ints, last, before) in
+          subst (λ z. z <ℤ reading_for s.network k.node task) (sym read) (k.ready.undone task p (amount k.node.last.time) lt);
+      in_time = λ task p. k.ready.in_time task p;
+    }
 
 -- ---- the machine answers
 

@@ -14,7 +14,7 @@ use Rattle.world_law.proofs.steps_lemmas.Words.{has_cleared, has_joined_at, hear
 use Rattle.world_law.proofs.steps_lemmas.Words.{is_cm, is_integration_cycle, is_joined_by, is_timed, is_turned_on_at, last_or, master_of, next_is_up_to}
 use Rattle.world_law.proofs.steps_lemmas.Words.{none_kept, not_on_after, not_turned_on, numbered_front, observation_window, option_map_or, parted, place_of}
 use Rattle.world_law.proofs.steps_lemmas.Words.{plan_of, point_at, point_by, points_of, quiet_rest, recorded_cycle, refl, ripe_as, state_after}
-use Rattle.world_law.proofs.steps_lemmas.ripening.{Coming.{IsLateKind, all_late, late_mere, rest_ends}, Hears.{by_role, not_joined, not_joined_yet}}
+use Rattle.world_law.proofs.steps_lemmas.ripening.{Hears.{by_role, not_joined, not_joined_yet}, Ripens.{IsLateKind, all_late, late_mere, rest_ends}}
 use Rattle.world_law.proofs.steps_lemmas.ripening.{JustTold.{IsTold, adjustment_now, state_now}, Merely.{filter_rest, maps_rest, mere_changes, mere_point}}
 use Rattle.compression.specs.declared.taken.Taken.TheVariants as takens
 use Rattle.run_law.specs.declared.steps.Ripe.TheVariants as ripe

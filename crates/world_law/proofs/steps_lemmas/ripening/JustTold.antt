@@ -12,7 +12,7 @@ use Rattle.world_law.proofs.steps_lemmas.Words.{is_joined_by, is_turned_on_at, i
 use Rattle.world_law.proofs.steps_lemmas.Words.{moves, nat_lt, ne_eqb, no_higher, none_kept, not_turned_on, numbered, numbered_front, numbered_in}
 use Rattle.world_law.proofs.steps_lemmas.Words.{numbered_parts, numbered_within, parted, place_of, rank, record_of, refl, same_device, some_same, state_after}
 use Rattle.world_law.proofs.steps_lemmas.{Words.{state_at_hearing, state_before, state_with, subst, sym, time_of, true, ℕ}, ripening.Hears.none_of}
-use Rattle.world_law.proofs.steps_lemmas.ripening.{Coming.{IsLateKind, all_late, given_low, late_mere}, Merely.{fold_rest, mere_adjustment, mere_joins}}
+use Rattle.world_law.proofs.steps_lemmas.ripening.{Merely.{fold_rest, mere_adjustment, mere_joins}, Ripens.{IsLateKind, all_late, given_low, late_mere}}
 use Rattle.run_law.specs.declared.judgement.Why.TheVariants as whys
 use Rattle.run_law.specs.declared.note.NoteBody.TheVariants as kinds
 
@@ -187,7 +187,7 @@ module _ (s : Scenario) (hs coming : List Happening) (mark cursor : List ℕ) (n
       → 4 ≤ rank y.note.body
   high_rank {more} m within y i =
       by_kind y.note.body (all_late m within y i)
-      (Rattle.world_law.proofs.runs.SourcesBack.at_least y now 3 more (m.are.of_now y i) (m.after y i))
+      (Rattle.world_law.proofs.runs.Firsts.at_least y now 3 more (m.are.of_now y i) (m.after y i))
     where
       by_kind : (body : NoteBody) → IsLateKind body → 3 ≤ rank body → 4 ≤ rank body
       by_kind (kinds.Permanent device link cause point verdict) late le = absurd late

@@ -13,11 +13,11 @@ use Rattle.world_law.proofs.steps_lemmas.Words.{moves, natural, not, observation
 use Rattle.world_law.proofs.steps_lemmas.Words.{reading_for, refl, ripe_as, ripening, state_after, state_before, subst, sym, taken_in, task_place, time_of}
 use Rattle.compression.proofs.Times.{one_list_of_clusters}
 use Rattle.{std.proofs.Common.Contains, sync_state.specs.Standing.Standing, world_law.proofs.devices.Borne.tell_owned}
-use Rattle.world_law.proofs.steps_lemmas.{hearing.Quiet.frames_placed, ripening.Merely.own_skip}
+use Rattle.world_law.proofs.steps_lemmas.{hearing.Takings.frames_placed, ripening.Merely.own_skip}
 use Rattle.world_law.proofs.putting.{Bearing.{before_aside, changed_aside, earlier_aside, frames_aside, left_aside, still_aside}, Moving.{stays, worked_or_here}}
 use Rattle.world_law.proofs.steps_lemmas.{Words.{true, turned_aside, undone_alike, value_of, waiting_alike, ℕ}, ripening.Clustered.{old_or_open, open_later}}
 use Rattle.world_law.proofs.steps_lemmas.ripening.{Judged.{Hears, cleared_told}, JustTold.IsTold}
-use Rattle.world_law.proofs.steps_lemmas.ripening.{Coming.{all_late, late_mere, rest_ends}, Ripens.{IsRipe, in_time, not_beyond, ripe_more, sooner_of}}
+use Rattle.world_law.proofs.steps_lemmas.ripening.Ripens.{IsRipe, all_late, in_time, late_mere, not_beyond, rest_ends, ripe_more, sooner_of}
 use Rattle.world_law.proofs.steps_lemmas.ripening.Grown.{IsByRole, IsFirst, IsSame, is_grown, left_grown, points_by_role, points_not, same_by_role}
 use Rattle.run_law.specs.declared.note.NoteBody.TheVariants as kinds
 

@@ -1,7 +1,7 @@
 -- An event befalls before all else of its instant: each device then.
 use Rattle.world_law.proofs.devices.Working.{worked_by}
 use Rattle.world_law.proofs.devices.Working.{rested}
-use Rattle.world_law.proofs.{devices.Befalls.{is_turned_on, stands_still}, rows.Takings.{frames_alike, frames_end}}
+use Rattle.world_law.proofs.{devices.Befalls.{is_turned_on, stands_still}, rows.AtHand.{frames_alike, frames_end}}
 use Rattle.world_law.{proofs.devices.{Borne.other_comes, TurnedOn.fold_still}, specs.{steps.Steps.FitsWorld, world.{Outcomes.befallen_node, World.IsCalledBy}}}
 use Rattle.world_law.proofs.steps_lemmas.Words.{◌&&◌, ◌++◌, ◌+◌, ◌-ℤ◌, ◌<ℤ◌, ◌<◌, ◌==◌, ◌||◌, ◌∙◌, ◌∷◌, ◌≡◌, ◌≤ℤ◌, ◌≤◌, ◌⊎◌, Bool, ClockTask, Compressed}
 use Rattle.world_law.proofs.steps_lemmas.Words.{DeviceId, Event, Happening, HasDoneFrom, HasSentFrom, Integrating, IsBefore, IsDeedOf, IsEventBody, IsHeld}
