@@ -1,7 +1,8 @@
 -- A frame is given to links, one after the other.
-use Rattle.std.proofs.{Common.{◌+◌, ◌∙◌, ◌∷◌, ◌≡◌, List, ap, arith, get_or, inl, inr, subst, sym, ℕ}, lemmas.List.Sorted.IsPermutation-sym}
-use Rattle.std.{proofs.lemmas.Bool.{both_ways, cases_lt}, specs.{List.Sorted.IsPermutation, Prelude.false}}
-use Rattle.net_plan.{proofs.SameIds.link_is, specs.declared.{ids.{DeviceId.DeviceId, LinkId.LinkId}, network.Network.Network}}
+use Rattle.std.proofs.Common.{◌+◌, ◌<◌, ◌∷◌, ◌≡◌, ◌⊎◌, List, Option, ap, arith, get_or, inl, inr, length, refl, subst, sym, ℕ}
+use Rattle.std.proofs.lemmas.{Bool.{both_ways, cases_lt}, List.Sorted.IsPermutation-sym, Option.slice_get_read}
+use Rattle.std.specs.{List.Sorted.IsPermutation, Prelude.{◌↔◌, IsSomeAnd, false, true}}
+use Rattle.net_plan.{proofs.SameIds.link_is, specs.declared.{ids.{DeviceId.DeviceId, LinkId.LinkId}, network.Network.Network, tables.Link.Link}}
 use Rattle.run_law.specs.{control.Leaving.Gives, declared.note.NoteBody.NoteBody, records.Order.IsIn}
 use Rattle.world_state.{proofs.queue_lemmas.Bags.in_permuted, specs.{declared.{giving.{Ends.Ends, Giving.Giving}, queue.Entry.Entry}, queue.Places.numbers_of}}
 use Rattle.world_state.specs.{Giving.{ArePutTo, IsGivenBy, entry_at_port, place_at_port}, declared.contents.{Content.Content, WayState.WayState}}
@@ -12,6 +13,15 @@ pub nothing_put : (n : ℕ) (network : Network) (ups downs : List WayState) (bod
     → ((link : LinkId) → Gives network body giving.device link → ⊥) → ArePutTo n network ups downs body giving old old
 nothing_put n network ups downs body giving old none = grind arith
 
+-- which links it is given to, the link's two devices tell
+pub given_by_ends : (network : Network) (ends : Ends) (device : DeviceId) (i : ℕ) (link : Link) → i < length network.link → link ≡ get_or network.link i link
+    → IsGivenBy network ends device (record { 0 = i }) ↔ (((ends.up ≡ true) × (link.child ≡ device)) ⊎ ((ends.down ≡ true) × (link.parent ≡ device)))
+given_by_ends network ends device i link there is =
+    let Goes = λ (found : Option Link). (((ends.up ≡ true) × IsSomeAnd found (λ l. l.child ≡ device))
+    ⊎ ((ends.down ≡ true) × IsSomeAnd found (λ l. l.parent ≡ device)))
+    ↔ (((ends.up ≡ true) × (link.child ≡ device)) ⊎ ((ends.down ≡ true) × (link.parent ≡ device))) in
+    subst Goes (sym (slice_get_read network.link (length network.link) i link refl there is)) (λ x. x, λ x. x)
+
 -- one that is given to no link by its ends
 pub no_link : (network : Network) (ends : Ends) (device : DeviceId) (link : LinkId) → ends.up ≡ false → ends.down ≡ false
     → IsGivenBy network ends device link → ⊥
@@ -21,13 +31,14 @@ no_link network ends device link up down (inr own) = both_ways ends.down down ow
 module _ (network : Network) (ups downs : List WayState) (body : NoteBody) (giving : Giving) (i : ℕ) (old mid : List (Entry Content))
     (are : ArePutTo i network ups downs body giving old mid) where
   -- it is given to the link
-  pub more_put : (new : List (Entry Content)) (entry : Entry Content) → entry ≡ entry_at_port network ups downs giving (record { 0 = i })
-      → Gives network body giving.device (record { 0 = i }) → IsPermutation (entry ∷ mid) new → ArePutTo (i + 1) network ups downs body giving old new
-  more_put new entry is given same =
+  pub more_put : (new : List (Entry Content)) → Gives network body giving.device (record { 0 = i })
+      → IsPermutation (entry_at_port network ups downs giving (record { 0 = i }) ∷ mid) new → ArePutTo (i + 1) network ups downs body giving old new
+  more_put new given same =
+      let entry = entry_at_port network ups downs giving (record { 0 = i }) in
       record {
         real = λ e there.
             elim (in_permuted new (entry ∷ mid) e (IsPermutation-sym _ _ same) there) [
-              | inl own ↦ inr (record { 0 = i }, omega arith, given, own ∙ is)
+              | inl own ↦ inr (record { 0 = i }, omega arith, given, own)
               | inr rest ↦
                   elim (are.real e rest) [
                     | inl before ↦ inl before
@@ -40,7 +51,7 @@ module _ (network : Network) (ups downs : List WayState) (body : NoteBody) (givi
               | inl before ↦ in_permuted (entry ∷ mid) new _ same (inr (are.all link before gives))
               | inr here ↦
                   let own : link.0 ≡ i = omega (arith, lt, here) in
-                  in_permuted (entry ∷ mid) new _ same (inl (ap (entry_at_port network ups downs giving) (link_is link i own) ∙ sym is))
+                  in_permuted (entry ∷ mid) new _ same (inl (ap (entry_at_port network ups downs giving) (link_is link i own)))
             ];
       }
 

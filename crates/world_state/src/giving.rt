@@ -1,10 +1,10 @@
-ghost use Rattle.std.specs.Prelude.{◌+◌, ◌<◌, ◌^◌, ◌↔◌, ◌≡◌, ◌≤◌, All, IfNone, IfSome, IsTrue, OnOk};
-ghost use Rattle.std.specs.Prelude.{Some, false, length};
+ghost use Rattle.std.specs.Prelude.{◌+◌, ◌<◌, ◌^◌, ◌↔◌, ◌∷◌, ◌≡◌, ◌≤◌, ◌⊎◌, All, IfNone, IfSome, IsPermutation};
+ghost use Rattle.std.specs.Prelude.{IsTrue, OnOk, Some, false, length, true};
 ghost use Rattle.{net_plan.specs.{Ranges.IsInRange, Rules.IsChildOf}, tte_units.specs.Amount.amount};
 ghost use Rattle.{net_plan.specs.declared.ids.LinkId.{LinkId as LinkOf}, world_state.specs.Shelves.HasPlace};
 ghost use Rattle.run_law.specs.{control.Leaving.{Gives, Passes}, scenario.Devices.{IsParentOf, is_relay}};
 ghost use Rattle.world_state.specs.{Frames.{IsOneMore, room_of, waiter_of}, Sound.{AreBelow, AreUnderWay}};
-ghost use Rattle.world_state.specs.Giving.{ArePutTo, CameBy, IsGivenBy, IsYoung, awaited_by, place_at_port};
+ghost use Rattle.world_state.specs.Giving.{ArePutTo, CameBy, IsGivenBy, IsYoung, awaited_by, entry_at_port, place_at_port};
 
 use crate::OutOfMemory;
 use crate::contents::{Content, Spot, WayState};
@@ -12,7 +12,7 @@ use crate::frames::Frames;
 use crate::queue::{DueAt, UnderWay};
 use crate::shelves::Shelves;
 use crate::waiting::{awaited, wait_for};
-use net_plan::{DeviceId, LinkId, Network, Role};
+use net_plan::{DeviceId, Link, LinkId, Network, Role};
 use run_law::plain::{PlainBody, PlainKind, Rank};
 use tte_units::frames::Pcf;
 
@@ -99,11 +99,12 @@ fn gives_none(ends: Ends) -> bool
 }
 
 /// Is a frame that the device gives so given to the link?
-fn is_given(network: &Network, ends: Ends, device: DeviceId, link: LinkId) -> bool
-    requires link { link.0 < length network.now.link }
-    ensures { IsTrue result ↔ IsGivenBy network.now ends device link }
+#[inline(always)]
+fn is_given(link: &Link, ends: Ends, device: DeviceId) -> bool
+    ensures { IsTrue result ↔ (((ends.up ≡ true) × (link.now.child ≡ device))
+        ⊎ ((ends.down ≡ true) × (link.now.parent ≡ device))) }
 {
-    (is_child(network, device, link) && ends.up) || (is_above(network, device, link) && ends.down)
+    (link.child == device && ends.up) || (link.parent == device && ends.down)
 }
 
 /// A frame that a device gives to links: when, by which record, and what its clock reads.
@@ -160,6 +161,31 @@ fn content_of(giving: &Giving) -> Content
     Content::Port(giving.frame, giving.reading)
 }
 
+/// Puts the frame to the port of the link.
+#[inline(never)]
+fn put_port(
+    under_way: &mut UnderWay<Content>,
+    network: &Network,
+    ups: &[WayState],
+    downs: &[WayState],
+    giving: &Giving,
+    link: LinkId,
+)
+    requires link { link.0 < length network.now.link }
+    requires ups { length ups.now ≡ length network.now.link }
+    requires downs { length downs.now ≡ length network.now.link }
+    requires up_holds { All (λ w. w.hold < 2 ^ 62) ups.now }
+    requires down_holds { All (λ w. w.hold < 2 ^ 62) downs.now }
+    requires time { giving.now.time ≤ 2 ^ 60 }
+    requires room { 0 < under_way.old.room }
+    ensures entries { IsPermutation (entry_at_port network.now ups.now downs.now giving.now link
+        ∷ under_way.old.entries) under_way.new.entries }
+    ensures room { under_way.old.room ≤ under_way.new.room + 1 }
+{
+    let place = port_place(network, ups, downs, giving, link);
+    under_way.put(place, content_of(giving));
+}
+
 /// Puts the frame of a record to each port to which its device gives it.
 pub fn put_ports(
     under_way: &mut UnderWay<Content>,
@@ -188,11 +214,11 @@ pub fn put_ports(
     if gives_none(ends) {
         return;
     }
-    for index in 0..network.link.as_slice().len() {
-        let link = LinkId(index as u32);
-        if is_given(network, ends, giving.device, link) {
-            let place = port_place(network, ups, downs, giving, link);
-            under_way.put(place, content_of(giving));
+    let device = giving.device;
+    let links = network.link.as_slice();
+    for index in 0..links.len() {
+        if is_given(&links[index], ends, device) {
+            put_port(under_way, network, ups, downs, giving, LinkId(index as u32));
         }
     }
 }
