@@ -4,7 +4,7 @@ use Rattle.{net_plan.specs.{Ranges.{IsInRange, IsVlInRange}, declared.ids.VlId.V
 use Rattle.{net_plan.specs.declared.{network.Network.Network, tables.VirtualLink.VirtualLink}, world_state.specs.declared.contents.Timed.TheVariants.Made}
 use Rattle.{pcf_codec.{proofs.Numbers.read_behind, specs.EtherType.pcf_type}, std.{proofs.Common.{slice_get, sym, ℕ}, specs.Prelude.{Bool, if◌then◌else◌}}}
 use Rattle.{pcf_codec.specs.{Decoding.decoded, Fields.field}, std.{proofs.lemmas.Bool.ne_eqb, specs.Option.option_map_or}, world_state.specs.Views.octets_of}
-use Rattle.std.proofs.Common.{◌-◌, ◌<◌, ◌==◌, ◌^◌, ◌∙◌, ◌≡◌, List, None, Option, Some, ap, append_assoc, arith, false, length, length-append, refl, replicate}
+use Rattle.std.proofs.Common.{◌<◌, ◌==◌, ◌^◌, ◌∙◌, ◌≡◌, List, None, Option, Some, ap, append_assoc, arith, false, length, length-append, refl, replicate}
 
 -- of a virtual link of the network it is the frame of the law
 pub made_octets : (network : Network) (vl : VlId) (cycle : ℕ) → vl.0 < length network.vl → octets_of network (Made vl cycle) ≡ tt_frame network vl cycle

@@ -1,4 +1,4 @@
-use Rattle.std.proofs.Common.{◌%◌, ◌/◌, ◌<◌, ◌^◌, ◌∙◌, ◌≡◌, List, Some, ap, arith, length, map, sym, ℕ}
+use Rattle.std.proofs.Common.{◌%◌, ◌/◌, ◌<◌, ◌^◌, ◌∙◌, ◌≡◌, List, Some, ap, arith, length, sym, ℕ}
 use Rattle.std.proofs.{Common.slice_get, lemmas.List.length-map}
 use Rattle.world_state.{proofs.SlotOrder.timer_at, specs.{declared.timers.Timer.Timer, timers.SlotKeys.timer_of}}
 use Rattle.world_state.proofs.timers.Timers.get.Goals as goal
