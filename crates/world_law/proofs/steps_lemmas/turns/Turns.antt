@@ -1,5 +1,5 @@
 -- The turn of a source, where the world stands behind it with its records to come: what stands there is given.
-use Rattle.world_law.proofs.steps_lemmas.Words.{◌++◌, ◌+◌, ◌∙◌, ◌∷◌, ◌≡◌, ◌≤◌, ◌⊎◌, ArePutIn, DeviceId, Happening, IsBefore, IsIn}
+use Rattle.world_law.proofs.steps_lemmas.Words.{◌++◌, ◌+◌, ◌<◌, ◌∙◌, ◌∷◌, ◌≡◌, ◌≤◌, ◌⊎◌, ArePutIn, DeviceId, Happening, IsBefore, IsIn}
 use Rattle.world_law.proofs.steps_lemmas.Words.{List, Network, NoneBefore, Node, Note, NoteBody, Scenario, Stands, StandsBehind, World, [], ap, append-nil, arith}
 use Rattle.world_law.proofs.steps_lemmas.Words.{before_behind, behind, cases_Bool, chain, false, happenings, in_left, in_parts, in_right, inl, inr, is_at_source}
 use Rattle.world_law.proofs.steps_lemmas.Words.{never_self, place_of, rank, refl, second, settled_as, subst, sym, true, ℕ}
@@ -144,29 +144,65 @@ late_apart z now r more kind late at =
       ]
     ]
 
+-- the records of a source: the first stands where the source does, and the others behind it, or all come later
+pub data AreThere (network : Network) (hs : List Happening) (now : ℕ) (at : List ℕ) : List NoteBody → Type 0 where
+  first : (body : NoteBody) (others : List NoteBody) → is_at_source body ≡ true
+      → place_of (settled_as network hs now body) ≡ at
+      → ((other : NoteBody) → IsIn other others → IsBefore at (place_of (settled_as network hs now other)))
+      → AreThere network hs now at (body ∷ others)
+  later : (bodies : List NoteBody) → ((body : NoteBody) → IsIn body bodies → is_at_source body ≡ false)
+      → AreThere network hs now at bodies
+
+-- a record that is the only one
+pub one_there : {network : Network} {hs : List Happening} {now : ℕ} {at : List ℕ} (body : NoteBody)
+    → is_at_source body ≡ true → place_of (settled_as network hs now body) ≡ at → AreThere network hs now at (body ∷ [])
+one_there body own place = AreThere.first body [] own place (λ other i. absurd i)
+
+pub one_later : {network : Network} {hs : List Happening} {now : ℕ} {at : List ℕ} (body : NoteBody)
+    → is_at_source body ≡ false → AreThere network hs now at (body ∷ [])
+one_later body late = AreThere.later (body ∷ []) (λ other i. elim i [
+  | inl e ↦ ap is_at_source e ∙ late
+  | inr none ↦ absurd none
+])
+
+-- two, of which the second stands behind the first
+pub two_there : {network : Network} {hs : List Happening} {now r : ℕ} {more : List ℕ} (body change : NoteBody)
+    → is_at_source body ≡ true → place_of (settled_as network hs now body) ≡ now ∷ r ∷ more → r < rank change
+    → AreThere network hs now (now ∷ r ∷ more) (body ∷ change ∷ [])
+two_there {r} body change own place less = AreThere.first body (change ∷ []) own place (λ other i. elim i [
+  | inl e ↦ inr (refl, inl (subst (λ b. r < rank b) (sym e) less))
+  | inr none ↦ absurd none
+])
+
+module _ {network : Network} {hs : List Happening} {now : ℕ} {at : List ℕ} where
+  there_of : (body : NoteBody) (others : List NoteBody) → is_at_source body ≡ true
+      → AreThere network hs now at (body ∷ others) → (place_of (settled_as network hs now body) ≡ at)
+      × ((other : NoteBody) → IsIn other others → IsBefore at (place_of (settled_as network hs now other)))
+  there_of body others is (AreThere.first x more own place behind_it) = (place, behind_it)
+  there_of body others is (AreThere.later bodies late) =
+      absurd (let bad : false ≡ true = sym (late body (inl refl)) ∙ is in cc)
+
+  late_of : (bodies : List NoteBody) → starts_there bodies ≡ false → AreThere network hs now at bodies
+      → (body : NoteBody) → IsIn body bodies → is_at_source body ≡ false
+  late_of bodies none (AreThere.first x more own place behind_it) body i =
+      absurd (let bad : false ≡ true = sym none ∙ own in cc)
+  late_of bodies none (AreThere.later all late) body i = late body i
+
 -- where the world with the records to come stands behind the source, it stands there with those that stand at it given
 pub turn_by : {C M : Type 0} {reading : C → ℕ → ℕ} {stands : M → Network → DeviceId → Node → Type 0} {s : Scenario}
-    {world : World C M}
-    {notes : List Note} {p : List ℕ} → StandsAt reading stands s world notes p
-    → (r : ℕ) (more_place : List ℕ) → IsTurnRank r
-    → (bodies : List NoteBody) (mid new : World C M) (more : List Note) → mid.settled ≡ world.settled
-    → NoneBefore place_of world.settled (world.now ∷ r ∷ more_place)
-    → ((body : NoteBody) (others : List NoteBody) → bodies ≡ body ∷ others → is_at_source body ≡ true
-    → (place_of (settled_as s.network (happenings s.network notes) mid.now body) ≡ world.now ∷ r ∷ more_place)
-    × ((other : NoteBody) → IsIn other others
-    → IsBefore (world.now ∷ r ∷ more_place)
-    (place_of (settled_as s.network (happenings s.network notes) mid.now other))))
-    → (starts_there bodies ≡ false → (body : NoteBody) → IsIn body bodies → is_at_source body ≡ false)
+    {world : World C M} {notes : List Note} {p : List ℕ} → StandsAt reading stands s world notes p
+    → (r : ℕ) (rest : List ℕ) {at : List ℕ} → at ≡ world.now ∷ r ∷ rest → IsTurnRank r
+    → {bodies : List NoteBody} (mid : World C M) {new : World C M} {more : List Note} → mid.settled ≡ world.settled
+    → NoneBefore place_of world.settled at → AreThere s.network (happenings s.network notes) mid.now at bodies
     → ((settled : List Happening) → ArePutIn s.network (happenings s.network notes) mid.now bodies world.settled settled
-    → StandsBehind reading stands s (record mid { settled = settled }) notes (behind (world.now ∷ r ∷ more_place)))
-    → IsTurn s notes bodies mid new more → StandsAt reading stands s new (notes ++ more)
-    (behind (world.now ∷ r ∷ more_place))
-turn_by {C} {M} {reading} {stands} {s} {world} {notes} {p} old r rest kind bodies mid new more same none at late step
+    → StandsBehind reading stands s (record mid { settled = settled }) notes (behind at))
+    → IsTurn s notes bodies mid new more → StandsAt reading stands s new (notes ++ more) (behind at)
+turn_by {reading} {stands} {s} {world} {notes} old r rest {at} stood kind mid {new} {more} same none there step
     (IsTurn.gives body others is own g) =
     let hs = happenings s.network notes in
-    let here = world.now ∷ r ∷ rest in
     let z = settled_as s.network hs mid.now body in
-    let place = (at body others is own).0 in
+    let it = there_of body others own (subst (λ l. AreThere s.network hs mid.now at l) is there) in
+    let place = it.0 in
     let put : ArePutIn s.network hs mid.now (body ∷ others) world.settled (z ∷ new.settled) = (
       z ∷ world.settled,
       record {
@@ -179,7 +215,7 @@ turn_by {C} {M} {reading} {stands} {s} {world} {notes} {p} old r rest kind bodie
       },
       put_behind s.network hs mid.now others z world.settled new.settled
           (λ other i. subst (λ q. IsBefore q (place_of (settled_as s.network hs mid.now other))) (sym place)
-          ((at body others is own).1 other i))
+          (it.1 other i))
           (subst (λ l. ArePutIn s.network hs mid.now others l new.settled) same g.put),
     ) in
     let behind_it = step (z ∷ new.settled) (subst (λ l. ArePutIn s.network hs mid.now l world.settled (z ∷ new.settled))
@@ -188,9 +224,9 @@ turn_by {C} {M} {reading} {stands} {s} {world} {notes} {p} old r rest kind bodie
     new.ports new.waiting new.stored
     behind_it.0 refl
     (λ w source waits b. waits (subst (λ q. IsBefore w q) (sym behind_it.1)
-    (chain w here (behind here) (subst (λ q. IsBefore w q) place b) (before_behind here))))
+    (chain w at (behind at) (subst (λ q. IsBefore w q) place b) (before_behind at))))
     g.wires g.ports g.waiting g.stored in
-    let after : World C M = record mid {
+    let after : World _ _ = record mid {
       wires = new.wires;
       ports = new.ports;
       waiting = new.waiting;
@@ -198,53 +234,32 @@ turn_by {C} {M} {reading} {stands} {s} {world} {notes} {p} old r rest kind bodie
       settled = new.settled;
       given = mid.given + 1;
     } in
-    subst (λ (x : World C M). StandsAt reading stands s x (notes ++ more) (behind here)) (sym g.same)
-    (subst (λ (l : List Note). StandsAt reading stands s after (notes ++ l) (behind here)) (sym g.note)
+    subst (λ (x : World _ _). StandsAt reading stands s x (notes ++ more) (behind at)) (sym g.same)
+    (subst (λ (l : List Note). StandsAt reading stands s after (notes ++ l) (behind at)) (sym g.note)
     (subst (λ q. StandsAt reading stands s after (notes ++ next_note notes mid.now body ∷ []) (behind q)) place then_))
-turn_by {C} {M} {reading} {stands} {s} {world} {notes} {p} old r rest kind bodies mid new more same none at late step
+turn_by {reading} {stands} {s} {world} {notes} old r rest {at} stood kind {bodies} mid {new} {more} same none there step
     (IsTurn.puts not_there g) =
     let hs = happenings s.network notes in
-    let here = world.now ∷ r ∷ rest in
-    let behind_it = step new.settled (subst (λ l. ArePutIn s.network hs mid.now bodies l new.settled) same g.put) in
+    let put = subst (λ l. ArePutIn s.network hs mid.now bodies l new.settled) same g.put in
+    let behind_it = step new.settled put in
     let st = behind_it.0 in
     let off : (z : Happening) → IsIn z new.settled → is_at_source z.note.body ≡ false = λ z i.
-    elim (put_is s.network hs mid.now bodies world.settled new.settled
-    (subst (λ l. ArePutIn s.network hs mid.now bodies l new.settled) same g.put) z i) [
+    elim (put_is s.network hs mid.now bodies world.settled new.settled put z i) [
       | inl was ↦ late_at old z was
-      | inr it ↦ ap (λ (h : Happening). is_at_source h.note.body) it.2 ∙ late not_there it.0 it.1
+      | inr it ↦ ap (λ (h : Happening). is_at_source h.note.body) it.2 ∙ late_of bodies not_there there it.0 it.1
     ] in
     let ahead : (z : Happening) → IsIn z new.settled → IsBefore (place_of z) st.cursor → ⊥ = λ z i b.
-    elim (up_to_place (place_of z) here (subst (λ q. IsBefore (place_of z) q) behind_it.1 b)) [
-      | inl e ↦ late_apart z world.now r rest kind (off z i) e
+    elim (up_to_place (place_of z) at (subst (λ q. IsBefore (place_of z) q) behind_it.1 b)) [
+      | inl e ↦ late_apart z world.now r rest kind (off z i) (e ∙ stood)
       | inr lt ↦
-          elim (up_to_place here (place_of z)
-          (st.are.not_past z i here (subst (λ q. IsBefore here q) (sym behind_it.1) (before_behind here)))) [
-            | inl e ↦ never_self here (subst (λ q. IsBefore q here) (sym e) lt)
-            | inr gt ↦ never_self here (chain here (place_of z) here gt lt)
+          elim (up_to_place at (place_of z)
+          (st.are.not_past z i at (subst (λ q. IsBefore at q) (sym behind_it.1) (before_behind at)))) [
+            | inl e ↦ never_self at (subst (λ q. IsBefore q at) (sym e) lt)
+            | inr gt ↦ never_self at (chain at (place_of z) at gt lt)
           ]
     ] in
-    let up = raised st ahead in
-    subst (λ (x : World C M). StandsAt reading stands s x (notes ++ more) (behind here)) (sym g.same)
-    (subst (λ (l : List Note). StandsAt reading stands s (record mid { settled = new.settled }) (notes ++ l)
-    (behind here)) (sym g.none)
-    (subst (λ (l : List Note). StandsAt reading stands s (record mid { settled = new.settled }) l (behind here))
-    (sym (append-nil notes))
-    (subst (λ q. StandsAt reading stands s (record mid { settled = new.settled }) notes q) behind_it.1 up)))
-
--- ---- of one record
-
--- a list of one
-pub one_of : (P : NoteBody → Type 0) (body : NoteBody) (b : NoteBody) (others : List NoteBody)
-    → body ∷ [] ≡ b ∷ others → P body
-    → P b × ((other : NoteBody) → IsIn other others → ⊥)
-one_of P body b others is it =
-    let same : body ≡ b = cc in
-    let none : [] ≡ others = cc in
-    (subst P same it, λ other i. subst (λ l. IsIn other l) (sym none) i)
-
-pub few_late : (bodies : List NoteBody) → ((b : NoteBody) (others : List NoteBody) → bodies ≡ b ∷ others → others ≡ [])
-    → starts_there bodies ≡ false
-    → (body : NoteBody) → IsIn body bodies → is_at_source body ≡ false
-few_late [] few late body i = absurd i
-few_late (x ∷ xs) few late body (inl e) = ap is_at_source e ∙ late
-few_late (x ∷ xs) few late body (inr more) = absurd (subst (λ l. IsIn body l) (few x xs refl) more)
+    let then_ = record mid { settled = new.settled } in
+    subst (λ (x : World _ _). StandsAt reading stands s x (notes ++ more) (behind at)) (sym g.same)
+    (subst (λ (l : List Note). StandsAt reading stands s then_ l (behind at))
+    (sym (ap (λ (l : List Note). notes ++ l) g.none ∙ append-nil notes))
+    (subst (λ q. StandsAt reading stands s then_ notes q) behind_it.1 (raised st ahead)))
