@@ -1,8 +1,9 @@
 -- An event leaves all devices as they were but one.
 use Rattle.{drift_world.{proofs.Timings.still_timed, specs.declared.state.State.State}, world_state.specs.Applying.{IsElsewhere, device_in}}
-use Rattle.drift_world.proofs.Words.{◌+◌, ◌<◌, ◌==◌, ◌↔◌, ◌∙◌, ◌∷◌, ◌≡◌, AreTimed, Bool, DeviceId, IfSome, IsIn, IsTimed, List, Network, Node, None}
-use Rattle.drift_world.proofs.Words.{Option, Some, Units, Waits, What, [], amount, ap, arith, breaks_at, cases_eq, clock_after, eqb-true, false}
-use Rattle.drift_world.proofs.Words.{false_from_ne_true, filter, if◌then◌else◌, in_filter, inl, inr, length, not, option_map_or, refl, subst, sym, true, ℕ, ℤ}
+use Rattle.drift_world.proofs.Words.{◌+◌, ◌<◌, ◌==◌, ◌↔◌, ◌∙◌, ◌∷◌, ◌≡◌, ◌⊎◌, AreTimed, Bool, DeviceId, IfSome, IsIn, IsOfNetwork, IsSomeAnd, IsTimed}
+use Rattle.drift_world.proofs.Words.{List, Network, Node, None, Option, Some, Units, Waits, What, [], amount, ap, arith, breaks_at, cases_eq, clock_after}
+use Rattle.drift_world.proofs.Words.{eqb-true, false, false_from_ne_true, filter, if◌then◌else◌, in_filter, inl, inr, length, not, option_map_or, refl}
+use Rattle.drift_world.{proofs.Words.{same_Some, subst, sym, true, ℕ, ℤ}, specs.Stepping.{IsSlotBy, SetsOnly}}
 use Rattle.std.proofs.Common.{◌≢◌, slice_get}
 use Rattle.world_state.specs.{declared.timers.Timer.Timer, timers.Times.AreFrom}
 use Rattle.net_plan.specs.declared.event.What.TheVariants as events
@@ -39,6 +40,28 @@ waits_elsewhere old new device what is away w at = grind (arith, not, breaks_at,
 
 -- ---- the timers
 
+-- the device that an event changes is one of the network
+pub its_device : (network : Network) (what : What) (device : DeviceId) → IsOfNetwork network what → device_in what ≡ Some device
+    → device.0 < length network.device
+its_device network (events.Rate d rate) device of is = subst (λ (x : DeviceId). x.0 < length network.device) (same_Some _ _ is) of
+its_device network (events.On d) device of is = subst (λ (x : DeviceId). x.0 < length network.device) (same_Some _ _ is) of
+its_device network (events.Break d) device of is = subst (λ (x : DeviceId). x.0 < length network.device) (same_Some _ _ is) of
+its_device network other device of is = absurd cc
+
+-- the timers of another device are not among its
+module _ (devices : ℕ) (device : DeviceId) (there : device.0 < devices) where
+  not_ripe : (o : Option DeviceId) → IfSome o (λ d. d.0 ≢ device.0)
+      → IsSomeAnd o (λ d. (device.0 ≡ d.0) ⊎ (device.0 ≡ devices + d.0)) → ⊥
+  not_ripe None away is = is
+  not_ripe (Some d) away (inl e) = away (sym e)
+  not_ripe (Some d) away (inr e) = omega (arith, e, there)
+
+  not_act : (o : Option DeviceId) → ((d : DeviceId) → o ≡ Some d → d.0 < devices) → IfSome o (λ d. d.0 ≢ device.0)
+      → IsSomeAnd o (λ d. (devices + device.0 ≡ d.0) ⊎ (devices + device.0 ≡ devices + d.0)) → ⊥
+  not_act None within away is = is
+  not_act (Some d) within away (inl e) = let lt = within d refl in omega (arith, e, lt)
+  not_act (Some d) within away (inr e) = away (omega (arith, e))
+
 -- the timers are right, where those of the device that the event changes are set
 pub timed_by_event : {C M : Type 0} {reading : C → ℕ → ℕ} {stands : M → Network → DeviceId → Node → Type 0}
     {network : Network} {old : State C M} (mid new : State C M) (what : What) → AreTimed reading stands network old
@@ -46,32 +69,30 @@ pub timed_by_event : {C M : Type 0} {reading : C → ℕ → ℕ} {stands : M �
     → (slice_get mid.clocks.items device.0 ≡ slice_get old.clocks.items device.0)
     × (slice_get mid.machines.items device.0 ≡ slice_get old.machines.items device.0)
     × ((w : Waits) → w.device.0 ≡ device.0 → IsIn w mid.waiting.items ↔ IsIn w old.waiting.items))
-    → mid.timers ≡ old.timers → mid.time ≡ old.time → new ≡ record mid { timers = new.timers }
+    → mid.timers ≡ old.timers → mid.time ≡ old.time → IsOfNetwork network what → SetsOnly (IsSlotBy network what) mid new
     → ((device : DeviceId) → device_in what ≡ Some device → IsTimed reading stands network new.timers new device)
-    → length new.timers ≡ length mid.timers → ((device : DeviceId) → device.0 < length network.device
-    → IsElsewhere what device → (slice_get new.timers device.0 ≡ slice_get mid.timers device.0)
-    × (slice_get new.timers (length network.device + device.0)
-    ≡ slice_get mid.timers (length network.device + device.0)))
-    → (AreFrom mid.time mid.timers → AreFrom new.time new.timers) → AreTimed reading stands network new
-timed_by_event {C} {M} {reading} {stands} {network} {old} mid new what are away timers time same own sized others
-    later = record {
-      sized = sized ∙ ap length timers ∙ are.sized;
-      each = λ device there. each device there (device_in what) refl;
-      later = later (subst (λ n. AreFrom n mid.timers) (sym time)
-          (subst (λ l. AreFrom old.time l) (sym timers) are.later));
-    }
+    → AreTimed reading stands network new
+timed_by_event {C} {M} {reading} {stands} {network} {old} mid new what are away timers time of_network sets own = record {
+  sized = sets.sized ∙ ap length timers ∙ are.sized;
+  each = λ device there. each device there (device_in what) refl;
+  later = sets.later (subst (λ n. AreFrom n mid.timers) (sym time)
+      (subst (λ l. AreFrom old.time l) (sym timers) are.later));
+}
   where
     still : (device : DeviceId) → device.0 < length network.device → IsElsewhere what device → IsTimed reading stands network new.timers new device
     still device there else_where =
         let is = away device there else_where in
-        let kept = others device there else_where in
+        let same = sets.same in
         still_timed new (are.each device there)
         (ap (λ (s : State C M). slice_get s.clocks.items device.0) same ∙ is.0)
         (ap (λ (s : State C M). slice_get s.machines.items device.0) same ∙ is.1)
         (λ w at. subst (λ (s : State C M). IsIn w s.waiting.items ↔ IsIn w old.waiting.items) (sym same) (is.2 w at))
         (let now = ap (λ (s : State C M). s.time) same in omega (arith, now, time))
-        (kept.0 ∙ ap (λ (l : List Timer). slice_get l device.0) timers)
-        (kept.1 ∙ ap (λ (l : List Timer). slice_get l (length network.device + device.0)) timers)
+        (sets.others device.0 (not_ripe (length network.device) device there (device_in what) else_where)
+        ∙ ap (λ (l : List Timer). slice_get l device.0) timers)
+        (sets.others (length network.device + device.0)
+        (not_act (length network.device) device there (device_in what) (λ d is. its_device network what d of_network is) else_where)
+        ∙ ap (λ (l : List Timer). slice_get l (length network.device + device.0)) timers)
 
     each : (device : DeviceId) → device.0 < length network.device → (o : Option DeviceId) → device_in what ≡ o
         → IsTimed reading stands network new.timers new device

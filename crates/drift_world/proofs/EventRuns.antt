@@ -1,7 +1,8 @@
 -- Where only events of the present instant are worked off, the records given are the run behind them.
 use Rattle.drift_world.proofs.Words.{◌+◌, ◌<◌, ◌∷◌, ◌≡◌, ◌≤◌, AreSettled, DeviceId, Happening, IsBefore, IsDue, IsIn, IsScenarioRun, List, Network, Node, Note}
 use Rattle.drift_world.proofs.Words.{Scenario, Stands, World, [], amount, ap, append-nil, arith, chain, happenings, inl, inr, never_self, place_of, refl, subst}
-use Rattle.{drift_world.proofs.Words.{sym, true, ℕ}, world_law.specs.world.World.{IsDueAs, IsWorkedOff}}
+use Rattle.drift_world.{proofs.Words.{keeps, reading_of, scenario, sym, true, ℕ, ℤ}, specs.Running.RunsBehindEvents}
+use Rattle.world_law.specs.world.World.{IsDueAs, IsWorkedOff}
 use Rattle.world_law.proofs.runs.{Next.none_due, Sourced.sourced, TaskPlaces.placed_so}
 use Rattle.{net_plan.specs.declared.event.Event.Event, world_law.{proofs.runs.Firsts.source_before, specs.source.{Next.NoneDueBefore, Sources.IsSource}}}
 use Rattle.run_law.proofs.runs.Grow.{move_mark}
@@ -72,3 +73,9 @@ module _ {C M : Type 0} (reading : C → ℕ → ℕ) (stands : M → Network �
       move_mark place_of (IsDue s) old.mark (world.now ∷ 2 ∷ []) hs old.run
       (λ n i. old.early early (place_of n) (old.ahead (place_of n) (old.run.within n i)))
       (none_due place_of (IsDue s) old.mark hs (world.now ∷ 2 ∷ []) old.run.within nothing)
+
+-- so of a world that stands for events and records
+pub runs_behind_events : {C M : Type 0} (fresh : ℕ → C) (after_step : C → ℕ → ℤ → C) (reading : C → ℕ → ℕ)
+    (stands : M → Network → DeviceId → Node → Type 0) → RunsBehindEvents fresh after_step reading stands
+runs_behind_events fresh after_step reading stands network world events notes under early =
+    run_behind_events reading (keeps stands) (scenario network (reading_of fresh after_step reading network events) events) world notes under.is early

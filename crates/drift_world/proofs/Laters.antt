@@ -1,8 +1,8 @@
 -- An event of a later time befalls a world, where no record before it is left.
-use Rattle.drift_world.proofs.Words.{◌*◌, ◌++◌, ◌<ℤ◌, ◌^◌, ◌∙◌, ◌∷◌, ◌≡◌, ◌≤ℤ◌, ◌≤◌, DeviceId, IfNone, IfSome, IsBefore, IsInRange, IsScenarioRun}
-use Rattle.drift_world.proofs.Words.{IsWithinHypothesis, Kept, List, Network, Node, None, Note, Option, Scenario, Some, StandsUnder, Units, World, [], amount}
+use Rattle.drift_world.proofs.Words.{◌*◌, ◌++◌, ◌<ℤ◌, ◌^◌, ◌∙◌, ◌∷◌, ◌≡◌, ◌≤ℤ◌, ◌≤◌, ComesUpTo, DeviceId, IsBefore, IsInRange, IsScenarioRun}
+use Rattle.drift_world.proofs.Words.{IsWithinHypothesis, Kept, List, Network, Node, None, Note, Ok, Option, OutOfMemory, Scenario, Some, StandsUnder, Units, World, [], amount}
 use Rattle.drift_world.proofs.Words.{ap, append-nil, arith, cases_lt, false_from_ne_true, happening, happenings, inl, inr, ints, never_self, place_of, pos}
-use Rattle.drift_world.{proofs.Words.{refl, subst, sym, units_of, unsigned_abs, ℕ, ℤ}, specs.Later.{ComesBehind, IsOpenFrom, MayApplyAgain}}
+use Rattle.drift_world.{proofs.Words.{refl, subst, sym, units_of, ℕ, ℤ}, specs.Later.{ComesBehind, IsOpenFrom, MayApplyAgain}}
 use Rattle.{drift_world.specs.Running.{HasReached, IsOpenTo, Reaches}, tte_units.proofs.general_lemmas.Integers.{whole as whole_time}}
 use Rattle.{net_plan.specs.declared.event.Event.Event, run_law.{proofs.runs.NetworkRuns.one_more, specs.declared.outside.Outside.TheVariants.Late}}
 use Rattle.std.{proofs.{Common.negsuc, lemmas.Bool.true≢false}, specs.Prelude.option_to_list}
@@ -47,7 +47,6 @@ pub record IsThere {C M : Type 0} (fresh : ℕ → C) (after_step : C → ℕ �
   pub same : mid.network ≡ old.network
   pub lines : mid.lines ≡ old.lines
   pub given : mid.given ≡ old.given
-  pub now : mid.now ≡ amount event.time
   pub again : MayApplyAgain old mid event.time
 
 module _ {C M : Type 0} (fresh : ℕ → C) (after_step : C → ℕ → ℤ → C) (reading : C → ℕ → ℕ)
@@ -59,8 +58,8 @@ module _ {C M : Type 0} (fresh : ℕ → C) (after_step : C → ℕ → ℤ → 
 
   -- so none was given
   none_due : (o : Option Note) → StandsUnder fresh after_step reading stands network mid events (notes ++ option_to_list o)
-      → IfSome o (λ note. (note.time ≡ units_of mid.now) × (note.time.0 <ℤ event.time.0)) → o ≡ None
-  none_due None more before = refl
+      → ComesUpTo {E = OutOfMemory} old mid event.time (Ok o) → o ≡ None
+  none_due None more reaches = refl
   none_due (Some note) more before =
       let lt = before.1 in
       let time = time_is in
@@ -74,18 +73,17 @@ module _ {C M : Type 0} (fresh : ℕ → C) (after_step : C → ℕ → ℤ → 
       ]
 
   module _ (o : Option Note) (more : StandsUnder fresh after_step reading stands network mid events (notes ++ option_to_list o))
-      (before : IfSome o (λ note. (note.time ≡ units_of mid.now) × (note.time.0 <ℤ event.time.0)))
-      (reached : IfNone o (Reaches old mid event.time)) where
+      (reached : ComesUpTo {E = OutOfMemory} old mid event.time (Ok o)) where
     -- the same events and records leave the world there
     stands_there : StandsUnder fresh after_step reading stands network mid events notes
     stands_there = subst (λ l. StandsUnder fresh after_step reading stands network mid events l)
-        (ap (λ (p : Option Note). notes ++ option_to_list p) (none_due o more before) ∙ append-nil notes) more
+        (ap (λ (p : Option Note). notes ++ option_to_list p) (none_due o more reached) ∙ append-nil notes) more
 
     -- the world has come to the time of the event
     has_reached : HasReached old mid event.time
     has_reached =
-        let R : Option Note → Type 0 = λ p. IfNone p (Reaches old mid event.time) in
-        let reaches : Reaches old mid event.time = subst R (none_due o more before) reached in
+        let R : Option Note → Type 0 = λ p. ComesUpTo {E = OutOfMemory} old mid event.time (Ok p) in
+        let reaches : Reaches old mid event.time = subst R (none_due o more reached) reached in
         reaches opens.unended opens.time (time_limit events event comes.is.is.range comes.within)
 
     -- the event may befall it
@@ -117,10 +115,6 @@ module _ {C M : Type 0} (fresh : ℕ → C) (after_step : C → ℕ → ℤ → 
     later_there : old.now ≤ mid.now
     later_there = let there = has_reached in let now = there.time in let not_past = opens.time in omega (arith, ints, now, not_past)
 
-    -- its time is that of the event
-    now_there : mid.now ≡ amount event.time
-    now_there = let there = has_reached in ap unsigned_abs there.time
-
     -- memory ran out there
     again_there : MayApplyAgain old mid event.time
     again_there =
@@ -144,6 +138,5 @@ module _ {C M : Type 0} (fresh : ℕ → C) (after_step : C → ℕ → ℤ → 
       same = network_there;
       lines = lines_there;
       given = given_there;
-      now = now_there;
       again = again_there;
     }

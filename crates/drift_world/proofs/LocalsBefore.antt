@@ -1,6 +1,6 @@
 -- The local clock of a device before the records of the present time, as a world shows it, is that of the records.
 use Rattle.drift_world.proofs.{Locals.no_first, Words.{is_broken, keeps, length, local_shown, never_self, refl, subst, sym, true, world_of, ℕ, ℤ}}
-use Rattle.drift_world.proofs.Words.{◌++◌, ◌<◌, ◌∙◌, ◌∷◌, ◌≡◌, Bool, DeviceId, DeviceState, Happening, IsBefore, IsHeld, IsIn, IsLocalClockBefore, Kept, List}
+use Rattle.drift_world.proofs.Words.{◌++◌, ◌<◌, ◌∙◌, ◌∷◌, ◌≡◌, Bool, DeviceId, DeviceState, Happening, IsBefore, IsHeld, IsIn, IsLocalClockBefore, List}
 use Rattle.drift_world.proofs.Words.{Network, Node, Note, Option, Scenario, Shows, Stands, Units, World, [], ap, append-nil, arith, false, happenings, inl, inr}
 use Rattle.{drift_world.specs.declared.state.State.State, run_law.specs.device.States.{adjustment_before, state_before}}
 use Rattle.world_law.{proofs.giving.GivenParts.some_same, specs.world.World.IsKept}

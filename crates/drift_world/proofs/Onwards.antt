@@ -1,10 +1,10 @@
 -- A world goes on by an event.
-use Rattle.drift_world.{proofs.{Agreements.{clock_more, reads_same, reads_value}, EventRuns.run_behind_events}, specs.Running.{HoldsATime, IsOpenTo, clock_of}}
+use Rattle.drift_world.{proofs.Agreements.{clock_more, reads_same, reads_value}, specs.Running.{HoldsATime, IsOpenTo, clock_of}}
 use Rattle.{drift_world.{proofs.{Forwards.forward, Steadiness.steady, Suits.suits}, specs.Following.Follows}, std.proofs.lemmas.List.Elements.All-push}
-use Rattle.drift_world.proofs.Words.{◌++◌, ◌<◌, ◌∙◌, ◌∷◌, ◌≡◌, ◌≤ℤ◌, ◌≤◌, DeviceId, Err, FitsWorld, IfOk, IsIn, IsLawful, IsOfNetwork, IsRunOf}
+use Rattle.drift_world.proofs.Words.{◌++◌, ◌<◌, ◌∙◌, ◌∷◌, ◌≡◌, ◌≤ℤ◌, ◌≤◌, DeviceId, Err, FitsWorld, IfOk, IsIn, IsLawful, IsOfNetwork}
 use Rattle.drift_world.proofs.Words.{IsWithinHypothesis, Kept, List, Network, Node, Note, Ok, OnOk, OutOfMemory, Result, Some, Stands, StandsUnder, World, []}
-use Rattle.drift_world.proofs.Words.{amount, ap, arith, begins_at_zero, behind_events, clock_after, happenings, in_get, in_parts, inl, inr, ints, keeps, keeps_clock_laws}
-use Rattle.drift_world.proofs.Words.{length, one, pos, reading_of, refl, scenario, slice_get_within, subst, sym, true, unsigned_abs, world_of, ℕ, ℤ}
+use Rattle.drift_world.proofs.Words.{amount, ap, arith, begins_at_zero, clock_after, happenings, in_get, in_parts, inl, inr, ints, keeps, keeps_clock_laws}
+use Rattle.drift_world.proofs.Words.{length, one, pos, reading_of, refl, scenario, slice_get_within, subst, sym, unsigned_abs, world_of, ℕ, ℤ}
 use Rattle.{drift_world.specs.declared.state.State.State, world_law.specs.source.Applying.note_of_event}
 use Rattle.{net_plan.specs.declared.event.Event.Event, run_law.{proofs.scenario.Devices.all_within, specs.law.FirstLaws.IsEventInRange}}
 use Rattle.std.proofs.Common.{slice_get}
@@ -82,9 +82,8 @@ more_ok P Q K (Err e) step known it = it
 
 module _ {C M E : Type 0} (fresh : ℕ → C) (after_step : C → ℕ → ℤ → C) (reading : C → ℕ → ℕ) (grain : C → ℕ) (count : C → ℕ → ℕ)
     (law : IsLawful fresh after_step reading grain count) (stands : M → Network → DeviceId → Node → Type 0) (network : Network) (state new : State C M)
-    (event : Event) (result : Result Note E) (many : length state.clocks.items ≡ length network.device) (early : state.early ≡ true)
+    (event : Event) (result : Result Note E) (many : length state.clocks.items ≡ length network.device)
     (time : event.time.0 ≡ pos state.time) (hold : HoldsATime event.what) (of_network : IsOfNetwork network event.what)
-    (still : (new.time ≡ state.time) × (new.early ≡ state.early))
     (clocks : OnOk result ((device : DeviceId) (clock : C) → slice_get state.clocks.items device.0 ≡ Some clock
     → slice_get new.clocks.items device.0 ≡ Some (clock_after after_step device event.time event.what clock)))
     (step : (f h : DeviceId → ℕ → ℕ) (past : List Event) (notes : List Note)
@@ -109,20 +108,6 @@ module _ {C M E : Type 0} (fresh : ℕ → C) (after_step : C → ℕ → ℤ �
       of_network known it.1)
       clocks (step f h events notes under.is goes fits)
 
-  pub runs_on : (events : List Event) (notes : List Note) → StandsUnder fresh after_step reading stands network (world_of network state) events notes
-      → IsWithinHypothesis network events event
-      → IfOk result (λ note. IsRunOf network (reading_of fresh after_step reading network (events ++ event ∷ [])) (events ++ event ∷ [])
-      (behind_events state.time) (notes ++ note ∷ []))
-  runs_on events notes under within =
-      let h = reading_of fresh after_step reading network (events ++ event ∷ []) in
-      more_ok (λ (note : Note). StandsUnder fresh after_step reading stands network (world_of network new) (events ++ event ∷ []) (notes ++ note ∷ []))
-      (λ (note : Note). IsRunOf network h (events ++ event ∷ []) (behind_events state.time) (notes ++ note ∷ []))
-      _ result
-      (λ known note it. subst (λ t. IsRunOf network h (events ++ event ∷ []) (behind_events t) (notes ++ note ∷ [])) still.0
-      (run_behind_events reading (keeps stands) (scenario network h (events ++ event ∷ [])) (world_of network new) (notes ++ note ∷ []) it.is
-      (still.1 ∙ early)))
-      clocks (goes_on events notes under within)
-
   -- and so for the network that it is
   pub goes_on_there : (n : Network) (events : List Event) (notes : List Note)
       → StandsUnder fresh after_step reading stands n (world_of network state) events notes → IsWithinHypothesis n events event
@@ -132,16 +117,6 @@ module _ {C M E : Type 0} (fresh : ℕ → C) (after_step : C → ℕ → ℤ �
       → IfOk result (λ note. StandsUnder fresh after_step reading stands m (world_of network new) (events ++ event ∷ []) (notes ++ note ∷ [])))
       under.is.same (goes_on events notes) under within
 
-  pub runs_on_there : (n : Network) (events : List Event) (notes : List Note)
-      → StandsUnder fresh after_step reading stands n (world_of network state) events notes → IsWithinHypothesis n events event
-      → IfOk result (λ note. IsRunOf n (reading_of fresh after_step reading n (events ++ event ∷ [])) (events ++ event ∷ [])
-      (behind_events state.time) (notes ++ note ∷ []))
-  runs_on_there n events notes under within =
-      subst (λ (m : Network). StandsUnder fresh after_step reading stands m (world_of network state) events notes → IsWithinHypothesis m events event
-      → IfOk result (λ note. IsRunOf m (reading_of fresh after_step reading m (events ++ event ∷ [])) (events ++ event ∷ [])
-      (behind_events state.time) (notes ++ note ∷ [])))
-      under.is.same (runs_on events notes) under within
-
 -- ---- by the view of the state
 
 module _ {C M : Type 0} (fresh : ℕ → C) (after_step : C → ℕ → ℤ → C) (reading : C → ℕ → ℕ) (grain : C → ℕ) (count : C → ℕ → ℕ)
@@ -149,27 +124,18 @@ module _ {C M : Type 0} (fresh : ℕ → C) (after_step : C → ℕ → ℤ → 
     (world : World C (Kept M)) (view : world_of network state ≡ world) (event : Event) (note : Note)
     (many : length state.clocks.items ≡ length network.device) (open_to : IsOpenTo world event) (hold : HoldsATime event.what)
     (of_network : IsOfNetwork world.network event.what)
-    (still : (new.time ≡ state.time) × (new.early ≡ state.early))
     (clocks : (device : DeviceId) (clock : C) → slice_get state.clocks.items device.0 ≡ Some clock
     → slice_get new.clocks.items device.0 ≡ Some (clock_after after_step device event.time event.what clock))
     (step : (f h : DeviceId → ℕ → ℕ) (past : List Event) (notes : List Note)
     → (old : Stands reading (keeps stands) (scenario network f past) (world_of network state) notes) → Follows after_step reading network f h past event state
     → FitsWorld (scenario network f past) (happenings network notes) state.time event.what → (note ≡ note_of_event notes past event)
     × Stands reading (keeps stands) (scenario network h (past ++ event ∷ [])) (world_of network new) (notes ++ note ∷ [])) where
-  -- it stands again, and the records are the run behind the events of the instant
+  -- it stands again
   pub befalls : (n : Network) (events : List Event) (notes : List Note) → StandsUnder fresh after_step reading stands n world events notes
       → IsWithinHypothesis n events event → StandsUnder fresh after_step reading stands n (world_of network new) (events ++ event ∷ []) (notes ++ note ∷ [])
-      × IsRunOf n (reading_of fresh after_step reading n (events ++ event ∷ [])) (events ++ event ∷ []) (behind_events world.now) (notes ++ note ∷ [])
   befalls n events notes under within =
       let here = subst (λ w. StandsUnder fresh after_step reading stands n w events notes) (sym view) under in
-      let early : state.early ≡ true = ap (λ (w : World C (Kept M)). w.early) view ∙ open_to.early in
       let time : event.time.0 ≡ pos state.time = open_to.time ∙ ap (λ (w : World C (Kept M)). pos w.now) (sym view) in
       let own = subst (λ (w : World C (Kept M)). IsOfNetwork w.network event.what) (sym view) of_network in
-      let answer : Result Note OutOfMemory = Ok note in (
-        goes_on_there fresh after_step reading grain count law stands network state new event answer many early time hold own still clocks step n events
-            notes here within,
-        subst (λ (w : World C (Kept M)). IsRunOf n (reading_of fresh after_step reading n (events ++ event ∷ [])) (events ++ event ∷ [])
-            (behind_events w.now) (notes ++ note ∷ [])) view
-            (runs_on_there fresh after_step reading grain count law stands network state new event answer many early time hold own still clocks step n
-            events notes here within),
-      )
+      let answer : Result Note OutOfMemory = Ok note in
+      goes_on_there fresh after_step reading grain count law stands network state new event answer many time hold own clocks step n events notes here within

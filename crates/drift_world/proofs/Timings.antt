@@ -1,11 +1,16 @@
 -- Timers that are right, and stay so.
 use Rattle.{drift_world.proofs.Fits.sized_so, std.proofs.Common.slice_get}
 use Rattle.world_state.specs.{declared.timers.Timer.Timer, timers.Times.AreFrom}
-use Rattle.drift_world.proofs.Words.{◌*◌, ◌+◌, ◌<◌, ◌^◌, ◌↔◌, ◌∙◌, ◌≡◌, ◌≤ℤ◌, ◌≤◌, ◌⊎◌, AreTimed, Bool, ChangesOnly, DeviceId, IsIn, IsRunning, IsSized}
-use Rattle.drift_world.proofs.Words.{IsTimed, Kept, List, Network, Node, None, Option, Some, Units, Waits, ap, arith, cases_eq, cases_lt, inl, inr, ints, keeps}
+use Rattle.drift_world.proofs.Words.{◌*◌, ◌+◌, ◌<◌, ◌^◌, ◌↔◌, ◌∙◌, ◌≡◌, ◌≤ℤ◌, ◌≤◌, ◌⊎◌, AreTimed, Bool, ChangesOnly, DeviceId, IsIn, IsInRange, IsRunning}
+use Rattle.drift_world.proofs.Words.{IsSized, IsTimed, Kept, List, Network, Node, None, Option, Some, Units, Waits, ap, arith, cases_eq, cases_lt, inl, inr, ints, keeps}
 use Rattle.drift_world.{proofs.Words.{length, never, pos, refl, subst, sym, ℕ}, specs.Stepping.{ActsAt, IsRekeyed, IsRipeAt, MayRekey, SetsOnly}}
 use Rattle.drift_world.specs.{Parts.IsNoSooner, declared.part.Part.Part}
 use Rattle.{drift_world.specs.declared.state.State.State, run_law.specs.machines.{Calls.HasDue, Tasks.IsDueReading}, world_state.specs.Timing.{IsLeastPoint, IsTimeFor}}
+
+-- the network of a state that stands is in range
+pub in_range : {C M : Type 0} {reading : C → ℕ → ℕ} {stands : M → Network → DeviceId → Node → Type 0} {network : Network} {state : State C M}
+    → IsRunning reading stands network state → IsInRange network
+in_range run = subst IsInRange (sym run.is.same) run.is.range
 
 -- ---- a time at which a clock reads so much
 

@@ -1,7 +1,8 @@
 -- Events of a later time, and times behind the end.
 use Rattle.std.specs.Prelude.{if◌then◌else◌, ◌&&◌, ◌+◌, ◌<ℤ◌, ◌∷◌, ◌≡◌, ◌≤ℤ◌, ◌≤◌, List, [], false, int_lt, pos, true}
 use Rattle.std.specs.Prelude.{ℕ, ℤ}
-use Rattle.{drift_world.specs.Running.{StandsUnder, reading_of}, run_law.specs.scenario.Hypothesis.IsWithinHypothesis}
+use Rattle.drift_world.specs.Running.{HoldsATime, StandsUnder, reading_of}
+use Rattle.run_law.specs.scenario.Hypothesis.{IsWithinHypothesis}
 use Rattle.{net_plan.specs.Belonging.IsOfNetwork, run_law.specs.machines.Nodes.Node, world_law.specs.world.World.World}
 use Rattle.net_plan.specs.declared.{event.Event.Event, ids.DeviceId.DeviceId, network.Network.Network}
 use Rattle.{run_law.specs.{declared.note.Note.Note, runs.DueRecords.IsRunOf}, tte_units.specs.Amount.{amount, units_of}}
@@ -24,9 +25,14 @@ pub record ComesBehind {C M : Type 0} (fresh : ℕ → C) (after_step : C → �
       → IsRunOf network (reading_of fresh after_step reading network events) events (amount event.time ∷ []) notes
   pub within : IsWithinHypothesis network events event
 
--- it does so for some events and records, and is the network's
+-- the event of this line may be applied to the world: it is of the next line, it may befall at its time, a hold that it
+-- sets is a time, and it does so for some events and records, and is the network's
 pub record MayApply {C M : Type 0} (fresh : ℕ → C) (after_step : C → ℕ → ℤ → C) (reading : C → ℕ → ℕ)
-    (stands : M → Network → DeviceId → Node → Type 0) (world : World C (Kept M)) (event : Event) : Type 0 where
+    (stands : M → Network → DeviceId → Node → Type 0) (world : World C (Kept M)) (line : ℕ)
+    (event : Event) : Type 0 where
+  pub next : line ≡ world.lines + 1
+  pub opens : IsOpenFrom world event
+  pub hold : HoldsATime event.what
   pub events : List Event
   pub notes : List Note
   pub comes : ComesBehind fresh after_step reading stands world.network world events notes event

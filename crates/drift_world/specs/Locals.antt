@@ -1,6 +1,6 @@
 -- The local clock of a device, as a world shows it.
 use Rattle.std.specs.Prelude.{◌+ℤ◌, ◌+◌, ◌<ℤ◌, ◌<◌, ◌^◌, ◌∷◌, ◌≡◌, ◌≤ℤ◌, ◌≤◌, ◌⊎◌, Bool, List, MatchOption, None}
-use Rattle.std.specs.Prelude.{Option, Some, [], false, neg_ℤ, pos, slice_get, true, ℕ, ℤ}
+use Rattle.std.specs.Prelude.{Option, Some, [], false, length, neg_ℤ, pos, slice_get, true, ℕ, ℤ}
 use Rattle.{drift_world.specs.Running.{StandsUnder, reading_of}, run_law.specs.law.Safety.{IsInStep, IsInStepBefore}}
 use Rattle.{drift_world.specs.declared.state.State.State, sync_state.specs.correction.Deviation.IsSmall}
 use Rattle.net_plan.specs.declared.{event.Event.Event, ids.DeviceId.DeviceId, network.Network.Network}
@@ -73,12 +73,20 @@ IsLocalClockBefore s hs device t shown =
     MatchOption shown (IsInStepBefore s hs device t → ⊥)
     (λ l. IsInStepBefore s hs device t × (l ≡ local_before s hs device t))
 
--- some events and records leave the world where it stands, and they are all of the run up to the time; or this is the
--- present time, and nothing of it but events is worked off
+-- a time of a run: from 0 to 2^60
+pub record IsRunTime (t : Units) : Type 0 where
+  pub begun : pos 0 ≤ℤ t.0
+  pub limit : t.0 ≤ℤ pos (2 ^ 60)
+
+-- the clock of the device may be shown at the time: some events and records leave the world where it stands, and they
+-- are all of the run up to the time; or this is the present time, and nothing of it but events is worked off
 pub record MayShowAt {C M : Type 0} (fresh : ℕ → C) (after_step : C → ℕ → ℤ → C) (reading : C → ℕ → ℕ)
-    (stands : M → Network → DeviceId → Node → Type 0) (world : World C (Kept M)) (t : ℕ) : Type 0 where
-  pub may : MayShow fresh after_step reading stands world t
-      ⊎ ((t ≡ world.now) × MayShowBefore fresh after_step reading stands world)
+    (stands : M → Network → DeviceId → Node → Type 0) (world : World C (Kept M)) (device : DeviceId)
+    (t : Units) : Type 0 where
+  pub there : device.0 < length world.network.device
+  pub time : IsRunTime t
+  pub may : MayShow fresh after_step reading stands world (amount t)
+      ⊎ ((amount t ≡ world.now) × MayShowBefore fresh after_step reading stands world)
 
 -- the adjustments of such machines lie strictly between -2^61 and 2^61
 abbrev pub AreSmall : {M : Type 0} → (M → Network → DeviceId → Node → Type 0) → Type 0

@@ -1,12 +1,12 @@
 -- Where a state stands, and what a step of it leaves.
 use Rattle.std.specs.Prelude.{◌*◌, ◌+◌, ◌<◌, ◌^◌, ◌↔◌, ◌≡◌, ◌≤ℤ◌, ◌≤◌, ◌⊎◌, IfSome, IsSomeAnd, List, Option}
 use Rattle.std.specs.Prelude.{Some, length, pos, slice_get, ℕ}
-use Rattle.net_plan.specs.declared.{ids.DeviceId.DeviceId, network.Network.Network}
+use Rattle.net_plan.specs.declared.{event.What.What, ids.DeviceId.DeviceId, network.Network.Network}
 use Rattle.run_law.specs.{declared.note.Note.Note, records.Order.{IsIn, behind}}
 use Rattle.run_law.specs.{machines.{Nodes.Node, Tasks.{IsPending, Task, reading_for}}, scenario.Scenarios.Scenario}
 use Rattle.tte_units.specs.declared.units.Units.{Units}
 use Rattle.world_law.specs.world.{Moves.{ComesFirst, StandsBehind}, World.Stands}
-use Rattle.world_state.specs.Keeping.{keeps}
+use Rattle.world_state.specs.{Applying.device_in, Keeping.keeps}
 use Rattle.world_state.specs.{declared.{contents.{Settled.Settled, Waits.Waits}, kept.Kept.Kept}, timers.Times.{AreFrom, never}}
 use Rattle.world_state.specs.declared.timers.Timer.{Timer}
 use Rattle.drift_world.specs.{Acting.IsPartAt, Parts.{IsNoSooner, part_rank}, Sound.IsSized, Views.{with_settled, world_of}}
@@ -97,6 +97,13 @@ pub record IsTimed {C M : Type 0} (reading : C → ℕ → ℕ) (stands : M → 
   pub ripe : IsRipeTimed reading timers state device
   pub act : IsActTimed reading stands network timers state device
 
+-- timers may be set: there are two of each device, and some scenario and records leave the state so
+pub record MaySetTimers {C M : Type 0} (last_step : C → ℕ) (reading : C → ℕ → ℕ)
+    (stands : M → Network → DeviceId → Node → Type 0) (network : Network) (state : State C M) : Type 0 where
+  pub sized : IsSized last_step network state
+  pub slots : length state.timers ≡ 2 * length network.device
+  pub running : IsRunning reading stands network state
+
 -- timers of the device may be set: there are two of each device, and some scenario and records leave the state so
 pub record MayRekey {C M : Type 0} (last_step : C → ℕ) (reading : C → ℕ → ℕ) (stands : M → Network → DeviceId → Node
     → Type 0) (network : Network) (state : State C M) (device : DeviceId) : Type 0 where
@@ -112,6 +119,11 @@ pub record SetsOnly {C M : Type 0} (IsSet : ℕ → Type 0) (old new : State C M
   pub sized : length new.timers ≡ length old.timers
   pub others : (slot : ℕ) → (IsSet slot → ⊥) → slice_get new.timers slot ≡ slice_get old.timers slot
   pub later : AreFrom old.time old.timers → AreFrom new.time new.timers
+
+-- the slot is that of a timer of the device that the event changes
+abbrev pub IsSlotBy : Network → What → ℕ → Type 0
+IsSlotBy network what slot =
+    IsSomeAnd (device_in what) (λ device. (slot ≡ device.0) ⊎ (slot ≡ length network.device + device.0))
 
 -- the timers of the device are set, and they alone
 pub record IsRekeyed {C M : Type 0} (reading : C → ℕ → ℕ) (stands : M → Network → DeviceId → Node

@@ -1,5 +1,5 @@
 -- How a world goes on, one source after the other.
-use Rattle.std.specs.Prelude.{◌++◌, ◌+◌, ◌-◌, ◌<◌, ◌^◌, ◌∷◌, ◌≡◌, ◌≤ℤ◌, ◌≤◌, ◌⊎◌, Err, List, Ok, Result}
+use Rattle.std.specs.Prelude.{◌++◌, ◌+◌, ◌-◌, ◌<◌, ◌^◌, ◌∷◌, ◌≡◌, ◌≤ℤ◌, ◌≤◌, ◌⊎◌, Bool, Err, List, Ok, Result}
 use Rattle.std.specs.{Prelude.{Some, [], false, length, pos, slice_get, true, ℕ}, VecDeque.{deque_capacity, deque_len}}
 use Rattle.{drift_world.specs.{Nearing.{IsLess, Nears}, Views.world_of}, tte_units.specs.Amount.units_of}
 use Rattle.drift_world.specs.{Sourcing.{HasNothingBefore, IsRipePlace, due_place}, declared.source.Source.Source}
@@ -187,6 +187,13 @@ abbrev pub TurnSays : {C M : Type 0} → State C M → State C M → ℕ → Not
 TurnSays old new until note Gives = (note.time ≡ units_of new.time) × (new.time < until) × (new.given ≡ old.given + 1)
 TurnSays old new until note GoesOn = (new.time < until) × (new.given ≡ old.given)
 TurnSays old new until note Ends = old.ended ≡ false → until ≤ 2 ^ 60 → HasCome new until
+
+-- what the answer to a call for the next record says, whether one is given: what the turn says that gives it, or that
+-- ends; and where memory ran out, that it is not the time yet
+abbrev pub NextSays : {C M E : Type 0} → State C M → State C M → ℕ → Note → Result Bool E → Type 0
+NextSays old new until note (Ok true) = TurnSays old new until note Gives
+NextSays old new until note (Ok false) = TurnSays old new until note Ends
+NextSays old new until note (Err e) = new.time < until
 
 -- where it ends, the records are the run up to the time
 abbrev pub IsWhole : Scenario → List Note → ℕ → Turn → Type 0

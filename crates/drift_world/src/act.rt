@@ -2,6 +2,7 @@ ghost use Rattle.std.specs.Prelude.{◌+◌, ◌-◌, ◌<ℤ◌, ◌<◌, ◌^�
 ghost use Rattle.std.specs.Prelude.{List, OnOk, Some, false, length, slice_get, true, vec_capacity, ℕ};
 ghost use Rattle.std.specs.VecDeque.{deque_capacity, deque_len};
 ghost use Rattle.drift_world.specs.Acting.{AreAbove, HasOwn, IsDueAt, IsFrom, IsLeft, StandsFrom};
+ghost use Rattle.drift_world.specs.{Nearing.IsLess, Turns.{IsStep, MayWork}, declared.source.Source.Source};
 ghost use Rattle.drift_world.specs.Parts.{IsLaterThan, IsNoSoonerLeft, part_place, part_rank};
 ghost use Rattle.drift_world.specs.{Sound.{IsSized, IsSound}, Stepping.{ChangesOnly, IsAt}, Views.world_of};
 ghost use Rattle.drift_world.specs.declared.part.ToDo.{ToDo as ToDoOf};
@@ -234,7 +235,7 @@ impl<C: Clock, M: TellsKind + Drop> State<C, M> {
     /// is done. What is to be done then is answered: the record is to be given, or what is due is of a later part.
     ///
     /// On an error it may have done some of it, and more is due.
-    pub fn act_part(
+    fn act_part(
         &mut self,
         network: &Network,
         part: Part,
@@ -278,6 +279,40 @@ impl<C: Clock, M: TellsKind + Drop> State<C, M> {
             }
             left = self.left_to_do(network, device, moment);
             acts += 1;
+        }
+    }
+
+    /// The device does what is due of the part. What is due of a later one is put off behind what other devices do. Is
+    /// the first that is settled then to be given at once, as it stands where it was done?
+    #[inline(always)]
+    pub fn act(
+        &mut self,
+        network: &Network,
+        part: Part,
+        device: DeviceId,
+    ) -> Result<bool, OutOfMemory>
+        requires may { MayWork C.last_step C.reading M.stands network.now self.old (Source.Act part device) }
+        ensures step { IsStep C.last_step C.reading M.stands network.now self.old self.new }
+        ensures own { IfOk result (λ gives. gives ≡ true → HasOwn self.new) }
+        ensures less { IfOk result (λ gives. gives ≡ false → IsLess network.now self.old self.new) }
+    {
+        match self.act_part(network, part, device) {
+            Ok(ToDo::Give) => {
+                self.rekey_act(network, device.0);
+                Ok(true)
+            }
+            Ok(ToDo::Now(other)) => {
+                self.defer(network, device.0, other);
+                Ok(false)
+            }
+            Ok(ToDo::Next(due)) => {
+                self.rekey_act_at(network, device.0, due);
+                Ok(false)
+            }
+            Err(error) => {
+                self.rekey_act(network, device.0);
+                Err(error)
+            }
         }
     }
 }

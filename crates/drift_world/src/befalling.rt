@@ -1,10 +1,12 @@
-ghost use Rattle.std.specs.Prelude.{◌+◌, ◌<◌, ◌∷◌, ◌≡◌, ◌≤◌, List, OnErr, OnOk, [], false, length, true, ℕ};
-ghost use Rattle.{drift_world.specs.{Sound.IsSound, Views.world_of}, run_law.specs.records.Order.behind};
-ghost use Rattle.{drift_world.specs.Stepping.{ChangesOnly, IsRunning}, run_law.specs.scenario.Scenarios.Scenario};
+ghost use Rattle.std.specs.Prelude.{◌+◌, ◌∷◌, ◌≡◌, ◌≤◌, List, OnErr, OnOk, [], false, length, true, ℕ};
+ghost use Rattle.drift_world.specs.{Nearing.IsLess, Turns.{IsStep, MayWork}, declared.source.Source.Source};
+ghost use Rattle.drift_world.specs.{Sound.IsSound, Stepping.{ChangesOnly, IsRunning}, Views.world_of};
 ghost use Rattle.{net_plan.specs.Ranges.IsInRange, world_state.specs.Keeping.keeps};
-ghost use Rattle.{run_law.specs.declared.note.Note.Note, world_law.specs.world.{Moves.StandsBehind, World.Stands}};
+ghost use Rattle.run_law.specs.{declared.note.Note.Note, records.Order.behind, scenario.Scenarios.Scenario};
+ghost use Rattle.world_law.specs.world.{Moves.StandsBehind, World.Stands};
 
 use crate::state::State;
+use device_rules::TellsKind;
 use drift_clock::Clock;
 use net_plan::Network;
 use run_law::Machine;
@@ -15,7 +17,7 @@ impl<C: Clock, M: Machine + Drop> State<C, M> {
     /// The outcomes of the events of the present instant are settled, before all else of it.
     ///
     /// On an error nothing has changed: memory ran out, or there are no numbers for the records.
-    pub fn settle_befallen(&mut self, network: &Network) -> Result<(), OutOfMemory>
+    fn settle_befallen(&mut self, network: &Network) -> Result<(), OutOfMemory>
         requires sound { IsSound C.last_step network.now self.old }
         requires range { IsInRange network.now }
         requires pending { self.old.pending ≡ true }
@@ -56,5 +58,16 @@ impl<C: Clock, M: Machine + Drop> State<C, M> {
         self.early = false;
         self.pending = false;
         Ok(())
+    }
+}
+
+impl<C: Clock, M: TellsKind + Drop> State<C, M> {
+    /// The outcomes of the events of the instant are settled.
+    pub fn settle(&mut self, network: &Network) -> Result<(), OutOfMemory>
+        requires may { MayWork C.last_step C.reading M.stands network.now self.old (Source.Events) }
+        ensures step { IsStep C.last_step C.reading M.stands network.now self.old self.new }
+        ensures less { OnOk result (IsLess network.now self.old self.new) }
+    {
+        self.settle_befallen(network)
     }
 }

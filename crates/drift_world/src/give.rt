@@ -3,7 +3,9 @@ ghost use Rattle.std.specs.Prelude.{OnOk, Option, Some, [], length, ℕ};
 ghost use Rattle.net_plan.specs.Ranges.{IsInRange};
 ghost use Rattle.run_law.specs.{declared.note.Note.Note, records.Order.behind, scenario.Scenarios.Scenario};
 
+use crate::next::Turn;
 use crate::state::State;
+use device_rules::TellsKind;
 use drift_clock::Clock;
 use net_plan::{DeviceId, Network};
 use run_law::Machine;
@@ -14,6 +16,7 @@ use world_state::OutOfMemory;
 use world_state::contents::{Settled, Spot, Timed};
 use world_state::giving::{Giving, give_frame, make_room};
 use world_state::sending::{put_on, sent_by};
+use world_state::settled::put_in;
 use world_state::storing::{store, taker};
 use world_state::waiting::{giver, waiter};
 
@@ -159,7 +162,7 @@ impl<C: Clock, M: Machine + Drop> State<C, M> {
 
     /// Gives the first settled record, which was taken out, its number, and launches what it does.
     #[inline(always)]
-    pub fn give_first(&mut self, network: &Network, first: Settled, note: &mut PlainNote)
+    fn give_first(&mut self, network: &Network, first: Settled, note: &mut PlainNote)
         requires sound { IsSound C.last_step network.now self.old }
         requires range { IsInRange network.now }
         requires may { MayBeGiven network.now first.body first.frame first.octets }
@@ -228,7 +231,7 @@ impl<C: Clock, M: Machine + Drop> State<C, M> {
     /// The first record that is settled is given, with the next number: what it launches is under way, or waits.
     ///
     /// On an error nothing has changed.
-    pub fn give(&mut self, network: &Network, note: &mut PlainNote) -> Result<(), OutOfMemory>
+    fn give(&mut self, network: &Network, note: &mut PlainNote) -> Result<(), OutOfMemory>
         requires sound { IsSound C.last_step network.now self.old }
         requires range { IsInRange network.now }
         requires some { 0 < length self.old.settled.items }
@@ -270,5 +273,100 @@ impl<C: Clock, M: Machine + Drop> State<C, M> {
         let first = self.settled.pop_front().unwrap();
         self.give_first(network, first, note);
         Ok(())
+    }
+}
+
+impl<C: Clock, M: TellsKind + Drop> State<C, M> {
+    ghost use Rattle.run_law.specs.records.{Happenings.happenings, Ranks.place_of};
+    ghost use Rattle.world_law.specs.{source.First.NoSourceBefore, world.World.Stands};
+    ghost use Rattle.world_state.specs.Giving.{ArrivedAt, HasItsOctets, changed_device};
+    ghost use Rattle.world_state.specs.{Keeping.keeps, Places.IsPutAt, Views.settled_at};
+    ghost use Rattle.drift_world.specs.{Giving.IsRunningWith, Sound.IsSound, Wells.IsWell};
+    ghost use Rattle.drift_world.specs.{Sourcing.AreTimed, Stepping.{ChangesOnly, MaySetTimers}};
+    ghost use Rattle.drift_world.specs.Turns.{GivesAt, HasRoom, IsKept, MayGive, given_in};
+    ghost use Rattle.drift_world.specs.{Views.{with_first, world_of}, declared.state.State.{State as StateOf}};
+
+    /// The first that is settled is given: nothing is to come before it, or it stands where it was done.
+    pub fn give_next(
+        &mut self,
+        network: &Network,
+        note: &mut PlainNote,
+    ) -> Result<Turn, OutOfMemory>
+        requires well { IsWell C.last_step C.reading M.stands network.now self.old }
+        requires first { MayGive C.reading M.stands network.now self.old }
+        ensures kept { IsKept C.last_step C.reading M.stands network.now self.old self.new (given_in result note.new) }
+        ensures says { IfOk result (GivesAt self.old self.new note.new) }
+        ensures err { OnErr result (self.new.time ≡ self.old.time) }
+    {
+        match self.give(network, note) {
+            Ok(()) => {
+                self.rekey_after(network, note.body());
+                Ok(Turn::Gives)
+            }
+            Err(error) => Err(error),
+        }
+    }
+
+    /// A frame that arrived may wait at its device: the timers of the device are set.
+    fn rekey_after(&mut self, network: &Network, body: &PlainBody)
+        requires may { MaySetTimers C.last_step C.reading M.stands network.now self.old }
+        requires arrived { ArrivedAt (length network.now.device) body.now }
+        ensures same { self.new ≡ record self.old { timers = self.new.timers } }
+        ensures timed { (before : StateOf C M) → AreTimed C.reading M.stands network.now before
+            → ChangesOnly (changed_device body.now) before self.old → self.old.machines ≡ before.machines
+            → self.old.timers ≡ before.timers
+            → AreTimed C.reading M.stands network.now self.new }
+    {
+        if let PlainKind::Arrived { device, .. } = &body.kind {
+            self.rekey_ripe(network, device.0);
+        }
+    }
+
+    /// The record is given, which is not put in: nothing that is settled or to come stands before it. On an error it is
+    /// put in before all that is settled.
+    #[inline(always)]
+    pub fn give_in_turn(
+        &mut self,
+        network: &Network,
+        first: Settled,
+        note: &mut PlainNote,
+    ) -> Result<Turn, OutOfMemory>
+        requires sound { IsSound C.last_step network.now self.old }
+        requires range { IsInRange network.now }
+        requires room { HasRoom self.old }
+        requires front { IsPutAt first self.old.settled.items (first ∷ self.old.settled.items) 0 }
+        requires octets { HasItsOctets first.body first.octets }
+        requires running { IsRunningWith C.reading M.stands network.now self.old first }
+        ensures sound { IsSound C.last_step network.now self.new }
+        ensures same { self.new ≡ record self.old {
+          under_way = self.new.under_way;
+          waiting = self.new.waiting;
+          stored = self.new.stored;
+          settled = self.new.settled;
+          given = self.new.given;
+        } }
+        ensures stands { let z = settled_at network.now self.old.time first in (s : Scenario) (notes : List Note)
+            → (old : Stands C.reading (keeps M.stands) s
+            (with_first network.now self.old first self.old.settled.items) notes)
+            → NoSourceBefore s (happenings s.network notes) old.cursor (place_of z)
+            → Stands C.reading (keeps M.stands) s (world_of network.now self.new) (notes ++ given_in result note.new) }
+        ensures says { IfOk result (GivesAt self.old self.new note.new) }
+        ensures others { ChangesOnly (changed_device first.body) self.old self.new }
+    {
+        let device = waiter(&first.body);
+        let spot = taker(&first.body);
+        if let Err(error) = make_room(
+            &mut self.under_way,
+            &mut self.waiting,
+            &mut self.stored,
+            network,
+            device,
+            spot,
+        ) {
+            put_in(&mut self.settled, first);
+            return Err(error);
+        }
+        self.give_first(network, first, note);
+        Ok(Turn::Gives)
     }
 }

@@ -1,24 +1,30 @@
-ghost use Rattle.std.specs.Prelude.{◌+◌, ◌<◌, ◌≡◌, List, false, length, ℕ};
+ghost use Rattle.std.specs.Prelude.{◌+◌, ◌<◌, ◌≡◌, IfOk, List, OnErr, false, length, ℕ};
 ghost use Rattle.{drift_world.specs.Sound.IsSound, net_plan.specs.Ranges.IsInRange};
-ghost use Rattle.{drift_world.specs.Stepping.{ChangesOnly, IsAt, StandsPast}, world_state.specs.Hearing.arrived};
+ghost use Rattle.drift_world.specs.{Stepping.{ChangesOnly, IsAt, StandsPast}, Turns.{IsKept, MayWork, WorkSays}};
+ghost use Rattle.drift_world.specs.{Turns.given_in, declared.source.Source.{Source as SourceOf}};
 ghost use Rattle.{run_law.specs.records.Ranks.{place_of, rank}, world_state.specs.Places.IsPutAt};
 ghost use Rattle.world_state.specs.{Giving.{HasItsOctets, changed_device}, queue.Places.{IsFirst, numbers_of}};
 ghost use Rattle.world_state.specs.{Views.settled_at, declared.contents.Settled.{Settled as SettledValue}};
 
+use crate::next::Turn;
 use crate::state::State;
+use device_rules::TellsKind;
 use drift_clock::Clock;
 use net_plan::{LinkId, Network};
+use run_law::plain::{PlainNote, Rank};
 use run_law::{Machine, Moment};
 use tte_units::Units;
+use world_state::OutOfMemory;
 use world_state::contents::Settled;
 use world_state::hearing::{arrived, hear_signal, take_wire};
 use world_state::queue::DueAt;
+use world_state::settled::{put_in, rank_of};
 
 impl<C: Clock, M: Machine + Drop> State<C, M> {
     /// What is on a wire and the first of all that is under way arrives: its device hears it. The record of it is
     /// answered, which is to be put in among what is settled.
     #[inline(always)]
-    pub fn hear_wire(&mut self, network: &Network, place: DueAt) -> Settled
+    fn hear_wire(&mut self, network: &Network, place: DueAt) -> Settled
         requires sound { IsSound C.last_step network.now self.old }
         requires range { IsInRange network.now }
         requires first { IsFirst self.old.under_way.entries place }
@@ -56,5 +62,33 @@ impl<C: Clock, M: Machine + Drop> State<C, M> {
         let arrival = hear_signal(machine, network, moment, link, &signal, &mut self.made);
         self.early = false;
         arrived(place, &arrival, signal)
+    }
+}
+
+impl<C: Clock, M: TellsKind + Drop> State<C, M> {
+    /// What is first on a wire arrives. Where it is a control frame that its device takes, its record is given at once:
+    /// it stands at the place of the source.
+    #[inline(always)]
+    pub fn arrival_turn(
+        &mut self,
+        network: &Network,
+        place: DueAt,
+        note: &mut PlainNote,
+    ) -> Result<Turn, OutOfMemory>
+        requires may { MayWork C.last_step C.reading M.stands network.now self.old (SourceOf.Arrival place) }
+        ensures kept { IsKept C.last_step C.reading M.stands network.now self.old self.new (given_in result note.new) }
+        ensures says { IfOk result (WorkSays network.now self.old self.new note.new) }
+        ensures err { OnErr result (self.new.time ≡ self.old.time) }
+    {
+        let before = self.due_of(network, place.device);
+        let record = self.hear_wire(network, place);
+        if rank_of(&record) == Rank::Arrived.number() {
+            let turn = self.give_in_turn(network, record, note);
+            self.rekey_from(network, place.device, before);
+            return turn;
+        }
+        put_in(&mut self.settled, record);
+        self.rekey_act_from(network, place.device, before);
+        Ok(Turn::GoesOn)
     }
 }

@@ -1,14 +1,15 @@
-ghost use Rattle.std.specs.Prelude.{◌*◌, ◌++◌, ◌+◌, ◌<ℤ◌, ◌<◌, ◌^◌, ◌↔◌, ◌∷◌, ◌≡◌, ◌≤◌, IfOk};
-ghost use Rattle.std.specs.Prelude.{IsTrue, List, OnErr, OnOk, Some, [], false, length, pos, true};
-ghost use Rattle.{net_plan.specs.Ranges.IsInRange, run_law.specs.scenario.Scenarios.Scenario};
+ghost use Rattle.std.specs.Prelude.{◌+◌, ◌<◌, ◌^◌, ◌∷◌, ◌≡◌, ◌≤◌, IfOk, IsTrue, List, OnErr, OnOk, [], false, true};
 ghost use Rattle.run_law.specs.{declared.note.Note.{Note as NoteOf}, runs.DueRecords.IsScenarioRun};
+ghost use Rattle.{run_law.specs.scenario.Scenarios.Scenario, world_state.specs.Keeping.keeps};
+ghost use Rattle.{drift_world.specs.Views.world_of, world_law.specs.world.World.Stands};
 
 use crate::source::{Source, least_of};
 use crate::state::State;
 use device_rules::TellsKind;
 use drift_clock::Clock;
 use net_plan::Network;
-use run_law::plain::{PlainBody, PlainKind, PlainNote};
+use run_law::Machine;
+use run_law::plain::PlainNote;
 use world_state::OutOfMemory;
 use world_state::queue::DueAt;
 use world_state::settled::rank_of;
@@ -29,14 +30,9 @@ pub enum Turn {
 }
 
 impl<C: Clock, M: TellsKind + Drop> State<C, M> {
-    ghost use Rattle.drift_world.specs.{Nearing.{IsNoFarther, Nears}, Sourcing.{AreFirsts, AreTimed, HasNothingBefore}};
-    ghost use Rattle.{drift_world.specs.Running.{given_by, next_of}, world_law.specs.world.World.Stands};
-    ghost use Rattle.{drift_world.specs.{Sound.IsSized, Wells.IsWell}, tte_units.specs.Amount.units_of};
-    ghost use Rattle.drift_world.specs.{Stepping.{ChangesOnly, IsRunning}, declared.state.State.{State as StateOf}};
-    ghost use Rattle.drift_world.specs.Turns.{GivesAt, HasCome, HasRoom, IsCalm, IsKept, IsPassed, MayGive, MayTurn};
-    ghost use Rattle.drift_world.specs.{Turns.{SettledFirst, SourceFirst, TurnsTo, given_in}, Views.world_of};
-    ghost use Rattle.world_state.specs.Giving.{ArrivedAt, changed_device};
-    ghost use Rattle.world_state.specs.Keeping.{keeps};
+    ghost use Rattle.drift_world.specs.{Nearing.{IsNoFarther, Nears}, Sourcing.{AreFirsts, HasNothingBefore}};
+    ghost use Rattle.drift_world.specs.{Running.{given_by, next_of}, Turns.{HasRoom, IsCalm, IsKept, IsPassed}};
+    ghost use Rattle.drift_world.specs.Turns.{MayTurn, NextSays, SettledFirst, SourceFirst, TurnsTo, given_in};
 
     /// Puts the next record before a time in the place of another, if one is due before it: is one?
     ///
@@ -54,11 +50,7 @@ impl<C: Clock, M: TellsKind + Drop> State<C, M> {
         ensures complete { (s : Scenario) (notes : List NoteOf)
             → Stands C.reading (keeps M.stands) s (world_of network.now self.old) notes
             → IfOk result (λ more. more ≡ false → IsScenarioRun s (until ∷ []) notes) }
-        ensures reached { IfOk result (λ more.
-            more ≡ false → (self.old.ended ≡ false → until ≤ 2 ^ 60 → HasCome self.new until)) }
-        ensures given { IfOk result (λ more. more ≡ true → (note.new.time ≡ units_of self.new.time)
-            × (note.new.time.0 <ℤ pos until) × (self.new.given ≡ self.old.given + 1)) }
-        ensures err { OnErr result (self.new.time < until) }
+        ensures says { NextSays self.old self.new until note.new result }
     {
         'turns: loop {
             match self.turn(network, until, note) {
@@ -194,46 +186,6 @@ impl<C: Clock, M: TellsKind + Drop> State<C, M> {
         rank_of(first) <= source.rank()
     }
 
-    /// The first that is settled is given: nothing is to come before it, or it stands where it was done.
-    pub fn give_next(
-        &mut self,
-        network: &Network,
-        note: &mut PlainNote,
-    ) -> Result<Turn, OutOfMemory>
-        requires range { IsInRange network.now }
-        requires well { IsWell C.last_step C.reading M.stands network.now self.old }
-        requires first { MayGive C.reading M.stands network.now self.old }
-        ensures kept { IsKept C.last_step C.reading M.stands network.now self.old self.new (given_in result note.new) }
-        ensures says { IfOk result (GivesAt self.old self.new note.new) }
-        ensures err { OnErr result (self.new.time ≡ self.old.time) }
-    {
-        match self.give(network, note) {
-            Ok(()) => {
-                self.rekey_after(network, note.body());
-                Ok(Turn::Gives)
-            }
-            Err(error) => Err(error),
-        }
-    }
-
-    /// A frame that arrived may wait at its device: the timers of the device are set.
-    fn rekey_after(&mut self, network: &Network, body: &PlainBody)
-        requires range { IsInRange network.now }
-        requires sized { IsSized C.last_step network.now self.old }
-        requires slots { length self.old.timers ≡ 2 * length network.now.device }
-        requires running { IsRunning C.reading M.stands network.now self.old }
-        requires arrived { ArrivedAt (length network.now.device) body.now }
-        ensures same { self.new ≡ record self.old { timers = self.new.timers } }
-        ensures timed { (before : StateOf C M) → AreTimed C.reading M.stands network.now before
-            → ChangesOnly (changed_device body.now) before self.old → self.old.machines ≡ before.machines
-            → self.old.timers ≡ before.timers
-            → AreTimed C.reading M.stands network.now self.new }
-    {
-        if let PlainKind::Arrived { device, .. } = &body.kind {
-            self.rekey_ripe(network, device.0);
-        }
-    }
-
     /// Time passes, as nothing is under way before this time, if it is later.
     #[inline(always)]
     fn pass_up(&mut self, network: &Network, time: u64, until: u64) -> Turn
@@ -270,5 +222,29 @@ impl<C: Clock, M: TellsKind + Drop> State<C, M> {
         } else {
             Turn::Ends
         }
+    }
+}
+
+impl<C: Clock, M: Machine + Drop> State<C, M> {
+    ghost use Rattle.drift_world.specs.Sound.{IsSound};
+    ghost use Rattle.net_plan.specs.declared.network.Network.{Network as NetworkOf};
+    ghost use Rattle.world_law.specs.world.Moves.{NothingBefore, StandsBehind};
+
+    /// Time passes, where nothing is under way before.
+    fn pass_to(&mut self, time: u64)
+        requires later { self.old.time < time }
+        requires limit { time ≤ 2 ^ 60 }
+        requires none { self.old.settled.items ≡ [] }
+        requires open { self.old.ended ≡ false }
+        ensures sound { (network : NetworkOf) → IsSound C.last_step network self.old
+            → IsSound C.last_step network self.new }
+        ensures stands { (network : NetworkOf) (s : Scenario) (notes : List NoteOf)
+            → Stands C.reading (keeps M.stands) s (world_of network self.old) notes
+            → NothingBefore (keeps M.stands) s (world_of network self.old) (time ∷ [])
+            → StandsBehind C.reading (keeps M.stands) s (world_of network self.new) notes (time ∷ []) }
+        ensures same { self.new ≡ record self.old { time = time; early = true } }
+    {
+        self.time = time;
+        self.early = true;
     }
 }

@@ -1,14 +1,21 @@
-ghost use Rattle.std.specs.Prelude.{◌+◌, ◌↔◌, ◌≡◌, ◌≤ℤ◌, IsTrue, List, Some, false, is_some, length, pos, slice_get};
-ghost use Rattle.std.specs.Prelude.{true};
+ghost use Rattle.std.specs.Prelude.{◌+◌, ◌↔◌, ◌≡◌, ◌≤ℤ◌, IfOk, IsTrue, List, OnErr, Some, false, is_some, length, pos};
+ghost use Rattle.std.specs.Prelude.{slice_get, true};
+ghost use Rattle.drift_world.specs.Turns.{IsKept, MayWork, WorkSays, given_in};
+ghost use Rattle.drift_world.specs.declared.source.Source.{Source as SourceOf};
 ghost use Rattle.{drift_world.specs.Ripening.IsJudged, net_plan.specs.Ranges.IsInRange};
 ghost use Rattle.world_state.specs.{Frames.first_of, declared.contents.Waits.{Waits as WaitsValue}};
 
+use crate::next::Turn;
 use crate::state::State;
+use device_rules::TellsKind;
 use drift_clock::Clock;
 use net_plan::{DeviceId, Network};
+use run_law::plain::PlainNote;
 use run_law::{Machine, Moment, Ripe};
 use tte_units::Units;
+use world_state::OutOfMemory;
 use world_state::contents::Waits;
+use world_state::ripening::{record_of, settle_ripe};
 
 /// A frame that is permanent, and what becomes of it.
 #[derive(Clone, Copy)]
@@ -18,7 +25,7 @@ pub struct Ripened {
 }
 
 /// Is its only record how it is judged?
-pub fn is_judged(ripe: Ripe) -> bool
+fn is_judged(ripe: Ripe) -> bool
     ensures { IsTrue result ↔ IsJudged ripe }
 {
     match ripe {
@@ -36,7 +43,7 @@ impl<C: Clock, M: Machine + Drop> State<C, M> {
     /// The first frame that waits at the device is permanent: the first of all that is to come. It is answered, with
     /// what becomes of it, whose records are to be put in among what is settled.
     #[inline(always)]
-    pub fn ripen_waits(&mut self, network: &Network, device: DeviceId) -> Ripened
+    fn ripen_waits(&mut self, network: &Network, device: DeviceId) -> Ripened
         requires sound { IsSound C.last_step network.now self.old }
         requires range { IsInRange network.now }
         requires there { is_some (first_of self.old.waiting device.0) ≡ true }
@@ -73,5 +80,35 @@ impl<C: Clock, M: Machine + Drop> State<C, M> {
         );
         self.early = false;
         Ripened { waits, ripe }
+    }
+}
+
+impl<C: Clock, M: TellsKind + Drop> State<C, M> {
+    /// The first frame that is permanent is judged. Where its only record is how it is judged, this is given at once:
+    /// it stands at the place of the source.
+    #[inline(always)]
+    pub fn ripening_turn(
+        &mut self,
+        network: &Network,
+        one: Waits,
+        note: &mut PlainNote,
+    ) -> Result<Turn, OutOfMemory>
+        requires may { MayWork C.last_step C.reading M.stands network.now self.old (SourceOf.Ripening one) }
+        ensures kept { IsKept C.last_step C.reading M.stands network.now self.old self.new (given_in result note.new) }
+        ensures says { IfOk result (WorkSays network.now self.old self.new note.new) }
+        ensures err { OnErr result (self.new.time ≡ self.old.time) }
+    {
+        let before = self.due_of(network, one.device.0);
+        let number = self.given + 1;
+        let ripened = self.ripen_waits(network, one.device);
+        if is_judged(ripened.ripe) {
+            let record = record_of(&ripened.waits, ripened.ripe);
+            let turn = self.give_in_turn(network, record, note);
+            self.rekey_from(network, one.device.0, before);
+            return turn;
+        }
+        settle_ripe(&mut self.settled, number, &ripened.waits, ripened.ripe);
+        self.rekey_from(network, one.device.0, before);
+        Ok(Turn::GoesOn)
     }
 }

@@ -1,4 +1,4 @@
-ghost use Rattle.std.specs.Prelude.{◌+◌, ◌<◌, ◌^◌, ◌≡◌, ◌≤◌, IfNone, IfSome, Option, Some, ℕ};
+ghost use Rattle.std.specs.Prelude.{◌+◌, ◌<◌, ◌≡◌, ◌≤◌, IfNone, IfSome, Option, Some, ℕ};
 ghost use Rattle.{drift_world.specs.Turns.source_rank, run_law.specs.plain.Places.number_of};
 ghost use Rattle.world_state.specs.timers.Times.{IsFirst as IsFirstDue};
 
@@ -88,8 +88,8 @@ pub fn least_of(place: Option<DueAt>, due: Option<Due>, time: u64) -> u64
 }
 
 impl<C: Clock, M: Machine + Drop> State<C, M> {
-    ghost use Rattle.drift_world.specs.Sourcing.{AreFirsts, HasNothingBefore};
-    ghost use Rattle.drift_world.specs.{Turns.{IsSlotPlace, IsThere, IsWithin, source_place}, Wells.IsWell};
+    ghost use Rattle.drift_world.specs.{Sourcing.AreFirsts, Turns.{IsForemost, IsSlotPlace, IsThere, IsWithin}};
+    ghost use Rattle.drift_world.specs.{Turns.{MayTurn, source_place}, Wells.IsWell};
 
     /// What comes first of all that is under way before a time, where the place of the first that is in the queue and the
     /// first timer are these.
@@ -101,13 +101,10 @@ impl<C: Clock, M: Machine + Drop> State<C, M> {
         place: Option<DueAt>,
         due: Option<Due>,
     ) -> Source
-        requires well { IsWell C.last_step C.reading M.stands network.now self.now }
-        requires limit { until ≤ 2 ^ 60 + 1 }
-        requires open { self.now.time < until }
+        requires may { MayTurn C.last_step C.reading M.stands network.now until self.now }
         requires firsts { AreFirsts self.now place due }
-        ensures there { IsThere C.reading M.stands network.now self.now result }
+        ensures foremost { IsForemost C.reading M.stands network.now self.now result }
         ensures within { IsWithin until result }
-        ensures nothing { HasNothingBefore C.reading M.stands network.now self.now (source_place self.now.time result) }
     {
         if self.pending {
             return Source::Events;

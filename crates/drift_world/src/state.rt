@@ -1,18 +1,13 @@
-ghost use Rattle.std.specs.Prelude.{if◌then◌else◌, ◌++◌, ◌+◌, ◌<◌, ◌^◌, ◌↔◌, ◌∷◌, ◌≡◌, ◌≤◌, IfOk, IfSome, List, None};
-ghost use Rattle.std.specs.Prelude.{OnErr, OnOk, Option, Some, [], false, length, pos, slice_get, true, unsigned_abs};
-ghost use Rattle.std.specs.{Prelude.ℕ, VecDeque.{deque_capacity, deque_len}};
-ghost use Rattle.net_plan.specs.{Ranges.IsInRange, declared.network.Network.Network};
-ghost use Rattle.run_law.specs.{declared.note.Note.Note, records.Order.behind, scenario.Scenarios.Scenario};
-ghost use Rattle.world_state.specs.queue.Places.{IsFirst, numbers_of};
+ghost use Rattle.std.specs.Prelude.{if◌then◌else◌, ◌++◌, ◌+◌, ◌<◌, ◌↔◌, ◌∷◌, ◌≡◌, ◌≤◌, IfOk, List, OnErr, OnOk};
+ghost use Rattle.std.specs.Prelude.{Some, [], false, length, pos, slice_get, true, unsigned_abs, ℕ};
+ghost use Rattle.{net_plan.specs.declared.network.Network.Network, run_law.specs.declared.note.Note.Note};
 
 use device_rules::frames::MadeFrame;
 use drift_clock::Clock;
 use net_plan::{DeviceId, Event, LinkId, Network, Way, What};
-use run_law::plain::{PlainBody, PlainKind};
 use run_law::{Machine, NoteBody};
 use std::collections::VecDeque;
 use tte_units::Units;
-use tte_units::frames::Pcf;
 use world_state::OutOfMemory;
 use world_state::applying::{
     befall_machines, breaks_on, drop_waiting, ends, keep_befallen, set_broken, set_rate, set_way,
@@ -21,9 +16,8 @@ use world_state::contents::{Befallen, Content, Settled, WayState};
 use world_state::event_notes::EventNote;
 use world_state::frames::Frames;
 use world_state::kept::Kept;
-use world_state::leaving::{departed, is_parent, take_port};
-use world_state::queue::{DueAt, UnderWay};
-use world_state::settled::put_in;
+use world_state::leaving::is_parent;
+use world_state::queue::UnderWay;
 use world_state::shelves::Shelves;
 use world_state::timers::Timers;
 
@@ -69,77 +63,14 @@ pub struct State<C: Clock, M: Machine + Drop> {
 }
 
 impl<C: Clock, M: Machine + Drop> State<C, M> {
-    ghost use Rattle.{drift_world.specs.{Following.Follows, Showing.IsOf}, net_plan.specs.Belonging.IsOfNetwork};
-    ghost use Rattle.drift_world.specs.{Sound.{IsSized, IsSound}, Stepping.{ChangesOnly, StandsPast}, Views.world_of};
+    ghost use Rattle.drift_world.specs.{Following.Follows, Sound.{IsSized, IsSound}, Views.world_of};
     ghost use Rattle.net_plan.specs.declared.{event.Event.{Event as EventValue}, ids.DeviceId.{DeviceId as DeviceOf}};
-    ghost use Rattle.run_law.specs.records.{Happenings.happenings, Order.IsIn, Ranks.{place_of, rank}};
-    ghost use Rattle.run_law.specs.scenario.Devices.{is_parent_of};
-    ghost use Rattle.{tte_units.specs.{Amount.amount, declared.rates.Ppb.Ppb}, world_law.specs.steps.Steps.FitsWorld};
-    ghost use Rattle.world_law.specs.{source.Agreeing.scenario, world.Moves.{ComesFirst, NothingBefore, StandsBehind}};
-    ghost use Rattle.world_law.specs.{source.Applying.note_of_event, world.World.{Stands, clock_place}};
-    ghost use Rattle.world_state.specs.{Applying.{IsElsewhere, SetsShort, clock_after}, Views.settled_at};
-    ghost use Rattle.world_state.specs.{Giving.{HasItsOctets, changed_device}, Leaving.{departure_in, port_entry}};
-    ghost use Rattle.world_state.specs.{Keeping.keeps, declared.contents.Settled.{Settled as SettledValue}};
-    ghost use Rattle.world_state.specs.{Places.{IsSomePut, own_place}, declared.contents.Waits.{Waits as WaitsValue}};
-
-    /// Time passes, where nothing is under way before.
-    pub fn pass_to(&mut self, time: u64)
-        requires later { self.old.time < time }
-        requires limit { time ≤ 2 ^ 60 }
-        requires none { self.old.settled.items ≡ [] }
-        requires open { self.old.ended ≡ false }
-        ensures sound { (network : Network) → IsSound C.last_step network self.old
-            → IsSound C.last_step network self.new }
-        ensures stands { (network : Network) (s : Scenario) (notes : List Note)
-            → Stands C.reading (keeps M.stands) s (world_of network self.old) notes
-            → NothingBefore (keeps M.stands) s (world_of network self.old) (time ∷ [])
-            → StandsBehind C.reading (keeps M.stands) s (world_of network self.new) notes (time ∷ []) }
-        ensures same { self.new ≡ record self.old { time = time; early = true } }
-    {
-        self.time = time;
-        self.early = true;
-    }
-
-    /// The clock of the next device is shown, at the end.
-    pub fn show_clock(&mut self, network: &Network)
-        requires sound { IsSound C.last_step network.now self.old }
-        requires range { IsInRange network.now }
-        requires more { self.old.shown < length network.now.device }
-        requires room { deque_len self.old.settled < deque_capacity self.old.settled }
-        ensures sound { IsSound C.last_step network.now self.new }
-        ensures stands { (s : Scenario) (notes : List Note)
-            → (old : Stands C.reading (keeps M.stands) s (world_of network.now self.old) notes) → self.old.ended ≡ true
-            → ComesFirst C.reading (keeps M.stands) s (world_of network.now self.old) notes old
-            (clock_place self.old.time (record { 0 = self.old.shown }))
-            → StandsBehind C.reading (keeps M.stands) s (world_of network.now self.new) notes
-            (behind (clock_place self.old.time (record { 0 = self.old.shown }))) }
-        ensures others { (n : ℕ) → ChangesOnly n self.old self.new }
-        ensures same { self.new ≡ record self.old {
-          early = false;
-          settled = self.new.settled;
-          shown = self.old.shown + 1;
-        } }
-    {
-        let index = self.shown as usize;
-        let reading = self.clocks[index].read(Units::from_amount(self.time));
-        let machine = &self.machines[index];
-        let kind = PlainKind::Clock {
-            device: DeviceId(self.shown),
-            reading,
-            adjustment: machine.adjustment(),
-            state: machine.state(),
-        };
-        put_in(
-            &mut self.settled,
-            Settled {
-                body: PlainBody { kind },
-                frame: None,
-                octets: None,
-            },
-        );
-        self.early = false;
-        self.shown += 1;
-    }
+    ghost use Rattle.{net_plan.specs.Belonging.IsOfNetwork, run_law.specs.scenario.Devices.is_parent_of};
+    ghost use Rattle.run_law.specs.records.{Happenings.happenings, Order.IsIn};
+    ghost use Rattle.{tte_units.specs.declared.rates.Ppb.Ppb, world_law.specs.steps.Steps.FitsWorld};
+    ghost use Rattle.world_law.specs.{source.{Agreeing.scenario, Applying.note_of_event}, world.World.Stands};
+    ghost use Rattle.world_state.specs.{Applying.{IsElsewhere, SetsShort, clock_after}, Keeping.keeps};
+    ghost use Rattle.world_state.specs.declared.contents.Waits.{Waits as WaitsValue};
 
     /// What the clock of a device reads at present.
     pub fn reading_of(&self, network: &Network, device: u32) -> u64
@@ -165,55 +96,6 @@ impl<C: Clock, M: Machine + Drop> State<C, M> {
         } else {
             self.ups[link.0 as usize]
         }
-    }
-
-    /// The record of a frame at a port that leaves; of a broken device there is none.
-    #[inline(always)]
-    fn departure(&self, network: &Network, place: DueAt, frame: Pcf, given: u64) -> Option<Settled>
-        requires sized { IsSized C.last_step network.now self.now }
-        requires range { IsInRange network.now }
-        requires device { place.device < length network.now.device }
-        requires link { place.link < length network.now.link }
-        ensures octets { IfSome result (λ z. HasItsOctets z.body z.octets) }
-        ensures own { IfSome result (λ z. rank z.body ≡ 8
-            → own_place z ≡ 8 ∷ place.device ∷ place.link ∷ place.cause ∷ []) }
-        ensures none { IfSome result (λ z. changed_device z.body ≡ 2 ^ 32) }
-        ensures is { (s : Scenario) → IsOf C.reading s network.now self.now
-            → result ≡ departure_in s self.now.time (port_entry place frame given) }
-    {
-        if self.broken[place.device as usize] {
-            return None;
-        }
-        let reading = self.reading_of(network, place.device);
-        let way = self.way_from(network, DeviceId(place.device), LinkId(place.link));
-        Some(departed(network, reading, way.cut, place, frame, given))
-    }
-
-    /// The frame at a port that is the first of all leaves. The record of it is answered, which is to be put in among
-    /// what is settled; of a broken device there is none.
-    #[inline(always)]
-    pub fn leave_port(&mut self, network: &Network, place: DueAt) -> Option<Settled>
-        requires sound { IsSound C.last_step network.now self.old }
-        requires range { IsInRange network.now }
-        requires first { IsFirst self.old.under_way.entries place }
-        requires port { place.rank ≡ 8 }
-        requires device { place.device < length network.now.device }
-        requires link { place.link < length network.now.link }
-        requires at { place.at ≡ self.old.time }
-        ensures sound { IsSound C.last_step network.now self.new }
-        ensures octets { IfSome result (λ z. HasItsOctets z.body z.octets) }
-        ensures own { IfSome result (λ z. rank z.body ≡ 8
-            → place_of (settled_at network.now self.old.time z) ≡ numbers_of place) }
-        ensures none { IfSome result (λ z. changed_device z.body ≡ 2 ^ 32) }
-        ensures stands { (settled : List SettledValue) → IsSomePut result self.old.settled.items settled
-            → StandsPast C.reading M.stands network.now self.old self.new (numbers_of place) settled }
-        ensures others { (n : ℕ) → ChangesOnly n self.old self.new }
-        ensures same { self.new ≡ record self.old { early = false; under_way = self.new.under_way } }
-        ensures shorter { length self.old.under_way.entries ≡ length self.new.under_way.entries + 1 }
-    {
-        let (frame, given) = take_port(&mut self.under_way, place);
-        self.early = false;
-        self.departure(network, place, frame, given)
     }
 
     /// An event befalls, before all else of the present instant. Its record is given.

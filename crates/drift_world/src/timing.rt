@@ -1,5 +1,5 @@
-ghost use Rattle.std.specs.Prelude.{◌*◌, ◌+◌, ◌<◌, ◌≡◌, IsTrue, Some, length, slice_get};
-ghost use Rattle.{net_plan.specs.Ranges.IsInRange, world_state.specs.timers.Times.AreFrom};
+ghost use Rattle.std.specs.Prelude.{◌+◌, ◌<◌, ◌≡◌, IsTrue, Some, length, slice_get};
+ghost use Rattle.world_state.specs.timers.Times.{AreFrom};
 
 use crate::next::LAST;
 use crate::part::Part;
@@ -20,7 +20,7 @@ fn is_same(one: Option<Units>, other: Option<Units>) -> bool
 
 impl<C: Clock, M: TellsKind + Drop> State<C, M> {
     ghost use Rattle.drift_world.specs.{Acting.{IsDueAt, IsNextDue, IsPartAt}, Sound.IsSized, Sourcing.AreTimed};
-    ghost use Rattle.drift_world.specs.Stepping.{IsActTimed, IsDueTimed, IsRekeyed, IsRipeTimed, IsRunning};
+    ghost use Rattle.drift_world.specs.Stepping.{IsActTimed, IsDueTimed, IsRekeyed, IsRipeTimed, MaySetTimers};
     ghost use Rattle.drift_world.specs.{Parts.part_rank, Stepping.{KeepsPart, MayRekey, SetsOnly}};
 
     /// The reading at which the machine of a device acts by itself next, if it does.
@@ -159,10 +159,7 @@ impl<C: Clock, M: TellsKind + Drop> State<C, M> {
 
     /// Sets the timers of all devices, where none is past.
     pub fn rekey_all(&mut self, network: &Network)
-        requires range { IsInRange network.now }
-        requires sized { IsSized C.last_step network.now self.old }
-        requires slots { length self.old.timers ≡ 2 * length network.now.device }
-        requires running { IsRunning C.reading M.stands network.now self.old }
+        requires may { MaySetTimers C.last_step C.reading M.stands network.now self.old }
         requires later { AreFrom self.old.time self.old.timers }
         ensures same { self.new ≡ record self.old { timers = self.new.timers } }
         ensures timed { AreTimed C.reading M.stands network.now self.new }

@@ -3,7 +3,7 @@ ghost use Rattle.std.specs.Prelude.{OnErr, [], false, length, pos, true};
 ghost use Rattle.net_plan.specs.declared.{event.Event.{Event as EventValue}, network.Network.Network};
 ghost use Rattle.run_law.specs.{declared.note.Note.{Note as NoteValue}, scenario.Hypothesis.IsWithinHypothesis};
 ghost use Rattle.{run_law.specs.records.Happenings.happenings, world_law.specs.source.Agreeing.scenario};
-ghost use Rattle.{run_law.specs.runs.DueRecords.IsRunOf, tte_units.specs.Amount.{amount, units_of}};
+ghost use Rattle.tte_units.specs.Amount.{amount};
 
 mod on_wire;
 
@@ -43,10 +43,10 @@ impl<'a, C: Clock, M: Machine + Drop> Model for World<'a, C, M> {
 
 impl<'a, C: Clock, M: TellsKind + Drop> World<'a, C, M> {
     ghost use Rattle.precision_law.specs.traffic.safety.Headline.{IsSafeFront};
-    ghost use Rattle.drift_world.specs.{Beginning.AreFresh, Locals.{IsWide, MayShow, MayShowAt, MayShowBefore}};
-    ghost use Rattle.drift_world.specs.Later.{ComesBehind, IsAtTime, IsOpenFrom, MayApply, MayApplyAgain, bounded};
+    ghost use Rattle.drift_world.specs.{Beginning.AreFresh, Locals.{IsRunTime, IsWide, MayShow, MayShowAt}};
+    ghost use Rattle.drift_world.specs.Later.{ComesBehind, IsAtTime, MayApply, MayApplyAgain, bounded};
     ghost use Rattle.drift_world.specs.Locals.{AreSmall, IsComplete, IsLocalClock, IsLocalClockBefore, IsLocalValue};
-    ghost use Rattle.drift_world.specs.Running.{ComesUpTo, HoldsATime, IsOpenTo, MayBefall, StandsUnder, behind_events};
+    ghost use Rattle.drift_world.specs.{Locals.MayShowBefore, Running.{ComesUpTo, MayAsk, MayBefall, StandsUnder}};
     ghost use Rattle.drift_world.specs.Running.{event_note, given_by, left_of, next_of, reading_of};
 
     /// The world of a network at time 0: nothing has befallen it, and its machines have just begun.
@@ -73,22 +73,13 @@ impl<'a, C: Clock, M: TellsKind + Drop> World<'a, C, M> {
     ///
     /// The answer is small, and seen as the record that it stands for.
     pub fn befall<'e>(&mut self, line: u64, event: &'e Event) -> Result<EventNote<'e>, OutOfMemory>
-        requires line { line ≡ self.old.lines + 1 }
-        requires now { IsOpenTo self.old event.now }
-        requires within { MayBefall C.fresh C.after_step C.reading M.stands self.old event.now }
-        requires hold { HoldsATime event.now.what }
+        requires may { MayBefall C.fresh C.after_step C.reading M.stands self.old line event.now }
         ensures stands { (network : Network) (events : List EventValue) (notes : List NoteValue)
             → StandsUnder C.fresh C.after_step C.reading M.stands network self.old events notes
             → IsWithinHypothesis network events event.now
             → IfOk result (λ note. StandsUnder C.fresh C.after_step C.reading M.stands network self.new (events
             ++ event.now ∷ [])
             (notes ++ note ∷ [])) }
-        ensures run { (network : Network) (events : List EventValue) (notes : List NoteValue)
-            → StandsUnder C.fresh C.after_step C.reading M.stands network self.old events notes
-            → IsWithinHypothesis network events event.now
-            → IfOk result (λ note. IsRunOf network
-            (reading_of C.fresh C.after_step C.reading network (events ++ event.now ∷ []))
-            (events ++ event.now ∷ []) (behind_events self.old.now) (notes ++ note ∷ [])) }
         ensures note { IfOk result (λ note. note ≡ event_note (self.old.given + 1) line event.now) }
         ensures still { (self.new.now ≡ self.old.now) × (self.new.early ≡ self.old.early) }
         ensures err { OnErr result (self.new ≡ self.old) }
@@ -108,20 +99,12 @@ impl<'a, C: Clock, M: TellsKind + Drop> World<'a, C, M> {
     /// the end, and is not past. A hold that it sets is a time from 0 on. On an error it has not befallen the network,
     /// and may be applied again.
     pub fn apply(&mut self, line: u64, event: &Event) -> Result<Note, OutOfMemory>
-        requires line { line ≡ self.old.lines + 1 }
-        requires open { IsOpenFrom self.old event.now }
-        requires may { MayApply C.fresh C.after_step C.reading M.stands self.old event.now }
-        requires hold { HoldsATime event.now.what }
+        requires may { MayApply C.fresh C.after_step C.reading M.stands self.old line event.now }
         ensures stands { (network : Network) (events : List EventValue) (notes : List NoteValue)
             → ComesBehind C.fresh C.after_step C.reading M.stands network self.old events notes event.now
             → MatchResult result (λ note. StandsUnder C.fresh C.after_step C.reading M.stands network self.new
             (events ++ event.now ∷ []) (notes ++ note ∷ []))
             (λ _. StandsUnder C.fresh C.after_step C.reading M.stands network self.new events notes) }
-        ensures run { (network : Network) (events : List EventValue) (notes : List NoteValue)
-            → ComesBehind C.fresh C.after_step C.reading M.stands network self.old events notes event.now
-            → IfOk result (λ note. IsRunOf network
-            (reading_of C.fresh C.after_step C.reading network (events ++ event.now ∷ [])) (events ++ event.now ∷ [])
-            (behind_events (amount event.now.time)) (notes ++ note ∷ [])) }
         ensures note { IfOk result (λ note. note ≡ event_note (self.old.given + 1) line event.now) }
         ensures at { IfOk result (λ _. IsAtTime self.new event.now.time) }
         ensures err { OnErr result (MayApplyAgain self.old self.new event.now.time) }
@@ -147,8 +130,7 @@ impl<'a, C: Clock, M: TellsKind + Drop> World<'a, C, M> {
     ///
     /// What is put is small, and seen as the record that it stands for.
     pub fn next_given(&mut self, until: Units, note: &mut PlainNote) -> Result<bool, OutOfMemory>
-        requires limit { until.0 ≤ℤ pos (2 ^ 60 + 1) }
-        requires ended { self.old.ended ≡ true → until.0 ≤ℤ pos (self.old.now + 1) }
+        requires may { MayAsk self.old until }
         ensures stands { (network : Network) (events : List EventValue) (notes : List NoteValue)
             → StandsUnder C.fresh C.after_step C.reading M.stands network self.old events notes
             → StandsUnder C.fresh C.after_step C.reading M.stands network self.new events (notes
@@ -159,8 +141,6 @@ impl<'a, C: Clock, M: TellsKind + Drop> World<'a, C, M> {
             → IfOk result (λ more. more ≡ false
             → IsSafeFront C.fresh C.after_step C.reading network events (amount until) notes) }
         ensures reached { ComesUpTo self.old self.new until (next_of result note.new) }
-        ensures before { IfOk result (λ more. more ≡ true
-            → (note.new.time ≡ units_of self.new.now) × (note.new.time.0 <ℤ until.0)) }
         ensures fewer { IfOk result (λ more. more ≡ true → left_of self.new < left_of self.old) }
     {
         if until.0 <= Units::from_amount(self.state.time).0 {
@@ -202,8 +182,6 @@ impl<'a, C: Clock, M: TellsKind + Drop> World<'a, C, M> {
             → IfOk result (λ next. IfNone next
             (IsSafeFront C.fresh C.after_step C.reading network events (amount (bounded self.old until)) notes)) }
         ensures reached { ComesUpTo self.old self.new (bounded self.old until) result }
-        ensures before { IfOk result (λ next.
-            IfSome next (λ note. (note.time ≡ units_of self.new.now) × (note.time.0 <ℤ until.0))) }
         ensures fewer { IfOk result (λ next. IfSome next (λ _. left_of self.new < left_of self.old)) }
     {
         let time = self.bounded(until);
@@ -222,8 +200,7 @@ impl<'a, C: Clock, M: TellsKind + Drop> World<'a, C, M> {
     /// the world has come behind it, or is at the end, with the clocks shown.
     pub fn local(&self, device: DeviceId, t: Units) -> Option<i128>
         requires there { device.0 < length self.now.network.device }
-        requires begun { pos 0 ≤ℤ t.0 }
-        requires limit { t.0 ≤ℤ pos (2 ^ 60) }
+        requires time { IsRunTime t }
         requires complete { MayShow C.fresh C.after_step C.reading M.stands self.now (amount t) }
         ensures local { (network : Network) (events : List EventValue) (notes : List NoteValue)
             → IsComplete C.fresh C.after_step C.reading M.stands network self.now (amount t) events notes
@@ -238,10 +215,7 @@ impl<'a, C: Clock, M: TellsKind + Drop> World<'a, C, M> {
     /// time, it is that of `local`; where this is the present time, and nothing of it but events is worked off, that of
     /// `local_before`.
     pub fn local_at(&self, device: DeviceId, t: Units) -> Option<i128>
-        requires there { device.0 < length self.now.network.device }
-        requires begun { pos 0 ≤ℤ t.0 }
-        requires limit { t.0 ≤ℤ pos (2 ^ 60) }
-        requires may { MayShowAt C.fresh C.after_step C.reading M.stands self.now (amount t) }
+        requires may { MayShowAt C.fresh C.after_step C.reading M.stands self.now device t }
         ensures local { (network : Network) (events : List EventValue) (notes : List NoteValue)
             → IsComplete C.fresh C.after_step C.reading M.stands network self.now (amount t) events notes
             → IsLocalClock (scenario network (reading_of C.fresh C.after_step C.reading network events) events)

@@ -1,12 +1,13 @@
 -- The instant whose end is asked for.
-use Rattle.{drift_world.specs.Running.option_given, run_law.proofs.records.Order.index_of, world_drive.proofs.{Ways.past_is, Words.{unsigned_abs, ℕ}}}
-use Rattle.{precision_law.specs.traffic.safety.Headline.IsSafeFront, std.specs.Prelude.{IfNone, MatchResult, OnOk, option_to_list}}
+use Rattle.{drift_world.specs.Running.{ComesUpTo, option_given}, run_law.proofs.records.Order.index_of, world_state.specs.declared.memory.OutOfMemory.OutOfMemory}
+use Rattle.{precision_law.specs.traffic.safety.Headline.IsSafeFront, std.specs.Prelude.{MatchResult, OnOk, option_to_list}}
 use Rattle.{run_law.proofs.runs.{NetworkRuns.one_more, Places.{in_left, in_right}}, world_drive.specs.Observing.{IsCompleteExact, IsGiven}}
 use Rattle.{run_law.specs.records.{Order.IsIn, Ranks.rank}, std.proofs.Common.{Bool, Result}}
-use Rattle.world_drive.proofs.{Placed.{last_of, stays_now, unended_before}, exact_lemmas.Given.{amount_after, given_none, given_some, if_none, is_before}}
+use Rattle.world_drive.proofs.{Placed.{last_of, stays_now, unended_before}, exact_lemmas.Given.{amount_after, comes_to, given_none, given_some, is_before}}
 use Rattle.world_drive.proofs.Words.{◌++◌, ◌+ℤ◌, ◌+◌, ◌<ℤ◌, ◌<◌, ◌^◌, ◌∙◌, ◌∷◌, ◌≡◌, AreRecordsBefore, Err, Event, ExactWorld, Happening, IsPast, IsUnderwayAt}
-use Rattle.world_drive.proofs.Words.{List, Network, None, Note, Ok, Reaches, Some, StandsExact, Units, [], amount, ap, append-nil, append_assoc, arith, false}
+use Rattle.world_drive.proofs.Words.{List, Network, None, Note, Ok, Some, StandsExact, Units, [], amount, ap, append-nil, append_assoc, arith, false}
 use Rattle.world_drive.proofs.Words.{fresh_segment, happenings, inl, inr, ints, pos, refl, segment_reading, stepped_segment, subst, sym, true, units_of}
+use Rattle.world_drive.proofs.{Ways.past_is, Words.{unsigned_abs, ℕ}}
 
 -- a record stays among those that follow
 pub in_more : (network : Network) (notes more : List Note) (h : Happening) → IsIn h (happenings network notes) → IsIn h (happenings network (notes ++ more))
@@ -58,11 +59,10 @@ module _ (network : Network) (events : List Event) (notes : List Note) where
 
   pub given_before : (note : Note) (until : Units) {next : ExactWorld} (given : Bool) → given ≡ true
       → StandsExact network next events (notes ++ option_to_list (option_given given note))
-      → (given ≡ true → (note.time ≡ units_of next.now) × (note.time.0 <ℤ until.0))
-      → IsGiven network next None events notes note
-  given_before note until {next} given is stands before = record {
+      → (note.time ≡ units_of next.now) × (note.time.0 <ℤ until.0) → IsGiven network next None events notes note
+  given_before note until {next} given is stands at = record {
     stands = given_some network events notes next given note is stands;
-    at = (before is).0;
+    at = at.0;
     here = tt {0};
   }
 
@@ -70,11 +70,10 @@ module _ (network : Network) (events : List Event) (notes : List Note) where
   pub given_in : (note : Note) (time until : Units) (from : ExactWorld) {world next : ExactWorld} (given : Bool)
       → given ≡ true → StandsExact network world events notes
       → StandsExact network next events (notes ++ option_to_list (option_given given note))
-      → (given ≡ true → (note.time ≡ units_of next.now) × (note.time.0 <ℤ until.0)) → time.0 ≡ pos from.now
+      → (note.time ≡ units_of next.now) × (note.time.0 <ℤ until.0) → time.0 ≡ pos from.now
       → world.now ≡ from.now → until.0 ≡ time.0 +ℤ pos 1 → IsGiven network next (Some (amount time)) events notes note
-  given_in note time until from {next} given is a stands before now same after =
+  given_in note time until from {next} given is a stands at now same after =
       let b = given_some network events notes next given note is stands in
-      let at = before is in
       record {
         stands = b;
         at = at.0;
@@ -102,7 +101,7 @@ pub instant_over : {network : Network} {events : List Event} {notes : List Note}
     ((notes ++ more) ++ option_to_list (option_given given note)) →
     (pos world.now <ℤ until.0 → given ≡ false
     → IsSafeFront fresh_segment stepped_segment segment_reading network events (amount until) (notes ++ more))
-    → IfNone (option_given given note) (Reaches world next until)
+    → ComesUpTo {E = OutOfMemory} world next until (Ok (option_given given note))
     → InstantOver network events (notes ++ more) time from next
 instant_over {network} {events} {notes} more {time} until {from} {world} {next} given note is at a same after b
     complete reached =
@@ -115,7 +114,7 @@ instant_over {network} {events} {notes} more {time} until {from} {world} {next} 
     record {
       stands = own;
       past = past_from from world next same
-          (past_is network until world a own behind limit (if_none given note (Reaches world next until) is reached));
+          (past_is network until world a own behind limit (comes_to world next until given note reached is));
       all =
           subst (λ (n : ℕ). AreRecordsBefore network events (n ∷ []) (notes ++ more))
           (amount_after time until (omega (arith, ints, now)) after) all.run;

@@ -1,5 +1,6 @@
 -- An event befalls a world whose earlier records are seen.
 use Rattle.{drift_world.specs.Running.{HasReached, IsOpenTo, MayBefall, behind_events, event_note}, run_law.specs.scenario.Hypothesis.IsWithinHypothesis}
+use Rattle.drift_world.proofs.EventRuns.{runs_behind_events}
 use Rattle.{net_plan.specs.Belonging.IsOfNetwork, world_drive.specs.Seeing.ComesNext}
 use Rattle.{std.proofs.lemmas.Bool.false_from_ne_true, world_drive.{proofs.{Earlier.on_the_way, Order.{have_ended, in_order}}, specs.Observing.Befell}}
 use Rattle.world_drive.proofs.Words.{◌++◌, ◌+◌, ◌∙◌, ◌∷◌, ◌≡◌, ◌≤ℤ◌, AreRecordsBefore, AreRecordsSoFar, Cut, CutsAtEvent, CutsBefore, Event, ExactWorld}
@@ -56,18 +57,18 @@ module _ (network : Network) (world : ExactWorld) (events : List Event) (notes :
       now_is : next.now ≡ amount event.time
       now_is = ap unsigned_abs reached_now.time
 
-      pub open_now : IsOpenTo next event
+      open_now : IsOpenTo next event
       open_now = record {
         time = sym reached_now.time;
         early = reached_now.early (inr n.reached.early);
         unended = (go_on n.stands s.stands).unended unended_now;
       }
 
-      pub line_next : (line : ℕ) → line ≡ length events + 1 → line ≡ next.lines + 1
-      line_next line number = number ∙ ap (λ m. m + 1) (sym s.stands.is.lines)
-
-      pub may_befall : MayBefall fresh_segment stepped_segment segment_reading StandsAsDevice next event
-      may_befall = record {
+      pub may_befall : (line : ℕ) → line ≡ length events + 1 → MayBefall fresh_segment stepped_segment segment_reading StandsAsDevice next line event
+      may_befall line number = record {
+        next = number ∙ ap (λ m. m + 1) (sym s.stands.is.lines);
+        now = open_now;
+        hold = n.may.hold;
         events = events;
         notes = notes ++ s.more;
         is = subst (λ m. StandsExact m next events (notes ++ s.more)) (sym s.stands.is.same) s.stands;
@@ -79,15 +80,17 @@ module _ (network : Network) (world : ExactWorld) (events : List Event) (notes :
 
       module _ (after : ExactWorld) (note : Note) (line : ℕ) (number : line ≡ length events + 1)
           (stands : StandsExact network after (events ++ event ∷ []) ((notes ++ s.more) ++ note ∷ []))
-          (run : AreRecordsBefore network (events ++ event ∷ []) (behind_events next.now) ((notes ++ s.more) ++ note ∷ []))
           (is : note ≡ event_note (next.given + 1) line event) (still : (after.now ≡ next.now) × (after.early ≡ next.early)) where
+        pub come_after : IsReached after event.time
+        come_after = record { now = ap pos still.0 ∙ reached_now.time; early = still.1 ∙ reached_now.early (inr n.reached.early) }
+
+        -- nothing of its instant but events is worked off
         so_far : AreRecordsSoFar network (events ++ event ∷ []) ((notes ++ s.more) ++ note ∷ [])
         so_far =
             subst (λ t. AreRecordsBefore network (events ++ event ∷ []) (behind_events t) ((notes ++ s.more) ++ note ∷ []))
-            (now_is ∙ ap amount (sym (last_is events event))) run
-
-        pub come_after : IsReached after event.time
-        come_after = record { now = ap pos still.0 ∙ reached_now.time; early = still.1 ∙ reached_now.early (inr n.reached.early) }
+            (still.0 ∙ now_is ∙ ap amount (sym (last_is events event)))
+            (runs_behind_events fresh_segment stepped_segment segment_reading StandsAsDevice network after (events ++ event ∷ [])
+            ((notes ++ s.more) ++ note ∷ []) stands come_after.early)
 
         pub befell : Befell network after events (notes ++ s.more) event note
         befell = record {

@@ -1,16 +1,23 @@
 -- A world that gave one more record, or none.
-use Rattle.{drift_world.specs.Running.option_given, run_law.specs.declared.note.Note.Note, std.proofs.{Common.{unsigned_abs, ℕ, ℤ}, lemmas.Int.ints}}
+use Rattle.{drift_world.specs.Running.{ComesUpTo, Reaches, option_given}, run_law.specs.declared.note.Note.Note, std.proofs.lemmas.Int.ints}
 use Rattle.{net_plan.specs.declared.{event.Event.Event, network.Network.Network}, tte_units.specs.{Amount.{amount, units_of}, declared.units.Units.Units}}
-use Rattle.std.proofs.Common.{◌++◌, ◌+ℤ◌, ◌+◌, ◌<ℤ◌, ◌∙◌, ◌∷◌, ◌≡◌, ◌≤ℤ◌, Bool, List, Option, Some, [], ap, arith, false, negsuc, pos, refl, subst, true}
-use Rattle.{std.specs.Prelude.{IfNone, IfSome, option_to_list}, world_drive.{proofs.exact_lemmas.Worlds.go_on, specs.exact.Worlds.{ExactWorld, StandsExact}}}
+use Rattle.std.proofs.Common.{◌++◌, ◌+ℤ◌, ◌+◌, ◌<ℤ◌, ◌∙◌, ◌∷◌, ◌≡◌, ◌≤ℤ◌, Bool, List, Ok, Option, Some, [], ap, arith, false, negsuc, pos, refl, subst, true}
+use Rattle.std.{proofs.Common.{unsigned_abs, ℕ, ℤ}, specs.Prelude.{IfSome, option_to_list}}
+use Rattle.{world_drive.{proofs.exact_lemmas.Worlds.go_on, specs.exact.Worlds.{ExactWorld, StandsExact}}, world_state.specs.declared.memory.OutOfMemory.OutOfMemory}
 
 -- what holds of the value of an option
 pub if_some : {X : Type 0} (o : Option X) (x : X) (P : X → Type 0) → o ≡ Some x → IfSome o P → P x
 if_some {X} o x P e m = let R : Option X → Type 0 = λ p. IfSome p P in subst R e m
 
--- what holds where no record was given
-pub if_none : (given : Bool) (note : Note) (P : Type 0) → given ≡ false → IfNone (option_given given note) P → P
-if_none given note P e m = subst (λ b. IfNone (option_given b note) P) e m
+module _ (world next : ExactWorld) (until : Units) (given : Bool) (note : Note)
+    (reached : ComesUpTo {E = OutOfMemory} world next until (Ok (option_given given note))) where
+  -- a record that was given is of the time to which the world came, which is before the one asked for
+  pub comes_before : given ≡ true → (note.time ≡ units_of next.now) × (note.time.0 <ℤ until.0)
+  comes_before is = subst (λ b. ComesUpTo {E = OutOfMemory} world next until (Ok (option_given b note))) is reached
+
+  -- where none was given, the world has come to this
+  pub comes_to : given ≡ false → Reaches world next until
+  comes_to is = subst (λ b. ComesUpTo {E = OutOfMemory} world next until (Ok (option_given b note))) is reached
 
 module _ (network : Network) (events : List Event) (notes : List Note) (world : ExactWorld) (given : Bool)
     (note : Note) where

@@ -1,14 +1,13 @@
 ghost use Rattle.std.specs.Prelude.{◌++◌, ◌+◌, ◌<ℤ◌, ◌<◌, ◌^◌, ◌∷◌, ◌≡◌, ◌≤ℤ◌, IfNone, IfOk, IfSome, List, MatchResult};
-ghost use Rattle.std.specs.Prelude.{OnErr, [], length, neg_ℤ, pos, true};
-ghost use Rattle.drift_world.specs.Later.{ComesBehind, IsAtTime, IsOpenFrom, MayApply, MayApplyAgain, bounded};
+ghost use Rattle.std.specs.Prelude.{OnErr, [], neg_ℤ, pos, true};
+ghost use Rattle.drift_world.specs.Later.{ComesBehind, IsAtTime, MayApply, MayApplyAgain, bounded};
 ghost use Rattle.drift_world.specs.Locals.{IsComplete, IsLocalClock, IsLocalClockBefore, MayShowAt};
-ghost use Rattle.drift_world.specs.Running.{ComesUpTo, HoldsATime, StandsUnder, behind_events, event_note, given_by};
-ghost use Rattle.{drift_world.specs.Running.{left_of, reading_of}, world_drive.specs.machines.Standing.StandsAsDevice};
+ghost use Rattle.drift_world.specs.Running.{ComesUpTo, StandsUnder, event_note, given_by, left_of, reading_of};
 ghost use Rattle.net_plan.specs.declared.{event.Event.{Event as EventValue}, network.Network.Network};
 ghost use Rattle.{precision_law.specs.traffic.safety.Headline.IsSafeFront, world_drive.specs.devices.Locals.local_of};
 ghost use Rattle.run_law.specs.{declared.note.Note.{Note as NoteValue}, records.Happenings.happenings};
-ghost use Rattle.run_law.specs.runs.DueRecords.{IsRunOf};
-ghost use Rattle.{tte_units.specs.Amount.{amount, units_of}, world_law.specs.source.Agreeing.scenario};
+ghost use Rattle.{tte_units.specs.Amount.amount, world_drive.specs.machines.Standing.StandsAsDevice};
+ghost use Rattle.world_law.specs.source.Agreeing.{scenario};
 
 use crate::machines::{DeviceMachine, machines_of};
 use drift_clock::Clock;
@@ -57,21 +56,13 @@ impl<'a, C: Clock> World<'a, C> {
     /// the end, and is not past. A hold that it sets is a time from 0 on. On an error it has not befallen the network,
     /// and may be applied again.
     pub fn apply(&mut self, line: u64, event: &Event) -> Result<Note, OutOfMemory>
-        requires line { line ≡ self.old.inner.lines + 1 }
-        requires open { IsOpenFrom self.old.inner event.now }
-        requires may { MayApply C.fresh C.after_step C.reading StandsAsDevice self.old.inner event.now }
-        requires hold { HoldsATime event.now.what }
+        requires may { MayApply C.fresh C.after_step C.reading StandsAsDevice self.old.inner line event.now }
         ensures stands { (network : Network) (events : List EventValue) (notes : List NoteValue)
             → ComesBehind C.fresh C.after_step C.reading StandsAsDevice network self.old.inner events notes event.now
             → MatchResult result
             (λ note. StandsUnder C.fresh C.after_step C.reading StandsAsDevice network self.new.inner
             (events ++ event.now ∷ []) (notes ++ note ∷ []))
             (λ _. StandsUnder C.fresh C.after_step C.reading StandsAsDevice network self.new.inner events notes) }
-        ensures run { (network : Network) (events : List EventValue) (notes : List NoteValue)
-            → ComesBehind C.fresh C.after_step C.reading StandsAsDevice network self.old.inner events notes event.now
-            → IfOk result (λ note. IsRunOf network
-            (reading_of C.fresh C.after_step C.reading network (events ++ event.now ∷ [])) (events ++ event.now ∷ [])
-            (behind_events (amount event.now.time)) (notes ++ note ∷ [])) }
         ensures note { IfOk result (λ note. note ≡ event_note (self.old.inner.given + 1) line event.now) }
         ensures at { IfOk result (λ _. IsAtTime self.new.inner event.now.time) }
         ensures err { OnErr result (MayApplyAgain self.old.inner self.new.inner event.now.time) }
@@ -97,8 +88,6 @@ impl<'a, C: Clock> World<'a, C> {
             → IfOk result (λ next. IfNone next
             (IsSafeFront C.fresh C.after_step C.reading network events (amount (bounded self.old.inner until)) notes)) }
         ensures reached { ComesUpTo self.old.inner self.new.inner (bounded self.old.inner until) result }
-        ensures before { IfOk result (λ next. IfSome next (λ note.
-            (note.time ≡ units_of self.new.inner.now) × (note.time.0 <ℤ until.0))) }
         ensures fewer { IfOk result (λ next. IfSome next (λ _. left_of self.new.inner < left_of self.old.inner)) }
     {
         self.inner.next(until)
@@ -110,10 +99,7 @@ impl<'a, C: Clock> World<'a, C> {
     /// Either the records given are all of the run up to the time. Or it is the present time, and nothing of it but
     /// events is worked off, as right after an event: then the records are those of earlier times.
     pub fn local(&self, device: DeviceId, t: Units) -> Option<Units>
-        requires there { device.0 < length self.now.inner.network.device }
-        requires begun { pos 0 ≤ℤ t.0 }
-        requires limit { t.0 ≤ℤ pos (2 ^ 60) }
-        requires may { MayShowAt C.fresh C.after_step C.reading StandsAsDevice self.now.inner (amount t) }
+        requires may { MayShowAt C.fresh C.after_step C.reading StandsAsDevice self.now.inner device t }
         ensures local { (network : Network) (events : List EventValue) (notes : List NoteValue)
             → IsComplete C.fresh C.after_step C.reading StandsAsDevice network self.now.inner (amount t) events notes
             → IsLocalClock (scenario network (reading_of C.fresh C.after_step C.reading network events) events)

@@ -1,5 +1,5 @@
 use Rattle.world_drive.proofs.Instants.{match_on, on_ok}
-use Rattle.world_drive.proofs.Meeting.{asked_for, befell, come_after, cut_at, cut_before, cut_event, line_next, may_befall, open_now, same_number, seen_event}
+use Rattle.world_drive.proofs.Meeting.{asked_for, befell, come_after, cut_at, cut_before, cut_event, may_befall, same_number, seen_event}
 use Rattle.world_drive.proofs.{More.{puts_memory, puts_on, puts_so_far}, Words.{◌++◌, ◌∷◌, CutsAtEvent, None, SeesEvent, [], told_by}}
 use Rattle.world_drive.proofs.seeing.see_event.Goals as goal
 
@@ -19,28 +19,14 @@ returns-in-Err-clause-sees g c events notes old n b =
 pub returns-in-Err-clause-puts : goal.returns-in-Err-clause-puts
 returns-in-Err-clause-puts g c = c.in-Err.ensures.puts
 
-pub befall-requires-clause-line : goal.befall-requires-clause-line
-befall-requires-clause-line g c =
+pub befall-requires : goal.befall-requires
+befall-requires g c =
     let m = c.requires.may in
-    line_next c.args.network.now c.args.world.now m.events m.notes c.args.event.now m.next g.O.Observer.sees c.see_until.new.world c.see_until.new.observer
-    m.old
-    (told_by g.K.Sink c.see_until.new.out) (c.in-Ok.ensures.sees m.events m.notes m.old m.next.stands m.sees) c.in-Ok.ensures.reached c.args.line m.number
-
-pub befall-requires-clause-now : goal.befall-requires-clause-now
-befall-requires-clause-now g c =
-    let m = c.requires.may in
-    open_now c.args.network.now c.args.world.now m.events m.notes c.args.event.now m.next g.O.Observer.sees c.see_until.new.world c.see_until.new.observer m.old
-    (told_by g.K.Sink c.see_until.new.out) (c.in-Ok.ensures.sees m.events m.notes m.old m.next.stands m.sees) c.in-Ok.ensures.reached
-
-pub befall-requires-clause-within : goal.befall-requires-clause-within
-befall-requires-clause-within g c =
-    let m = c.requires.may in
-    may_befall c.args.network.now c.args.world.now m.events m.notes c.args.event.now m.next g.O.Observer.sees c.see_until.new.world c.see_until.new.observer
-    m.old
-    (told_by g.K.Sink c.see_until.new.out) (c.in-Ok.ensures.sees m.events m.notes m.old m.next.stands m.sees) c.in-Ok.ensures.reached
-
-pub befall-requires-clause-hold : goal.befall-requires-clause-hold
-befall-requires-clause-hold g c = c.requires.may.next.may.hold
+    record {
+      may = may_befall c.args.network.now c.args.world.now m.events m.notes c.args.event.now m.next g.O.Observer.sees c.see_until.new.world
+          c.see_until.new.observer m.old (told_by g.K.Sink c.see_until.new.out)
+          (c.in-Ok.ensures.sees m.events m.notes m.old m.next.stands m.sees) c.in-Ok.ensures.reached c.args.line m.number;
+    }
 
 pub event-requires-clause-may : goal.event-requires-clause-may
 event-requires-clause-may g c =
@@ -54,7 +40,7 @@ event-requires-clause-may g c =
       befell = befell network c.args.world.now m.events m.notes c.args.event.now m.next g.O.Observer.sees c.see_until.new.world c.see_until.new.observer m.old
           (told_by g.K.Sink c.see_until.new.out) s c.in-Ok.ensures.reached c.befall.new.self c.in-Ok-befall.note c.args.line m.number
           (c.in-Ok-befall.ensures.stands network m.events (m.notes ++ s.more) s.stands m.next.may.within)
-          (c.in-Ok-befall.ensures.run network m.events (m.notes ++ s.more) s.stands m.next.may.within) c.in-Ok-befall.ensures.note c.befall.ensures.still;
+          c.in-Ok-befall.ensures.note c.befall.ensures.still;
       sees = s.sees;
     }
 
@@ -77,17 +63,16 @@ returns-in-Ok-befall-clause-sees g c events notes old n b =
     let reached = c.in-Ok.ensures.reached in
     let number = same_number line c.requires.may.next.stands n.stands c.requires.may.number in
     let stands = c.in-Ok-befall.ensures.stands network events ns s.stands n.may.within in
-    let run = c.in-Ok-befall.ensures.run network events ns s.stands n.may.within in
     let is = c.in-Ok-befall.ensures.note in
     let still = c.befall.ensures.still in
     match_on c.event.result (λ _. see network (events ++ event ∷ []) (ns ++ note ∷ []) None old new c.event.new.self)
     (λ _. SeesEvent see network events notes event after c.event.new.self old new)
     (λ cut. stop network (events ++ event ∷ []) (ns ++ note ∷ []) cut old new) (λ cut. CutsAtEvent stop network events notes event cut old new)
-    (λ _ sees. seen_event network world events notes event n see next seen old put s reached after note line number stands run is still c.event.new.self new
+    (λ _ sees. seen_event network world events notes event n see next seen old put s reached after note line number stands is still c.event.new.self new
     sees)
-    (λ cut stops. cut_event network world events notes event n see next seen old put s reached after note line number stands run is still stop cut new stops)
+    (λ cut stops. cut_event network world events notes event n see next seen old put s reached after note line number stands is still stop cut new stops)
     (c.event.ensures.goes events ns old
-    (befell network world events notes event n see next seen old put s reached after note line number stands run is still) s.sees)
+    (befell network world events notes event n see next seen old put s reached after note line number stands is still) s.sees)
 
 pub returns-in-Ok-befall-clause-reached : goal.returns-in-Ok-befall-clause-reached
 returns-in-Ok-befall-clause-reached g c =
@@ -98,7 +83,7 @@ returns-in-Ok-befall-clause-reached g c =
     (come_after network c.args.world.now m.events m.notes c.args.event.now m.next g.O.Observer.sees c.see_until.new.world c.see_until.new.observer m.old
     (told_by g.K.Sink c.see_until.new.out) s c.in-Ok.ensures.reached c.befall.new.self c.in-Ok-befall.note c.args.line m.number
     (c.in-Ok-befall.ensures.stands network m.events (m.notes ++ s.more) s.stands m.next.may.within)
-    (c.in-Ok-befall.ensures.run network m.events (m.notes ++ s.more) s.stands m.next.may.within) c.in-Ok-befall.ensures.note c.befall.ensures.still)
+    c.in-Ok-befall.ensures.note c.befall.ensures.still)
 
 pub returns-in-Ok-befall-clause-puts : goal.returns-in-Ok-befall-clause-puts
 returns-in-Ok-befall-clause-puts g c =

@@ -1,3 +1,4 @@
+use Rattle.world_drive.proofs.exact_lemmas.Given.{comes_before}
 use Rattle.world_drive.proofs.Instants.{amount_now, complete_past, given_in, instant_over, match_on, on_ok}
 use Rattle.world_drive.{proofs.More.{cut_here, cut_one, puts_cut, puts_more, puts_none, puts_on, seen_none, seen_one}, specs.Seeing.SeesInstant}
 use Rattle.world_drive.proofs.Words.{◌++◌, ◌+◌, ◌∙◌, ◌∷◌, CutsBefore, IsPast, None, Some, [], amount, arith, inr, ints, refl, told_by}
@@ -19,19 +20,13 @@ pub next_unit-requires-clause-limit : goal.next_unit-requires-clause-limit
 next_unit-requires-clause-limit g c =
     let now = c.requires.seen.at.now in let limit = c.requires.seen.at.stands.is.limit in omega (arith, ints, now, limit)
 
-pub next_given-requires-clause-limit : goal.next_given-requires-clause-limit
-next_given-requires-clause-limit g c =
+pub next_given-requires : goal.next_given-requires
+next_given-requires g c =
     let now = c.requires.seen.at.now in
     let limit = c.requires.seen.at.stands.is.limit in
-    let after = c.next_unit.ensures in
-    omega (arith, ints, now, limit, after)
-
-pub next_given-requires-clause-ended : goal.next_given-requires-clause-ended
-next_given-requires-clause-ended g c = λ ended.
-    let now = c.requires.seen.at.now in
     let same = c.notes.invariant.now in
     let after = c.next_unit.ensures in
-    omega (arith, ints, now, same, after)
+    record { may = record { limit = omega (arith, ints, now, limit, after); ended = λ ended. omega (arith, ints, now, same, after) } }
 
 pub record-requires-clause-may : goal.record-requires-clause-may
 record-requires-clause-may g c =
@@ -46,7 +41,8 @@ record-requires-clause-may g c =
       given = given_in network u.events (u.notes ++ h.more) c.next_given.new.note c.args.time c.next_unit.result c.args.world.now
           c.in-Ok-true.field-0 c.in-Ok-true.field-0-test h.stands
           (c.in-Ok-true.ensures.stands network u.events (u.notes ++ h.more) h.stands)
-          c.in-Ok-true.ensures.before u.at.now c.notes.invariant.now c.next_unit.ensures;
+          (comes_before c.notes.world c.next_given.new.self c.next_unit.result c.in-Ok-true.field-0 c.next_given.new.note c.in-Ok-true.ensures.reached
+          c.in-Ok-true.field-0-test) u.at.now c.notes.invariant.now c.next_unit.ensures;
       sees = h.sees;
     }
 
@@ -64,7 +60,8 @@ notes-preserved g c =
     let first = given_in network u.events (u.notes ++ own.more) c.next_given.new.note time c.next_unit.result
     c.args.world.now
     c.in-Ok-true.field-0 c.in-Ok-true.field-0-test own.stands (c.in-Ok-true.ensures.stands network u.events (u.notes ++ own.more) own.stands)
-    c.in-Ok-true.ensures.before u.at.now c.notes.invariant.now c.next_unit.ensures in
+    (comes_before c.notes.world c.next_given.new.self c.next_unit.result c.in-Ok-true.field-0 c.next_given.new.note c.in-Ok-true.ensures.reached
+    c.in-Ok-true.field-0-test) u.at.now c.notes.invariant.now c.next_unit.ensures in
     let here = first.here in
     record {
       sees = λ events notes old a b.
@@ -72,7 +69,8 @@ notes-preserved g c =
           let given = given_in network events (notes ++ h.more) c.next_given.new.note time c.next_unit.result
           c.args.world.now
           c.in-Ok-true.field-0 c.in-Ok-true.field-0-test h.stands (c.in-Ok-true.ensures.stands network events (notes ++ h.more) h.stands)
-          c.in-Ok-true.ensures.before a.now c.notes.invariant.now c.next_unit.ensures in
+          (comes_before c.notes.world c.next_given.new.self c.next_unit.result c.in-Ok-true.field-0 c.next_given.new.note c.in-Ok-true.ensures.reached
+          c.in-Ok-true.field-0-test) a.now c.notes.invariant.now c.next_unit.ensures in
           seen_one g.O.Observer.sees network events notes (Some (amount time)) (amount time + 1) c.notes.world c.notes.observer old (told_by sink c.notes.out) h
           c.next_given.new.note next (omega (arith, here)) given.stands c.record.new.self (told_by sink c.record.new.out)
           (c.in-Ok.ensures.goes events (notes ++ h.more) (Some (amount time)) old given h.sees);
@@ -89,7 +87,8 @@ returns-in-Err-record-clause-sees g c events notes old a b =
     let h = c.notes.invariant.sees events notes old a b in
     let given = given_in network events (notes ++ h.more) c.next_given.new.note time c.next_unit.result c.args.world.now
     c.in-Ok-true.field-0 c.in-Ok-true.field-0-test h.stands (c.in-Ok-true.ensures.stands network events (notes ++ h.more) h.stands)
-    c.in-Ok-true.ensures.before a.now c.notes.invariant.now c.next_unit.ensures in
+    (comes_before c.notes.world c.next_given.new.self c.next_unit.result c.in-Ok-true.field-0 c.next_given.new.note c.in-Ok-true.ensures.reached
+    c.in-Ok-true.field-0-test) a.now c.notes.invariant.now c.next_unit.ensures in
     let here = given.here in
     cut_one g.O.Observer.sees network events notes (Some (amount time)) (amount time + 1) c.notes.world c.notes.observer old (told_by sink c.notes.out) h
     c.next_given.new.note next (omega (arith, here)) given.stands g.O.Observer.stops c.in-Err-record.cut (told_by sink c.record.new.out)

@@ -1,8 +1,8 @@
 use Rattle.world_drive.{proofs.{Placed.{end_stays, fewer}, exact_lemmas.Worlds.below_amount}, specs.Observing.instant_of}
 use Rattle.world_drive.proofs.{Instants.{given_before, underway_now}, Ways.{asked_limit, asked_still, past_near, past_order, room_now, way_reached}}
 use Rattle.world_drive.proofs.More.{cut_here, cut_in_instant, cut_one, puts_cut, puts_more, puts_none, puts_well, seen_instant, seen_none, seen_one, seen_until}
-use Rattle.world_drive.proofs.Words.{◌++◌, ◌+◌, ◌∙◌, ◌∷◌, ◌≡◌, IsUnderwayAt, List, None, NoteValue, Reaches, Some, StandsExact, [], amount, ap, arith}
-use Rattle.world_drive.proofs.{Words.{go_on, inl, inr, ints, refl, subst, sym, told_by}, exact_lemmas.Given.{given_none, if_none, is_before}}
+use Rattle.world_drive.proofs.Words.{◌++◌, ◌+◌, ◌∙◌, ◌∷◌, ◌≡◌, IsUnderwayAt, List, None, NoteValue, Some, StandsExact, [], amount, ap, arith}
+use Rattle.world_drive.proofs.{Words.{go_on, inl, inr, ints, refl, subst, sym, told_by}, exact_lemmas.Given.{comes_before, comes_to, given_none, is_before}}
 use Rattle.world_drive.proofs.seeing.see_until.Goals as goal
 
 pub notes-init : goal.notes-init
@@ -15,15 +15,13 @@ notes-init g c = record {
   puts = puts_none g.K.Sink c.args.out.now;
 }
 
-pub next_given-requires-clause-limit : goal.next_given-requires-clause-limit
-next_given-requires-clause-limit g c =
+pub next_given-requires : goal.next_given-requires
+next_given-requires g c =
     let network = c.args.network.now in
     let u = c.requires.seen in
     let h = c.notes.invariant.sees u.events u.notes u.old u.stands u.sees in
-    asked_limit network c.args.until c.notes.world h.stands c.notes.invariant.asked
-
-pub next_given-requires-clause-ended : goal.next_given-requires-clause-ended
-next_given-requires-clause-ended g c = c.notes.invariant.asked.ended
+    let asked = c.notes.invariant.asked in
+    record { may = record { limit = asked_limit network c.args.until c.notes.world h.stands asked; ended = asked.ended } }
 
 pub record-requires-clause-may : goal.record-requires-clause-may
 record-requires-clause-may g c =
@@ -37,7 +35,9 @@ record-requires-clause-may g c =
       old = u.old;
       given = given_before network u.events (u.notes ++ h.more) c.next_given.new.note c.args.until c.in-Ok-true.field-0
           c.in-Ok-true.field-0-test
-          (c.in-Ok-true.ensures.stands network u.events (u.notes ++ h.more) h.stands) c.in-Ok-true.ensures.before;
+          (c.in-Ok-true.ensures.stands network u.events (u.notes ++ h.more) h.stands)
+          (comes_before c.notes.world c.next_given.new.self c.args.until c.in-Ok-true.field-0 c.next_given.new.note c.in-Ok-true.ensures.reached
+          c.in-Ok-true.field-0-test);
       sees = h.sees;
     }
 
@@ -52,12 +52,13 @@ see_instant-requires-clause-seen g c =
     let next = c.next_given.new.self in
     let time = c.note.inside.time in
     let time_is : time ≡ note.time = ap (λ (n : NoteValue). n.time) c.note.view_is in
-    let before = is_before note next.now until.0 (c.in-Ok-true.ensures.before c.in-Ok-true.field-0-test) in
+    let came = comes_before world next until c.in-Ok-true.field-0 note c.in-Ok-true.ensures.reached c.in-Ok-true.field-0-test in
+    let before = is_before note next.now until.0 came in
     let u = c.requires.seen in
     let h = c.notes.invariant.sees u.events u.notes u.old u.stands u.sees in
     let given = given_before network u.events (u.notes ++ h.more) note until c.in-Ok-true.field-0
     c.in-Ok-true.field-0-test
-    (c.in-Ok-true.ensures.stands network u.events (u.notes ++ h.more) h.stands) c.in-Ok-true.ensures.before in
+    (c.in-Ok-true.ensures.stands network u.events (u.notes ++ h.more) h.stands) came in
     let room = room_now network until world h.stands given.stands before c.notes.invariant.asked in
     record {
       events = u.events;
@@ -86,18 +87,19 @@ notes-preserved g c =
     let note = c.next_given.new.note in
     let world = c.notes.world in
     let next = c.next_given.new.self in
-    let before = is_before note next.now until.0 (c.in-Ok-true.ensures.before c.in-Ok-true.field-0-test) in
+    let came = comes_before world next until c.in-Ok-true.field-0 note c.in-Ok-true.ensures.reached c.in-Ok-true.field-0-test in
+    let before = is_before note next.now until.0 came in
     let u = c.requires.seen in
     let own = c.notes.invariant.sees u.events u.notes u.old u.stands u.sees in
     let ns = u.notes ++ own.more in
     let first = given_before network u.events ns note until c.in-Ok-true.field-0 c.in-Ok-true.field-0-test
-    (c.in-Ok-true.ensures.stands network u.events ns own.stands) c.in-Ok-true.ensures.before in
+    (c.in-Ok-true.ensures.stands network u.events ns own.stands) came in
     record {
       sees = λ events notes old a b.
           let h = c.notes.invariant.sees events notes old a b in
           let given = given_before network events (notes ++ h.more) note until c.in-Ok-true.field-0
           c.in-Ok-true.field-0-test
-          (c.in-Ok-true.ensures.stands network events (notes ++ h.more) h.stands) c.in-Ok-true.ensures.before in
+          (c.in-Ok-true.ensures.stands network events (notes ++ h.more) h.stands) came in
           let saw = subst (λ asks. see network events ((notes ++ h.more) ++ note ∷ []) (instant_of None asks note.time) old
           (told_by sink c.record.new.out) c.record.new.self) c.in-Ok-false-record.field-0-test
           (c.in-Ok-false-record.ensures.goes events (notes ++ h.more) None old given h.sees) in
@@ -119,7 +121,8 @@ notes-smaller-in-Ok g c =
     let next = c.next_given.new.self in
     let time = c.note.inside.time in
     let time_is : time ≡ note.time = ap (λ (n : NoteValue). n.time) c.note.view_is in
-    let before = is_before note next.now until.0 (c.in-Ok-true.ensures.before c.in-Ok-true.field-0-test) in
+    let came = comes_before world next until c.in-Ok-true.field-0 note c.in-Ok-true.ensures.reached c.in-Ok-true.field-0-test in
+    let before = is_before note next.now until.0 came in
     let events = c.requires.seen.events in
     let notes = c.requires.seen.notes in
     let old = c.requires.seen.old in
@@ -127,7 +130,7 @@ notes-smaller-in-Ok g c =
     let b = c.requires.seen.sees in
     let h = c.notes.invariant.sees events notes old a b in
     let given = given_before network events (notes ++ h.more) note until c.in-Ok-true.field-0 c.in-Ok-true.field-0-test
-    (c.in-Ok-true.ensures.stands network events (notes ++ h.more) h.stands) c.in-Ok-true.ensures.before in
+    (c.in-Ok-true.ensures.stands network events (notes ++ h.more) h.stands) came in
     let room = room_now network until world h.stands given.stands before c.notes.invariant.asked in
     let at = subst (λ u. IsUnderwayAt network next events ((notes ++ h.more) ++ note ∷ []) u) (sym time_is)
     (underway_now (notes ++ h.more) note given.stands given.at
@@ -150,19 +153,20 @@ notes-preserved-in-Ok g c =
     let next = c.next_given.new.self in
     let time = c.note.inside.time in
     let time_is : time ≡ note.time = ap (λ (n : NoteValue). n.time) c.note.view_is in
-    let before = is_before note next.now until.0 (c.in-Ok-true.ensures.before c.in-Ok-true.field-0-test) in
+    let came = comes_before world next until c.in-Ok-true.field-0 note c.in-Ok-true.ensures.reached c.in-Ok-true.field-0-test in
+    let before = is_before note next.now until.0 came in
     let u = c.requires.seen in
     let own = c.notes.invariant.sees u.events u.notes u.old u.stands u.sees in
     let ns = u.notes ++ own.more in
     let first = given_before network u.events ns note until c.in-Ok-true.field-0 c.in-Ok-true.field-0-test
-    (c.in-Ok-true.ensures.stands network u.events ns own.stands) c.in-Ok-true.ensures.before in
+    (c.in-Ok-true.ensures.stands network u.events ns own.stands) came in
     let past = c.see_instant.new.world in
     let on = c.in-Ok.ensures.past in
     let others : (ms : List NoteValue) × StandsExact network past u.events ms =
     (let events = u.events in let notes = u.notes in let old = u.old in let a = u.stands in let b = u.sees in
     let h = c.notes.invariant.sees events notes old a b in
     let given = given_before network events (notes ++ h.more) note until c.in-Ok-true.field-0 c.in-Ok-true.field-0-test
-    (c.in-Ok-true.ensures.stands network events (notes ++ h.more) h.stands) c.in-Ok-true.ensures.before in
+    (c.in-Ok-true.ensures.stands network events (notes ++ h.more) h.stands) came in
     let room = room_now network until world h.stands given.stands before c.notes.invariant.asked in
     let at = subst (λ u. IsUnderwayAt network next events ((notes ++ h.more) ++ note ∷ []) u) (sym time_is)
     (underway_now (notes ++ h.more) note given.stands given.at
@@ -178,7 +182,7 @@ notes-preserved-in-Ok g c =
           let h = c.notes.invariant.sees events notes old a b in
           let given = given_before network events (notes ++ h.more) note until c.in-Ok-true.field-0
           c.in-Ok-true.field-0-test
-          (c.in-Ok-true.ensures.stands network events (notes ++ h.more) h.stands) c.in-Ok-true.ensures.before in
+          (c.in-Ok-true.ensures.stands network events (notes ++ h.more) h.stands) came in
           let room = room_now network until world h.stands given.stands before c.notes.invariant.asked in
           let at = subst (λ u. IsUnderwayAt network next events ((notes ++ h.more) ++ note ∷ []) u) (sym time_is)
           (underway_now (notes ++ h.more) note given.stands given.at
@@ -213,10 +217,11 @@ returns-in-Err-see_instant-clause-sees g c events notes old a b =
     let next = c.next_given.new.self in
     let time = c.note.inside.time in
     let time_is : time ≡ note.time = ap (λ (n : NoteValue). n.time) c.note.view_is in
-    let before = is_before note next.now until.0 (c.in-Ok-true.ensures.before c.in-Ok-true.field-0-test) in
+    let came = comes_before world next until c.in-Ok-true.field-0 note c.in-Ok-true.ensures.reached c.in-Ok-true.field-0-test in
+    let before = is_before note next.now until.0 came in
     let h = c.notes.invariant.sees events notes old a b in
     let given = given_before network events (notes ++ h.more) note until c.in-Ok-true.field-0 c.in-Ok-true.field-0-test
-    (c.in-Ok-true.ensures.stands network events (notes ++ h.more) h.stands) c.in-Ok-true.ensures.before in
+    (c.in-Ok-true.ensures.stands network events (notes ++ h.more) h.stands) came in
     let room = room_now network until world h.stands given.stands before c.notes.invariant.asked in
     let at = subst (λ u. IsUnderwayAt network next events ((notes ++ h.more) ++ note ∷ []) u) (sym time_is)
     (underway_now (notes ++ h.more) note given.stands given.at
@@ -247,10 +252,11 @@ returns-in-Err-record-clause-sees g c events notes old a b =
     let note = c.next_given.new.note in
     let world = c.notes.world in
     let next = c.next_given.new.self in
-    let before = is_before note next.now until.0 (c.in-Ok-true.ensures.before c.in-Ok-true.field-0-test) in
+    let came = comes_before world next until c.in-Ok-true.field-0 note c.in-Ok-true.ensures.reached c.in-Ok-true.field-0-test in
+    let before = is_before note next.now until.0 came in
     let h = c.notes.invariant.sees events notes old a b in
     let given = given_before network events (notes ++ h.more) note until c.in-Ok-true.field-0 c.in-Ok-true.field-0-test
-    (c.in-Ok-true.ensures.stands network events (notes ++ h.more) h.stands) c.in-Ok-true.ensures.before in
+    (c.in-Ok-true.ensures.stands network events (notes ++ h.more) h.stands) came in
     cut_one see network events notes None (amount until) world c.notes.observer old (told_by sink c.notes.out) h note next
     (below_amount next.now until.0 before) given.stands g.O.Observer.stops c.in-Err-record.cut (told_by sink c.record.new.out)
     (c.in-Err-record.ensures.goes events (notes ++ h.more) None old given h.sees)
@@ -280,7 +286,7 @@ returns-in-Ok-false-clause-reached g c =
     let u = c.requires.seen in
     let h = c.notes.invariant.sees u.events u.notes u.old u.stands u.sees in
     way_reached c.args.until next u.stands h.stands c.notes.invariant.way
-    (if_none c.in-Ok-false.field-0 c.next_given.new.note (Reaches c.notes.world next c.args.until) c.in-Ok-false.field-0-test c.in-Ok-false.ensures.reached)
+    (comes_to c.notes.world next c.args.until c.in-Ok-false.field-0 c.next_given.new.note c.in-Ok-false.ensures.reached c.in-Ok-false.field-0-test)
 
 pub returns-in-Ok-false-clause-puts : goal.returns-in-Ok-false-clause-puts
 returns-in-Ok-false-clause-puts g c = puts_well (tt {0}) c.notes.invariant.puts

@@ -5,7 +5,6 @@ pub give_next-requires : goal.give_next-requires
 give_next-requires g c =
     let own = c.in-Ok-true.ensures.own c.in-Ok-true.field-0-test in
     record {
-      range = c.requires.may.range;
       well = c.act.ensures.step.well;
       first = record { first = own.first; others = own.others; whole = own.whole; before = inr own.own };
     }

@@ -6,7 +6,7 @@ pub give_next-requires-clause-first : goal.give_next-requires-clause-first
 give_next-requires-clause-first g c =
     let source = c.source_by-source in
     may_give_first g.C.Clock.last_step g.C.Clock.reading g.M.Machine.stands c.args.network.now c.args.self.now source.result
-    (record { there = source.ensures.there; nothing = source.ensures.nothing }) (c.if-has_first.ensures.yes refl)
+    source.ensures.foremost (c.if-has_first.ensures.yes refl)
 
 pub pass_on-requires-clause-empty : goal.pass_on-requires-clause-empty
 pass_on-requires-clause-empty g c =
@@ -43,7 +43,7 @@ work_turn-requires g c =
         range = may.range;
         well = may.well;
         room = c.requires.room;
-        foremost = record { there = source.ensures.there; nothing = source.ensures.nothing };
+        foremost = source.ensures.foremost;
         first = c.if-has_first.ensures.no refl;
       };
       present = now_so source.result c.in_default.not-Later;

@@ -1,6 +1,7 @@
 use Rattle.drift_world.{proofs.{Turning.{gives_first, kept_timers, plain_step, step_kept}, state.State.give_next.Goals.In-Ok}, specs.declared.state.State.State}
+use Rattle.drift_world.proofs.Timings.{in_range}
 use Rattle.drift_world.proofs.Words.{◌++◌, ◌∙◌, ◌∷◌, ◌≡◌, ChangesOnly, List, Note, Scenario, Stands, World, [], ap, arith}
-use Rattle.drift_world.proofs.Words.{changed_device, keeps, note_of, settled_at, subst, sym, units_of, world_of}
+use Rattle.drift_world.proofs.Words.{changed_device, keeps, length, note_of, settled_at, subst, sym, units_of, world_of}
 use Rattle.drift_world.proofs.state.State.give_next.Given as given
 use Rattle.drift_world.proofs.state.State.give_next.Goals as goal
 
@@ -14,13 +15,22 @@ given_so g c s notes old =
     (gives_first g.C.Clock.last_step g.C.Clock.reading g.M.Machine.stands c.args.network.now c.args.self.now f s notes c.requires.well.sound old) in
     (step.0, step.1.0)
 
-pub rekey_after-requires-clause-running : goal.rekey_after-requires-clause-running
-rekey_after-requires-clause-running g c =
-    let run = c.requires.well.running in
+pub give-requires-clause-range : goal.give-requires-clause-range
+give-requires-clause-range g c = in_range c.requires.well.running
+
+pub rekey_after-requires-clause-may : goal.rekey_after-requires-clause-may
+rekey_after-requires-clause-may g c =
+    let well = c.requires.well in
+    let run = well.running in
+    let E = c.in-Ok.ensures in
     record {
-      s = run.s;
-      notes = run.notes ++ c.give.new.note ∷ [];
-      is = (given_so g (goal.at.rekey_after-requires-clause-running g c).In-Ok run.s run.notes run.is).1;
+      sized = E.sound.sized;
+      slots = ap (λ (t : State _ _). length t.timers) E.same ∙ well.timed.sized;
+      running = record {
+        s = run.s;
+        notes = run.notes ++ c.give.new.note ∷ [];
+        is = (given_so g (goal.at.rekey_after-requires-clause-may g c).In-Ok run.s run.notes run.is).1;
+      };
     }
 
 pub returns-in-Ok-clause-kept : goal.returns-in-Ok-clause-kept

@@ -1,5 +1,5 @@
 use Rattle.drift_world.{proofs.Turning.{after_then, kept_then}, specs.Turns.{IsKept, TurnsTo, given_in}}
-use Rattle.drift_world.proofs.Words.{◌+◌, ◌∙◌, List, Note, Ok, OutOfMemory, Stands, Turn, Units, ap, append-nil, arith, ints, keeps, refl, subst, sym, world_of}
+use Rattle.drift_world.proofs.Words.{◌+◌, ◌∙◌, List, Note, Ok, OutOfMemory, Stands, Turn, ap, append-nil, arith, keeps, refl, subst, sym, world_of}
 use Rattle.drift_world.{proofs.state.State.next.Goals.{After-turn, In-Ok-Ends, In-Ok-GoesOn}, specs.declared.next.Turn.TheVariants.{Ends, GoesOn}}
 use Rattle.drift_world.proofs.state.State.next.Given as given
 use Rattle.drift_world.proofs.state.State.next.Goals as goal
@@ -40,13 +40,11 @@ returns-in-Ok-Gives-clause-kept g c =
     (subst (λ (t : Turn). IsKept g.C.Clock.last_step g.C.Clock.reading g.M.Machine.stands c.args.network.now c.turns.self c.turn.new.self
     (given_in {E = OutOfMemory} (Ok t) c.turn.new.note)) c.in-Ok-Gives.field-0-is c.in-Ok-Gives.ensures.kept)
 
-pub returns-in-Ok-Gives-clause-given : goal.returns-in-Ok-Gives-clause-given
-returns-in-Ok-Gives-clause-given g c = λ some.
+pub returns-in-Ok-Gives-clause-says : goal.returns-in-Ok-Gives-clause-says
+returns-in-Ok-Gives-clause-says g c =
     let says = (subst (TurnsTo g.C.Clock.reading g.M.Machine.stands c.args.network.now c.args.until c.turns.self c.turn.new.self c.turn.new.note)
     c.in-Ok-Gives.field-0-is c.in-Ok-Gives.ensures.turns).says in
-    let time = ap (λ (u : Units). u.0) says.0 in
-    let early = says.1 in
-    (says.0, omega (arith, ints, time, early), says.2 ∙ ap (λ n. n + 1) c.turns.invariant.given)
+    (says.0, says.1, says.2 ∙ ap (λ n. n + 1) c.turns.invariant.given)
 
 pub returns-in-Ok-Ends-clause-kept : goal.returns-in-Ok-Ends-clause-kept
 returns-in-Ok-Ends-clause-kept g c =
@@ -63,15 +61,8 @@ pub returns-in-Ok-Ends-clause-complete : goal.returns-in-Ok-Ends-clause-complete
 returns-in-Ok-Ends-clause-complete g c = λ s notes is none.
     (ended g (goal.at.returns-in-Ok-Ends-clause-complete g c).In-Ok-Ends).whole s notes (c.turns.invariant.still s notes is)
 
-pub returns-in-Ok-Ends-clause-reached : goal.returns-in-Ok-Ends-clause-reached
-returns-in-Ok-Ends-clause-reached g c = λ none is limit.
-    (ended g (goal.at.returns-in-Ok-Ends-clause-reached g c).In-Ok-Ends).says (c.turns.invariant.after.ended ∙ is) limit
-
 pub returns-in-Err-clause-kept : goal.returns-in-Err-clause-kept
 returns-in-Err-clause-kept g c = since g (goal.at.returns-in-Err-clause-kept g c).After-turn _ c.in-Err.ensures.kept
-
-pub returns-in-Err-clause-err : goal.returns-in-Err-clause-err
-returns-in-Err-clause-err g c = c.in-Err.ensures.err
 
 gone_on : (g : given.Over) (c : In-Ok-GoesOn g) → TurnsTo g.C.Clock.reading g.M.Machine.stands c.args.network.now c.args.until c.turns.self c.turn.new.self
     c.turn.new.note GoesOn

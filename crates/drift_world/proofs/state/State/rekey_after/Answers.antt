@@ -1,6 +1,19 @@
 use Rattle.drift_world.proofs.{Halves.set_ripe, Words.{◌^◌, ◌∙◌, ◌≡◌, ArrivedAt, ChangesOnly, ap, arith, changed_device, length, refl, subst, sym}}
-use Rattle.{drift_world.proofs.{Said.far_kind, Timings.{aside, rekeyed}}, run_law.specs.plain.Bodies.body_of}
+use Rattle.{drift_world.proofs.{Said.far_kind, Timings.{aside, in_range, rekeyed}}, run_law.specs.plain.Bodies.body_of}
 use Rattle.drift_world.proofs.state.State.rekey_after.Goals as goal
+
+pub rekey_ripe-requires : goal.rekey_ripe-requires
+rekey_ripe-requires g c =
+    let may = c.requires.may in
+    record {
+      may = record {
+        sized = may.sized;
+        there = subst (ArrivedAt (length c.args.network.now.device)) (sym c.body.view_is ∙ ap body_of c.in-Arrived.is) c.requires.arrived;
+        few = (in_range may.running).few_devices;
+        slots = may.slots;
+        running = may.running;
+      };
+    }
 
 pub returns-in-Arrived-clause-timed : goal.returns-in-Arrived-clause-timed
 returns-in-Arrived-clause-timed g c = λ before are changes machines timers.
@@ -21,7 +34,7 @@ returns-in_default g c = record {
   same = refl;
   timed = λ before are changes machines timers.
       let far : changed_device c.args.body.now ≡ 2 ^ 32 = ap changed_device (sym c.body.view_is) ∙ far_kind c.body.inside.kind c.in_default.not-Arrived in
-      let few = c.requires.range.few_devices in
+      let few = (in_range c.requires.may.running).few_devices in
       aside g.C.Clock.reading g.M.Machine.stands c.args.network.now (changed_device c.args.body.now) before c.args.self.now are (omega (arith, far, few))
       changes timers;
 }

@@ -1,4 +1,4 @@
-use Rattle.drift_world.proofs.{Timings.{running_with, set_more, sized_with}, Words.{ap, arith, length}}
+use Rattle.drift_world.proofs.{Timings.{in_range, running_with, set_more, sized_with}, Words.{ap, arith, length}}
 use Rattle.drift_world.proofs.state.State.rekey_all.Goals as goal
 
 pub rekey-requires : goal.rekey-requires
@@ -10,11 +10,11 @@ rekey-requires g c =
     let S = g.M.Machine.stands in
     record {
       may = record {
-        sized = sized_with K.last_step K.reading S c.args.network.now c.args.self.now c.loop-device.self before.same c.requires.sized;
+        sized = sized_with K.last_step K.reading S c.args.network.now c.args.self.now c.loop-device.self before.same c.requires.may.sized;
         there = omega (arith, more, len);
-        few = c.requires.range.few_devices;
+        few = (in_range c.requires.may.running).few_devices;
         slots = before.sized;
-        running = running_with K.last_step K.reading S c.args.network.now c.args.self.now c.loop-device.self before.same c.requires.running;
+        running = running_with K.last_step K.reading S c.args.network.now c.args.self.now c.loop-device.self before.same c.requires.may.running;
       };
     }
 

@@ -3,78 +3,86 @@ use Rattle.drift_world.proofs.{Foremost.slot_first, state.State.source_by.Goals.
 use Rattle.drift_world.proofs.Words.{Due, DueAt, IsFirst, ap, arith, both_ways, length, refl}
 use Rattle.drift_world.proofs.state.State.source_by.Goals as goal
 
-pub returns-then-self-clause-nothing : goal.returns-then-self-clause-nothing
-returns-then-self-clause-nothing g c = events_first g.C.Clock.last_step g.C.Clock.reading g.M.Machine.stands c.args.network.now c.args.self.now c.args.place
-    c.args.due c.requires.well c.requires.firsts
+pub returns-then-self-clause-foremost : goal.returns-then-self-clause-foremost
+returns-then-self-clause-foremost g c = record {
+  there = c.if-self.true;
+  nothing = events_first g.C.Clock.last_step g.C.Clock.reading g.M.Machine.stands c.args.network.now c.args.self.now c.args.place
+      c.args.due c.requires.may.well c.requires.firsts;
+}
 
-pub returns-in-Some-clause-there : goal.returns-in-Some-clause-there
-returns-in-Some-clause-there g c =
+pub returns-in-Some-clause-foremost : goal.returns-in-Some-clause-foremost
+returns-in-Some-clause-foremost g c =
     let is = c.in-Some.ensures.some in
-    let at = placed g.C.Clock.last_step g.C.Clock.reading g.M.Machine.stands c.args.network.now c.args.self.now c.args.place c.args.due c.requires.well
+    let at = placed g.C.Clock.last_step g.C.Clock.reading g.M.Machine.stands c.args.network.now c.args.self.now c.args.place c.args.due c.requires.may.well
     c.requires.firsts c.in-Some.arrival is.0 in
     record {
-      first = from_some (λ (q : DueAt). IsFirst c.args.self.now.under_way.entries q) c.args.place c.in-Some.arrival c.requires.firsts.some_place is.0;
-      now = is.1;
-      rank_is = is.2;
-      device = at.0;
-      link = at.1;
+      there = record {
+        first = from_some (λ (q : DueAt). IsFirst c.args.self.now.under_way.entries q) c.args.place c.in-Some.arrival c.requires.firsts.some_place is.0;
+        now = is.1;
+        rank_is = is.2;
+        device = at.0;
+        link = at.1;
+      };
+      nothing = arrival_first g.C.Clock.last_step g.C.Clock.reading g.M.Machine.stands c.args.network.now c.args.self.now c.args.place c.args.due
+          c.requires.may.well c.requires.firsts c.in-Some.arrival c.if-self.false is.0 is.1 is.2;
     }
 
-pub returns-in-Some-clause-nothing : goal.returns-in-Some-clause-nothing
-returns-in-Some-clause-nothing g c =
-    let is = c.in-Some.ensures.some in
-    arrival_first g.C.Clock.last_step g.C.Clock.reading g.M.Machine.stands c.args.network.now c.args.self.now c.args.place c.args.due c.requires.well
-    c.requires.firsts c.in-Some.arrival c.if-self.false is.0 is.1 is.2
-
-pub returns-in-Some-slot_at-clause-nothing : goal.returns-in-Some-slot_at-clause-nothing
-returns-in-Some-slot_at-clause-nothing g c =
+pub returns-in-Some-slot_at-clause-foremost : goal.returns-in-Some-slot_at-clause-foremost
+returns-in-Some-slot_at-clause-foremost g c =
     let first = c.in-Some-slot_at.first in
     let d : Due = record { time = c.args.self.now.time; rank = first.rank; slot = first.slot } in
-    slot_first g.C.Clock.last_step g.C.Clock.reading g.M.Machine.stands c.args.network.now c.args.self.now c.args.place c.args.due c.requires.well
-    c.requires.firsts d _ c.if-self.false c.in_default.ensures.none c.in-Some-slot_at.ensures.some refl c.source_of_slot.ensures.place
-
-pub returns-in-Some-placed_at-clause-there : goal.returns-in-Some-placed_at-clause-there
-returns-in-Some-placed_at-clause-there g c =
-    let is = c.in-Some-placed_at.ensures.some in
-    let q = c.in-Some-placed_at.departure in
-    let at = placed g.C.Clock.last_step g.C.Clock.reading g.M.Machine.stands c.args.network.now c.args.self.now c.args.place c.args.due c.requires.well
-    c.requires.firsts q is.0 in
     record {
-      first = from_some (λ (p : DueAt). IsFirst c.args.self.now.under_way.entries p) c.args.place q c.requires.firsts.some_place is.0;
-      now = is.1;
-      rank_is = is.2;
-      device = at.0;
-      link = at.1;
+      there = c.source_of_slot.ensures.there;
+      nothing = slot_first g.C.Clock.last_step g.C.Clock.reading g.M.Machine.stands c.args.network.now c.args.self.now c.args.place c.args.due
+          c.requires.may.well c.requires.firsts d _ c.if-self.false c.in_default.ensures.none c.in-Some-slot_at.ensures.some refl
+          c.source_of_slot.ensures.place;
     }
 
-pub returns-in-Some-placed_at-clause-nothing : goal.returns-in-Some-placed_at-clause-nothing
-returns-in-Some-placed_at-clause-nothing g c =
+pub returns-in-Some-placed_at-clause-foremost : goal.returns-in-Some-placed_at-clause-foremost
+returns-in-Some-placed_at-clause-foremost g c =
     let is = c.in-Some-placed_at.ensures.some in
-    departure_first g.C.Clock.last_step g.C.Clock.reading g.M.Machine.stands c.args.network.now c.args.self.now c.args.place c.args.due c.requires.well
-    c.requires.firsts c.in-Some-placed_at.departure c.if-self.false c.in_default-slot_at.ensures.none is.0 is.1 is.2
+    let q = c.in-Some-placed_at.departure in
+    let at = placed g.C.Clock.last_step g.C.Clock.reading g.M.Machine.stands c.args.network.now c.args.self.now c.args.place c.args.due c.requires.may.well
+    c.requires.firsts q is.0 in
+    record {
+      there = record {
+        first = from_some (λ (p : DueAt). IsFirst c.args.self.now.under_way.entries p) c.args.place q c.requires.firsts.some_place is.0;
+        now = is.1;
+        rank_is = is.2;
+        device = at.0;
+        link = at.1;
+      };
+      nothing = departure_first g.C.Clock.last_step g.C.Clock.reading g.M.Machine.stands c.args.network.now c.args.self.now c.args.place c.args.due
+          c.requires.may.well c.requires.firsts q c.if-self.false c.in_default-slot_at.ensures.none is.0 is.1 is.2;
+    }
 
-pub returns-then-self-as_slice-clause-nothing : goal.returns-then-self-as_slice-clause-nothing
-returns-then-self-as_slice-clause-nothing g c =
-    clock_first g.C.Clock.last_step g.C.Clock.reading g.M.Machine.stands c.args.network.now c.args.self.now c.args.place c.args.due c.requires.well
-    c.requires.firsts c.if-self.false c.in_default.ensures.none c.in_default-slot_at.ensures.none c.in_default-placed_at.ensures.none
+pub returns-then-self-as_slice-clause-foremost : goal.returns-then-self-as_slice-clause-foremost
+returns-then-self-as_slice-clause-foremost g c =
+    let more = c.if-self-as_slice.true in
+    let len = ap length c.as_slice.ensures in
+    record {
+      there = record { ended = c.if-self-2.true; next = refl; more = omega (arith, more, len) };
+      nothing = clock_first g.C.Clock.last_step g.C.Clock.reading g.M.Machine.stands c.args.network.now c.args.self.now c.args.place c.args.due
+          c.requires.may.well c.requires.firsts c.if-self.false c.in_default.ensures.none c.in_default-slot_at.ensures.none
+          c.in_default-placed_at.ensures.none;
+    }
 
-pub returns-clause-there : goal.returns-clause-there
-returns-clause-there g c =
-    c.least_of.ensures.later c.args.self.now.time c.requires.open
-    (place_after g.C.Clock.last_step g.C.Clock.reading g.M.Machine.stands c.args.network.now c.args.self.now c.args.place c.args.due c.requires.well
-    c.requires.firsts c.in_default.ensures.none c.in_default-placed_at.ensures.none)
-    (due_after g.C.Clock.last_step g.C.Clock.reading g.M.Machine.stands c.args.network.now c.args.self.now c.args.place c.args.due c.requires.well
-    c.requires.firsts c.in_default-slot_at.ensures.none)
-
-pub returns-clause-nothing : goal.returns-clause-nothing
-returns-clause-nothing g c =
+pub returns-clause-foremost : goal.returns-clause-foremost
+returns-clause-foremost g c =
     let within = c.least_of.ensures.within in
-    let limit = c.requires.limit in
-    none_before g.C.Clock.last_step g.C.Clock.reading g.M.Machine.stands c.args.network.now c.args.self.now c.args.place c.args.due c.requires.well
-    c.requires.firsts c.least_of.result (omega (arith, within, limit)) c.if-self.false
-    (λ ended more. elim c.else-self-2.branch [
-      | else-self-2-via-then-self-2+else-self-as_slice v ↦
-          let len = ap length v.as_slice.ensures in let test = v.if-self-as_slice.false in omega (arith, len, test, more)
-      | else-self-2-via-else-self-2 v ↦ both_ways c.args.self.now.ended v.if-self-2.false ended
-    ])
-    c.least_of.ensures.place c.least_of.ensures.due
+    let limit = c.requires.may.limit in
+    record {
+      there = c.least_of.ensures.later c.args.self.now.time c.requires.may.early
+          (place_after g.C.Clock.last_step g.C.Clock.reading g.M.Machine.stands c.args.network.now c.args.self.now c.args.place c.args.due
+          c.requires.may.well c.requires.firsts c.in_default.ensures.none c.in_default-placed_at.ensures.none)
+          (due_after g.C.Clock.last_step g.C.Clock.reading g.M.Machine.stands c.args.network.now c.args.self.now c.args.place c.args.due
+          c.requires.may.well c.requires.firsts c.in_default-slot_at.ensures.none);
+      nothing = none_before g.C.Clock.last_step g.C.Clock.reading g.M.Machine.stands c.args.network.now c.args.self.now c.args.place c.args.due
+          c.requires.may.well c.requires.firsts c.least_of.result (omega (arith, within, limit)) c.if-self.false
+          (λ ended more. elim c.else-self-2.branch [
+            | else-self-2-via-then-self-2+else-self-as_slice v ↦
+                let len = ap length v.as_slice.ensures in let test = v.if-self-as_slice.false in omega (arith, len, test, more)
+            | else-self-2-via-else-self-2 v ↦ both_ways c.args.self.now.ended v.if-self-2.false ended
+          ])
+          c.least_of.ensures.place c.least_of.ensures.due;
+    }

@@ -1,20 +1,20 @@
 use Rattle.drift_world.{proofs.Laters.{IsThere, is_there, time_limit}, specs.{Later.{ComesBehind, MayApplyAgain}, Running.{event_note, option_given}}}
-use Rattle.{drift_world.proofs.{Retries.if_given, world.World.apply.Goals.In-Ok}, net_plan.specs.declared.event.Event.Event}
-use Rattle.drift_world.proofs.Words.{◌++◌, ◌+◌, ◌<ℤ◌, ◌∙◌, ◌∷◌, ◌≡◌, Bool, IfSome, IsOfNetwork, IsRunOf, IsWithinHypothesis, List, Network, Note}
-use Rattle.drift_world.proofs.Words.{StandsUnder, [], ap, append-nil, arith, behind_events, ints, pos, reading_of, subst, sym, true, units_of, ℕ, ℤ}
+use Rattle.{drift_world.proofs.world.World.apply.Goals.In-Ok, net_plan.specs.declared.event.Event.Event}
+use Rattle.drift_world.proofs.Words.{◌++◌, ◌+◌, ◌∙◌, ◌∷◌, IsOfNetwork, IsWithinHypothesis, List, Network, Note}
+use Rattle.drift_world.proofs.Words.{StandsUnder, [], ap, append-nil, arith, both_ways, ints, pos, subst, sym}
 use Rattle.drift_world.proofs.world.World.apply.Given as given
 use Rattle.drift_world.proofs.world.World.apply.Goals as goal
 
--- what is said of the record that was given
-before_it : (given : Bool) (note : Note) (now : ℕ) (until : ℤ) → (given ≡ true → (note.time ≡ units_of now) × (note.time.0 <ℤ until))
-    → IfSome (option_given given note) (λ (n : Note). (n.time ≡ units_of now) × (n.time.0 <ℤ until))
-before_it given note now until is = if_given given note (λ (n : Note). (n.time ≡ units_of now) × (n.time.0 <ℤ until)) is
-
-pub next_given-requires-clause-limit : goal.next_given-requires-clause-limit
-next_given-requires-clause-limit g c =
+pub next_given-requires : goal.next_given-requires
+next_given-requires g c =
     let may = c.requires.may in
     let limit = time_limit may.events c.args.event.now may.comes.is.is.range may.comes.within in
-    omega (arith, ints, limit)
+    record {
+      may = record {
+        limit = omega (arith, ints, limit);
+        ended = λ ended. absurd (both_ways c.args.self.now.ended may.opens.unended ended);
+      };
+    }
 
 pub returns-in-Err-clause-stands : goal.returns-in-Err-clause-stands
 returns-in-Err-clause-stands g c = λ network events notes comes.
@@ -31,8 +31,7 @@ there g c network events notes comes =
     let E = c.in-Ok.ensures in
     is_there g.C.Clock.fresh g.C.Clock.after_step g.C.Clock.reading g.M.Machine.stands network c.args.self.now c.next_given.new.self events notes
     c.args.event.now comes
-    c.requires.open (option_given c.in-Ok.field-0 c.next_given.new.note) (E.stands network events notes comes.is)
-    (before_it c.in-Ok.field-0 c.next_given.new.note c.next_given.new.self.now c.args.event.now.time.0 E.before) E.reached
+    c.requires.may.opens (option_given c.in-Ok.field-0 c.next_given.new.note) (E.stands network events notes comes.is) E.reached
 
 own : (g : given.Over) (c : In-Ok g)
     → IsThere g.C.Clock.fresh g.C.Clock.after_step g.C.Clock.reading g.M.Machine.stands c.args.self.now.network c.args.self.now c.next_given.new.self
@@ -47,9 +46,10 @@ befall-requires g c =
     let event = c.args.event.now in
     let is = own g (goal.at.befall-requires g c).In-Ok in
     record {
-      line = c.requires.line ∙ ap (λ n. n + 1) (sym is.lines);
-      now = is.opens;
-      within = record {
+      may = record {
+        next = may.next ∙ ap (λ n. n + 1) (sym is.lines);
+        now = is.opens;
+        hold = may.hold;
         events = may.events;
         notes = may.notes;
         is = subst (λ n. StandsUnder g.C.Clock.fresh g.C.Clock.after_step g.C.Clock.reading g.M.Machine.stands n mid may.events may.notes)
@@ -57,7 +57,6 @@ befall-requires g c =
         of_network = subst (λ n. IsOfNetwork n event.what) (sym is.same) may.of_network;
         within = subst (λ n. IsWithinHypothesis n may.events event) (sym is.same) may.comes.within;
       };
-      hold = c.requires.hold;
     }
 
 pub returns-in-Ok-befall-clause-stands : goal.returns-in-Ok-befall-clause-stands
@@ -66,15 +65,6 @@ returns-in-Ok-befall-clause-stands g c = λ network events notes comes.
     ++ c.args.event.now ∷ [])
     (notes ++ note ∷ [])) (sym c.note.ensures) (c.in-Ok-befall.ensures.stands network events notes
     (there g (goal.at.returns-in-Ok-befall-clause-stands g c).In-Ok network events notes comes).so comes.within)
-
-pub returns-in-Ok-befall-clause-run : goal.returns-in-Ok-befall-clause-run
-returns-in-Ok-befall-clause-run g c = λ network events notes comes.
-    let is = there g (goal.at.returns-in-Ok-befall-clause-run g c).In-Ok network events notes comes in
-    let all = events ++ c.args.event.now ∷ [] in
-    let f = reading_of g.C.Clock.fresh g.C.Clock.after_step g.C.Clock.reading network all in
-    subst (λ n. IsRunOf network f all (behind_events n) (notes ++ c.note.result ∷ [])) is.now
-    (subst (λ (note : Note). IsRunOf network f all (behind_events c.next_given.new.self.now) (notes ++ note ∷ [])) (sym c.note.ensures)
-    (c.in-Ok-befall.ensures.run network events notes is.so comes.within))
 
 pub returns-in-Ok-befall-clause-note : goal.returns-in-Ok-befall-clause-note
 returns-in-Ok-befall-clause-note g c =

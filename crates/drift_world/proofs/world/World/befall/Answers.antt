@@ -1,22 +1,22 @@
 use Rattle.{drift_world.proofs.{Elsewhere.timed_by_event, Fits.sound_timers, Onwards.befalls, Shortness.sets_short}, net_plan.specs.declared.event.Event.Event}
 use Rattle.{drift_world.{proofs.Timings.unmoved, specs.declared.state.State.State}, precision_law.proofs.traffic_lemmas.safety_lemmas.Histories.slow_rate}
-use Rattle.drift_world.proofs.Words.{◌++◌, ◌∙◌, ◌∷◌, ◌≡◌, AreTimed, IsLawful, IsRunOf, IsSound, IsWithinHypothesis, List, Network, Note, Stands}
-use Rattle.drift_world.proofs.Words.{StandsUnder, [], ap, arith, behind_events, keeps, length, reading_of, refl, scenario, subst, sym, world_of}
+use Rattle.drift_world.proofs.Words.{◌*◌, ◌++◌, ◌∙◌, ◌∷◌, ◌≡◌, AreTimed, IsLawful, IsOfNetwork, IsSound, IsWithinHypothesis, Kept, List, Network, Note, Stands}
+use Rattle.drift_world.proofs.Words.{StandsUnder, World, [], ap, arith, keeps, length, reading_of, refl, scenario, subst, sym, world_of}
 use Rattle.drift_world.proofs.world.World.befall.Given as given
 use Rattle.drift_world.proofs.world.World.befall.Goals as goal
 
 pub apply-requires-clause-slow : goal.apply-requires-clause-slow
 apply-requires-clause-slow g c = λ device rate same.
-    let may = c.requires.within in
+    let may = c.requires.may in
     let most = may.is.is.range.rho in
     let slow = slow_rate c.args.self.now.network may.events c.args.event.now device rate may.within same in
     omega (arith, most, slow)
 
 pub apply-requires-clause-short : goal.apply-requires-clause-short
 apply-requires-clause-short g c =
-    let may = c.requires.within in
+    let may = c.requires.may in
     sets_short may.events c.args.event.now may.is.is.range may.within c.args.event.now.what refl may.of_network
-    c.requires.hold
+    c.requires.may.hold
 
 -- the laws of the clocks
 lawful : (g : given.Over) → IsLawful g.C.Clock.fresh g.C.Clock.after_step g.C.Clock.reading g.C.Clock.grain_of g.C.Clock.count
@@ -54,48 +54,50 @@ invariant_of-self g c =
 
 -- ---- where it befell
 
-pub rekey_by-requires-clause-running : goal.rekey_by-requires-clause-running
-rekey_by-requires-clause-running g c =
+pub rekey_by-requires-clause-may : goal.rekey_by-requires-clause-may
+rekey_by-requires-clause-may g c =
     let K = g.C.Clock in
-    let may = c.requires.within in
+    let may = c.requires.may in
     let own = c.network-network.result.now in
     let network = c.args.self.now.network in
     let events = may.events ++ c.args.event.now ∷ [] in
     record {
-      s = scenario network (reading_of K.fresh K.after_step K.reading network events) events;
-      notes = may.notes ++ c.in-Ok.note ∷ [];
-      is = (befalls K.fresh K.after_step K.reading K.grain_of K.count (lawful g) g.M.Machine.stands own c.self.inside.state c.apply.new.self c.args.self.now
-          (ap (λ n. world_of n c.self.inside.state) c.network-network.ensures.value ∙ c.self.view_is) c.args.event.now c.in-Ok.note
-          (c.self.invariant.sound.sized.clocks ∙ ap (λ (n : Network). length n.device) (sym c.network-network.ensures.value)) c.requires.now
-          c.requires.hold may.of_network c.in-Ok.ensures.still c.in-Ok.ensures.clocks c.in-Ok.ensures.stands network may.events may.notes may.is
-          may.within).0.is;
+      sized = c.apply.ensures.sound.sized;
+      slots = ap length c.apply.ensures.timers ∙ c.self.invariant.timed.sized
+          ∙ ap (λ (n : Network). 2 * length n.device) (sym c.network-network.ensures.value);
+      running = record {
+        s = scenario network (reading_of K.fresh K.after_step K.reading network events) events;
+        notes = may.notes ++ c.in-Ok.note ∷ [];
+        is = (befalls K.fresh K.after_step K.reading K.grain_of K.count (lawful g) g.M.Machine.stands own c.self.inside.state c.apply.new.self c.args.self.now
+            (ap (λ n. world_of n c.self.inside.state) c.network-network.ensures.value ∙ c.self.view_is) c.args.event.now c.in-Ok.note
+            (c.self.invariant.sound.sized.clocks ∙ ap (λ (n : Network). length n.device) (sym c.network-network.ensures.value)) may.now
+            may.hold may.of_network c.in-Ok.ensures.clocks c.in-Ok.ensures.stands network may.events may.notes may.is
+            may.within).is;
+      };
     }
 
 befallen : (g : given.Over) (c : goal.After-rekey_by g) (network : Network) (events : List Event) (notes : List Note)
     → StandsUnder g.C.Clock.fresh g.C.Clock.after_step g.C.Clock.reading g.M.Machine.stands network c.args.self.now events notes
     → IsWithinHypothesis network events c.args.event.now → StandsUnder g.C.Clock.fresh g.C.Clock.after_step g.C.Clock.reading g.M.Machine.stands network
     (world_of c.self.inside.accepted.now c.rekey_by.new.self) (events ++ c.args.event.now ∷ []) (notes ++ c.in-Ok.note ∷ [])
-    × IsRunOf network (reading_of g.C.Clock.fresh g.C.Clock.after_step g.C.Clock.reading network (events ++ c.args.event.now ∷ []))
-    (events ++ c.args.event.now ∷ []) (behind_events c.args.self.now.now) (notes ++ c.in-Ok.note ∷ [])
 befallen g c network events notes under within =
     let K = g.C.Clock in
+    let may = c.requires.may in
     let own = c.network-network.result.now in
     let it = befalls K.fresh K.after_step K.reading K.grain_of K.count (lawful g) g.M.Machine.stands own c.self.inside.state c.apply.new.self c.args.self.now
     (ap (λ n. world_of n c.self.inside.state) c.network-network.ensures.value ∙ c.self.view_is) c.args.event.now c.in-Ok.note
-    (c.self.invariant.sound.sized.clocks ∙ ap (λ (n : Network). length n.device) (sym c.network-network.ensures.value)) c.requires.now
-    c.requires.hold c.requires.within.of_network c.in-Ok.ensures.still c.in-Ok.ensures.clocks c.in-Ok.ensures.stands network events notes under within in
+    (c.self.invariant.sound.sized.clocks ∙ ap (λ (n : Network). length n.device) (sym c.network-network.ensures.value)) may.now
+    may.hold may.of_network c.in-Ok.ensures.clocks c.in-Ok.ensures.stands network events notes under within in
     let same : world_of own c.apply.new.self ≡ world_of c.self.inside.accepted.now c.rekey_by.new.self =
     ap (λ n. world_of n c.apply.new.self) c.network-network.ensures.value
-    ∙ ap (λ s. world_of c.self.inside.accepted.now s) (sym c.rekey_by.ensures.same) in (
-      subst (λ w. StandsUnder K.fresh K.after_step K.reading g.M.Machine.stands network w (events ++ c.args.event.now ∷ [])
-          (notes ++ c.in-Ok.note ∷ [])) same it.0,
-      it.1,
-    )
+    ∙ ap (λ s. world_of c.self.inside.accepted.now s) (sym c.rekey_by.ensures.sets.same) in
+    subst (λ w. StandsUnder K.fresh K.after_step K.reading g.M.Machine.stands network w (events ++ c.args.event.now ∷ [])
+    (notes ++ c.in-Ok.note ∷ [])) same it
 
 pub invariant_of-self-2 : goal.invariant_of-self-2
 invariant_of-self-2 g c =
     let K = g.C.Clock in
-    let may = c.requires.within in
+    let may = c.requires.may in
     let own = c.network-network.result.now in
     let accepted = c.self.inside.accepted.now in
     let network = c.args.self.now.network in
@@ -103,23 +105,22 @@ invariant_of-self-2 g c =
     let state = c.self.inside.state in
     let mid = c.apply.new.self in
     let new = c.rekey_by.new.self in
+    let sets = c.rekey_by.ensures.sets in
     let was = subst (λ n. AreTimed K.reading g.M.Machine.stands n state) (sym c.network-network.ensures.value) c.self.invariant.timed in
+    let of_network = subst (λ n. IsOfNetwork n c.args.event.now.what)
+    (sym (c.network-network.ensures.value ∙ ap (λ (w : World _ (Kept _)). w.network) c.self.view_is)) may.of_network in
     record {
-      sound = sound_timers K.last_step accepted mid new c.rekey_by.ensures.same
+      sound = sound_timers K.last_step accepted mid new sets.same
           (subst (λ n. IsSound K.last_step n mid) c.network-network.ensures.value c.apply.ensures.sound);
       running = record {
         s = scenario network (reading_of K.fresh K.after_step K.reading network events) events;
         notes = may.notes ++ c.in-Ok.note ∷ [];
-        is = (befallen g c network may.events may.notes may.is may.within).0.is;
+        is = (befallen g c network may.events may.notes may.is may.within).is;
       };
       timed = subst (λ n. AreTimed K.reading g.M.Machine.stands n new) c.network-network.ensures.value
           (timed_by_event mid new c.args.event.now.what was c.in-Ok.ensures.others c.apply.ensures.timers
-          c.apply.ensures.still.0 c.rekey_by.ensures.same c.rekey_by.ensures.timed c.rekey_by.ensures.sized c.rekey_by.ensures.others
-          c.rekey_by.ensures.later);
+          c.apply.ensures.still.0 of_network sets c.rekey_by.ensures.timed);
     }
 
 pub returns-clause-stands : goal.returns-clause-stands
-returns-clause-stands g c = λ network events notes under within. (befallen g c network events notes under within).0
-
-pub returns-clause-run : goal.returns-clause-run
-returns-clause-run g c = λ network events notes under within. (befallen g c network events notes under within).1
+returns-clause-stands g c = λ network events notes under within. befallen g c network events notes under within

@@ -1,5 +1,6 @@
 use Rattle.drift_world.{proofs.{Fits.sound_timers, Freshness.{first_sound, first_stands}, Words.world_of}, specs.Beginning.{AreFresh, IsFirstState}}
-use Rattle.drift_world.proofs.Words.{AreTimed, IsInRange, IsLawful, KeepsRules, StandsUnder, [], ap, reading_of, scenario, subst, sym}
+use Rattle.drift_world.proofs.Words.{◌∙◌, AreTimed, IsInRange, IsLawful, KeepsRules, StandsUnder, [], ap, length, reading_of, scenario, subst, sym}
+use Rattle.std.proofs.lemmas.List.{length-replicate}
 use Rattle.drift_world.proofs.world.World.begin.Given as given
 use Rattle.drift_world.proofs.world.World.begin.Goals as goal
 
@@ -14,23 +15,21 @@ lawful g = record {
   drifts = g.met.C.Clock.drifts;
 }
 
-pub rekey_all-requires-clause-sized : goal.rekey_all-requires-clause-sized
-rekey_all-requires-clause-sized g c =
-    (first_sound g.C.Clock.fresh g.C.Clock.last_step c.network-network.result.now c.args.machines.items c.in_ok-state.state c.in_ok-state.ensures
-    (subst IsInRange (sym c.network-network.ensures.value) c.network-network.ensures.range)
-    (subst (λ n. AreFresh g.M.Machine.stands n c.args.machines.items) (sym c.network-network.ensures.value) c.requires).each).sized
-
-pub rekey_all-requires-clause-running : goal.rekey_all-requires-clause-running
-rekey_all-requires-clause-running g c =
+pub rekey_all-requires-clause-may : goal.rekey_all-requires-clause-may
+rekey_all-requires-clause-may g c =
     let K = g.C.Clock in
     let network = c.network-network.result.now in
+    let range = subst IsInRange (sym c.network-network.ensures.value) c.network-network.ensures.range in
+    let are = subst (λ n. AreFresh g.M.Machine.stands n c.args.machines.items) (sym c.network-network.ensures.value) c.requires in
     let under = first_stands K.fresh K.last_step network c.args.machines.items c.in_ok-state.state c.in_ok-state.ensures K.after_step K.reading K.grain_of
     K.count
-    (lawful g) g.M.Machine.stands
-    (subst (λ n. AreFresh g.M.Machine.stands n c.args.machines.items) (sym c.network-network.ensures.value) c.requires)
-    (subst IsInRange (sym c.network-network.ensures.value) c.network-network.ensures.range)
+    (lawful g) g.M.Machine.stands are range
     (subst KeepsRules (sym c.network-network.ensures.value) c.network-network.ensures.rules) in
-    record { s = scenario network (reading_of K.fresh K.after_step K.reading network []) []; notes = []; is = under.is }
+    record {
+      sized = (first_sound K.fresh K.last_step network c.args.machines.items c.in_ok-state.state c.in_ok-state.ensures range are.each).sized;
+      slots = ap length c.in_ok-state.ensures.timers ∙ length-replicate _ _;
+      running = record { s = scenario network (reading_of K.fresh K.after_step K.reading network []) []; notes = []; is = under.is };
+    }
 
 -- the state is the first of the network, but for its timers
 first : (g : given.Over) (c : goal.After-rekey_all g)

@@ -15,7 +15,7 @@ local_of-requires-clause-stepped g c = λ clock found.
     let least = clock_stepped K.fresh K.after_step K.last_step g.met.C.Clock.begins_unstepped g.met.C.Clock.steps_by network may.events device (amount c.args.t)
     may.is.past in
     let le : K.last_step clock ≤ amount c.args.t = subst (λ k. K.last_step k ≤ amount c.args.t) (sym same) least in
-    let begun = c.requires.begun in
+    let begun = c.requires.time.begun in
     omega (arith, ints, le, begun)
 
 pub returns-clause-local : goal.returns-clause-local

@@ -11,10 +11,10 @@ local_of-requires-clause-stepped g c = λ clock found.
     let network = world.network in
     let device = c.args.device in
     let state = c.self.inside.state in
-    let begun = c.requires.begun in
+    let begun = c.requires.may.time.begun in
     elim c.requires.may.may [
       | inl may ↦
-          let was = may.is.is.clocks device c.requires.there in
+          let was = may.is.is.clocks device c.requires.may.there in
           let viewed = ap (λ (w : World _ (Kept _)). Rattle.std.specs.List.slice_get w.clocks device.0) c.self.view_is in
           let same = some_same _ _ _ found (viewed ∙ was) in
           let least = clock_stepped K.fresh K.after_step K.last_step g.met.C.Clock.begins_unstepped g.met.C.Clock.steps_by network may.events device
@@ -29,7 +29,7 @@ local_of-requires-clause-stepped g c = λ clock found.
 
 -- the device is one of the network
 there : (g : given.Over) (c : goal.After-local_of g) → c.args.device.0 < length c.self.inside.accepted.now.device
-there g c = subst (λ (w : World _ (Kept _)). c.args.device.0 < length w.network.device) (sym c.self.view_is) c.requires.there
+there g c = subst (λ (w : World _ (Kept _)). c.args.device.0 < length w.network.device) (sym c.self.view_is) c.requires.may.there
 
 pub returns-clause-local : goal.returns-clause-local
 returns-clause-local g c = λ network events notes complete.
@@ -62,8 +62,8 @@ returns-clause-small g c = λ small.
     let own = c.self.inside.accepted.now in
     let state = c.self.inside.state in
     let shows = c.local_of.ensures.shows in
-    let begun = c.requires.begun in
-    let most = c.requires.limit in
+    let begun = c.requires.may.time.begun in
+    let most = c.requires.may.time.limit in
     let limit : amount c.args.t ≤ 2 ^ 60 = omega (arith, ints, begun, most) in
     elim c.requires.may.may [
       | inl may ↦

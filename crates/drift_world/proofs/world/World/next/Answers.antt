@@ -1,5 +1,5 @@
-use Rattle.drift_world.proofs.Words.{◌++◌, ◌<ℤ◌, ◌∷◌, ◌≡◌, Bool, ComesUpTo, Err, None, Note, Ok, OutOfMemory, StandsUnder, [], amount, arith, given_by}
-use Rattle.{drift_world.{proofs.Words.{ints, subst, sym, units_of}, specs.Running.next_of}, precision_law.specs.traffic.safety.Headline.IsSafeFront}
+use Rattle.drift_world.proofs.Words.{◌++◌, ◌∷◌, Bool, ComesUpTo, Err, None, Note, Ok, OutOfMemory, Some, StandsUnder, [], amount, given_by}
+use Rattle.{drift_world.{proofs.Words.{subst, sym}, specs.Running.next_of}, precision_law.specs.traffic.safety.Headline.IsSafeFront}
 use Rattle.drift_world.proofs.world.World.next.Goals as goal
 
 pub returns-in-Ok-true-clause-stands : goal.returns-in-Ok-true-clause-stands
@@ -11,13 +11,12 @@ returns-in-Ok-true-clause-stands g c = λ network events notes under.
     (notes ++ given_by {E = OutOfMemory} (next_of (Ok more) c.next_given.new.note))) c.in-Ok-true.field-0-test
     (c.in-Ok-true.ensures.stands network events notes under))
 
-pub returns-in-Ok-true-clause-before : goal.returns-in-Ok-true-clause-before
-returns-in-Ok-true-clause-before g c =
-    let is = c.in-Ok-true.ensures.before c.in-Ok-true.field-0-test in
-    let lt = is.1 in
-    let most = c.bounded-time.ensures.most in
-    subst (λ (n : Note). (n.time ≡ units_of c.next_given.new.self.now) × (n.time.0 <ℤ c.args.until.0)) (sym c.note.ensures)
-    (is.0, omega (arith, ints, lt, most))
+pub returns-in-Ok-true-clause-reached : goal.returns-in-Ok-true-clause-reached
+returns-in-Ok-true-clause-reached g c =
+    subst (λ u. ComesUpTo {E = OutOfMemory} c.args.self.now c.next_given.new.self u (Ok (Some c.note.result))) c.bounded-time.ensures.is
+    (subst (λ (n : Note). ComesUpTo {E = OutOfMemory} c.args.self.now c.next_given.new.self c.bounded-time.result (Ok (Some n))) (sym c.note.ensures)
+    (subst (λ (more : Bool). ComesUpTo {E = OutOfMemory} c.args.self.now c.next_given.new.self c.bounded-time.result (next_of (Ok more) c.next_given.new.note))
+    c.in-Ok-true.field-0-test c.in-Ok-true.ensures.reached))
 
 pub returns-in-Ok-true-clause-fewer : goal.returns-in-Ok-true-clause-fewer
 returns-in-Ok-true-clause-fewer g c = c.in-Ok-true.ensures.fewer c.in-Ok-true.field-0-test

@@ -82,4 +82,4 @@ returns-clause-reached g c =
     → Stands K.reading (keeps S) s (world_of n new) (notes ++ given_by (next_of c.next.result c.next.new.note)) in
     subst (λ w. ComesUpTo w (world_of own new) c.args.until (next_of c.next.result c.next.new.note)) c.self.view_is
     (comes_up_to K.reading S own state new _ c.next.result c.next.new.note c.args.until c.amount.result c.amount.ensures.whole c.next.ensures.kept.after
-    c.self.invariant.running (subst Steps c.network.ensures.value c.next.ensures.kept.stands_then) c.next.ensures.reached c.next.ensures.err)
+    c.self.invariant.running (subst Steps c.network.ensures.value c.next.ensures.kept.stands_then) c.next.ensures.says)

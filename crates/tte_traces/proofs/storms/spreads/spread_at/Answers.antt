@@ -8,6 +8,9 @@ use Rattle.tte_traces.proofs.storms.spreads.spread_at.Goals as goal
 pub devices-init : goal.devices-init
 devices-init c = record { ends = λ events notes complete d lt. absurd (omega (arith, lt)); wide = tt }
 
+pub local-requires-clause-time : goal.local-requires-clause-time
+local-requires-clause-time c = record { begun = c.requires.begun; limit = c.requires.limit }
+
 pub with_local-requires-clause-wide : goal.with_local-requires-clause-wide
 with_local-requires-clause-wide c = c.devices.invariant.wide
 

@@ -1,0 +1,102 @@
+ghost use Rattle.std.specs.Prelude.{◌+◌, ◌<◌, ◌^◌, ◌∷◌, ◌≡◌, IfOk, IfSome, List, OnErr, [], false, length, ℕ};
+ghost use Rattle.{net_plan.specs.Ranges.IsInRange, run_law.specs.scenario.Scenarios.Scenario};
+ghost use Rattle.drift_world.specs.Turns.{IsKept, MayWork, WorkSays, given_in};
+ghost use Rattle.drift_world.specs.declared.source.Source.{Source as SourceOf};
+ghost use Rattle.world_state.specs.queue.Places.{IsFirst, numbers_of};
+
+use crate::next::Turn;
+use crate::state::State;
+use device_rules::TellsKind;
+use drift_clock::Clock;
+use net_plan::{DeviceId, LinkId, Network};
+use run_law::Machine;
+use run_law::plain::{PlainNote, Rank};
+use tte_units::frames::Pcf;
+use world_state::OutOfMemory;
+use world_state::contents::Settled;
+use world_state::leaving::{departed, take_port};
+use world_state::queue::DueAt;
+use world_state::settled::{put_in, rank_of};
+
+impl<C: Clock, M: Machine + Drop> State<C, M> {
+    ghost use Rattle.drift_world.specs.{Showing.IsOf, Sound.{IsSized, IsSound}, Stepping.{ChangesOnly, StandsPast}};
+    ghost use Rattle.run_law.specs.records.Ranks.{place_of, rank};
+    ghost use Rattle.world_state.specs.{Giving.{HasItsOctets, changed_device}, Leaving.{departure_in, port_entry}};
+    ghost use Rattle.world_state.specs.{Places.{IsSomePut, own_place}, Views.settled_at};
+    ghost use Rattle.world_state.specs.declared.contents.Settled.{Settled as SettledValue};
+
+    /// The record of a frame at a port that leaves; of a broken device there is none.
+    #[inline(always)]
+    fn departure(&self, network: &Network, place: DueAt, frame: Pcf, given: u64) -> Option<Settled>
+        requires sized { IsSized C.last_step network.now self.now }
+        requires range { IsInRange network.now }
+        requires device { place.device < length network.now.device }
+        requires link { place.link < length network.now.link }
+        ensures octets { IfSome result (λ z. HasItsOctets z.body z.octets) }
+        ensures own { IfSome result (λ z. rank z.body ≡ 8
+            → own_place z ≡ 8 ∷ place.device ∷ place.link ∷ place.cause ∷ []) }
+        ensures none { IfSome result (λ z. changed_device z.body ≡ 2 ^ 32) }
+        ensures is { (s : Scenario) → IsOf C.reading s network.now self.now
+            → result ≡ departure_in s self.now.time (port_entry place frame given) }
+    {
+        if self.broken[place.device as usize] {
+            return None;
+        }
+        let reading = self.reading_of(network, place.device);
+        let way = self.way_from(network, DeviceId(place.device), LinkId(place.link));
+        Some(departed(network, reading, way.cut, place, frame, given))
+    }
+
+    /// The frame at a port that is the first of all leaves. The record of it is answered, which is to be put in among
+    /// what is settled; of a broken device there is none.
+    #[inline(always)]
+    fn leave_port(&mut self, network: &Network, place: DueAt) -> Option<Settled>
+        requires sound { IsSound C.last_step network.now self.old }
+        requires range { IsInRange network.now }
+        requires first { IsFirst self.old.under_way.entries place }
+        requires port { place.rank ≡ 8 }
+        requires device { place.device < length network.now.device }
+        requires link { place.link < length network.now.link }
+        requires at { place.at ≡ self.old.time }
+        ensures sound { IsSound C.last_step network.now self.new }
+        ensures octets { IfSome result (λ z. HasItsOctets z.body z.octets) }
+        ensures own { IfSome result (λ z. rank z.body ≡ 8
+            → place_of (settled_at network.now self.old.time z) ≡ numbers_of place) }
+        ensures none { IfSome result (λ z. changed_device z.body ≡ 2 ^ 32) }
+        ensures stands { (settled : List SettledValue) → IsSomePut result self.old.settled.items settled
+            → StandsPast C.reading M.stands network.now self.old self.new (numbers_of place) settled }
+        ensures others { (n : ℕ) → ChangesOnly n self.old self.new }
+        ensures same { self.new ≡ record self.old { early = false; under_way = self.new.under_way } }
+        ensures shorter { length self.old.under_way.entries ≡ length self.new.under_way.entries + 1 }
+    {
+        let (frame, given) = take_port(&mut self.under_way, place);
+        self.early = false;
+        self.departure(network, place, frame, given)
+    }
+}
+
+impl<C: Clock, M: TellsKind + Drop> State<C, M> {
+    /// The frame that is first at a port leaves. Where it goes on its wire, its record is given at once: it stands at
+    /// the place of the source.
+    #[inline(always)]
+    pub fn departure_turn(
+        &mut self,
+        network: &Network,
+        place: DueAt,
+        note: &mut PlainNote,
+    ) -> Result<Turn, OutOfMemory>
+        requires may { MayWork C.last_step C.reading M.stands network.now self.old (SourceOf.Departure place) }
+        ensures kept { IsKept C.last_step C.reading M.stands network.now self.old self.new (given_in result note.new) }
+        ensures says { IfOk result (WorkSays network.now self.old self.new note.new) }
+        ensures err { OnErr result (self.new.time ≡ self.old.time) }
+    {
+        let Some(record) = self.leave_port(network, place) else {
+            return Ok(Turn::GoesOn);
+        };
+        if rank_of(&record) == Rank::Left.number() {
+            return self.give_in_turn(network, record, note);
+        }
+        put_in(&mut self.settled, record);
+        Ok(Turn::GoesOn)
+    }
+}
