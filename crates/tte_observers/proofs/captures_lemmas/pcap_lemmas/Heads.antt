@@ -58,9 +58,9 @@ one_order : (file : List ℕ) → AreOctets file → number true 4 0 file ≡ ma
 unfolding number
 one_order file o big little = omega (arith, o 0, o 1, o 2, o 3, big, little)
 
-opened_known : {file : List ℕ} {big : Bool} → AreOctets file → HasMagic file big → opened file ≡ judged big file
-opened_known {file} o m = opened_big file m
-opened_known {file} o m = opened_little file (λ b. one_order file o b m.magic) m
+opened_known : (file : List ℕ) (big : Bool) → AreOctets file → HasMagic file big → opened file ≡ judged big file
+opened_known file true o m = opened_big file m
+opened_known file false o m = opened_little file (λ b. one_order file o b m.magic) m
 
 -- what opening finds
 data Opening (file : List ℕ) : Type 0 where
@@ -105,7 +105,7 @@ head_found file head is = elim (told file) [
 ]
 
 head_opens : {file : List ℕ} {head : CaptureHead} → AreOctets file → IsHead file head → opened file ≡ Ok head
-head_opens {file} {head} o i = opened_known {file = file} {big = head.big} o
+head_opens {file} {head} o i = opened_known file head.big o
     (record { size = i.size; magic = i.magic }) ∙ judged_right head.big file (i.major, i.minor) i.link_type
 
 fault_found : (file : List ℕ) (e : CaptureRefusal) → opened file ≡ Err e → HasHeadFault file e
@@ -119,8 +119,8 @@ fault_refuses file (Header n) o h =
     let refusal : ℕ → Result CaptureHead CaptureRefusal = λ n. Err (Header n) in
     opened_short file (omega (arith, h.0, h.1)) ∙ ap refusal h.0
 fault_refuses file Magic o h = opened_none file h.0 h.1
-fault_refuses file Version o (big, m, wrong) = opened_known o m ∙ judged_version big file wrong
-fault_refuses file LinkType o (big, m, v, wrong) = opened_known o m ∙ judged_link big file v wrong
+fault_refuses file Version o (big, m, wrong) = opened_known file big o m ∙ judged_version big file wrong
+fault_refuses file LinkType o (big, m, v, wrong) = opened_known file big o m ∙ judged_link big file v wrong
 fault_refuses file (PacketLength n) o h = absurd h
 fault_refuses file Cut o h = absurd h
 
