@@ -1,5 +1,6 @@
 -- The first of what is settled may be given, where the state stands.
 use Rattle.{world_law.specs.world.World.IsDueAs, world_state.specs.Giving.{CameBy, HasItsFrame, IsYoung, MayBeGiven}}
+use Rattle.drift_world.{proofs.Words.{keeps, map, with_first}, specs.{Giving.{AreLow, IsRunningWith}, declared.state.State.State}}
 use Rattle.{drift_world.proofs.Sendings.link_within, run_law.proofs.law.FirstPlaces.founded_at, std.proofs.Common.slice_get}
 use Rattle.drift_world.proofs.Words.{◌+◌, ◌<◌, ◌^◌, ◌∙◌, ◌∷◌, ◌≡◌, ◌≤◌, Accepted, Arrived, ArrivedAt, Arrives, Changed, Compressed, Delivered, DeviceId}
 use Rattle.drift_world.proofs.Words.{Dropped, Happening, HasItsOctets, IsCaused, IsDue, IsFounded, IsInRange, Left, LinkId, List, Lost, Network, Node, None}
@@ -118,3 +119,15 @@ module _ {C M : Type 0} (reading : C → ℕ → ℕ) (stands : M → Network �
       let low = (old.steady device).low world.now old.limit in
       subst (λ n. n ≤ 2 ^ 60 + 2 ^ 51) (own.2 world.now (omega arith) ∙ ap (λ (c : C). reading c world.now)
       (sym is)) low
+
+-- ---- a record that is not put in
+
+module _ {C M : Type 0} (reading : C → ℕ → ℕ) (stands : M → Network → DeviceId → Node → Type 0) (network : Network)
+    (state : State C M) (first : Settled) (run : IsRunningWith reading stands network state first) where
+  pub may_give : HasItsOctets first.body first.octets → MayBeGiven network first.body first.frame first.octets
+  may_give = may_be_given reading (keeps stands) run.s (with_first network state first state.settled.items) run.notes network state.time
+      first (map (settled_at network state.time) state.settled.items) run.is run.is.same refl
+
+  pub low_with : length state.clocks.items ≡ length network.device → AreLow reading state
+  low_with = low_now reading (keeps stands) run.s (with_first network state first state.settled.items) run.notes run.is _
+      (ap (λ n. length n.device) run.is.same)

@@ -273,3 +273,12 @@ module _ {C M : Type 0} (network : Network) (until : ℕ) (old : State C M) wher
 
 pub no_more : (a b : ℕ) → a ≡ b → a ≤ b
 no_more a b e = omega (arith, e)
+
+-- it is as far where room is taken
+pub as_far : {C M : Type 0} (network : Network) (until : ℕ) (old new : State C M)
+    → new ≡ record old { under_way = new.under_way; settled = new.settled }
+    → new.under_way.entries ≡ old.under_way.entries → distance network until new ≡ distance network until old
+as_far {C} {M} network until old new same entries =
+    ap (λ (t : State C M). distance network until t) same
+    ∙ ap (λ (l : List (Entry Content)). ((until - old.time) + ((if old.pending then 1 else 0) + length old.befell.items + length l
+    + length old.waiting.items + (length network.device - old.shown))) * (7 * length network.device + 1) + acting network old) entries

@@ -1,12 +1,14 @@
 -- A record that stands at the place of its source is given before all that is settled.
 use Rattle.drift_world.{proofs.Turning.{comes_first, is_at, ranked_at}, specs.{Turns.{IsNow, MayWork, source_place}, declared.source.Source.Source}}
-use Rattle.drift_world.proofs.Words.{◌++◌, ◌<◌, ◌^◌, ◌∙◌, ◌∷◌, ◌≡◌, AtPort, Bool, ChangesOnly, DeviceId, DueAt, Happening, IfSome, IsBefore, IsIn}
-use Rattle.drift_world.proofs.Words.{IsPutAt, Kept, List, Network, NoSourceBefore, Node, None, Note, Option, Scenario, Settled, Some, Stands, Waits, World, []}
-use Rattle.drift_world.proofs.Words.{ap, arith, at_port, behind, chain, changed_device, departure_body, happenings, inl, inr, is_mapped, keeps, length, map}
-use Rattle.drift_world.proofs.Words.{numbers_of, on_wire, option_map_or, own_place, place_of, rank, refl, ripe_place, settled_at, stored_as, subst, suc, sym}
+use Rattle.drift_world.proofs.Words.{◌++◌, ◌+◌, ◌<◌, ◌^◌, ◌∙◌, ◌∷◌, ◌≡◌, ◌≤◌, AtPort, Bool, ChangesOnly, DeviceId, DueAt, Happening, IfSome, IsBefore, IsIn}
+use Rattle.drift_world.proofs.Words.{Accepted, Arrived, IsPutAt, List, NoteBody, StandsBehind, note_of, units_of}
+use Rattle.drift_world.proofs.Words.{Network, NoSourceBefore, Node, None, Note, Option, Scenario, Settled, Some, Stands, Waits, []}
+use Rattle.drift_world.proofs.Words.{ap, arith, behind, chain, changed_device, departure_body, happenings, inl, inr, is_mapped, keeps, length}
+use Rattle.drift_world.proofs.Words.{numbers_of, option_map_or, own_place, place_of, rank, refl, ripe_place, settled_at, subst, suc, sym}
 use Rattle.drift_world.proofs.Words.{waiting_as, with_first, zero}
 use Rattle.drift_world.{proofs.Words.{world_of, ℕ}, specs.{Giving.IsRunningWith, Ripening.IsJudged, Stepping.StandsPast, declared.state.State.State}}
 use Rattle.std.{proofs.Common.slice_index_or, specs.Prelude.insert}
+use Rattle.world_state.specs.{Frames.{Waiting, room_of, waiter_of}, Shelves.{HasPlace, Shelved, spot_of}}
 use Rattle.world_state.specs.{Hearing.arrived, Leaving.departed, Ripening.{AreSettledSo, ripe_record}, declared.contents.Signal.{Signal as SignalSent}}
 use Rattle.run_law.{proofs.runs.Places.before_behind, specs.declared.steps.{Arrival.Arrival, Ripe.Ripe}}
 use Rattle.run_law.specs.declared.steps.Arrival.TheVariants as arrivals
@@ -52,9 +54,32 @@ judged_own network now w ripe.Integrates judged = absurd judged
 judged_own network now w (ripe.Dropped reason) judged = absurd judged
 judged_own network now w other judged = refl
 
+pub judged_rank : (w : Waits) (is : Ripe) → IsJudged is → rank (ripe_record w is).body ≡ 3
+judged_rank w ripe.Integrates judged = absurd judged
+judged_rank w (ripe.Dropped reason) judged = absurd judged
+judged_rank w other judged = refl
+
 pub judged_far : (w : Waits) (is : Ripe) → changed_device (ripe_record w is).body ≡ 2 ^ 32
 judged_far w ripe.Opened = refl
 judged_far w other = refl
+
+-- ---- what it needs
+
+-- of those that stand where their sources do no switch takes a frame
+pub no_shelf : (body : NoteBody) (stored : Shelved) → rank body ≤ 8 → IfSome (spot_of body) (HasPlace stored)
+no_shelf (Accepted device link cause vl cycle) stored low = absurd (omega (arith, low))
+no_shelf other stored low = tt
+
+-- nor does a frame wait by another than that it arrived
+pub no_waiter : (body : NoteBody) (waiting : Waiting) → (rank body ≡ 2 → ⊥) → IfSome (waiter_of body) (λ d. 0 < room_of waiting d.0)
+no_waiter (Arrived device link cause clock) waiting not = absurd (not refl)
+no_waiter other waiting not = tt
+
+-- by this one a frame may wait at its device
+pub waits_at : (body : NoteBody) (waiting : Waiting) {device : ℕ} → (rank body ≡ 2 → changed_device body ≡ device)
+    → (rank body ≡ 2 → 0 < room_of waiting device) → IfSome (waiter_of body) (λ d. 0 < room_of waiting d.0)
+waits_at (Arrived device link cause clock) waiting at room = subst (λ d. 0 < room_of waiting d) (sym (at refl)) (room refl)
+waits_at other waiting at room = tt
 
 -- ---- it is given
 
@@ -77,13 +102,6 @@ put_ahead z settled none = record {
   none = λ k d le lt. none (slice_index_or settled k d) (indexed settled k d lt);
 }
 
--- and nowhere else
-pub put_first : {z : Settled} {settled : List Settled} (new : List Settled) (at : ℕ)
-    → IsPutAt z settled (z ∷ settled) 0 → IsPutAt z settled new at → new ≡ z ∷ settled
-put_first new zero front put = put.is ∙ sym front.is
-put_first {z} new (suc k) front put = let within = put.within in
-    absurd (front.none k z (omega arith) (omega (arith, within)) (put.behind k z (omega arith)))
-
 -- so is its record, where a frame is judged
 pub judged_first : (number : ℕ) (w : Waits) (is : Ripe) {settled : List Settled} → IsJudged is
     → IsPutAt (ripe_record w is) settled (ripe_record w is ∷ settled) 0
@@ -91,24 +109,6 @@ pub judged_first : (number : ℕ) (w : Waits) (is : Ripe) {settled : List Settle
 judged_first number w ripe.Integrates judged front = absurd judged
 judged_first number w (ripe.Dropped reason) judged front = absurd judged
 judged_first number w other judged front = record { mid = _; at = 0; first = front; more = refl }
-
-module _ {C M : Type 0} (network : Network) (old new : State C M) (first : Settled) where
-  -- the world of a state in which it is settled first, elsewhere in memory
-  pub first_world : (rest : List Settled) → new.under_way.entries ≡ old.under_way.entries
-      → new.waiting.items ≡ old.waiting.items → new.stored.items ≡ old.stored.items → rest ≡ old.settled.items → new
-      ≡ record old { under_way = new.under_way; waiting = new.waiting; stored = new.stored; settled = new.settled }
-      → with_first network new first rest ≡ with_first network old first old.settled.items
-  first_world rest entries waiting stored is same =
-      grind (arith, world_of, on_wire, at_port, map, waiting_as, stored_as, settled_at, with_first)
-
-  pub settled_first : new.under_way.entries ≡ old.under_way.entries → new.waiting.items ≡ old.waiting.items
-      → new.stored.items ≡ old.stored.items → new.settled.items ≡ first ∷ old.settled.items → new
-      ≡ record old { under_way = new.under_way; waiting = new.waiting; stored = new.stored; settled = new.settled }
-      → world_of network new ≡ with_first network old first old.settled.items
-  settled_first entries waiting stored settled same =
-      ap (λ (zs : List Settled). let w : World C (Kept M) = record (world_of network
-      new) { settled = map (settled_at network new.time) zs } in w) settled
-      ∙ first_world old.settled.items entries waiting stored refl same
 
 -- no source that is not worked off stands before the place that was worked off last
 pub none_before_last : (s : Scenario) (hs : List Happening) (cursor p q : List ℕ) → cursor ≡ behind p → q ≡ p → NoSourceBefore s hs cursor q
@@ -151,13 +151,18 @@ module _ {C M : Type 0} (last_step : C → ℕ) (reading : C → ℕ → ℕ) (s
       record { s = at.s; notes = at.notes; is = (past_it at.s at.notes at.is at.first).0 }
 
   -- and it stands once the record is given
-  pub stands_first : (new : State C M) (more : List Note) → place_of (settled_at network mid.time one) ≡ source_place old.time source
+  pub stands_first : (new : State C M) (note : Note) → place_of (settled_at network mid.time one) ≡ source_place old.time source
+      → note ≡ record { number = mid.given + 1; time = units_of mid.time; body = one.body }
       → ((s : Scenario) (notes : List Note) (is : Stands reading (keeps stands) s (with_first network mid one mid.settled.items) notes)
       → NoSourceBefore s (happenings s.network notes) is.cursor (place_of (settled_at network mid.time one))
-      → Stands reading (keeps stands) s (world_of network new) (notes ++ more))
+      → StandsBehind reading (keeps stands) s (world_of network new) (notes ++ note_of notes (settled_at network mid.time one) ∷ [])
+      (behind (place_of (settled_at network mid.time one))))
       → (s : Scenario) (notes : List Note) → Stands reading (keeps stands) s (world_of network old) notes
-      → Stands reading (keeps stands) s (world_of network new) (notes ++ more)
-  stands_first new more at gives s notes is =
+      → Stands reading (keeps stands) s (world_of network new) (notes ++ note ∷ [])
+  stands_first new note at is_note gives s notes is =
       let h = past_it s notes is (comes_first last_step reading stands network old source s notes may now is) in
-      gives s notes h.0
-      (none_before_last s (happenings s.network notes) h.0.cursor (source_place old.time source) (place_of (settled_at network mid.time one)) h.1 at)
+      let same : note ≡ note_of notes (settled_at network mid.time one) =
+      is_note ∙ ap (λ (k : ℕ). let n : Note = record { number = k + 1; time = units_of mid.time; body = one.body } in n) h.0.given in
+      subst (λ (n : Note). Stands reading (keeps stands) s (world_of network new) (notes ++ n ∷ [])) (sym same)
+      (gives s notes h.0
+      (none_before_last s (happenings s.network notes) h.0.cursor (source_place old.time source) (place_of (settled_at network mid.time one)) h.1 at)).0

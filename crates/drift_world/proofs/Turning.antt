@@ -3,7 +3,9 @@ use Rattle.{drift_world.proofs.Fits.{sound_same, sound_timers}, world_law.proofs
 use Rattle.drift_world.proofs.{Foremost.timers_later, Rising.{InOrder, settled_in_order}}
 use Rattle.drift_world.{proofs.{AtSource.{IsSourceRank, at_rank, own_gives, rank_most, ranks}, Sources.{of_world, sooner_too}}, specs.{Stepping.IsRekeyed, declared.{source.Source.Source, state.State.State}}}
 use Rattle.drift_world.proofs.{Timings.{passed, rekeyed, unchanged}, Words.{numbers_of, option_map_or, own_place, place_of, rank, refl, settled_at, subst, sym, true, world_of, ℕ}}
-use Rattle.drift_world.proofs.Words.{◌++◌, ◌+◌, ◌<◌, ◌^◌, ◌↔◌, ◌∙◌, ◌∷◌, ◌≡◌, ◌≤◌, AreFirsts, AreSettled, AreTimed, Bool, ChangesOnly, ComesFirst, DeviceId}
+use Rattle.drift_world.proofs.Words.{◌++◌, ◌+◌, ◌<◌, ◌^◌, ◌∙◌, ◌∷◌, ◌≡◌, ◌≤◌, AreFirsts, AreSettled, AreTimed, Bool, ChangesOnly, ComesFirst, DeviceId}
+use Rattle.drift_world.proofs.Words.{Content, Waits, at_port, on_wire, waiting_as}
+use Rattle.{std.specs.List.filter_map, world_state.specs.declared.queue.Entry.Entry}
 use Rattle.drift_world.proofs.Words.{Due, DueAt, Err, Happening, HasItsOctets, HasNothingBefore, IsAt, IsBefore, IsIn, IsRunning, IsScenarioRun, IsSound}
 use Rattle.drift_world.proofs.Words.{IsWell, List, Network, NoSourceBefore, Node, Note, Ok, OnErr, OnOk, Option, Result, Scenario, Settled, SourceFirst}
 use Rattle.run_law.specs.records.Ranks.{key}
@@ -281,27 +283,77 @@ module _ {C M : Type 0} (last_step : C → ℕ) (reading : C → ℕ → ℕ) (s
       none_given GoesOn says = refl
 
   -- room is taken
-  pub roomier : (old new : State C M) → IsWell last_step reading stands network old → new ≡ record old { settled = new.settled }
+  pub roomier : (old new : State C M) → IsWell last_step reading stands network old
+      → new ≡ record old { under_way = new.under_way; waiting = new.waiting; settled = new.settled }
+      → new.under_way.entries ≡ old.under_way.entries → new.waiting.items ≡ old.waiting.items
       → new.settled.items ≡ old.settled.items → IsStep last_step reading stands network old new
-  roomier old new well same items =
+  roomier old new well same entries waiting items =
+      let mid : State C M = record old { under_way = new.under_way; waiting = new.waiting; settled = new.settled } in
       plain_step old new well
       (subst (IsSound last_step network) (sym same)
-      (sound_same last_step network old (record old { settled = new.settled }) well.sound refl refl refl refl refl refl refl refl refl refl
+      (sound_same last_step network old mid well.sound refl refl refl refl refl refl refl refl entries waiting
       (subst (All (λ (z : Settled). HasItsOctets z.body z.octets)) (sym items) well.sound.fit.octets)))
       (λ n. record {
         clocks = ap (λ (t : State C M). t.clocks) same;
         time = ap (λ (t : State C M). t.time) same;
         ended = ap (λ (t : State C M). t.ended) same;
         machines = λ i other. ap (λ (t : State C M). slice_get t.machines.items i) same;
-        waiting = λ w other.
-            subst (λ (t : State C M). IsIn w t.waiting.items ↔ IsIn w old.waiting.items) (sym same) ((λ there. there), (λ there. there));
+        waiting = λ w other. (
+          λ there. subst (λ (l : List Waits). IsIn w l) waiting there,
+          λ there. subst (λ (l : List Waits). IsIn w l) (sym waiting) there,
+        );
       })
       (ap (λ (t : State C M). t.timers) same) (ap (λ (t : State C M). t.given) same)
       (λ s notes is.
-      subst (λ t. Stands reading (keeps stands) s (world_of network t) notes) (sym same)
+      subst (λ (t : State C M). Stands reading (keeps stands) s (world_of network t) notes) (sym same)
       (subst
-      (λ (l : List Settled). Stands reading (keeps stands) s (record (world_of network old) { settled = map (settled_at network old.time) l }) notes)
-      (sym items) is))
+      (λ (l : List (Entry Content)). Stands reading (keeps stands) s
+      (record (world_of network mid) { wires = filter_map (on_wire network) l; ports = filter_map at_port l }) notes)
+      (sym entries)
+      (subst
+      (λ (l : List Waits). Stands reading (keeps stands) s
+      (record (world_of network old) {
+        waiting = map waiting_as l;
+        settled = map (settled_at network old.time) new.settled.items;
+      }) notes)
+      (sym waiting)
+      (subst
+      (λ (l : List Settled). Stands reading (keeps stands) s
+      (record (world_of network old) { settled = map (settled_at network old.time) l }) notes)
+      (sym items) is))))
+
+  -- where it is taken for a frame that waits, what comes first on a wire comes first still
+  pub arrival_stays : (old new : State C M) (place : DueAt) → new ≡ record old { waiting = new.waiting }
+      → new.waiting.items ≡ old.waiting.items → MayWork last_step reading stands network old (Arrival place)
+      → MayWork last_step reading stands network new (Arrival place)
+  arrival_stays old new place same items may =
+      let there = may.foremost.there in
+      let nothing = may.foremost.nothing in
+      let room = may.room in
+      let roomy : State C M = record old { waiting = new.waiting } in
+      subst (λ (t : State C M). MayWork last_step reading stands network t (Arrival place)) (sym same)
+      (record {
+        range = may.range;
+        well = (roomier old roomy may.well refl refl items refl).well;
+        room = record { places = room.places; numbers = room.numbers; launches = room.launches };
+        foremost = record {
+          there = record {
+            first = there.first;
+            now = there.now;
+            rank_is = there.rank_is;
+            device = there.device;
+            link = there.link;
+          };
+          nothing = record {
+            under_way = nothing.under_way;
+            waiting = λ w clock is. nothing.waiting w clock (subst (λ (l : List Waits). IsIn w l) items is);
+            acting = nothing.acting;
+            befell = nothing.befell;
+            clocks = nothing.clocks;
+          };
+        };
+        first = may.first;
+      })
 
   -- time passes
   pub passes : (old new : State C M) (time : ℕ) → IsWell last_step reading stands network old
@@ -346,10 +398,11 @@ firsts_passed new {place} {due} same are =
     subst (λ t. AreFirsts t place due) (sym same)
     (record { some_place = are.some_place; no_place = are.no_place; some_due = are.some_due; no_due = are.no_due })
 
-pub room_passed : {C M : Type 0} {old : State C M} (new : State C M)
-    → new ≡ record old { time = new.time; early = new.early } → HasRoom old → HasRoom new
-room_passed new same room =
-    subst (λ t. HasRoom t) (sym same) (record { places = room.places; numbers = room.numbers })
+pub room_passed : {C M : Type 0} (network : Network) {old : State C M} (new : State C M)
+    → new ≡ record old { time = new.time; early = new.early } → HasRoom network old → HasRoom network new
+room_passed network new same room =
+    subst (λ t. HasRoom network t) (sym same)
+    (record { places = room.places; numbers = room.numbers; launches = room.launches })
 
 -- ---- one turn after the other
 

@@ -117,10 +117,12 @@ pub record MayGive {C M : Type 0} (reading : C → ℕ → ℕ) (stands : M → 
   pub before : HasNothingBefore reading stands network state (place_of (settled_at network state.time first))
       ⊎ (is_at_source first.body ≡ true)
 
--- there is room for two more records that are settled, and there are numbers for them
-pub record HasRoom {C M : Type 0} (state : State C M) : Type 0 where
+-- there is room for two more records that are settled, there are numbers for them, and there is room for what a record
+-- launches
+pub record HasRoom {C M : Type 0} (network : Network) (state : State C M) : Type 0 where
   pub places : deque_len state.settled + 2 ≤ deque_capacity state.settled
   pub numbers : state.given + length state.settled.items + 2 < 2 ^ 64 - 1
+  pub launches : length network.link < state.under_way.room
 
 -- nothing is settled, no events are to be settled, and the end has not come
 pub record IsCalm {C M : Type 0} (state : State C M) : Type 0 where
@@ -140,7 +142,7 @@ pub record MayWork {C M : Type 0} (last_step : C → ℕ) (reading : C → ℕ �
     → Type 0) (network : Network) (state : State C M) (source : Source) : Type 0 where
   pub range : IsInRange network
   pub well : IsWell last_step reading stands network state
-  pub room : HasRoom state
+  pub room : HasRoom network state
   pub foremost : IsForemost reading stands network state source
   pub first : SourceFirst state.settled.items source
 
@@ -156,10 +158,14 @@ pub record MayTurn {C M : Type 0} (last_step : C → ℕ) (reading : C → ℕ �
 -- ---- what a turn leaves
 
 -- the record that a turn gave, if it gave this one
+abbrev pub noted : Turn → Note → List Note
+noted Gives note = note ∷ []
+noted Ends note = []
+noted GoesOn note = []
+
+-- and one that may fail
 abbrev pub given_in : {E : Type 0} → Result Turn E → Note → List Note
-given_in (Ok Gives) note = note ∷ []
-given_in (Ok Ends) note = []
-given_in (Ok GoesOn) note = []
+given_in (Ok turn) note = noted turn note
 given_in (Err e) note = []
 
 -- the clocks are as they were, no time is taken back, and the end has come only if it had

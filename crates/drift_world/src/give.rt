@@ -16,7 +16,6 @@ use world_state::OutOfMemory;
 use world_state::contents::{Settled, Spot, Timed};
 use world_state::giving::{Giving, give_frame, make_room};
 use world_state::sending::{put_on, sent_by};
-use world_state::settled::put_in;
 use world_state::storing::{store, taker};
 use world_state::waiting::{giver, waiter};
 
@@ -26,11 +25,11 @@ impl<C: Clock, M: Machine + Drop> State<C, M> {
     ghost use Rattle.tte_units.specs.Amount.{amount, units_of};
     ghost use Rattle.world_law.specs.{source.First.NoSourceBefore, world.{Moves.StandsBehind, World.{Stands, note_of}}};
     ghost use Rattle.world_state.specs.{Frames.{room_of, waiter_of}, Shelves.{HasPlace, spot_of}, Storing.IsStoredBy};
-    ghost use Rattle.world_state.specs.Giving.{ArrivedAt, CameBy, IsPutOn, IsYoung, MayBeGiven, changed_device};
+    ghost use Rattle.world_state.specs.Giving.{ArrivedAt, CameBy, HasItsOctets, IsPutOn, IsYoung, changed_device};
     ghost use Rattle.world_state.specs.{Giving.{giver_of, wire_entry}, Sound.{AreBelow, AreUnderWay, IsShort}};
     ghost use Rattle.world_state.specs.{Keeping.keeps, declared.giving.Giving.{Giving as GivingValue}};
     ghost use Rattle.world_state.specs.{Views.settled_at, declared.contents.Settled.{Settled as SettledValue}};
-    ghost use Rattle.drift_world.specs.{Giving.{AreLow, IsGivenOut, IsGiver}, Sound.{IsSized, IsSound}};
+    ghost use Rattle.drift_world.specs.{Giving.{AreLow, IsGivenOut, IsGiver, IsRunningWith}, Sound.{IsSized, IsSound}};
     ghost use Rattle.drift_world.specs.{Stepping.{ChangesOnly, IsRunning}, Views.{with_first, world_of}};
 
     /// The frame of a record that its device gives to links, or waits for.
@@ -160,17 +159,18 @@ impl<C: Clock, M: Machine + Drop> State<C, M> {
         }
     }
 
-    /// Gives the first settled record, which was taken out, its number, and launches what it does.
+    /// Gives a record its number, which is not put in, or was taken out, and launches what it does: nothing that is
+    /// settled or to come stands before it.
     #[inline(always)]
-    fn give_first(&mut self, network: &Network, first: Settled, note: &mut PlainNote)
+    pub fn give_first(&mut self, network: &Network, first: Settled, note: &mut PlainNote)
         requires sound { IsSound C.last_step network.now self.old }
         requires range { IsInRange network.now }
-        requires may { MayBeGiven network.now first.body first.frame first.octets }
+        requires running { IsRunningWith C.reading M.stands network.now self.old first }
+        requires octets { HasItsOctets first.body first.octets }
         requires number { self.old.given + 1 < 2 ^ 64 }
         requires room { length network.now.link < self.old.under_way.room }
         requires capacity { IfSome (waiter_of first.body) (λ d. 0 < room_of self.old.waiting d.0) }
         requires place { IfSome (spot_of first.body) (HasPlace self.old.stored) }
-        requires low { AreLow C.reading self.old }
         ensures note { note.new ≡ record {
           number = self.old.given + 1;
           time = units_of self.old.time;
@@ -277,14 +277,10 @@ impl<C: Clock, M: Machine + Drop> State<C, M> {
 }
 
 impl<C: Clock, M: TellsKind + Drop> State<C, M> {
-    ghost use Rattle.run_law.specs.records.{Happenings.happenings, Ranks.place_of};
-    ghost use Rattle.world_law.specs.{source.First.NoSourceBefore, world.World.Stands};
-    ghost use Rattle.world_state.specs.Giving.{ArrivedAt, HasItsOctets, changed_device};
-    ghost use Rattle.world_state.specs.{Keeping.keeps, Places.IsPutAt, Views.settled_at};
-    ghost use Rattle.drift_world.specs.{Giving.IsRunningWith, Sound.IsSound, Wells.IsWell};
-    ghost use Rattle.drift_world.specs.{Sourcing.AreTimed, Stepping.{ChangesOnly, MaySetTimers}};
-    ghost use Rattle.drift_world.specs.Turns.{GivesAt, HasRoom, IsKept, MayGive, given_in};
-    ghost use Rattle.drift_world.specs.{Views.{with_first, world_of}, declared.state.State.{State as StateOf}};
+    ghost use Rattle.drift_world.specs.{Sourcing.AreTimed, Stepping.{ChangesOnly, MaySetTimers}, Wells.IsWell};
+    ghost use Rattle.drift_world.specs.Turns.{GivesAt, IsKept, MayGive, given_in};
+    ghost use Rattle.drift_world.specs.declared.state.State.{State as StateOf};
+    ghost use Rattle.world_state.specs.Giving.{ArrivedAt, changed_device};
 
     /// The first that is settled is given: nothing is to come before it, or it stands where it was done.
     pub fn give_next(
@@ -320,53 +316,5 @@ impl<C: Clock, M: TellsKind + Drop> State<C, M> {
         if let PlainKind::Arrived { device, .. } = &body.kind {
             self.rekey_ripe(network, device.0);
         }
-    }
-
-    /// The record is given, which is not put in: nothing that is settled or to come stands before it. On an error it is
-    /// put in before all that is settled.
-    #[inline(always)]
-    pub fn give_in_turn(
-        &mut self,
-        network: &Network,
-        first: Settled,
-        note: &mut PlainNote,
-    ) -> Result<Turn, OutOfMemory>
-        requires sound { IsSound C.last_step network.now self.old }
-        requires range { IsInRange network.now }
-        requires room { HasRoom self.old }
-        requires front { IsPutAt first self.old.settled.items (first ∷ self.old.settled.items) 0 }
-        requires octets { HasItsOctets first.body first.octets }
-        requires running { IsRunningWith C.reading M.stands network.now self.old first }
-        ensures sound { IsSound C.last_step network.now self.new }
-        ensures same { self.new ≡ record self.old {
-          under_way = self.new.under_way;
-          waiting = self.new.waiting;
-          stored = self.new.stored;
-          settled = self.new.settled;
-          given = self.new.given;
-        } }
-        ensures stands { let z = settled_at network.now self.old.time first in (s : Scenario) (notes : List Note)
-            → (old : Stands C.reading (keeps M.stands) s
-            (with_first network.now self.old first self.old.settled.items) notes)
-            → NoSourceBefore s (happenings s.network notes) old.cursor (place_of z)
-            → Stands C.reading (keeps M.stands) s (world_of network.now self.new) (notes ++ given_in result note.new) }
-        ensures says { IfOk result (GivesAt self.old self.new note.new) }
-        ensures others { ChangesOnly (changed_device first.body) self.old self.new }
-    {
-        let device = waiter(&first.body);
-        let spot = taker(&first.body);
-        if let Err(error) = make_room(
-            &mut self.under_way,
-            &mut self.waiting,
-            &mut self.stored,
-            network,
-            device,
-            spot,
-        ) {
-            put_in(&mut self.settled, first);
-            return Err(error);
-        }
-        self.give_first(network, first, note);
-        Ok(Turn::Gives)
     }
 }

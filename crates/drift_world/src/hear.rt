@@ -1,16 +1,16 @@
-ghost use Rattle.std.specs.Prelude.{◌+◌, ◌<◌, ◌≡◌, IfOk, List, OnErr, false, length, ℕ};
+ghost use Rattle.std.specs.Prelude.{◌+◌, ◌<◌, ◌≡◌, ◌≤◌, IfOk, List, OnErr, false, length, ℕ};
 ghost use Rattle.{drift_world.specs.Sound.IsSound, net_plan.specs.Ranges.IsInRange};
 ghost use Rattle.drift_world.specs.{Stepping.{ChangesOnly, IsAt, StandsPast}, Turns.{IsKept, MayWork, WorkSays}};
-ghost use Rattle.drift_world.specs.{Turns.given_in, declared.source.Source.{Source as SourceOf}};
+ghost use Rattle.drift_world.specs.{Turns.{given_in, noted}, declared.source.Source.{Source as SourceOf}};
 ghost use Rattle.{run_law.specs.records.Ranks.{place_of, rank}, world_state.specs.Places.IsPutAt};
-ghost use Rattle.world_state.specs.{Giving.{HasItsOctets, changed_device}, queue.Places.{IsFirst, numbers_of}};
+ghost use Rattle.world_state.specs.{Frames.room_of, Giving.{HasItsOctets, changed_device}, queue.Places.{IsFirst, numbers_of}};
 ghost use Rattle.world_state.specs.{Views.settled_at, declared.contents.Settled.{Settled as SettledValue}};
 
 use crate::next::Turn;
 use crate::state::State;
 use device_rules::TellsKind;
 use drift_clock::Clock;
-use net_plan::{LinkId, Network};
+use net_plan::{DeviceId, LinkId, Network};
 use run_law::plain::{PlainNote, Rank};
 use run_law::{Machine, Moment};
 use tte_units::Units;
@@ -49,6 +49,7 @@ impl<C: Clock, M: Machine + Drop> State<C, M> {
           early = false;
         } }
         ensures shorter { length self.old.under_way.entries ≡ length self.new.under_way.entries + 1 }
+        ensures room { self.old.under_way.room ≤ self.new.under_way.room }
     {
         let signal = take_wire(&mut self.under_way, place);
         let index = place.device as usize;
@@ -66,8 +67,7 @@ impl<C: Clock, M: Machine + Drop> State<C, M> {
 }
 
 impl<C: Clock, M: TellsKind + Drop> State<C, M> {
-    /// What is first on a wire arrives. Where it is a control frame that its device takes, its record is given at once:
-    /// it stands at the place of the source.
+    /// What is first on a wire arrives. On an error it has not: there is no memory for a frame that waits at its device.
     #[inline(always)]
     pub fn arrival_turn(
         &mut self,
@@ -80,15 +80,30 @@ impl<C: Clock, M: TellsKind + Drop> State<C, M> {
         ensures says { IfOk result (WorkSays network.now self.old self.new note.new) }
         ensures err { OnErr result (self.new.time ≡ self.old.time) }
     {
+        if self.waiting.reserve(DeviceId(place.device)).is_err() {
+            return Err(OutOfMemory);
+        }
+        Ok(self.hear_turn(network, place, note))
+    }
+
+    /// What is first on a wire arrives. Where it is a control frame that its device takes, its record is given: it stands
+    /// at the place of the source.
+    #[inline(always)]
+    fn hear_turn(&mut self, network: &Network, place: DueAt, note: &mut PlainNote) -> Turn
+        requires may { MayWork C.last_step C.reading M.stands network.now self.old (SourceOf.Arrival place) }
+        requires room { 0 < room_of self.old.waiting place.device }
+        ensures kept { IsKept C.last_step C.reading M.stands network.now self.old self.new (noted result note.new) }
+        ensures says { WorkSays network.now self.old self.new note.new result }
+    {
         let before = self.due_of(network, place.device);
         let record = self.hear_wire(network, place);
         if rank_of(&record) == Rank::Arrived.number() {
-            let turn = self.give_in_turn(network, record, note);
+            self.give_first(network, record, note);
             self.rekey_from(network, place.device, before);
-            return turn;
+            return Turn::Gives;
         }
         put_in(&mut self.settled, record);
         self.rekey_act_from(network, place.device, before);
-        Ok(Turn::GoesOn)
+        Turn::GoesOn
     }
 }

@@ -1,6 +1,6 @@
-ghost use Rattle.std.specs.Prelude.{◌+◌, ◌<◌, ◌^◌, ◌∷◌, ◌≡◌, IfOk, IfSome, List, OnErr, [], false, length, ℕ};
+ghost use Rattle.std.specs.Prelude.{◌+◌, ◌<◌, ◌^◌, ◌∷◌, ◌≡◌, ◌≤◌, IfSome, List, [], false, length, ℕ};
 ghost use Rattle.{net_plan.specs.Ranges.IsInRange, run_law.specs.scenario.Scenarios.Scenario};
-ghost use Rattle.drift_world.specs.Turns.{IsKept, MayWork, WorkSays, given_in};
+ghost use Rattle.drift_world.specs.Turns.{IsKept, MayWork, WorkSays, noted};
 ghost use Rattle.drift_world.specs.declared.source.Source.{Source as SourceOf};
 ghost use Rattle.world_state.specs.queue.Places.{IsFirst, numbers_of};
 
@@ -12,7 +12,6 @@ use net_plan::{DeviceId, LinkId, Network};
 use run_law::Machine;
 use run_law::plain::{PlainNote, Rank};
 use tte_units::frames::Pcf;
-use world_state::OutOfMemory;
 use world_state::contents::Settled;
 use world_state::leaving::{departed, take_port};
 use world_state::queue::DueAt;
@@ -68,6 +67,7 @@ impl<C: Clock, M: Machine + Drop> State<C, M> {
         ensures others { (n : ℕ) → ChangesOnly n self.old self.new }
         ensures same { self.new ≡ record self.old { early = false; under_way = self.new.under_way } }
         ensures shorter { length self.old.under_way.entries ≡ length self.new.under_way.entries + 1 }
+        ensures room { self.old.under_way.room ≤ self.new.under_way.room }
     {
         let (frame, given) = take_port(&mut self.under_way, place);
         self.early = false;
@@ -76,27 +76,22 @@ impl<C: Clock, M: Machine + Drop> State<C, M> {
 }
 
 impl<C: Clock, M: TellsKind + Drop> State<C, M> {
-    /// The frame that is first at a port leaves. Where it goes on its wire, its record is given at once: it stands at
-    /// the place of the source.
+    /// The frame that is first at a port leaves. Where it goes on its wire, its record is given: it stands at the place of
+    /// the source.
     #[inline(always)]
-    pub fn departure_turn(
-        &mut self,
-        network: &Network,
-        place: DueAt,
-        note: &mut PlainNote,
-    ) -> Result<Turn, OutOfMemory>
+    pub fn departure_turn(&mut self, network: &Network, place: DueAt, note: &mut PlainNote) -> Turn
         requires may { MayWork C.last_step C.reading M.stands network.now self.old (SourceOf.Departure place) }
-        ensures kept { IsKept C.last_step C.reading M.stands network.now self.old self.new (given_in result note.new) }
-        ensures says { IfOk result (WorkSays network.now self.old self.new note.new) }
-        ensures err { OnErr result (self.new.time ≡ self.old.time) }
+        ensures kept { IsKept C.last_step C.reading M.stands network.now self.old self.new (noted result note.new) }
+        ensures says { WorkSays network.now self.old self.new note.new result }
     {
         let Some(record) = self.leave_port(network, place) else {
-            return Ok(Turn::GoesOn);
+            return Turn::GoesOn;
         };
         if rank_of(&record) == Rank::Left.number() {
-            return self.give_in_turn(network, record, note);
+            self.give_first(network, record, note);
+            return Turn::Gives;
         }
         put_in(&mut self.settled, record);
-        Ok(Turn::GoesOn)
+        Turn::GoesOn
     }
 }

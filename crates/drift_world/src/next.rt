@@ -1,4 +1,5 @@
-ghost use Rattle.std.specs.Prelude.{◌+◌, ◌<◌, ◌^◌, ◌∷◌, ◌≡◌, ◌≤◌, IfOk, IsTrue, List, OnErr, OnOk, [], false, true};
+ghost use Rattle.std.specs.Prelude.{◌+◌, ◌<◌, ◌^◌, ◌∷◌, ◌≡◌, ◌≤◌, IfOk, IsTrue, List, OnErr, OnOk, [], false};
+ghost use Rattle.std.specs.Prelude.{length, true};
 ghost use Rattle.run_law.specs.{declared.note.Note.{Note as NoteOf}, runs.DueRecords.IsScenarioRun};
 ghost use Rattle.{run_law.specs.scenario.Scenarios.Scenario, world_state.specs.Keeping.keeps};
 ghost use Rattle.{drift_world.specs.Views.world_of, world_law.specs.world.World.Stands};
@@ -75,7 +76,7 @@ impl<C: Clock, M: TellsKind + Drop> State<C, M> {
         ensures turns { IfOk result (TurnsTo C.reading M.stands network.now until self.old self.new note.new) }
         ensures err { OnErr result (self.new.time < until) }
     {
-        if let Err(error) = self.make_places() {
+        if let Err(error) = self.make_places(network) {
             return Err(error);
         }
         self.roomy_turn(network, until, note)
@@ -90,7 +91,7 @@ impl<C: Clock, M: TellsKind + Drop> State<C, M> {
         note: &mut PlainNote,
     ) -> Result<Turn, OutOfMemory>
         requires may { MayTurn C.last_step C.reading M.stands network.now until self.old }
-        requires room { HasRoom self.old }
+        requires room { HasRoom network.now self.old }
         ensures kept { IsKept C.last_step C.reading M.stands network.now self.old self.new (given_in result note.new) }
         ensures turns { IfOk result (TurnsTo C.reading M.stands network.now until self.old self.new note.new) }
         ensures err { OnErr result (self.new.time < until) }
@@ -143,7 +144,7 @@ impl<C: Clock, M: TellsKind + Drop> State<C, M> {
         note: &mut PlainNote,
     ) -> Result<Turn, OutOfMemory>
         requires may { MayTurn C.last_step C.reading M.stands network.now until self.old }
-        requires room { HasRoom self.old }
+        requires room { HasRoom network.now self.old }
         requires firsts { AreFirsts self.old place due }
         ensures kept { IsKept C.last_step C.reading M.stands network.now self.old self.new (given_in result note.new) }
         ensures turns { IfOk result (TurnsTo C.reading M.stands network.now until self.old self.new note.new) }
@@ -159,17 +160,23 @@ impl<C: Clock, M: TellsKind + Drop> State<C, M> {
         self.work_turn(network, source, note)
     }
 
-    /// Takes room for two more records that are settled, for which there are numbers.
-    fn make_places(&mut self) -> Result<(), OutOfMemory>
-        ensures same { self.new ≡ record self.old { settled = self.new.settled } }
+    /// Takes room for two more records that are settled, for which there are numbers, and for what a record launches.
+    fn make_places(&mut self, network: &Network) -> Result<(), OutOfMemory>
+        requires few { length network.now.link < 2 ^ 32 }
+        ensures same { self.new ≡ record self.old { under_way = self.new.under_way; settled = self.new.settled } }
+        ensures entries { self.new.under_way.entries ≡ self.old.under_way.entries }
         ensures items { self.new.settled.items ≡ self.old.settled.items }
-        ensures room { OnOk result (HasRoom self.new) }
+        ensures room { OnOk result (HasRoom network.now self.new) }
     {
         let coming = self.settled.len() as u64;
         if self.given >= (u64::MAX - 2).saturating_sub(coming) {
             return Err(OutOfMemory);
         }
         if self.settled.capacity() - self.settled.len() < 2 && self.settled.reserve(2).is_err() {
+            return Err(OutOfMemory);
+        }
+        let more = network.link.as_slice().len() + 1;
+        if self.under_way.room() < more && self.under_way.reserve(more).is_err() {
             return Err(OutOfMemory);
         }
         Ok(())

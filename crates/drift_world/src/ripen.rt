@@ -1,6 +1,6 @@
-ghost use Rattle.std.specs.Prelude.{◌+◌, ◌↔◌, ◌≡◌, ◌≤ℤ◌, IfOk, IsTrue, List, OnErr, Some, false, is_some, length, pos};
+ghost use Rattle.std.specs.Prelude.{◌+◌, ◌↔◌, ◌≡◌, ◌≤ℤ◌, IsTrue, List, Some, false, is_some, length, pos};
 ghost use Rattle.std.specs.Prelude.{slice_get, true};
-ghost use Rattle.drift_world.specs.Turns.{IsKept, MayWork, WorkSays, given_in};
+ghost use Rattle.drift_world.specs.Turns.{IsKept, MayWork, WorkSays, noted};
 ghost use Rattle.drift_world.specs.declared.source.Source.{Source as SourceOf};
 ghost use Rattle.{drift_world.specs.Ripening.IsJudged, net_plan.specs.Ranges.IsInRange};
 ghost use Rattle.world_state.specs.{Frames.first_of, declared.contents.Waits.{Waits as WaitsValue}};
@@ -13,7 +13,6 @@ use net_plan::{DeviceId, Network};
 use run_law::plain::PlainNote;
 use run_law::{Machine, Moment, Ripe};
 use tte_units::Units;
-use world_state::OutOfMemory;
 use world_state::contents::Waits;
 use world_state::ripening::{record_of, settle_ripe};
 
@@ -84,31 +83,25 @@ impl<C: Clock, M: Machine + Drop> State<C, M> {
 }
 
 impl<C: Clock, M: TellsKind + Drop> State<C, M> {
-    /// The first frame that is permanent is judged. Where its only record is how it is judged, this is given at once:
-    /// it stands at the place of the source.
+    /// The first frame that is permanent is judged. Where its only record is how it is judged, this is given: it stands at
+    /// the place of the source.
     #[inline(always)]
-    pub fn ripening_turn(
-        &mut self,
-        network: &Network,
-        one: Waits,
-        note: &mut PlainNote,
-    ) -> Result<Turn, OutOfMemory>
+    pub fn ripening_turn(&mut self, network: &Network, one: Waits, note: &mut PlainNote) -> Turn
         requires may { MayWork C.last_step C.reading M.stands network.now self.old (SourceOf.Ripening one) }
-        ensures kept { IsKept C.last_step C.reading M.stands network.now self.old self.new (given_in result note.new) }
-        ensures says { IfOk result (WorkSays network.now self.old self.new note.new) }
-        ensures err { OnErr result (self.new.time ≡ self.old.time) }
+        ensures kept { IsKept C.last_step C.reading M.stands network.now self.old self.new (noted result note.new) }
+        ensures says { WorkSays network.now self.old self.new note.new result }
     {
         let before = self.due_of(network, one.device.0);
         let number = self.given + 1;
         let ripened = self.ripen_waits(network, one.device);
         if is_judged(ripened.ripe) {
             let record = record_of(&ripened.waits, ripened.ripe);
-            let turn = self.give_in_turn(network, record, note);
+            self.give_first(network, record, note);
             self.rekey_from(network, one.device.0, before);
-            return turn;
+            return Turn::Gives;
         }
         settle_ripe(&mut self.settled, number, &ripened.waits, ripened.ripe);
         self.rekey_from(network, one.device.0, before);
-        Ok(Turn::GoesOn)
+        Turn::GoesOn
     }
 }

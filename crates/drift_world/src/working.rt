@@ -29,7 +29,7 @@ impl<C: Clock, M: TellsKind + Drop> State<C, M> {
     {
         match source {
             Source::Arrival(place) => self.arrival_turn(network, place, note),
-            Source::Departure(place) => self.departure_turn(network, place, note),
+            Source::Departure(place) => Ok(self.departure_turn(network, place, note)),
             Source::Act(part, device) => self.acting_turn(network, part, device, note),
             Source::Events => {
                 if let Err(error) = self.settle(network) {
@@ -37,7 +37,7 @@ impl<C: Clock, M: TellsKind + Drop> State<C, M> {
                 }
                 Ok(Turn::GoesOn)
             }
-            Source::Ripening(one) => self.ripening_turn(network, one, note),
+            Source::Ripening(one) => Ok(self.ripening_turn(network, one, note)),
             Source::Clock(device) => {
                 self.show(network, device);
                 Ok(Turn::GoesOn)

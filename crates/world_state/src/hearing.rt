@@ -1,4 +1,4 @@
-ghost use Rattle.std.specs.Prelude.{◌+◌, ◌<◌, ◌∷◌, ◌≡◌, IsPermutation, List, ℕ};
+ghost use Rattle.std.specs.Prelude.{◌+◌, ◌<◌, ◌∷◌, ◌≡◌, ◌≤◌, IsPermutation, List, ℕ};
 ghost use Rattle.net_plan.specs.{Ranges.IsInRange, declared.ids.DeviceId.DeviceId as DeviceOf};
 ghost use Rattle.net_plan.specs.declared.network.Network.{Network as NetworkValue};
 ghost use Rattle.run_law.specs.{control.Wires.{signal_of, timed}, machines.Calls.StandsFor, plain.Bodies.body_of};
@@ -23,8 +23,9 @@ pub fn take_wire(under_way: &mut UnderWay<Content>, place: DueAt) -> Signal
     requires first { IsFirst under_way.old.entries place }
     requires sound { (network : NetworkValue) × AreUnderWay network under_way.old.entries }
     requires wire { place.rank ≡ 2 }
-    ensures { IsPermutation under_way.old.entries (record { place = place; content = Content.Wire result }
+    ensures taken { IsPermutation under_way.old.entries (record { place = place; content = Content.Wire result }
         ∷ under_way.new.entries) }
+    ensures room { under_way.old.room ≤ under_way.new.room }
 {
     let Some(first) = under_way.take_first() else {
         unreachable!()

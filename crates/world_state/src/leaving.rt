@@ -1,4 +1,4 @@
-ghost use Rattle.std.specs.Prelude.{◌<◌, ◌∷◌, ◌≡◌, IsPermutation, None, length};
+ghost use Rattle.std.specs.Prelude.{◌<◌, ◌∷◌, ◌≡◌, ◌≤◌, IsPermutation, None, length};
 ghost use Rattle.net_plan.specs.{Ranges.IsInRange, declared.network.Network.Network as NetworkValue};
 ghost use Rattle.run_law.specs.{plain.Bodies.body_of, records.Happenings.with_clock, scenario.Devices.is_parent_of};
 ghost use Rattle.world_state.specs.{Leaving.{departed, port_entry}, Sound.{AreUnderWay, rank_of}, queue.Places.IsFirst};
@@ -17,8 +17,9 @@ pub fn take_port(under_way: &mut UnderWay<Content>, place: DueAt) -> (Pcf, u64)
     requires first { IsFirst under_way.old.entries place }
     requires sound { (network : NetworkValue) × AreUnderWay network under_way.old.entries }
     requires port { place.rank ≡ 8 }
-    ensures { IsPermutation under_way.old.entries
+    ensures taken { IsPermutation under_way.old.entries
         (record { place = place; content = Content.Port result.0 result.1 } ∷ under_way.new.entries) }
+    ensures room { under_way.old.room ≤ under_way.new.room }
 {
     let Some(first) = under_way.take_first() else {
         unreachable!()

@@ -9,6 +9,6 @@ port_of-requires c =
     let same = one_first c.in-Some.ensures.first c.requires.first in
     sym (c.requires.sound.1.kinds first there) ∙ ap (λ (p : DueAt). p.rank) same ∙ c.requires.port
 
-pub returns : goal.returns
-returns c = in_words _ _ c.in-Some.first c.args.place _ (one_first c.in-Some.ensures.first c.requires.first)
+pub returns-clause-taken : goal.returns-clause-taken
+returns-clause-taken c = in_words _ _ c.in-Some.first c.args.place _ (one_first c.in-Some.ensures.first c.requires.first)
     c.port_of.ensures c.in-Some.ensures.entries

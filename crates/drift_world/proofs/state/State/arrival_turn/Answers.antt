@@ -1,157 +1,26 @@
-use Rattle.drift_world.{proofs.{Dues.due_stays, state.State.arrival_turn.Goals.{After-give_in_turn-turn, After-put_in}}, specs.declared.state.State.State}
-use Rattle.drift_world.proofs.{Fits.{all_put, have_octets, sound_same}, Timings.rekeyed, Words.{length, place_of, rank, refl, settled_at, subst, sym}}
-use Rattle.drift_world.proofs.Words.{world_of}
-use Rattle.drift_world.{proofs.{Halves.set_act, OwnPlaces.{changes_both, none_ahead, runs_first, stands_first}}, specs.Turns.given_in}
-use Rattle.drift_world.{proofs.Turning.{comes_first, is_at, kept_timers, rekeyed_step, runs_on, step_kept}, specs.declared.source.Source.TheVariants.Arrival}
-use Rattle.drift_world.proofs.Words.{◌++◌, ◌∙◌, ◌∷◌, ◌≡◌, ChangesOnly, DeviceId, IsPutAt, IsSound, List, Note, Scenario, Stands, ap, arith, keeps}
+use Rattle.drift_world.proofs.{Turning.{arrival_stays, kept_then, roomier, step_kept}, Words.refl}
+use Rattle.drift_world.{proofs.state.State.arrival_turn.Goals.After-reserve, specs.Turns.IsStep}
 use Rattle.drift_world.proofs.state.State.arrival_turn.Given as given
 use Rattle.drift_world.proofs.state.State.arrival_turn.Goals as goal
 
-pub hear_wire-record-requires-clause-comes : goal.hear_wire-record-requires-clause-comes
-hear_wire-record-requires-clause-comes g c = is_at g.C.Clock.last_step g.C.Clock.reading g.M.Machine.stands c.args.network.now c.args.self.now
-    (Arrival c.args.place) c.requires.may tt
+-- room is taken
+made : (g : given.Over) (c : After-reserve g) → IsStep g.C.Clock.last_step g.C.Clock.reading g.M.Machine.stands c.args.network.now c.args.self.now
+    (record c.args.self.now { waiting = c.reserve.new.self })
+made g c = roomier g.C.Clock.last_step g.C.Clock.reading g.M.Machine.stands c.args.network.now c.args.self.now _ c.requires.may.well refl refl
+    c.reserve.ensures.items refl
 
--- ---- its record is given
+pub returns-then-is_err-clause-kept : goal.returns-then-is_err-clause-kept
+returns-then-is_err-clause-kept g c =
+    step_kept g.C.Clock.last_step g.C.Clock.reading g.M.Machine.stands c.args.network.now c.args.self.now _
+    (made g (goal.at.returns-then-is_err-clause-kept g c).After-reserve)
 
-pub give_in_turn-turn-requires-clause-front : goal.give_in_turn-turn-requires-clause-front
-give_in_turn-turn-requires-clause-front g c =
-    subst (λ l. IsPutAt c.hear_wire-record.result l (c.hear_wire-record.result ∷ l) 0)
-    (sym (ap (λ (t : State _ _). t.settled.items) c.hear_wire-record.ensures.same))
-    (none_ahead c.hear_wire-record.result c.requires.may tt
-    (c.hear_wire-record.ensures.own (omega (arith, c.rank_of.ensures, c.number.ensures, c.if-rank_of-number.true))))
-
-pub give_in_turn-turn-requires-clause-running : goal.give_in_turn-turn-requires-clause-running
-give_in_turn-turn-requires-clause-running g c =
-    let one = c.hear_wire-record.result in
-    runs_first g.C.Clock.last_step g.C.Clock.reading g.M.Machine.stands c.args.network.now c.args.self.now c.hear_wire-record.new.self (Arrival c.args.place)
-    one c.requires.may tt (ap (λ (t : State _ _). t.settled.items) c.hear_wire-record.ensures.same)
-    (c.hear_wire-record.ensures.stands (one ∷ c.args.self.now.settled.items) 0
-    (none_ahead c.hear_wire-record.result c.requires.may tt
-    (c.hear_wire-record.ensures.own (omega (arith, c.rank_of.ensures, c.number.ensures, c.if-rank_of-number.true)))))
-
-arriving : (g : given.Over) (c : After-give_in_turn-turn g) → rank c.hear_wire-record.result.body ≡ 2
-arriving g c = omega (arith, c.rank_of.ensures, c.number.ensures, c.if-rank_of-number.true)
-
-given_so : (g : given.Over) (c : After-give_in_turn-turn g) (s : Scenario) (notes : List Note)
-    → Stands g.C.Clock.reading (keeps g.M.Machine.stands) s (world_of c.args.network.now c.args.self.now) notes
-    → Stands g.C.Clock.reading (keeps g.M.Machine.stands) s (world_of c.args.network.now c.give_in_turn-turn.new.self) (notes
-    ++ given_in c.give_in_turn-turn.result c.give_in_turn-turn.new.note)
-given_so g c =
-    let one = c.hear_wire-record.result in
-    let hear = c.hear_wire-record.ensures in
-    stands_first g.C.Clock.last_step g.C.Clock.reading g.M.Machine.stands c.args.network.now c.args.self.now c.hear_wire-record.new.self (Arrival c.args.place)
-    one c.requires.may tt (ap (λ (t : State _ _). t.settled.items) hear.same)
-    (hear.stands (one ∷ c.args.self.now.settled.items) 0
-    (none_ahead one c.requires.may tt
-    (hear.own (arriving g c))))
-    c.give_in_turn-turn.new.self _
-    (ap (λ t. place_of (settled_at c.args.network.now t one)) hear.others.time ∙ hear.own (arriving g c))
-    c.give_in_turn-turn.ensures.stands
-
-pub rekey_from-requires : goal.rekey_from-requires
-rekey_from-requires g c =
-    let may = c.requires.may in
-    let run = may.well.running in
-    let hear = c.hear_wire-record.ensures in
-    let give = c.give_in_turn-turn.ensures in
-    let timers = ap (λ (t : State _ _). t.timers) give.same ∙ ap (λ (t : State _ _). t.timers) hear.same in
-    record {
-      may = record {
-        sized = give.sound.sized;
-        there = may.foremost.there.device;
-        few = may.range.few_devices;
-        slots = ap length timers ∙ may.well.timed.sized;
-        running = record { s = run.s; notes = _; is = given_so g (goal.at.rekey_from-requires g c).After-give_in_turn-turn run.s run.notes run.is };
-      };
-      before = due_stays g.C.Clock.reading g.M.Machine.stands c.args.network.now g.C.Clock.last_step c.args.self.now c.give_in_turn-turn.new.self
-          (record { 0 = c.args.place.device }) c.due_of-before.result may.well
-          may.foremost.there.device
-          c.due_of-before.ensures
-          (ap (λ (t : State _ _). t.clocks) give.same ∙ ap (λ (t : State _ _). t.clocks) hear.same)
-          (ap (λ (t : State _ _). t.time) give.same ∙ ap (λ (t : State _ _). t.time) hear.same)
-          timers;
-    }
-
-pub returns-then-rank_of-number-clause-kept : goal.returns-then-rank_of-number-clause-kept
-returns-then-rank_of-number-clause-kept g c =
-    let mid = c.hear_wire-record.new.self in
-    let gave = c.give_in_turn-turn.new.self in
-    let device : DeviceId = record { 0 = c.args.place.device } in
-    let may = c.requires.may in
-    let hear = c.hear_wire-record.ensures in
-    let give = c.give_in_turn-turn.ensures in
-    let changes : ChangesOnly device.0 c.args.self.now gave = changes_both hear.others
-    (subst (λ d. ChangesOnly d mid gave) (hear.device (arriving g (goal.at.returns-then-rank_of-number-clause-kept g c).After-give_in_turn-turn))
-    give.others) in
-    let time = changes.time in
-    kept_timers g.C.Clock.last_step g.C.Clock.reading g.M.Machine.stands c.args.network.now c.args.self.now gave c.rekey_from.new.self _ may.well.running
-    give.sound
-    (record { clocks = changes.clocks; ended = changes.ended; later = omega (arith, time) })
-    (given_so g (goal.at.returns-then-rank_of-number-clause-kept g c).After-give_in_turn-turn) c.rekey_from.ensures.sets.same
-    (rekeyed g.C.Clock.reading g.M.Machine.stands c.args.network.now device c.args.self.now gave c.rekey_from.new.self may.well.timed may.foremost.there.device
-    changes
-    (ap (λ (t : State _ _). t.timers) give.same ∙ ap (λ (t : State _ _). t.timers) hear.same) c.rekey_from.ensures)
-
--- ---- it is put in among others
-
-sound_after : (g : given.Over) (c : After-put_in g)
-    → IsSound g.C.Clock.last_step c.args.network.now (record c.hear_wire-record.new.self { settled = c.put_in.new.settled })
-sound_after g c =
-    let mid = c.hear_wire-record.new.self in
-    let put = c.put_in.ensures.is in
-    let hear = c.hear_wire-record.ensures in
-    sound_same g.C.Clock.last_step c.args.network.now mid _ hear.sound refl refl refl refl refl refl refl refl refl refl
-    (all_put have_octets c.hear_wire-record.result mid.settled.items c.put_in.new.settled.items put.0 put.1 hear.octets hear.sound.fit.octets)
-
-still : (g : given.Over) (c : After-put_in g) (s : Scenario) (notes : List Note)
-    → Stands g.C.Clock.reading (keeps g.M.Machine.stands) s (world_of c.args.network.now c.args.self.now) notes
-    → Stands g.C.Clock.reading (keeps g.M.Machine.stands) s
-    (world_of c.args.network.now (record c.hear_wire-record.new.self { settled = c.put_in.new.settled })) notes
-still g c s notes old =
-    let put = c.put_in.ensures.is in
-    let hear = c.hear_wire-record.ensures in
-    (hear.stands c.put_in.new.settled.items put.0
-    (subst (λ l. IsPutAt c.hear_wire-record.result l c.put_in.new.settled.items put.0) (ap (λ (t : State _ _). t.settled.items) hear.same)
-    put.1)
-    s notes old (comes_first g.C.Clock.last_step g.C.Clock.reading g.M.Machine.stands c.args.network.now c.args.self.now (Arrival c.args.place) s notes
-    c.requires.may tt old)).0
-
-pub rekey_act_from-requires : goal.rekey_act_from-requires
-rekey_act_from-requires g c =
-    let may = c.requires.may in
-    let hear = c.hear_wire-record.ensures in
-    let after : State _ _ = record c.hear_wire-record.new.self { settled = c.put_in.new.settled } in
-    let timers = ap (λ (t : State _ _). t.timers) hear.same in
-    record {
-      may = record {
-        sized = (sound_after g (goal.at.rekey_act_from-requires g c).After-put_in).sized;
-        there = may.foremost.there.device;
-        few = may.range.few_devices;
-        slots = ap length timers ∙ may.well.timed.sized;
-        running = runs_on g.C.Clock.last_step g.C.Clock.reading g.M.Machine.stands c.args.network.now c.args.self.now after may.well.running
-            (still g (goal.at.rekey_act_from-requires g c).After-put_in);
-      };
-      before = due_stays g.C.Clock.reading g.M.Machine.stands c.args.network.now g.C.Clock.last_step c.args.self.now after (record { 0 = c.args.place.device })
-          c.due_of-before.result may.well may.foremost.there.device
-          c.due_of-before.ensures (ap (λ (t : State _ _). t.clocks) hear.same) (ap (λ (t : State _ _). t.time) hear.same) timers;
-    }
+pub hear_turn-requires-clause-may : goal.hear_turn-requires-clause-may
+hear_turn-requires-clause-may g c =
+    arrival_stays g.C.Clock.last_step g.C.Clock.reading g.M.Machine.stands c.args.network.now c.args.self.now _ c.args.place refl c.reserve.ensures.items
+    c.requires.may
 
 pub returns-clause-kept : goal.returns-clause-kept
 returns-clause-kept g c =
-    let device : DeviceId = record { 0 = c.args.place.device } in
-    let may = c.requires.may in
-    let there = may.foremost.there.device in
-    let hear = c.hear_wire-record.ensures in
-    let o = hear.others in
-    let after : State _ _ = record c.hear_wire-record.new.self { settled = c.put_in.new.settled } in
-    let new = c.rekey_act_from.new.self in
-    let keyed = c.rekey_act_from.ensures in
-    let timers = ap (λ (t : State _ _). t.timers) hear.same in
-    step_kept g.C.Clock.last_step g.C.Clock.reading g.M.Machine.stands c.args.network.now c.args.self.now new
-    (rekeyed_step g.C.Clock.last_step g.C.Clock.reading g.M.Machine.stands c.args.network.now device c.args.self.now after new may.well
-    (sound_after g (goal.at.returns-clause-kept g c).After-put_in) there
-    (record { clocks = o.clocks; time = o.time; ended = o.ended; machines = o.machines; waiting = o.waiting }) timers
-    (ap (λ (t : State _ _). t.given) hear.same) (still g (goal.at.returns-clause-kept g c).After-put_in)
-    (set_act g.C.Clock.reading g.M.Machine.stands c.args.network.now c.args.self.now after new device there (may.well.timed.each device there) o.clocks o.time
-    (ap (λ (t : State _ _). t.waiting) hear.same) timers
-    keyed.timed keyed.sets))
+    let step = made g (goal.at.returns-clause-kept g c).After-reserve in
+    kept_then g.C.Clock.last_step g.C.Clock.reading g.M.Machine.stands c.args.network.now c.args.self.now
+    (record c.args.self.now { waiting = c.reserve.new.self }) c.hear_turn.new.self _ step.after step.still c.hear_turn.ensures.kept

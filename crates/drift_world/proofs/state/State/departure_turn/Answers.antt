@@ -1,8 +1,7 @@
 use Rattle.drift_world.{proofs.Fits.{all_put, have_octets, sound_same}, specs.declared.{source.Source.TheVariants.Departure, state.State.State}}
-use Rattle.drift_world.proofs.{OwnPlaces.{changes_both, none_ahead, runs_first, stands_first}, Turning.{comes_first, kept_timers, plain_step, step_kept}}
+use Rattle.drift_world.proofs.{OwnPlaces.{changes_both, no_shelf, no_waiter, none_ahead, runs_first, stands_first}, Turning.{comes_first, kept_timers, plain_step, step_kept}}
 use Rattle.drift_world.proofs.{Timings.aside}
 use Rattle.drift_world.proofs.Words.{◌∙◌, ◌∷◌, ◌≡◌, ChangesOnly, IsPutAt, ap, arith, changed_device, place_of, rank, refl, settled_at, subst}
-use Rattle.drift_world.proofs.Words.{sym}
 use Rattle.drift_world.proofs.state.State.departure_turn.Goals as goal
 
 pub returns-in_default-clause-kept : goal.returns-in_default-clause-kept
@@ -17,15 +16,30 @@ returns-in_default-clause-kept g c =
     (comes_first g.C.Clock.last_step g.C.Clock.reading g.M.Machine.stands c.args.network.now c.args.self.now (Departure c.args.place) s notes c.requires.may tt
     old)).0))
 
-pub give_in_turn-requires-clause-front : goal.give_in_turn-requires-clause-front
-give_in_turn-requires-clause-front g c =
-    subst (λ l. IsPutAt c.in-Some.record l (c.in-Some.record ∷ l) 0)
-    (sym (ap (λ (t : State _ _). t.settled.items) c.in-Some.ensures.same))
-    (none_ahead c.in-Some.record c.requires.may tt
-    (c.in-Some.ensures.own (omega (arith, c.rank_of.ensures, c.number.ensures, c.if-rank_of-number.true))))
+pub give_first-requires-clause-number : goal.give_first-requires-clause-number
+give_first-requires-clause-number g c =
+    let numbers = c.requires.may.room.numbers in
+    let given = ap (λ (t : State _ _). t.given) c.in-Some.ensures.same in
+    omega (arith, numbers, given)
 
-pub give_in_turn-requires-clause-running : goal.give_in_turn-requires-clause-running
-give_in_turn-requires-clause-running g c =
+pub give_first-requires-clause-room : goal.give_first-requires-clause-room
+give_first-requires-clause-room g c =
+    let launches = c.requires.may.room.launches in
+    let kept = c.in-Some.ensures.room in
+    omega (arith, launches, kept)
+
+pub give_first-requires-clause-capacity : goal.give_first-requires-clause-capacity
+give_first-requires-clause-capacity g c =
+    no_waiter c.in-Some.record.body c.leave_port.new.self.waiting
+    (λ two. omega (arith, two, c.rank_of.ensures, c.number.ensures, c.if-rank_of-number.true))
+
+pub give_first-requires-clause-place : goal.give_first-requires-clause-place
+give_first-requires-clause-place g c =
+    no_shelf c.in-Some.record.body c.leave_port.new.self.stored
+    (omega (arith, c.rank_of.ensures, c.number.ensures, c.if-rank_of-number.true))
+
+pub give_first-requires-clause-running : goal.give_first-requires-clause-running
+give_first-requires-clause-running g c =
     runs_first g.C.Clock.last_step g.C.Clock.reading g.M.Machine.stands c.args.network.now c.args.self.now c.leave_port.new.self (Departure c.args.place)
     c.in-Some.record c.requires.may tt (ap (λ (t : State _ _). t.settled.items) c.in-Some.ensures.same)
     (c.in-Some.ensures.stands (c.in-Some.record ∷ c.args.self.now.settled.items) (
@@ -37,12 +51,12 @@ give_in_turn-requires-clause-running g c =
 pub returns-then-rank_of-number-clause-kept : goal.returns-then-rank_of-number-clause-kept
 returns-then-rank_of-number-clause-kept g c =
     let mid = c.leave_port.new.self in
-    let gave = c.give_in_turn.new.self in
+    let gave = c.give_first.new.self in
     let one = c.in-Some.record in
     let other = changed_device one.body in
     let may = c.requires.may in
     let left = c.in-Some.ensures in
-    let give = c.give_in_turn.ensures in
+    let give = c.give_first.ensures in
     let is = c.rank_of.ensures in
     let leaving = c.number.ensures in
     let test = c.if-rank_of-number.true in
@@ -58,8 +72,8 @@ returns-then-rank_of-number-clause-kept g c =
     (left.stands (one ∷ c.args.self.now.settled.items) (
       0,
       none_ahead one may tt (left.own eight),
-    )) gave _
-    (ap (λ t. place_of (settled_at c.args.network.now t one)) (left.others 0).time ∙ left.own eight) give.stands)
+    )) gave c.give_first.new.note
+    (ap (λ t. place_of (settled_at c.args.network.now t one)) (left.others 0).time ∙ left.own eight) give.note give.stands)
     refl
     (aside g.C.Clock.reading g.M.Machine.stands c.args.network.now other c.args.self.now gave may.well.timed (omega (arith, far, few)) changes
     (ap (λ (t : State _ _). t.timers) give.same ∙ ap (λ (t : State _ _). t.timers) left.same))

@@ -1,7 +1,7 @@
 use Rattle.drift_world.proofs.{Fits.sound_same, Gave.{changes_since, popped_world, unchanged}, Words.{settled_at, subst, sym, units_of, world_of, ℕ}}
-use Rattle.drift_world.{proofs.{MayGive.{low_now, may_be_given}, state.State.give.Goals.After-unwrap-first}, specs.declared.state.State.State}
+use Rattle.drift_world.{proofs.state.State.give.Goals.After-unwrap-first, specs.declared.state.State.State}
 use Rattle.drift_world.proofs.Words.{◌++◌, ◌+◌, ◌<◌, ◌∙◌, ◌∷◌, ◌≡◌, ChangesOnly, DeviceId, HasItsOctets, IfSome, List, NoSourceBefore, Note, Option, Settled}
-use Rattle.drift_world.proofs.Words.{Stands, StandsBehind, World, [], ap, behind, changed_device, happenings, keeps, length, map, note_of, place_of, refl}
+use Rattle.drift_world.proofs.Words.{Stands, StandsBehind, World, [], ap, behind, changed_device, happenings, keeps, note_of, place_of, refl}
 use Rattle.std.{proofs.lemmas.List.Elements.{All-head, All-tail}, specs.Prelude.{All, option_to_list}}
 use Rattle.world_state.specs.{Frames.room_of, Shelves.HasPlace, declared.contents.Spot.Spot}
 use Rattle.drift_world.proofs.state.State.give.Given as given
@@ -32,16 +32,30 @@ give_first-requires-clause-sound g c =
     sound_same g.C.Clock.last_step c.args.network.now c.args.self.now _ c.requires.sound refl refl refl refl refl refl refl refl room.entries room.waiting
     octets
 
-pub give_first-requires-clause-may : goal.give_first-requires-clause-may
-give_first-requires-clause-may g c =
+pub give_first-requires-clause-octets : goal.give_first-requires-clause-octets
+give_first-requires-clause-octets g c =
+    let whole = whole_is g (goal.at.give_first-requires-clause-octets g c).After-unwrap-first in
+    All-head (λ (z : Settled). HasItsOctets z.body z.octets) c.unwrap-first.result c.pop_front.new.self.items
+    (subst (All (λ (z : Settled). HasItsOctets z.body z.octets)) whole c.requires.sound.fit.octets)
+
+pub give_first-requires-clause-running : goal.give_first-requires-clause-running
+give_first-requires-clause-running g c =
     let w = c.args.self.now in
-    let network = c.args.network.now in
+    let room = c.make_room.ensures in
     let run = c.requires.running in
-    let whole = whole_is g (goal.at.give_first-requires-clause-may g c).After-unwrap-first in
-    let has = All-head (λ (z : Settled). HasItsOctets z.body z.octets) c.unwrap-first.result c.pop_front.new.self.items
-    (subst (All (λ (z : Settled). HasItsOctets z.body z.octets)) whole c.requires.sound.fit.octets) in
-    may_be_given g.C.Clock.reading (keeps g.M.Machine.stands) run.s (world_of network w) run.notes network w.time c.unwrap-first.result _ run.is run.is.same
-    (ap (map (settled_at network w.time)) whole) has
+    let popped : State _ _ = record w {
+      under_way = c.make_room.new.under_way;
+      waiting = c.make_room.new.waiting;
+      stored = c.make_room.new.stored;
+      settled = c.pop_front.new.self;
+    } in
+    record {
+      s = run.s;
+      notes = run.notes;
+      is = subst (λ (v : World _ _). Stands g.C.Clock.reading (keeps g.M.Machine.stands) run.s v run.notes)
+          (sym (popped_world c.args.network.now w popped c.unwrap-first.result room.entries room.waiting room.stored
+          (whole_is g (goal.at.give_first-requires-clause-running g c).After-unwrap-first) refl)) run.is;
+    }
 
 pub give_first-requires-clause-capacity : goal.give_first-requires-clause-capacity
 give_first-requires-clause-capacity g c =
@@ -54,14 +68,6 @@ give_first-requires-clause-place g c =
     let whole = whole_is g (goal.at.give_first-requires-clause-place g c).After-unwrap-first in
     subst (λ (o : Option Spot). IfSome o (HasPlace c.make_room.new.stored))
     (c.first_taker-spot.ensures c.unwrap-first.result c.pop_front.new.self.items whole) c.in_default.ensures.place
-
-pub give_first-requires-clause-low : goal.give_first-requires-clause-low
-give_first-requires-clause-low g c =
-    let w = c.args.self.now in
-    let network = c.args.network.now in
-    let run = c.requires.running in
-    low_now g.C.Clock.reading (keeps g.M.Machine.stands) run.s (world_of network w) run.notes run.is _ (ap (λ n. length n.device) run.is.same)
-    c.requires.sound.sized.clocks
 
 pub returns-clause-stands : goal.returns-clause-stands
 returns-clause-stands g c = λ s notes other rest is.

@@ -1,4 +1,4 @@
-use Rattle.drift_world.proofs.{Fits.sized_so, Givings.given_on, Words.world_of, state.State.give_first.Goals.After-launch_octets}
+use Rattle.drift_world.proofs.{Fits.sized_so, Givings.given_on, MayGive.{low_with, may_give}, Words.world_of, state.State.give_first.Goals.After-launch_octets}
 use Rattle.drift_world.proofs.Gave.{from_ports, from_wire, waits_apart, waits_below, waits_elsewhere, waits_more, wire_is, wire_sound}
 use Rattle.drift_world.proofs.Words.{◌++◌, ◌+◌, ◌∙◌, ◌∷◌, ◌≡◌, ChangesOnly, IfSome, IsGivenOut, IsPutOn, IsSound, IsStoredBy}
 use Rattle.drift_world.proofs.Words.{Note, StandsBehind, Units, [], ap, arith, behind, changed_device, inl, inr, keeps, length}
@@ -96,7 +96,7 @@ returns-clause-stands g c = λ s notes old none.
     c.launch_octets.ensures.stored) in
     let step = given_on K.reading stands s network (sym old.same) w two notes first w.settled.items given.0 three.under_way.entries three.stored.items old
     none
-    c.requires.may out sent held in
+    (may_give K.reading g.M.Machine.stands network w first c.requires.running c.requires.octets) out sent held in
     let last = gave_all g (goal.at.returns-clause-stands g c).After-launch_octets in
     subst (λ q. StandsBehind K.reading stands s (world_of network q) (notes ++ note_of notes z ∷ []) (behind (place_of z))) (sym last)
     step
@@ -127,18 +127,19 @@ returns-clause-others g c =
 pub launch_frame-requires : goal.launch_frame-requires
 launch_frame-requires g c =
     let w = c.args.self.now in
+    let may = may_give g.C.Clock.reading g.M.Machine.stands c.args.network.now w c.args.first c.requires.running c.requires.octets in
     let fit = c.requires.sound.fit in
     let room = c.requires.room in
     record {
       sized = c.requires.sound.sized;
       range = c.requires.range;
-      by = c.requires.may.by;
-      young = c.requires.may.young;
+      by = may.by;
+      young = may.young;
       room = omega (arith, room);
       capacity = c.requires.capacity;
       ups = fit.ups;
       downs = fit.downs;
-      low = c.requires.low;
+      low = low_with g.C.Clock.reading g.M.Machine.stands c.args.network.now w c.args.first c.requires.running c.requires.sound.sized.clocks;
     }
 
 pub launch_octets-requires : goal.launch_octets-requires
@@ -179,4 +180,5 @@ returns-clause-same g c =
     ∙ ap (λ (q : State _ _). let r : State _ _ = record q { under_way = three.under_way; stored = three.stored } in r) c.launch_frame.ensures.same))
 
 pub returns-clause-arrived : goal.returns-clause-arrived
-returns-clause-arrived g c = c.requires.may.arrived
+returns-clause-arrived g c =
+    (may_give g.C.Clock.reading g.M.Machine.stands c.args.network.now c.args.self.now c.args.first c.requires.running c.requires.octets).arrived

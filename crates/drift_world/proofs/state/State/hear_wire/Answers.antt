@@ -36,7 +36,7 @@ pub hear_signal-arrival-requires-clause-may : goal.hear_signal-arrival-requires-
 hear_signal-arrival-requires-clause-may g c =
     let at = c.requires.comes in
     may_come g.C.Clock.reading (keeps g.M.Machine.stands) at.s c.args.network.now c.args.self.now at.notes at.is c.args.place c.take_wire-signal.result
-    c.take_wire-signal.new.under_way.entries c.take_wire-signal.ensures c.requires.wire c.requires.at c.index_mut-machine.result.now
+    c.take_wire-signal.new.under_way.entries c.take_wire-signal.ensures.taken c.requires.wire c.requires.at c.index_mut-machine.result.now
     (record { time = c.from_amount-time.result; reading = c.read.result })
     (held g (goal.at.hear_signal-arrival-requires-clause-may g c).After-index_mut-machine)
     (now_is g (goal.at.hear_signal-arrival-requires-clause-may g c).After-read at.s at.notes at.is)
@@ -45,7 +45,7 @@ pub hear_signal-arrival-requires-clause-as_sent : goal.hear_signal-arrival-requi
 hear_signal-arrival-requires-clause-as_sent g c =
     let at = c.requires.comes in
     as_sent g.C.Clock.reading (keeps g.M.Machine.stands) at.s c.args.network.now c.args.self.now at.notes at.is c.args.place c.take_wire-signal.result
-    c.take_wire-signal.new.under_way.entries c.take_wire-signal.ensures c.requires.wire c.requires.at
+    c.take_wire-signal.new.under_way.entries c.take_wire-signal.ensures.taken c.requires.wire c.requires.at
 
 pub returns-clause-sound : goal.returns-clause-sound
 returns-clause-sound g c =
@@ -56,12 +56,12 @@ returns-clause-sound g c =
     record {
       sized = sized_so g.C.Clock.last_step c.args.network.now c.args.self.now _ z refl
           (length-set w.machines.items c.args.place.device c.hear_signal-arrival.new.kept) refl refl refl refl refl;
-      under_way = sound_without c.args.network.now w.under_way.entries took.new.under_way.entries _ c.requires.sound.under_way took.ensures;
+      under_way = sound_without c.args.network.now w.under_way.entries took.new.under_way.entries _ c.requires.sound.under_way took.ensures.taken;
       fit = record {
         ups = fit.ups;
         downs = fit.downs;
         octets = fit.octets;
-        below = below_without (w.given + 1) w.under_way.entries took.new.under_way.entries _ took.ensures fit.below;
+        below = below_without (w.given + 1) w.under_way.entries took.new.under_way.entries _ took.ensures.taken fit.below;
         waits_below = fit.waits_below;
         apart = fit.apart;
       };
@@ -74,7 +74,7 @@ returns-clause-octets g c =
     let heard = c.hear_signal-arrival in
     subst have_octets (sym c.arrived.ensures)
     (heard_octets g.C.Clock.reading (keeps g.M.Machine.stands) at.s c.args.network.now c.args.self.now at.notes at.is c.args.place took.result
-    took.new.under_way.entries took.ensures c.requires.wire c.requires.at c.index_mut-machine.result.now
+    took.new.under_way.entries took.ensures.taken c.requires.wire c.requires.at c.index_mut-machine.result.now
     (record { time = c.from_amount-time.result; reading = c.read.result }) (held g (goal.at.returns-clause-octets g c).After-index_mut-machine)
     (now_is g (goal.at.returns-clause-octets g c).After-read at.s at.notes at.is) heard.new.kept heard.ensures.0 heard.result heard.ensures.1
     heard.ensures.2)
@@ -101,7 +101,7 @@ returns-clause-stands g c = λ settled index put s notes old first.
     let kept = w.machines.ok.0 in
     let took = c.take_wire-signal in
     let heard = c.hear_signal-arrival in
-    heard_stands g.C.Clock.reading (keeps g.M.Machine.stands) s c.args.network.now w notes old c.args.place took.result took.new.under_way.entries took.ensures
+    heard_stands g.C.Clock.reading (keeps g.M.Machine.stands) s c.args.network.now w notes old c.args.place took.result took.new.under_way.entries took.ensures.taken
     c.requires.wire c.requires.at c.index_mut-machine.result.now (record { time = c.from_amount-time.result; reading = c.read.result })
     (held g (goal.at.returns-clause-stands g c).After-index_mut-machine) (now_is g (goal.at.returns-clause-stands g c).After-read s notes old)
     heard.new.kept heard.ensures.0 heard.result (set w.machines.items device.0 heard.new.kept) settled index
@@ -122,4 +122,4 @@ returns-clause-others g c = record {
 }
 
 pub returns-clause-shorter : goal.returns-clause-shorter
-returns-clause-shorter g c = let same = length_permutation _ _ c.take_wire-signal.ensures in omega (arith, same)
+returns-clause-shorter g c = let same = length_permutation _ _ c.take_wire-signal.ensures.taken in omega (arith, same)

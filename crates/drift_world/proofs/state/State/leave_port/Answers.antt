@@ -15,12 +15,12 @@ returns-clause-sound g c =
     record {
       sized = sized_so g.C.Clock.last_step c.args.network.now c.args.self.now _ z refl refl refl refl refl refl refl;
       under_way = sound_without c.args.network.now w.under_way.entries c.take_port-frame.new.under_way.entries _ c.requires.sound.under_way
-          c.take_port-frame.ensures;
+          c.take_port-frame.ensures.taken;
       fit = record {
         ups = fit.ups;
         downs = fit.downs;
         octets = fit.octets;
-        below = below_without (w.given + 1) w.under_way.entries c.take_port-frame.new.under_way.entries _ c.take_port-frame.ensures fit.below;
+        below = below_without (w.given + 1) w.under_way.entries c.take_port-frame.new.under_way.entries _ c.take_port-frame.ensures.taken fit.below;
         waits_below = fit.waits_below;
         apart = fit.apart;
       };
@@ -41,7 +41,7 @@ returns-clause-stands g c = λ settled was s notes old first.
     let hs = happenings s.network notes in
     let numbers : numbers_of place ≡ place.at ∷ 8 ∷ place.device ∷ place.link ∷ place.cause ∷ [] = ap
     (λ (r : ℕ). place.at ∷ r ∷ place.device ∷ place.link ∷ place.cause ∷ []) c.requires.port in
-    let there = is_given at_port w.under_way.entries taken e (in_permuted _ _ taken (IsPermutation-sym _ _ took.ensures) (inl refl)) refl in
+    let there = is_given at_port w.under_way.entries taken e (in_permuted _ _ taken (IsPermutation-sym _ _ took.ensures.taken) (inl refl)) refl in
     let given = frame_of_port (old.ports.real e there).0 in
     let of = shows_of network w old in
     let put = subst (λ o. IsSomePut o w.settled.items settled)
@@ -49,7 +49,7 @@ returns-clause-stands g c = λ settled was s notes old first.
     let step = left_step K.reading stands s world notes e (filter_map at_port took.new.under_way.entries)
     (map (settled_at network w.time) settled) old there now_is
     (subst (ComesFirst K.reading stands s world notes old) numbers first)
-    (ports_without network w.under_way.entries took.new.under_way.entries taken c.requires.sound.under_way took.ensures e refl)
+    (ports_without network w.under_way.entries took.new.under_way.entries taken c.requires.sound.under_way took.ensures.taken e refl)
     (some_put_in s.network network w.time hs (departure_body e (departure_now s e w.time)) _ w.settled.items settled
     (is_broken s e.device w.time) put
     (settled_in_order old) (departed_is s.network network w.time hs e (departure_now s e w.time) given)) in
@@ -59,11 +59,11 @@ returns-clause-stands g c = λ settled was s notes old first.
       settled = map (settled_at network w.time) settled;
     } in
     with_wires K.reading stands s after notes (filter_map (on_wire network) took.new.under_way.entries) (behind (numbers_of place))
-    (wires_stay network w.under_way.entries took.new.under_way.entries taken c.requires.sound.under_way took.ensures refl)
+    (wires_stay network w.under_way.entries took.new.under_way.entries taken c.requires.sound.under_way took.ensures.taken refl)
     (subst (λ p. StandsBehind K.reading stands s after notes (behind p)) (sym numbers) step)
 
 pub returns-clause-shorter : goal.returns-clause-shorter
-returns-clause-shorter g c = let same = length_permutation _ _ c.take_port-frame.ensures in omega (arith, same)
+returns-clause-shorter g c = let same = length_permutation _ _ c.take_port-frame.ensures.taken in omega (arith, same)
 
 pub returns-clause-own : goal.returns-clause-own
 returns-clause-own g c =

@@ -1,4 +1,4 @@
-use Rattle.drift_world.proofs.Words.{◌<ℤ◌, ◌≡◌, Kept, Moment, Scenario, Some, ap, arith, keeps, pos, reading_for, slice_get_read, subst, sym, ℤ}
+use Rattle.drift_world.proofs.Words.{◌<ℤ◌, ◌≡◌, Kept, Moment, Scenario, Some, ap, arith, keeps, pos, reading_for, slice_get_read, subst, sym}
 use Rattle.{device_rules.specs.FirstKinds.IsFirstKind, drift_world.specs.Showing.IsOf, std.specs.List.slice_get}
 use Rattle.drift_world.proofs.state.State.left_to_do.Goals.{After-is_reached}
 use Rattle.{drift_world.proofs.state.State.left_to_do.Given.Over, world_law.proofs.giving.GivenParts.some_same, world_state.proofs.Acts.{none_due, some_due}}

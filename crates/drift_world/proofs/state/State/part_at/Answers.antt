@@ -1,6 +1,6 @@
 use Rattle.{device_rules.specs.FirstKinds.{kind_of}, run_law.specs.machines.Calls.HasDue, world_law.proofs.giving.GivenParts.some_same}
 use Rattle.drift_world.{proofs.Parts.{none_sooner, part_least}, specs.Parts.{IsNoSooner, part_of}}
-use Rattle.drift_world.proofs.Words.{◌∙◌, ◌≡◌, ◌≤ℤ◌, amount, ap, arith, keeps, pos, reading_for, slice_get_read, subst, sym, ℤ}
+use Rattle.drift_world.proofs.Words.{◌∙◌, ◌≡◌, ◌≤ℤ◌, amount, ap, arith, keeps, pos, reading_for, slice_get_read, subst, sym}
 use Rattle.drift_world.proofs.state.State.part_at.Goals as goal
 
 pub returns-then-time-self : goal.returns-then-time-self

@@ -1,13 +1,14 @@
 use Rattle.drift_world.proofs.{Dues.due_stays, Ripenings.{octets_fit, record_fits}}
-use Rattle.drift_world.proofs.OwnPlaces.{judged_far, judged_first, judged_own, none_ahead, runs_first, stands_first}
+use Rattle.drift_world.proofs.OwnPlaces.{judged_far, judged_first, judged_own, judged_rank, no_shelf, no_waiter, none_ahead, runs_first, stands_first}
 use Rattle.{drift_world.{proofs.Fits.{have_octets, sound_same}, specs.declared.state.State.State}, world_state.specs.Ripening.{AreSettledSo, ripe_record}}
 use Rattle.{drift_world.{proofs.Timings.rekeyed_by, specs.Stepping.StandsPast}, run_law.specs.declared.steps.Ripe.Ripe, world_law.proofs.giving.GivenParts.some_same}
 use Rattle.drift_world.{proofs.Turning.{comes_first, is_at, kept_timers, rekeyed_step, runs_on, step_kept}, specs.declared.source.Source.TheVariants.Ripening}
-use Rattle.drift_world.proofs.Words.{◌++◌, ◌+◌, ◌∙◌, ◌∷◌, ◌≡◌, ◌≤ℤ◌, ChangesOnly, DeviceId, IsPutAt, IsSound, List, Network, Node, Note, Scenario, Settled, Some}
+use Rattle.drift_world.proofs.Words.{[], rank}
+use Rattle.drift_world.proofs.Words.{◌++◌, ◌+◌, ◌<◌, ◌∙◌, ◌∷◌, ◌≡◌, ◌≤ℤ◌, ChangesOnly, DeviceId, IsPutAt, IsSound, List, Network, Node, Note, Scenario, Settled, Some}
 use Rattle.drift_world.proofs.Words.{Stands, Waits, ap, arith, changed_device, keeps, length, place_of, pos, refl, ripe_place, settled_at, subst, sym}
 use Rattle.drift_world.proofs.Words.{waiting_as}
 use Rattle.{drift_world.{proofs.Words.{world_of, ℕ}, specs.Ripening.IsJudged}, std.proofs.Common.{is_some, slice_get}, world_state.specs.Frames.first_of}
-use Rattle.drift_world.{proofs.state.State.ripening_turn.Goals.{After-give_in_turn-turn, After-settle_ripe}, specs.Turns.{IsRipe, MayWork, given_in}}
+use Rattle.drift_world.{proofs.state.State.ripening_turn.Goals.{After-give_first, After-settle_ripe}, specs.Turns.{IsRipe, MayWork}}
 use Rattle.drift_world.proofs.state.State.ripening_turn.Given as given
 use Rattle.drift_world.proofs.state.State.ripening_turn.Goals as goal
 
@@ -43,8 +44,8 @@ changed reading network old new one w ripe at others = subst (λ (v : Waits). Ch
 
 -- ---- its record is given
 
-pub give_in_turn-turn-requires-clause-octets : goal.give_in_turn-turn-requires-clause-octets
-give_in_turn-turn-requires-clause-octets g c =
+pub give_first-requires-clause-octets : goal.give_first-requires-clause-octets
+give_first-requires-clause-octets g c =
     subst have_octets (sym c.record_of-record.ensures) (record_fits c.ripen_waits-ripened.result.waits c.ripen_waits-ripened.result.ripe)
 
 past : {C M : Type 0} (reading : C → ℕ → ℕ) (stands : M → Network → DeviceId → Node → Type 0) (network : Network) (old new : State C M)
@@ -67,16 +68,30 @@ ahead last_step reading stands network state one w is z may at same judged =
     none_ahead z (first_ripe last_step reading stands network state one w may at) tt
     (ap (λ x. place_of (settled_at network state.time x)) same ∙ judged_own network state.time w is judged)
 
-pub give_in_turn-turn-requires-clause-front : goal.give_in_turn-turn-requires-clause-front
-give_in_turn-turn-requires-clause-front g c =
-    subst (λ l. IsPutAt c.record_of-record.result l (c.record_of-record.result ∷ l) 0)
-    (sym (ap (λ (t : State _ _). t.settled.items) c.ripen_waits-ripened.ensures.same))
-    (ahead g.C.Clock.last_step g.C.Clock.reading g.M.Machine.stands c.args.network.now c.args.self.now c.args.one c.ripen_waits-ripened.result.waits
-    c.ripen_waits-ripened.result.ripe c.record_of-record.result c.requires.may c.ripen_waits-ripened.ensures.is c.record_of-record.ensures
-    (c.is_judged.ensures.0 c.if-is_judged.true))
+pub give_first-requires-clause-number : goal.give_first-requires-clause-number
+give_first-requires-clause-number g c =
+    let numbers = c.requires.may.room.numbers in
+    let given = ap (λ (t : State _ _). t.given) c.ripen_waits-ripened.ensures.same in
+    omega (arith, numbers, given)
 
-pub give_in_turn-turn-requires-clause-running : goal.give_in_turn-turn-requires-clause-running
-give_in_turn-turn-requires-clause-running g c =
+pub give_first-requires-clause-room : goal.give_first-requires-clause-room
+give_first-requires-clause-room g c =
+    subst (λ (t : State _ _). length c.args.network.now.link < t.under_way.room) (sym c.ripen_waits-ripened.ensures.same) c.requires.may.room.launches
+
+pub give_first-requires-clause-capacity : goal.give_first-requires-clause-capacity
+give_first-requires-clause-capacity g c =
+    let own = ap (λ (z : Settled). rank z.body) c.record_of-record.ensures
+    ∙ judged_rank c.ripen_waits-ripened.result.waits c.ripen_waits-ripened.result.ripe (c.is_judged.ensures.0 c.if-is_judged.true) in
+    no_waiter c.record_of-record.result.body c.ripen_waits-ripened.new.self.waiting (λ two. omega (arith, two, own))
+
+pub give_first-requires-clause-place : goal.give_first-requires-clause-place
+give_first-requires-clause-place g c =
+    let own = ap (λ (z : Settled). rank z.body) c.record_of-record.ensures
+    ∙ judged_rank c.ripen_waits-ripened.result.waits c.ripen_waits-ripened.result.ripe (c.is_judged.ensures.0 c.if-is_judged.true) in
+    no_shelf c.record_of-record.result.body c.ripen_waits-ripened.new.self.stored (omega (arith, own))
+
+pub give_first-requires-clause-running : goal.give_first-requires-clause-running
+give_first-requires-clause-running g c =
     runs_first g.C.Clock.last_step g.C.Clock.reading g.M.Machine.stands c.args.network.now c.args.self.now c.ripen_waits-ripened.new.self
     (Ripening c.ripen_waits-ripened.result.waits) c.record_of-record.result
     (first_ripe g.C.Clock.last_step g.C.Clock.reading g.M.Machine.stands c.args.network.now c.args.self.now c.args.one c.ripen_waits-ripened.result.waits
@@ -90,10 +105,10 @@ give_in_turn-turn-requires-clause-running g c =
     (c.is_judged.ensures.0 c.if-is_judged.true))
     c.ripen_waits-ripened.ensures.stands)
 
-given_so : (g : given.Over) (c : After-give_in_turn-turn g) (s : Scenario) (notes : List Note)
+given_so : (g : given.Over) (c : After-give_first g) (s : Scenario) (notes : List Note)
     → Stands g.C.Clock.reading (keeps g.M.Machine.stands) s (world_of c.args.network.now c.args.self.now) notes
-    → Stands g.C.Clock.reading (keeps g.M.Machine.stands) s (world_of c.args.network.now c.give_in_turn-turn.new.self) (notes
-    ++ given_in c.give_in_turn-turn.result c.give_in_turn-turn.new.note)
+    → Stands g.C.Clock.reading (keeps g.M.Machine.stands) s (world_of c.args.network.now c.give_first.new.self) (notes
+    ++ c.give_first.new.note ∷ [])
 given_so g c =
     let got = c.ripen_waits-ripened.result in
     let one = c.record_of-record.result in
@@ -108,18 +123,18 @@ given_so g c =
     (ahead g.C.Clock.last_step g.C.Clock.reading g.M.Machine.stands c.args.network.now c.args.self.now c.args.one c.ripen_waits-ripened.result.waits
     c.ripen_waits-ripened.result.ripe c.record_of-record.result c.requires.may c.ripen_waits-ripened.ensures.is c.record_of-record.ensures
     (c.is_judged.ensures.0 c.if-is_judged.true))
-    c.ripen_waits-ripened.ensures.stands) c.give_in_turn-turn.new.self _
+    c.ripen_waits-ripened.ensures.stands) c.give_first.new.self c.give_first.new.note
     (ap (λ t. place_of (settled_at c.args.network.now t one)) c.ripen_waits-ripened.ensures.others.time
     ∙ ap (λ x. place_of (settled_at c.args.network.now c.args.self.now.time x)) c.record_of-record.ensures
     ∙ judged_own c.args.network.now c.args.self.now.time got.waits got.ripe (c.is_judged.ensures.0 c.if-is_judged.true))
-    c.give_in_turn-turn.ensures.stands
+    c.give_first.ensures.note c.give_first.ensures.stands
 
 pub rekey_from-requires : goal.rekey_from-requires
 rekey_from-requires g c =
     let may = c.requires.may in
     let run = may.well.running in
     let rip = c.ripen_waits-ripened.ensures in
-    let give = c.give_in_turn-turn.ensures in
+    let give = c.give_first.ensures in
     let timers = ap (λ (t : State _ _). t.timers) give.same ∙ ap (λ (t : State _ _). t.timers) rip.same in
     record {
       may = record {
@@ -127,9 +142,9 @@ rekey_from-requires g c =
         there = may.foremost.there.of;
         few = may.range.few_devices;
         slots = ap length timers ∙ may.well.timed.sized;
-        running = record { s = run.s; notes = _; is = given_so g (goal.at.rekey_from-requires g c).After-give_in_turn-turn run.s run.notes run.is };
+        running = record { s = run.s; notes = _; is = given_so g (goal.at.rekey_from-requires g c).After-give_first run.s run.notes run.is };
       };
-      before = due_stays g.C.Clock.reading g.M.Machine.stands c.args.network.now g.C.Clock.last_step c.args.self.now c.give_in_turn-turn.new.self
+      before = due_stays g.C.Clock.reading g.M.Machine.stands c.args.network.now g.C.Clock.last_step c.args.self.now c.give_first.new.self
           (record { 0 = c.args.one.device.0 }) c.due_of-before.result may.well
           may.foremost.there.of
           c.due_of-before.ensures
@@ -140,12 +155,12 @@ rekey_from-requires g c =
 
 pub returns-then-is_judged-clause-kept : goal.returns-then-is_judged-clause-kept
 returns-then-is_judged-clause-kept g c =
-    let gave = c.give_in_turn-turn.new.self in
+    let gave = c.give_first.new.self in
     let device : DeviceId = record { 0 = c.args.one.device.0 } in
     let may = c.requires.may in
     let got = c.ripen_waits-ripened.result in
     let rip = c.ripen_waits-ripened.ensures in
-    let give = c.give_in_turn-turn.ensures in
+    let give = c.give_first.ensures in
     let o = changed g.C.Clock.reading c.args.network.now c.args.self.now c.ripen_waits-ripened.new.self c.args.one c.ripen_waits-ripened.result.waits
     c.requires.may.foremost.there c.ripen_waits-ripened.ensures.is c.ripen_waits-ripened.ensures.others in
     let far = ap (λ (x : Settled). changed_device x.body) c.record_of-record.ensures ∙ judged_far got.waits got.ripe in
@@ -158,7 +173,7 @@ returns-then-is_judged-clause-kept g c =
       ended = ap (λ (t : State _ _). t.ended) give.same ∙ o.ended;
       later = omega (arith, time);
     })
-    (given_so g (goal.at.returns-then-is_judged-clause-kept g c).After-give_in_turn-turn) c.rekey_from.ensures.sets.same
+    (given_so g (goal.at.returns-then-is_judged-clause-kept g c).After-give_first) c.rekey_from.ensures.sets.same
     (rekeyed_by g.C.Clock.reading g.M.Machine.stands c.args.network.now device c.args.self.now gave c.rekey_from.new.self may.well.timed may.foremost.there.of
     (λ i ne. ap (λ (t : State _ _). slice_get t.clocks.items i) give.same ∙ ap (λ (t : State _ _). slice_get t.clocks.items i) rip.same)
     (λ i ne. ap (λ (t : State _ _). slice_get t.machines.items i) give.same ∙ o.machines i ne)

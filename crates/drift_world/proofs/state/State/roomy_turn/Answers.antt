@@ -29,7 +29,7 @@ front_turn-requires g c =
         early = (subst (PassSays c.args.self.now mid c.args.until) c.in-GoesOn.is up.says).0;
         ended = λ is. let most = r.may.ended (sym (ap (λ (t : State _ _). t.ended) up.same) ∙ is) in omega (arith, most, later);
       };
-      room = room_passed mid up.same r.room;
+      room = room_passed c.args.network.now mid up.same r.room;
       firsts = firsts_passed mid up.same (firsts_of g (goal.at.front_turn-requires g c).After-first-due);
     }
 

@@ -1,4 +1,5 @@
-use Rattle.drift_world.{proofs.{TurnSays.turns_then, Nearings.no_more}, specs.{Nearing.distance, Turns.IsStep}}
+use Rattle.drift_world.{proofs.{TurnSays.turns_then, Nearings.{as_far, no_more}}, specs.{Turns.IsStep, declared.state.State.State}}
+use Rattle.world_state.specs.Frames.{Waiting}
 use Rattle.drift_world.proofs.{Turning.{kept_then, roomier, step_kept}, Words.{◌∙◌, OutOfMemory, ap, arith, sym}, state.State.turn.Goals.After-make_places}
 use Rattle.drift_world.proofs.state.State.turn.Given as given
 use Rattle.drift_world.proofs.state.State.turn.Goals as goal
@@ -6,8 +7,12 @@ use Rattle.drift_world.proofs.state.State.turn.Goals as goal
 -- room is taken
 made : (g : given.Over) (c : After-make_places g) → IsStep g.C.Clock.last_step g.C.Clock.reading g.M.Machine.stands c.args.network.now c.args.self.now
     c.make_places.new.self
-made g c = roomier g.C.Clock.last_step g.C.Clock.reading g.M.Machine.stands c.args.network.now c.args.self.now c.make_places.new.self c.requires.may.well
-    c.make_places.ensures.same c.make_places.ensures.items
+made g c =
+    let made = c.make_places.ensures in
+    let new = c.make_places.new.self in
+    roomier g.C.Clock.last_step g.C.Clock.reading g.M.Machine.stands c.args.network.now c.args.self.now new c.requires.may.well
+    (made.same ∙ ap (λ (w : Waiting). let t : State _ _ = record c.args.self.now { under_way = new.under_way; waiting = w; settled = new.settled } in t)
+    (sym (ap (λ (t : State _ _). t.waiting) made.same))) made.entries (ap (λ (t : State _ _). t.waiting.items) made.same) made.items
 
 pub returns-in-Err : goal.returns-in-Err
 returns-in-Err g c =
@@ -47,6 +52,6 @@ returns g c =
       kept = kept_then g.C.Clock.last_step g.C.Clock.reading g.M.Machine.stands c.args.network.now c.args.self.now mid new _ step.after step.still turn.kept;
       turns = turns_then g.C.Clock.last_step g.C.Clock.reading g.M.Machine.stands c.args.network.now OutOfMemory c.args.self.now mid new c.args.until
           c.roomy_turn.new.note c.roomy_turn.result step.given step.after.ended step.still
-          (no_more _ _ (ap (λ t. distance c.args.network.now c.args.until t) c.make_places.ensures.same)) turn.turns;
+          (no_more _ _ (as_far c.args.network.now c.args.until c.args.self.now mid c.make_places.ensures.same c.make_places.ensures.entries)) turn.turns;
       err = turn.err;
     }
