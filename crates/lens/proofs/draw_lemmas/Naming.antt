@@ -2,11 +2,11 @@
 use Rattle.lens.specs.{Limit.report_limit, draw.Keeping.{AreFlags, AreLanes, IsKept, StandsIn, Tells}}
 use Rattle.lens.specs.draw.Naming.{AnswersNamed, CompletesNamed, IsKeptAnswer, IsNamedAnswer, IsNamedStatus, IsUnknown, LeavesNamed, LeavesUnnamed, Names, unknown_answer, view_of}
 use Rattle.lens.specs.{declared.{draw.subject.Subject.{Subject, TheVariants.{Frames, Lane}}, forms.Part.Part}, draw.{Answer.draw_answer, Spans.span_of}}
-use Rattle.{lens_svg.specs.declared.layout.Span.Span, schedule_checker.specs.Refusals.RefusalIsOne}
+use Rattle.{lens_svg.specs.{Views.flag_at, declared.layout.Span.Span}, schedule_checker.specs.Refusals.RefusalIsOne}
 use Rattle.net_plan.specs.{Bearers.IsFirstBearer, declared.network.Network.Network}
 use Rattle.net_plan.specs.declared.ids.{DeviceId.DeviceId, VlId.VlId}
 use Rattle.run_law.specs.{declared.note.Note.Note, records.{Happenings.Happening, Order.IsIn}}
-use Rattle.std.proofs.Common.{◌<◌, ◌∙◌, ◌∷◌, ◌≡◌, ◌≤◌, ◌⊎◌, Bool, List, None, Ok, Option, Result, Some, [], ap, arith, false, inl, inr, length, refl, subst, suc, sym, zero, ℕ}
+use Rattle.std.proofs.Common.{◌<◌, ◌∙◌, ◌∷◌, ◌≡◌, ◌≤◌, ◌⊎◌, Bool, List, None, Ok, Option, Result, Some, [], ap, arith, false, inl, inr, length, refl, subst, suc, sym, true, zero, ℕ}
 use Rattle.std.{proofs.lemmas.Bool.cases_lt, specs.Prelude.{slice_get, unwrap_or}}
 use Rattle.tte_forms.proofs.{Octets.{for_all, for_more}, OneAnswers.answer_widened, networks.Answers.{accepted_alone, network_answer_one}}
 use Rattle.tte_forms.specs.Answering.{Answer, ForOctets, Gives, GivesAnswer}
@@ -66,10 +66,10 @@ bools_same (x ∷ xs) (y ∷ ys) count each =
     ap (λ (b : Bool). b ∷ xs) (each 0 (omega arith))
     ∙ ap (λ (bs : List Bool). y ∷ bs) (bools_same xs ys (omega (arith, count)) (λ i within. each (suc i) (omega (arith, within))))
 
-tells_same : {a b : Bool} (P : Type 0) → Tells a P → Tells b P → a ≡ b
-tells_same P p q = sym (q.told (p.holds refl))
-tells_same P p q = refl
-tells_same P p q = p.told (q.holds refl)
+tells_same : (a b : Bool) (P : Type 0) → Tells a P → Tells b P → a ≡ b
+tells_same true b P p q = sym (q.told (p.holds refl))
+tells_same false false P p q = refl
+tells_same false true P p q = p.told (q.holds refl)
 
 there_at : (hs : List Happening) (i : ℕ) → i < length hs → (h : Happening) × (slice_get hs i ≡ Some h)
 there_at [] i within = absurd (omega (arith, within))
@@ -83,7 +83,7 @@ one_flags {network} {subject} {hs} {xs} {ys} p q =
     let second = q.count in
     bools_same xs ys (omega (arith, first, second)) (λ i within.
     let at = there_at hs i (omega (arith, within, first)) in
-    tells_same (IsKept network subject hs at.0) (p.each (suc i) at.0 at.1) (q.each (suc i) at.0 at.1))
+    tells_same (flag_at xs (suc i)) (flag_at ys (suc i)) (IsKept network subject hs at.0) (p.each (suc i) at.0 at.1) (q.each (suc i) at.0 at.1))
 
 one_lanes : {network : Network} {span : Span} {records : List Bool} {ns : List Note} {xs ys : List Bool}
     → AreLanes network span records ns xs → AreLanes network span records ns ys → xs ≡ ys
@@ -92,7 +92,7 @@ one_lanes {network} {span} {records} {ns} {xs} {ys} p q =
     let second = q.count in
     bools_same xs ys (omega (arith, first, second)) (λ i within.
     let inside : i < length network.device = omega (arith, within, first) in
-    tells_same
+    tells_same (unwrap_or (slice_get xs i) false) (unwrap_or (slice_get ys i) false)
     ((note : Note) × IsIn note ns × StandsIn network span records note i) (p.each i inside) (q.each i inside))
 
 kept_one : (words : List (List ℕ)) (part : Part) (subject : Subject) → IsOneFor (IsKeptAnswer words part subject)
