@@ -1,7 +1,7 @@
 -- A device acts once.
 use Rattle.world_law.proofs.runs.Worlds.{length_is}
 use Rattle.drift_world.proofs.{ActRecords.{AreProper, IsFine, IsOwn, both_put, order_then, proper}, Puts.is_put_in}
-use Rattle.drift_world.proofs.{AtSource.{at_rank, each_of}, Rising.{InOrder, settled_in_order}, Parts.{act_place_is, act_rank_is, left_no_sooner, part_most, part_least}, Showings.shows_of}
+use Rattle.drift_world.proofs.{AtSource.{each_of}, Rising.{InOrder, settled_in_order}, Parts.{act_place_is, act_rank_is, left_no_sooner, part_most, part_least}, Showings.shows_of}
 use Rattle.drift_world.proofs.Sources.{made_of}
 use Rattle.drift_world.specs.{Acting.{AreAbove, IsDueAt, IsIdle, IsLeft, StandsFrom}, Parts.{IsFirstPart, IsNoSoonerLeft, part_place, part_rank}, declared.state.State.State}
 use Rattle.drift_world.specs.declared.part.{Part.Part, ToDo.{ToDo, TheVariants.{Give, Next, Now}}}
@@ -13,7 +13,7 @@ use Rattle.drift_world.proofs.Words.{cases_lt, chain, false, happenings, in_part
 use Rattle.drift_world.proofs.Words.{settled_at, slice_get_within, stored_as, subst, sym, true, world_of, ℕ}
 use Rattle.run_law.{proofs.runs.Places.{before_behind, in_left}, specs.records.Order.behind}
 use Rattle.world_law.proofs.{rows.Dispatching.lawful, steps_lemmas.growing.FromZero.kept_from_zero}
-use Rattle.world_law.specs.world.{Calls.{IsSet, IsStateOf}, World.{AreStored, IsKept, is_at_source}}
+use Rattle.world_law.specs.world.{Calls.{IsSet, IsStateOf}, World.{AreStored, IsKept}}
 use Rattle.{std.specs.Prelude.All, world_law.specs.{source.Sources.task_place, steps.Acting.{Acts, place_of_act, rank_of_act, task_of}}}
 use Rattle.{sync_state.specs.declared.state.State.{State as Standing}, world_state.specs.Acting.{AreOutcomes, HasItsRow, bodies_of}}
 use Rattle.world_law.proofs.steps_lemmas.acting.{ActedSteps.acted_step, First.{act_more, act_rest, act_stands}, Kept.may_act_now}
@@ -236,7 +236,7 @@ module _ {C M : Type 0} (reading : C → ℕ → ℕ) (stands : M → Network �
   pub own_then : (s : Scenario) (hs : List Happening) (was : Standing) (adjustment : Units) (act : Act) (outcomes : Outcomes) (mid new : List Settled)
       → InOrder (map (settled_at network state.time) state.settled.items) → AreProper s hs state.time device was adjustment act outcomes
       → IsSomeAnd outcomes.first (λ z. rank z.body ≤ 6) → IsSomePut outcomes.first state.settled.items mid → IsSomePut outcomes.second mid new
-      → (first : Settled) × (others : List Settled) × (new ≡ first ∷ others) × (is_at_source first.body ≡ true)
+      → (first : Settled) × (others : List Settled) × (new ≡ first ∷ others) × (4 ≤ rank first.body) × (rank first.body ≤ 6)
   own_then s hs was adjustment act outcomes mid new order own early one two = by outcomes.first refl early
     where
       least : All (λ (z : Settled). 4 ≤ rank z.body) new
@@ -247,7 +247,7 @@ module _ {C M : Type 0} (reading : C → ℕ → ℕ) (stands : M → Network �
           (λ k d lt. let high = above k d lt in let low = part_least part in omega (arith, high, low)))
 
       by : (o : Option Settled) → outcomes.first ≡ o → IsSomeAnd o (λ z. rank z.body ≤ 6)
-          → (first : Settled) × (others : List Settled) × (new ≡ first ∷ others) × (is_at_source first.body ≡ true)
+          → (first : Settled) × (others : List Settled) × (new ≡ first ∷ others) × (4 ≤ rank first.body) × (rank first.body ≤ 6)
       by None e early = absurd early
       by (Some z) e early =
           let put = subst (λ o. IsSomePut o state.settled.items mid) e one in
@@ -257,8 +257,7 @@ module _ {C M : Type 0} (reading : C → ℕ → ℕ) (stands : M → Network �
           (put_there network state.time z state.settled.items mid put order) in
           let f = low_first network state.time 6 new z last there early in
           let four = each_of (λ (x : Settled). 4 ≤ rank x.body) new f.0 least (subst (λ l. IsIn f.0 l) (sym f.2) (inl refl)) in
-          let six = f.3 in
-          (f.0, f.1, f.2, at_rank f.0.body (record { least = omega (arith, four); no_change = λ e. omega (arith, e, six); either = inl (omega (arith, six)) }))
+          (f.0, f.1, f.2, four, f.3)
 
   -- what the device has to do then is of no earlier part
   no_sooner_then : (s : Scenario) (notes : List Note) (old : Old s notes) (act : Act) (after : Kept M) (new : Node)

@@ -152,7 +152,7 @@ module _ {C M : Type 0} (last_step : C → ℕ) (reading : C → ℕ → ℕ) (s
 
   left_with : (now mid : State C M) (left : ToDo) → mid.settled.items ≡ now.settled.items → IsLeft reading stands network now device left
       → IsLeft reading stands network (record now { settled = mid.settled; spare = mid.spare }) device left
-  left_with now mid Give same is = record { first = is.first; others = is.others; whole = same ∙ is.whole; own = is.own }
+  left_with now mid Give same is = record { first = is.first; others = is.others; whole = same ∙ is.whole; least = is.least; most = is.most }
   left_with now mid (Now other) same is =
       λ s machine node of there kept.
       is s machine node (record { same = of.same; clocks = of.clocks; broken = of.broken; ways = of.ways }) there kept

@@ -242,12 +242,6 @@ pub settled_less : {C M : Type 0} (network : Network) (old new : State C M) → 
     } → IsLess network old new
 settled_less network old new was is most same = grind (arith, length)
 
--- a clock is shown
-pub shown_less : {C M : Type 0} (network : Network) (old new : State C M)
-    → new ≡ record old { early = false; settled = new.settled; shown = old.shown + 1 } → old.shown < length network.device → IsLess network old new
-shown_less network old new acted more =
-    let sum = ap (λ t. burden network t) acted in inl (omega (arith, sum, more))
-
 pub on_both : {A E : Type 0} (result : Result A E) (P Q R : Type 0) → OnOk result P → OnOk result Q → (P → Q → R) → OnOk result R
 on_both (Ok a) P Q R p q f = f p q
 on_both (Err e) P Q R p q f = tt

@@ -1,7 +1,7 @@
 -- A record that stands at the place of its source is given before all that is settled.
 use Rattle.drift_world.{proofs.Turning.{comes_first, is_at, ranked_at}, specs.{Turns.{IsNow, MayWork, source_place}, declared.source.Source.Source}}
 use Rattle.drift_world.proofs.Words.{◌++◌, ◌+◌, ◌<◌, ◌^◌, ◌∙◌, ◌∷◌, ◌≡◌, ◌≤◌, AtPort, Bool, ChangesOnly, DeviceId, DueAt, Happening, IfSome, IsBefore, IsIn}
-use Rattle.drift_world.proofs.Words.{Accepted, Arrived, IsPutAt, List, NoteBody, StandsBehind, note_of, units_of}
+use Rattle.drift_world.proofs.Words.{Accepted, Arrived, IsPutAt, IsSomePut, List, NoteBody, StandsBehind, note_of, units_of}
 use Rattle.drift_world.proofs.Words.{Network, NoSourceBefore, Node, None, Note, Option, Scenario, Settled, Some, Stands, Waits, []}
 use Rattle.drift_world.proofs.Words.{ap, arith, behind, chain, changed_device, departure_body, happenings, inl, inr, is_mapped, keeps, length}
 use Rattle.drift_world.proofs.Words.{numbers_of, option_map_or, own_place, place_of, rank, refl, ripe_place, settled_at, subst, suc, sym}
@@ -9,7 +9,7 @@ use Rattle.drift_world.proofs.Words.{waiting_as, with_first, zero}
 use Rattle.drift_world.{proofs.Words.{world_of, ℕ}, specs.{Giving.IsRunningWith, Ripening.IsJudged, Stepping.StandsPast, declared.state.State.State}}
 use Rattle.std.{proofs.Common.slice_index_or, specs.Prelude.insert}
 use Rattle.world_state.specs.{Frames.{Waiting, room_of, waiter_of}, Shelves.{HasPlace, Shelved, spot_of}}
-use Rattle.world_state.specs.{Hearing.arrived, Leaving.departed, Ripening.{AreSettledSo, ripe_record}, declared.contents.Signal.{Signal as SignalSent}}
+use Rattle.world_state.specs.{Hearing.arrived, Leaving.departed, Ripening.{AreSettledSo, joined_record, ripe_record}, declared.contents.Signal.{Signal as SignalSent}}
 use Rattle.run_law.{proofs.runs.Places.before_behind, specs.declared.steps.{Arrival.Arrival, Ripe.Ripe}}
 use Rattle.run_law.specs.declared.steps.Arrival.TheVariants as arrivals
 use Rattle.run_law.specs.declared.steps.Ripe.TheVariants as ripe
@@ -50,12 +50,10 @@ left_own network now place (Some z) at eight is = λ own.
 -- so does that of a frame that is judged
 pub judged_own : (network : Network) (now : ℕ) (w : Waits) (is : Ripe) → IsJudged is
     → place_of (settled_at network now (ripe_record w is)) ≡ ripe_place now (waiting_as w)
-judged_own network now w ripe.Integrates judged = absurd judged
 judged_own network now w (ripe.Dropped reason) judged = absurd judged
 judged_own network now w other judged = refl
 
 pub judged_rank : (w : Waits) (is : Ripe) → IsJudged is → rank (ripe_record w is).body ≡ 3
-judged_rank w ripe.Integrates judged = absurd judged
 judged_rank w (ripe.Dropped reason) judged = absurd judged
 judged_rank w other judged = refl
 
@@ -65,15 +63,20 @@ judged_far w other = refl
 
 -- ---- what it needs
 
--- of those that stand where their sources do no switch takes a frame
-pub no_shelf : (body : NoteBody) (stored : Shelved) → rank body ≤ 8 → IfSome (spot_of body) (HasPlace stored)
-no_shelf (Accepted device link cause vl cycle) stored low = absurd (omega (arith, low))
-no_shelf other stored low = tt
+-- by another record than that it is accepted no switch takes a frame
+pub no_shelf : (body : NoteBody) (stored : Shelved) → (rank body ≡ 11 → ⊥) → IfSome (spot_of body) (HasPlace stored)
+no_shelf (Accepted device link cause vl cycle) stored not = absurd (not refl)
+no_shelf other stored not = tt
 
 -- nor does a frame wait by another than that it arrived
 pub no_waiter : (body : NoteBody) (waiting : Waiting) → (rank body ≡ 2 → ⊥) → IfSome (waiter_of body) (λ d. 0 < room_of waiting d.0)
 no_waiter (Arrived device link cause clock) waiting not = absurd (not refl)
 no_waiter other waiting not = tt
+
+-- and it changes what waits at no device
+pub no_change : (body : NoteBody) → (rank body ≡ 2 → ⊥) → changed_device body ≡ 2 ^ 32
+no_change (Arrived device link cause clock) not = absurd (not refl)
+no_change other not = refl
 
 -- by this one a frame may wait at its device
 pub waits_at : (body : NoteBody) (waiting : Waiting) {device : ℕ} → (rank body ≡ 2 → changed_device body ≡ device)
@@ -102,13 +105,35 @@ put_ahead z settled none = record {
   none = λ k d le lt. none (slice_index_or settled k d) (indexed settled k d lt);
 }
 
--- so is its record, where a frame is judged
-pub judged_first : (number : ℕ) (w : Waits) (is : Ripe) {settled : List Settled} → IsJudged is
+-- what is put in behind the first is put in behind it where this is there
+put_behind : (first z : Settled) {old new : List Settled} (at : ℕ) → IsBefore (own_place first) (own_place z)
+    → IsPutAt z old new at → IsPutAt z (first ∷ old) (first ∷ new) (suc at)
+put_behind first z {old} at before put = record {
+  within = let within = put.within in omega (arith, within);
+  is = ap (λ (l : List Settled). first ∷ l) put.is;
+  behind = behind;
+  none = none;
+}
+  where
+    behind : (k : ℕ) (d : Settled) → suc at ≡ k + 1 → IsBefore (own_place (slice_index_or (first ∷ old) k d)) (own_place z)
+    behind zero d is = before
+    behind (suc k) d is = put.behind k d (omega (arith, is))
+
+    none : (k : ℕ) (d : Settled) → suc at ≤ k → k < length (first ∷ old)
+        → IsBefore (own_place (slice_index_or (first ∷ old) k d)) (own_place z) → ⊥
+    none zero d le lt = absurd (omega (arith, le))
+    none (suc k) d le lt = put.none k d (omega (arith, le)) (omega (arith, lt))
+
+-- where a frame is judged, its record is put in before them all, and a change of state behind it
+pub judged_first : (number : ℕ) (w : Waits) (is : Ripe) {settled rest : List Settled} → IsJudged is
     → IsPutAt (ripe_record w is) settled (ripe_record w is ∷ settled) 0
-    → AreSettledSo number w is settled (ripe_record w is ∷ settled)
-judged_first number w ripe.Integrates judged front = absurd judged
-judged_first number w (ripe.Dropped reason) judged front = absurd judged
-judged_first number w other judged front = record { mid = _; at = 0; first = front; more = refl }
+    → IsSomePut (joined_record number w.device is) settled rest
+    → AreSettledSo number w is settled (ripe_record w is ∷ rest)
+judged_first number w ripe.Integrates judged front more =
+    record { mid = _; at = 0; first = front; more = (suc more.0, put_behind _ _ more.0 (inl (omega arith)) more.1) }
+judged_first number w (ripe.Dropped reason) judged front more = absurd judged
+judged_first number w other judged front more =
+    record { mid = _; at = 0; first = front; more = ap (λ (l : List Settled). ripe_record w other ∷ l) more }
 
 -- no source that is not worked off stands before the place that was worked off last
 pub none_before_last : (s : Scenario) (hs : List Happening) (cursor p q : List ℕ) → cursor ≡ behind p → q ≡ p → NoSourceBefore s hs cursor q
@@ -140,8 +165,8 @@ none_ahead {last_step} {reading} {stands} {network} {old} {source} one may now a
 
 module _ {C M : Type 0} (last_step : C → ℕ) (reading : C → ℕ → ℕ) (stands : M → Network → DeviceId → Node → Type 0) (network : Network)
     (old mid : State C M) (source : Source) (one : Settled) (may : MayWork last_step reading stands network old source) (now : IsNow source)
-    (rest : mid.settled.items ≡ old.settled.items)
-    (past : StandsPast reading stands network old mid (source_place old.time source) (one ∷ old.settled.items)) where
+    {settled : List Settled} (rest : mid.settled.items ≡ settled)
+    (past : StandsPast reading stands network old mid (source_place old.time source) (one ∷ settled)) where
   past_it : StandsPast reading stands network old mid (source_place old.time source) (one ∷ mid.settled.items)
   past_it = subst (λ (l : List Settled). StandsPast reading stands network old mid (source_place old.time source) (one ∷ l)) (sym rest) past
 

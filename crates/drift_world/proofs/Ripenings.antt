@@ -162,7 +162,7 @@ record_fits w ripe.Integrates = tt
 record_fits w ripe.Ignored = tt
 record_fits w (ripe.Dropped reason) = tt
 
-joined_fits : (number : ℕ) (device : DeviceId) (result : Ripe) (z : Settled) → joined_record number device result ≡ Some z → have_octets z
+pub joined_fits : (number : ℕ) (device : DeviceId) (result : Ripe) (z : Settled) → joined_record number device result ≡ Some z → have_octets z
 joined_fits number device ripe.Integrates z e = subst have_octets (some_same _ z _ refl e) tt
 joined_fits number device other z e = absurd cc
 

@@ -1,9 +1,9 @@
 -- What a device has to do, and where its acts lead.
-use Rattle.std.specs.Prelude.{◌<ℤ◌, ◌<◌, ◌∷◌, ◌≡◌, All, List, Option, Some, pos, slice_get, true, ℕ}
+use Rattle.std.specs.Prelude.{◌<ℤ◌, ◌<◌, ◌∷◌, ◌≡◌, ◌≤◌, All, List, Option, Some, pos, slice_get, ℕ}
 use Rattle.drift_world.specs.{Parts.{IsFirstPart, IsNoSooner}, Showing.IsOf}
 use Rattle.drift_world.specs.declared.{part.{Part.Part, ToDo.{ToDo, TheVariants.{Give, Next, Now}}}, state.State.State}
 use Rattle.{run_law.specs.machines.Nodes.Node, world_state.specs.Keeping.keeps}
-use Rattle.{net_plan.specs.declared.ids.DeviceId.DeviceId, world_law.specs.world.World.{Stands, World, is_at_source}}
+use Rattle.{net_plan.specs.declared.ids.DeviceId.DeviceId, world_law.specs.world.World.{Stands, World}}
 use Rattle.{net_plan.specs.declared.network.Network.Network, run_law.specs.records.Order.IsBefore}
 use Rattle.{run_law.specs.{declared.note.Note.Note, records.Ranks.rank}, world_state.specs.declared.kept.Kept.Kept}
 use Rattle.{run_law.specs.machines.Tasks.{IsDueReading, IsPending, Task, reading_for}, world_state.specs.declared.contents.Settled.Settled}
@@ -60,12 +60,13 @@ IsPartAt reading stands state device time part =
 abbrev pub AreAbove : {C M : Type 0} → ℕ → State C M → Type 0
 AreAbove low state = All (λ (z : Settled). low < rank z.body) state.settled.items
 
--- the first that is settled stands where it was done
+-- the first that is settled is of an act, and stands where it was done
 pub record HasOwn {C M : Type 0} (state : State C M) : Type 0 where
   pub first : Settled
   pub others : List Settled
   pub whole : state.settled.items ≡ first ∷ others
-  pub own : is_at_source first.body ≡ true
+  pub least : 4 ≤ rank first.body
+  pub most : rank first.body ≤ 6
 
 -- this is what the device has to do
 abbrev pub IsLeft : {C M : Type 0} → (C → ℕ → ℕ) → (M → Network → DeviceId → Node → Type 0) → Network → State C M

@@ -294,6 +294,7 @@ impl<C: Clock, M: TellsKind + Drop> State<C, M> {
         requires may { MayWork C.last_step C.reading M.stands network.now self.old (Source.Act part device) }
         ensures step { IsStep C.last_step C.reading M.stands network.now self.old self.new }
         ensures own { IfOk result (λ gives. gives ≡ true → HasOwn self.new) }
+        ensures under_way { self.new.under_way ≡ self.old.under_way }
         ensures less { IfOk result (λ gives. gives ≡ false → IsLess network.now self.old self.new) }
     {
         match self.act_part(network, part, device) {

@@ -278,7 +278,8 @@ impl<C: Clock, M: Machine + Drop> State<C, M> {
 
 impl<C: Clock, M: TellsKind + Drop> State<C, M> {
     ghost use Rattle.drift_world.specs.{Sourcing.AreTimed, Stepping.{ChangesOnly, MaySetTimers}, Wells.IsWell};
-    ghost use Rattle.drift_world.specs.Turns.{GivesAt, IsKept, MayGive, given_in};
+    ghost use Rattle.drift_world.specs.{Acting.HasOwn, Turns.{GivesAt, IsKept, MayGive, given_in}};
+    ghost use Rattle.drift_world.specs.declared.next.Turn.TheVariants.{Gives};
     ghost use Rattle.drift_world.specs.declared.state.State.{State as StateOf};
     ghost use Rattle.world_state.specs.Giving.{ArrivedAt, changed_device};
 
@@ -301,6 +302,22 @@ impl<C: Clock, M: TellsKind + Drop> State<C, M> {
             }
             Err(error) => Err(error),
         }
+    }
+
+    /// The first that is settled is given, which is of an act and stands where it was done.
+    #[inline(always)]
+    pub fn give_own(&mut self, network: &Network, note: &mut PlainNote)
+        requires well { IsWell C.last_step C.reading M.stands network.now self.old }
+        requires range { IsInRange network.now }
+        requires own { HasOwn self.old }
+        requires some { 0 < length self.old.settled.items }
+        requires number { self.old.given + 1 < 2 ^ 64 }
+        requires room { length network.now.link < self.old.under_way.room }
+        ensures kept { IsKept C.last_step C.reading M.stands network.now self.old self.new (note.new ∷ []) }
+        ensures says { GivesAt self.old self.new note.new Gives }
+    {
+        let own = self.settled.pop_front().unwrap();
+        self.give_first(network, own, note);
     }
 
     /// A frame that arrived may wait at its device: the timers of the device are set.

@@ -3,7 +3,8 @@ ghost use Rattle.{drift_world.specs.Sound.IsSound, net_plan.specs.Ranges.IsInRan
 ghost use Rattle.drift_world.specs.{Stepping.{ChangesOnly, IsAt, StandsPast}, Turns.{IsKept, MayWork, WorkSays}};
 ghost use Rattle.drift_world.specs.{Turns.{given_in, noted}, declared.source.Source.{Source as SourceOf}};
 ghost use Rattle.{run_law.specs.records.Ranks.{place_of, rank}, world_state.specs.Places.IsPutAt};
-ghost use Rattle.world_state.specs.{Frames.room_of, Giving.{HasItsOctets, changed_device}, queue.Places.{IsFirst, numbers_of}};
+ghost use Rattle.world_state.specs.{Frames.room_of, Giving.{HasItsOctets, changed_device}};
+ghost use Rattle.world_state.specs.queue.Places.{IsFirst, numbers_of};
 ghost use Rattle.world_state.specs.{Views.settled_at, declared.contents.Settled.{Settled as SettledValue}};
 
 use crate::next::Turn;
@@ -67,7 +68,8 @@ impl<C: Clock, M: Machine + Drop> State<C, M> {
 }
 
 impl<C: Clock, M: TellsKind + Drop> State<C, M> {
-    /// What is first on a wire arrives. On an error it has not: there is no memory for a frame that waits at its device.
+    /// What is first on a wire arrives. On an error it has not: there is no memory for a frame that waits at its
+    /// device.
     #[inline(always)]
     pub fn arrival_turn(
         &mut self,
@@ -86,8 +88,8 @@ impl<C: Clock, M: TellsKind + Drop> State<C, M> {
         Ok(self.hear_turn(network, place, note))
     }
 
-    /// What is first on a wire arrives. Where it is a control frame that its device takes, its record is given: it stands
-    /// at the place of the source.
+    /// What is first on a wire arrives. Where it is a control frame that its device takes, its record is given: it
+    /// stands at the place of the source.
     #[inline(always)]
     fn hear_turn(&mut self, network: &Network, place: DueAt, note: &mut PlainNote) -> Turn
         requires may { MayWork C.last_step C.reading M.stands network.now self.old (SourceOf.Arrival place) }

@@ -76,8 +76,8 @@ impl<C: Clock, M: Machine + Drop> State<C, M> {
 }
 
 impl<C: Clock, M: TellsKind + Drop> State<C, M> {
-    /// The frame that is first at a port leaves. Where it goes on its wire, its record is given: it stands at the place of
-    /// the source.
+    /// The frame that is first at a port leaves. Where it goes on its wire, its record is given: it stands at the place
+    /// of the source.
     #[inline(always)]
     pub fn departure_turn(&mut self, network: &Network, place: DueAt, note: &mut PlainNote) -> Turn
         requires may { MayWork C.last_step C.reading M.stands network.now self.old (SourceOf.Departure place) }

@@ -14,7 +14,8 @@ use run_law::plain::PlainNote;
 use run_law::{Machine, Moment, Ripe};
 use tte_units::Units;
 use world_state::contents::Waits;
-use world_state::ripening::{record_of, settle_ripe};
+use world_state::ripening::{joined, record_of, settle_ripe};
+use world_state::settled::put_some;
 
 /// A frame that is permanent, and what becomes of it.
 #[derive(Clone, Copy)]
@@ -23,14 +24,19 @@ pub struct Ripened {
     pub ripe: Ripe,
 }
 
-/// Is its only record how it is judged?
+/// Is its first record how it is judged?
 fn is_judged(ripe: Ripe) -> bool
     ensures { IsTrue result ↔ IsJudged ripe }
 {
     match ripe {
-        Ripe::Opened | Ripe::Joined | Ripe::Repeat | Ripe::Within | Ripe::Outside | Ripe::Ignored =>
-            true,
-        Ripe::Integrates | Ripe::Dropped(_) => false,
+        Ripe::Opened
+        | Ripe::Joined
+        | Ripe::Repeat
+        | Ripe::Within
+        | Ripe::Outside
+        | Ripe::Integrates
+        | Ripe::Ignored => true,
+        Ripe::Dropped(_) => false,
     }
 }
 
@@ -83,8 +89,8 @@ impl<C: Clock, M: Machine + Drop> State<C, M> {
 }
 
 impl<C: Clock, M: TellsKind + Drop> State<C, M> {
-    /// The first frame that is permanent is judged. Where its only record is how it is judged, this is given: it stands at
-    /// the place of the source.
+    /// The first frame that is permanent is judged. The record of how it is judged is given, as it stands at the place
+    /// of the source; a change of state comes behind it.
     #[inline(always)]
     pub fn ripening_turn(&mut self, network: &Network, one: Waits, note: &mut PlainNote) -> Turn
         requires may { MayWork C.last_step C.reading M.stands network.now self.old (SourceOf.Ripening one) }
@@ -96,6 +102,8 @@ impl<C: Clock, M: TellsKind + Drop> State<C, M> {
         let ripened = self.ripen_waits(network, one.device);
         if is_judged(ripened.ripe) {
             let record = record_of(&ripened.waits, ripened.ripe);
+            let change = joined(number, ripened.waits.device, ripened.ripe);
+            put_some(&mut self.settled, change);
             self.give_first(network, record, note);
             self.rekey_from(network, one.device.0, before);
             return Turn::Gives;

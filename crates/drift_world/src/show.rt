@@ -1,71 +1,67 @@
 ghost use Rattle.std.specs.Prelude.{◌+◌, ◌<◌, ◌≡◌, List, false, length, true, ℕ};
-ghost use Rattle.std.specs.VecDeque.{deque_capacity, deque_len};
-ghost use Rattle.drift_world.specs.{Nearing.IsLess, Turns.{IsStep, MayWork}, declared.source.Source.Source};
-ghost use Rattle.drift_world.specs.{Sound.IsSound, Stepping.ChangesOnly, Views.world_of};
-ghost use Rattle.{net_plan.specs.Ranges.IsInRange, world_state.specs.Keeping.keeps};
-ghost use Rattle.run_law.specs.{declared.note.Note.Note, records.Order.behind, scenario.Scenarios.Scenario};
-ghost use Rattle.world_law.specs.world.{Moves.{ComesFirst, StandsBehind}, World.{Stands, clock_place}};
+ghost use Rattle.drift_world.specs.{Sound.IsSound, Stepping.{ChangesOnly, StandsPast}};
+ghost use Rattle.drift_world.specs.Turns.{IsKept, MayWork, WorkSays, noted};
+ghost use Rattle.drift_world.specs.declared.source.Source.{Source as SourceOf};
+ghost use Rattle.{net_plan.specs.Ranges.IsInRange, run_law.specs.records.Ranks.{place_of, rank}};
+ghost use Rattle.world_law.specs.world.World.{clock_place};
+ghost use Rattle.world_state.specs.{Places.IsPutAt, Views.settled_at};
+ghost use Rattle.world_state.specs.declared.contents.Settled.{Settled as SettledValue};
 
+use crate::next::Turn;
 use crate::state::State;
 use device_rules::TellsKind;
 use drift_clock::Clock;
 use net_plan::{DeviceId, Network};
 use run_law::Machine;
-use run_law::plain::{PlainBody, PlainKind};
+use run_law::plain::{PlainBody, PlainKind, PlainNote};
 use tte_units::Units;
 use world_state::contents::Settled;
-use world_state::settled::put_in;
 
 impl<C: Clock, M: Machine + Drop> State<C, M> {
-    /// The clock of the next device is shown, at the end.
-    fn show_clock(&mut self, network: &Network)
+    /// The clock of the next device is shown, at the end. The record of it is answered, which is to be put in among
+    /// what is settled.
+    fn show_clock(&mut self, network: &Network, device: DeviceId) -> Settled
         requires sound { IsSound C.last_step network.now self.old }
         requires range { IsInRange network.now }
-        requires more { self.old.shown < length network.now.device }
-        requires room { deque_len self.old.settled < deque_capacity self.old.settled }
+        requires next { device.0 ≡ self.old.shown }
+        requires more { device.0 < length network.now.device }
         ensures sound { IsSound C.last_step network.now self.new }
-        ensures stands { (s : Scenario) (notes : List Note)
-            → (old : Stands C.reading (keeps M.stands) s (world_of network.now self.old) notes) → self.old.ended ≡ true
-            → ComesFirst C.reading (keeps M.stands) s (world_of network.now self.old) notes old
-            (clock_place self.old.time (record { 0 = self.old.shown }))
-            → StandsBehind C.reading (keeps M.stands) s (world_of network.now self.new) notes
-            (behind (clock_place self.old.time (record { 0 = self.old.shown }))) }
+        ensures rank { rank result.body ≡ 14 }
+        ensures own { place_of (settled_at network.now self.old.time result) ≡ clock_place self.old.time device }
+        ensures stands { (settled : List SettledValue) (index : ℕ) → self.old.ended ≡ true
+            → IsPutAt result self.old.settled.items settled index
+            → StandsPast C.reading M.stands network.now self.old self.new (clock_place self.old.time device) settled }
         ensures others { (n : ℕ) → ChangesOnly n self.old self.new }
-        ensures same { self.new ≡ record self.old {
-          early = false;
-          settled = self.new.settled;
-          shown = self.old.shown + 1;
-        } }
+        ensures same { self.new ≡ record self.old { early = false; shown = self.old.shown + 1 } }
     {
-        let index = self.shown as usize;
+        let index = device.0 as usize;
         let reading = self.clocks[index].read(Units::from_amount(self.time));
         let machine = &self.machines[index];
         let kind = PlainKind::Clock {
-            device: DeviceId(self.shown),
+            device,
             reading,
             adjustment: machine.adjustment(),
             state: machine.state(),
         };
-        put_in(
-            &mut self.settled,
-            Settled {
-                body: PlainBody { kind },
-                frame: None,
-                octets: None,
-            },
-        );
         self.early = false;
         self.shown += 1;
+        Settled {
+            body: PlainBody { kind },
+            frame: None,
+            octets: None,
+        }
     }
 }
 
 impl<C: Clock, M: TellsKind + Drop> State<C, M> {
-    /// The clock of the device is shown.
-    pub fn show(&mut self, network: &Network, device: DeviceId)
-        requires may { MayWork C.last_step C.reading M.stands network.now self.old (Source.Clock device) }
-        ensures step { IsStep C.last_step C.reading M.stands network.now self.old self.new }
-        ensures less { IsLess network.now self.old self.new }
+    /// The clock of the device is shown: its record is given, as it stands at the place of the source.
+    pub fn show(&mut self, network: &Network, device: DeviceId, note: &mut PlainNote) -> Turn
+        requires may { MayWork C.last_step C.reading M.stands network.now self.old (SourceOf.Clock device) }
+        ensures kept { IsKept C.last_step C.reading M.stands network.now self.old self.new (noted result note.new) }
+        ensures says { WorkSays network.now self.old self.new note.new result }
     {
-        self.show_clock(network);
+        let record = self.show_clock(network, device);
+        self.give_first(network, record, note);
+        Turn::Gives
     }
 }

@@ -38,10 +38,7 @@ impl<C: Clock, M: TellsKind + Drop> State<C, M> {
                 Ok(Turn::GoesOn)
             }
             Source::Ripening(one) => Ok(self.ripening_turn(network, one, note)),
-            Source::Clock(device) => {
-                self.show(network, device);
-                Ok(Turn::GoesOn)
-            }
+            Source::Clock(device) => Ok(self.show(network, device, note)),
             Source::Later(_) => Ok(Turn::GoesOn),
         }
     }
@@ -61,7 +58,10 @@ impl<C: Clock, M: TellsKind + Drop> State<C, M> {
         ensures err { OnErr result (self.new.time ≡ self.old.time) }
     {
         match self.act(network, part, device) {
-            Ok(true) => self.give_next(network, note),
+            Ok(true) => {
+                self.give_own(network, note);
+                Ok(Turn::Gives)
+            }
             Ok(false) => Ok(Turn::GoesOn),
             Err(error) => Err(error),
         }

@@ -92,7 +92,7 @@ pub fn record_of(waits: &Waits, ripe: Ripe) -> Settled
 }
 
 /// The record that the device joins, where a frame tells it the time by the record of this number.
-fn joined(number: u64, device: DeviceId, ripe: Ripe) -> Option<Settled>
+pub fn joined(number: u64, device: DeviceId, ripe: Ripe) -> Option<Settled>
     ensures { result ≡ joined_record number device ripe }
 {
     if ripe != Ripe::Integrates {

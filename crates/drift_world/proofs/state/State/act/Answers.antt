@@ -81,7 +81,7 @@ returns-in-Ok-Give-clause-step g c = stepped g (goal.at.returns-in-Ok-Give-claus
 pub returns-in-Ok-Give-clause-own : goal.returns-in-Ok-Give-clause-own
 returns-in-Ok-Give-clause-own g c = λ yes.
     let own = (subst (Left g (goal.at.returns-in-Ok-Give-clause-own g c).After-act_part) c.in-Ok-Give.field-0-is c.in-Ok-Give.ensures.left).1 in
-    record { first = own.first; others = own.others; whole = ap (λ (t : State _ _). t.settled.items) c.rekey_act.ensures.sets.same ∙ own.whole; own = own.own }
+    record { first = own.first; others = own.others; whole = ap (λ (t : State _ _). t.settled.items) c.rekey_act.ensures.sets.same ∙ own.whole; least = own.least; most = own.most }
 
 pub returns-in-Err-clause-step : goal.returns-in-Err-clause-step
 returns-in-Err-clause-step g c = stepped g (goal.at.returns-in-Err-clause-step g c).After-act_part c.rekey_act-in-Err.new.self c.rekey_act-in-Err.ensures.timed
@@ -117,3 +117,19 @@ returns-in-Ok-Next-clause-less g c = λ no.
     act_less g.C.Clock.last_step g.C.Clock.reading g.M.Machine.stands c.args.network.now c.args.part c.args.device c.args.self.now c.act_part.new.self
     c.rekey_act_at.new.self may.foremost.there c.act_part.ensures.same (may_set g (goal.at.returns-in-Ok-Next-clause-less g c).After-act_part).running sets.same
     sets.others (returns-in-Ok-Next-clause-step g c).well left.1.1
+
+pub returns-in-Ok-Give-clause-under_way : goal.returns-in-Ok-Give-clause-under_way
+returns-in-Ok-Give-clause-under_way g c =
+    ap (λ (t : State _ _). t.under_way) c.rekey_act.ensures.sets.same ∙ ap (λ (t : State _ _). t.under_way) c.act_part.ensures.same
+
+pub returns-in-Ok-Now-clause-under_way : goal.returns-in-Ok-Now-clause-under_way
+returns-in-Ok-Now-clause-under_way g c =
+    ap (λ (t : State _ _). t.under_way) c.defer.ensures.sets.same ∙ ap (λ (t : State _ _). t.under_way) c.act_part.ensures.same
+
+pub returns-in-Ok-Next-clause-under_way : goal.returns-in-Ok-Next-clause-under_way
+returns-in-Ok-Next-clause-under_way g c =
+    ap (λ (t : State _ _). t.under_way) c.rekey_act_at.ensures.sets.same ∙ ap (λ (t : State _ _). t.under_way) c.act_part.ensures.same
+
+pub returns-in-Err-clause-under_way : goal.returns-in-Err-clause-under_way
+returns-in-Err-clause-under_way g c =
+    ap (λ (t : State _ _). t.under_way) c.rekey_act-in-Err.ensures.sets.same ∙ ap (λ (t : State _ _). t.under_way) c.act_part.ensures.same

@@ -111,7 +111,7 @@ returns-clause-own g c = λ yes.
     let f = own_then g.C.Clock.reading g.M.Machine.stands c.args.network.now c.args.self.now c.args.part c.args.device c.index_mut.result.now c.requires.there
     (held g here) c.requires.due c.requires.above c.requires.comes.s _ c.shown-was.result.state c.shown-is.result.adjustment c.in-Some.act
     c.outcomes_of-outcomes.result put.0 c.put_both.new.settled.items (sorted g here) (own g here) (c.is_at_source-gives.ensures.yes yes) put.1 put.2 in
-    record { first = f.0; others = f.1; whole = f.2; own = f.3 }
+    record { first = f.0; others = f.1; whole = f.2; least = f.3; most = f.4 }
 
 pub returns-clause-above : goal.returns-clause-above
 returns-clause-above g c = λ no.

@@ -1,25 +1,32 @@
-use Rattle.drift_world.proofs.{TurnSays.gives_then, Turning.{err_then, kept_then, step_kept}, Words.{OutOfMemory, inr}}
+use Rattle.drift_world.proofs.{Turning.{kept_then, step_kept}, Words.{◌+◌, ◌<◌, ◌∙◌, ap, arith, length, subst, sym}}
+use Rattle.world_state.specs.queue.Queues.{Queue}
 use Rattle.drift_world.proofs.state.State.acting_turn.Goals as goal
 
-pub give_next-requires : goal.give_next-requires
-give_next-requires g c =
+pub give_own-requires : goal.give_own-requires
+give_own-requires g c =
     let own = c.in-Ok-true.ensures.own c.in-Ok-true.field-0-test in
+    let long = ap length own.whole in
+    let numbers = c.requires.may.room.numbers in
+    let given = c.act.ensures.step.given in
     record {
       well = c.act.ensures.step.well;
-      first = record { first = own.first; others = own.others; whole = own.whole; before = inr own.own };
+      range = c.requires.may.range;
+      own = own;
+      some = omega (arith, long);
+      number = omega (arith, numbers, given);
+      room = subst (λ (q : Queue _). length c.args.network.now.link < q.room) (sym c.act.ensures.under_way) c.requires.may.room.launches;
     }
 
 pub returns-in-Ok-true : goal.returns-in-Ok-true
 returns-in-Ok-true g c =
     let step = c.act.ensures.step in
     let mid = c.act.new.self in
-    let new = c.give_next.new.self in
-    let gave = c.give_next.ensures in
+    let new = c.give_own.new.self in
+    let gave = c.give_own.ensures in
     record {
       kept = kept_then g.C.Clock.last_step g.C.Clock.reading g.M.Machine.stands c.args.network.now c.args.self.now mid new _ step.after step.still gave.kept;
-      says = gives_then g.C.Clock.last_step g.C.Clock.reading g.M.Machine.stands c.args.network.now OutOfMemory c.args.self.now mid new c.give_next.new.note
-          c.give_next.result step.time step.given gave.says;
-      err = err_then OutOfMemory c.args.self.now mid new c.give_next.result step.time gave.err;
+      says = (gave.says.0, gave.says.1 ∙ step.time, gave.says.2 ∙ ap (λ n. n + 1) step.given);
+      err = tt;
     }
 
 pub returns-in-Ok-false : goal.returns-in-Ok-false

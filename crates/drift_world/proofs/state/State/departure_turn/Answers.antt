@@ -36,7 +36,7 @@ give_first-requires-clause-capacity g c =
 pub give_first-requires-clause-place : goal.give_first-requires-clause-place
 give_first-requires-clause-place g c =
     no_shelf c.in-Some.record.body c.leave_port.new.self.stored
-    (omega (arith, c.rank_of.ensures, c.number.ensures, c.if-rank_of-number.true))
+    (λ taken. omega (arith, taken, c.rank_of.ensures, c.number.ensures, c.if-rank_of-number.true))
 
 pub give_first-requires-clause-running : goal.give_first-requires-clause-running
 give_first-requires-clause-running g c =

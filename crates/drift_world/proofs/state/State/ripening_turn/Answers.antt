@@ -1,9 +1,9 @@
-use Rattle.drift_world.proofs.{Dues.due_stays, Ripenings.{octets_fit, record_fits}}
+use Rattle.drift_world.proofs.{Dues.due_stays, Ripenings.{joined_fits, octets_fit, record_fits}}
 use Rattle.drift_world.proofs.OwnPlaces.{judged_far, judged_first, judged_own, judged_rank, no_shelf, no_waiter, none_ahead, runs_first, stands_first}
-use Rattle.{drift_world.{proofs.Fits.{have_octets, sound_same}, specs.declared.state.State.State}, world_state.specs.Ripening.{AreSettledSo, ripe_record}}
+use Rattle.{drift_world.{proofs.Fits.{all_put_some, have_octets, sound_same}, specs.declared.state.State.State}, world_state.specs.Ripening.{AreSettledSo, joined_record, ripe_record}}
 use Rattle.{drift_world.{proofs.Timings.rekeyed_by, specs.Stepping.StandsPast}, run_law.specs.declared.steps.Ripe.Ripe, world_law.proofs.giving.GivenParts.some_same}
 use Rattle.drift_world.{proofs.Turning.{comes_first, is_at, kept_timers, rekeyed_step, runs_on, step_kept}, specs.declared.source.Source.TheVariants.Ripening}
-use Rattle.drift_world.proofs.Words.{[], rank}
+use Rattle.drift_world.proofs.Words.{[], IsSomePut, Option, rank}
 use Rattle.drift_world.proofs.Words.{◌++◌, ◌+◌, ◌<◌, ◌∙◌, ◌∷◌, ◌≡◌, ◌≤ℤ◌, ChangesOnly, DeviceId, IsPutAt, IsSound, List, Network, Node, Note, Scenario, Settled, Some}
 use Rattle.drift_world.proofs.Words.{Stands, Waits, ap, arith, changed_device, keeps, length, place_of, pos, refl, ripe_place, settled_at, subst, sym}
 use Rattle.drift_world.proofs.Words.{waiting_as}
@@ -49,15 +49,16 @@ give_first-requires-clause-octets g c =
     subst have_octets (sym c.record_of-record.ensures) (record_fits c.ripen_waits-ripened.result.waits c.ripen_waits-ripened.result.ripe)
 
 past : {C M : Type 0} (reading : C → ℕ → ℕ) (stands : M → Network → DeviceId → Node → Type 0) (network : Network) (old new : State C M)
-    (w : Waits) (is : Ripe) (one : Settled) → one ≡ ripe_record w is → IsJudged is → IsPutAt one old.settled.items (one ∷ old.settled.items) 0
+    (w : Waits) (is : Ripe) (one : Settled) (rest : List Settled) → one ≡ ripe_record w is → IsJudged is
+    → IsPutAt one old.settled.items (one ∷ old.settled.items) 0 → IsSomePut (joined_record (old.given + 1) w.device is) old.settled.items rest
     → ((settled : List Settled) → AreSettledSo (old.given + 1) w is old.settled.items settled
     → StandsPast reading stands network old new (ripe_place old.time (waiting_as w)) settled)
-    → StandsPast reading stands network old new (ripe_place old.time (waiting_as w)) (one ∷ old.settled.items)
-past reading stands network old new w is one same judged front stands_past =
-    stands_past (one ∷ old.settled.items)
-    (subst (λ (x : Settled). AreSettledSo (old.given + 1) w is old.settled.items (x ∷ old.settled.items)) (sym same)
+    → StandsPast reading stands network old new (ripe_place old.time (waiting_as w)) (one ∷ rest)
+past reading stands network old new w is one rest same judged front more stands_past =
+    stands_past (one ∷ rest)
+    (subst (λ (x : Settled). AreSettledSo (old.given + 1) w is old.settled.items (x ∷ rest)) (sym same)
     (judged_first (old.given + 1) w is judged (subst
-    (λ x. IsPutAt x old.settled.items (x ∷ old.settled.items) 0) same front)))
+    (λ x. IsPutAt x old.settled.items (x ∷ old.settled.items) 0) same front) more))
 
 -- nothing that is settled stands before its record
 ahead : {C M : Type 0} (last_step : C → ℕ) (reading : C → ℕ → ℕ) (stands : M → Network → DeviceId → Node → Type 0) (network : Network)
@@ -67,6 +68,25 @@ ahead : {C M : Type 0} (last_step : C → ℕ) (reading : C → ℕ → ℕ) (st
 ahead last_step reading stands network state one w is z may at same judged =
     none_ahead z (first_ripe last_step reading stands network state one w may at) tt
     (ap (λ x. place_of (settled_at network state.time x)) same ∙ judged_own network state.time w is judged)
+
+-- the change of state is put in behind it
+changed_then : {C M : Type 0} (old mid : State C M) (w : Waits) (is : Ripe) (change : Option Settled) (new : List Settled)
+    → mid.settled.items ≡ old.settled.items → change ≡ joined_record (old.given + 1) w.device is → IsSomePut change mid.settled.items new
+    → IsSomePut (joined_record (old.given + 1) w.device is) old.settled.items new
+changed_then old mid w is change new same joins put =
+    subst (λ (l : List Settled). IsSomePut (joined_record (old.given + 1) w.device is) l new) same
+    (subst (λ (o : Option Settled). IsSomePut o mid.settled.items new) joins put)
+
+pub give_first-requires-clause-sound : goal.give_first-requires-clause-sound
+give_first-requires-clause-sound g c =
+    let got = c.ripen_waits-ripened.result in
+    let mid = c.ripen_waits-ripened.new.self in
+    let sound = c.ripen_waits-ripened.ensures.sound in
+    let number = c.args.self.now.given + 1 in
+    sound_same g.C.Clock.last_step c.args.network.now mid _ sound refl refl refl refl refl refl refl refl refl refl
+    (all_put_some have_octets (joined_record number got.waits.device got.ripe) mid.settled.items c.put_some.new.settled.items
+    (subst (λ (o : Option Settled). IsSomePut o mid.settled.items c.put_some.new.settled.items) c.joined-change.ensures c.put_some.ensures.is)
+    (joined_fits number got.waits.device got.ripe) sound.fit.octets)
 
 pub give_first-requires-clause-number : goal.give_first-requires-clause-number
 give_first-requires-clause-number g c =
@@ -88,21 +108,24 @@ pub give_first-requires-clause-place : goal.give_first-requires-clause-place
 give_first-requires-clause-place g c =
     let own = ap (λ (z : Settled). rank z.body) c.record_of-record.ensures
     ∙ judged_rank c.ripen_waits-ripened.result.waits c.ripen_waits-ripened.result.ripe (c.is_judged.ensures.0 c.if-is_judged.true) in
-    no_shelf c.record_of-record.result.body c.ripen_waits-ripened.new.self.stored (omega (arith, own))
+    no_shelf c.record_of-record.result.body c.ripen_waits-ripened.new.self.stored (λ taken. omega (arith, taken, own))
 
 pub give_first-requires-clause-running : goal.give_first-requires-clause-running
 give_first-requires-clause-running g c =
-    runs_first g.C.Clock.last_step g.C.Clock.reading g.M.Machine.stands c.args.network.now c.args.self.now c.ripen_waits-ripened.new.self
+    runs_first g.C.Clock.last_step g.C.Clock.reading g.M.Machine.stands c.args.network.now c.args.self.now
+    (record c.ripen_waits-ripened.new.self { settled = c.put_some.new.settled })
     (Ripening c.ripen_waits-ripened.result.waits) c.record_of-record.result
     (first_ripe g.C.Clock.last_step g.C.Clock.reading g.M.Machine.stands c.args.network.now c.args.self.now c.args.one c.ripen_waits-ripened.result.waits
     c.requires.may c.ripen_waits-ripened.ensures.is) tt
-    (ap (λ (t : State _ _). t.settled.items) c.ripen_waits-ripened.ensures.same)
+    refl
     (past g.C.Clock.reading g.M.Machine.stands c.args.network.now c.args.self.now c.ripen_waits-ripened.new.self c.ripen_waits-ripened.result.waits
-    c.ripen_waits-ripened.result.ripe c.record_of-record.result
+    c.ripen_waits-ripened.result.ripe c.record_of-record.result c.put_some.new.settled.items
     c.record_of-record.ensures (c.is_judged.ensures.0 c.if-is_judged.true)
     (ahead g.C.Clock.last_step g.C.Clock.reading g.M.Machine.stands c.args.network.now c.args.self.now c.args.one c.ripen_waits-ripened.result.waits
     c.ripen_waits-ripened.result.ripe c.record_of-record.result c.requires.may c.ripen_waits-ripened.ensures.is c.record_of-record.ensures
-    (c.is_judged.ensures.0 c.if-is_judged.true))
+    (c.is_judged.ensures.0 c.if-is_judged.true)) (changed_then c.args.self.now c.ripen_waits-ripened.new.self
+    c.ripen_waits-ripened.result.waits c.ripen_waits-ripened.result.ripe c.joined-change.result c.put_some.new.settled.items
+    (ap (λ (t : State _ _). t.settled.items) c.ripen_waits-ripened.ensures.same) c.joined-change.ensures c.put_some.ensures.is)
     c.ripen_waits-ripened.ensures.stands)
 
 given_so : (g : given.Over) (c : After-give_first g) (s : Scenario) (notes : List Note)
@@ -112,17 +135,20 @@ given_so : (g : given.Over) (c : After-give_first g) (s : Scenario) (notes : Lis
 given_so g c =
     let got = c.ripen_waits-ripened.result in
     let one = c.record_of-record.result in
-    stands_first g.C.Clock.last_step g.C.Clock.reading g.M.Machine.stands c.args.network.now c.args.self.now c.ripen_waits-ripened.new.self (Ripening got.waits)
+    stands_first g.C.Clock.last_step g.C.Clock.reading g.M.Machine.stands c.args.network.now c.args.self.now
+    (record c.ripen_waits-ripened.new.self { settled = c.put_some.new.settled }) (Ripening got.waits)
     one
     (first_ripe g.C.Clock.last_step g.C.Clock.reading g.M.Machine.stands c.args.network.now c.args.self.now c.args.one c.ripen_waits-ripened.result.waits
     c.requires.may c.ripen_waits-ripened.ensures.is) tt
-    (ap (λ (t : State _ _). t.settled.items) c.ripen_waits-ripened.ensures.same)
+    refl
     (past g.C.Clock.reading g.M.Machine.stands c.args.network.now c.args.self.now c.ripen_waits-ripened.new.self c.ripen_waits-ripened.result.waits
-    c.ripen_waits-ripened.result.ripe c.record_of-record.result
+    c.ripen_waits-ripened.result.ripe c.record_of-record.result c.put_some.new.settled.items
     c.record_of-record.ensures (c.is_judged.ensures.0 c.if-is_judged.true)
     (ahead g.C.Clock.last_step g.C.Clock.reading g.M.Machine.stands c.args.network.now c.args.self.now c.args.one c.ripen_waits-ripened.result.waits
     c.ripen_waits-ripened.result.ripe c.record_of-record.result c.requires.may c.ripen_waits-ripened.ensures.is c.record_of-record.ensures
-    (c.is_judged.ensures.0 c.if-is_judged.true))
+    (c.is_judged.ensures.0 c.if-is_judged.true)) (changed_then c.args.self.now c.ripen_waits-ripened.new.self
+    c.ripen_waits-ripened.result.waits c.ripen_waits-ripened.result.ripe c.joined-change.result c.put_some.new.settled.items
+    (ap (λ (t : State _ _). t.settled.items) c.ripen_waits-ripened.ensures.same) c.joined-change.ensures c.put_some.ensures.is)
     c.ripen_waits-ripened.ensures.stands) c.give_first.new.self c.give_first.new.note
     (ap (λ t. place_of (settled_at c.args.network.now t one)) c.ripen_waits-ripened.ensures.others.time
     ∙ ap (λ x. place_of (settled_at c.args.network.now c.args.self.now.time x)) c.record_of-record.ensures

@@ -1,6 +1,6 @@
-use Rattle.{drift_world.proofs.Fits.{all_put, have_octets}, run_law.proofs.runs.Determined.same_units, world_law.proofs.giving.GivenParts.some_same}
+use Rattle.{run_law.proofs.runs.Determined.same_units, world_law.proofs.giving.GivenParts.some_same}
 use Rattle.{drift_world.proofs.{Rising.settled_in_order, Puts.one_put_in}, run_law.specs.declared.note.NoteBody.TheVariants.{Clock as Shown}}
-use Rattle.drift_world.proofs.Words.{◌<◌, ◌∙◌, ◌≡◌, DeviceId, Network, None, NoteBody, Settled, amount, ap, arith, happenings, keeps, length, pos, refl}
+use Rattle.drift_world.proofs.Words.{◌<◌, ◌∙◌, ◌≡◌, Network, None, NoteBody, Settled, amount, ap, arith, happenings, keeps, length, pos}
 use Rattle.{drift_world.proofs.Words.{settled_at, slice_get_read, subst, sym, units_of, world_of}, world_law.proofs.steps_lemmas.steps.ClockSteps.clock_step}
 use Rattle.drift_world.proofs.state.State.show_clock.Goals as goal
 
@@ -9,7 +9,7 @@ returns-clause-sound g c =
     let z = c.requires.sound.sized in
     let fit = c.requires.sound.fit in
     let more = c.requires.more in
-    let put = c.put_in.ensures.is in
+    let next = c.requires.next in
     record {
       sized = record {
         clocks = z.clocks;
@@ -19,13 +19,13 @@ returns-clause-sound g c =
         downs = z.downs;
         stepped = z.stepped;
         limit = z.limit;
-        shown = omega (arith, more);
+        shown = omega (arith, more, next);
       };
       under_way = c.requires.sound.under_way;
       fit = record {
         ups = fit.ups;
         downs = fit.downs;
-        octets = all_put have_octets _ c.args.self.now.settled.items c.put_in.new.settled.items put.0 put.1 tt fit.octets;
+        octets = fit.octets;
         below = fit.below;
         waits_below = fit.waits_below;
         apart = fit.apart;
@@ -33,14 +33,14 @@ returns-clause-sound g c =
     }
 
 pub returns-clause-stands : goal.returns-clause-stands
-returns-clause-stands g c = λ s notes old ended first.
+returns-clause-stands g c = λ settled index ended put s notes old first.
     let w = c.args.self.now in
     let K = g.C.Clock in
     let network = c.args.network.now in
     let world = world_of network w in
-    let device : DeviceId = record { 0 = w.shown } in
+    let device = c.args.device in
     let hs = happenings s.network notes in
-    let there : w.shown < length s.network.device = subst (λ (n : Network). w.shown < length n.device) old.same c.requires.more in
+    let there : device.0 < length s.network.device = subst (λ (n : Network). device.0 < length n.device) old.same c.requires.more in
     let more = c.requires.more in
     let clocks = c.requires.sound.sized.clocks in
     let machines = c.requires.sound.sized.machines in
@@ -48,18 +48,17 @@ returns-clause-stands g c = λ s notes old ended first.
     let kept = w.machines.ok.0 in
     let own = old.clocks device there in
     let same : own.0 ≡ c.index.result.now = some_same _ _ _ own.1
-    (slice_get_read w.clocks.items w.clocks.len w.shown c.index.result.now w.clocks.ok.0 (omega (arith, clocks, more, held)) c.index.ensures) in
+    (slice_get_read w.clocks.items w.clocks.len device.0 c.index.result.now w.clocks.ok.0 (omega (arith, clocks, more, held)) c.index.ensures) in
     let read : c.read-reading.result ≡ units_of (s.reading device w.time) = same_units _ _
     (c.read-reading.ensures ∙ ap (λ t. pos (K.reading c.index.result.now (amount t))) c.from_amount.ensures.value
     ∙ ap (λ k. pos (K.reading k w.time)) (sym same) ∙ ap pos (sym (own.2 w.time (omega arith)))) in
-    let put = c.put_in.ensures.is in
     let shows : NoteBody → Settled = λ body. record { body = body; frame = None; octets = None } in
-    clock_step K.reading (keeps g.M.Machine.stands) s world notes device c.index-machine.result.now c.state.result c.adjustment.result _ old there ended refl
+    clock_step K.reading (keeps g.M.Machine.stands) s world notes device c.index-machine.result.now c.state.result c.adjustment.result _ old there ended (sym c.requires.next)
     first
-    (slice_get_read w.machines.items w.machines.len w.shown c.index-machine.result.now w.machines.ok.0 (omega (arith, machines, more, kept))
+    (slice_get_read w.machines.items w.machines.len device.0 c.index-machine.result.now w.machines.ok.0 (omega (arith, machines, more, kept))
     c.index-machine.ensures)
     (λ node is. (c.state.ensures s.network device node is, c.adjustment.ensures s.network device node is))
     (one_put_in s.network network w.time hs (Shown device (units_of (s.reading device w.time)) c.adjustment.result c.state.result)
     (shows (Shown device c.read-reading.result c.adjustment.result c.state.result))
-    w.settled.items c.put_in.new.settled.items put.0 put.1 (settled_in_order old)
+    w.settled.items settled index put (settled_in_order old)
     (ap (λ r. settled_at network w.time (shows (Shown device r c.adjustment.result c.state.result))) read))

@@ -44,7 +44,3 @@ returns-in-Err-clause-kept g c = step_kept g.C.Clock.last_step g.C.Clock.reading
 pub returns-in_default-clause-kept : goal.returns-in_default-clause-kept
 returns-in_default-clause-kept g c = step_kept g.C.Clock.last_step g.C.Clock.reading g.M.Machine.stands c.args.network.now c.args.self.now c.settle.new.self
     c.settle.ensures.step
-
-pub returns-in-Clock-clause-kept : goal.returns-in-Clock-clause-kept
-returns-in-Clock-clause-kept g c = step_kept g.C.Clock.last_step g.C.Clock.reading g.M.Machine.stands c.args.network.now c.args.self.now c.show.new.self
-    c.show.ensures.step
