@@ -80,7 +80,7 @@ summarizes_from : {s : Summary} {before : List Hearing} (rest : List Hearing) �
 summarizes_from {s} {before} [] is = subst (Summarizes s) (sym (append-nil before)) is
 summarizes_from {s} {before} (h ∷ rest) is =
     subst (Summarizes (fold with_hearing (with_hearing s h) rest)) (append_assoc before (h ∷ []) rest)
-    (summarizes_from rest (step h.channel h.frame h.within is))
+    (summarizes_from {s = with_hearing s h} {before = before ++ h ∷ []} rest (step h.channel h.frame h.within is))
 
 -- what is kept of what was heard sums it up
 pub summarized : (heard : List Hearing) → Summarizes (summary_of heard) heard

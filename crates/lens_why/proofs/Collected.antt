@@ -111,7 +111,7 @@ all_points {ow} {before} (p ∷ after) {last} some of up =
     let next : IsLastOf ow (before ++ p ∷ []) (behind_point ow last p) =
     subst (λ o. IsLastOf ow (before ++ p ∷ []) (behind_point ow o p)) (sym of.is) one in
     subst (λ ps. IsLastOf ow ps (fold (behind_point ow) (behind_point ow last p) after)) (append_assoc before (p ∷ []) after)
-    (all_points after some next up.1)
+    (all_points {before = before ++ p ∷ []} after some next up.1)
 
 pub last_is_of_clusters : LastIsOfClusters
 last_is_of_clusters ow points clusters some up are =
