@@ -1,6 +1,7 @@
 //! The line of each record of a report: the record is read from it, and is written so again.
 
 ghost use Rattle.report_text.specs.Ranges.{IsNoteOf};
+ghost use Rattle.std.specs.Prelude.{IfSome};
 
 use crate::bodies::{
     accepted, arrived, changed, clock, compressed, corrected, delivered, dropped, event, left,
@@ -107,7 +108,9 @@ fn is_line_of(
 }
 
 // The record whose line the text is.
-fn note_of(network: &Accepted, text: &[u8]) -> Option<Note> {
+fn note_of(network: &Accepted, text: &[u8]) -> Option<Note>
+    ensures { IfSome result (λ note. IsNoteOf network.now note) }
+{
     let mut note = no_record();
     read_note(named_network(network), None, text, &mut note)?;
     Some(note)
