@@ -2,7 +2,7 @@
 use Rattle.{audit_devices.specs.{Effects.subject_of, Showing.IsSteady}, net_plan.specs.Belonging.HasDevice, run_law.specs.declared.note.Note.Note}
 use Rattle.{audit_law.specs.events.Readings.ReadsOn, std.proofs.Common.{◌⊎◌, arith, suc, zero}, tte_units.proofs.general_lemmas.Lists.pushed}
 use Rattle.audit_sweep.proofs.Words.{◌++◌, ◌∙◌, ◌∷◌, ◌≡◌, DeviceId, Happening, IsBodyOf, IsCaused, IsDue, KeptRecord, List, Network, NoteBody, Scenario, Some}
-use Rattle.audit_sweep.{proofs.Words.{[], amount, ap, happening, inl, inr, numbered, subst, sym, ℕ}, specs.records.Keeping.{record_of, records_of}}
+use Rattle.audit_sweep.{proofs.Words.{[], ap, happening, inl, inr, numbered, subst, sym, ℕ}, specs.records.Keeping.{record_of, records_of}}
 use Rattle.{audit_sweep.specs.Knowing.{AllShowByCause, AllYoung}, run_law.proofs.{control.Arrived.arrived_young, records.Happenings.none_numbered}}
 use Rattle.std.proofs.lemmas.List.{map-append}
 use Rattle.run_law.specs.declared.note.NoteBody.TheVariants as notes
@@ -35,7 +35,7 @@ young_next {s} {hs} {h} due all number g device link cause clock e is =
       | inl old ↦ all number g device link cause clock old is
       | inr new ↦
           let says : h.note.body ≡ notes.Arrived device link cause clock = ap (λ (x : Happening). x.note.body) new ∙ is in
-          arrived_young s hs device (amount h.note.time) link cause clock (subst (IsCaused s hs h.note.time) says due.cause)
+          arrived_young (subst (IsCaused s hs h.note.time) says due.cause)
     ]
 
 -- what is kept goes on by what is kept of the next

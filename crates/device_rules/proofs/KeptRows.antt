@@ -5,7 +5,7 @@ use Rattle.{device_rules.specs.declared.entrances.{Entrance.Entrance, Which.Whic
 use Rattle.{net_plan.{proofs.{SameIds.same_link, TableFacts.id_by}, specs.Ranges.IsInRange}, std.{proofs.Common.⊎_elim, specs.Ordering.{is_eq, nat_cmp}}}
 use Rattle.{net_plan.specs.declared.{ids.LinkId.LinkId, network.Network.Network, tables.Row.Row}, run_law.proofs.timed.Rows.{entry_at, has_entry}}
 use Rattle.{run_law.specs.timed.Arrivals.entry_of, std.{proofs.lemmas.{Cmp.ranked, List.Elements.All-take}, specs.BTreeMap.{BTreeMap, Updates, get}}}
-use Rattle.std.proofs.Common.{◌&&◌, ◌++◌, ◌∙◌, ◌∷◌, ◌≡◌, Bool, List, None, Option, Some, [], ap, arith, cond, false, get_or, refl, subst, sym, take, true, ℕ}
+use Rattle.std.proofs.Common.{◌&&◌, ◌++◌, ◌∙◌, ◌∷◌, ◌≡◌, Bool, List, None, Option, Some, [], ap, arith, cond, false, refl, subst, sym, take, true, ℕ}
 use Rattle.{std.proofs.lemmas.Bool.{and_parts, cases_Bool, eqb-true, false≢true}, tte_units.proofs.general_lemmas.Lists.{find_new, find_of, find_skips}}
 use Rattle.{std.specs.Prelude.{IsSome, find, option_and_then, option_map, slice_get}, tte_units.proofs.general_lemmas.Naturals.{cmp_equal, cmp_same, eqb_same}}
 
@@ -83,7 +83,7 @@ row_kept network which rows place entry old new is have are comes absent up e = 
     (sym (ap (λ (o : Option Row). option_map (entering_by network) (option_and_then (entry_of network) o))
     (find_new (enters network which (entrance_of entry)) rows entry.row (enters_own network which place entry is comes)
     (none_found network which rows (entrance_of entry) have (sym (are (entrance_of entry)) ∙ absent)))
-    ∙ ap (option_map (entering_by network)) (entry_at network place entry is))))
+    ∙ ap (option_map (entering_by network)) (entry_at is))))
     (λ (n : is_eq (entrance_cmp (entrance_of entry) e) ≡ false).
     up.0 e ∙ ap (λ (b : Bool). cond b (Some (entering_by network entry)) (get entrance_cmp old e)) n
     ∙ are e ∙ ap (λ (o : Option Row). option_map (entering_by network) (option_and_then (entry_of network) o))
@@ -97,4 +97,4 @@ row_kept network which rows place entry old new is have are comes absent up e = 
 -- each front of the rows has entries
 pub have_entries : (network : Network) (n : ℕ) → IsInRange network → HaveEntries network (take n network.row)
 have_entries network n range =
-    All-take (λ row. IsSome (entry_of network row)) n network.row (λ i d lt. has_entry network (get_or network.row i d) (range.rows i d lt))
+    All-take (λ row. IsSome (entry_of network row)) n network.row (λ i d lt. has_entry (range.rows i d lt))

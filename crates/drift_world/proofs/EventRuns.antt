@@ -70,7 +70,7 @@ module _ {C M : Type 0} (reading : C → ℕ → ℕ) (stands : M → Network �
   pub run_behind_events : IsScenarioRun s (world.now ∷ 2 ∷ []) notes
   unfolding hs
   run_behind_events =
-      move_mark place_of (IsDue s) old.mark (world.now ∷ 2 ∷ []) hs old.run
+      move_mark (IsDue s) {later = world.now ∷ 2 ∷ []} old.run
       (λ n i. old.early early (place_of n) (old.ahead (place_of n) (old.run.within n i)))
       (none_due place_of (IsDue s) old.mark hs (world.now ∷ 2 ∷ []) old.run.within nothing)
 

@@ -45,7 +45,7 @@ module _ (s : Scenario) (hs : List Happening) (time : Units) where
       ∙ ap (option_map (with_clock clock)) put_frame in
       record {
         by = there.0;
-        young = arrived_young s hs device (amount time) link cause clock a;
+        young = arrived_young a;
         arrived = there.1;
         framed = λ d is none. let bad : None ≡ Some (with_clock clock so.came) = sym none ∙ has in absurd cc;
       }

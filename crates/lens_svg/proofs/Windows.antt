@@ -5,4 +5,4 @@ use Rattle.std.specs.Prelude.{option_map}
 
 -- the window of an entry is that of the row
 pub window_is : (network : Network) (place : ℕ) (entry : Entry) → IsEntry network place entry → window_at network place ≡ Some (window_of network entry)
-window_is network place entry is = ap (λ (o : Option Entry). option_map (window_of network) o) (entry_is network place entry is)
+window_is network place entry is = ap (λ (o : Option Entry). option_map (window_of network) o) (entry_is is)

@@ -21,7 +21,7 @@ module _ (s : Scenario) (ps : List Happening) (founded : IsFounded place_of (IsD
         | inl sender ↦ inl sender.1
         | inr has ↦
             let taken = has.1.taken in
-            let found = by_number s ps taken founded (accepted_in ps device _ t cause cycle has.1) in
+            let found = by_number s ps taken founded (accepted_in has.1) in
             inr (taken, subst (λ n. numbered ps n ≡ Some taken) (sym has.1.number) found)
       ]
 

@@ -7,4 +7,5 @@ use Rattle.{schedule_tables.specs.{Entries.IsEntry, Windows.window_of, declared.
 pub window_is : (network : Network) (at : ℤ) (place : ℕ) (entry : Entry) → IsEntry network place entry
     → places_ground at (window_of network entry) ≡ window_ground network at (Some place)
 window_is network at place entry is =
-    sym (ap (λ (o : Option Entry). option_map_or (λ (e : Entry). places_ground at (window_of network e)) o Untold) (entry_is network place entry is))
+    sym (ap (λ (o : Option Entry). option_map_or (λ (e : Entry). places_ground at (window_of network e)) o Untold)
+    (entry_is is))

@@ -7,5 +7,5 @@ pub collects_so : (network : Network) (points : List Point) (point : Point) (tak
     → result ≡ ripe_by_role taken → (is : Ripe) → (is ≡ result) ↔ IsCollectionOutcome network points point is
 collects_so network points point taken result as_taken found is = (
   λ same. record { taken = taken; collected = as_taken; becomes = same ∙ found },
-  λ outcome. outcome.becomes ∙ ap ripe_by_role (same_taken network points point outcome.taken taken outcome.collected as_taken) ∙ sym found,
+  λ outcome. outcome.becomes ∙ ap ripe_by_role (same_taken network points point outcome.collected as_taken) ∙ sym found,
 )

@@ -29,7 +29,7 @@ at_arrival {s} {hs} {device} {link} {cause} {point} range founded p =
     let split = parted p.arrival hs (numbered_in hs cause p.arrival p.there) in
     let due = (founded split.0 split.1 p.arrival split.2).1 in
     let arrived = subst (λ body. IsCaused s split.0 p.arrival.note.time body) p.arrived due.cause in
-    let young = arrived_young s split.0 device (amount p.arrival.note.time) link p.from p.clock arrived in
+    let young = arrived_young arrived in
     after (s.reading device (time_of p.arrival)) p.clock s.network.dmax.0 point.0 range.dmax.least young p.at_point
   where
     after : (r clock : ℕ) (dmax x : ℤ) → pos 1 ≤ℤ dmax → clock ≤ unsigned_abs dmax → x ≡ (pos r +ℤ (dmax -ℤ pos clock)) → pos r ≤ℤ x

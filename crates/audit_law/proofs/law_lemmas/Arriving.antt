@@ -181,11 +181,12 @@ same_outcome : (s : Scenario) (hs : List Happening) (t : ℕ) (device : DeviceId
     → IsFounded place_of (IsDue s) hs → (at : IsSplit place_of hs (arrival_place t (rank (arrival_record device link cause a)) device link cause))
     → IsOutcome s.network device signal a → arrival_of s at.front device t link cause signal ≡ arrival_of s hs device t link cause signal
 same_outcome s hs t device link cause a (control frame) founded at may =
-    ap (λ (p : Standpoint). control_arrival s.network device link p frame) (same_standpoint s device t at.front hs (same_earlier t _ hs at))
+    ap (λ (p : Standpoint). control_arrival s.network device link p frame)
+    (same_standpoint s device t at.front hs (same_earlier t _ {hs = hs} at))
 same_outcome s hs t device link cause a (timed octets) founded at may =
     let here = standpoint s hs device t in
     ap (λ (p : Standpoint). timed_arrival s.network device link p octets (last_taken at.front device t link cause))
-    (same_standpoint s device t at.front hs (same_earlier t _ hs at))
+    (same_standpoint s device t at.front hs (same_earlier t _ {hs = hs} at))
     ∙ by_octets s.network device link here octets (last_taken at.front device t link cause) (last_taken hs device t link cause)
     (octets_fault s.network here octets) (λ vl. same_taken s hs t device link cause a vl founded at may)
 
@@ -399,7 +400,7 @@ same_place s hs t u d e l m c f a b causes x y =
     let same = same_coming s x.putting d e l m t u x.signal y.signal x.arrives there in
     let moved = subst (λ (k : DeviceId). ArrivesAs s hs k t l c b) (sym same.0) (subst (λ (k : LinkId). ArrivesAs s hs e t k c b) (sym same.1)
     (subst (λ (n : ℕ). ArrivesAs s hs e n m c b) (sym same.2) (subst (λ (n : ℕ). ArrivesAs s hs e u m n b) (sym causes) y))) in
-    let outcomes : a ≡ b = same_arrival s hs t d l c a b x moved in
+    let outcomes : a ≡ b = same_arrival x moved in
     let at : ℕ → DeviceId → LinkId → ℕ → Arrival → List ℕ = λ n k i g o. arrival_place n (rank (arrival_record k i g o)) k i g in
     ap (λ (o : Arrival). at t d l c o) outcomes
     ∙ ap (λ (n : ℕ). at n d l c b) same.2

@@ -76,7 +76,8 @@ some_change s hs until cause founded o =
     let body = notes.State o.device o.state cause o.why in
     let p = place_at o.time 0 body in
     let at = split place_of (IsDue s) hs p founded in
-    let changes = moved s hs at.front o.device o.time o.state cause o.why o.brought (sym (same_earlier o.time _ hs at)) (λ h is low.
+    let changes = moved s hs at.front o.device o.time o.state cause o.why o.brought
+    (sym (same_earlier o.time _ {hs = hs} at)) (λ h is low.
     found_before s hs p founded at cause h is.there
     (ahead (time_of h) o.time (rank h.note.body) 7 (key (members_in h) h.note.body) (o.device.0 ∷ cause ∷ []) (omega (arith, is.same_time)) low)) o.changes in
     let x = next_of s at.front o.time body in

@@ -38,7 +38,7 @@ comes_by s gs hs device t cycle v same heard h =
     let standing = standing_by s gs hs device t same in
     record {
       next = subst (λ (st : Standing). next_point st ≡ Some cycle) standing h.next;
-      reached = reaches_by s gs hs device (correction_value s.network cycle) t same h.reached;
+      reached = reaches_by hs same h.reached;
       correct = h.correct;
       summary = h.summary;
       heard = subst (λ (ls : List Hearing). Summarizes h.summary ls) heard h.heard;

@@ -195,7 +195,7 @@ same_place s hs t u device other link by cause from d e causes links a b =
     ∙ sym there.held in
     let moved = subst (λ (k : DeviceId). Departs s hs k t link cause e) (sym devices)
     (subst (λ (n : ℕ). Departs s hs other n link cause e) (sym times) there) in
-    let outcomes : d ≡ e = same_departure s hs t device link cause d e a moved in
+    let outcomes : d ≡ e = same_departure s hs t device link cause a moved in
     ap (λ (o : Departure). leaving_place t device link cause o) outcomes
     ∙ ap (λ (n : ℕ). leaving_place n device link cause e) times
     ∙ ap (λ (k : DeviceId). leaving_place u k link cause e) devices

@@ -95,9 +95,9 @@ same_corrected s hs t device cycle other by gain adjustment later a b =
 -- a change that no correction point brings has a cause
 has_cause : (s : Scenario) (hs : List Happening) (t : ℕ) (device other : DeviceId) (cause : ℕ) (state : State) (why : Why)
     → IsOfNoPoint (notes.State other state cause why) → ChangesState s hs device t state cause why → cause ≡ 0 → ⊥
-has_cause s hs t device other cause state whys.On off c none = no_cause hs t cause c.2.1 none c.2.2
-has_cause s hs t device other cause state whys.Frame off c none = no_cause hs t cause c.1.0 none c.1.1
-has_cause s hs t device other cause state whys.Correction off c none = no_cause hs t cause c.2.3 none c.2.4
+has_cause s hs t device other cause state whys.On off c none = no_cause cause none c.2.2
+has_cause s hs t device other cause state whys.Frame off c none = no_cause cause none c.1.1
+has_cause s hs t device other cause state whys.Correction off c none = no_cause cause none c.2.4
 has_cause s hs t device other cause state whys.SyncClique off c none = off
 has_cause s hs t device other cause state whys.AsyncClique off c none = off
 

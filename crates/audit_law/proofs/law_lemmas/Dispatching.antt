@@ -29,7 +29,7 @@ some_sending s hs until o founded owed =
     let body = notes.Sent o.device o.cycle in
     let p = place_at o.time 0 body in
     let at = split place_of (IsDue s) hs p founded in
-    let sends = sends_by s hs at.front o.device o.time o.cycle (sym (same_earlier o.time _ hs at)) owed.sends in
+    let sends = sends_by s hs at.front o.device o.time o.cycle (sym (same_earlier o.time _ {hs = hs} at)) owed.sends in
     let x = next_of s at.front o.time body in
     let due : IsDueBySending s at.front x =
     record { due = next_is_due s at.front o.time body sends; device = o.device; cycle = o.cycle; sends = sends; says = refl } in
@@ -76,7 +76,8 @@ some_dispatch s hs until o founded owed =
     let body = dispatch_record o cut in
     let p = o.time ∷ rank body ∷ key 0 body in
     let at = split place_of (IsDue s) hs p founded in
-    let dispatches = dispatches_by s hs at.front o.device o.time o.link o.cause o.vl o.cycle (sym (same_earlier o.time _ hs at)) owed.dispatches in
+    let dispatches = dispatches_by s hs at.front o.device o.time o.link o.cause o.vl o.cycle
+    (sym (same_earlier o.time _ {hs = hs} at)) owed.dispatches in
     let x = next_of s at.front o.time body in
     let due : IsDueByDispatch s at.front x = record {
       due = next_is_due s at.front o.time body (causes_record s at.front o cut refl dispatches);

@@ -23,7 +23,7 @@ HasCauseAt before cause = (cause ≡ 0) ⊎ ((h : Happening) × (numbered before
 has_number : (s : Scenario) (before : List Happening) (device : DeviceId) (vl : VlId) (t cause cycle : ℕ) → IsFounded place_of (IsDue s) before
     → HasAccepted before device vl t cause cycle → HasCauseAt before cause
 has_number s before device vl t cause cycle founded has =
-    let found = by_number s before has.taken founded (accepted_in before device vl t cause cycle has) in
+    let found = by_number s before has.taken founded (accepted_in has) in
     inr (has.taken, subst (λ (n : ℕ). numbered before n ≡ Some has.taken) (sym has.number) found)
 
 caused : (s : Scenario) (before : List Happening) (time : Units) (body : NoteBody) → IsFounded place_of (IsDue s) before → IsCaused s before time body

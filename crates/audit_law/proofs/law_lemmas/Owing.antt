@@ -14,7 +14,8 @@ split_at IsDueSo hs x h = record { front = h.before; rest = h.behind; whole = h.
 -- what is due in a list finds there all records of earlier times
 pub earlier_in : (IsDueSo : List Happening → Happening → Type 0) (hs : List Happening) (x : Happening) → (h : IsDueIn place_of IsDueSo hs x)
     → earlier (time_of x) h.before ≡ earlier (time_of x) hs
-earlier_in IsDueSo hs x h = same_earlier (time_of x) (rank x.note.body ∷ key (members_in x) x.note.body) hs (split_at IsDueSo hs x h)
+earlier_in IsDueSo hs x h =
+    same_earlier (time_of x) (rank x.note.body ∷ key (members_in x) x.note.body) (split_at IsDueSo hs x h)
 
 -- what a front has by a number, the list has by it
 pub in_whole : (hs before rest : List Happening) (n : ℕ) (h : Happening) → hs ≡ before ++ rest → numbered before n ≡ Some h → numbered hs n ≡ Some h
@@ -29,7 +30,7 @@ front_of s hs p founded at = front_founded place_of (IsDue s) at.front at.rest (
 pub found_before : (s : Scenario) (hs : List Happening) (p : List ℕ) → IsFounded place_of (IsDue s) hs → (at : IsSplit place_of hs p) → (n : ℕ) (h : Happening)
     → numbered hs n ≡ Some h → IsBefore (place_of h) p → numbered at.front n ≡ Some h
 found_before s hs p founded at n h there sooner =
-    let i = in_front_of place_of hs p at h (numbered_in hs n h there) sooner in
+    let i = in_front_of {place = place_of} {ns = hs} {p = p} at h (numbered_in hs n h there) sooner in
     let number = number_is s hs n h founded there in
     subst (λ (m : ℕ). numbered at.front m ≡ Some h) number (by_number s at.front h (front_of s hs p founded at) i)
 
@@ -64,7 +65,7 @@ from_one hs (suc n) g there e = cc
 pub taken_there : (s : Scenario) (before : List Happening) (device : DeviceId) (vl : VlId) (t cause cycle : ℕ) → IsFounded place_of (IsDue s) before
     → (has : HasAccepted before device vl t cause cycle) → numbered before cause ≡ Some has.taken
 taken_there s before device vl t cause cycle founded has =
-    let found = by_number s before has.taken founded (accepted_in before device vl t cause cycle has) in
+    let found = by_number s before has.taken founded (accepted_in has) in
     subst (λ (n : ℕ). numbered before n ≡ Some has.taken) (sym has.number) found
 
 -- a time from 0 on is of its amount

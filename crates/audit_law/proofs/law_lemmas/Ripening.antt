@@ -260,7 +260,7 @@ same_place s hs t u device other link by cause from p q a b causes x y =
     (subst (λ (n : ℕ). BecomesPermanent s hs other n link cause q b) (sym same.times)
     (subst (λ (l : LinkId). BecomesPermanent s hs other u l cause q b) (sym same.links)
     (subst (λ (n : ℕ). BecomesPermanent s hs other u by n q b) (sym causes) y))) in
-    let outcomes : a ≡ b = same_ripening s hs t device link cause p q a b x moved in
+    let outcomes : a ≡ b = same_ripening s hs t device link cause x moved in
     ap (λ (r : Ripe). record_place t device link cause x.frame p r) outcomes
     ∙ ap (λ (v : Units). record_place t device link cause x.frame v b) same.points
     ∙ ap (λ (f : Pcf). record_place t device link cause f q b) same.frames

@@ -175,4 +175,4 @@ next_of_grown {N} place IsDue mark ns x run grown =
 pub next_exactly : {N : Type 0} (place : N → List ℕ) (IsDue : List N → N → Type 0) (mark : List ℕ) (ns : List N) (x : N) → IsRun place IsDue mark ns
     → IsRun place IsDue (behind (place x)) (ns ++ x ∷ []) ↔ IsNextOf place IsDue mark ns x
 next_exactly place IsDue mark ns x run =
-    (λ grown. next_of_grown place IsDue mark ns x run grown, λ next. grow place IsDue mark ns x run next.behind_all next.due next.first)
+    (λ grown. next_of_grown place IsDue mark ns x run grown, λ next. grow IsDue x run next.behind_all next.due next.first)

@@ -82,7 +82,7 @@ module _ (goes : BlocksGoSo) (v : View) (channel : Channel) (n t : ℕ) (block :
       let in_all : (h : Happening) → IsIn h cut.rest → IsIn h by_then.front = λ h i. subst (IsIn h) (sym cut.whole) (in_right h cut.front cut.rest i) in
       let late : (h : Happening) → IsIn h cut.rest → next ≤ time_of h = λ h i. elim (cases_lt (time_of h) next)
       [ inl lt ↦ absurd (cut.none h i (inl lt)) | inr ge ↦ ge ] in
-      let front : IsIn g.k by_then.front = in_front_of place_of v.records ((by + 1) ∷ []) by_then g.k g.there (inl (omega (arith, g.to))) in
+      let front : IsIn g.k by_then.front = in_front_of by_then g.k g.there (inl (omega (arith, g.to))) in
       let behind : IsIn g.k cut.rest = elim (in_parts g.k cut.front cut.rest (subst (IsIn g.k) cut.whole front)) [
         | inr there ↦ there
         | inl before ↦

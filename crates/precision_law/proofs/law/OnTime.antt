@@ -5,7 +5,7 @@ use Rattle.precision_law.proofs.words.Clocks.{before_of, clocks_reach_sharply, i
 use Rattle.precision_law.proofs.words.Clocks.{same_device, set_clocks_stay_at_correction, setting_is}
 use Rattle.precision_law.proofs.words.Laws.{BlocksCover, BlocksGoSo, ComesTo, HasTimeAt, Hull, IsInBlock, IsNarrow, IsView, OneChannelIsSound, ShowsIn, Stands}
 use Rattle.precision_law.proofs.words.Laws.{ValuesAreReachedOnTime, View, adjustment_left, epoch_time, first_correction, hull_of, last_setting, state_left}
-use Rattle.precision_law.proofs.words.{Plans.{Corrected, DeviceId, Synchronised, Units, amount}, Runs.{is_synchronised, is_turned_on_at, state_after, time_of}}
+use Rattle.precision_law.proofs.words.{Plans.{Corrected, DeviceId, Synchronised, Units}, Runs.{is_synchronised, is_turned_on_at, state_after, time_of}}
 use Rattle.precision_law.proofs.words.Runs.{Happening, IsCaused, NoteBody, Reaches, changes_adjustment, earlier, founded_at, happenings, is_joined_by}
 use Rattle.precision_law.proofs.words.Std.{◌*◌, ◌+ℤ◌, ◌+◌, ◌<ℤ◌, ◌<◌, ◌≡◌, ◌≤ℤ◌, ◌≤◌, List, None, Option, Some, ap, arith, both_ways, by_lt_z, cases_lt, false}
 use Rattle.precision_law.proofs.words.Std.{false_from_ne_true, inl, inr, ints, mul-le-mul_right, negsuc, option_map_or, pos, refl, subst, suc, sym, true, zero}
@@ -165,7 +165,7 @@ values_are_reached_on_time sound cover goes s mark ns until beta up is_beta t cy
     (not_integrating (is_turned_on_at s device t) (state_after s (earlier t hs) device) step.synchronised) in
     let has : HasTimeAt v device t = record { good = step.correct; timed = timed_of (state_left v device t) synchronised } in
     let from = value_reached cover goes v cycle value t device at.is has synchronised (omega arith) (record { begins = within.begins; ends = within.ends })
-    (reaches_by s hs at.cut.front device (pos (cycle * amount s.network.cycle + value)) t same reaches) in
+    (reaches_by at.cut.front same reaches) in
     record {
       first = from.hull.least;
       last = from.hull.greatest;

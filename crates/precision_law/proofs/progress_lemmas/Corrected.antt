@@ -49,7 +49,7 @@ module _ (v : View) (device : DeviceId) (is : IsView v) (z : ℕ) (never : Keeps
       ahead t t (rank h.note.body) 7 (key (members_in h) h.note.body) rest (omega arith) (omega (arith, six)) in
       let founded = front_founded place_of (IsDue s) at.front at.rest
       (subst (IsFounded place_of (IsDue s)) at.whole is.run.founded) in
-      let found = by_number s at.front h founded (in_front_of _ _ _ at h i sooner) in
+      let found = by_number s at.front h founded (in_front_of at h i sooner) in
       let off = not_turned_on_then v device t is (ap has_time joining) in
       let before : state_before s at.front device t ≡ Joining =
       ap (λ (b : Bool). if b then Integrating else state_after s (earlier t at.front) device) off

@@ -15,7 +15,7 @@ cut_run {N} place IsDue mark p ns at up run = record {
         | inl l ↦ none n l lt
         | inr r ↦ at.none n r (chain (place n) (place x) p lt here)
       ]) due (up (place x) here) in
-      (found.0, in_front_of place ns p at found.0 found.1 (subst (λ (q : List ℕ). IsBefore q p) (sym found.2) here), found.2);
+      (found.0, in_front_of {place = place} {ns = ns} {p = p} at found.0 found.1 (subst (λ (q : List ℕ). IsBefore q p) (sym found.2) here), found.2);
   within = at.before;
 }
 
@@ -58,6 +58,7 @@ cut_at s mark hs until t run covers le =
       run = cut_run place_of (IsDue s) mark ((t + 1) ∷ []) hs at (λ q b. before_cover mark until t q covers le b) run;
       same = sym (keeps (t + 1) (omega arith)) ∙ all;
       inside = λ h i. subst (IsIn h) (sym at.whole) (in_left h at.front at.rest i);
-      has = λ h i early. in_front_of place_of hs ((t + 1) ∷ []) at h i (sooner h (t + 1) (omega (arith, early)));
+      has = λ h i early. in_front_of {place = place_of} {ns = hs} {p = (t + 1) ∷ []} at h i
+          (sooner h (t + 1) (omega (arith, early)));
       early = keeps;
     }

@@ -7,7 +7,7 @@ use Rattle.precision_law.proofs.words.Runs.{AllBefore, BecomesPermanent, Emits, 
 use Rattle.precision_law.proofs.words.Runs.{IsFounded, IsIn, IsJudgedBy, IsPermanenceOutcome, IsPermanent, IsSplit, Judgement, NoneBefore, NoteBody, Reason}
 use Rattle.precision_law.proofs.words.Runs.{adjustment_at_hearing, by_number, due_is_there, front_founded, happening, heard_as, in_front_of, is_cm, key}
 use Rattle.precision_law.proofs.words.Runs.{master_of, members_in, numbered, observation_window, place_of, plan_of, point_fault, points_of, rank, ripe_as, sign}
-use Rattle.precision_law.proofs.words.Std.{◌+◌, ◌∙◌, ◌∷◌, ◌≡◌, ◌≤◌, ◌⊎◌, Bool, Contains, List, MatchBool, None, Option, Some, [], ap, arith, false, inl, inr}
+use Rattle.precision_law.proofs.words.Std.{◌∙◌, ◌∷◌, ◌≡◌, ◌≤◌, ◌⊎◌, Bool, Contains, List, MatchBool, None, Option, Some, [], ap, arith, false, inl, inr}
 use Rattle.run_law.proofs.{law.FirstSent.{next_due, next_note}, records.Order.ahead}
 use Rattle.compression.specs.declared.taken.Taken.TheVariants as taken
 use Rattle.run_law.specs.declared.judgement.Judgement.TheVariants as judgements
@@ -20,7 +20,7 @@ pub due_there : (v : View) (t : ℕ) (body : NoteBody) (p : List ℕ) (at : IsSp
     → place_of (happening v.scenario.network at.front (next_note at.front t body)) ≡ p → IsCaused v.scenario at.front (units_of t) body
     → IsIn (happening v.scenario.network at.front (next_note at.front t body)) v.records
 due_there v t body p at is within same cause =
-    due_is_there v.scenario ((v.until + 1) ∷ []) v.records (happening v.scenario.network at.front (next_note at.front t body)) (record {
+    due_is_there (record {
       front = at.front;
       rest = at.rest;
       whole = at.whole;
@@ -125,7 +125,8 @@ is_recorded v device arrival link frame point q verdict is r at becomes =
     (key (members_in arrival) arrival.note.body) (device.0 ∷ unsigned_abs point ∷ frame.members.0 ∷ link.0 ∷ number ∷ []) r.later
     (let two : rank arrival.note.body ≡ 2 = ap rank arrives in omega (arith, two)) in
     let front = front_founded place_of (IsDue s) at.front at.rest (subst (IsFounded place_of (IsDue s)) at.whole is.run.founded) in
-    let found : numbered at.front number ≡ Some arrival = by_number s at.front arrival front (in_front_of _ _ _ at arrival r.there sooner) in
+    let found : numbered at.front number ≡ Some arrival =
+    by_number s at.front arrival front (in_front_of at arrival r.there sooner) in
     let dmax_is : n.dmax.0 ≡ pos v.sizes.dmax = (let least = is.lawful.range.dmax.least in let size : v.sizes.dmax ≡ amount n.dmax = ap (λ (x : Sizes). x.dmax)
     is.sizes in omega (arith, ints, least, size)) in
     let permanent : IsPermanent s at.front device q link number frame (record { 0 = point }) =

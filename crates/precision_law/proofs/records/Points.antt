@@ -101,7 +101,9 @@ setting_is v device t h e =
 -- where a clock reaches a value given the records before, it does given all
 pub reaches_whole : (v : View) (device : DeviceId) (value : ℤ) (t : ℕ) (front : List Happening) → AreBeforeCorrections v t front
     → Reaches v.scenario front device value t → Reaches v.scenario v.records device value t
-reaches_whole v device value t front split = reaches_by v.scenario front v.records device value t (earlier_before v t front split)
+reaches_whole v device value t front split =
+    reaches_by {s = v.scenario} {gs = front} v.records {device = device} {v = value} {t = t} (earlier_before v t
+    front split)
 
 -- ---- the records before a place of a time
 
@@ -112,4 +114,6 @@ before_place v t more at = grind (arith, cases_lt, time_of, time_before, rank, k
 -- what a clock reaches given all records it reaches given those before
 pub reaches_front : (v : View) (device : DeviceId) (value : ℤ) (t : ℕ) (front : List Happening) → AreBeforeCorrections v t front
     → Reaches v.scenario v.records device value t → Reaches v.scenario front device value t
-reaches_front v device value t front before = reaches_by v.scenario v.records front device value t (sym (earlier_before v t front before))
+reaches_front v device value t front before =
+    reaches_by {s = v.scenario} {gs = v.records} front {device = device} {v = value} {t = t} (sym
+    (earlier_before v t front before))

@@ -110,7 +110,9 @@ goes_over v way r frame sender receiver link l is g correct uncut young fair in_
     let sooner : IsBefore (place_of r) (t ∷ 8 ∷ sender.0 ∷ link.0 ∷ r.note.number ∷ []) = ahead (time_of r) t (rank r.note.body) 8
     (key (members_in r) r.note.body) (sender.0 ∷ link.0 ∷ r.note.number ∷ []) (omega arith) (gives_low n r.note.body sender link g.gives) in
     let front = front_founded place_of (IsDue s) at.front at.rest (subst (IsFounded place_of (IsDue s)) at.whole is.run.founded) in
-    let found = by_number s at.front r front (in_front_of place_of hs (t ∷ 8 ∷ sender.0 ∷ link.0 ∷ r.note.number ∷ []) at r g.given sooner) in
+    let found = by_number s at.front r front
+    (in_front_of {place = place_of} {ns = hs} {p = t ∷ 8 ∷ sender.0 ∷ link.0 ∷ r.note.number ∷ []} at r g.given
+    sooner) in
     let old : nat_lt (amount n.dmax) clock ≡ false = le-ltb (amount n.dmax) clock (omega (arith, small)) in
     let cut : is_cut s link (way_from n sender link) t ≡ false = ap (λ (w : Way). is_cut s link w t) g.from_way ∙ uncut in
     let departs : Departs s at.front sender t link r.note.number (leaves clock) = record {
@@ -131,10 +133,11 @@ goes_over v way r frame sender receiver link l is g correct uncut young fair in_
     let by = split place_of (IsDue s) hs (u ∷ 2 ∷ receiver.0 ∷ link.0 ∷ leaving.note.number ∷ []) is.run.founded in
     let front_by = front_founded place_of (IsDue s) by.front by.rest (subst (IsFounded place_of (IsDue s)) by.whole is.run.founded) in
     let found_by : numbered by.front leaving.note.number ≡ Some leaving = by_number s by.front leaving front_by
-    (in_front_of place_of hs (u ∷ 2 ∷ receiver.0 ∷ link.0 ∷ leaving.note.number ∷ []) by leaving left_there (inl takes.1)) in
+    (in_front_of by leaving left_there (inl takes.1)) in
     let arrives : Arrives s leaving receiver link u (control (Ok (with_clock clock frame))) =
     grind (arith, option_map, way_from, n, control, left_frame, with_clock, clock) in
-    let stands = ap (standpoint_by s receiver u) (same_earlier u (2 ∷ receiver.0 ∷ link.0 ∷ leaving.note.number ∷ []) hs by) in
+    let stands =
+    ap (standpoint_by s receiver u) (same_earlier u (2 ∷ receiver.0 ∷ link.0 ∷ leaving.note.number ∷ []) by) in
     let no_fault = ap (λ (p : Standpoint). frame_fault n receiver link p (with_clock clock frame)) stands ∙ fair clock small in
     let arrived : IsArrivedRecord s by.front receiver u link leaving.note.number then_clock =
     taken_by s by.front receiver u link leaving.note.number (with_clock then_clock frame) (point_on_arrival n (standpoint s by.front receiver u) then_clock)

@@ -88,21 +88,23 @@ control_finds network device link at (Ok frame) clock g = by (frame_fault networ
         let up = ltb-false (amount network.dmax) (clock_on_arrival network link frame) five.0 in
         record { young = omega (arith, clock_is, up); unshut = six.0 }
 
--- so does one whose arrival has a record
-pub arrived_finds : (s : Scenario) (hs : List Happening) (device : DeviceId) (t : ℕ) (link : LinkId) (cause clock : ℕ)
-    → IsArrivedRecord s hs device t link cause clock → IsSoundArrival s.network device (standpoint s hs device t) clock
-arrived_finds s hs device t link cause clock a =
-    elim a.taken [
-      | inl b ↦ by b.signal (a.frame, a.point, a.way, a.shows, inl (sym b.becomes))
-      | inr (inl b) ↦ by b.signal (a.frame, a.point, a.way, a.shows, inr (inl (sym b.becomes)))
-      | inr (inr b) ↦ by b.signal (a.frame, a.point, a.way, a.shows, inr (inr (sym b.becomes)))
-    ]
-  where
-    by : (signal : Signal) → Goes (arrival_of s hs device t link cause signal) clock → IsSoundArrival s.network device (standpoint s hs device t) clock
-    by (control frame) g = control_finds s.network device link (standpoint s hs device t) frame clock g
-    by (timed octets) g = absurd (no_timed s.network device link (standpoint s hs device t) octets (last_taken hs device t link cause) clock g)
+module _ {s : Scenario} {hs : List Happening} {device : DeviceId} {t : ℕ} {link : LinkId} {cause clock : ℕ}
+    (a : IsArrivedRecord s hs device t link cause clock) where
+  -- so does one whose arrival has a record
+  pub arrived_finds : IsSoundArrival s.network device (standpoint s hs device t) clock
+  arrived_finds =
+      elim a.taken [
+        | inl b ↦ by b.signal (a.frame, a.point, a.way, a.shows, inl (sym b.becomes))
+        | inr (inl b) ↦ by b.signal (a.frame, a.point, a.way, a.shows, inr (inl (sym b.becomes)))
+        | inr (inr b) ↦ by b.signal (a.frame, a.point, a.way, a.shows, inr (inr (sym b.becomes)))
+      ]
+    where
+      by : (signal : Signal) → Goes (arrival_of s hs device t link cause signal) clock → IsSoundArrival s.network
+          device (standpoint s hs device t) clock
+      by (control frame) g = control_finds s.network device link (standpoint s hs device t) frame clock g
+      by (timed octets) g = absurd (no_timed s.network device link (standpoint s hs device t) octets
+          (last_taken hs device t link cause) clock g)
 
--- so its clock is of at most the greatest delay
-pub arrived_young : (s : Scenario) (hs : List Happening) (device : DeviceId) (t : ℕ) (link : LinkId) (cause clock : ℕ)
-    → IsArrivedRecord s hs device t link cause clock → clock ≤ amount s.network.dmax
-arrived_young s hs device t link cause clock a = (arrived_finds s hs device t link cause clock a).young
+  -- so its clock is of at most the greatest delay
+  pub arrived_young : clock ≤ amount s.network.dmax
+  arrived_young = (arrived_finds).young

@@ -24,7 +24,7 @@ earlier_before hs t more =
 -- a device's state at a time is told by the records of earlier times
 pub state_by : (s : Scenario) (gs hs : List Happening) (device : DeviceId) (t : ℕ) → earlier t gs ≡ earlier t hs
     → state_before s gs device t ≡ state_before s hs device t
-state_by s gs hs device t same = ap (λ (es : List Happening). if is_turned_on_at s device t then Integrating else state_after s es device) same
+state_by s gs hs device t same = ap (λ es. if is_turned_on_at s device t then Integrating else state_after s es device) same
 
 outcome_looks : (b : Bool) (P : Type 0) (plan : SyncPlan) (precision : ℤ) (state : State) (adjustment point : ℤ) (cycle : ℕ) (members : Members) → (P → ⊥)
     → MatchBool b P (ripe.Integrates ≡ ripe_as (heard_as plan precision state adjustment point cycle members)) → state ≡ Integrating
@@ -48,7 +48,7 @@ looking_by s ps time device (notes.Permanent other link cause point Integrates) 
     let before = before_hearing (has_joined_at judged other t) (state_before s judged other t) looks in
     let there = sym (state_by s judged ps other t (earlier_before ps t (3 ∷ key caused.frame.members.0 (notes.Permanent other link cause point Ignored))))
     ∙ before in
-    subst (λ (d : DeviceId). state_before s ps d t ≡ Integrating) same there
+    subst (λ d. state_before s ps d t ≡ Integrating) same there
 looking_by s ps time device (notes.Compressed other opened at cycle members Integrates) joined caused =
     grind (arith, same_device, eqb-true, amount, looking_ripe, observation_window, ripe_as, before_hearing)
 looking_by s ps time device other joined caused = absurd cc

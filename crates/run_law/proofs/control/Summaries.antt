@@ -14,8 +14,9 @@ better (Some best) later =
     (decided_and (decided_same (count_of later.members) (count_of best.members)) (decided_less_int later.point.0 best.point.0))) as
     (λ _. (frame : HeardFrame) × IsBetterOf (Some best) later frame) [ inl behind ↦ (best, inl (behind, refl)) | inr other ↦ (later, inr (other, refl)) ]
 
-pub one_more : (s : Summary) (acc : List Hearing) (h : Hearing) → Summarizes s acc → (t : Summary) × Summarizes t (acc ++ h ∷ [])
-one_more s acc h is = by h.within refl h.channel refl
+pub one_more : {s : Summary} {acc : List Hearing} (h : Hearing) → Summarizes s acc
+    → (t : Summary) × Summarizes t (acc ++ h ∷ [])
+one_more {s} {acc} h is = by h.within refl h.channel refl
   where
     by : (b : Bool) → h.within ≡ b → (c : Channel) → h.channel ≡ c → (t : Summary) × Summarizes t (acc ++ h ∷ [])
     by false e c f = (record { best_a = s.best_a; best_b = s.best_b; outside = union s.outside h.frame.members }, hears_outside s acc h e is)
@@ -53,7 +54,7 @@ verdict_of s heard not_at = elim (decided_or (qualifies s.plan.threshold heard.b
 pub summary_from : (rest acc : List Hearing) (s : Summary) → Summarizes s acc → (t : Summary) × Summarizes t (acc ++ rest)
 summary_from [] acc s is = (s, subst (Summarizes s) (sym (append-nil acc)) is)
 summary_from (h ∷ rest) acc s is =
-    let more = one_more s acc h is in
+    let more = one_more h is in
     let all = summary_from rest (acc ++ h ∷ []) more.0 more.1 in
     (all.0, subst (Summarizes all.0) (append_assoc acc (h ∷ []) rest) all.1)
 

@@ -60,19 +60,21 @@ pub some_outcome : (network : Network) (device : DeviceId) (state : State) (adju
 some_outcome network device state adjustment points frame point =
     by_kind (is_cm network device) (λ is. IsCollectedOrDropped network points _ _ is) _ (collected network points _ _)
 
-pub heard_integrates : (plan : SyncPlan) (precision : ℤ) (state : State) (adjustment point : ℤ) (cycle : ℕ) (members : Members)
-    → heard_as plan precision state adjustment point cycle members ≡ judgements.Integrates → state ≡ states.Integrating
-heard_integrates plan precision states.Off adjustment point cycle members e = absurd cc
-heard_integrates plan precision states.Integrating adjustment point cycle members e = refl
-heard_integrates plan precision states.Joining adjustment point cycle members e = absurd (by_schedule _ e)
-heard_integrates plan precision states.Synchronised adjustment point cycle members e = absurd (by_schedule _ e)
+module _ (plan : SyncPlan) (precision : ℤ) where
+  pub heard_integrates : (state : State) (adjustment point : ℤ) (cycle : ℕ) (members : Members)
+      → heard_as plan precision state adjustment point cycle members ≡ judgements.Integrates
+      → state ≡ states.Integrating
+  heard_integrates states.Off adjustment point cycle members e = absurd cc
+  heard_integrates states.Integrating adjustment point cycle members e = refl
+  heard_integrates states.Joining adjustment point cycle members e = absurd (by_schedule _ e)
+  heard_integrates states.Synchronised adjustment point cycle members e = absurd (by_schedule _ e)
 
-pub looking_ripe : (plan : SyncPlan) (precision : ℤ) (state : State) (adjustment point : ℤ) (cycle : ℕ) (members : Members)
-    → ripe.Integrates ≡ ripe_as (heard_as plan precision state adjustment point cycle members) → state ≡ Integrating
-looking_ripe plan precision Off adjustment point cycle members e = absurd cc
-looking_ripe plan precision Integrating adjustment point cycle members e = refl
-looking_ripe plan precision Joining adjustment point cycle members e = grind (arith, ripe_as)
-looking_ripe plan precision Synchronised adjustment point cycle members e = grind (arith, ripe_as)
+  pub looking_ripe : (state : State) (adjustment point : ℤ) (cycle : ℕ) (members : Members)
+      → ripe.Integrates ≡ ripe_as (heard_as plan precision state adjustment point cycle members) → state ≡ Integrating
+  looking_ripe Off adjustment point cycle members e = absurd cc
+  looking_ripe Integrating adjustment point cycle members e = refl
+  looking_ripe Joining adjustment point cycle members e = grind (arith, ripe_as)
+  looking_ripe Synchronised adjustment point cycle members e = grind (arith, ripe_as)
 
 pub in_time_not : (b : Bool) → ripe_as (heard_by_schedule b) ≡ ripe.Integrates → ⊥
 in_time_not true e = cc

@@ -5,9 +5,9 @@ use Rattle.{run_law.specs.device.{LocalClocks.{Reaches, changes_adjustment}, Sta
 use Rattle.run_law.specs.declared.note.NoteBody.TheVariants as notes
 
 -- a clock reaches a value by the records of earlier times
-pub reaches_by : (s : Scenario) (gs hs : List Happening) (device : DeviceId) (v : ℤ) (t : ℕ) → earlier t gs ≡ earlier t hs → Reaches s gs device v t
-    → Reaches s hs device v t
-reaches_by s gs hs device v t same h = grind (arith, option_map_or, time_of, last_or, filter, adjustment_after)
+pub reaches_by : {s : Scenario} {gs : List Happening} (hs : List Happening) {device : DeviceId} {v : ℤ} {t : ℕ}
+    → earlier t gs ≡ earlier t hs → Reaches s gs device v t → Reaches s hs device v t
+reaches_by hs same h = grind (arith, option_map_or, time_of, last_or, filter, adjustment_after)
 
 -- the test of the state
 pub is_in : (state : State) → is_synchronised state ≡ true → state ≡ Synchronised

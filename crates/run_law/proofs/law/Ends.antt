@@ -19,10 +19,12 @@ one_of locals r a b x y (inl e) = subst (Contains locals) (sym e) x
 one_of locals r a b x y (inr e) = subst (Contains locals) (sym e) y
 
 -- the next one may be an end
-pub with_next : (locals : List Units) (count : ℕ) (least greatest local low high : Units) → AreEndsOf locals count least greatest
-    → count < length locals → ((d : Units) → slice_index_or locals count d ≡ local) → (low ≡ least) ⊎ (low ≡ local) → low.0 ≤ℤ least.0 → low.0 ≤ℤ local.0
-    → (high ≡ greatest) ⊎ (high ≡ local) → greatest.0 ≤ℤ high.0 → local.0 ≤ℤ high.0 → AreEndsOf locals (count + 1) low high
-with_next locals count least greatest local low high ends there at one below under other above over =
+pub with_next : {locals : List Units} {count : ℕ} {least greatest : Units} (local low high : Units)
+    → AreEndsOf locals count least greatest → count < length locals
+    → ((d : Units) → slice_index_or locals count d ≡ local) → (low ≡ least) ⊎ (low ≡ local) → low.0 ≤ℤ least.0
+    → low.0 ≤ℤ local.0 → (high ≡ greatest) ⊎ (high ≡ local) → greatest.0 ≤ℤ high.0 → local.0 ≤ℤ high.0
+    → AreEndsOf locals (count + 1) low high
+with_next {locals} {count} {least} {greatest} local low high ends there at one below under other above over =
     let here : Contains locals local = (count, there, at local) in
     record {
       least_there = one_of locals low least local ends.least_there here one;

@@ -81,52 +81,55 @@ given s e lawful i =
     in
     record { range = in_all IsEventInRange s.events (length at.0) e lawful.events there; before = at.0; within = lawful.within at.0 at.1 e at.2 }
 
--- a hold that an event sets is at most the link's
-set_hold_most : (s : Scenario) (link : LinkId) (l : Link) (way : Way) → IsLawful s → link_at s.network link ≡ Some l → pos 0 ≤ℤ l.hold.0 → (e : Event)
-    → IsIn e s.events → (v : ℕ) → hold_set link way e.what ≡ Some v → v ≤ amount l.hold
-set_hold_most s link l way lawful there least e i v is =
-    let set = sets_hold link way e.what v is in
-    let known = given s e lawful i in
-    let begun = known.range.hold link set.way set.delay set.is in
-    by_lt_z {P = v ≤ amount l.hold} l.hold.0 set.delay.0
-    (λ long. absurd (known.within Hold (record {
-      link = link;
-      way = set.way;
-      delay = set.delay;
-      what = set.is;
-      long = closed (λ (k : Link). k.hold.0 <ℤ set.delay.0) (link_at s.network link) l there long;
-    })))
-    (λ short. omega (arith, ints, short, begun, least, set.sets))
+module _ (s : Scenario) (link : LinkId) (l : Link) (way : Way) where
+  -- a hold that an event sets is at most the link's
+  set_hold_most : IsLawful s → link_at s.network link ≡ Some l → pos 0 ≤ℤ l.hold.0 → (e : Event) → IsIn e s.events
+      → (v : ℕ) → hold_set link way e.what ≡ Some v → v ≤ amount l.hold
+  set_hold_most lawful there least e i v is =
+      let set = sets_hold link way e.what v is in
+      let known = given s e lawful i in
+      let begun = known.range.hold link set.way set.delay set.is in
+      by_lt_z {P = v ≤ amount l.hold} l.hold.0 set.delay.0
+      (λ long. absurd (known.within Hold (record {
+        link = link;
+        way = set.way;
+        delay = set.delay;
+        what = set.is;
+        long = closed (λ (k : Link). k.hold.0 <ℤ set.delay.0) (link_at s.network link) l there long;
+      })))
+      (λ short. omega (arith, ints, short, begun, least, set.sets))
 
--- so is what a frame is held at any time
-pub hold_most : (s : Scenario) (link : LinkId) (l : Link) (way : Way) (t : ℕ) → IsLawful s → link_at s.network link ≡ Some l → pos 0 ≤ℤ l.hold.0
-    → hold_at s link way t ≤ amount l.hold
-hold_most s link l way t lawful there least =
-    last_is (λ v. v ≤ amount l.hold) s (hold_set link way) 0 t (omega arith) (set_hold_most s link l way lawful there least)
+  -- so is what a frame is held at any time
+  pub hold_most : (t : ℕ) → IsLawful s → link_at s.network link ≡ Some l → pos 0 ≤ℤ l.hold.0
+      → hold_at s link way t ≤ amount l.hold
+  hold_most t lawful there least =
+      last_is (λ v. v ≤ amount l.hold) s (hold_set link way) 0 t (omega arith) (set_hold_most lawful there least)
 
--- a wire delay that an event sets is at least 1
-set_delay_least : (s : Scenario) (link : LinkId) (l : Link) (way : Way) → IsLawful s → link_at s.network link ≡ Some l → pos 1 ≤ℤ l.wire.0 → (e : Event)
-    → IsIn e s.events → (v : ℕ) → wire_set link way e.what ≡ Some v → 1 ≤ v
-set_delay_least s link l way lawful there least e i v is =
-    let set = sets_wire link way e.what v is in
-    let known = given s e lawful i in
-    by_lt_z {P = 1 ≤ v} set.delay.0 l.wire.0
-    (λ short. absurd (known.within Wire (record {
-      link = link;
-      way = set.way;
-      delay = set.delay;
-      what = set.is;
-      other = closed (λ (k : Link). (set.delay.0 <ℤ k.wire.0) ⊎ ((k.wire.0 +ℤ k.jitter.0) <ℤ set.delay.0)) (link_at s.network link) l there (inl short);
-    })))
-    (λ long. omega (arith, ints, long, least, set.sets))
+  -- a wire delay that an event sets is at least 1
+  set_delay_least : IsLawful s → link_at s.network link ≡ Some l → pos 1 ≤ℤ l.wire.0 → (e : Event) → IsIn e s.events
+      → (v : ℕ) → wire_set link way e.what ≡ Some v → 1 ≤ v
+  set_delay_least lawful there least e i v is =
+      let set = sets_wire link way e.what v is in
+      let known = given s e lawful i in
+      by_lt_z {P = 1 ≤ v} set.delay.0 l.wire.0
+      (λ short. absurd (known.within Wire (record {
+        link = link;
+        way = set.way;
+        delay = set.delay;
+        what = set.is;
+        other = closed (λ (k : Link). (set.delay.0 <ℤ k.wire.0) ⊎ ((k.wire.0 +ℤ k.jitter.0) <ℤ set.delay.0))
+            (link_at s.network link) l there (inl short);
+      })))
+      (λ long. omega (arith, ints, long, least, set.sets))
 
--- so is the wire delay at any time
-pub delay_least : (s : Scenario) (link : LinkId) (l : Link) (way : Way) (t : ℕ) → IsLawful s → link_at s.network link ≡ Some l → pos 1 ≤ℤ l.wire.0
-    → 1 ≤ delay_at s link way t
-delay_least s link l way t lawful there least =
-    let nominal : wire_of s.network link ≡ amount l.wire = ap (λ (o : Option Link). option_map_or (λ k. amount k.wire) o 0) there in
-    last_is (λ v. 1 ≤ v) s (wire_set link way) (wire_of s.network link) t (omega (arith, ints, nominal, least))
-    (set_delay_least s link l way lawful there least)
+  -- so is the wire delay at any time
+  pub delay_least : (t : ℕ) → IsLawful s → link_at s.network link ≡ Some l → pos 1 ≤ℤ l.wire.0
+      → 1 ≤ delay_at s link way t
+  delay_least t lawful there least =
+      let nominal : wire_of s.network link ≡ amount l.wire =
+      ap (λ (o : Option Link). option_map_or (λ k. amount k.wire) o 0) there in
+      last_is (λ v. 1 ≤ v) s (wire_set link way) (wire_of s.network link) t (omega (arith, ints, nominal, least))
+      (set_delay_least lawful there least)
 
 -- ---- a clock over a hold
 

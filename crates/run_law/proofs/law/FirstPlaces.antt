@@ -68,7 +68,7 @@ split_from {N} place IsDue p ps (q ∷ qs) founded before =
             | inr (inl e) ↦ subst (λ (m : N). IsBefore (place m) p) (sym e) lt
             | inr (inr none) ↦ absurd none
           ]) in
-          subst (λ (t : List N). IsSplit place t p) moved there
+          subst (λ t. IsSplit place t p) moved there
       | inr not ↦ record {
         front = ps;
         rest = q ∷ qs;
@@ -86,9 +86,9 @@ pub split : {N : Type 0} (place : N → List ℕ) (IsDue : List N → N → Type
 split place IsDue ns p founded = split_from place IsDue p [] ns founded (λ n i. absurd i)
 
 -- what is before the place is in the front
-pub in_front_of : {N : Type 0} (place : N → List ℕ) (ns : List N) (p : List ℕ) (at : IsSplit place ns p) (n : N) → IsIn n ns → IsBefore (place n) p
-    → IsIn n at.front
-in_front_of {N} place ns p at n i lt =
+pub in_front_of : {N : Type 0} {place : N → List ℕ} {ns : List N} {p : List ℕ} (at : IsSplit place ns p) (n : N)
+    → IsIn n ns → IsBefore (place n) p → IsIn n at.front
+in_front_of {N} at n i lt =
     elim (in_parts n at.front at.rest (subst (IsIn n) at.whole i)) [ inl l ↦ l | inr r ↦ absurd (at.none n r lt) ]
 
 -- ---- records by their numbers
@@ -132,13 +132,13 @@ numbered_front ps qs (suc n) h e = in_front ps qs n h e
 pub numbered_next : (ps qs : List Happening) (h : Happening) (n : ℕ) → n ≡ length ps + 1 → numbered (ps ++ h ∷ qs) n ≡ Some h
 numbered_next ps qs h n e =
     let next : suc (length ps) ≡ n = omega (arith, e) in
-    subst (λ (m : ℕ). numbered (ps ++ h ∷ qs) m ≡ Some h) next (at_length ps qs h)
+    subst (λ m. numbered (ps ++ h ∷ qs) m ≡ Some h) next (at_length ps qs h)
 
 -- a record of a founded list is found by its number
 pub by_number : (s : Scenario) (hs : List Happening) (h : Happening) → IsFounded place_of (IsDue s) hs → IsIn h hs → numbered hs h.note.number ≡ Some h
 by_number s hs h founded i =
     let at = founded_at s hs h founded i in
-    subst (λ (t : List Happening). numbered t h.note.number ≡ Some h) (sym at.whole) (numbered_next at.front at.rest h h.note.number at.due.number)
+    subst (λ t. numbered t h.note.number ≡ Some h) (sym at.whole) (numbered_next at.front at.rest h h.note.number at.due.number)
 
 -- what a founded list has by a number has that number
 pub number_is : (s : Scenario) (hs : List Happening) (n : ℕ) (h : Happening) → IsFounded place_of (IsDue s) hs → numbered hs n ≡ Some h → h.note.number ≡ n
@@ -159,13 +159,15 @@ number_is s hs (suc n) h founded e =
 -- ---- a record that is due is there
 
 -- where the records of a run part at the place of one that is due, it is the next
-pub due_is_there : (s : Scenario) (mark : List ℕ) (hs : List Happening) (x : Happening) (at : IsSplit place_of hs (place_of x))
-    → IsRun place_of (IsDue s) mark hs → IsDue s at.front x → IsBefore (place_of x) mark → IsIn x hs
-due_is_there s mark hs x at run due here =
+pub due_is_there : {s : Scenario} {mark : List ℕ} {hs : List Happening} {x : Happening}
+    (at : IsSplit place_of hs (place_of x)) → IsRun place_of (IsDue s) mark hs → IsDue s at.front x
+    → IsBefore (place_of x) mark → IsIn x hs
+due_is_there {s} {mark} {x} at run due here =
     let parts = subst (IsRun place_of (IsDue s) mark) at.whole run in
-    let next = due_is_next place_of (IsDue s) mark (due_is_determined s) at.front at.rest x parts at.before at.none due here in
+    let next = due_is_next (IsDue s) (due_is_determined s) at.front at.rest x parts at.before at.none due here in
     subst (IsIn x) (sym at.whole) (in_right x at.front at.rest (subst (IsIn x) (sym next.1) (inl refl)))
 
 -- where the records part at a place of a time, the front has all those of earlier times
-pub same_earlier : (t : ℕ) (more : List ℕ) (hs : List Happening) (at : IsSplit place_of hs (t ∷ more)) → earlier t at.front ≡ earlier t hs
-same_earlier t more hs at = grind (arith, earlier, none_kept, nat_lt, time_of, cases_lt, le-ltb, append-nil, filter-append)
+pub same_earlier : (t : ℕ) (more : List ℕ) {hs : List Happening} (at : IsSplit place_of hs (t ∷ more))
+    → earlier t at.front ≡ earlier t hs
+same_earlier t more at = grind (arith, earlier, none_kept, nat_lt, time_of, cases_lt, le-ltb, append-nil, filter-append)

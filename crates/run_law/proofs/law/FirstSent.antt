@@ -20,43 +20,50 @@ use Rattle.run_law.specs.declared.steps.Arrival.TheVariants as arrivals
 
 -- ---- the way up from a master
 
--- a master is the parent of no link
-no_parent : (n : Network) (master : DeviceId) (link : LinkId) (l : Link) → IsInRange n → KeepsRules n → link_at n link ≡ Some l
-    → has_role n is_master master ≡ true → l.parent.0 ≡ master.0 → ⊥
-no_parent n master link l range keeps there role same =
-    let joint = keeps Joints link.0 l there in
-    let switch = opened (λ (d : Device). d.channel ≡ Some joint.0) (device_at n l.parent) joint.1 in
-    let known : IsDeviceInRange switch.0 = in_all IsDeviceInRange n.device l.parent.0 switch.0 range.devices switch.1 in
-    let at : device_at n master ≡ Some switch.0 = subst (λ (i : ℕ). slice_get n.device i ≡ Some switch.0) same switch.1 in
-    let is : is_master switch.0.role ≡ true = subst (λ (o : Option Device). option_map_or (λ d. is_master d.role) o false ≡ true) at role in
-    let ends = master_ends switch.0.role is in
-    both_ways (is_some switch.0.channel) (known.switches ∙ not_from_true (is_end_system switch.0.role) ends) (ap (λ (c : Option Channel). is_some c) switch.2)
+module _ {n : Network} (master : DeviceId) (link : LinkId) (l : Link) (range : IsInRange n) (keeps : KeepsRules n)
+    (there : link_at n link ≡ Some l) (role : has_role n is_master master ≡ true) where
+  -- a master is the parent of no link
+  no_parent : l.parent.0 ≡ master.0 → ⊥
+  no_parent same =
+      let joint = keeps Joints link.0 l there in
+      let switch = opened (λ (d : Device). d.channel ≡ Some joint.0) (device_at n l.parent) joint.1 in
+      let known : IsDeviceInRange switch.0 =
+      in_all IsDeviceInRange n.device l.parent.0 switch.0 range.devices switch.1 in
+      let at : device_at n master ≡ Some switch.0 =
+      subst (λ (i : ℕ). slice_get n.device i ≡ Some switch.0) same switch.1 in
+      let is : is_master switch.0.role ≡ true =
+      subst (λ (o : Option Device). option_map_or (λ d. is_master d.role) o false ≡ true) at role in
+      let ends = master_ends switch.0.role is in
+      both_ways (is_some switch.0.channel) (known.switches ∙ not_from_true (is_end_system switch.0.role) ends)
+      (ap (λ (c : Option Channel). is_some c) switch.2)
 
--- so it sends up
-way_is_up : (n : Network) (master : DeviceId) (link : LinkId) (l : Link) → IsInRange n → KeepsRules n → link_at n link ≡ Some l
-    → has_role n is_master master ≡ true → way_from n master link ≡ Up
-way_is_up n master link l range keeps there role =
-    let parent : is_parent_of n master link ≡ (l.parent.0 == master.0) = ap (λ (o : Option Link). option_map_or (λ k. k.parent.0 == master.0) o false) there in
-    ap (λ (b : Bool). if b then Down else Up) (parent ∙ ne_eqb l.parent.0 master.0 (no_parent n master link l range keeps there role))
+  -- so it sends up
+  way_is_up : way_from n master link ≡ Up
+  way_is_up =
+      let parent : is_parent_of n master link ≡ (l.parent.0 == master.0) =
+      ap (λ (o : Option Link). option_map_or (λ k. k.parent.0 == master.0) o false) there in
+      ap (λ (b : Bool). if b then Down else Up) (parent ∙ ne_eqb l.parent.0 master.0 (no_parent))
 
 -- ---- the leaving
 
--- what is sent has this frame
-sent_frame : (s : Scenario) (ps : List Happening) (h : Happening) (master : DeviceId) (cycle : ℕ) → IsDue s ps h → h.note.body ≡ notes.Sent master cycle
-    → h.frame ≡ Some (dispatched_frame s.network master cycle)
-sent_frame s ps h master cycle due is = ap (λ (x : Happening). x.frame) due.same ∙ ap (frame_by s.network ps) is
+module _ {s : Scenario} {ps : List Happening} {h : Happening} (master : DeviceId) (cycle : ℕ) (due : IsDue s ps h)
+    (is : h.note.body ≡ notes.Sent master cycle) where
+  -- what is sent has this frame
+  sent_frame : h.frame ≡ Some (dispatched_frame s.network master cycle)
+  sent_frame = ap (λ (x : Happening). x.frame) due.same ∙ ap (frame_by s.network ps) is
 
--- what sends is a master
-sent_by_master : (s : Scenario) (ps : List Happening) (h : Happening) (master : DeviceId) (cycle : ℕ) → IsDue s ps h → h.note.body ≡ notes.Sent master cycle
-    → has_role s.network is_master master ≡ true
-sent_by_master s ps h master cycle due is =
-    let there : IsCaused s ps h.note.time (notes.Sent master cycle) = subst (IsCaused s ps h.note.time) is due.cause in
-    there.master
+  -- what sends is a master
+  sent_by_master : has_role s.network is_master master ≡ true
+  sent_by_master =
+      let there : IsCaused s ps h.note.time (notes.Sent master cycle) =
+      subst (IsCaused s ps h.note.time) is due.cause in
+      there.master
 
 -- the time that a clock shows to have gone by, while a lawful master holds a frame, is at most dmax
-hold_is_young : (s : Scenario) (master : DeviceId) (link : LinkId) (l : Link) (t : ℕ) → IsLawful s → link_at s.network link ≡ Some l
-    → s.reading master (leaving_time s link t) - s.reading master t ≤ amount s.network.dmax
-hold_is_young s master link l t lawful there =
+hold_is_young : {s : Scenario} (master : DeviceId) (link : LinkId) (l : Link) (t : ℕ) → IsLawful s
+    → link_at s.network link ≡ Some l → s.reading master
+    (leaving_time s link t) - s.reading master t ≤ amount s.network.dmax
+hold_is_young {s} master link l t lawful there =
     let n = s.network in
     let known : IsLinkInRange n l = in_all (IsLinkInRange n) n.link link.0 l lawful.range.links there in
     let tree = rules_give_trees n (shape_rules n lawful.rules) in
@@ -85,14 +92,14 @@ whole_departs s ps h master cycle link frame found is of_frame child up correct 
     let clock : ℕ = clock_at_leaving s master frame (time_of h) t in
     let gives : Gives s.network (notes.Sent master cycle) master link = (refl, child) in
     let old : nat_lt (amount s.network.dmax) clock ≡ false = le-ltb (amount s.network.dmax) clock young in
-    let cut : is_cut s link (way_from s.network master link) t ≡ false = ap (λ (w : Way). is_cut s link w t) up ∙ whole in
+    let cut : is_cut s link (way_from s.network master link) t ≡ false = ap (λ w. is_cut s link w t) up ∙ whole in
     record {
       giving = h;
       there = found;
-      gives = subst (λ (b : NoteBody). Gives s.network b master link) (sym is) gives;
+      gives = subst (λ b. Gives s.network b master link) (sym is) gives;
       frame = frame;
       of_frame = of_frame;
-      held = ap (λ (w : Way). time_of h + hold_at s link w (time_of h)) (sym up);
+      held = ap (λ w. time_of h + hold_at s link w (time_of h)) (sym up);
       correct = correct;
       becomes =
           sym (ap (λ (b : Bool). if b then too_old else (if is_cut s link (way_from s.network master link) t then on_cut_way else leaves clock)) old
@@ -129,29 +136,31 @@ sent_before : (u held : ℕ) (r : ℕ) (rest more : List ℕ) → r ≡ 5 → Is
 sent_before u held r rest more five = elim (cases_lt u (u + held)) [ inl lt ↦ inl lt | inr ge ↦ inr (omega (arith, ge), inl (omega (arith, five))) ]
 
 -- a frame that a master sends on a whole way up leaves
-has_left : (s : Scenario) (mark : List ℕ) (hs : List Happening) (h : Happening) (master : DeviceId) (cycle : ℕ) (link : LinkId) (l : Link) → IsLawful s
-    → IsRun place_of (IsDue s) mark hs → IsIn h hs → h.note.body ≡ notes.Sent master cycle
-    → link_at s.network link ≡ Some l → l.child ≡ master → way_from s.network master link ≡ Up
-    → is_broken s master (leaving_time s link (time_of h)) ≡ false → is_cut s link Up (leaving_time s link (time_of h)) ≡ false
-    → ((more : List ℕ) → IsBefore (leaving_time s link (time_of h) ∷ more) mark) → HasLeft s hs (time_of h) h.note.number master link
-has_left s mark hs h master cycle link l lawful run i is there child up correct whole in_time =
+has_left : {s : Scenario} {mark : List ℕ} {hs : List Happening} (h : Happening) (master : DeviceId) (cycle : ℕ)
+    (link : LinkId) (l : Link) → IsLawful s → IsRun place_of (IsDue s) mark hs → IsIn h hs
+    → h.note.body ≡ notes.Sent master cycle → link_at s.network link ≡ Some l → l.child ≡ master
+    → way_from s.network master link ≡ Up → is_broken s master (leaving_time s link (time_of h)) ≡ false
+    → is_cut s link Up (leaving_time s link (time_of h)) ≡ false
+    → ((more : List ℕ) → IsBefore (leaving_time s link (time_of h) ∷ more) mark)
+    → HasLeft s hs (time_of h) h.note.number master link
+has_left {s} {mark} {hs} h master cycle link l lawful run i is there child up correct whole in_time =
     let t : ℕ = leaving_time s link (time_of h) in
     let frame : Pcf = dispatched_frame s.network master cycle in
     let clock : ℕ = clock_at_leaving s master frame (time_of h) t in
     let body : NoteBody = notes.Left master link h.note.number clock in
     let before = founded_at s hs h run.founded i in
-    let of_frame = sent_frame s before.front h master cycle before.due is in
+    let of_frame = sent_frame master cycle before.due is in
     let at = split place_of (IsDue s) hs (t ∷ 8 ∷ master.0 ∷ link.0 ∷ h.note.number ∷ []) run.founded in
     let sooner : IsBefore (place_of h) (t ∷ 8 ∷ master.0 ∷ link.0 ∷ h.note.number ∷ []) = sent_before (time_of h) (hold_at s link Up (time_of h))
     (rank h.note.body) (key (members_in h) h.note.body) (master.0 ∷ link.0 ∷ h.note.number ∷ []) (ap rank is) in
     let front = front_founded place_of (IsDue s) at.front at.rest (subst (IsFounded place_of (IsDue s)) at.whole run.founded) in
-    let found = by_number s at.front h front (in_front_of place_of hs _ at h i sooner) in
-    let young : clock ≤ amount s.network.dmax = omega (arith, hold_is_young s master link l (time_of h) lawful there) in
+    let found = by_number s at.front h front (in_front_of {place = place_of} {ns = hs} at h i sooner) in
+    let young : clock ≤ amount s.network.dmax = omega (arith, hold_is_young master link l (time_of h) lawful there) in
     let departs = whole_departs s at.front h master cycle link frame found is of_frame
     (closed (λ (k : Link). k.child ≡ master) (link_at s.network link) l there child) up correct whole young in
     record {
       leaving = happening s.network at.front (next_note at.front t body);
-      there = due_is_there s mark hs (happening s.network at.front (next_note at.front t body)) at run (next_due s at.front t body departs) (in_time _);
+      there = due_is_there {s = s} {mark = mark} {hs = hs} {x = happening s.network at.front (next_note at.front t body)} at run (next_due s at.front t body departs) (in_time _);
       clock = clock;
       body = refl;
       at = refl;
@@ -179,15 +188,16 @@ passed_on true true frame point = inr (record { frame = frame; point = point; wa
 passed_on true false frame point = inr (record { frame = frame; point = point; way = Down; is = inr (inr refl) })
 passed_on false parent frame point = inr (record { frame = frame; point = point; way = Up; is = inl refl })
 
--- a frame with a fault, or with none, is dropped or taken
-judged : (network : Network) (device : DeviceId) (link : LinkId) (at : Standpoint) (frame : Pcf) (fault : Option Reason)
-    → Outcome (frame_or_fault network device link at frame fault)
-judged network device link at frame (Some reason) = inl (reason, refl)
-judged network device link at frame None = passed_on (is_relay network device) (is_parent_of network device link) _ _
+module _ (network : Network) (device : DeviceId) (link : LinkId) where
+  -- a frame with a fault, or with none, is dropped or taken
+  judged : (at : Standpoint) (frame : Pcf) (fault : Option Reason)
+      → Outcome (frame_or_fault network device link at frame fault)
+  judged at frame (Some reason) = inl (reason, refl)
+  judged at frame None = passed_on (is_relay network device) (is_parent_of network device link) _ _
 
--- so is each control frame that a device finds at its arrival
-outcome : (network : Network) (device : DeviceId) (link : LinkId) (at : Standpoint) (frame : Pcf) → Outcome (control_arrival network device link at (Ok frame))
-outcome network device link at frame = judged network device link at frame (frame_fault network device link at frame)
+  -- so is each control frame that a device finds at its arrival
+  outcome : (at : Standpoint) (frame : Pcf) → Outcome (control_arrival network device link at (Ok frame))
+  outcome at frame = judged at frame (frame_fault network device link at frame)
 
 -- where a device stands, by the records of earlier times
 abbrev standpoint_by : Scenario → DeviceId → ℕ → List Happening → Standpoint
@@ -199,32 +209,38 @@ standpoint_by s device t es = record {
 }
 
 -- among all records of earlier times it stands in one place
-same_standpoint : (s : Scenario) (device : DeviceId) (t : ℕ) (more rest : List ℕ) (hs : List Happening) (at : IsSplit place_of hs (t ∷ more))
-    (by : IsSplit place_of hs (t ∷ rest)) → standpoint s by.front device t ≡ standpoint s at.front device t
-same_standpoint s device t more rest hs at by = ap (standpoint_by s device t) (same_earlier t rest hs by ∙ sym (same_earlier t more hs at))
+same_standpoint : (s : Scenario) (device : DeviceId) (t : ℕ) (more rest : List ℕ) {hs : List Happening}
+    (at : IsSplit place_of hs (t ∷ more)) (by : IsSplit place_of hs (t ∷ rest))
+    → standpoint s by.front device t ≡ standpoint s at.front device t
+same_standpoint s device t more rest {hs} at by =
+    ap (standpoint_by s device t) (same_earlier t rest by ∙ sym (same_earlier t more {hs = hs} at))
 
--- a frame that is on its way arrives, given any records with that of its leaving
-arrives_as : (s : Scenario) (ps : List Happening) (leaving : Happening) (device : DeviceId) (link : LinkId) (t : ℕ) (frame : Pcf) (a : Arrival)
-    → numbered ps leaving.note.number ≡ Some leaving → Arrives s leaving device link t (control (Ok frame))
-    → control_arrival s.network device link (standpoint s ps device t) (Ok frame) ≡ a → ArrivesAs s ps device t link leaving.note.number a
-arrives_as s ps leaving device link t frame a found arrives is = grind (arith, control)
+module _ (s : Scenario) (ps : List Happening) (leaving : Happening) (device : DeviceId) (link : LinkId) (t : ℕ)
+    (frame : Pcf) where
+  -- a frame that is on its way arrives, given any records with that of its leaving
+  arrives_as : (a : Arrival) → numbered ps leaving.note.number ≡ Some leaving
+      → Arrives s leaving device link t (control (Ok frame))
+      → control_arrival s.network device link (standpoint s ps device t) (Ok frame) ≡ a
+      → ArrivesAs s ps device t link leaving.note.number a
+  arrives_as a found arrives is = grind (arith, control)
 
--- the record of a frame that is taken
-arrived_record : (s : Scenario) (ps : List Happening) (leaving : Happening) (device : DeviceId) (link : LinkId) (t : ℕ) (frame : Pcf)
-    → numbered ps leaving.note.number ≡ Some leaving → Arrives s leaving device link t (control (Ok frame))
-    → (taken : IsTakenOn (control_arrival s.network device link (standpoint s ps device t) (Ok frame))) → IsArrivedRecord s ps device t link leaving.note.number
-    taken.frame.clock
-arrived_record s ps leaving device link t frame found arrives taken = record {
-  frame = taken.frame;
-  point = taken.point;
-  way = taken.way;
-  taken = elim taken.is [
-    | inl is ↦ inl (arrives_as s ps leaving device link t frame (arrivals.Waits taken.frame taken.point) found arrives is)
-    | inr (inl is) ↦ inr (inl (arrives_as s ps leaving device link t frame (arrivals.Passes taken.frame taken.way) found arrives is))
-    | inr (inr is) ↦ inr (inr (arrives_as s ps leaving device link t frame (arrivals.PassesAndWaits taken.frame taken.way taken.point) found arrives is))
-  ];
-  shows = refl;
-}
+  -- the record of a frame that is taken
+  arrived_record : numbered ps leaving.note.number ≡ Some leaving
+      → Arrives s leaving device link t (control (Ok frame))
+      → (taken : IsTakenOn (control_arrival s.network device link (standpoint s ps device t) (Ok frame)))
+      → IsArrivedRecord s ps device t link leaving.note.number taken.frame.clock
+  arrived_record found arrives taken = record {
+    frame = taken.frame;
+    point = taken.point;
+    way = taken.way;
+    taken = elim taken.is [
+      | inl is ↦ inl (arrives_as (arrivals.Waits taken.frame taken.point) found arrives is)
+      | inr (inl is) ↦ inr (inl (arrives_as (arrivals.Passes taken.frame taken.way) found arrives is))
+      | inr (inr is) ↦ inr (inr (arrives_as (arrivals.PassesAndWaits taken.frame taken.way taken.point) found arrives
+          is))
+    ];
+    shows = refl;
+  }
 
 -- the record of a frame that has come
 record HasArrived (s : Scenario) (hs : List Happening) (t number : ℕ) (device : DeviceId) (link : LinkId) : Type 0 where
@@ -234,17 +250,19 @@ record HasArrived (s : Scenario) (hs : List Happening) (t number : ℕ) (device 
   pub comes : ComesTo device link number coming.note.body
 
 -- a record of an earlier time is among those before a place
-pub found_before : (s : Scenario) (hs : List Happening) (t : ℕ) (more : List ℕ) (at : IsSplit place_of hs (t ∷ more)) (h : Happening)
-    → IsFounded place_of (IsDue s) hs → IsIn h hs → time_of h < t → numbered at.front h.note.number ≡ Some h
-found_before s hs t more at h founded i sooner =
+pub found_before : (s : Scenario) {hs : List Happening} (t : ℕ) (more : List ℕ) (at : IsSplit place_of hs (t ∷ more))
+    (h : Happening) → IsFounded place_of (IsDue s) hs → IsIn h hs → time_of h < t
+    → numbered at.front h.note.number ≡ Some h
+found_before s {hs} t more at h founded i sooner =
     let front = front_founded place_of (IsDue s) at.front at.rest (subst (IsFounded place_of (IsDue s)) at.whole founded) in
-    by_number s at.front h front (in_front_of place_of hs (t ∷ more) at h i (inl sooner))
+    by_number s at.front h front (in_front_of {place = place_of} {ns = hs} {p = t ∷ more} at h i (inl sooner))
 
 -- a control frame that is on its way comes
-has_arrived : (s : Scenario) (mark : List ℕ) (hs : List Happening) (leaving : Happening) (device : DeviceId) (link : LinkId) (t : ℕ) (frame : Pcf)
-    → IsRun place_of (IsDue s) mark hs → IsIn leaving hs → time_of leaving < t → Arrives s leaving device link t (control (Ok frame))
-    → IsBefore (t ∷ 14 ∷ []) mark → HasArrived s hs t leaving.note.number device link
-has_arrived s mark hs leaving device link t frame run i sooner arrives in_time =
+has_arrived : {s : Scenario} {mark : List ℕ} {hs : List Happening} {leaving : Happening} {device : DeviceId}
+    {link : LinkId} {t : ℕ} (frame : Pcf) → IsRun place_of (IsDue s) mark hs → IsIn leaving hs → time_of leaving < t
+    → Arrives s leaving device link t (control (Ok frame)) → IsBefore (t ∷ 14 ∷ []) mark
+    → HasArrived s hs t leaving.note.number device link
+has_arrived {s} {mark} {hs} {leaving} {device} {link} {t} frame run i sooner arrives in_time =
     let number : ℕ = leaving.note.number in
     let at = split place_of (IsDue s) hs (t ∷ 2 ∷ device.0 ∷ link.0 ∷ number ∷ []) run.founded in
     let by = split place_of (IsDue s) hs (t ∷ 13 ∷ device.0 ∷ link.0 ∷ number ∷ []) run.founded in
@@ -252,11 +270,12 @@ has_arrived s mark hs leaving device link t frame run i sooner arrives in_time =
       | inr taken ↦
           let body : NoteBody = notes.Arrived device link number taken.frame.clock in
           let coming : Happening = happening s.network at.front (next_note at.front t body) in
-          let arrived = arrived_record s at.front leaving device link t frame (found_before s hs t _ at leaving run.founded i sooner) arrives taken in
+          let arrived = arrived_record s at.front leaving device link t frame
+          (found_before s {hs = hs} t _ at leaving run.founded i sooner) arrives taken in
           record {
             coming = coming;
             there =
-                due_is_there s mark hs coming at run (next_due s at.front t body arrived)
+                due_is_there {s = s} {mark = mark} {hs = hs} {x = coming} at run (next_due s at.front t body arrived)
                 (chain (place_of coming) (t ∷ 14 ∷ []) mark (inr (refl, inl (omega arith))) in_time);
             at = refl;
             comes = inl (taken.frame.clock, refl);
@@ -264,15 +283,16 @@ has_arrived s mark hs leaving device link t frame run i sooner arrives in_time =
       | inl dropped ↦
           let body : NoteBody = notes.Dropped device link number dropped.0 in
           let coming : Happening = happening s.network by.front (next_note by.front t body) in
-          let stands = same_standpoint s device t _ _ hs at by in
+          let stands = same_standpoint s device t _ _ {hs = hs} at by in
           let is : control_arrival s.network device link (standpoint s by.front device t) (Ok frame) ≡ arrivals.Dropped dropped.0 =
-          ap (λ (p : Standpoint). control_arrival s.network device link p (Ok frame)) stands ∙ dropped.1 in
-          let drops = arrives_as s by.front leaving device link t frame (arrivals.Dropped dropped.0) (found_before s hs t _ by leaving run.founded i sooner)
+          ap (λ p. control_arrival s.network device link p (Ok frame)) stands ∙ dropped.1 in
+          let drops = arrives_as s by.front leaving device link t frame (arrivals.Dropped dropped.0)
+          (found_before s t _ by leaving run.founded i sooner)
           arrives is in
           record {
             coming = coming;
             there =
-                due_is_there s mark hs coming by run (next_due s by.front t body (inl drops))
+                due_is_there by run (next_due s by.front t body (inl drops))
                 (chain (place_of coming) (t ∷ 14 ∷ []) mark (inr (refl, inl (omega arith))) in_time);
             at = refl;
             comes = inr (dropped.0, refl);
@@ -282,10 +302,11 @@ has_arrived s mark hs leaving device link t frame run i sooner arrives in_time =
 -- ---- the law
 
 -- a frame that left on its way up arrives at the parent of the link
-goes_up : (s : Scenario) (hs : List Happening) (given number : ℕ) (master : DeviceId) (link : LinkId) (l : Link) (switch : DeviceId)
-    (left : HasLeft s hs given number master link) → link_at s.network link ≡ Some l → l.parent ≡ switch → way_from s.network master link ≡ Up
+goes_up : {s : Scenario} {hs : List Happening} {given number : ℕ} {master : DeviceId} {link : LinkId} (l : Link)
+    (switch : DeviceId) (left : HasLeft s hs given number master link) → link_at s.network link ≡ Some l
+    → l.parent ≡ switch → way_from s.network master link ≡ Up
     → Arrives s left.leaving switch link (arrival_time s link given) (control (Ok left.frame))
-goes_up s hs given number master link l switch left there parent up = grind (arith, time_of, launched, option_map, control)
+goes_up l switch left there parent up = grind (arith, time_of, launched, option_map, control)
 
 -- the law: the frames of masters come to the first switches of their ways
 pub sent_frames_come : SentFramesCome
@@ -294,13 +315,13 @@ sent_frames_come s mark ns h master cycle link switch lawful run i is leads corr
     let t : ℕ = leaving_time s link (time_of h) in
     let l = opened (λ (k : Link). (k.child ≡ master) × (k.parent ≡ switch)) (link_at n link) leads in
     let before = founded_at s _ h run.founded i in
-    let up = way_is_up n master link l.0 lawful.range lawful.rules l.1 (sent_by_master s before.front h master cycle before.due is) in
+    let up = way_is_up master link l.0 lawful.range lawful.rules l.1 (sent_by_master master cycle before.due is) in
     let known : IsLinkInRange n l.0 = in_all (IsLinkInRange n) n.link link.0 l.0 lawful.range.links l.1 in
     let least = delay_least s link l.0 Up t lawful l.1 known.wire.least in
-    let left = has_left s mark _ h master cycle link l.0 lawful run i is l.1 l.2.0 up correct whole
+    let left = has_left h master cycle link l.0 lawful run i is l.1 l.2.0 up correct whole
     (λ more. chain (t ∷ more) (arrival_time s link (time_of h) ∷ 14 ∷ []) mark (inl (omega (arith, least))) in_time) in
-    let come = has_arrived s mark _ left.leaving switch link (arrival_time s link (time_of h)) left.frame run left.there (omega (arith, least, left.at))
-    (goes_up s _ (time_of h) h.note.number master link l.0 switch left l.1 l.2.1 up) in_time in
+    let come = has_arrived left.frame run left.there (omega (arith, least, left.at))
+    (goes_up l.0 switch left l.1 l.2.1 up) in_time in
     record {
       leaving = left.leaving;
       left = by_number s _ left.leaving run.founded left.there;

@@ -14,7 +14,7 @@ from_earlier t [] h i = absurd i
 from_earlier t (x ∷ hs) h i =
     elim (cases_lt (time_of x) t) [
       | inl lt ↦ elim (subst (λ (b : Bool). IsIn h (if b then x ∷ earlier t hs else earlier t hs)) (lt-ltb (time_of x) t lt) i) [
-        | inl same ↦ (inl same, subst (λ (y : Happening). time_of y < t) (sym same) lt)
+        | inl same ↦ (inl same, subst (λ y. time_of y < t) (sym same) lt)
         | inr more ↦ let it = from_earlier t hs h more in (inr it.0, it.1)
       ]
       | inr ge ↦ let it =
@@ -24,7 +24,7 @@ from_earlier t (x ∷ hs) h i =
 pub is_earlier : (t : ℕ) (hs : List Happening) (h : Happening) → IsIn h hs → time_of h < t → IsIn h (earlier t hs)
 is_earlier t [] h i lt = i
 is_earlier t (x ∷ hs) h (inl same) lt =
-    let early : nat_lt (time_of x) t ≡ true = ap (λ (y : Happening). nat_lt (time_of y) t) (sym same) ∙ lt-ltb (time_of h) t lt in
+    let early : nat_lt (time_of x) t ≡ true = ap (λ y. nat_lt (time_of y) t) (sym same) ∙ lt-ltb (time_of h) t lt in
     subst (λ (b : Bool). IsIn h (if b then x ∷ earlier t hs else earlier t hs)) (sym early) (inl same)
 is_earlier t (x ∷ hs) h (inr i) lt =
     elim (nat_lt (time_of x) t) as (λ b. IsIn h (if b then x ∷ earlier t hs else earlier t hs))

@@ -128,7 +128,7 @@ pub suffix_more : {X : Type 0} (p : X → Bool) (xs ys : List X) → All (λ x. 
 suffix_more p xs ys h =
     ap (prefix_len p) (reverse-append xs ys)
     ∙ prefix_more p (reverse ys) (reverse xs) (all_turned (λ x. p x ≡ true) ys h)
-    ∙ ap (λ (n : ℕ). n + prefix_len p (reverse xs)) (length-reverse ys)
+    ∙ ap (λ n. n + prefix_len p (reverse xs)) (length-reverse ys)
 
 pub drop_more : {X : Type 0} (n : ℕ) (xs ys : List X) → n ≤ length xs → drop n (xs ++ ys) ≡ drop n xs ++ ys
 drop_more zero xs ys le = refl
@@ -152,7 +152,7 @@ index_of x (y ∷ ys) (inr i) = let rest = index_of x ys i in (suc rest.0, rest.
 pub in_reverse : {X : Type 0} (xs : List X) (x : X) → IsIn x (reverse xs) → IsIn x xs
 in_reverse [] x i = i
 in_reverse {X} (y ∷ ys) x i =
-    elim (in_parts x (reverse ys) (y ∷ []) (subst (λ (l : List X). IsIn x l) (reverse-append (y ∷ []) ys) i)) [
+    elim (in_parts x (reverse ys) (y ∷ []) (subst (λ l. IsIn x l) (reverse-append (y ∷ []) ys) i)) [
       | inl front ↦ inr (in_reverse ys x front)
       | inr (inl e) ↦ inl e
       | inr (inr none) ↦ absurd none
@@ -162,12 +162,12 @@ pub prefix_same : {X : Type 0} (p q : X → Bool) (xs : List X) → ((x : X) →
 prefix_same p q [] same = refl
 prefix_same p q (x ∷ xs) same =
     ap (λ (b : Bool). cond b (1 + prefix_len p xs) 0) (same x (inl refl))
-    ∙ ap (λ (n : ℕ). cond (q x) (1 + n) 0) (prefix_same p q xs (λ y i. same y (inr i)))
+    ∙ ap (λ n. cond (q x) (1 + n) 0) (prefix_same p q xs (λ y i. same y (inr i)))
 
 -- what stands behind the last that passes is the same by a test that agrees on the list
 pub after_same : {X : Type 0} (p q : X → Bool) (xs : List X) → ((x : X) → IsIn x xs → p x ≡ q x) → after_last p xs ≡ after_last q xs
 after_same p q xs same =
-    ap (λ (n : ℕ). drop (length xs - n) xs)
+    ap (λ n. drop (length xs - n) xs)
     (prefix_same (λ x. not (p x)) (λ x. not (q x)) (reverse xs) (λ x i. ap not (same x (in_reverse xs x i))))
 
 -- what is made of an element is there

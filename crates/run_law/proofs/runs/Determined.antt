@@ -3,18 +3,17 @@ use Rattle.{compression.specs.declared.compressed.Compressed.Compressed, net_pla
 use Rattle.{net_plan.specs.declared.event.What.TheVariants.On, sync_state.proofs.LawLemmas.one_verdict, tte_units.proofs.general_lemmas.Integers.same_number}
 use Rattle.run_law.proofs.Words.{◌+ℤ◌, ◌∙◌, ◌∷◌, ◌≡◌, ◌≤ℤ◌, Arrival, ArrivesAs, BecomesPermanent, ChangesState, Departs, DeviceId, Event, Happening}
 use Rattle.run_law.proofs.Words.{IsArrivedRecord, IsCaused, IsDetermined, IsDropped, IsDue, Judgement, LinkId, List, Members, Note, NoteBody, Reason, Scenario}
-use Rattle.run_law.proofs.Words.{State, Summary, Units, VlId, What, Why, [], amount, ap, arith, happening, inl, inr, ints, is_joined_by, key, members_in}
+use Rattle.run_law.proofs.Words.{State, Units, VlId, What, Why, [], amount, ap, arith, happening, inl, inr, ints, is_joined_by, key, members_in}
 use Rattle.run_law.proofs.Words.{numbered, place_of, pos, rank, refl, ripe_as, same_some, slice_get, subst, suc, sym, true, unsigned_abs, zero, ℕ, ℤ}
 use Rattle.run_law.proofs.runs.SameSteps.{arrives_or_departs, arrives_or_ripens, dropped_or_departs, same_arrival, same_departure, same_judgement, same_point}
 use Rattle.{run_law.{proofs.runs.SameSteps.same_ripening, specs.{control.Emissions.Emits, records.Causes.IsOfThisTime}}, sync_state.specs.Verdicts.HasVerdict}
 use Rattle.run_law.specs.{control.Corrections.{ComesToCorrection, standing_before}, runs.DueRecords.{IsClockRecord, IsCorrectedRecord, IsEventRecord}}
-use Rattle.{run_law.specs.{control.Leaving.{leaves, too_old}, device.States.adjustment_before}, sync_state.specs.declared.answers.Verdict.Verdict}
+use Rattle.{run_law.specs.{control.Leaving.leaves, device.States.adjustment_before}, sync_state.specs.declared.answers.Verdict.Verdict}
 use Rattle.run_law.specs.records.Ranks.{sign}
 use Rattle.sync_state.{proofs.membership_lemmas.OneSummary.one_summary, specs.declared.answers.Verdict.TheVariants.{AsyncClique, Corrected, SyncClique}}
 use Rattle.run_law.specs.declared.judgement.Why.TheVariants as whys
 use Rattle.run_law.specs.declared.note.NoteBody.TheVariants as notes
 use Rattle.run_law.specs.declared.steps.Arrival.TheVariants as arrivals
-use Rattle.run_law.specs.declared.steps.Ripe.TheVariants as ripe
 
 -- ---- numbers and ids
 
@@ -39,9 +38,9 @@ same_three a b c x y z us vs e = (cc, cc, cc, cc)
 -- ---- the parts of a record
 
 -- two records of one line are of one event
-same_what : (events : List Event) (time : Units) (line : ℕ) (what other : What) → IsEventRecord events time line what → IsEventRecord events time line other
-    → what ≡ other
-same_what events time line what other a b = grind (arith, slice_get, same_some)
+same_what : {events : List Event} {time : Units} {line : ℕ} {what other : What} → IsEventRecord events time line what
+    → IsEventRecord events time line other → what ≡ other
+same_what a b = grind (arith, slice_get, same_some)
 
 -- the transparent clock of what is taken
 abbrev clock_in : Arrival → ℕ
@@ -64,48 +63,54 @@ shown s hs t device link cause clock a =
       | inr (inr both) ↦ record { arrival = arrivals.PassesAndWaits a.frame a.way a.point; comes = both; shows = a.shows }
     ]
 
-same_clock_on_arrival : (s : Scenario) (hs : List Happening) (t : ℕ) (device : DeviceId) (link : LinkId) (cause clock other : ℕ)
-    → IsArrivedRecord s hs device t link cause clock → IsArrivedRecord s hs device t link cause other → clock ≡ other
-same_clock_on_arrival s hs t device link cause clock other a b = grind (arith, shown, same_arrival)
+same_clock_on_arrival : {s : Scenario} {hs : List Happening} {t : ℕ} {device : DeviceId} {link : LinkId}
+    {cause clock other : ℕ} → IsArrivedRecord s hs device t link cause clock
+    → IsArrivedRecord s hs device t link cause other → clock ≡ other
+same_clock_on_arrival a b = grind (arith, shown, same_arrival)
 
--- a correction point is of one cycle, and comes to one thing
-same_cycle : (s : Scenario) (hs : List Happening) (t : ℕ) (device : DeviceId) (cycle other : ℕ) (v w : Verdict) → ComesToCorrection s hs device t cycle v
-    → ComesToCorrection s hs device t other w → cycle ≡ other
-same_cycle s hs t device cycle other v w a b = same_some _ cycle other a.next b.next
+module _ (s : Scenario) (hs : List Happening) (t : ℕ) (device : DeviceId) (cycle other : ℕ) where
+  -- a correction point is of one cycle, and comes to one thing
+  same_cycle : {v w : Verdict} → ComesToCorrection s hs device t cycle v → ComesToCorrection s hs device t other w
+      → cycle ≡ other
+  same_cycle a b = same_some _ cycle other a.next b.next
 
-same_verdict : (s : Scenario) (hs : List Happening) (t : ℕ) (device : DeviceId) (cycle other : ℕ) (v w : Verdict) → ComesToCorrection s hs device t cycle v
-    → ComesToCorrection s hs device t other w → v ≡ w
-same_verdict s hs t device cycle other v w a b =
-    let heard = one_summary _ a.summary b.summary a.heard b.heard in
-    one_verdict (standing_before s hs device t) a.summary v w a.comes (subst (λ (u : Summary). HasVerdict (standing_before s hs device t) u w) (sym heard)
-    b.comes)
+  same_verdict : {v w : Verdict} → ComesToCorrection s hs device t cycle v → ComesToCorrection s hs device t other w
+      → v ≡ w
+  same_verdict {v} {w} a b =
+      let heard = one_summary _ a.summary b.summary a.heard b.heard in
+      one_verdict (standing_before s hs device t) a.summary v w a.comes
+      (subst (λ u. HasVerdict (standing_before s hs device t) u w) (sym heard)
+      b.comes)
 
-same_corrected : (s : Scenario) (hs : List Happening) (t : ℕ) (device : DeviceId) (cycle other : ℕ) (by gain adjustment later : Units)
-    → IsCorrectedRecord s hs device t cycle by adjustment → IsCorrectedRecord s hs device t other gain later
-    → notes.Corrected device cycle by adjustment ≡ notes.Corrected device other gain later
-same_corrected s hs t device cycle other by gain adjustment later a b =
-    let cycles = same_cycle s hs t device cycle other (Corrected by) (Corrected gain) a.corrected b.corrected in
-    let verdicts = same_verdict s hs t device cycle other (Corrected by) (Corrected gain) a.corrected b.corrected in
-    let gains : by ≡ gain = cc in
-    let sums = same_units adjustment later (a.sum ∙ ap (λ (u : Units). (adjustment_before s hs device t).0 +ℤ u.0) gains ∙ sym b.sum) in
-    ap (λ (c : ℕ). notes.Corrected device c by adjustment) cycles
-    ∙ ap (λ (u : Units). notes.Corrected device other u adjustment) gains
-    ∙ ap (λ (u : Units). notes.Corrected device other gain u) sums
+  same_corrected : {by gain adjustment later : Units} → IsCorrectedRecord s hs device t cycle by adjustment
+      → IsCorrectedRecord s hs device t other gain later
+      → notes.Corrected device cycle by adjustment ≡ notes.Corrected device other gain later
+  same_corrected {by} {gain} {adjustment} {later} a b =
+      let cycles = same_cycle a.corrected b.corrected in
+      let verdicts = same_verdict a.corrected b.corrected in
+      let gains : by ≡ gain = cc in
+      let sums = same_units adjustment later (a.sum ∙ ap (λ (u : Units). (adjustment_before s hs device t).0 +ℤ u.0)
+      gains ∙ sym b.sum) in
+      ap (λ (c : ℕ). notes.Corrected device c by adjustment) cycles
+      ∙ ap (λ (u : Units). notes.Corrected device other u adjustment) gains
+      ∙ ap (λ (u : Units). notes.Corrected device other gain u) sums
 
 -- ---- states
 
 -- a record of this time with number 0 is none
-pub no_cause : (hs : List Happening) (t cause : ℕ) (h : Happening) → cause ≡ 0 → IsOfThisTime hs t cause h → ⊥
-no_cause hs t zero h is there = let none = there.there in cc
-no_cause hs t (suc n) h is there = cc
+pub no_cause : {hs : List Happening} {t : ℕ} (cause : ℕ) {h : Happening} → cause ≡ 0 → IsOfThisTime hs t cause h → ⊥
+no_cause zero is there = let none = there.there in cc
+no_cause (suc n) is there = cc
 
 -- what has one cause is one
-same_cause : (hs : List Happening) (t cause : ℕ) (h g : Happening) → IsOfThisTime hs t cause h → IsOfThisTime hs t cause g → h.note.body ≡ g.note.body
-same_cause hs t cause h g a b = ap (λ (x : Happening). x.note.body) (same_some (numbered hs cause) h g a.there b.there)
+same_cause : {hs : List Happening} {t cause : ℕ} {h g : Happening} → IsOfThisTime hs t cause h
+    → IsOfThisTime hs t cause g → h.note.body ≡ g.note.body
+same_cause {hs} {cause} {h} {g} a b =
+    ap (λ (x : Happening). x.note.body) (same_some (numbered hs cause) h g a.there b.there)
 
 -- a record that tells a device the time is of a frame
 tells_as : (device : DeviceId) (body other : NoteBody) → body ≡ other → is_joined_by device body ≡ true → is_joined_by device other ≡ true
-tells_as device body other e joined = subst (λ (b : NoteBody). is_joined_by device b ≡ true) e joined
+tells_as device body other e joined = subst (λ b. is_joined_by device b ≡ true) e joined
 
 event_tells : (device : DeviceId) (line : ℕ) (what : What) → is_joined_by device (notes.Event line what) ≡ true → ⊥
 event_tells device line what e = cc
@@ -116,41 +121,44 @@ correction_tells device other cycle by adjustment e = cc
 abbrev IsSameChange : State → Why → State → Why → Type 0
 IsSameChange state why other for = (state ≡ other) × (why ≡ for)
 
-same_change : (s : Scenario) (hs : List Happening) (t : ℕ) (device : DeviceId) (cause : ℕ) (state other : State) (why for : Why)
-    → ChangesState s hs device t state cause why → ChangesState s hs device t other cause for → IsSameChange state why other for
-same_change s hs t device cause state other whys.On whys.On a b = (a.0 ∙ sym b.0, refl)
-same_change s hs t device cause state other whys.On whys.Frame a b =
-    absurd (event_tells device a.2.0 (On device) (tells_as device _ _ (same_cause hs t cause _ _ b.1.1 a.2.2 ∙ a.2.3) b.1.2))
-same_change s hs t device cause state other whys.On whys.Correction a b =
-    let bodies = sym a.2.3 ∙ same_cause hs t cause _ _ a.2.2 b.2.4 ∙ b.2.5 in absurd cc
-same_change s hs t device cause state other whys.On whys.SyncClique a b = absurd (no_cause hs t cause _ b.1 a.2.2)
-same_change s hs t device cause state other whys.On whys.AsyncClique a b = absurd (no_cause hs t cause _ b.1 a.2.2)
-same_change s hs t device cause state other whys.Frame whys.On a b =
-    absurd (event_tells device b.2.0 (On device) (tells_as device _ _ (same_cause hs t cause _ _ a.1.1 b.2.2 ∙ b.2.3) a.1.2))
-same_change s hs t device cause state other whys.Frame whys.Frame a b = (a.0 ∙ sym b.0, refl)
-same_change s hs t device cause state other whys.Frame whys.Correction a b =
-    absurd (correction_tells device device b.2.0 b.2.1 b.2.2 (tells_as device _ _ (same_cause hs t cause _ _ a.1.1 b.2.4 ∙ b.2.5) a.1.2))
-same_change s hs t device cause state other whys.Frame whys.SyncClique a b = absurd (no_cause hs t cause _ b.1 a.1.1)
-same_change s hs t device cause state other whys.Frame whys.AsyncClique a b = absurd (no_cause hs t cause _ b.1 a.1.1)
-same_change s hs t device cause state other whys.Correction whys.On a b =
-    let bodies = sym b.2.3 ∙ same_cause hs t cause _ _ b.2.2 a.2.4 ∙ a.2.5 in absurd cc
-same_change s hs t device cause state other whys.Correction whys.Frame a b =
-    absurd (correction_tells device device a.2.0 a.2.1 a.2.2 (tells_as device _ _ (same_cause hs t cause _ _ b.1.1 a.2.4 ∙ a.2.5) b.1.2))
-same_change s hs t device cause state other whys.Correction whys.Correction a b = (a.0 ∙ sym b.0, refl)
-same_change s hs t device cause state other whys.Correction whys.SyncClique a b = absurd (no_cause hs t cause _ b.1 a.2.4)
-same_change s hs t device cause state other whys.Correction whys.AsyncClique a b = absurd (no_cause hs t cause _ b.1 a.2.4)
-same_change s hs t device cause state other whys.SyncClique whys.On a b = absurd (no_cause hs t cause _ a.1 b.2.2)
-same_change s hs t device cause state other whys.SyncClique whys.Frame a b = absurd (no_cause hs t cause _ a.1 b.1.1)
-same_change s hs t device cause state other whys.SyncClique whys.Correction a b = absurd (no_cause hs t cause _ a.1 b.2.4)
-same_change s hs t device cause state other whys.SyncClique whys.SyncClique a b = (a.0 ∙ sym b.0, refl)
-same_change s hs t device cause state other whys.SyncClique whys.AsyncClique a b =
-    let verdicts = same_verdict s hs t device _ _ SyncClique AsyncClique a.2.1 b.2.1 in absurd cc
-same_change s hs t device cause state other whys.AsyncClique whys.On a b = absurd (no_cause hs t cause _ a.1 b.2.2)
-same_change s hs t device cause state other whys.AsyncClique whys.Frame a b = absurd (no_cause hs t cause _ a.1 b.1.1)
-same_change s hs t device cause state other whys.AsyncClique whys.Correction a b = absurd (no_cause hs t cause _ a.1 b.2.4)
-same_change s hs t device cause state other whys.AsyncClique whys.SyncClique a b =
-    let verdicts = same_verdict s hs t device _ _ AsyncClique SyncClique a.2.1 b.2.1 in absurd cc
-same_change s hs t device cause state other whys.AsyncClique whys.AsyncClique a b = (a.0 ∙ sym b.0, refl)
+module _ (s : Scenario) (hs : List Happening) (t : ℕ) (device : DeviceId) (cause : ℕ) (state other : State) where
+  same_change : (why for : Why) → ChangesState s hs device t state cause why
+      → ChangesState s hs device t other cause for → IsSameChange state why other for
+  same_change whys.On whys.On a b = (a.0 ∙ sym b.0, refl)
+  same_change whys.On whys.Frame a b =
+      absurd (event_tells device a.2.0 (On device) (tells_as device _ _ (same_cause b.1.1 a.2.2 ∙ a.2.3) b.1.2))
+  same_change whys.On whys.Correction a b =
+      let bodies = sym a.2.3 ∙ same_cause a.2.2 b.2.4 ∙ b.2.5 in absurd cc
+  same_change whys.On whys.SyncClique a b = absurd (no_cause cause b.1 a.2.2)
+  same_change whys.On whys.AsyncClique a b = absurd (no_cause cause b.1 a.2.2)
+  same_change whys.Frame whys.On a b =
+      absurd (event_tells device b.2.0 (On device) (tells_as device _ _ (same_cause a.1.1 b.2.2 ∙ b.2.3) a.1.2))
+  same_change whys.Frame whys.Frame a b = (a.0 ∙ sym b.0, refl)
+  same_change whys.Frame whys.Correction a b =
+      absurd (correction_tells device device b.2.0 b.2.1 b.2.2
+      (tells_as device _ _ (same_cause a.1.1 b.2.4 ∙ b.2.5) a.1.2))
+  same_change whys.Frame whys.SyncClique a b = absurd (no_cause cause b.1 a.1.1)
+  same_change whys.Frame whys.AsyncClique a b = absurd (no_cause cause b.1 a.1.1)
+  same_change whys.Correction whys.On a b =
+      let bodies = sym b.2.3 ∙ same_cause b.2.2 a.2.4 ∙ a.2.5 in absurd cc
+  same_change whys.Correction whys.Frame a b =
+      absurd (correction_tells device device a.2.0 a.2.1 a.2.2
+      (tells_as device _ _ (same_cause b.1.1 a.2.4 ∙ a.2.5) b.1.2))
+  same_change whys.Correction whys.Correction a b = (a.0 ∙ sym b.0, refl)
+  same_change whys.Correction whys.SyncClique a b = absurd (no_cause cause b.1 a.2.4)
+  same_change whys.Correction whys.AsyncClique a b = absurd (no_cause cause b.1 a.2.4)
+  same_change whys.SyncClique whys.On a b = absurd (no_cause cause a.1 b.2.2)
+  same_change whys.SyncClique whys.Frame a b = absurd (no_cause cause a.1 b.1.1)
+  same_change whys.SyncClique whys.Correction a b = absurd (no_cause cause a.1 b.2.4)
+  same_change whys.SyncClique whys.SyncClique a b = (a.0 ∙ sym b.0, refl)
+  same_change whys.SyncClique whys.AsyncClique a b =
+      let verdicts = same_verdict s hs t device _ _ a.2.1 b.2.1 in absurd cc
+  same_change whys.AsyncClique whys.On a b = absurd (no_cause cause a.1 b.2.2)
+  same_change whys.AsyncClique whys.Frame a b = absurd (no_cause cause a.1 b.1.1)
+  same_change whys.AsyncClique whys.Correction a b = absurd (no_cause cause a.1 b.2.4)
+  same_change whys.AsyncClique whys.SyncClique a b =
+      let verdicts = same_verdict s hs t device _ _ a.2.1 b.2.1 in absurd cc
+  same_change whys.AsyncClique whys.AsyncClique a b = (a.0 ∙ sym b.0, refl)
 
 -- ---- bodies
 
@@ -167,54 +175,58 @@ same_route device other link by cause from us vs e =
     record { devices = same_device device other three.0; links = same_link link by three.1; causes = three.2 }
 
 -- what holds of one route holds of the same route
-moved : (P : DeviceId → LinkId → ℕ → Type 0) (device other : DeviceId) (link by : LinkId) (cause from : ℕ) → IsSameRoute device other link by cause from
-    → P other by from → P device link cause
-moved P device other link by cause from same there =
+moved : (P : DeviceId → LinkId → ℕ → Type 0) {device other : DeviceId} {link by : LinkId} {cause from : ℕ}
+    → IsSameRoute device other link by cause from → P other by from → P device link cause
+moved P {other} {link} {by} {cause} same there =
     subst (λ (d : DeviceId). P d link cause) (sym same.devices)
     (subst (λ (l : LinkId). P other l cause) (sym same.links) (subst (λ (c : ℕ). P other by c) (sym same.causes) there))
 
 -- and makes one body of it
-remade : (made : DeviceId → LinkId → ℕ → NoteBody) (device other : DeviceId) (link by : LinkId) (cause from : ℕ) → IsSameRoute device other link by cause from
-    → made device link cause ≡ made other by from
-remade made device other link by cause from same =
-    ap (λ (d : DeviceId). made d link cause) same.devices ∙ ap (λ (l : LinkId). made other l cause) same.links ∙ ap (λ (c : ℕ). made other by c) same.causes
+remade : (made : DeviceId → LinkId → ℕ → NoteBody) {device other : DeviceId} {link by : LinkId} {cause from : ℕ}
+    → IsSameRoute device other link by cause from → made device link cause ≡ made other by from
+remade made {other} {link} {by} {cause} same =
+    ap (λ d. made d link cause) same.devices ∙ ap (λ l. made other l cause) same.links ∙ ap (λ c. made other by c) same.causes
 
-same_reason : (s : Scenario) (hs : List Happening) (t : ℕ) (device : DeviceId) (link : LinkId) (cause : ℕ) (reason other : Reason)
-    → IsDropped s hs device t link cause reason → IsDropped s hs device t link cause other → reason ≡ other
-same_reason s hs t device link cause reason other (inl a) (inl b) =
-    let one = same_arrival s hs t device link cause (arrivals.Dropped reason) (arrivals.Dropped other) a b in cc
-same_reason s hs t device link cause reason other (inl a) (inr (inl b)) =
-    absurd (arrives_or_ripens s hs t device link cause (arrivals.Dropped reason) b.0 (ripe.Dropped other) a b.1)
-same_reason s hs t device link cause reason other (inl a) (inr (inr b)) =
-    absurd (arrives_or_departs s hs t device link cause (arrivals.Dropped reason) too_old a b.0)
-same_reason s hs t device link cause reason other (inr (inl a)) (inl b) =
-    absurd (arrives_or_ripens s hs t device link cause (arrivals.Dropped other) a.0 (ripe.Dropped reason) b a.1)
-same_reason s hs t device link cause reason other (inr (inl a)) (inr (inl b)) =
-    let one = same_ripening s hs t device link cause a.0 b.0 (ripe.Dropped reason) (ripe.Dropped other) a.1 b.1 in cc
-same_reason s hs t device link cause reason other (inr (inl a)) (inr (inr b)) = absurd (dropped_or_departs s hs t device link cause a.0 reason too_old a.1 b.0)
-same_reason s hs t device link cause reason other (inr (inr a)) (inl b) =
-    absurd (arrives_or_departs s hs t device link cause (arrivals.Dropped other) too_old b a.0)
-same_reason s hs t device link cause reason other (inr (inr a)) (inr (inl b)) = absurd (dropped_or_departs s hs t device link cause b.0 other too_old b.1 a.0)
-same_reason s hs t device link cause reason other (inr (inr a)) (inr (inr b)) = a.1 ∙ sym b.1
+module _ (s : Scenario) (hs : List Happening) (t : ℕ) (device : DeviceId) (link : LinkId) (cause : ℕ)
+    (reason other : Reason) where
+  same_reason : IsDropped s hs device t link cause reason → IsDropped s hs device t link cause other → reason ≡ other
+  same_reason (inl a) (inl b) =
+      let one = same_arrival a b in cc
+  same_reason (inl a) (inr (inl b)) =
+      absurd (arrives_or_ripens s hs t device link cause (arrivals.Dropped reason) a b.1)
+  same_reason (inl a) (inr (inr b)) =
+      absurd (arrives_or_departs s hs t device link cause (arrivals.Dropped reason) a b.0)
+  same_reason (inr (inl a)) (inl b) =
+      absurd (arrives_or_ripens s hs t device link cause (arrivals.Dropped other) b a.1)
+  same_reason (inr (inl a)) (inr (inl b)) =
+      let one = same_ripening s hs t device link cause a.1 b.1 in cc
+  same_reason (inr (inl a)) (inr (inr b)) = absurd (dropped_or_departs reason a.1 b.0)
+  same_reason (inr (inr a)) (inl b) =
+      absurd (arrives_or_departs s hs t device link cause (arrivals.Dropped other) b a.0)
+  same_reason (inr (inr a)) (inr (inl b)) = absurd (dropped_or_departs other b.1 a.0)
+  same_reason (inr (inr a)) (inr (inr b)) = a.1 ∙ sym b.1
 
-same_permanent : (s : Scenario) (hs : List Happening) (t : ℕ) (device : DeviceId) (link : LinkId) (cause : ℕ) (p q : Units) (v w : Judgement)
-    → BecomesPermanent s hs device t link cause p (ripe_as v) → BecomesPermanent s hs device t link cause q (ripe_as w)
+same_permanent : {s : Scenario} {hs : List Happening} {t : ℕ} {device : DeviceId} {link : LinkId} {cause : ℕ}
+    {p q : Units} (v w : Judgement) → BecomesPermanent s hs device t link cause p (ripe_as v)
+    → BecomesPermanent s hs device t link cause q (ripe_as w)
     → notes.Permanent device link cause p v ≡ notes.Permanent device link cause q w
-same_permanent s hs t device link cause p q v w a b =
-    ap (λ (u : Units). notes.Permanent device link cause u v) (same_point s hs t device link cause a.frame b.frame p q a.permanent b.permanent)
+same_permanent {s} {hs} {t} {device} {link} {cause} {q} v w a b =
+    ap (λ (u : Units). notes.Permanent device link cause u v)
+    (same_point s hs t device link cause a.permanent b.permanent)
     ∙ ap (λ (j : Judgement). notes.Permanent device link cause q j)
-    (same_judgement v w (same_ripening s hs t device link cause p q (ripe_as v) (ripe_as w) a b))
+    (same_judgement v w (same_ripening s hs t device link cause a b))
 
 -- what a compression master sends is heard in one way
-same_heard : (s : Scenario) (hs : List Happening) (t : ℕ) (device : DeviceId) (sent : Compressed) (v w : Judgement) → Emits s hs device t sent v
-    → Emits s hs device t sent w → v ≡ w
-same_heard s hs t device sent v w a b = a.heard ∙ sym b.heard
+same_heard : {s : Scenario} {hs : List Happening} {t : ℕ} {device : DeviceId} {sent : Compressed} {v w : Judgement}
+    → Emits s hs device t sent v → Emits s hs device t sent w → v ≡ w
+same_heard a b = a.heard ∙ sym b.heard
 
-same_clock : (s : Scenario) (hs : List Happening) (time : Units) (device : DeviceId) (shown adjustment : Units) (state : State)
-    (other_shown other_adjustment : Units) (other_state : State) → IsClockRecord s hs device time shown adjustment state
-    → IsClockRecord s hs device time other_shown other_adjustment other_state → notes.Clock device shown adjustment state ≡ notes.Clock device other_shown
-    other_adjustment other_state
-same_clock s hs time device shown adjustment state other_shown other_adjustment other_state a b = grind arith
+same_clock : {s : Scenario} {hs : List Happening} {time : Units} {device : DeviceId} {shown adjustment : Units}
+    {state : State} {other_shown other_adjustment : Units} {other_state : State}
+    → IsClockRecord s hs device time shown adjustment state
+    → IsClockRecord s hs device time other_shown other_adjustment other_state
+    → notes.Clock device shown adjustment state ≡ notes.Clock device other_shown other_adjustment other_state
+same_clock a b = grind arith
 
 pub same_members : (a b : Members) → a.0 ≡ b.0 → a ≡ b
 same_members a b same = ap (λ (n : ℕ). let m : Members = record { 0 = n } in m) same
@@ -237,18 +249,17 @@ same_body : (s : Scenario) (hs : List Happening) (time : Units) (m n : ℕ) (a b
     → key m a ≡ key n b → a ≡ b
 same_body s hs time m n (notes.Event line what) (notes.Event other_line other_what) a b kinds keys =
     let lines : line ≡ other_line = cc in
-    let there = subst (λ (l : ℕ). IsEventRecord s.events time l other_what) (sym lines) b in
-    ap (λ (w : What). notes.Event line w) (same_what s.events time line what other_what a there) ∙ ap (λ (l : ℕ). notes.Event l other_what) lines
+    let there = subst (λ l. IsEventRecord s.events time l other_what) (sym lines) b in
+    ap (λ (w : What). notes.Event line w) (same_what a there) ∙ ap (λ (l : ℕ). notes.Event l other_what) lines
 same_body s hs time m n (notes.Arrived device link cause clock) (notes.Arrived other by from later) a b kinds keys =
     let same = same_route device other link by cause from [] [] keys in
-    let there = moved (λ d l c. IsArrivedRecord s hs d (amount time) l c later) device other link by cause from same b in
-    ap (λ (k : ℕ). notes.Arrived device link cause k) (same_clock_on_arrival s hs (amount time) device link cause clock later a there)
-    ∙ remade (λ d l c. notes.Arrived d l c later) device other link by cause from same
+    let there = moved (λ d l c. IsArrivedRecord s hs d (amount time) l c later) same b in
+    ap (λ (k : ℕ). notes.Arrived device link cause k) (same_clock_on_arrival a there)
+    ∙ remade (λ d l c. notes.Arrived d l c later) same
 same_body s hs time m n (notes.Permanent device link cause point verdict) (notes.Permanent other by from second judged) a b kinds keys =
     let same = same_ripe_route device other point second m n link by cause from keys in
-    let there = moved (λ d l c. BecomesPermanent s hs d (amount time) l c second (ripe_as judged)) device other link by cause from same b in
-    same_permanent s hs (amount time) device link cause point second verdict judged a there
-    ∙ remade (λ d l c. notes.Permanent d l c second judged) device other link by cause from same
+    let there = moved (λ d l c. BecomesPermanent s hs d (amount time) l c second (ripe_as judged)) same b in
+    same_permanent verdict judged a there ∙ remade (λ d l c. notes.Permanent d l c second judged) same
 same_body s hs time m n (notes.Compressed device opened at cycle members verdict) (notes.Compressed other begun emitted number masters judged) a b kinds keys =
     let ids : device.0 ≡ other.0 = cc in
     let opens : amount opened ≡ amount begun = cc in
@@ -268,15 +279,15 @@ same_body s hs time m n (notes.Sent device cycle) (notes.Sent other number) a b 
 same_body s hs time m n (notes.Corrected device cycle by adjustment) (notes.Corrected other number gain later) a b kinds keys =
     let ids : device.0 ≡ other.0 = cc in
     let devices : device ≡ other = same_device device other ids in
-    let there = subst (λ (d : DeviceId). IsCorrectedRecord s hs d (amount time) number gain later) (sym devices) b in
-    same_corrected s hs (amount time) device cycle number by gain adjustment later a there
+    let there = subst (λ d. IsCorrectedRecord s hs d (amount time) number gain later) (sym devices) b in
+    same_corrected s hs (amount time) device cycle number a there
     ∙ ap (λ (d : DeviceId). notes.Corrected d number gain later) devices
 same_body s hs time m n (notes.State device state cause why) (notes.State other later from for) a b kinds keys =
     let ids : device.0 ≡ other.0 = cc in
     let devices : device ≡ other = same_device device other ids in
     let causes : cause ≡ from = cc in
-    let there = subst (λ (d : DeviceId). ChangesState s hs d (amount time) later cause for) (sym devices)
-    (subst (λ (c : ℕ). ChangesState s hs other (amount time) later c for) (sym causes) b) in
+    let there = subst (λ d. ChangesState s hs d (amount time) later cause for) (sym devices)
+    (subst (λ c. ChangesState s hs other (amount time) later c for) (sym causes) b) in
     let one = same_change s hs (amount time) device cause state later why for a there in
     ap (λ (u : State). notes.State device u cause why) one.0
     ∙ ap (λ (w : Why). notes.State device later cause w) one.1
@@ -284,12 +295,12 @@ same_body s hs time m n (notes.State device state cause why) (notes.State other 
     ∙ ap (λ (c : ℕ). notes.State other later c for) causes
 same_body s hs time m n (notes.Left device link cause clock) (notes.Left other by from later) a b kinds keys =
     let same = same_route device other link by cause from [] [] keys in
-    let there = moved (λ d l c. Departs s hs d (amount time) l c (leaves later)) device other link by cause from same b in
-    let one = same_departure s hs (amount time) device link cause (leaves clock) (leaves later) a there in
+    let there = moved (λ d l c. Departs s hs d (amount time) l c (leaves later)) same b in
+    let one = same_departure s hs (amount time) device link cause a there in
     let clocks : clock ≡ later = cc in
-    ap (λ (k : ℕ). notes.Left device link cause k) clocks ∙ remade (λ d l c. notes.Left d l c later) device other link by cause from same
+    ap (λ (k : ℕ). notes.Left device link cause k) clocks ∙ remade (λ d l c. notes.Left d l c later) same
 same_body s hs time m n (notes.Lost device link cause) (notes.Lost other by from) a b kinds keys =
-    remade (λ d l c. notes.Lost d l c) device other link by cause from (same_route device other link by cause from [] [] keys)
+    remade (λ d l c. notes.Lost d l c) (same_route device other link by cause from [] [] keys)
 same_body s hs time m n (notes.TtSent device link cause vl cycle) (notes.TtSent other by from second number) a b kinds keys =
     let same = same_route device other link by cause from (vl.0 ∷ cycle ∷ []) (second.0 ∷ number ∷ []) keys in
     let ids : vl.0 ≡ second.0 = cc in
@@ -297,35 +308,35 @@ same_body s hs time m n (notes.TtSent device link cause vl cycle) (notes.TtSent 
     let cycles : cycle ≡ number = cc in
     ap (λ (v : VlId). notes.TtSent device link cause v cycle) vls
     ∙ ap (λ (k : ℕ). notes.TtSent device link cause second k) cycles
-    ∙ remade (λ d l c. notes.TtSent d l c second number) device other link by cause from same
+    ∙ remade (λ d l c. notes.TtSent d l c second number) same
 same_body s hs time m n (notes.Accepted device link cause vl cycle) (notes.Accepted other by from second number) a b kinds keys =
     let same = same_route device other link by cause from [] [] keys in
-    let there = moved (λ d l c. ArrivesAs s hs d (amount time) l c (arrivals.Accepted second number)) device other link by cause from same b in
-    let one = same_arrival s hs (amount time) device link cause (arrivals.Accepted vl cycle) (arrivals.Accepted second number) a there in
+    let there = moved (λ d l c. ArrivesAs s hs d (amount time) l c (arrivals.Accepted second number)) same b in
+    let one = same_arrival a there in
     let vls : vl ≡ second = cc in
     let cycles : cycle ≡ number = cc in
     ap (λ (v : VlId). notes.Accepted device link cause v cycle) vls
     ∙ ap (λ (k : ℕ). notes.Accepted device link cause second k) cycles
-    ∙ remade (λ d l c. notes.Accepted d l c second number) device other link by cause from same
+    ∙ remade (λ d l c. notes.Accepted d l c second number) same
 same_body s hs time m n (notes.Delivered device link cause vl cycle) (notes.Delivered other by from second number) a b kinds keys =
     let same = same_route device other link by cause from [] [] keys in
-    let there = moved (λ d l c. ArrivesAs s hs d (amount time) l c (arrivals.Delivered second number)) device other link by cause from same b in
-    let one = same_arrival s hs (amount time) device link cause (arrivals.Delivered vl cycle) (arrivals.Delivered second number) a there in
+    let there = moved (λ d l c. ArrivesAs s hs d (amount time) l c (arrivals.Delivered second number)) same b in
+    let one = same_arrival a there in
     let vls : vl ≡ second = cc in
     let cycles : cycle ≡ number = cc in
     ap (λ (v : VlId). notes.Delivered device link cause v cycle) vls
     ∙ ap (λ (k : ℕ). notes.Delivered device link cause second k) cycles
-    ∙ remade (λ d l c. notes.Delivered d l c second number) device other link by cause from same
+    ∙ remade (λ d l c. notes.Delivered d l c second number) same
 same_body s hs time m n (notes.Dropped device link cause reason) (notes.Dropped other by from second) a b kinds keys =
     let same = same_route device other link by cause from [] [] keys in
-    let there = moved (λ d l c. IsDropped s hs d (amount time) l c second) device other link by cause from same b in
+    let there = moved (λ d l c. IsDropped s hs d (amount time) l c second) same b in
     ap (λ (r : Reason). notes.Dropped device link cause r) (same_reason s hs (amount time) device link cause reason second a there)
-    ∙ remade (λ d l c. notes.Dropped d l c second) device other link by cause from same
+    ∙ remade (λ d l c. notes.Dropped d l c second) same
 same_body s hs time m n (notes.Clock device seen adjustment state) (notes.Clock other other_seen other_adjustment other_state) a b kinds keys =
     let ids : device.0 ≡ other.0 = cc in
     let devices : device ≡ other = same_device device other ids in
-    let there = subst (λ (d : DeviceId). IsClockRecord s hs d time other_seen other_adjustment other_state) (sym devices) b in
-    same_clock s hs time device seen adjustment state other_seen other_adjustment other_state a there
+    let there = subst (λ d. IsClockRecord s hs d time other_seen other_adjustment other_state) (sym devices) b in
+    same_clock a there
     ∙ ap (λ (d : DeviceId). notes.Clock d other_seen other_adjustment other_state) devices
 same_body s hs time m n rest other a b kinds keys = absurd (omega (arith, kinds))
 
@@ -342,7 +353,7 @@ due_is_determined s ps x y a b same =
     let kinds : rank x.note.body ≡ rank y.note.body = cc in
     let keys : key (members_in x) x.note.body ≡ key (members_in y) y.note.body = cc in
     let times = same_time x.note.time y.note.time a.begun b.begun amounts in
-    let there = subst (λ (t : Units). IsCaused s ps t y.note.body) (sym times) b.cause in
+    let there = subst (λ t. IsCaused s ps t y.note.body) (sym times) b.cause in
     let bodies = same_body s ps x.note.time (members_in x) (members_in y) x.note.body y.note.body a.cause there kinds keys in
     let notes_same = same_note x.note y.note (a.number ∙ sym b.number) times bodies in
     a.same ∙ ap (happening s.network ps) notes_same ∙ sym b.same

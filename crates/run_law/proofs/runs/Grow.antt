@@ -14,9 +14,10 @@ empty_run {N} place IsDue mark none = grind (arith, none_before, no_front)
 -- ---- a run under other causes, and up to another mark
 
 -- a run up to a mark is that up to another one, where its records are before this and no others are due
-pub move_mark : {N : Type 0} (place : N → List ℕ) (IsDue : List N → N → Type 0) (mark later : List ℕ) (ns : List N) → IsRun place IsDue mark ns
-    → AllBefore place ns later → NothingDueUpTo place IsDue mark ns later → IsRun place IsDue later ns
-move_mark place IsDue mark later ns run within nothing = grind arith
+pub move_mark : {N : Type 0} {place : N → List ℕ} (IsDue : List N → N → Type 0) {mark later : List ℕ} {ns : List N}
+    → IsRun place IsDue mark ns → AllBefore place ns later → NothingDueUpTo place IsDue mark ns later
+    → IsRun place IsDue later ns
+move_mark IsDue run within nothing = grind arith
 
 -- ---- a run goes on
 
@@ -59,9 +60,10 @@ grow_founded place IsDue ns x founded before due ps qs y e =
     ]
 
 -- a run goes on by the record that is due behind it, where no other is due before that
-pub grow : {N : Type 0} (place : N → List ℕ) (IsDue : List N → N → Type 0) (mark : List ℕ) (ns : List N) (x : N) → IsRun place IsDue mark ns
-    → AllBefore place ns (place x) → IsDue ns x → NothingDueUpTo place IsDue mark ns (place x) → IsRun place IsDue (behind (place x)) (ns ++ x ∷ [])
-grow {N} place IsDue mark ns x run before due nothing =
+pub grow : {N : Type 0} {place : N → List ℕ} (IsDue : List N → N → Type 0) {mark : List ℕ} {ns : List N} (x : N)
+    → IsRun place IsDue mark ns → AllBefore place ns (place x) → IsDue ns x
+    → NothingDueUpTo place IsDue mark ns (place x) → IsRun place IsDue (behind (place x)) (ns ++ x ∷ [])
+grow {N} {place} IsDue {ns} x run before due nothing =
     let at_x : IsIn x (ns ++ x ∷ []) = in_right x ns (x ∷ []) (inl refl) in
     record {
       founded = grow_founded place IsDue ns x run.founded before due;
@@ -71,10 +73,10 @@ grow {N} place IsDue mark ns x run before due nothing =
             | inr (inr gt) ↦ absurd (nothing_between (place x) (place y) gt w)
             | inl lt ↦
                 elim (in_two ns ps qs x e) [
-                  | inl l ↦ absurd (never_self (place x) (chain (place x) (place y) (place x) (b x (subst (λ (t : List N). IsIn x t) (sym l.1) at_x)) lt))
+                  | inl l ↦ absurd (never_self (place x) (chain (place x) (place y) (place x) (b x (subst (λ t. IsIn x t) (sym l.1) at_x)) lt))
                   | inr r ↦
                       let none : NoneBefore place r.others (place y) = λ m i. n m
-                      (subst (λ (t : List N). IsIn m t) (sym r.last) (in_left m r.others (x ∷ []) i)) in
+                      (subst (λ t. IsIn m t) (sym r.last) (in_left m r.others (x ∷ []) i)) in
                       let found = run.full ps r.others y r.whole b none d (nothing.gap ps r.others y r.whole b none d lt) in
                       (found.0, in_left found.0 ns (x ∷ []) found.1, found.2)
                 ]

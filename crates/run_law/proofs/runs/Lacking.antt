@@ -22,6 +22,6 @@ pub lacking : {N : Type 0} (place : N → List ℕ) (IsDue : List N → N → Ty
 lacking place IsDue mark ps ys x full before due here first =
     let there = full ps ys x refl before (λ n i sooner. never_self (place x) (chain (place x) (place n) (place x) (first n i) sooner)) due here in
     elim (in_parts there.0 ps ys there.1) [
-      | inl i ↦ never_self (place x) (subst (λ (p : List ℕ). IsBefore p (place x)) there.2 (before there.0 i))
-      | inr i ↦ never_self (place x) (subst (λ (p : List ℕ). IsBefore (place x) p) there.2 (first there.0 i))
+      | inl i ↦ never_self (place x) (subst (λ p. IsBefore p (place x)) there.2 (before there.0 i))
+      | inr i ↦ never_self (place x) (subst (λ p. IsBefore (place x) p) there.2 (first there.0 i))
     ]

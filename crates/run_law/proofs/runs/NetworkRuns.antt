@@ -15,37 +15,39 @@ notes_of_parts : (hs gs : List Happening) → notes_of (hs ++ gs) ≡ notes_of h
 notes_of_parts [] gs = refl
 notes_of_parts (h ∷ hs) gs = ap (λ (ns : List Note). h.note ∷ ns) (notes_of_parts hs gs)
 
-notes_from : (network : Network) (before : List Happening) (ns : List Note) → notes_of (fold (with_next network) before ns) ≡ notes_of before ++ ns
-notes_from network before [] = sym (append-nil (notes_of before))
-notes_from network before (n ∷ ns) = grind (arith, notes_of_parts, happening, append_assoc, (notes_from network (with_next network before n) ns))
+module _ (network : Network) where
+  notes_from : (before : List Happening) (ns : List Note)
+      → notes_of (fold (with_next network) before ns) ≡ notes_of before ++ ns
+  notes_from before [] = sym (append-nil (notes_of before))
+  notes_from before (n ∷ ns) =
+      grind (arith, notes_of_parts, happening, append_assoc, (notes_from (with_next network before n) ns))
 
--- the records of the happenings of records are these
-pub same_notes : (network : Network) (ns : List Note) → notes_of (happenings network ns) ≡ ns
-same_notes network ns = notes_from network [] ns
+  -- the records of the happenings of records are these
+  pub same_notes : (ns : List Note) → notes_of (happenings network ns) ≡ ns
+  same_notes ns = notes_from [] ns
 
-fold_parts : (network : Network) (before : List Happening) (ns ms : List Note) → fold (with_next network) before (ns ++ ms) ≡ fold (with_next network)
-    (fold (with_next network) before ns) ms
-fold_parts network before [] ms = refl
-fold_parts network before (n ∷ ns) ms = fold_parts network (with_next network before n) ns ms
+  fold_parts : (before : List Happening) (ns ms : List Note)
+      → fold (with_next network) before (ns ++ ms) ≡ fold (with_next network) (fold (with_next network) before ns) ms
+  fold_parts before [] ms = refl
+  fold_parts before (n ∷ ns) ms = fold_parts (with_next network before n) ns ms
 
--- one more record is one more happening
-pub one_more : (network : Network) (ns : List Note) (n : Note) → happenings network (ns ++ n ∷ []) ≡ happenings network ns
-    ++ happening network (happenings network ns) n ∷ []
-one_more network ns n = fold_parts network [] ns (n ∷ [])
+  -- one more record is one more happening
+  pub one_more : (ns : List Note) (n : Note) → happenings network (ns ++ n ∷ []) ≡ happenings network ns
+      ++ happening network (happenings network ns) n ∷ []
+  one_more ns n = fold_parts [] ns (n ∷ [])
 
 -- ---- the laws
 
 pub run_is_one : RunIsOne
 run_is_one network reading events mark notes others a b =
     let s : Scenario = record { network = network; reading = reading; events = events } in
-    sym (same_notes network notes)
-    ∙ ap notes_of (one_run place_of (IsDue s) mark (due_is_determined s) (happenings network notes) (happenings network others) a b)
+    sym (same_notes network notes) ∙ ap notes_of (one_run (IsDue s) (due_is_determined s) a b)
     ∙ same_notes network others
 
 pub earlier_run_is_front : EarlierRunIsFront
 earlier_run_is_front network reading events mark later notes more earlier a b =
     let s : Scenario = record { network = network; reading = reading; events = events } in
-    let front = front_of_run place_of (IsDue s) mark later (due_is_determined s) earlier (happenings network notes) (happenings network more) a b in (
+    let front = front_of_run (IsDue s) (due_is_determined s) earlier a b in (
       notes_of front.0,
       sym (same_notes network more)
           ∙ ap notes_of front.1
@@ -55,5 +57,5 @@ earlier_run_is_front network reading events mark later notes more earlier a b =
 
 pub run_goes_on : RunGoesOn
 run_goes_on s mark notes note next run is more =
-    let grown = grow place_of (IsDue s) mark (happenings s.network notes) next run more.behind_all more.due more.first in
+    let grown = grow (IsDue s) next run more.behind_all more.due more.first in
     subst (IsRun place_of (IsDue s) _) (ap (λ (h : Happening). happenings s.network notes ++ h ∷ []) is ∙ sym (one_more s.network notes note)) grown

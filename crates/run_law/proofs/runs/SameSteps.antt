@@ -6,7 +6,7 @@ use Rattle.run_law.proofs.Words.{device_at, false, is_relay, launched, numbered,
 use Rattle.run_law.{proofs.Words.{time_of, true, ℕ}, specs.{control.Leaving.{Departure, departure}, scenario.Devices.{is_cm, is_cm_role, is_relay_role}}}
 use Rattle.run_law.specs.{control.Collections.{IsCollectedAs, points_of, ripe_by_role}, device.States.{adjustment_at_hearing, state_at_hearing}}
 use Rattle.run_law.specs.control.{Permanence.{IsCollectedOrDropped, IsJudgedBy, IsPermanenceOutcome, IsPermanent, before_permanence}, Wires.{Arrives, Signal}}
-use Rattle.compression.{proofs.Times.one_list_of_clusters, specs.{Clusters.{Cluster, Point}, Role.role, declared.taken.Taken.Taken}}
+use Rattle.compression.{proofs.Times.one_list_of_clusters, specs.{Clusters.Point, Role.role, declared.taken.Taken.Taken}}
 use Rattle.run_law.specs.declared.judgement.Judgement.TheVariants as judgements
 use Rattle.run_law.specs.declared.note.NoteBody.TheVariants as notes
 use Rattle.run_law.specs.declared.steps.Ripe.TheVariants as ripe
@@ -14,31 +14,31 @@ use Rattle.run_law.specs.declared.steps.Ripe.TheVariants as ripe
 -- ---- arrivals
 
 -- what arrives from one record is one signal
-same_signal : (s : Scenario) (h : Happening) (device : DeviceId) (link : LinkId) (t : ℕ) (a b : Signal) → Arrives s h device link t a
-    → Arrives s h device link t b → a ≡ b
-same_signal s h device link t a b x y =
+same_signal : {s : Scenario} {h : Happening} {device : DeviceId} {link : LinkId} {t : ℕ} {a b : Signal}
+    → Arrives s h device link t a → Arrives s h device link t b → a ≡ b
+same_signal {s} {h} {link} {a} {b} x y =
     ap (λ (l : Launch). l.signal) (same_some (launched s h (time_of h) h.note.body) (record { link = link; way = x.way; signal = a })
     (record { link = link; way = y.way; signal = b }) x.put y.put)
 
 -- and one thing becomes of it
-pub same_arrival : (s : Scenario) (hs : List Happening) (t : ℕ) (device : DeviceId) (link : LinkId) (cause : ℕ) (a b : Arrival)
-    → ArrivesAs s hs device t link cause a → ArrivesAs s hs device t link cause b → a ≡ b
-same_arrival s hs t device link cause a b x y = grind (arith, same_some, numbered, same_signal, arrival_of)
+pub same_arrival : {s : Scenario} {hs : List Happening} {t : ℕ} {device : DeviceId} {link : LinkId} {cause : ℕ}
+    {a b : Arrival} → ArrivesAs s hs device t link cause a → ArrivesAs s hs device t link cause b → a ≡ b
+same_arrival x y = grind (arith, same_some, numbered, same_signal, arrival_of)
 
 -- ---- permanence
 
--- a point has one role
-pub same_taken : (network : Network) (points : List Point) (point : Point) (a b : Taken) → IsCollectedAs network points point a
-    → IsCollectedAs network points point b → a ≡ b
-same_taken network points point a b x y =
-    let only = (one_list_of_clusters (observation_window network) points).2 in
-    x.is ∙ ap (λ (cs : List Cluster). role cs point) (only x.clusters x.are ∙ sym (only y.clusters y.are)) ∙ sym y.is
+module _ (network : Network) (points : List Point) (point : Point) where
+  -- a point has one role
+  pub same_taken : {a b : Taken} → IsCollectedAs network points point a → IsCollectedAs network points point b → a ≡ b
+  same_taken x y =
+      let only = (one_list_of_clusters (observation_window network) points).2 in
+      x.is ∙ ap (λ cs. role cs point) (only x.clusters x.are ∙ sym (only y.clusters y.are)) ∙ sym y.is
 
-same_collected : (network : Network) (points : List Point) (point : Point) (fault : Option Reason) (a b : Ripe)
-    → IsCollectedOrDropped network points point fault a → IsCollectedOrDropped network points point fault b → a ≡ b
-same_collected network points point (Some reason) a b x y = x ∙ sym y
-same_collected network points point None a b x y =
-    x.becomes ∙ ap ripe_by_role (same_taken network points point x.taken y.taken x.collected y.collected) ∙ sym y.becomes
+  same_collected : (fault : Option Reason) (a b : Ripe) → IsCollectedOrDropped network points point fault a
+      → IsCollectedOrDropped network points point fault b → a ≡ b
+  same_collected (Some reason) a b x y = x ∙ sym y
+  same_collected None a b x y =
+      x.becomes ∙ ap ripe_by_role (same_taken x.collected y.collected) ∙ sym y.becomes
 
 same_by_kind : (b : _) {P : Ripe → Type 0} (heard x y : Ripe) → ((v w : Ripe) → P v → P w → v ≡ w) → MatchBool b (P x) (x ≡ heard)
     → MatchBool b (P y) (y ≡ heard) → x ≡ y
@@ -52,37 +52,40 @@ same_ripe : (network : Network) (device : DeviceId) (state : State) (adjustment 
 same_ripe network device state adjustment points frame point a b x y = same_by_kind (is_cm network device) _ a b (same_collected network points _ _) x y
 
 -- two frames that are permanent from one record have one arrival
-same_permanent_arrival : (s : Scenario) (hs : List Happening) (t : ℕ) (device : DeviceId) (link : LinkId) (cause : ℕ) (f g : Pcf) (p q : Units)
-    (a : IsPermanent s hs device t link cause f p) (b : IsPermanent s hs device t link cause g q) → a.arrival ≡ b.arrival
-same_permanent_arrival s hs t device link cause f g p q a b = same_some (numbered hs cause) a.arrival b.arrival a.there b.there
+same_permanent_arrival : {s : Scenario} {hs : List Happening} {t : ℕ} {device : DeviceId} {link : LinkId} {cause : ℕ}
+    {f g : Pcf} {p q : Units} (a : IsPermanent s hs device t link cause f p)
+    (b : IsPermanent s hs device t link cause g q) → a.arrival ≡ b.arrival
+same_permanent_arrival {hs} {cause} a b = same_some (numbered hs cause) a.arrival b.arrival a.there b.there
 
 abbrev arrived_clock : NoteBody → ℕ
 arrived_clock (notes.Arrived device link from clock) = clock
 arrived_clock other = 0
 
--- one frame is permanent from one record, at one point
-same_frame : (s : Scenario) (hs : List Happening) (t : ℕ) (device : DeviceId) (link : LinkId) (cause : ℕ) (f g : Pcf) (p q : Units)
-    → IsPermanent s hs device t link cause f p → IsPermanent s hs device t link cause g q → f ≡ g
-same_frame s hs t device link cause f g p q a b =
-    let one = same_permanent_arrival s hs t device link cause f g p q a b in
-    same_some a.arrival.frame f g a.of_frame (ap (λ (h : Happening). h.frame) one ∙ b.of_frame)
+module _ (s : Scenario) (hs : List Happening) (t : ℕ) (device : DeviceId) (link : LinkId) (cause : ℕ) where
+  -- one frame is permanent from one record, at one point
+  same_frame : {f g : Pcf} {p q : Units} → IsPermanent s hs device t link cause f p
+      → IsPermanent s hs device t link cause g q → f ≡ g
+  same_frame {f} {g} a b =
+      let one = same_permanent_arrival a b in
+      same_some a.arrival.frame f g a.of_frame (ap (λ (h : Happening). h.frame) one ∙ b.of_frame)
 
-pub same_point : (s : Scenario) (hs : List Happening) (t : ℕ) (device : DeviceId) (link : LinkId) (cause : ℕ) (f g : Pcf) (p q : Units)
-    → IsPermanent s hs device t link cause f p → IsPermanent s hs device t link cause g q → p ≡ q
-same_point s hs t device link cause f g p q a b = grind (arith, same_permanent_arrival, time_of)
+  pub same_point : {f g : Pcf} {p q : Units} → IsPermanent s hs device t link cause f p
+      → IsPermanent s hs device t link cause g q → p ≡ q
+  same_point a b = grind (arith, same_permanent_arrival, time_of)
 
--- and one thing becomes of it
-pub same_ripening : (s : Scenario) (hs : List Happening) (t : ℕ) (device : DeviceId) (link : LinkId) (cause : ℕ) (p q : Units) (a b : Ripe)
-    → BecomesPermanent s hs device t link cause p a → BecomesPermanent s hs device t link cause q b → a ≡ b
-same_ripening s hs t device link cause p q a b x y =
-    let frames = same_frame s hs t device link cause x.frame y.frame p q x.permanent y.permanent in
-    let points = same_point s hs t device link cause x.frame y.frame p q x.permanent y.permanent in
-    let judged = before_permanence hs device t link cause in
-    let there = subst (λ (f : Pcf). IsJudgedBy s (judged f q) device t f q b) (sym frames) y.becomes in
-    let here = subst (λ (u : Units). IsJudgedBy s (judged x.frame u) device t x.frame u b) (sym points) there in
-    let front = judged x.frame p in
-    same_ripe s.network device (state_at_hearing s front device t) (adjustment_at_hearing s front device t).0 (points_of front device) x.frame p.0 a b x.becomes
-    here
+  -- and one thing becomes of it
+  pub same_ripening : {p q : Units} {a b : Ripe} → BecomesPermanent s hs device t link cause p a
+      → BecomesPermanent s hs device t link cause q b → a ≡ b
+  same_ripening {p} {q} {a} {b} x y =
+      let frames = same_frame x.permanent y.permanent in
+      let points = same_point x.permanent y.permanent in
+      let judged = before_permanence hs device t link cause in
+      let there = subst (λ f. IsJudgedBy s (judged f q) device t f q b) (sym frames) y.becomes in
+      let here = subst (λ u. IsJudgedBy s (judged x.frame u) device t x.frame u b) (sym points) there in
+      let front = judged x.frame p in
+      same_ripe s.network device (state_at_hearing s front device t)
+      (adjustment_at_hearing s front device t).0 (points_of front device) x.frame p.0 a b x.becomes
+      here
 
 -- judgements are told apart by what becomes of the frame
 pub same_judgement : (v w : Judgement) → ripe_as v ≡ ripe_as w → v ≡ w
@@ -104,16 +107,17 @@ by_kind_is : (b : Bool) (P : Type 0) (v : Judgement) (reason : Reason) → Match
 by_kind_is true P v reason h = refl
 by_kind_is false P v reason h = absurd (never_dropped v reason (sym h))
 
--- only a compression master drops a frame that is permanent
-dropped_at_cm : (s : Scenario) (hs : List Happening) (t : ℕ) (device : DeviceId) (link : LinkId) (cause : ℕ) (point : Units) (reason : Reason)
-    → BecomesPermanent s hs device t link cause point (ripe.Dropped reason) → is_cm s.network device ≡ true
-dropped_at_cm s hs t device link cause point reason r = by_kind_is (is_cm s.network device) _ _ reason r.becomes
+module _ (s : Scenario) (hs : List Happening) (t : ℕ) (device : DeviceId) (link : LinkId) (cause : ℕ) where
+  -- only a compression master drops a frame that is permanent
+  dropped_at_cm : {point : Units} (reason : Reason) → BecomesPermanent s hs device t link cause point
+      (ripe.Dropped reason) → is_cm s.network device ≡ true
+  dropped_at_cm reason r = by_kind_is (is_cm s.network device) _ _ reason r.becomes
 
--- ---- leavings
+  -- ---- leavings
 
-pub same_departure : (s : Scenario) (hs : List Happening) (t : ℕ) (device : DeviceId) (link : LinkId) (cause : ℕ) (a b : Departure)
-    → Departs s hs device t link cause a → Departs s hs device t link cause b → a ≡ b
-same_departure s hs t device link cause a b x y = grind (arith, same_some, numbered, time_of)
+  pub same_departure : {a b : Departure} → Departs s hs device t link cause a → Departs s hs device t link cause b
+      → a ≡ b
+  same_departure x y = grind (arith, same_some, numbered, time_of)
 
 -- ---- what comes from a record is of one kind
 
@@ -128,18 +132,20 @@ puts_or_gives s h t other device link l put gives = gives
 pub no_launch : (s : Scenario) (h : Happening) (t : ℕ) (body : NoteBody) (device : DeviceId) (link : LinkId) (from clock : ℕ) (l : Launch)
     → body ≡ notes.Arrived device link from clock → launched s h t body ≡ Some l → ⊥
 no_launch s h t body device link from clock l is put =
-    let none : launched s h t (notes.Arrived device link from clock) ≡ Some l = subst (λ (b : NoteBody). launched s h t b ≡ Some l) is put in
+    let none : launched s h t (notes.Arrived device link from clock) ≡ Some l = subst (λ b. launched s h t b ≡ Some l) is put in
     cc
 
--- no frame arrives and leaves from one record
-pub arrives_or_departs : (s : Scenario) (hs : List Happening) (t : ℕ) (device : DeviceId) (link : LinkId) (cause : ℕ) (a : Arrival) (d : Departure)
-    → ArrivesAs s hs device t link cause a → Departs s hs device t link cause d → ⊥
-arrives_or_departs s hs t device link cause a d x y = grind (arith, same_some, numbered, puts_or_gives, time_of)
+module _ (s : Scenario) (hs : List Happening) (t : ℕ) (device : DeviceId) (link : LinkId) (cause : ℕ)
+    (a : Arrival) where
+  -- no frame arrives and leaves from one record
+  pub arrives_or_departs : {d : Departure} → ArrivesAs s hs device t link cause a
+      → Departs s hs device t link cause d → ⊥
+  arrives_or_departs x y = grind (arith, same_some, numbered, puts_or_gives, time_of)
 
--- no frame arrives and is permanent from one record
-pub arrives_or_ripens : (s : Scenario) (hs : List Happening) (t : ℕ) (device : DeviceId) (link : LinkId) (cause : ℕ) (a : Arrival) (point : Units) (b : Ripe)
-    → ArrivesAs s hs device t link cause a → BecomesPermanent s hs device t link cause point b → ⊥
-arrives_or_ripens s hs t device link cause a point b x y = grind (arith, same_some, numbered, no_launch, time_of)
+  -- no frame arrives and is permanent from one record
+  pub arrives_or_ripens : {point : Units} {b : Ripe} → ArrivesAs s hs device t link cause a
+      → BecomesPermanent s hs device t link cause point b → ⊥
+  arrives_or_ripens x y = grind (arith, same_some, numbered, no_launch, time_of)
 
 -- a relay is no compression master
 roles_differ : (role : Role) → is_cm_role role ≡ true → is_relay_role role ≡ true → ⊥
@@ -153,14 +159,15 @@ devices_differ (Some d) a b = roles_differ d.role a b
 gives_as_relay : (network : Network) (body : NoteBody) (device : DeviceId) (link by : LinkId) (from clock : ℕ) → body ≡ notes.Arrived device by from clock
     → Gives network body device link → is_relay network device ≡ true
 gives_as_relay network body device link by from clock is gives =
-    let there : Gives network (notes.Arrived device by from clock) device link = subst (λ (b : NoteBody). Gives network b device link) is gives in
+    let there : Gives network (notes.Arrived device by from clock) device link = subst (λ b. Gives network b device link) is gives in
     there.1.relay
 
 -- no frame that a device drops when it is permanent leaves it
-pub dropped_or_departs : (s : Scenario) (hs : List Happening) (t : ℕ) (device : DeviceId) (link : LinkId) (cause : ℕ) (point : Units) (reason : Reason)
-    (d : Departure) → BecomesPermanent s hs device t link cause point (ripe.Dropped reason) → Departs s hs device t link cause d → ⊥
-dropped_or_departs s hs t device link cause point reason d x y =
+pub dropped_or_departs : {s : Scenario} {hs : List Happening} {t : ℕ} {device : DeviceId} {link : LinkId} {cause : ℕ}
+    {point : Units} (reason : Reason) {d : Departure} → BecomesPermanent s hs device t link cause point
+    (ripe.Dropped reason) → Departs s hs device t link cause d → ⊥
+dropped_or_departs {s} {hs} {t} {device} {link} {cause} reason x y =
     let one = same_some (numbered hs cause) x.permanent.arrival y.giving x.permanent.there y.there in
     let is = ap (λ (h : Happening). h.note.body) (sym one) ∙ x.permanent.arrived in
     let relay = gives_as_relay s.network y.giving.note.body device link link x.permanent.from x.permanent.clock is y.gives in
-    devices_differ (device_at s.network device) (dropped_at_cm s hs t device link cause point reason x) relay
+    devices_differ (device_at s.network device) (dropped_at_cm s hs t device link cause reason x) relay

@@ -57,7 +57,7 @@ other_wire_by network event (Wire link way delay) is = decided_by
     let both = sym h.what ∙ is in
     let links : h.link ≡ link = cc in
     let delays : h.delay ≡ delay = cc in
-    subst (IsOtherWire network link) delays (subst (λ (l : LinkId). IsOtherWire network l h.delay) links h.other))
+    subst (IsOtherWire network link) delays (subst (λ l. IsOtherWire network l h.delay) links h.other))
     (decided_some (link_at network link) (λ l. (delay.0 <ℤ l.wire.0) ⊎ ((l.wire.0 +ℤ l.jitter.0) <ℤ delay.0))
     (λ l. decided_or (decided_less_int delay.0 l.wire.0) (decided_less_int (l.wire.0 +ℤ l.jitter.0) delay.0)))
 other_wire_by network event other is = inr (λ h. let both = sym h.what ∙ is in cc)
@@ -75,7 +75,7 @@ long_hold_by network event (Hold link way delay) is = decided_by
     let both = sym h.what ∙ is in
     let links : h.link ≡ link = cc in
     let delays : h.delay ≡ delay = cc in
-    subst (IsLongHold network link) delays (subst (λ (l : LinkId). IsLongHold network l h.delay) links h.long))
+    subst (IsLongHold network link) delays (subst (λ l. IsLongHold network l h.delay) links h.long))
     (decided_some (link_at network link) (λ l. l.hold.0 <ℤ delay.0) (λ l. decided_less_int l.hold.0 delay.0))
 long_hold_by network event other is = inr (λ h. let both = sym h.what ∙ is in cc)
 
@@ -129,27 +129,30 @@ cuts_on_by network channel event (Cut link way) is = decided_by
     (is_link_of network channel link)
 cuts_on_by network channel event other is = inr (λ h. let both = sym h.1.1 ∙ is in cc)
 
--- where the first of the events cuts, it is the first cut
-cut_is_first : (network : Network) (channel : Channel) (e : Event) (rest before : List Event) (cut : Event) (behind : List Event) → e ∷ rest ≡ before ++ cut
-    ∷ behind → ((link : LinkId) → Any (Cuts link) before → ⊥) → CutsOn network channel cut → (link : LinkId) × Cuts link e → CutsOn network channel e
-cut_is_first network channel e rest [] cut behind order none on first = let same : cut ≡ e = cc in subst (CutsOn network channel) same on
-cut_is_first network channel e rest (b ∷ before) cut behind order none on first =
-    let same : e ≡ b = cc in
-    absurd (none first.0 (any_first (Cuts first.0) b before (subst (Cuts first.0) same first.1)))
+module _ (network : Network) (channel : Channel) (e : Event) (rest : List Event) where
+  -- where the first of the events cuts, it is the first cut
+  cut_is_first : (before : List Event) (cut : Event) (behind : List Event) → e ∷ rest ≡ before ++ cut ∷ behind
+      → ((link : LinkId) → Any (Cuts link) before → ⊥) → CutsOn network channel cut → (link : LinkId) × Cuts link e
+      → CutsOn network channel e
+  cut_is_first [] cut behind order none on first = let same : cut ≡ e = cc in subst (CutsOn network channel) same on
+  cut_is_first (b ∷ before) cut behind order none on first =
+      let same : e ≡ b = cc in
+      absurd (none first.0 (any_first (Cuts first.0) b before (subst (Cuts first.0) same first.1)))
 
--- where it does not, the first cut is among the rest
-cut_is_later : (network : Network) (channel : Channel) (e : Event) (rest before : List Event) (cut : Event) (behind : List Event) → e ∷ rest ≡ before ++ cut
-    ∷ behind → ((link : LinkId) → Any (Cuts link) before → ⊥) → CutsOn network channel cut → ((link : LinkId) × Cuts link e → ⊥)
-    → IsFirstCutOn network channel rest
-cut_is_later network channel e rest [] cut behind order none on fails = let same : cut ≡ e = cc in absurd (fails (on.0, subst (Cuts on.0) same on.1))
-cut_is_later network channel e rest (b ∷ before) cut behind order none on fails = record {
-  before = before;
-  cut = cut;
-  behind = behind;
-  order = cc;
-  none_before = λ link h. none link (any_behind (Cuts link) b before h);
-  cuts = on;
-}
+  -- where it does not, the first cut is among the rest
+  cut_is_later : (before : List Event) (cut : Event) (behind : List Event) → e ∷ rest ≡ before ++ cut ∷ behind
+      → ((link : LinkId) → Any (Cuts link) before → ⊥) → CutsOn network channel cut
+      → ((link : LinkId) × Cuts link e → ⊥) → IsFirstCutOn network channel rest
+  cut_is_later [] cut behind order none on fails =
+      let same : cut ≡ e = cc in absurd (fails (on.0, subst (Cuts on.0) same on.1))
+  cut_is_later (b ∷ before) cut behind order none on fails = record {
+    before = before;
+    cut = cut;
+    behind = behind;
+    order = cc;
+    none_before = λ link h. none link (any_behind (Cuts link) b before h);
+    cuts = on;
+  }
 
 no_cut : (before : List Event) (cut : Event) (behind : List Event) → [] ≡ before ++ cut ∷ behind → ⊥
 no_cut [] cut behind e = cc
@@ -184,25 +187,27 @@ is_faulty network events channel =
 abbrev HasOther : Network → List Event → LinkId → Channel → Type 0
 HasOther network before link channel = IsLinkOf network channel link × ((faulty : Channel) × (IsFaulty network before faulty × (faulty ≢ channel)))
 
-has_other : (network : Network) (before : List Event) (link : LinkId) (channel : Channel) → IsDecided (HasOther network before link channel)
-has_other network before link channel =
-    decided_and
-    (is_link_of network channel link)
-    (some_channel (λ f. IsFaulty network before f × (f ≢ channel)) (λ f. decided_and (is_faulty network before f) (decided_not (same_channel f channel))))
+module _ (network : Network) (before : List Event) where
+  has_other : (link : LinkId) (channel : Channel) → IsDecided (HasOther network before link channel)
+  has_other link channel =
+      decided_and
+      (is_link_of network channel link)
+      (some_channel (λ f. IsFaulty network before f × (f ≢ channel))
+      (λ f. decided_and (is_faulty network before f) (decided_not (same_channel f channel))))
 
-other_channel_by : (network : Network) (before : List Event) (event : Event) (what : What) → event.what ≡ what
-    → IsDecided (CutsOtherChannel network before event)
-other_channel_by network before event (Cut link way) is = decided_by
-    (λ h. record { link = link; way = way; channel = h.0; faulty = h.1.1.0; what = is; on = h.1.0; is_faulty = h.1.1.1.0; other = h.1.1.1.1 })
-    (λ h.
-    let both = sym h.what ∙ is in
-    let same : h.link ≡ link = cc in
-    (h.channel, (subst (IsLinkOf network h.channel) same h.on, (h.faulty, (h.is_faulty, h.other)))))
-    (some_channel (HasOther network before link) (has_other network before link))
-other_channel_by network before event other is = inr (λ h. let both = sym h.what ∙ is in cc)
+  other_channel_by : (event : Event) (what : What) → event.what ≡ what
+      → IsDecided (CutsOtherChannel network before event)
+  other_channel_by event (Cut link way) is = decided_by
+      (λ h. record { link = link; way = way; channel = h.0; faulty = h.1.1.0; what = is; on = h.1.0; is_faulty = h.1.1.1.0; other = h.1.1.1.1 })
+      (λ h.
+      let both = sym h.what ∙ is in
+      let same : h.link ≡ link = cc in
+      (h.channel, (subst (IsLinkOf network h.channel) same h.on, (h.faulty, (h.is_faulty, h.other)))))
+      (some_channel (HasOther network before link) (has_other link))
+  other_channel_by event other is = inr (λ h. let both = sym h.what ∙ is in cc)
 
-pub other_channel : (network : Network) (before : List Event) (event : Event) → IsDecided (CutsOtherChannel network before event)
-other_channel network before event = other_channel_by network before event event.what refl
+  pub other_channel : (event : Event) → IsDecided (CutsOtherChannel network before event)
+  other_channel event = other_channel_by event event.what refl
 
 -- ---- devices
 
@@ -267,25 +272,28 @@ too_few network before event = decided_by
 abbrev IsUnbroken : Network → List Event → LinkId → Type 0
 IsUnbroken network before link = IsSomeAnd (link_at network link) (λ l. IsBroken before l.child) → ⊥
 
-sends_unbroken_by : (network : Network) (before : List Event) (event : Event) (what : What) → event.what ≡ what → IsDecided (SendsUnbroken network before event)
-sends_unbroken_by network before event (Send link octets) is = decided_by
-    (λ fails. record { link = link; octets = octets; what = is; unbroken = fails })
-    (λ h. let both = sym h.what ∙ is in let same : h.link ≡ link = cc in subst (IsUnbroken network before) same h.unbroken)
-    (decided_not (decided_some (link_at network link) (λ l. IsBroken before l.child) (λ l. is_broken before l.child)))
-sends_unbroken_by network before event other is = inr (λ h. let both = sym h.what ∙ is in cc)
+module _ (network : Network) (before : List Event) (event : Event) where
+  sends_unbroken_by : (what : What) → event.what ≡ what → IsDecided (SendsUnbroken network before event)
+  sends_unbroken_by (Send link octets) is = decided_by
+      (λ fails. record { link = link; octets = octets; what = is; unbroken = fails })
+      (λ h. let both = sym h.what ∙ is in let same : h.link ≡ link = cc in subst (IsUnbroken network before) same
+      h.unbroken)
+      (decided_not (decided_some (link_at network link) (λ l. IsBroken before l.child) (λ l. is_broken before l.child)))
+  sends_unbroken_by other is = inr (λ h. let both = sym h.what ∙ is in cc)
 
-pub sends_unbroken : (network : Network) (before : List Event) (event : Event) → IsDecided (SendsUnbroken network before event)
-sends_unbroken network before event = sends_unbroken_by network before event event.what refl
+  pub sends_unbroken : IsDecided (SendsUnbroken network before event)
+  sends_unbroken = sends_unbroken_by event.what refl
 
 abbrev IsKnown : Network → List Event → DeviceId → Type 0
 IsKnown network before device = BeginsOn network device ⊎ IsTurnedOn before device ⊎ IsBroken before device
 
-turns_on_again_by : (network : Network) (before : List Event) (event : Event) (what : What) → event.what ≡ what → IsDecided (TurnsOnAgain network before event)
-turns_on_again_by network before event (On device) is = decided_by
-    (λ known. record { device = device; what = is; known = known })
-    (λ h. let both = sym h.what ∙ is in let same : h.device ≡ device = cc in subst (IsKnown network before) same h.known)
-    (decided_or (begins_on network device) (decided_or (is_turned_on before device) (is_broken before device)))
-turns_on_again_by network before event other is = inr (λ h. let both = sym h.what ∙ is in cc)
+module _ (network : Network) (before : List Event) (event : Event) where
+  turns_on_again_by : (what : What) → event.what ≡ what → IsDecided (TurnsOnAgain network before event)
+  turns_on_again_by (On device) is = decided_by (λ known. record { device = device; what = is; known = known })
+      (λ h. let both = sym h.what ∙ is in let same : h.device ≡ device = cc in subst (IsKnown network before) same
+      h.known)
+      (decided_or (begins_on network device) (decided_or (is_turned_on before device) (is_broken before device)))
+  turns_on_again_by other is = inr (λ h. let both = sym h.what ∙ is in cc)
 
-pub turns_on_again : (network : Network) (before : List Event) (event : Event) → IsDecided (TurnsOnAgain network before event)
-turns_on_again network before event = turns_on_again_by network before event event.what refl
+  pub turns_on_again : IsDecided (TurnsOnAgain network before event)
+  turns_on_again = turns_on_again_by event.what refl

@@ -30,59 +30,60 @@ numbered other = refl
 same_condition : (c d : Outside) → condition_number c ≡ condition_number d → c ≡ d
 same_condition c d same = sym (numbered c) ∙ ap condition_of same ∙ numbered d
 
--- an event is outside by one condition
-one_condition : (network : Network) (before : List Event) (event : Event) (c d : Outside) → IsOutsideBy network before event c
-    → IsOutsideBy network before event d → c ≡ d
-one_condition network before event c d a b = grind (arith, cases_order, same_condition)
+module _ (network : Network) (before : List Event) (event : Event) where
+  -- an event is outside by one condition
+  one_condition : (c d : Outside) → IsOutsideBy network before event c → IsOutsideBy network before event d → c ≡ d
+  one_condition c d a b = grind (arith, cases_order, same_condition)
 
--- each condition is broken or not
-violates : (network : Network) (before : List Event) (event : Event) (condition : Outside) → IsDecided (Violates network before event condition)
-violates network before event Order = too_early before event
-violates network before event Late = decided_less_int (pos (2 ^ 20 * amount network.cycle)) event.time.0
-violates network before event Rate = fast_rate network event
-violates network before event Wire = other_wire network event
-violates network before event Hold = long_hold network event
-violates network before event Channel = other_channel network before event
-violates network before event NotMaster = no_master network event
-violates network before event SecondBreak = second_break before event
-violates network before event TooFewMasters = too_few network before event
-violates network before event NotBroken = sends_unbroken network before event
-violates network before event NotOff = turns_on_again network before event
+  -- each condition is broken or not
+  violates : (condition : Outside) → IsDecided (Violates network before event condition)
+  violates Order = too_early before event
+  violates Late = decided_less_int (pos (2 ^ 20 * amount network.cycle)) event.time.0
+  violates Rate = fast_rate network event
+  violates Wire = other_wire network event
+  violates Hold = long_hold network event
+  violates Channel = other_channel network before event
+  violates NotMaster = no_master network event
+  violates SecondBreak = second_break before event
+  violates TooFewMasters = too_few network before event
+  violates NotBroken = sends_unbroken network before event
+  violates NotOff = turns_on_again network before event
 
 -- no condition of a number below this is broken
 abbrev KeepsBelow : Network → List Event → Event → ℕ → Type 0
 KeepsBelow network before event n = (c : Outside) → condition_number c < n → Violates network before event c → ⊥
 
--- where none below a number is broken, nor that of the number, none below the next is
-keeps_next : (network : Network) (before : List Event) (event : Event) (n : ℕ) → KeepsBelow network before event n
-    → (condition_number (condition_of n) ≡ n → Violates network before event (condition_of n) → ⊥) → KeepsBelow network before event (suc n)
-keeps_next network before event n keeps here c small broken =
-    elim (cases_lt (condition_number c) n) [
-      | inl lt ↦ keeps c lt broken
-      | inr ge ↦
-          let number : condition_number c ≡ n = omega arith in
-          let same : condition_of n ≡ c = ap condition_of (sym number) ∙ numbered c in
-          here (ap condition_number same ∙ number) (subst (Violates network before event) (sym same) broken)
-    ]
+module _ (network : Network) (before : List Event) (event : Event) where
+  -- where none below a number is broken, nor that of the number, none below the next is
+  keeps_next : (n : ℕ) → KeepsBelow network before event n
+      → (condition_number (condition_of n) ≡ n → Violates network before event (condition_of n) → ⊥)
+      → KeepsBelow network before event (suc n)
+  keeps_next n keeps here c small broken =
+      elim (cases_lt (condition_number c) n) [
+        | inl lt ↦ keeps c lt broken
+        | inr ge ↦
+            let number : condition_number c ≡ n = omega arith in
+            let same : condition_of n ≡ c = ap condition_of (sym number) ∙ numbered c in
+            here (ap condition_number same ∙ number) (subst (Violates network before event) (sym same) broken)
+      ]
 
--- none of the conditions below a number is broken, or the event is outside by one
-judged : (network : Network) (before : List Event) (event : Event) (n : ℕ) → KeepsBelow network before event n
-    ⊎ ((c : Outside) × IsOutsideBy network before event c)
-judged network before event zero = inl (λ c small. absurd (omega arith))
-judged network before event (suc n) =
-    elim (judged network before event n) [
-      | inr outside ↦ inr outside
-      | inl keeps ↦
-          elim (decided_same (condition_number (condition_of n)) n) [
-            | inr other ↦ inl (keeps_next network before event n keeps (λ same broken. other same))
-            | inl same ↦
-                elim (violates network before event (condition_of n)) [
-                  | inl broken ↦ inr
-                      (condition_of n, record { violates = broken; first = λ c lower. keeps c (subst (λ (m : ℕ). condition_number c < m) same lower) })
-                  | inr kept ↦ inl (keeps_next network before event n keeps (λ same broken. kept broken))
-                ]
-          ]
-    ]
+  -- none of the conditions below a number is broken, or the event is outside by one
+  judged : (n : ℕ) → KeepsBelow network before event n ⊎ ((c : Outside) × IsOutsideBy network before event c)
+  judged zero = inl (λ c small. absurd (omega arith))
+  judged (suc n) =
+      elim (judged n) [
+        | inr outside ↦ inr outside
+        | inl keeps ↦
+            elim (decided_same (condition_number (condition_of n)) n) [
+              | inr other ↦ inl (keeps_next n keeps (λ same broken. other same))
+              | inl same ↦
+                  elim (violates network before event (condition_of n)) [
+                    | inl broken ↦ inr
+                        (condition_of n, record { violates = broken; first = λ c lower. keeps c (subst (λ m. condition_number c < m) same lower) })
+                    | inr kept ↦ inl (keeps_next n keeps (λ same broken. kept broken))
+                  ]
+            ]
+      ]
 
 at_most_eleven : (c : Outside) → condition_number c < 12
 at_most_eleven Order = omega arith

@@ -30,7 +30,7 @@ all_within network past event all here before behind e order =
     at [] last whole =
         let same : event ≡ e = cc in
         let all_before : past ≡ before = whole ∙ append-nil before in
-        subst (λ (l : List Event). IsWithinHypothesis network l e) all_before (subst (λ (x : Event). IsWithinHypothesis network past x) same here)
+        subst (λ l. IsWithinHypothesis network l e) all_before (subst (λ x. IsWithinHypothesis network past x) same here)
     at (o ∷ others) last whole =
         let same : o ≡ e = cc in
         all before others e (whole ∙ ap (λ (x : Event). before ++ x ∷ others) same)
@@ -59,19 +59,20 @@ pub end_is : (end_of : Link → DeviceId) (o : Option Link) (device : DeviceId) 
 end_is end_of None device e = absurd cc
 end_is end_of (Some l) device e = alike (end_of l) device e
 
--- and what shows as one is
-pub parent_shown : (network : Network) (device : DeviceId) (link : LinkId) → is_parent_of network device link ≡ true → IsParentOf network device link
-parent_shown network device link e = end_is (λ (l : Link). l.parent) (link_at network link) device e
+module _ (network : Network) (device : DeviceId) where
+  -- and what shows as one is
+  pub parent_shown : (link : LinkId) → is_parent_of network device link ≡ true → IsParentOf network device link
+  parent_shown link e = end_is (λ (l : Link). l.parent) (link_at network link) device e
 
--- the end system's test
-pub end_test : (network : Network) (device : DeviceId) → IsEndSystem network device → is_end network device ≡ true
-end_test network device end =
-    let d = opened (λ (x : Device). is_end_system x.role ≡ true) (device_at network device) end in
-    ap (λ (o : Option Device). option_map_or (λ x. is_end_system x.role) o false) d.1 ∙ d.2
+  -- the end system's test
+  pub end_test : IsEndSystem network device → is_end network device ≡ true
+  end_test end =
+      let d = opened (λ (x : Device). is_end_system x.role ≡ true) (device_at network device) end in
+      ap (λ (o : Option Device). option_map_or (λ x. is_end_system x.role) o false) d.1 ∙ d.2
 
--- a master is an end system
-pub master_end : (network : Network) (device : DeviceId) → has_role network is_master device ≡ true → is_end network device ≡ true
-master_end network device e = grind (arith, device_at, is_master, option_map_or)
+  -- a master is an end system
+  pub master_end : has_role network is_master device ≡ true → is_end network device ≡ true
+  master_end e = grind (arith, device_at, is_master, option_map_or)
 
 -- the first of events within the hypothesis are
 pub within_front : (network : Network) (front rest : List Event) → AreWithinHypothesis network (front ++ rest) → AreWithinHypothesis network front

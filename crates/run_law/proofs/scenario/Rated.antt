@@ -10,19 +10,20 @@ abbrev pub IsSlow : ℕ → What → Type 0
 IsSlow rho (events.Rate device rate) = unsigned_abs rate.0 ≤ rho
 IsSlow rho other = Unit {0}
 
-pub slow_event : (network : Network) (before : List Event) (event : Event) → IsWithinHypothesis network before event → IsSlow network.rho event.what
-slow_event network before event within = of event.what refl
-  where
-    of : (what : What) → event.what ≡ what → IsSlow network.rho what
-    of (events.Rate device rate) same = elim (cases_lt network.rho (unsigned_abs rate.0)) [
-      | inl fast ↦ absurd (within outside.Rate (record { device = device; rate = rate; what = same; fast = fast }))
-      | inr slow ↦ slow
-    ]
-    of other same = tt
+module _ (network : Network) (before : List Event) (event : Event) where
+  pub slow_event : IsWithinHypothesis network before event → IsSlow network.rho event.what
+  slow_event within = of event.what refl
+    where
+      of : (what : What) → event.what ≡ what → IsSlow network.rho what
+      of (events.Rate device rate) same = elim (cases_lt network.rho (unsigned_abs rate.0)) [
+        | inl fast ↦ absurd (within outside.Rate (record { device = device; rate = rate; what = same; fast = fast }))
+        | inr slow ↦ slow
+      ]
+      of other same = tt
 
-pub slow_what : (network : Network) (before : List Event) (event : Event) (what : What) → event.what ≡ what
-    → IsWithinHypothesis network before event → IsSlow network.rho what
-slow_what network before event what same within = subst (IsSlow network.rho) same (slow_event network before event within)
+  pub slow_what : (what : What) → event.what ≡ what → IsWithinHypothesis network before event
+      → IsSlow network.rho what
+  slow_what what same within = subst (IsSlow network.rho) same (slow_event within)
 
 -- what holds of the value, where there is one
 abbrev pub Holds : {X : Type 0} → Option X → (X → Type 0) → Type 0

@@ -5,21 +5,22 @@ use Rattle.{net_plan.specs.declared.tables.Row.Row, schedule_tables.specs.declar
 use Rattle.run_law.{proofs.Words.{◌≡◌, DeviceId, Happening, List, Network, Some, earlier, inl, inr, last_or, refl, ℕ}, specs.timed.Dispatching.HasAtHand}
 use Rattle.std.specs.Prelude.{IsSome, option_and_then, slice_get}
 
-pub entry_at : (network : Network) (place : ℕ) (entry : Entry) → IsEntry network place entry → entry_of network entry.row ≡ Some entry
-entry_at network place entry is = rw is.vl (rw is.link refl)
+module _ {network : Network} {place : ℕ} {entry : Entry} (is : IsEntry network place entry) where
+  pub entry_at : entry_of network entry.row ≡ Some entry
+  entry_at = rw is.vl (rw is.link refl)
 
--- the entry of the row at a place
-pub entry_is : (network : Network) (place : ℕ) (entry : Entry) → IsEntry network place entry
-    → option_and_then (entry_of network) (slice_get network.row place) ≡ Some entry
-entry_is network place entry is = ap (option_and_then (entry_of network)) is.row ∙ entry_at network place entry is
+  -- the entry of the row at a place
+  pub entry_is : option_and_then (entry_of network) (slice_get network.row place) ≡ Some entry
+  entry_is = ap (option_and_then (entry_of network)) is.row ∙ entry_at
 
-pub has_entry : (network : Network) (row : Row) → IsRowInRange network row → IsSome (entry_of network row)
-has_entry network row r =
+pub has_entry : {network : Network} {row : Row} → IsRowInRange network row → IsSome (entry_of network row)
+has_entry {network} {row} r =
     let vl = some_at network.vl row.vl.0 r.vl in
     let link = some_at network.link row.link.0 r.link in
     rw vl.1 (rw link.1 refl)
 
-pub at_hand_by : (network : Network) (js hs : List Happening) (device : DeviceId) (entry : Entry) (t cause cycle : ℕ) → earlier t js ≡ earlier t hs
-    → HasAtHand network js device entry t cause cycle → HasAtHand network hs device entry t cause cycle
-at_hand_by network js hs device entry t cause cycle same (inl sender) = inl sender
-at_hand_by network js hs device entry t cause cycle same (inr took) = grind (arith, last_or, filter)
+pub at_hand_by : (network : Network) {js : List Happening} (hs : List Happening) {device : DeviceId} (entry : Entry)
+    {t cause cycle : ℕ} → earlier t js ≡ earlier t hs → HasAtHand network js device entry t cause cycle
+    → HasAtHand network hs device entry t cause cycle
+at_hand_by network hs entry same (inl sender) = inl sender
+at_hand_by network hs entry same (inr took) = grind (arith, last_or, filter)

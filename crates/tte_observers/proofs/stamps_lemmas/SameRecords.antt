@@ -20,5 +20,5 @@ same_before s {mark} {later} {hs} {gs} t up down one other =
     let b = split place_of (IsDue s) gs (t ∷ []) other.founded in
     let left = cut_run place_of (IsDue s) mark (t ∷ []) hs a up one in
     let right = cut_run place_of (IsDue s) later (t ∷ []) gs b down other in
-    let same : a.front ≡ b.front = one_run place_of (IsDue s) (t ∷ []) (due_is_determined s) a.front b.front left right in
-    sym (same_earlier t [] hs a) ∙ ap (earlier t) same ∙ same_earlier t [] gs b
+    let same : a.front ≡ b.front = one_run (IsDue s) (due_is_determined s) left right in
+    sym (same_earlier t [] a) ∙ ap (earlier t) same ∙ same_earlier t [] b

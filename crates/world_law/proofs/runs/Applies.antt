@@ -193,5 +193,5 @@ run_goes_on_by_event n f g events event mark ns may run =
       begun = may.begun;
       cause = record { event = event; before = length events; line_is = refl; is = at_length events [] event; at = refl; same = refl };
     } in
-    let grown = grow place_of (IsDue r) here hs x under all due (record { gap = λ ps qs y e before rest d lt. lt }) in
+    let grown = grow (IsDue r) x under all due (record { gap = λ ps qs y e before rest d lt. lt }) in
     subst (IsRun place_of (IsDue r) (behind here)) (sym (one_more n ns (note_of_event ns events event))) grown

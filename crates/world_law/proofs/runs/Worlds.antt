@@ -82,7 +82,7 @@ nothing_settled_is_all s notes mark cursor now until run settled within none =
           (worked_now {s = s} {hs = hs} cursor y (from.place, from.own, from.source, worked))).1
       | inr waits ↦ none from.place from.source waits (source_before from.place (place_of y) (until ∷ []) from.no_later here)
     ] in
-    move_mark place_of (IsDue s) mark (until ∷ []) hs run (λ n i. within (place_of n) (run.within n i))
+    move_mark (IsDue s) run (λ n i. within (place_of n) (run.within n i))
     (none_due place_of (IsDue s) mark hs (until ∷ []) run.within free)
 
 -- where nothing to come is before the place up to which all is worked off, the records given are the run up to there
@@ -105,5 +105,5 @@ given_up_to {s} notes {coming} {mark} {cursor} run settled ahead up_to =
           (place_of y) cursor from.no_later here,
     )) in
     ahead found.0 found.1 (subst (λ q. IsBefore q cursor) (sym found.2) here) in
-    move_mark place_of (IsDue s) mark cursor hs run (λ n i. up_to (place_of n) (run.within n i))
+    move_mark (IsDue s) run (λ n i. up_to (place_of n) (run.within n i))
     (none_due place_of (IsDue s) mark hs cursor run.within free)

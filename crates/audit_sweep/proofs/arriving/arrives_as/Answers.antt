@@ -8,7 +8,7 @@ returns-in-Some c befallen hs k =
     let p = c.args.passage in
     let x = c.in-Some.ensures befallen hs k in (
       λ yes. subst (λ a. ArrivesAs s hs p.device p.time p.link p.cause a) (c.is_judged.ensures.0 yes) x,
-      λ y. c.is_judged.ensures.1 (same_arrival s hs p.time p.device p.link p.cause _ _ x y),
+      λ y. c.is_judged.ensures.1 (same_arrival x y),
     )
 
 pub returns-in-None : goal.returns-in-None

@@ -11,7 +11,7 @@ returns-then-is_same_point c befallen hs k =
     let x = c.in-Some.ensures befallen hs k in (
       λ yes. subst (λ u. BecomesPermanent s hs p.device p.time p.link p.cause u is) (c.is_same_point.ensures.0 c.if-is_same_point.true)
           (subst (λ a. BecomesPermanent s hs p.device p.time p.link p.cause r.point a) (c.is_judged.ensures.0 yes) x),
-      λ y. c.is_judged.ensures.1 (same_ripening s hs p.time p.device p.link p.cause r.point c.args.point r.is is x y),
+      λ y. c.is_judged.ensures.1 (same_ripening s hs p.time p.device p.link p.cause x y),
     )
 
 pub returns-else-is_same_point : goal.returns-else-is_same_point
@@ -20,7 +20,8 @@ returns-else-is_same_point c befallen hs k =
     let p = c.args.passage in
     let x = c.in-Some.ensures befallen hs k in (
       λ yes. absurd cc,
-      λ y. let yes = c.is_same_point.ensures.1 (same_point s hs p.time p.device p.link p.cause x.frame y.frame _ _ x.permanent y.permanent) in
+      λ y. let yes =
+          c.is_same_point.ensures.1 (same_point s hs p.time p.device p.link p.cause x.permanent y.permanent) in
           let no = c.if-is_same_point.false in absurd cc,
     )
 

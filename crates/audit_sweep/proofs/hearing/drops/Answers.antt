@@ -9,7 +9,7 @@ returns-in-Some c befallen hs k =
     let r = c.in-Some.ripened in
     let x = c.in-Some.ensures befallen hs k in (
       λ yes. (r.point, subst (λ a. BecomesPermanent s hs p.device p.time p.link p.cause r.point a) (c.is_dropped.ensures.0 yes) x),
-      λ y. c.is_dropped.ensures.1 (same_ripening s hs p.time p.device p.link p.cause r.point y.0 r.is (Dropped c.args.reason) x y.1),
+      λ y. c.is_dropped.ensures.1 (same_ripening s hs p.time p.device p.link p.cause x y.1),
     )
 
 pub returns-in-None : goal.returns-in-None

@@ -8,7 +8,8 @@ returns-in-Some c befallen hs k =
     let p = c.args.passage in
     let x = c.in-Some.ensures befallen hs k in (
       λ yes. subst (λ d. Departs s hs p.device p.time p.link p.cause (departure_as d)) (c.is_same.ensures.0 yes) x,
-      λ y. c.is_same.ensures.1 (one_departed c.in-Some.departed c.args.is (same_departure s hs p.time p.device p.link p.cause _ _ x y)),
+      λ y. c.is_same.ensures.1 (one_departed c.in-Some.departed c.args.is
+          (same_departure s hs p.time p.device p.link p.cause x y)),
     )
 
 pub returns-in-None : goal.returns-in-None

@@ -13,7 +13,7 @@ accepted_kept : {hs : List Happening} {device : DeviceId} {vl : VlId} {t cause c
 accepted_kept {hs} {device} {vl} {t} {cause} {cycle} kept found is has =
     let h = has.taken in
     let there : numbered hs cause ≡ Some h =
-    subst (λ n. numbered hs n ≡ Some h) (sym has.number) (found h (accepted_in hs device vl t cause cycle has)) in
+    subst (λ n. numbered hs n ≡ Some h) (sym has.number) (found h (accepted_in has)) in
     is ∙ ap (option_map (λ (x : Happening). kept_of x.note.body)) there ∙ ap (λ b. Some (kept_of b)) has.is
 
 by_hand : (network : Network) {hs : List Happening} {device : DeviceId} (entry : Entry) {t cause cycle : ℕ}

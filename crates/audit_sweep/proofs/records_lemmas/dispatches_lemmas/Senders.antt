@@ -71,7 +71,7 @@ sender_of : (network : Network) {hs : List Happening} {device : DeviceId} (entry
 sender_of network entry found (inl (sends, none)) = sends
 sender_of network {hs} {device} entry {t} {cycle} found (inr (switch, has)) =
     let none : numbered hs 0 ≡ Some has.taken =
-    subst (λ n. numbered hs n ≡ Some has.taken) (sym has.number) (found has.taken (accepted_in hs device entry.row.vl t 0 cycle has)) in
+    subst (λ n. numbered hs n ≡ Some has.taken) (sym has.number) (found has.taken (accepted_in has)) in
     absurd cc
 
 pub some_sent : {s : Scenario} {hs : List Happening} {device : DeviceId} {t : ℕ} {link : LinkId}

@@ -10,7 +10,7 @@ returns-in-Some-clause-is c =
     sym (ap (λ (w : Way). option_and_then (entry_of network) (find (test w) network.row)) (sym c.way_to.ensures)
     ∙ ap (option_and_then (entry_of network)) (found_at (test c.way_to.result) network.row
     ∙ ap (λ (o : Option ℕ). option_and_then (slice_get network.row) o) (sym c.place_entering.ensures.is ∙ c.in-Some.is))
-    ∙ entry_is network c.in-Some.place c.entry_of.result c.entry_of.ensures.is)
+    ∙ entry_is c.entry_of.ensures.is)
 
 pub returns-in-None-clause-is : goal.returns-in-None-clause-is
 returns-in-None-clause-is c =

@@ -192,7 +192,7 @@ pub reaches_in : (v : View) (hs : List Happening) (device : DeviceId) (cycle pla
     → ReachesPlace v.scenario hs device cycle place t → Reaches v.scenario v.records device (pos (cycle * v.sizes.cycle + place)) t
 reaches_in v hs device cycle place t is front le reaches =
     subst (λ (n : ℕ). Reaches v.scenario v.records device (pos (cycle * n + place)) t) (sym (cycle_is v is))
-    (reaches_by v.scenario hs v.records device (pos (cycle * amount v.scenario.network.cycle + place)) t (front.early t (omega (arith, le))) reaches)
+    (reaches_by {gs = hs} v.records {t = t} (front.early t (omega (arith, le))) reaches)
 
 -- the frame is sent in the view
 sent_in : Brings → (v : View) (hs : List Happening) (until : ℕ) (vl : VlId) (of_vl : VirtualLink) (cycle : ℕ) (device : DeviceId) → IsView v → IsFrontOf v hs

@@ -153,7 +153,7 @@ reaches_out : (v : View) (hs : List Happening) (device : DeviceId) (cycle place 
     → ReachesPlace v.scenario hs device cycle place t
 reaches_out v hs device cycle place t is front le reaches =
     let value = pos (cycle * amount v.scenario.network.cycle + place) in
-    reaches_by v.scenario v.records hs device value t (sym (front.early t (omega (arith, le))))
+    reaches_by {gs = v.records} hs {t = t} (sym (front.early t (omega (arith, le))))
     (subst (λ (n : ℕ). Reaches v.scenario v.records device (pos (cycle * n + place)) t) (cycle_is v is) reaches)
 
 -- what comes in the span of a cycle comes behind what lies before the span

@@ -238,13 +238,14 @@ arrivals_are_taken brings channels v h device receiver link cause vl cycle is fi
         let s = v.scenario in
         let t = arrives_at v h link d.entry.row.way d.entry in
         let at = split place_of (IsDue s) v.records (t ∷ 11 ∷ receiver.0 ∷ link.0 ∷ h.note.number ∷ []) is.run.founded in
-        let found = found_before s v.records t _ at h is.run.founded d.there (later_than v h device link cause vl cycle is d) in
+        let found = found_before s {hs = v.records} t _ at h is.run.founded d.there
+        (later_than v h device link cause vl cycle is d) in
         elim (is_taken_in cycle (last_taken at.front receiver t link h.note.number vl)) as
         (λ b. is_taken_in cycle (last_taken at.front receiver t link h.note.number vl) ≡ b → HasTaken v receiver vl cycle t) [
           | true ↦ λ again. repeated at.front at.rest at.whole again
           | false ↦ λ anew.
               let judgement = taken_so brings channels v h device receiver link cause vl cycle is fit good fine d whole enters in_run up off at.front
-              (same_earlier t _ v.records at) (last_taken at.front receiver t link h.note.number) anew in
+              (same_earlier t _ {hs = v.records} at) (last_taken at.front receiver t link h.note.number) anew in
               let kind : taken_by s.network receiver vl cycle ≡ arrivals.Accepted vl cycle = ap (λ (x : Bool). if x then arrivals.Delivered vl cycle
               else arrivals.Accepted vl cycle) end in
               let body = notes.Accepted receiver link h.note.number vl cycle in
@@ -252,7 +253,7 @@ arrivals_are_taken brings channels v h device receiver link cause vl cycle is fi
               record {
                 taking = taking;
                 there =
-                    due_is_there s ((v.until + 1) ∷ []) v.records taking at is.run
+                    due_is_there {s = s} {mark = (v.until + 1) ∷ []} {hs = v.records} {x = taking} at is.run
                     (next_due s at.front t body (arrives_as at.front (arrivals.Accepted vl cycle) found (judgement ∙ kind))) (inl (omega (arith, in_run)));
                 by_then = omega arith;
                 link = link;
@@ -264,13 +265,14 @@ arrivals_are_taken brings channels v h device receiver link cause vl cycle is fi
         let s = v.scenario in
         let t = arrives_at v h link d.entry.row.way d.entry in
         let at = split place_of (IsDue s) v.records (t ∷ 12 ∷ receiver.0 ∷ link.0 ∷ h.note.number ∷ []) is.run.founded in
-        let found = found_before s v.records t _ at h is.run.founded d.there (later_than v h device link cause vl cycle is d) in
+        let found = found_before s {hs = v.records} t _ at h is.run.founded d.there
+        (later_than v h device link cause vl cycle is d) in
         elim (is_taken_in cycle (last_taken at.front receiver t link h.note.number vl)) as
         (λ b. is_taken_in cycle (last_taken at.front receiver t link h.note.number vl) ≡ b → HasTaken v receiver vl cycle t) [
           | true ↦ λ again. repeated at.front at.rest at.whole again
           | false ↦ λ anew.
               let judgement = taken_so brings channels v h device receiver link cause vl cycle is fit good fine d whole enters in_run up off at.front
-              (same_earlier t _ v.records at) (last_taken at.front receiver t link h.note.number) anew in
+              (same_earlier t _ {hs = v.records} at) (last_taken at.front receiver t link h.note.number) anew in
               let kind : taken_by s.network receiver vl cycle ≡ arrivals.Delivered vl cycle = ap (λ (x : Bool). if x then arrivals.Delivered vl cycle
               else arrivals.Accepted vl cycle) end in
               let body = notes.Delivered receiver link h.note.number vl cycle in
@@ -278,7 +280,7 @@ arrivals_are_taken brings channels v h device receiver link cause vl cycle is fi
               record {
                 taking = taking;
                 there =
-                    due_is_there s ((v.until + 1) ∷ []) v.records taking at is.run
+                    due_is_there {s = s} {mark = (v.until + 1) ∷ []} {hs = v.records} {x = taking} at is.run
                     (next_due s at.front t body (arrives_as at.front (arrivals.Delivered vl cycle) found (judgement ∙ kind))) (inl (omega (arith, in_run)));
                 by_then = omega arith;
                 link = link;

@@ -55,7 +55,7 @@ none_there v device n value t is within reaches g cycle by adjustment there same
     ap (λ (k : ℕ). pos (cycle * k + amount s.network.correction)) (sym (cycle_is v is))
     ∙ ap (λ (k : ℕ). pos (cycle * v.sizes.cycle + k)) (sym (ap (λ (x : Sizes). x.correction) is.sizes)) in
     let reached : Reaches s v.records device (correction_value s.network cycle) (time_of g) =
-    reaches_by s found.front v.records device (correction_value s.network cycle) (time_of g)
+    reaches_by v.records
     (earlier_before v (time_of g) found.front (before_of v g is found)) cause.corrected.reached in
     let at : Reaches s v.records device (correction_value s.network cycle) t =
     subst (Reaches s v.records device (correction_value s.network cycle)) same reached in

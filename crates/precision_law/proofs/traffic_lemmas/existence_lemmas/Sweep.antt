@@ -76,7 +76,7 @@ module _ {N : Type 0} (place : N → List ℕ) (IsDue : List N → N → Type 0)
   pub move_on : (m next : List ℕ) (ns : List N) → IsRun place IsDue m ns → ((q : List ℕ) → IsBefore q m → IsBefore q next)
       → ((y : N) → IsDue ns y → IsBefore (place y) next → IsBefore (place y) m) → IsRun place IsDue next ns
   move_on m next ns run up none =
-      move_mark place IsDue m next ns run (λ x i. up (place x) (run.within x i))
+      move_mark IsDue {later = next} run (λ x i. up (place x) (run.within x i))
       (record { gap = λ ps qs y e before rest due here. gap ps qs y e rest due here })
     where
       gap : (ps qs : List N) (y : N) → ns ≡ ps ++ qs → ((n : N) → IsIn n qs → IsBefore (place n) (place y) → ⊥) → IsDue ps y → IsBefore (place y) next
@@ -119,7 +119,7 @@ module _ {N : Type 0} (place : N → List ℕ) (IsDue : List N → N → Type 0)
             let x = has.0 in
             let ms : List N = r.ms ++ x ∷ [] in
             let kept = grows r.ms x r.kept (subst (IsUnder under) (sym has.2) here) in
-            let run = grow place IsDue p r.ms x r.run (λ n i. subst (IsBefore (place n)) (sym has.2) (r.run.within n i)) has.1
+            let run = grow IsDue x r.run (λ n i. subst (IsBefore (place n)) (sym has.2) (r.run.within n i)) has.1
             (record { gap = λ ps qs y e before rest due lt. subst (IsBefore (place y)) has.2 lt }) in
             let there = subst (λ (q : List ℕ). IsRun place IsDue (behind q) ms) has.2 run in
             record {

@@ -40,7 +40,7 @@ dispatches_are_of_rows v h device link cause vl cycle is i body =
       correct = d.up.correct;
       reached =
           subst (λ (n : ℕ). Reaches s v.records device (pos (cycle * n + amount d.entry.row.offset)) t) (sym (cycle_is v is))
-          (reaches_by s found.front v.records device _ t same d.reached);
+          (reaches_by v.records same d.reached);
       at_hand = elim d.at_hand [
         | inl own ↦ inl own
         | inr taken ↦ inr (

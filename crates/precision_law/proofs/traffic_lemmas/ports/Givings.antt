@@ -180,7 +180,7 @@ point_reached brings v j q block device is good timed old in_run after =
         ] in
         let early : epoch_time (earlier w v.records) device <ℤ pos q = omega (arith, ints, was_old, block.from) in
         let same : adjustment_left v device q ≡ adjustment_left v device w = ap (λ (a : Units). a.0) (adjustment_stays v device q w is not_before early) in
-        let reached = reaches_by s found.front v.records device (correction_value s.network set.cycle) w (earlier_before v w found.front split)
+        let reached = reaches_by v.records (earlier_before v w found.front split)
         cause.corrected.reached in
         let sharp = clocks_reach_sharply v device (correction_value s.network set.cycle) w is reached in
         let cycle : v.sizes.cycle ≡ amount s.network.cycle = cycle_is v is in

@@ -71,7 +71,7 @@ dispatches_it {s} {hs} {coming} other {now} {device} row {entry} {cause} {cycle}
         occurs = subst (λ (x : Entry). OccursIn x.vl cycle) one frame.occurs;
         up = up_back s (hs ++ coming) (hs ++ other) now device same (record { synchronised = sym w.left.state ∙ p.1.own.0; correct = w.sound });
         reached = reaches_back s (hs ++ coming) (hs ++ other) now device same reached;
-        at_hand = at_hand_by s.network hs (hs ++ other) device entry now cause cycle given hand;
+        at_hand = at_hand_by s.network (hs ++ other) entry given hand;
       },
       refl,
     )

@@ -24,7 +24,7 @@ permanent_natural {s} {hs} {device} {link} {cause} {point} range founded p =
     at.due.cause in
     let least = range.dmax.least in
     point_natural (s.reading device (time_of p.arrival)) p.clock s.network.dmax point p.at_point
-    (arrived_young s at.front device (amount p.arrival.note.time) link p.from p.clock caused) (omega (arith, ints, least))
+    (arrived_young caused) (omega (arith, ints, least))
 
 by_record : (s : Scenario) (hs : List Happening) (device : DeviceId) (h : Happening) → IsInRange s.network → AreFoundedAs s hs → IsIn h hs
     → (body : NoteBody) → h.note.body ≡ body → IfSome (point_by device h body) (λ p. pos 0 ≤ℤ p.reading)

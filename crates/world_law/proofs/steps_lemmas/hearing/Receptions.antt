@@ -175,7 +175,7 @@ pub outcome_at : {s : Scenario} {hs : List Happening} (zs : List Happening) {now
     ∷ key members body
 outcome_at {s} {hs} zs {now} {e} is it at so c =
     ap (λ x. now ∷ rank (arrival_body e.device e.link e.cause x) ∷ e.device.0 ∷ e.link.0 ∷ e.cause ∷ [])
-    (same_arrival s (hs ++ zs) now e.device e.link e.cause is c.is (arrives_now zs now is it at so) c.so) ∙ c.place
+    (same_arrival (arrives_now zs now is it at so) c.so) ∙ c.place
 
 -- ---- whatever stands at the place of an outcome comes from the arrival, or from a source behind it
 

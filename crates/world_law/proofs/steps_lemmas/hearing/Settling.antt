@@ -49,7 +49,7 @@ module _ (s : Scenario) (hs front back : List Happening) (mark cursor : List ℕ
   all_of_arrival f rest y whole before none due own =
       let c = comes_as s (hs ++ f) now e (time_of y) (members_in y) y.note.body own y.note.time refl due.cause in
       let c_is : c.is ≡ arrival_of s (hs ++ f) e.device now e.link e.cause e.signal =
-      same_arrival s (hs ++ f) now e.device e.link e.cause c.is _ c.so (arrives_now f now _ p.wire p.arrives refl) in
+      same_arrival c.so (arrives_now f now _ p.wire p.arrives refl) in
       let r = rank (arrival_body e.device e.link e.cause c.is) in
       let high : least_rank s.network e.device e.signal ≤ r =
       subst (λ a. least_rank s.network e.device e.signal ≤ rank (arrival_body e.device e.link e.cause a)) (sym c_is)

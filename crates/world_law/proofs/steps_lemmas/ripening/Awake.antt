@@ -76,15 +76,14 @@ on_recorded {s} {mark} {hs} t device run past befallen lt on sound =
     let note : Note = record { number = length at_event.front + 1; time = e.time; body = kinds.Event line e.what } in
     let event = happening s.network at_event.front note in
     let due : IsDue s at_event.front event = grind (arith, get.0, e, get.1, event) in
-    let there : IsIn event hs = due_is_there s mark hs event at_event run due (befallen.told get.0 e get.1) in
+    let there : IsIn event hs = due_is_there at_event run due (befallen.told get.0 e get.1) in
     let number = length at_event.front + 1 in
     let at_state = split place_of (IsDue s) hs (amount e.time ∷ 7 ∷ device.0 ∷ number ∷ []) run.founded in
     let state_note : Note = record { number = length at_state.front + 1; time = e.time; body = kinds.State device Integrating number whys.On } in
     let state = happening s.network at_state.front state_note in
     let founded : IsFounded place_of (IsDue s) at_state.front = front_founded place_of (IsDue s) at_state.front at_state.rest
     (subst (λ l. IsFounded place_of (IsDue s) l) at_state.whole run.founded) in
-    let in_front : IsIn event at_state.front = in_front_of place_of hs (amount e.time ∷ 7 ∷ device.0 ∷ number ∷ []) at_state event there
-    (inr (refl, inl (omega arith))) in
+    let in_front : IsIn event at_state.front = in_front_of at_state event there (inr (refl, inl (omega arith))) in
     let state_due : IsDue s at_state.front state = record {
       number = refl;
       same = refl;
@@ -101,7 +100,7 @@ on_recorded {s} {mark} {hs} t device run past befallen lt on sound =
       );
     } in (
       state,
-      due_is_there s mark hs state at_state run state_due (past _ (inl (omega (arith, at, lt)))),
+      due_is_there at_state run state_due (past _ (inl (omega (arith, at, lt)))),
       at,
       eq-eqb device.0 device.0 refl,
     )

@@ -83,7 +83,7 @@ pub one_outcome : {s : Scenario} {hs coming : List Happening} (f : List Happenin
     → ((h : Happening) → IsIn h f → IsBefore (place_of h) (now ∷ 3 ∷ ripe_more e) → ⊥)
     → IsHere now t e device link cause → BecomesPermanent s (hs ++ f) device t link cause point other → other ≡ is
 one_outcome {s} {hs} {coming} f {mark} {cursor} {now} {e} {node} {point} is {other} r hears so after h b =
-    same_ripening s (hs ++ f) now e.device e.link e.cause point e.point other is (moved_here h b)
+    same_ripening s (hs ++ f) now e.device e.link e.cause (moved_here h b)
     (becomes_now s hs coming f mark cursor now e node is r after hears so)
 
 -- ---- so its record is at the place

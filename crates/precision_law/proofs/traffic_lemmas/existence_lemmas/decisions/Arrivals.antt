@@ -114,7 +114,7 @@ HasAccepted s hs t d l cause = (vl : VlId) × (cycle : ℕ) × IsTakenAs s hs t 
 accepted_by : (s : Scenario) (hs : List Happening) (t d l cause : ℕ) (is : Arrival) → IsTakenAs s hs t d l cause is → IsDecided (HasAccepted s hs t d l cause)
 accepted_by s hs t d l cause (arrivals.Accepted vl cycle) a = inl (vl, cycle, a)
 accepted_by s hs t d l cause other a =
-    inr (λ h. let one = same_arrival s hs t (record { 0 = d }) (record { 0 = l }) cause _ (arrivals.Accepted h.0 h.1) a h.2 in cc)
+    inr (λ h. let one = same_arrival a h.2 in cc)
 
 pub accepted_decided : (s : Scenario) (hs : List Happening) (t : ℕ) (ks : List ℕ) → IsDecided (HasCaused s hs t 11 ks)
 accepted_decided s hs t ks =
@@ -134,7 +134,7 @@ HasDelivered s hs t d l cause = (vl : VlId) × (cycle : ℕ) × IsTakenAs s hs t
 delivered_by : (s : Scenario) (hs : List Happening) (t d l cause : ℕ) (is : Arrival) → IsTakenAs s hs t d l cause is → IsDecided (HasDelivered s hs t d l cause)
 delivered_by s hs t d l cause (arrivals.Delivered vl cycle) a = inl (vl, cycle, a)
 delivered_by s hs t d l cause other a =
-    inr (λ h. let one = same_arrival s hs t (record { 0 = d }) (record { 0 = l }) cause _ (arrivals.Delivered h.0 h.1) a h.2 in cc)
+    inr (λ h. let one = same_arrival a h.2 in cc)
 
 pub delivered_decided : (s : Scenario) (hs : List Happening) (t : ℕ) (ks : List ℕ) → IsDecided (HasCaused s hs t 12 ks)
 delivered_decided s hs t ks =

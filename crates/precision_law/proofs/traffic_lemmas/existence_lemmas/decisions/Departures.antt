@@ -79,7 +79,8 @@ HasLeft s hs t d l cause = (clock : ℕ) × Departs s hs (record { 0 = d }) t (r
 left_by : (s : Scenario) (hs : List Happening) (t d l cause : ℕ) (is : Departure) → Departs s hs (record { 0 = d }) t (record { 0 = l }) cause is
     → IsDecided (HasLeft s hs t d l cause)
 left_by s hs t d l cause (leaves clock) a = inl (clock, a)
-left_by s hs t d l cause other a = inr (λ h. let one = same_departure s hs t (record { 0 = d }) (record { 0 = l }) cause _ (leaves h.0) a h.1 in cc)
+left_by s hs t d l cause other a =
+    inr (λ h. let one = same_departure s hs t (record { 0 = d }) (record { 0 = l }) cause a h.1 in cc)
 
 pub left_decided : (s : Scenario) (hs : List Happening) (t : ℕ) (ks : List ℕ) → IsDecided (HasCaused s hs t 8 ks)
 left_decided s hs t ks =
@@ -100,8 +101,8 @@ old_decided s hs device t link cause =
   where
     by : (is : Departure) → Departs s hs device t link cause is → IsDecided (Departs s hs device t link cause too_old)
     by too_old a = inl a
-    by (leaves clock) a = inr (λ d. let one = same_departure s hs t device link cause (leaves clock) too_old a d in cc)
-    by on_cut_way a = inr (λ d. let one = same_departure s hs t device link cause on_cut_way too_old a d in cc)
+    by (leaves clock) a = inr (λ d. let one = same_departure s hs t device link cause a d in cc)
+    by on_cut_way a = inr (λ d. let one = same_departure s hs t device link cause a d in cc)
 
 pub cut_decided : (s : Scenario) (hs : List Happening) (device : DeviceId) (t : ℕ) (link : LinkId) (cause : ℕ)
     → IsDecided (Departs s hs device t link cause on_cut_way)
@@ -110,5 +111,5 @@ cut_decided s hs device t link cause =
   where
     by : (is : Departure) → Departs s hs device t link cause is → IsDecided (Departs s hs device t link cause on_cut_way)
     by on_cut_way a = inl a
-    by (leaves clock) a = inr (λ d. let one = same_departure s hs t device link cause (leaves clock) on_cut_way a d in cc)
-    by too_old a = inr (λ d. let one = same_departure s hs t device link cause too_old on_cut_way a d in cc)
+    by (leaves clock) a = inr (λ d. let one = same_departure s hs t device link cause a d in cc)
+    by too_old a = inr (λ d. let one = same_departure s hs t device link cause a d in cc)

@@ -108,7 +108,7 @@ IsRefused s hs device t link cause = (reason : Reason) × ArrivesAs s hs device 
 refused_by : (s : Scenario) (hs : List Happening) (device : DeviceId) (t : ℕ) (link : LinkId) (cause : ℕ) (is : Arrival)
     → ArrivesAs s hs device t link cause is → IsDecided (IsRefused s hs device t link cause)
 refused_by s hs device t link cause (arrivals.Dropped reason) a = inl (reason, a)
-refused_by s hs device t link cause other a = inr (λ h. let one = same_arrival s hs t device link cause _ (arrivals.Dropped h.0) a h.1 in cc)
+refused_by s hs device t link cause other a = inr (λ h. let one = same_arrival a h.1 in cc)
 
 refused : (s : Scenario) (hs : List Happening) (device : DeviceId) (t : ℕ) (link : LinkId) (cause : ℕ) → IsDecided (IsRefused s hs device t link cause)
 refused s hs device t link cause =

@@ -145,14 +145,14 @@ module _ (s : Scenario) (hs : List Happening) (t d p members l cause : ℕ) (r :
 
   are_shown : HasJudged s hs t d p members l cause → AreShown
   are_shown h =
-      let one = same_point s hs t (record { 0 = d }) (record { 0 = l }) cause r.2.frame h.2.frame r.0 h.0 r.2.permanent h.2.permanent in
+      let one = same_point s hs t (record { 0 = d }) (record { 0 = l }) cause r.2.permanent h.2.permanent in
       (ap amount one ∙ h.3.0, h.3.1)
 
   judged_by : IsDecided (HasJudged s hs t d p members l cause)
   judged_by =
       decided_within (judgement_in r.1)
       (λ v. decided_by (shown v.0 v.1) are_shown (decided_and (decided_same (amount r.0) p) (decided_same (members_from hs cause) members)))
-      (λ h. (h.1, same_ripening s hs t (record { 0 = d }) (record { 0 = l }) cause r.0 h.0 r.1 (ripe_as h.1) r.2 h.2))
+      (λ h. (h.1, same_ripening s hs t (record { 0 = d }) (record { 0 = l }) cause r.2 h.2))
 
 pub permanent_decided : (s : Scenario) (hs : List Happening) (t : ℕ) (ks : List ℕ) → IsDecided (HasCaused s hs t 3 ks)
 permanent_decided s hs t ks =
@@ -182,7 +182,8 @@ HasDropped s hs device t link cause = (reason : Reason) × (point : Units) × Be
 dropped_by : (s : Scenario) (hs : List Happening) (device : DeviceId) (t : ℕ) (link : LinkId) (cause : ℕ) (point : Units) (is : Ripe)
     → BecomesPermanent s hs device t link cause point is → IsDecided (HasDropped s hs device t link cause)
 dropped_by s hs device t link cause point (ripe.Dropped reason) b = inl (reason, point, b)
-dropped_by s hs device t link cause point other b = inr (λ h. let one = same_ripening s hs t device link cause point h.1 _ (ripe.Dropped h.0) b h.2 in cc)
+dropped_by s hs device t link cause point other b =
+    inr (λ h. let one = same_ripening s hs t device link cause b h.2 in cc)
 
 pub dropped_decided : (s : Scenario) (hs : List Happening) (device : DeviceId) (t : ℕ) (link : LinkId) (cause : ℕ)
     → IsDecided (HasDropped s hs device t link cause)
