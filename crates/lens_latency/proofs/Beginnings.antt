@@ -76,9 +76,9 @@ begins_below channel (suc bound) {v} {h} {device} {link} {cause} {vl} {cycle} is
           let range = is.lawful.range in
           let rules = is.lawful.rules in
           let no_end = subst (λ x. is_end n x ≡ false) (sym d.leaves) passed.switch in
-          let switch = source_on n d.place d.entry channel range rules d.row no_end on in
+          let switch = source_on channel range rules d.row no_end on in
           let entering = subst (IsSwitchOf n channel) (d.leaves ∙ sym row.enters) switch in
-          let on_row = target_on n row.place row.entry channel range rules row.row entering in
+          let on_row = target_on channel range rules row.row entering in
           let rest = begins_below channel bound is fit fine sources comes.dispatch
           (subst (IsOnChannel n channel) (sym comes.same) on_row) (omega (arith, taking.at, passed.earlier, lt)) in
           let first_cause : numbered v.records (cause_of h.note.body) ≡ Some passed.taken = ap (λ b. numbered v.records (cause_of b)) d.is

@@ -104,7 +104,8 @@ leaves_switch {network} channel entry device range on target end = by entry.row.
   where
     by : (way : Way) → target_by way entry.link ≡ device → IsSwitchOf network channel (source_by way entry.link)
     by Up e =
-        absurd (both_ways _ (switch_no_end network channel device range (subst (IsSwitchOf network channel) e on)) (end_test network device end))
+        absurd (both_ways _ (switch_no_end channel device range (subst (IsSwitchOf network channel) e on))
+        (end_test network device end))
     by Down e = on
 
 -- a frame that is owed

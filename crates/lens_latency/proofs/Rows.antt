@@ -18,7 +18,7 @@ module _ (n : Network) (range : IsInRange n) (keeps : KeepsRules n) where
       by Up e = closed (λ (l : Link). (l.child ≡ device) × IsSwitchOf n channel l.parent) (link_at n entry.row.link) entry.link row.link (e, on)
       by Down e =
           let switch = subst (IsSwitchOf n channel) e on in
-          absurd (both_ways _ (switch_no_end n channel device range switch) end)
+          absurd (both_ways _ (switch_no_end channel device range switch) end)
 
   -- the virtual link's row that leaves its sender on the channel is one
   pub one_first : (vl : VlId) (channel : Channel) (place other : ℕ) (entry second : Entry) → IsEntry n place entry → IsEntry n other second
@@ -59,7 +59,7 @@ module _ (n : Network) (range : IsInRange n) (keeps : KeepsRules n) where
       → tolerance n ≤ arrival_of entry
   begins_in_cycle channel place entry row switch =
       let not : source_of entry ≡ entry.vl.sender → ⊥ = λ e.
-      both_ways _ (switch_no_end n channel (source_of entry) range switch)
+      both_ways _ (switch_no_end channel (source_of entry) range switch)
       (subst (λ d. is_end n d ≡ true) (sym e) (end_test n entry.vl.sender (keeps Senders entry.row.vl.0 entry.vl row.vl))) in
       elim (keeps Sources place entry row) [
         | inl sender ↦ absurd (not sender)

@@ -53,14 +53,14 @@ deliveries_are_seen s mark ns until cs c channel h link cause cycle up are has i
     let value = beta_at n beta.1.jitter beta.1.links in
     let is_beta = subst (IsBeta n) beta.1.value beta.1 in
     let sound = brings.channels.sound s w up.lawful in
-    let at = view_with s mark ns until w sound.0 value up is_beta le sound.1 in
+    let at = view_with w sound.0 value up is_beta le sound.1 in
     let v = view_of s w sound.0 value at.cut.front in
     let there = at.cut.has h i (omega arith) in
     let taking = takings_are_so v h c.device link cause c.vl cycle at.is there (inr is) in
     let row = taking.by_row in
-    let sources = good_sources brings.channels v c.vl sender.of_vl at.is sender.there sender.correct in
+    let sources = good_sources brings.channels c.vl sender.of_vl at.is sender.there sender.correct in
     let fine = sources row.place row.entry row.row row.of_vl in
-    let fit = fields_fit n up.lawful.range in
+    let fit = fields_fit up.lawful.range in
     let comes = takings_come_by_rows brings.blocks brings.senders v h c.device link cause c.vl cycle at.is fit taking.correct taking fine in
     let of = opened (λ (l : Link). IsSwitchOf n channel l.parent) (link_at n link) on in
     let linked : link_at n link ≡ Some row.entry.link = subst (λ x. link_at n x ≡ Some row.entry.link) row.by row.row.link in

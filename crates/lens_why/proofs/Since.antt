@@ -142,7 +142,7 @@ module _ (network : Network) (octets : List ℕ) (ns : List Note) (end : Units) 
       let on = founded_at own at.front e at.founded (numbered_in at.front cause e c.2.2.there) in
       let caused : IsCaused own on.front e.note.time (notes.Event c.2.0 (events.On device)) =
       subst (IsCaused own on.front e.note.time) c.2.3 on.due.cause in
-      ap (is_turned_on_at own device) (sym c.2.2.same_time) ∙ turned_on_by own e.note.time c.2.0 device caused
+      ap (is_turned_on_at own device) (sym c.2.2.same_time) ∙ turned_on_by own device caused
 
   module _ (off : is_turned_on_at own device (time_of h) ≡ false) where
     -- so where none does at the record's time, none before it does

@@ -81,4 +81,4 @@ report_well {network} {notes} {end} rules r =
     let events = events_of notes in
     let under = report_under (kept_apart network rules r.range) rules r.events in
     own fresh_segment stepped_segment segment_reading exact_laws exact_begins network events (amount end) notes under
-    (end_in_time network events under end (report_ends events end r.events.ends)) r.run
+    (end_in_time under end (report_ends events end r.events.ends)) r.run

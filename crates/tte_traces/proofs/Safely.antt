@@ -49,7 +49,7 @@ begins_run {network} {events} notes under records =
       parts = front.1;
       run = there.1;
       well = own fresh_segment stepped_segment segment_reading exact_laws exact_begins network events time there.0 under
-          (last_in_time network events under) there.1;
+          (last_in_time under) there.1;
     }
 
 -- ---- what is told of a run of an accepted network

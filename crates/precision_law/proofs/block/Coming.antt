@@ -7,18 +7,18 @@ use Rattle.precision_law.proofs.words.Laws.{adjustment_left, epoch_time, has_tim
 use Rattle.precision_law.proofs.words.Plans.{DeviceId, Integrating, State, Units, state_at_start}
 use Rattle.precision_law.proofs.words.Runs.{Happening, IsIn, Reaches, Why, changes_adjustment, correction_value, earlier, founded_at, in_left, in_right}
 use Rattle.precision_law.proofs.words.Runs.{integration_cycle, next_cycle, start_of, state_after, state_with, time_of}
-use Rattle.precision_law.proofs.words.Std.{if◌then◌else◌, ◌*◌, ◌++◌, ◌+ℤ◌, ◌+◌, ◌<ℤ◌, ◌<◌, ◌==◌, ◌∙◌, ◌∷◌, ◌≡◌, ◌≤ℤ◌, ◌≤◌, Bool, List, None, Option, Some, ap}
+use Rattle.precision_law.proofs.words.Std.{if◌then◌else◌, ◌*◌, ◌++◌, ◌+ℤ◌, ◌+◌, ◌<ℤ◌, ◌<◌, ◌==◌, ◌∙◌, ◌∷◌, ◌≡◌, ◌≤ℤ◌, ◌≤◌, Bool, None, Option, Some, ap}
 use Rattle.precision_law.proofs.words.Std.{arith, both_ways, by_lt_z, cases_lt, eq-eqb, filter-append, fold, fold-append, inl, inr, ints, lt-ltb, nat_lt}
-use Rattle.precision_law.proofs.words.Std.{negsuc, option_map_or, pos, refl, subst, suc, sym, true, ℕ, ℤ}
+use Rattle.precision_law.proofs.words.Std.{negsuc, option_map_or, pos, refl, subst, suc, sym, true, ℕ}
 use Rattle.run_law.specs.declared.note.NoteBody.TheVariants as notes
 
 -- ---- between the last setting and a time
 
 -- a device that has the time at the end did not lose it there
-not_lost : (v : View) (device : DeviceId) (u t : ℕ) (h : Happening) (cause : ℕ) (why : Why) → IsView v → u ≤ t
-    → epoch_time (earlier t v.records) device <ℤ pos u → has_time (state_left v device t) ≡ true → IsIn h v.records → u ≤ time_of h → time_of h < t
-    → h.note.body ≡ notes.State device Integrating cause why → ⊥
-not_lost v device u t h cause why is le old timed i from to body =
+not_lost : {v : View} (device : DeviceId) (u t : ℕ) (h : Happening) (cause : ℕ) (why : Why) → IsView v → u ≤ t
+    → epoch_time (earlier t v.records) device <ℤ pos u → has_time (state_left v device t) ≡ true → IsIn h v.records
+    → u ≤ time_of h → time_of h < t → h.note.body ≡ notes.State device Integrating cause why → ⊥
+not_lost {v} device u t h cause why is le old timed i from to body =
     let s = v.scenario in
     let at = founded_at s v.records h is.run.founded i in
     let test = λ (g : Happening). nat_lt (time_of g) t in
@@ -26,30 +26,34 @@ not_lost v device u t h cause why is le old timed i from to body =
     (λ (b : Bool). earlier t at.front ++ (if b then h ∷ earlier t at.rest else earlier t at.rest)) (lt-ltb (time_of h) t to) in
     let step = λ (state : State) (g : Happening). state_with device state g.note.body in
     let before : State = state_after s (earlier t at.front) device in
-    let whole = subst (λ (hs : List Happening). has_time (state_after s hs device) ≡ true) parts timed in
+    let whole = subst (λ hs. has_time (state_after s hs device) ≡ true) parts timed in
     let apart = fold-append step (state_at_start (start_of s.network device)) (earlier t at.front) (h ∷ earlier t at.rest) in
-    let behind : has_time (fold step (step before h) (earlier t at.rest)) ≡ true = subst (λ (x : State). has_time x ≡ true) apart whole in
+    let behind : has_time (fold step (step before h) (earlier t at.rest)) ≡ true = subst (λ x. has_time x ≡ true) apart whole in
     let now = kept_by_all has_time device (earlier t at.rest) (λ g j.
     let back = in_earlier t at.rest g j in
     let in_all : IsIn g v.records = subst (IsIn g) (sym at.whole) (in_right g at.front (h ∷ at.rest) (inr back.0)) in
-    let late = (sorted_parts at.front at.rest h (subst AreSorted at.whole (in_order v is))).1 g back.0 in
+    let late = (sorted_parts at.front at.rest h (subst AreSorted at.whole (in_order is))).1 g back.0 in
     let at_g = founded_at s v.records g is.run.founded in_all in
-    keeps has_time refl s at_g.front g.note.time device g.note.body (sets_none v device u t is le old g in_all (omega (arith, late, from)) back.1)
-    (λ x k same. sets_none v device u t is le old x (subst (IsIn x) (sym at_g.whole) (in_left x at_g.front (g ∷ at_g.rest) k))
+    keeps has_time refl s at_g.front g.note.time device g.note.body
+    (sets_none device u t is le old g in_all (omega (arith, late, from)) back.1)
+    (λ x k same. sets_none device u t is le old x
+    (subst (IsIn x) (sym at_g.whole) (in_left x at_g.front (g ∷ at_g.rest) k))
     (omega (arith, from)) (omega arith)) at_g.due.cause) (step before h) behind in
     let self : (device.0 == device.0) ≡ true = eq-eqb device.0 device.0 refl in
     let lost : step before h ≡ Integrating = ap (state_with device before) body ∙ ap (λ (b : Bool). if b then Integrating else before) self in
     both_ways (has_time (step before h)) (ap has_time lost) now
 
 -- an old device did not join by a frame of the block's cycle
-pub never_joined : (v : View) (n u t : ℕ) (before : Stands v n) (device : DeviceId) → IsView v → before.next ≤ t → IsGood v device
-    → IsOldAt v before.next device t → u ≤ t → integration_cycle (earlier u v.records) device ≡ Some (suc n) → ⊥
-never_joined v n u t before device is from good old to e =
+pub never_joined : {v : View} {n : ℕ} (u t : ℕ) (before : Stands v n) (device : DeviceId) → IsView v
+    → before.next ≤ t → IsGood v device → IsOldAt v before.next device t → u ≤ t
+    → integration_cycle (earlier u v.records) device ≡ Some (suc n) → ⊥
+never_joined {v} {n} u t before device is from good old to e =
     let j = joining_from (earlier u v.records) device (suc n) e in
     let back = in_earlier u v.records j.h j.there in
     elim (cases_lt (time_of j.h) before.next) [
       | inl early ↦ (let low = before.joined j.h device back.0 j.joins good early in let same = j.of_cycle in omega (arith, low, same))
-      | inr late ↦ both_ways _ (joins_none v device before.next t is from old j.h back.0 late (omega (arith, back.1, to))) j.joins
+      | inr late ↦ both_ways _ (joins_none device before.next t is from old j.h back.0 late
+          (omega (arith, back.1, to))) j.joins
     ]
 
 -- ---- the points of a block
@@ -60,22 +64,24 @@ set_before None next early = omega arith
 set_before (Some h) next early = omega (arith, ints, early)
 
 -- an old clock comes in the block to each value of the next cycle that it shows by the last correction
-pub reaches_in_block : (v : View) (n t k : ℕ) (before : Stands v n) (device : DeviceId) → IsView v → HasTimeAt v device before.next → before.next ≤ t
-    → IsOldAt v before.next device t → v.sizes.cycle ≤ k → ((before.hull.greatest +ℤ pos k) +ℤ pos v.sizes.reach) ≤ℤ pos t
-    → pos t ≤ℤ last_correction v.sizes before.hull → (u : ℕ) × (before.next < u) × (u ≤ t) × Reaches v.scenario v.records device (pos (n * v.sizes.cycle + k)) u
-reaches_in_block v n t k before device is has le old behind late most =
+pub reaches_in_block : {v : View} {n : ℕ} (t k : ℕ) (before : Stands v n) {device : DeviceId} → IsView v
+    → HasTimeAt v device before.next → before.next ≤ t → IsOldAt v before.next device t → v.sizes.cycle ≤ k
+    → ((before.hull.greatest +ℤ pos k) +ℤ pos v.sizes.reach) ≤ℤ pos t → pos t ≤ℤ last_correction v.sizes before.hull
+    → (u : ℕ) × (before.next < u) × (u ≤ t) × Reaches v.scenario v.records device (pos (n * v.sizes.cycle + k)) u
+reaches_in_block {v} {n} t k before {device} is has le old behind late most =
     let reading = v.scenario.reading device in
-    let space = room v is in
+    let space = room is in
     let set = before.clocks device has in
-    let same = ap (λ (a : Units). a.0) (adjustment_stays v device before.next t is le old) in
-    let anchored = subst (λ (a : ℤ). IsAnchoredIn v.sizes reading a n before.hull set.set_at) same set.anchored in
-    let within : t ≤ set.set_at + 2 * v.sizes.cycle = omega (arith, ints, most, set.not_before, before_narrow v n before, space) in
+    let same = ap (λ (a : Units). a.0) (adjustment_stays device before.next t is le old) in
+    let anchored = subst (λ a. IsAnchoredIn v.sizes reading a n before.hull set.set_at) same set.anchored in
+    let within : t ≤ set.set_at + 2 * v.sizes.cycle =
+    omega (arith, ints, most, set.not_before, before_narrow before, space) in
     let reached = set_clocks_have_reached v.sizes reading (adjustment_left v device t) n before.hull set.set_at k t space (steady v is device)
     (omega (arith, set.not_behind, le)) within anchored late in
     let shows = set_clocks_show v.sizes reading (adjustment_left v device t) n before.hull set.set_at before.next (steady v is device) set.not_behind
     (omega (arith, within, le)) anchored in
     let below : (pos (reading before.next) +ℤ adjustment_left v device t) <ℤ pos (n * v.sizes.cycle + k) =
-    omega (arith, ints, shows.most, early_show v n before is, space, behind) in
+    omega (arith, ints, shows.most, early_show n before is, space, behind) in
     let strict : before.next < t = elim (cases_lt before.next t) [
       | inl lt ↦ lt
       | inr ge ↦ (let up = (steady v is device).never_falls t before.next ge in absurd (omega (arith, ints, up, below, reached)))
@@ -99,7 +105,7 @@ module _ (v : View) (n : ℕ) (over : BlockIsOver v n) (device : DeviceId) (is :
   comes_there =
       let s = v.scenario in
       let before = over.before in
-      let last = last_of v n over is in
+      let last = last_of over is in
       let t = last.last in
       let early = λ (u : ℕ) (from : before.next ≤ u).
       (let e : epoch_time (earlier over.next v.records) device <ℤ pos u = omega (arith, ints, old, from) in e) in
@@ -108,17 +114,17 @@ module _ (v : View) (n : ℕ) (over : BlockIsOver v n) (device : DeviceId) (is :
       (sym (settings_stay v device u over.next is to (early u from))) old in
       let to_t : t ≤ over.next = omega (arith, last.is_last) in
       let le : before.next ≤ over.next = omega (arith, last) in
-      let has_next = had_time v device before.next over.next is le old has in
-      let found = reaches_in_block v n t (v.sizes.cycle + v.sizes.correction) before device is has_next last.from (old_at t to_t last.from) (omega arith)
+      let has_next = had_time before.next is le old has in
+      let found = reaches_in_block t (v.sizes.cycle + v.sizes.correction) before is has_next last.from (old_at t to_t last.from) (omega arith)
       (omega (arith, ints, last.at)) (omega (arith, ints, last.at)) in
       let u = found.0 in
       let to_u : u ≤ over.next = omega (arith, found.2, to_t) in
       let from_u : before.next ≤ u = omega (arith, found.1) in
-      let has_u = had_time v device u over.next is to_u (early u from_u) has in
-      let number = old_number v n u device before is from_u has_u (old_at u to_u from_u) in
-      let product = ap (λ (x : ℕ). next_cycle s v.records device u * x) (sym (sizes_are v is).cycle) ∙ ap (λ (c : ℕ). c * v.sizes.cycle) number in
+      let has_u = had_time u is to_u (early u from_u) has in
+      let number = old_number u device before is from_u has_u (old_at u to_u from_u) in
+      let product = ap (λ x. next_cycle s v.records device u * x) (sym (sizes_are is).cycle) ∙ ap (λ c. c * v.sizes.cycle) number in
       let value_is : pos (n * v.sizes.cycle + (v.sizes.cycle + v.sizes.correction)) ≡ correction_value s.network (next_cycle s v.records device u) =
-      ap pos (omega (arith, product, one_more n v.sizes.cycle, (sizes_are v is).correction)) in (
+      ap pos (omega (arith, product, one_more n v.sizes.cycle, (sizes_are is).correction)) in (
         u,
         record {
           from = found.1;
@@ -126,7 +132,7 @@ module _ (v : View) (n : ℕ) (over : BlockIsOver v n) (device : DeviceId) (is :
           in_run = omega (arith, found.2, last.is_last, over.in_run);
           has = has_u;
           number = number;
-          reaches = subst (λ (z : ℤ). Reaches s v.records device z u) value_is found.3;
+          reaches = subst (λ z. Reaches s v.records device z u) value_is found.3;
         },
       )
 
@@ -138,14 +144,14 @@ module _ (v : View) (n : ℕ) (over : BlockIsOver v n) (device : DeviceId) (is :
       let next = over.before.next in
       let le : next ≤ over.next = omega (arith, there.from, there.to) in
       let point = recorded v device u is there.in_run there.has there.reaches (λ joined.
-      never_joined v n u over.next over.before device is le has.good old (omega (arith, there.to)) (joined ∙ ap (λ (c : ℕ). Some c) there.number)) in
+      never_joined u over.next over.before device is le has.good old (omega (arith, there.to)) (joined ∙ ap (λ (c : ℕ). Some c) there.number)) in
       let h = point.0 in
       let from_h : next ≤ time_of h = omega (arith, point.1.at, there.from) in
       let to_h : time_of h < over.next = omega (arith, point.1.at, there.to) in
       elim point.1.says [
-        | inl c ↦ both_ways (changes_adjustment device h.note.body) (sets_none v device next over.next is le old h point.1.there from_h to_h)
+        | inl c ↦ both_ways (changes_adjustment device h.note.body) (sets_none device next over.next is le old h point.1.there from_h to_h)
             (ap (changes_adjustment device) c.3 ∙ eq-eqb device.0 device.0 refl)
-        | inr l ↦ not_lost v device next over.next h l.0 l.1 is le old has.timed point.1.there from_h to_h l.2
+        | inr l ↦ not_lost device next over.next h l.0 l.1 is le old has.timed point.1.there from_h to_h l.2
       ]
 
 pub points_have_come : PointsAreRecorded → PointsHaveCome

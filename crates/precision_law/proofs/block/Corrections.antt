@@ -9,7 +9,7 @@ use Rattle.precision_law.proofs.words.Laws.{AreBeforeCorrections, CorrectsSo, Ha
 use Rattle.precision_law.proofs.words.Laws.{IsOldAt, IsSetFor, IsSharedCorrection, IsView, Stands, View, adjustment_left, base_of, cycle_set, first_correction}
 use Rattle.precision_law.proofs.words.Plans.{Channel, DeviceId, HeardFrame, Hearing, IsBestOf, IsMean, Masters, Summarizes, Summary, Units, best_on}
 use Rattle.precision_law.proofs.words.Plans.{correction_of, count_of, deviation_by, expected_at, mean_of-floor, within_on}
-use Rattle.precision_law.proofs.words.Runs.{Happening, IsIn, Judgement, Within, adjustment_before, changed_at, correction_value, earlier, expected_by, had_come}
+use Rattle.precision_law.proofs.words.Runs.{Happening, IsIn, Within, adjustment_before, changed_at, correction_value, earlier, expected_by, had_come}
 use Rattle.precision_law.proofs.words.Runs.{has_cleared, heard_since, in_left, is_integration_cycle, local_at_change, next_cycle, plan_of, recorded_cycle}
 use Rattle.precision_law.proofs.words.Std.{◌*◌, ◌+ℤ◌, ◌+◌, ◌-ℤ◌, ◌-◌, ◌<◌, ◌∙◌, ◌≡◌, ◌≤ℤ◌, ◌≤◌, Bool, List, None, Option, Some, and_parts, ap, arith, cases_lt}
 use Rattle.precision_law.proofs.words.Std.{false, if◌then◌else◌, inl, inr, int_le, int_lt, ints, leb-true, nat_le, negsuc, option_and_then, option_map_or, pos}
@@ -23,7 +23,7 @@ module _ (v : View) (k t : ℕ) (block : IsInBlock v (suc k) t) (device : Device
   last = settings_stay v device block.before.next t is block.from old
 
   set : IsSetFor v (suc k) block.before.hull block.before.next device
-  set = block.before.clocks device (had_time v device block.before.next t is block.from old has)
+  set = block.before.clocks device (had_time block.before.next is block.from old has)
 
   -- a joiner's clock comes to its correction point after the first corrections of the cycle
   cleared_late : (q : ℕ) (h : Happening) → q ≤ t → last_setting (earlier t v.records) device ≡ Some h → is_correction h.note.body ≡ false
@@ -32,7 +32,7 @@ module _ (v : View) (k t : ℕ) (block : IsInBlock v (suc k) t) (device : Device
       let s = v.scenario in
       let before = block.before in
       let reading = s.reading device in
-      let space = room v is in
+      let space = room is in
       let integrates = joiner_integrates (earlier t v.records) device h e (setting_is v device t h e).sets joined in
       let recorded : recorded_cycle (earlier t v.records) device ≡ suc k = integrates.1 ∙ sym (set_by_joining h h.note.body joined)
       ∙ ap (λ (x : Option Happening). option_map_or (λ g. cycle_set g g.note.body) x 0) (sym (last ∙ e)) ∙ set.index in
@@ -43,18 +43,18 @@ module _ (v : View) (k t : ℕ) (block : IsInBlock v (suc k) t) (device : Device
       let below = int_lt-is (local_at_change s v.records device t) value both.0 in
       let above = int_le-is value (pos (reading (q - 1)) +ℤ (adjustment_before s v.records device t).0) both.1 in
       let same_time : changed_at v.records device before.next ≡ changed_at v.records device t = ap (λ (o : Option Happening). option_map_or time_of o 0) last in
-      let same_a = ap (λ (a : Units). a.0) (adjustment_stays v device before.next t is block.from old) in
+      let same_a = ap (λ (a : Units). a.0) (adjustment_stays device before.next t is block.from old) in
       let behind : changed_at v.records device t < q - 1 = elim (cases_lt (changed_at v.records device t) (q - 1)) [
         | inl lt ↦ lt
         | inr ge ↦ (let up = (steady v is device).never_falls (q - 1) (changed_at v.records device t) ge in absurd (omega (arith, ints, up, below, above)))
       ] in
       let shows = set_clocks_show v.sizes reading (adjustment_left v device t) (suc k) before.hull set.set_at (q - 1) (steady v is device)
       (omega (arith, set.since, same_time))
-      (omega (arith, ints, block_ends v (suc k) block.next _ before.is_hull block.is_over, before_narrow v _ before, set.not_before, block.to, space))
-      (subst (λ (a : ℤ). IsAnchoredIn v.sizes reading a (suc k) before.hull set.set_at) same_a set.anchored) in
-      let product = ap (λ (x : ℕ). recorded_cycle (earlier t v.records) device * x) (sym (sizes_are v is).cycle) ∙ ap (λ (c : ℕ). c * v.sizes.cycle) recorded in
-      let follows = follows_before v k w before.hull is at_w before.is_hull in
-      omega (arith, ints, shows.most, above, product, (sizes_are v is).correction, follows.least, space.errors.reach_is, behind)
+      (omega (arith, ints, block_ends v (suc k) block.next _ before.is_hull block.is_over, before_narrow before, set.not_before, block.to, space))
+      (subst (λ a. IsAnchoredIn v.sizes reading a (suc k) before.hull set.set_at) same_a set.anchored) in
+      let product = ap (λ x. recorded_cycle (earlier t v.records) device * x) (sym (sizes_are is).cycle) ∙ ap (λ c. c * v.sizes.cycle) recorded in
+      let follows = follows_before k w before.hull is at_w before.is_hull in
+      omega (arith, ints, shows.most, above, product, (sizes_are is).correction, follows.least, space.errors.reach_is, behind)
 
   -- what it heard since its last correction point came behind the first corrections of the cycle before
   late_by : (front : List Happening) (hearing : Hearing) → (split : AreBeforeCorrections v t front) → (heard : IsHearingOf v device t front hearing)
@@ -65,29 +65,30 @@ module _ (v : View) (k t : ℕ) (block : IsInBlock v (suc k) t) (device : Device
   late_by front hearing split heard (Some x) e =
       let next = block.before.next in
       let here = setting_is v device t x e in
-      elim (block.before.points w k refl at_w device (had_time v device next t is block.from old has)).how [
+      elim (block.before.points w k refl at_w device (had_time next is block.from old has)).how [
         | inl corrected ↦
             let time = ap (λ (o : Option Happening). option_map_or (λ g. pos (time_of g)) o (negsuc 0)) (last ∙ e) in
-            omega (arith, ints, corrected.1, time, heard.since x (in_part v t front x split here.there here.early) here.early here.sets)
+            omega (arith, ints, corrected.1, time, heard.since x (in_part x split here.there here.early) here.early here.sets)
         | inr joined ↦
             let not_corrected = sym (ap (λ (o : Option Happening). option_map_or (λ g. is_correction g.note.body) o false) (last ∙ e)) ∙ joined.0 in
             let integrates = joiner_integrates (earlier t v.records) device x e here.sets not_corrected in
             let then_cleared = heard.cleared
-            (same_cleared v device t t _ split ∙ cleared_from v device next t t is block.from block.from old integrates.0 joined.1) in
+            (same_cleared device t split ∙ cleared_from device next t t is block.from block.from old integrates.0 joined.1) in
             cleared_late (time_of heard.h) x (split.only heard.h heard.there) e not_corrected
-            (sym (same_cleared v device t (time_of heard.h) _ split) ∙ then_cleared)
+            (sym (same_cleared device (time_of heard.h) split) ∙ then_cleared)
       ]
 
 -- so it came behind the first corrections of all earlier cycles
-pub heard_late : (v : View) (n t : ℕ) (block : IsInBlock v n t) (device : DeviceId) → IsView v → HasTimeAt v device t → IsOldAt v block.before.next device t
-    → (front : List Happening) (hearing : Hearing) → AreBeforeCorrections v t front → (heard : IsHearingOf v device t front hearing)
-    → IsLate v n (time_of heard.h)
-heard_late v zero t block device is has old front hearing split heard k w le at = absurd (omega (arith, le))
-heard_late v (suc c) t block device is has old front hearing split heard k w le at =
+pub heard_late : {v : View} (n : ℕ) {t : ℕ} (block : IsInBlock v n t) {device : DeviceId} → IsView v
+    → HasTimeAt v device t → IsOldAt v block.before.next device t → {front : List Happening} {hearing : Hearing}
+    → AreBeforeCorrections v t front → (heard : IsHearingOf v device t front hearing) → IsLate v n (time_of heard.h)
+heard_late zero block is has old split heard k w le at = absurd (omega (arith, le))
+heard_late {v} (suc c) {t} block {device} is has old {front} {hearing} split heard k w le at =
     let there = block.before.narrow c (omega arith) in
     let gap : k + (c - k) ≡ c = omega (arith, le) in
     let late = late_by v c t block device is has old there.0 there.1 front hearing split heard (last_setting (earlier t v.records) device) refl in
-    let on = corrections_go_on v _ k (c - k) block.before w _ is (omega arith) at (subst (λ (x : ℕ). hull_of v x ≡ Some there.0) (sym gap) there.1) in
+    let on = corrections_go_on k (c - k) block.before w _ is
+    (omega arith) at (subst (λ x. hull_of v x ≡ Some there.0) (sym gap) there.1) in
     omega (arith, ints, on, late)
 
 -- ---- the deviation of a channel
@@ -106,39 +107,44 @@ deviation_if true x dev e = (refl, cc)
 deviation_if false x dev e = absurd cc
 
 -- a deviation that is there is by a frame of three members or more that was heard within
-pub is_by_frame : FramesGoSo → (v : View) (n t : ℕ) (block : IsInBlock v n t) (device : DeviceId) → IsView v → WentSo v n block.before t → HasTimeAt v device t
-    → IsOldAt v block.before.next device t → (front : List Happening) (summary : Summary) → AreBeforeCorrections v t front
-    → Summarizes summary (heard_since v.scenario front device t) → (channel : Channel) (dev : Units) → (o : Option HeardFrame) → best_on channel summary ≡ o
-    → option_and_then (λ frame. if nat_le v.scenario.network.sync_threshold (count_of frame.members)
-    then Some (deviation_by (standing_before v.scenario front device t) frame) else None) o ≡ Some dev → IsByFrame v n t block.before device channel dev
-is_by_frame laws v n t block device is went has old front summary split sums channel dev None best e = absurd cc
-is_by_frame laws v n t block device is went has old front summary split sums channel dev (Some frame) best e =
+pub is_by_frame : FramesGoSo → {v : View} {n t : ℕ} (block : IsInBlock v n t) {device : DeviceId} → IsView v
+    → WentSo v n block.before t → HasTimeAt v device t → IsOldAt v block.before.next device t
+    → {front : List Happening} {summary : Summary} → AreBeforeCorrections v t front
+    → Summarizes summary (heard_since v.scenario front device t)
+    → (channel : Channel) (dev : Units) (o : Option HeardFrame) → best_on channel summary ≡ o → option_and_then
+    (λ frame. if nat_le v.scenario.network.sync_threshold (count_of frame.members) then Some (deviation_by
+    (standing_before v.scenario front device t) frame) else None) o ≡ Some dev
+    → IsByFrame v n t block.before device channel dev
+is_by_frame laws block is went has old split sums channel dev None best e = absurd cc
+is_by_frame laws {v} {n} {t} block {device} is went has old {front} split sums channel dev (Some frame) best e =
     let s = v.scenario in
     let both = deviation_if (nat_le s.network.sync_threshold (count_of frame.members)) (deviation_by (standing_before s front device t) frame) dev e in
     let is_best = subst (IsBestOf (heard_since s front device t) channel) best (sums.best channel) in
     let hearing = within_on channel frame in
-    let heard = hearing_of v device t front hearing is split (best_is_heard (heard_since s front device t) channel frame is_best) in
+    let heard = hearing_of device hearing is split (best_is_heard is_best) in
     let h = heard.h in
     let in_all : IsIn h v.records = subst (IsIn h) (sym split.whole) (in_left h front split.rest heard.there) in
     let this = hears_by v device h hearing h.note.body in_all refl heard.shows in
-    let hears = subst (λ (j : Judgement). HearsBy v device channel frame.point.0 j h) (this.judges.inside refl) this.hears in
+    let hears = subst (λ j. HearsBy v device channel frame.point.0 j h) (this.judges.inside refl) this.hears in
     let members : count_of frame.members ≡ count_of (members_by h) = ap (λ (m : ℕ). count_of (record { 0 = m })) (sym this.members) in
     let many = leb-true s.network.sync_threshold (count_of frame.members) both.0 in
     let enough : 3 ≤ count_of (members_by h) = omega (arith, (is.lawful.rules Masters 2).threshold_least refl, many, members) in
     let by_then = split.only h heard.there in
     let g = good_hearing laws v n t block.before is went device channel frame.point.0 h by_then Within tt hears
-    (heard_late v n t block device is has old front hearing split heard) (λ c cm f. laws.three v c cm _ (members_by h) is f enough) in
-    let number : next_cycle s front device t ≡ suc n = same_next v device t front split ∙ old_number v n t device block.before is block.from has old in
-    let left = ap (λ (a : Units). a.0) (same_adjustment v device t front split) in
-    let moved = ap (λ (c : ℕ). expected_at (plan_of s.network device) c -ℤ frame.point.0) number ∙ expected_is v device (suc n) frame.point.0 is in
+    (heard_late n block is has old split heard) (λ c cm f. laws.three v c cm _ (members_by h) is f enough) in
+    let number : next_cycle s front device t ≡ suc n =
+    same_next device split ∙ old_number t device block.before is block.from has old in
+    let left = ap (λ (a : Units). a.0) (same_adjustment device split) in
+    let moved = ap (λ c. expected_at (plan_of s.network device) c -ℤ frame.point.0) number ∙ expected_is device
+    (suc n) frame.point.0 is in
     record {
       h = h;
       point = frame.point.0;
       heard = g;
       near = near_hull laws v n t block.before is went device channel frame.point.0 h by_then g (inl enough);
       by_then = by_then;
-      is = ap (λ (u : Units). u.0) (sym both.1) ∙ ap (λ (z : ℤ). z -ℤ (adjustment_before s front device t).0) moved
-          ∙ ap (λ (a : ℤ). setting v.sizes (suc n) (expected_by s.network device) frame.point.0 -ℤ a) left;
+      is = ap (λ (u : Units). u.0) (sym both.1) ∙ ap (λ z. z -ℤ (adjustment_before s front device t).0) moved
+          ∙ ap (λ a. setting v.sizes (suc n) (expected_by s.network device) frame.point.0 -ℤ a) left;
     }
 
 -- ---- corrections
@@ -157,10 +163,10 @@ module _ (v : View) (n t : ℕ) (before : Stands v n) (is : IsView v) (device : 
       (low_by v.sizes (base_of v.sizes (time_of x.heard.emission)) (base_of v.sizes (time_of y.heard.emission)))
       (high_by v.sizes (base_of v.sizes (time_of x.heard.emission)) (base_of v.sizes (time_of y.heard.emission))) (time_of y.h)
   two_anchor c d a b by x y le mean =
-      let space = room v is in
+      let space = room is in
       let expected = expected_by v.scenario.network device in
       let hull = x.heard.hull in
-      let order = instants_are_in_order v.sizes before.hull hull space (before_narrow v n before) (follows_before v n _ _ is before.is_hull x.heard.is_hull) in
+      let order = instants_are_in_order v.sizes before.hull hull space (before_narrow before) (follows_before n _ _ is before.is_hull x.heard.is_hull) in
       let floor = mean_of-floor (setting v.sizes (suc n) expected x.point) (setting v.sizes (suc n) expected y.point) in
       let both = two_frames_anchor v.sizes (v.scenario.reading device) (base_of v.sizes (time_of x.heard.emission)) (base_of v.sizes (time_of y.heard.emission))
       (time_of x.h) (time_of y.h) x.point y.point expected (suc n) (steady v is device) le
@@ -172,7 +178,7 @@ module _ (v : View) (n t : ℕ) (before : Stands v n) (is : IsView v) (device : 
       → IsSharedCorrection v n t x.heard.hull (base_of v.sizes (time_of x.heard.emission)) device by
   shared_two c d a b by x y mean =
       let other = base_of v.sizes (time_of y.heard.emission) in
-      let near = subst (λ (w : Hull). IsNearHull v.sizes w other) (same_some _ _ _ y.heard.is_hull x.heard.is_hull) y.near in
+      let near = subst (λ w. IsNearHull v.sizes w other) (same_some _ _ _ y.heard.is_hull x.heard.is_hull) y.near in
       elim (cases_lt (time_of y.h) (time_of x.h)) [
         | inr le ↦ record {
           other = other;
@@ -210,7 +216,7 @@ module _ (v : View) (n t : ℕ) (before : Stands v n) (is : IsView v) (device : 
       → ((b : Units) → o ≡ Some b → IsByFrame v n t before device d b) → correction_of (Some a) o ≡ Some by → CorrectsSo v n t device by
   corrects_first c d a by o x other e =
       let z = shared_by c d a by o x other e in
-      let errors = (room v is).errors in
+      let errors = (room is).errors in
       record {
         hull = x.heard.hull;
         is_hull = x.heard.is_hull;

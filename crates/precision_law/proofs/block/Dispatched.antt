@@ -6,7 +6,7 @@ use Rattle.{precision_law.proofs.words.Clocks.{reaches_front, room, same_device,
 use Rattle.precision_law.proofs.words.Laws.{BlocksGoSo, HasTimeAt, IsClique, IsDispatch, IsFirm, IsFirstMaster, IsGood, IsInBlock, IsOldAt, IsView, Stands}
 use Rattle.precision_law.proofs.words.Laws.{MastersDispatch, View, first_correction, has_time, is_correction, last_dispatch, last_setting, state_left}
 use Rattle.precision_law.proofs.words.Plans.{Corrected, Device, DeviceId, Event, Integrating, Joining, State, Synchronised, Verdict, amount, device_at}
-use Rattle.precision_law.proofs.words.{Plans.{state_at_start, units_of}, Std.{option_and_then, option_map_or, pos, refl, subst, suc, sym, true, zero, ℕ, ℤ}}
+use Rattle.precision_law.proofs.words.{Plans.{state_at_start, units_of}, Std.{option_and_then, option_map_or, pos, refl, subst, suc, sym, true, zero, ℕ}}
 use Rattle.precision_law.proofs.words.Runs.{BeginsOn, ChangesState, Happening, Integrates, IsCaused, IsDue, IsFoundedAt, IsIn, NotOff, Note, NoteBody, Reaches}
 use Rattle.precision_law.proofs.words.Runs.{is_synchronised, TurnsOn, Why, due_is_there, earlier, founded_at, happening, in_at, in_left, is_joined_by, is_turned_on_at, numbered}
 use Rattle.precision_law.proofs.words.Runs.{numbered_in, parted, place_of, split, start_of, state_after, state_before, state_with, time_of}
@@ -32,9 +32,9 @@ kept_state true state same = same refl
 kept_state false state same = refl
 
 -- an event turns on no device that began on
-never_turned_on : (v : View) (device : DeviceId) (event : Event) → IsView v → BeginsOn v.scenario.network device → IsIn event v.scenario.events
-    → TurnsOn device event → ⊥
-never_turned_on v device event is on i turns =
+never_turned_on : {v : View} (device : DeviceId) (event : Event) → IsView v → BeginsOn v.scenario.network device
+    → IsIn event v.scenario.events → TurnsOn device event → ⊥
+never_turned_on {v} device event is on i turns =
     let at = parted event v.scenario.events i in
     is.lawful.within at.0 at.1 event at.2 NotOff (record { device = device; what = turns; known = inl on })
 
@@ -44,13 +44,13 @@ module _ (v : View) (device : DeviceId) (t : ℕ) (is : IsView v) (on : BeginsOn
   pub was_synchronised : (w : ℕ) (hs : List Happening) → earlier w hs ≡ earlier w v.records → w < t → state_before v.scenario hs device w ≡ Synchronised
   was_synchronised w hs same lt =
       let quiet = false_from_ne_true (is_turned_on_at v.scenario device w) (λ turned.
-      (let x = turned_at v.scenario device w turned in never_turned_on v device x.event is on x.there x.turns)) in
+      (let x = turned_at v.scenario device w turned in never_turned_on device x.event is on x.there x.turns)) in
       ap (λ (b : Bool). if b then Integrating else state_after v.scenario (earlier w hs) device) quiet
-      ∙ ap (λ (x : List Happening). state_after v.scenario x device) same ∙ before w lt
+      ∙ ap (λ x. state_after v.scenario x device) same ∙ before w lt
 
   then_synchronised : (h : Happening) → (at : IsFoundedAt v.scenario v.records h) → time_of h < t
       → state_before v.scenario at.front device (time_of h) ≡ Synchronised
-  then_synchronised h at lt = was_synchronised (time_of h) at.front (earlier_before v (time_of h) at.front (before_of v h is at)) lt
+  then_synchronised h at lt = was_synchronised (time_of h) at.front (earlier_before (before_of {h = h} is at)) lt
 
   -- so no frame tells it the time
   pub never_joins : (h : Happening) → IsIn h v.records → time_of h < t → is_joined_by device h.note.body ≡ true → ⊥
@@ -75,7 +75,7 @@ module _ (v : View) (device : DeviceId) (t : ℕ) (is : IsView v) (on : BeginsOn
           let g = c.2.1 in
           let found = founded_at v.scenario v.records g is.run.founded (in_all g c.2.2.there) in
           let r = subst (IsCaused v.scenario found.front g.note.time) c.2.3 found.due.cause in
-          never_turned_on v device r.event is on (in_at v.scenario.events r.before r.event r.is) (sym r.same)
+          never_turned_on device r.event is on (in_at v.scenario.events r.before r.event r.is) (sym r.same)
       by whys.Frame body c = never_joins c.1.0 (in_all c.1.0 c.1.1.there) (omega (arith, c.1.1.same_time, lt)) c.1.2
       by whys.Correction body c = (let both : Synchronised ≡ Joining = sym (then_synchronised h at lt) ∙ c.1 in cc)
       by whys.SyncClique body c = none h state cause whys.SyncClique i lt body tt
@@ -95,23 +95,26 @@ module _ (v : View) (device : DeviceId) (t : ℕ) (is : IsView v) (on : BeginsOn
       → start ≡ Synchronised → fold (λ state h. state_with device state h.note.body) start hs ≡ Synchronised
   all_stay [] each start same = same
   all_stay (h ∷ hs) each start same =
-      all_stay hs (λ g i. each g (inr i)) (state_with device start h.note.body) (ap (λ (x : State). state_with device x h.note.body) same ∙ each h (inl refl))
+      all_stay hs (λ g i. each g (inr i)) (state_with device start h.note.body) (ap (λ x. state_with device x h.note.body) same ∙ each h (inl refl))
 
   stays_now : state_left v device t ≡ Synchronised
   stays_now =
       all_stay (earlier t v.records) (λ h i. (let back = in_earlier t v.records h i in stays_by h h.note.body back.0 back.1 refl))
       (state_at_start (start_of v.scenario.network device)) (starts_synchronised (device_at v.scenario.network device) on)
 
-stays_synchronised : (v : View) (device : DeviceId) (bound t : ℕ) → IsView v → t ≤ bound → BeginsOn v.scenario.network device → NoCliqueBefore v device t
-    → state_left v device t ≡ Synchronised
-stays_synchronised v device zero t is le on none = stays_now v device t is on none (λ w lt. absurd (omega (arith, lt, le)))
-stays_synchronised v device (suc bound) t is le on none =
-    stays_now v device t is on none (λ w lt. stays_synchronised v device bound w is (omega (arith, lt, le)) on
+stays_synchronised : {v : View} (device : DeviceId) (bound t : ℕ) → IsView v → t ≤ bound
+    → BeginsOn v.scenario.network device → NoCliqueBefore v device t → state_left v device t ≡ Synchronised
+stays_synchronised {v} device zero t is le on none =
+    stays_now v device t is on none (λ w lt. absurd (omega (arith, lt, le)))
+stays_synchronised {v} device (suc bound) t is le on none =
+    stays_now v device t is on none (λ w lt. stays_synchronised device bound w is (omega (arith, lt, le)) on
     (λ h state cause why i early. none h state cause why i (omega (arith, early, lt))))
 
 -- a device that is to keep the time has kept it up to a block
-pub firm_kept : (v : View) (n : ℕ) (before : Stands v n) (device : DeviceId) → IsFirm v device → NoCliqueBefore v device before.next
-firm_kept v n before device firm h state cause why i early body clique = before.kept h device state cause why i early body clique firm
+pub firm_kept : {v : View} {n : ℕ} (before : Stands v n) {device : DeviceId} → IsFirm v device
+    → NoCliqueBefore v device before.next
+firm_kept before {device} firm h state cause why i early body clique =
+    before.kept h device state cause why i early body clique firm
 
 -- ---- before the correction points of a block
 
@@ -133,7 +136,7 @@ module _ (goes : BlocksGoSo) (v : View) (n t : ℕ) (block : IsInBlock v n t) (d
       → HasPoint v w device cycle verdict → ⊥
   early_point w cycle verdict is early from le p =
       let here = earlier_in_block v n t w block from (omega (arith, le, early.1)) in
-      let late = (old_point v n _ w _ device cycle verdict (goes v n w here is) p).1.not_early in
+      let late = (old_point (goes v n w here is) p).1.not_early in
       omega (arith, ints, late, early.0, le)
 
   -- so the clock of a good device that is synchronised by then was set before the block
@@ -149,9 +152,9 @@ module _ (goes : BlocksGoSo) (v : View) (n t : ℕ) (block : IsInBlock v n t) (d
         | inr from ↦ elim (cases_Bool (is_correction h.note.body)) [
           | inr joined ↦
               let joins = joining_of_setting device h.note.body set.sets joined in
-              absurd (both_ways _ (joiner_waits v device w h is e joins) synchronised)
+              absurd (both_ways _ (joiner_waits device w h is e joins) synchronised)
           | inl corrected ↦
-              let c = has_corrected v device h is good set.there set.sets corrected in
+              let c = has_corrected device h is good set.there set.sets corrected in
               absurd (early_point (time_of h) c.cycle (Corrected c.by) is early from to c.point)
         ]
       ]
@@ -170,13 +173,13 @@ module _ (goes : BlocksGoSo) (v : View) (n t : ℕ) (block : IsInBlock v n t) (d
   no_clique w is at le h state cause why i lt body clique = elim (cases_lt (time_of h) block.before.next) [
     | inl early ↦ at.kept h state cause why i early body clique
     | inr from ↦
-        let lost = has_lost v device h state cause why is at.good i body clique in
+        let lost = has_lost device h state cause why is at.good i body clique in
         no_point (time_of h) lost.cycle lost.verdict is at from (omega (arith, lt, le)) lost.point
   ]
 
   -- it is synchronised
   pub synchronised_then : (w : ℕ) → IsView v → IsCalm v n t block device b → w ≤ b + 1 → state_left v device w ≡ Synchronised
-  synchronised_then w is at le = stays_synchronised v device w w is (omega arith) at.on (no_clique w is at le)
+  synchronised_then w is at le = stays_synchronised device w w is (omega arith) at.on (no_clique w is at le)
 
   pub synchronised_before : (q : ℕ) (hs : List Happening) → IsView v → IsCalm v n t block device b → earlier q hs ≡ earlier q v.records → q ≤ b
       → state_before v.scenario hs device q ≡ Synchronised
@@ -207,7 +210,7 @@ module _ (goes : BlocksGoSo) (v : View) (n t : ℕ) (block : IsInBlock v n t) (d
         | inr from ↦ elim (cases_Bool (is_correction h.note.body)) [
           | inr joined ↦ absurd (joins_never h is at set.there to (joining_of_setting device h.note.body set.sets joined))
           | inl corrected ↦
-              let c = has_corrected v device h is at.good set.there set.sets corrected in
+              let c = has_corrected device h is at.good set.there set.sets corrected in
               absurd (no_point (time_of h) c.cycle (Corrected c.by) is at from to c.point)
         ]
       ]
@@ -219,21 +222,23 @@ module _ (goes : BlocksGoSo) (v : View) (n t : ℕ) (block : IsInBlock v n t) (d
 -- ---- the dispatch
 
 -- where a good synchronised master reaches the beginning of a cycle, it sends
-pub sends_there : (v : View) (device : DeviceId) (u cycle : ℕ) → IsView v → u ≤ v.until → IsFirstMaster v device → 1 ≤ cycle
-    → state_left v device u ≡ Synchronised → Reaches v.scenario v.records device (pos (cycle * amount v.scenario.network.cycle)) u → (h : Happening)
-    × IsDispatch v h device cycle × (time_of h ≡ u)
-sends_there v device u cycle is le master begun synchronised reaches =
+pub sends_there : {v : View} {device : DeviceId} {u : ℕ} (cycle : ℕ) → IsView v → u ≤ v.until
+    → IsFirstMaster v device → 1 ≤ cycle → state_left v device u ≡ Synchronised
+    → Reaches v.scenario v.records device (pos (cycle * amount v.scenario.network.cycle)) u
+    → (h : Happening) × IsDispatch v h device cycle × (time_of h ≡ u)
+sends_there {v} {device} {u} cycle is le master begun synchronised reaches =
     let s = v.scenario in
     let at = split place_of (IsDue s) v.records (u ∷ 5 ∷ device.0 ∷ cycle ∷ []) is.run.founded in
     let before = before_place v u (5 ∷ device.0 ∷ cycle ∷ []) at in
     let timed : has_time (state_left v device u) ≡ true = ap has_time synchronised in
-    let state = ap (λ (b : Bool). if b then Integrating else state_after s (earlier u at.front) device) (not_turned_on_then v device u is timed) ∙ ap
-    (λ (hs : List Happening). state_after s hs device) (earlier_before v u at.front before) ∙ synchronised in
+    let state = ap (λ (b : Bool). if b then Integrating else state_after s (earlier u at.front) device)
+    (not_turned_on_then device u is timed) ∙ ap
+    (λ hs. state_after s hs device) (earlier_before before) ∙ synchronised in
     let sends : Sends s at.front device u cycle = record {
       master = master.master;
       up = record { synchronised = state; correct = good_is_correct v device u master.good le };
       begun = begun;
-      reached = reaches_front v device (pos (cycle * amount s.network.cycle)) u at.front before reaches;
+      reached = reaches_front before reaches;
     } in
     let note : Note = record { number = length at.front + 1; time = units_of u; body = notes.Sent device cycle } in
     let x : Happening = happening s.network at.front note in
@@ -246,24 +251,28 @@ masters_dispatch goes v n t block device is late master =
     let s = v.scenario in
     let before = block.before in
     let last = last_dispatch v.sizes before.hull in
-    let natural = natural_of last before.next (omega (arith, ints, early_show v n before is, hull_ordered v n before is, room v is)) in
+    let natural =
+    natural_of last before.next (omega (arith, ints, early_show n before is, hull_ordered n before is, room is)) in
     let b = natural.0 in
-    let from : before.next ≤ b = omega (arith, ints, natural.1, early_show v n before is, hull_ordered v n before is, room v is) in
+    let from : before.next ≤ b =
+    omega (arith, ints, natural.1, early_show n before is, hull_ordered n before is, room is) in
     let calm : IsCalm v n t block device b = record {
-      before = omega (arith, ints, natural.1, frames_come_first v.sizes before.hull (room v is) (before_narrow v n before));
+      before = omega (arith, ints, natural.1, frames_come_first v.sizes before.hull (room is) (before_narrow before));
       to = omega (arith, ints, natural.1, late);
-      kept = firm_kept v n before device (inl (record { end = master_is_end v device master.master; good = master.good }));
+      kept = firm_kept before {device = device} (inl
+          (record { end = master_is_end v device master.master; good = master.good }));
       good = master.good;
       on = master.on;
     } in
     let synchronised = λ (w : ℕ) (le : w ≤ b + 1). synchronised_then goes v n t block device b w is calm le in
     let has_next : HasTimeAt v device before.next = record { good = master.good; timed = ap has_time (synchronised before.next (omega (arith, from))) } in
-    let found = reaches_in_block v n b v.sizes.cycle before device is has_next from (old_then goes v n t block device b b is calm (omega arith)) (omega arith)
+    let found = reaches_in_block b v.sizes.cycle before is has_next from
+    (old_then goes v n t block device b b is calm (omega arith)) (omega arith)
     (omega (arith, ints, natural.1)) (omega (arith, ints, natural.1)) in
     let u = found.0 in
     let until : u ≤ v.until = omega (arith, found.2, calm.to, block.in_run) in
     let value_is : pos (n * v.sizes.cycle + v.sizes.cycle) ≡ pos (suc n * amount s.network.cycle) =
-    ap pos (sym (one_more n v.sizes.cycle) ∙ ap (λ (c : ℕ). suc n * c) (sizes_are v is).cycle) in
-    let sent = sends_there v device u (suc n) is until master (omega arith) (synchronised u (omega (arith, found.2)))
-    (subst (λ (z : ℤ). Reaches s v.records device z u) value_is found.3) in
+    ap pos (sym (one_more n v.sizes.cycle) ∙ ap (λ c. suc n * c) (sizes_are is).cycle) in
+    let sent = sends_there {u = u} (suc n) is until master (omega arith) (synchronised u (omega (arith, found.2)))
+    (subst (λ z. Reaches s v.records device z u) value_is found.3) in
     (sent.0, sent.1, omega (arith, ints, sent.2, found.2, natural.1))

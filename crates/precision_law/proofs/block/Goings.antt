@@ -30,43 +30,47 @@ WentSo v n before t = (u : ℕ) → before.next ≤ u → u < t → BlockGoesSo 
 
 -- ---- dispatches so far
 
--- a dispatch before the instant is of a cycle up to the block's and lies in its hull
-pub known_dispatch : (v : View) (n t : ℕ) (before : Stands v n) → WentSo v n before t → (h : Happening) (device : DeviceId) (cycle : ℕ)
-    → IsDispatch v h device cycle → time_of h < t → (cycle ≤ suc n) × IsInHull v cycle (time_of h)
-known_dispatch v n t before went h device cycle dispatch lt =
-    elim (cases_lt (time_of h) before.next) [
-      | inl early ↦ (let r = before.dispatches h device cycle dispatch early in (omega (arith, r.0), r.1))
-      | inr late ↦
-          let so = (went (time_of h) late lt).dispatches h device cycle dispatch refl in
-          (omega (arith, so.of_cycle), subst (λ (c : ℕ). IsInHull v c (time_of h)) (sym so.of_cycle) so.inside)
-    ]
+module _ (v : View) (n t : ℕ) (before : Stands v n) (went : WentSo v n before t) where
+  -- a dispatch before the instant is of a cycle up to the block's and lies in its hull
+  pub known_dispatch : (h : Happening) (device : DeviceId) (cycle : ℕ) → IsDispatch v h device cycle → time_of h < t
+      → (cycle ≤ suc n) × IsInHull v cycle (time_of h)
+  known_dispatch h device cycle dispatch lt =
+      elim (cases_lt (time_of h) before.next) [
+        | inl early ↦ (let r = before.dispatches h device cycle dispatch early in (omega (arith, r.0), r.1))
+        | inr late ↦
+            let so = (went (time_of h) late lt).dispatches h device cycle dispatch refl in
+            (omega (arith, so.of_cycle), subst (λ c. IsInHull v c (time_of h)) (sym so.of_cycle) so.inside)
+      ]
 
-pub tidy : (v : View) (n t : ℕ) (before : Stands v n) → WentSo v n before t → IsTidyBefore v t
-tidy v n t before went h device cycle dispatch lt = (known_dispatch v n t before went h device cycle dispatch lt).1
+  pub tidy : IsTidyBefore v t
+  tidy h device cycle dispatch lt = (known_dispatch h device cycle dispatch lt).1
 
 -- a device that has the time has had it since its clock was set
-pub had_time : (v : View) (device : DeviceId) (u t : ℕ) → IsView v → u ≤ t → epoch_time (earlier t v.records) device <ℤ pos u → HasTimeAt v device t
-    → HasTimeAt v device u
-had_time v device u t is le old has = record { good = has.good; timed = time_stays v device u t is le old has.timed }
+pub had_time : {v : View} {device : DeviceId} (u : ℕ) {t : ℕ} → IsView v → u ≤ t
+    → epoch_time (earlier t v.records) device <ℤ pos u → HasTimeAt v device t → HasTimeAt v device u
+had_time {v} {device} u {t} is le old has =
+    record { good = has.good; timed = time_stays v device u t is le old has.timed }
 
 -- ---- the records before
 
 -- the records before corrections at a time are all up to it that come earlier
-pub up_to_then : (v : View) (t : ℕ) (front : List Happening) → AreBeforeCorrections v t front → AreUpTo v t front
-up_to_then v t front split = grind (arith, earlier_before, in_left)
+pub up_to_then : {v : View} {t : ℕ} {front : List Happening} → AreBeforeCorrections v t front → AreUpTo v t front
+up_to_then split = grind (arith, earlier_before, in_left)
 
 -- what comes earlier is among them
-pub in_part : (v : View) (t : ℕ) (front : List Happening) (h : Happening) → AreBeforeCorrections v t front → IsIn h v.records → time_of h < t → IsIn h front
-in_part v t front h split i lt = elim (in_parts h front split.rest (subst (IsIn h) split.whole i)) [
+pub in_part : {v : View} {t : ℕ} {front : List Happening} (h : Happening) → AreBeforeCorrections v t front
+    → IsIn h v.records → time_of h < t → IsIn h front
+in_part {front} h split i lt = elim (in_parts h front split.rest (subst (IsIn h) split.whole i)) [
   | inl f ↦ f
   | inr r ↦ (let wrong = split.later h r in absurd (omega (arith, wrong, lt)))
 ]
 
 -- so are those by which a frame is judged that becomes permanent
-pub judged_up_to : (v : View) (h : Happening) → IsView v → (found : IsFoundedAt v.scenario v.records h) → (device : DeviceId) (link : LinkId) (cause : ℕ)
-    (frame : Pcf) (at : Units) → AreUpTo v (time_of h) (before_permanence found.front device (time_of h) link cause frame at)
-judged_up_to v h is found device link cause frame at =
-    let all = up_to_then v (time_of h) found.front (before_of v h is found) in
+pub judged_up_to : {v : View} {h : Happening} → IsView v
+    → (found : IsFoundedAt v.scenario v.records h) (device : DeviceId) (link : LinkId) (cause : ℕ) (frame : Pcf)
+    (at : Units) → AreUpTo v (time_of h) (before_permanence found.front device (time_of h) link cause frame at)
+judged_up_to {h} is found device link cause frame at =
+    let all = up_to_then (before_of is found) in
     let keeps = λ (x : Happening). is_before (place_of x) (time_of h ∷ 3 ∷ device.0 ∷ amount at ∷ frame.members.0 ∷ link.0 ∷ cause ∷ []) in
     record {
       all = earlier_judge found.front (time_of h) device link cause frame at ∙ all.all;
@@ -89,20 +93,22 @@ pub record HasPoint (v : View) (t : ℕ) (device : DeviceId) (cycle : ℕ) (verd
   pub not_cleared : verdict ≡ Cleared → ⊥
 
 -- the device's clock was set before the block then, and the point is that of the block
-pub old_point : (v : View) (n next t : ℕ) (before : Hull) (device : DeviceId) (cycle : ℕ) (verdict : Verdict) → BlockGoesSo v n next t before
-    → HasPoint v t device cycle verdict → IsOldAt v next device t × IsPointOf v n t before cycle
-old_point v n next t before device cycle verdict so p =
+pub old_point : {v : View} {n next t : ℕ} {before : Hull} {device : DeviceId} {cycle : ℕ} {verdict : Verdict}
+    → BlockGoesSo v n next t before → HasPoint v t device cycle verdict
+    → IsOldAt v next device t × IsPointOf v n t before cycle
+old_point {device} {cycle} {verdict} so p =
     let old = so.old_alone device cycle verdict p.has p.comes p.not_cleared in
     (old, so.points device cycle verdict p.has old p.comes)
 
 -- what a record comes of is such a point
-point_of_record : (v : View) (device : DeviceId) (h : Happening) (cycle : ℕ) (verdict : Verdict) → IsView v → IsGood v device
-    → (found : IsFoundedAt v.scenario v.records h) → ComesToCorrection v.scenario found.front device (time_of h) cycle verdict → (verdict ≡ Cleared → ⊥)
+point_of_record : {v : View} {device : DeviceId} {h : Happening} {cycle : ℕ} {verdict : Verdict} → IsView v
+    → IsGood v device → (found : IsFoundedAt v.scenario v.records h)
+    → ComesToCorrection v.scenario found.front device (time_of h) cycle verdict → (verdict ≡ Cleared → ⊥)
     → HasPoint v (time_of h) device cycle verdict
-point_of_record v device h cycle verdict is good found point not_cleared =
-    let split = before_of v h is found in
+point_of_record is good found point not_cleared =
+    let split = before_of is found in
     record {
-      has = record { good = good; timed = point_timed v (time_of h) device cycle verdict found.front split point };
+      has = record { good = good; timed = point_timed split point };
       comes = record { front = found.front; split = split; point = point };
       not_cleared = not_cleared;
     }
@@ -116,20 +122,20 @@ pub record HasCorrected (v : View) (device : DeviceId) (h : Happening) : Type 0 
   pub point : HasPoint v (time_of h) device cycle (Corrected by)
   pub sum : adjustment.0 ≡ (adjustment_left v device (time_of h) +ℤ by.0)
 
-pub has_corrected : (v : View) (device : DeviceId) (h : Happening) → IsView v → IsGood v device → IsIn h v.records
+pub has_corrected : {v : View} (device : DeviceId) (h : Happening) → IsView v → IsGood v device → IsIn h v.records
     → changes_adjustment device h.note.body ≡ true → is_correction h.note.body ≡ true → HasCorrected v device h
-has_corrected v device h is good i changes corrected =
+has_corrected {v} device h is good i changes corrected =
     let found = founded_at v.scenario v.records h is.run.founded i in
     let c = of_body h.note.body changes corrected in
     let cause = subst (IsCaused v.scenario found.front h.note.time) c.3 found.due.cause in
-    let left = ap (λ (a : Units). a.0) (same_adjustment v device (time_of h) found.front (before_of v h is found)) in
+    let left = ap (λ (a : Units). a.0) (same_adjustment device (before_of is found)) in
     record {
       cycle = c.0;
       by = c.1;
       adjustment = c.2;
       is = c.3;
-      point = point_of_record v device h c.0 (Corrected c.1) is good found cause.corrected (λ z. cc);
-      sum = cause.sum ∙ ap (λ (z : ℤ). z +ℤ c.1.0) left;
+      point = point_of_record is good found cause.corrected (λ z. cc);
+      sum = cause.sum ∙ ap (λ z. z +ℤ c.1.0) left;
     }
   where
     of_body : (body : NoteBody) → changes_adjustment device body ≡ true → is_correction body ≡ true → (cycle : ℕ) × (by : Units) × (adjustment : Units)
@@ -145,68 +151,75 @@ pub record HasLost (v : View) (device : DeviceId) (h : Happening) : Type 0 where
   pub point : HasPoint v (time_of h) device cycle verdict
   pub not_corrected : (by : Units) → verdict ≡ Corrected by → ⊥
 
-pub has_lost : (v : View) (device : DeviceId) (h : Happening) (state : State) (cause : ℕ) (why : Why) → IsView v → IsGood v device → IsIn h v.records
-    → h.note.body ≡ notes.State device state cause why → IsClique why → HasLost v device h
-has_lost v device h state cause why is good i body clique =
+pub has_lost : {v : View} (device : DeviceId) (h : Happening) (state : State) (cause : ℕ) (why : Why) → IsView v
+    → IsGood v device → IsIn h v.records → h.note.body ≡ notes.State device state cause why → IsClique why
+    → HasLost v device h
+has_lost {v} device h state cause why is good i body clique =
     let found = founded_at v.scenario v.records h is.run.founded i in
     let c = clique_point v.scenario found.front (time_of h) device state cause why clique (subst (IsCaused v.scenario found.front h.note.time) body
     found.due.cause) in
     record {
       cycle = c.cycle;
       verdict = c.verdict;
-      point = point_of_record v device h c.cycle c.verdict is good found c.point c.not_cleared;
+      point = point_of_record is good found c.point c.not_cleared;
       not_corrected = c.not_corrected;
     }
 
 -- ---- corrections of earlier cycles
 
 -- the hull of a cycle up to the standing one is narrow
-pub narrow_at : (v : View) (n c : ℕ) (before : Stands v n) (hull : Hull) → c ≤ n → hull_of v c ≡ Some hull → IsNarrow v.sizes hull
-narrow_at v n c before hull le is =
+pub narrow_at : {v : View} {n : ℕ} (c : ℕ) (before : Stands v n) (hull : Hull) → c ≤ n → hull_of v c ≡ Some hull
+    → IsNarrow v.sizes hull
+narrow_at {v} c before hull le is =
     let there = before.narrow c le in
     subst (IsNarrow v.sizes) (same_some (hull_of v c) there.0 hull there.1 is) there.2
 
 -- the first corrections of cycles go on
-pub corrections_go_on : (v : View) (n k more : ℕ) (before : Stands v n) (w x : Hull) → IsView v → k + more ≤ n → hull_of v k ≡ Some w
-    → hull_of v (k + more) ≡ Some x → first_correction v.sizes w ≤ℤ first_correction v.sizes x
-corrections_go_on v n k zero before w x is le at_w at_x =
+pub corrections_go_on : {v : View} {n : ℕ} (k more : ℕ) (before : Stands v n) (w x : Hull) → IsView v → k + more ≤ n
+    → hull_of v k ≡ Some w → hull_of v (k + more) ≡ Some x → first_correction v.sizes w ≤ℤ first_correction v.sizes x
+corrections_go_on {v} k zero before w x is le at_w at_x =
     let same : k + zero ≡ k = omega arith in
-    let here = subst (λ (c : ℕ). hull_of v c ≡ Some x) same at_x in
+    let here = subst (λ c. hull_of v c ≡ Some x) same at_x in
     omega (arith, ints, ap (λ (y : Hull). y.least) (same_some (hull_of v k) w x at_w here))
-corrections_go_on v n k (suc more) before w x is le at_w at_x =
+corrections_go_on {v} k (suc more) before w x is le at_w at_x =
     let there = before.narrow (k + more) (omega (arith, le)) in
     let step : k + suc more ≡ suc (k + more) = omega arith in
-    let at : hull_of v (suc (k + more)) ≡ Some x = subst (λ (c : ℕ). hull_of v c ≡ Some x) step at_x in
-    let order = instants_are_in_order v.sizes there.0 x (room v is) there.2 (follows_before v (k + more) there.0 x is there.1 at) in
-    omega (arith, ints, corrections_go_on v n k more before w there.0 is (omega (arith, le)) at_w there.1, order.next_later)
+    let at : hull_of v (suc (k + more)) ≡ Some x = subst (λ c. hull_of v c ≡ Some x) step at_x in
+    let order = instants_are_in_order v.sizes there.0 x (room is) there.2
+    (follows_before (k + more) there.0 x is there.1 at) in
+    omega (arith, ints, corrections_go_on k more before w there.0 is (omega (arith, le)) at_w there.1, order.next_later)
 
 -- a block begins before an old clock comes to the correction point of its cycle
-pub early_show : (v : View) (n : ℕ) (before : Stands v n) → IsView v
+pub early_show : {v : View} (n : ℕ) (before : Stands v n) → IsView v
     → pos before.next ≤ℤ (before.hull.least +ℤ pos (v.sizes.correction + v.sizes.spread + 3 * v.sizes.reach + 1))
-early_show v zero before is =
+early_show {v} zero before is =
     let same : start_hull v.sizes ≡ before.hull = same_some (hull_of v zero) (start_hull v.sizes) before.hull refl before.is_hull in
-    omega (arith, ints, before.is_over, ap (λ (w : Hull). w.least) same, (room v is).errors.spread_is)
-early_show v (suc c) before is =
+    omega (arith, ints, before.is_over, ap (λ (w : Hull). w.least) same, (room is).errors.spread_is)
+early_show {v} (suc c) before is =
     let one = before.narrow c (omega arith) in
-    let order = instants_are_in_order v.sizes one.0 before.hull (room v is) one.2 (follows_before v c one.0 before.hull is one.1 before.is_hull) in
+    let order = instants_are_in_order v.sizes one.0 before.hull (room is) one.2
+    (follows_before c one.0 before.hull is one.1 before.is_hull) in
     omega (arith, ints, block_ends v c before.next one.0 one.1 before.is_over, order.last_not_late)
 
 -- it begins before the dispatches of its cycle
-pub next_first : (v : View) (n : ℕ) (before : Stands v n) → IsView v → pos before.next ≤ℤ first_dispatch v.sizes before.hull
-next_first v n before is = omega (arith, ints, early_show v n before is, room v is)
+pub next_first : {v : View} {n : ℕ} (before : Stands v n) → IsView v
+    → pos before.next ≤ℤ first_dispatch v.sizes before.hull
+next_first {n} before is = omega (arith, ints, early_show n before is, room is)
 
 -- the time lies behind the first corrections of the earlier cycles
 abbrev pub IsLate : View → ℕ → ℕ → Type 0
 IsLate v n q = (k : ℕ) (w : Hull) → suc k ≤ n → hull_of v k ≡ Some w → first_correction v.sizes w ≤ℤ pos q
 
 -- what comes behind the beginning of the block is late
-pub late_from : (v : View) (n q : ℕ) (before : Stands v n) → IsView v → before.next ≤ q → IsLate v n q
-late_from v zero q before is le k w few at = absurd (omega (arith, few))
-late_from v (suc c) q before is le k w few at =
+pub late_from : {v : View} (n q : ℕ) (before : Stands v n) → IsView v → before.next ≤ q → IsLate v n q
+late_from zero q before is le k w few at = absurd (omega (arith, few))
+late_from {v} (suc c) q before is le k w few at =
     let there = before.narrow c (omega arith) in
     let gap : k + (c - k) ≡ c = omega (arith, few) in
-    let low = corrections_go_on v _ k (c - k) before w _ is (omega (arith, few)) at (subst (λ (x : ℕ). hull_of v x ≡ Some there.0) (sym gap) there.1) in
-    let order = instants_are_in_order v.sizes there.0 before.hull (room v is) there.2 (follows_before v c there.0 before.hull is there.1 before.is_hull) in
+    let low = corrections_go_on k (c - k) before w _ is
+    (omega (arith, few)) at (subst (λ x. hull_of v x ≡ Some there.0) (sym gap) there.1) in
+    let order = instants_are_in_order v.sizes there.0 before.hull (room is) there.2
+    (follows_before c there.0 before.hull is there.1 before.is_hull) in
     omega (arith, ints, low, block_ends v c before.next there.0 there.1 before.is_over, order.corrections, le)
 
 -- ---- a frame of the block
@@ -249,28 +262,28 @@ module _ (laws : FramesGoSo) (v : View) (n t : ℕ) (before : Stands v n) (is : 
       let known = known_dispatch v n t before went sent.first sent.master (cycle_in h) sent.dispatch (omega (arith, sent.before, heard.2, le)) in
       let block = laws.in_blocks v device channel (cycle_in h) (members_by h) emission (time_of h) point expected is
       (λ g d c dispatch lt. tidy v n t before went g d c dispatch (omega (arith, lt, heard.2, le))) good
-      (λ c same hull at. narrow_at v n c before hull (omega (arith, same, known.0)) at) heard.1 in
+      (λ c same hull at. narrow_at c before hull (omega (arith, same, known.0)) at) heard.1 in
       let same : cycle_in h ≡ suc n = elim (cases_lt block.follows n) [
         | inl lt ↦ (let after = late block.follows block.before (omega arith) block.is_before in absurd (omega (arith, ints, after, block.not_late)))
         | inr ge ↦ omega (arith, ge, block.is_next, known.0)
       ] in
       let follows : block.follows ≡ n = omega (arith, same, block.is_next) in
-      let hull_n = subst (λ (c : ℕ). hull_of v c ≡ Some block.before) follows block.is_before in
+      let hull_n = subst (λ c. hull_of v c ≡ Some block.before) follows block.is_before in
       record {
         of_cycle = same;
         emission = emission;
         sent = record {
           cm = heard.1.cm;
-          emission = subst (λ (c : ℕ). IsEmission v emission heard.1.cm c (members_by h)) same heard.1.emission;
+          emission = subst (λ c. IsEmission v emission heard.1.cm c (members_by h)) same heard.1.emission;
           of_channel = heard.1.of_channel;
           good = good;
         };
         in_order = heard.2;
         timely = laws.timely v device channel (cycle_in h) (members_by h) emission (time_of h) point expected is heard.1;
         hull = block.hull;
-        is_hull = subst (λ (c : ℕ). hull_of v c ≡ Some block.hull) same block.is_hull;
+        is_hull = subst (λ c. hull_of v c ≡ Some block.hull) same block.is_hull;
         not_early = block.not_early;
-        not_late = subst (λ (w : Hull). pos (time_of h) <ℤ first_correction v.sizes w) (same_some _ _ _ hull_n before.is_hull) block.not_late;
+        not_late = subst (λ w. pos (time_of h) <ℤ first_correction v.sizes w) (same_some _ _ _ hull_n before.is_hull) block.not_late;
       }
 
   -- the base of one of three members, or of good ones alone, lies in the hull
@@ -279,5 +292,5 @@ module _ (laws : FramesGoSo) (v : View) (n t : ℕ) (before : Stands v n) (is : 
   near_hull g enough =
       let base = laws.bases v g.emission g.sent.cm (suc n) (members_by h) is g.sent.emission
       (λ x d c dispatch early. tidy v n t before went x d c dispatch (omega (arith, early, g.in_order, le))) enough in
-      subst (λ (w : Hull). IsNearHull v.sizes w (base_of v.sizes (time_of g.emission))) (same_some _ _ _ base.is g.is_hull)
+      subst (λ w. IsNearHull v.sizes w (base_of v.sizes (time_of g.emission))) (same_some _ _ _ base.is g.is_hull)
       (record { least = base.least; most = base.most })

@@ -69,15 +69,16 @@ abbrev pub block_of : (v : View) (n : ℕ) (before : Stands v n) (w : ℕ) → I
 block_of v n before w at = record { before = before; next = at.next; is_over = at.is_over; from = at.from; to = at.to; in_run = at.in_run }
 
 -- a dispatch lies in the block of its cycle
-pub in_next : (v : View) (n : ℕ) (before : Stands v n) (w : ℕ) → IsView v → first_dispatch v.sizes before.hull ≤ℤ pos w
-    → pos w ≤ℤ last_dispatch v.sizes before.hull → w ≤ v.until → IsInNext v n before w
-in_next v n before w is low high in_run =
-    let next = behind_of (last_correction v.sizes before.hull) before.next (later_end v n before is) in
+pub in_next : {v : View} {n : ℕ} (before : Stands v n) (w : ℕ) → IsView v
+    → first_dispatch v.sizes before.hull ≤ℤ pos w → pos w ≤ℤ last_dispatch v.sizes before.hull → w ≤ v.until
+    → IsInNext v n before w
+in_next {v} {n} before w is low high in_run =
+    let next = behind_of (last_correction v.sizes before.hull) before.next (later_end n before is) in
     record {
       next = next.0;
       is_over = (before.hull, before.is_hull, next.1.behind);
-      from = omega (arith, ints, next_first v n before is, low);
-      to = omega (arith, ints, high, next.1.behind, frames_come_first v.sizes before.hull (room v is) (before_narrow v n before), before_narrow v n before);
+      from = omega (arith, ints, next_first before is, low);
+      to = omega (arith, ints, high, next.1.behind, frames_come_first v.sizes before.hull (room is) (before_narrow before), before_narrow before);
       in_run = in_run;
     }
 
@@ -94,18 +95,20 @@ pub record HasDispatched (v : View) (device : DeviceId) (cycle w : ℕ) : Type 0
   pub least : pos (cycle * v.sizes.cycle) ≤ℤ (pos (v.scenario.reading device w) +ℤ adjustment_left v device w)
   pub most : (pos (v.scenario.reading device w) +ℤ adjustment_left v device w) ≤ℤ (pos (cycle * v.sizes.cycle) +ℤ pos (2 * v.sizes.grain))
 
-pub has_dispatched : (v : View) (h : Happening) (device : DeviceId) (cycle : ℕ) → IsView v → IsDispatch v h device cycle
-    → HasDispatched v device cycle (time_of h)
-has_dispatched v h device cycle is dispatch =
+pub has_dispatched : {v : View} {h : Happening} {device : DeviceId} {cycle : ℕ} → IsView v
+    → IsDispatch v h device cycle → HasDispatched v device cycle (time_of h)
+has_dispatched {v} {h} {device} {cycle} is dispatch =
     let found = founded_at v.scenario v.records h is.run.founded dispatch.there in
     let sends = subst (IsCaused v.scenario found.front h.note.time) dispatch.is found.due.cause in
-    let split = before_of v h is found in
+    let split = before_of is found in
     let state = up_state (is_turned_on_at v.scenario device (time_of h)) (state_after v.scenario (earlier (time_of h) found.front) device)
     sends.up.synchronised in
-    let left = subst (λ (hs : List Happening). state_after v.scenario hs device ≡ Synchronised) (earlier_before v (time_of h) found.front split) state in
-    let reaches = reaches_whole v device (pos (cycle * amount v.scenario.network.cycle)) (time_of h) found.front split sends.reached in
+    let left = subst (λ hs. state_after v.scenario hs device ≡ Synchronised)
+    (earlier_before split) state in
+    let reaches = reaches_whole split sends.reached in
     let sharp = clocks_reach_sharply v device (pos (cycle * amount v.scenario.network.cycle)) (time_of h) is reaches in
-    let same : cycle * v.sizes.cycle ≡ cycle * amount v.scenario.network.cycle = ap (λ (x : ℕ). cycle * x) (sizes_are v is).cycle in
+    let same : cycle * v.sizes.cycle ≡ cycle * amount v.scenario.network.cycle =
+    ap (λ (x : ℕ). cycle * x) (sizes_are is).cycle in
     record {
       begun = sends.begun;
       end = master_is_end v device sends.master;
@@ -122,22 +125,23 @@ unset None early = refl
 unset (Some h) early = absurd (omega (arith, ints, early))
 
 -- the sizes of the first cycle
-pub start_near : (v : View) (device : DeviceId) (w : ℕ) → IsView v → IsGood v device → HasDispatched v device 1 w
+pub start_near : {v : View} {device : DeviceId} {w : ℕ} → IsView v → IsGood v device → HasDispatched v device 1 w
     → epoch_time (earlier w v.records) device <ℤ pos 0 → pos w ≤ℤ last_dispatch v.sizes (start_hull v.sizes)
     → IsReachedNear v.sizes (pos 0 -ℤ pos (2 * v.sizes.settled)) (pos 0) v.sizes.cycle w
-start_near v device w is good has early late =
+start_near {v} {device} {w} is good has early late =
     let reading = v.scenario.reading device in
     let none = unset (last_setting (earlier w v.records) device) early in
     let timed : has_time (state_left v device 0) ≡ true = time_stays v device 0 w is (omega arith) early
     (synchronised_has_time (state_left v device w) has.synchronised) in
-    let at_start = subst (λ (hs : List Happening). has_time (state_after v.scenario hs device) ≡ true) (none_at_start v.records) timed in
+    let at_start = subst (λ hs. has_time (state_after v.scenario hs device) ≡ true) (none_at_start v.records) timed in
     let start = has_start (start_of v.scenario.network device) at_start in
-    let known = start_is v device start.0 is start.1 in
+    let known = start_is device start.0 is start.1 in
     let same = ap (λ (a : Units). a.0)
     (adjustment_is_last v.scenario (earlier w v.records) device ∙ ap (set_adjustment v.scenario device) none ∙ ap adjustment_at_start start.1) in
     let zero_reading = (steady v is device).begins in
     let shows = anchored_clocks_show v.sizes reading (adjustment_left v device w) 0 (pos 0 -ℤ pos (2 * v.sizes.settled)) (pos 0) 0 w (steady v is device)
-    (omega arith) (omega (arith, ints, (room v is).many_errors)) (record { least = omega (arith, ints); most = omega (arith, ints) }) in
+    (omega arith) (omega (arith, ints, (room is).many_errors))
+    (record { least = omega (arith, ints); most = omega (arith, ints) }) in
     anchored_clocks_reach v.sizes (pos (reading w) +ℤ adjustment_left v device w) 0 (pos 0 -ℤ pos (2 * v.sizes.settled)) (pos 0) v.sizes.cycle w shows
     (omega (arith, ints, has.least)) (omega (arith, ints, has.most))
 
@@ -155,19 +159,21 @@ pub record IsReachedBy (v : View) (n w : ℕ) (hull : Hull) (shared : ℤ) : Typ
   pub near : IsNearHull v.sizes hull other
   pub reached : IsReachedNear v.sizes (low_by v.sizes shared other) (high_by v.sizes shared other) v.sizes.cycle w
 
-pub shared_near : (v : View) (n w : ℕ) (before : Stands v n) (device : DeviceId) (share : AreShared v n before.hull before.next) → IsView v → IsGood v device
-    → HasDispatched v device (suc n) w → before.next ≤ w → IsOldAt v before.next device w → pos w ≤ℤ last_dispatch v.sizes before.hull
+pub shared_near : {v : View} {n w : ℕ} (before : Stands v n) {device : DeviceId}
+    (share : AreShared v n before.hull before.next) → IsView v → IsGood v device → HasDispatched v device (suc n) w
+    → before.next ≤ w → IsOldAt v before.next device w → pos w ≤ℤ last_dispatch v.sizes before.hull
     → IsReachedBy v n w before.hull share.shared
-shared_near v n w before device share is good has from old late =
+shared_near {v} {n} {w} before {device} share is good has from old late =
     let reading = v.scenario.reading device in
-    let still = state_stays is_synchronised refl v device before.next w is from old has.synchronised in
+    let still = state_stays is_synchronised refl device before.next w is from old has.synchronised in
     let by = share.each device (record { end = has.end; good = good }) (is_in (state_left v device before.next) still) in
-    let same = ap (λ (a : Units). a.0) (adjustment_stays v device before.next w is from old) in
+    let same = ap (λ (a : Units). a.0) (adjustment_stays device before.next w is from old) in
     let low = low_by v.sizes share.shared by.other in
     let high = high_by v.sizes share.shared by.other in
-    let anchored = subst (λ (a : ℤ). IsAnchored v.sizes (pos (reading by.set_at) +ℤ a) n low high by.set_at) same by.anchored in
+    let anchored = subst (λ a. IsAnchored v.sizes (pos (reading by.set_at) +ℤ a) n low high by.set_at) same by.anchored in
     let shows = anchored_clocks_show v.sizes reading (adjustment_left v device w) n low high by.set_at w (steady v is device)
-    (omega (arith, by.not_behind, from)) (omega (arith, ints, late, by.not_before, before_narrow v n before, room v is)) anchored in
+    (omega (arith, by.not_behind, from)) (omega (arith, ints, late, by.not_before, before_narrow before, room is))
+    anchored in
     let product : suc n * v.sizes.cycle ≡ n * v.sizes.cycle + v.sizes.cycle = omega arith in
     record {
       other = by.other;
@@ -185,41 +191,44 @@ record IsEnd (v : View) (n : ℕ) (before : Stands v n) (h : Happening) : Type 0
   pub low : first_dispatch v.sizes before.hull ≤ℤ pos (time_of h)
   pub high : pos (time_of h) ≤ℤ last_dispatch v.sizes before.hull
 
-end_is : (v : View) (n : ℕ) (before : Stands v n) (h : Happening) → IsIn h (filter (λ g. is_dispatch v before.hull (suc n) g g.note.body) v.records)
-    → IsEnd v n before h
-end_is v n before h i = grind (arith, is_dispatch, tested, passes, in_filter)
+end_is : {v : View} {n : ℕ} (before : Stands v n) (h : Happening)
+    → IsIn h (filter (λ g. is_dispatch v before.hull (suc n) g g.note.body) v.records) → IsEnd v n before h
+end_is before h i = grind (arith, is_dispatch, tested, passes, in_filter)
 
 -- its master's clock was set before the block
-end_old : BlocksGoSo → (v : View) (n : ℕ) (before : Stands v n) (h : Happening) → IsView v → (e : IsEnd v n before h)
+end_old : BlocksGoSo → {v : View} {n : ℕ} {before : Stands v n} {h : Happening} → IsView v → (e : IsEnd v n before h)
     → (before.next ≤ time_of h) × IsOldAt v before.next e.device (time_of h)
-end_old goes v n before h is e =
-    let at = in_next v n before (time_of h) is e.low e.high (within_run v is h e.dispatch.there) in
+end_old goes {v} {n} {before} {h} is e =
+    let at = in_next before (time_of h) is e.low e.high (within_run is h e.dispatch.there) in
     (at.from, ((goes v n (time_of h) (block_of v n before (time_of h) at) is).dispatches h e.device (suc n) e.dispatch refl).old)
 
 -- the two ends of the hull come near
-ends_near : BlocksGoSo → (v : View) (n : ℕ) (before : Stands v n) (g h : Happening) → IsView v → IsEnd v n before g → IsEnd v n before h
-    → time_of g ≤ time_of h + v.sizes.spread
-ends_near goes v zero before g h is one other = starts_stay_together v.sizes (time_of g) (time_of h) (room v is) (near g one) (near h other)
+ends_near : BlocksGoSo → {v : View} (n : ℕ) {before : Stands v n} {g h : Happening} → IsView v → IsEnd v n before g
+    → IsEnd v n before h → time_of g ≤ time_of h + v.sizes.spread
+ends_near goes {v} zero {before} {g} {h} is one other =
+    starts_stay_together v.sizes (time_of g) (time_of h) (room is) (near g one) (near h other)
   where
     near : (h : Happening) → IsEnd v zero before h → IsReachedNear v.sizes (pos 0 -ℤ pos (2 * v.sizes.settled)) (pos 0) v.sizes.cycle (time_of h)
     near h e =
         let same : before.hull ≡ start_hull v.sizes = same_some (hull_of v zero) before.hull (start_hull v.sizes) before.is_hull refl in
-        let old = subst (λ (x : ℕ). epoch_time (earlier (time_of h) v.records) e.device <ℤ pos x) before.is_over (end_old goes v zero before h is e).1 in
-        start_near v e.device (time_of h) is e.dispatch.good (has_dispatched v h e.device 1 is e.dispatch) old
-        (subst (λ (w : Hull). pos (time_of h) ≤ℤ last_dispatch v.sizes w) same e.high)
-ends_near goes v (suc c) before g h is one other =
+        let old = subst (λ x. epoch_time (earlier (time_of h) v.records) e.device <ℤ pos x) before.is_over
+        (end_old goes is e).1 in
+        start_near is e.dispatch.good (has_dispatched is e.dispatch) old
+        (subst (λ w. pos (time_of h) ≤ℤ last_dispatch v.sizes w) same e.high)
+ends_near goes {v} (suc c) {before} {g} {h} is one other =
     let x = near g one in
     let y = near h other in
-    let half = shared_clocks_halve v.sizes before.hull share.shared x.other y.other (time_of g) (time_of h) (room v is) x.near y.near x.reached y.reached in
-    omega (arith, ints, half, before_narrow v (suc c) before, (room v is).errors.spread_is)
+    let half = shared_clocks_halve v.sizes before.hull share.shared x.other y.other (time_of g) (time_of h) (room is)
+    x.near y.near x.reached y.reached in
+    omega (arith, ints, half, before_narrow before, (room is).errors.spread_is)
   where
     share : AreShared v (suc c) before.hull before.next
     share = before.shared (omega arith)
 
     near : (h : Happening) → IsEnd v (suc c) before h → IsReachedBy v (suc c) (time_of h) before.hull share.shared
     near h e =
-        let at = end_old goes v (suc c) before h is e in
-        shared_near v (suc c) _ before _ share is e.dispatch.good (has_dispatched v h _ _ is e.dispatch) at.0 at.1 e.high
+        let at = end_old goes is e in
+        shared_near before share is e.dispatch.good (has_dispatched is e.dispatch) at.0 at.1 e.high
 
 pub hulls_are_narrow : BlocksGoSo → HullsAreNarrow
 hulls_are_narrow goes v n before hull is is_hull =
@@ -231,6 +240,6 @@ hulls_are_narrow goes v n before hull is is_hull =
       | inr none ↦ absurd (never_some none.0 none.1)
       | inl top ↦ elim ends.least [
         | inr none ↦ absurd (never_some none.0 none.1)
-        | inl low ↦ omega (arith, ints, ends_near goes v n before top.0 low.0 is (end_is v n before top.0 top.1) (end_is v n before low.0 low.1), top.2, low.2)
+        | inl low ↦ omega (arith, ints, ends_near goes n is (end_is before top.0 top.1) (end_is before low.0 low.1), top.2, low.2)
       ]
     ]

@@ -33,7 +33,7 @@ over_keeps o (h ∷ hs) u has = over_keeps (widened o (pos (time_of h))) hs u (w
 over_has : (o : Option Hull) (hs : List Happening) (h : Happening) → IsIn h hs → HasIn (pos (time_of h)) (over o hs)
 over_has o [] h i = absurd i
 over_has o (g ∷ hs) h (inl same) =
-    subst (λ (x : Happening). HasIn (pos (time_of x)) (over o (g ∷ hs))) (sym same) (over_keeps _ hs _ (widened_has o (pos (time_of g))))
+    subst (λ x. HasIn (pos (time_of x)) (over o (g ∷ hs))) (sym same) (over_keeps _ hs _ (widened_has o (pos (time_of g))))
 over_has o (g ∷ hs) h (inr more) = over_has (widened o (pos (time_of g))) hs h more
 
 -- the hull, if it is there, lies between these
@@ -69,19 +69,22 @@ tested v before cycle h (notes.Sent device of_cycle) e =
 tested v before cycle h other e = absurd cc
 
 -- the dispatch of a good master in time passes the test
-passes_test : (v : View) (before : Hull) (cycle : ℕ) (h : Happening) (device : DeviceId) → IsDispatch v h device cycle
-    → first_dispatch v.sizes before ≤ℤ pos (time_of h) → pos (time_of h) ≤ℤ last_dispatch v.sizes before → is_dispatch v before cycle h h.note.body ≡ true
-passes_test v before cycle h device dispatch low high =
+passes_test : {v : View} (before : Hull) {cycle : ℕ} {h : Happening} {device : DeviceId}
+    → IsDispatch v h device cycle → first_dispatch v.sizes before ≤ℤ pos (time_of h)
+    → pos (time_of h) ≤ℤ last_dispatch v.sizes before → is_dispatch v before cycle h h.note.body ≡ true
+passes_test before dispatch low high =
     grind (arith, not, is_broken, not_from_false, eq-eqb, int_le, first_dispatch, time_of, int_le-true, last_dispatch, is_dispatch)
 
 -- ---- hulls
 
 -- a dispatch of the next cycle in time lies in the hull of its cycle
-pub in_hull : (v : View) (cycle : ℕ) (before : Hull) (h : Happening) (device : DeviceId) → hull_of v cycle ≡ Some before → IsDispatch v h device (suc cycle)
-    → first_dispatch v.sizes before ≤ℤ pos (time_of h) → pos (time_of h) ≤ℤ last_dispatch v.sizes before → IsInHull v (suc cycle) (time_of h)
-in_hull v cycle before h device is_before dispatch low high =
+pub in_hull : {v : View} (cycle : ℕ) (before : Hull) {h : Happening} {device : DeviceId}
+    → hull_of v cycle ≡ Some before → IsDispatch v h device (suc cycle)
+    → first_dispatch v.sizes before ≤ℤ pos (time_of h) → pos (time_of h) ≤ℤ last_dispatch v.sizes before
+    → IsInHull v (suc cycle) (time_of h)
+in_hull {v} cycle before {h} is_before dispatch low high =
     let test = λ (g : Happening). is_dispatch v before (suc cycle) g g.note.body in
-    let i = in_kept test v.records h dispatch.there (passes_test v before (suc cycle) h device dispatch low high) in
+    let i = in_kept test v.records h dispatch.there (passes_test before dispatch low high) in
     let same = ap (λ (o : Option Hull). option_and_then (λ before. hull_over (filter (λ h. is_dispatch v before
     (suc cycle) h h.note.body) v.records)) o) is_before in
     of_hull (hull_over (filter test v.records)) same (over_has None (filter test v.records) h i)

@@ -20,9 +20,9 @@ link_of_receiver n None f device e = absurd cc
 link_of_receiver n (Some l) f device e = (l, refl)
 
 -- a link that is there is of a channel
-pub link_channel : (v : View) (link : LinkId) (l : Link) → IsView v → link_at v.scenario.network link ≡ Some l → (channel : Channel)
-    × (channel_of_link v.scenario.network link ≡ Some channel)
-link_channel v link l is at =
+pub link_channel : {v : View} (link : LinkId) (l : Link) → IsView v → link_at v.scenario.network link ≡ Some l
+    → (channel : Channel) × (channel_of_link v.scenario.network link ≡ Some channel)
+link_channel {v} link l is at =
     let n = v.scenario.network in
     let joint = is.lawful.rules Joints link.0 l at in
     let switch = opened (λ (d : Device). d.channel ≡ Some joint.0) (device_at n l.parent) joint.1 in (
@@ -36,9 +36,9 @@ cm_not_end Cm e = refl
 cm_not_end role e = absurd cc
 
 -- a compression master is of a channel
-pub cm_channel : (v : View) (device : DeviceId) → IsView v → is_cm v.scenario.network device ≡ true → (channel : Channel)
-    × (channel_of v.scenario.network device ≡ Some channel)
-cm_channel v device is cm =
+pub cm_channel : {v : View} (device : DeviceId) → IsView v → is_cm v.scenario.network device ≡ true
+    → (channel : Channel) × (channel_of v.scenario.network device ≡ Some channel)
+cm_channel {v} device is cm =
     let d = device_of is_cm_role (device_at v.scenario.network device) cm in
     let known : IsDeviceInRange d.0 = all_at IsDeviceInRange v.scenario.network.device device.0 d.0 is.lawful.range.devices d.1 in
     let some = some_of d.0.channel (known.switches ∙ ap not (cm_not_end d.0.role d.2)) in
@@ -84,16 +84,19 @@ pub record Joins (v : View) (h : Happening) (device : DeviceId) : Type 0 where
       → (adjustment_with v.scenario device (cycle_in h) old h.note.body).0 ≡ (expected_at (plan_of v.scenario.network device) (cycle_in h) -ℤ point)
 
 -- an arrival by a link that is there
-pub arrival_link : (v : View) (hs : List Happening) (t : ℕ) (device : DeviceId) (link : LinkId) (cause clock : ℕ)
-    → IsArrivedRecord v.scenario hs device t link cause clock → (l : Link) × (link_at v.scenario.network link ≡ Some l)
-arrival_link v hs t device link cause clock a = elim a.taken [
+pub arrival_link : (v : View) {hs : List Happening} {t : ℕ} {device : DeviceId} {link : LinkId} {cause clock : ℕ}
+    → IsArrivedRecord v.scenario hs device t link cause clock
+    → (l : Link) × (link_at v.scenario.network link ≡ Some l)
+arrival_link v {device} {link} a = elim a.taken [
   | inl waits ↦ link_of_receiver v.scenario.network (link_at v.scenario.network link) (target_by waits.arrives.way) device waits.arrives.receiver
   | inr (inl passes) ↦ link_of_receiver v.scenario.network (link_at v.scenario.network link) (target_by passes.arrives.way) device passes.arrives.receiver
   | inr (inr both) ↦ link_of_receiver v.scenario.network (link_at v.scenario.network link) (target_by both.arrives.way) device both.arrives.receiver
 ]
 
-pub joins : (v : View) (h : Happening) (device : DeviceId) → IsView v → IsIn h v.records → is_joined_by device h.note.body ≡ true → Joins v h device
-joins v h device is i joins_it = by h.note.body refl (ap (λ (x : Happening). x.frame) at.due.same) at.due.cause joins_it
+pub joins : {v : View} (h : Happening) (device : DeviceId) → IsView v → IsIn h v.records
+    → is_joined_by device h.note.body ≡ true → Joins v h device
+joins {v} h device is i joins_it =
+    by h.note.body refl (ap (λ (x : Happening). x.frame) at.due.same) at.due.cause joins_it
   where
     at : IsFoundedAt v.scenario v.records h
     at = founded_at v.scenario v.records h is.run.founded i
@@ -103,9 +106,9 @@ joins v h device is i joins_it = by h.note.body refl (ap (λ (x : Happening). x.
     by (notes.Permanent other link cause point Integrates) same framed caused joined =
         let p = caused.permanent in
         let came = founded_at v.scenario at.front p.arrival at.founded (numbered_in at.front cause p.arrival p.there) in
-        let l = arrival_link v came.front (amount p.arrival.note.time) other link p.from p.clock
+        let l = arrival_link v
         (subst (IsCaused v.scenario came.front p.arrival.note.time) p.arrived came.due.cause) in
-        let channel = link_channel v link l.0 is l.1 in
+        let channel = link_channel link l.0 is l.1 in
         let of_frame : h.frame ≡ Some caused.frame = framed ∙ ap (λ (o : Option Happening). option_and_then (λ x. x.frame) o) p.there ∙ p.of_frame in
         let ripe_so = ripe_integrates v.scenario.network other _ _ _ caused.frame point.0 caused.becomes in
         let members : caused.frame.members.0 ≡ members_in h = ap (λ (o : Option Pcf). option_map_or (λ f. f.members.0) o 0) (sym of_frame) in
@@ -115,12 +118,12 @@ joins v h device is i joins_it = by h.note.body refl (ap (λ (x : Happening). x.
           point = point.0;
           hears = record { there = i; how = inl (link, cause, point, body_is, channel.1, refl) };
           enough = subst (λ (m : ℕ). v.scenario.network.sync_threshold ≤ count_of (record { 0 = m })) members ripe_so.1.enough;
-          sets = λ old. ap (λ (b : NoteBody). (adjustment_with v.scenario device (cycle_in h) old b).0) same ∙ rw joined refl;
+          sets = λ old. ap (λ b. (adjustment_with v.scenario device (cycle_in h) old b).0) same ∙ rw joined refl;
         }
     by (notes.Compressed other opened point cycle members Integrates) same framed caused joined =
         let n = v.scenario.network in
         let one : other ≡ device = same_device device other joined in
-        let channel = cm_channel v other is caused.cm in
+        let channel = cm_channel other is caused.cm in
         let enough = integrates_by (plan_of n other) (observation_window n) _ _ point.0 cycle members (sym caused.heard) in
         let of_members : members.0 ≡ members_in h = ap (λ (o : Option Pcf). option_map_or (λ f. f.members.0) o 0) (sym framed) in
         let of_cycle : cycle ≡ cycle_in h = ap (λ (o : Option Pcf). option_map_or (λ f. f.cycle) o 0) (sym framed) in
@@ -130,12 +133,12 @@ joins v h device is i joins_it = by h.note.body refl (ap (λ (x : Happening). x.
           point = point.0;
           hears = record {
             there = i;
-            how = inr (opened, point, cycle, members, body_is, subst (λ (d : DeviceId). channel_of n d ≡ Some channel.0) one channel.1, refl);
+            how = inr (opened, point, cycle, members, body_is, subst (λ d. channel_of n d ≡ Some channel.0) one channel.1, refl);
           };
           enough = subst (λ (m : ℕ). n.sync_threshold ≤ count_of (record { 0 = m })) of_members enough.enough;
           sets =
-              λ old. ap (λ (b : NoteBody). (adjustment_with v.scenario device (cycle_in h) old b).0) same
-              ∙ rw joined (ap (λ (c : ℕ). expected_at (plan_of n device) c -ℤ point.0) of_cycle);
+              λ old. ap (λ b. (adjustment_with v.scenario device (cycle_in h) old b).0) same
+              ∙ rw joined (ap (λ c. expected_at (plan_of n device) c -ℤ point.0) of_cycle);
         }
     by body same framed caused joined = absurd cc
 
@@ -146,12 +149,14 @@ times_pos n (pos m) le = refl
 times_pos n (negsuc m) le = absurd (omega (arith, ints, le))
 
 -- the value at which a device expects a frame
-pub expected_is : (v : View) (device : DeviceId) (cycle : ℕ) (point : ℤ) → IsView v → (expected_at (plan_of v.scenario.network device) cycle -ℤ point) ≡ setting
-    v.sizes cycle (expected_by v.scenario.network device) point
-expected_is v device cycle point is =
+pub expected_is : {v : View} (device : DeviceId) (cycle : ℕ) (point : ℤ) → IsView v
+    → (expected_at (plan_of v.scenario.network device) cycle -ℤ point)
+    ≡ setting v.sizes cycle (expected_by v.scenario.network device) point
+expected_is {v} device cycle point is =
     let n = v.scenario.network in
-    omega (arith, ints, times_pos cycle n.cycle.0 (omega (arith, ints, is.lawful.range.cycle.least)), ap (λ (x : ℕ). cycle * x) (sizes_are v is).cycle)
+    omega (arith, ints, times_pos cycle n.cycle.0 (omega (arith, ints, is.lawful.range.cycle.least)), ap (λ (x : ℕ). cycle * x) (sizes_are is).cycle)
 
 -- a device expects frames well behind the beginning of their cycle
-pub expected_late : (v : View) (device : DeviceId) → IsView v → v.sizes.dmax + v.sizes.compression ≤ expected_by v.scenario.network device
-expected_late v device is = grind (arith, is_cm, amount, compression_time, sizes_are)
+pub expected_late : {v : View} (device : DeviceId) → IsView v
+    → v.sizes.dmax + v.sizes.compression ≤ expected_by v.scenario.network device
+expected_late device is = grind (arith, is_cm, amount, compression_time, sizes_are)

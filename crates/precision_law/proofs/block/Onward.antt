@@ -8,10 +8,10 @@ use Rattle.precision_law.proofs.words.Laws.{IsAnchoredIn, IsFirm, IsGood, IsGood
 use Rattle.precision_law.proofs.words.Laws.{JoinsSo, NoneLost, PointsHaveCome, PointsShare, Stands, StandsOn, SwitchesAreGood, View, adjustment_left, cycle_set}
 use Rattle.precision_law.proofs.words.Laws.{first_correction, has_time, hull_of, is_correction, last_correction, last_setting, set_adjustment, start_hull}
 use Rattle.precision_law.proofs.words.{Laws.state_left, Plans.{Corrected, DeviceId, Synchronised, Units, adjustment_at_start, int_le-true}}
-use Rattle.precision_law.proofs.words.Runs.{Happening, IsIn, NoteBody, adjustment_before, adjustment_with, changed_at, changes_adjustment, correction_value}
+use Rattle.precision_law.proofs.words.Runs.{Happening, IsIn, adjustment_before, adjustment_with, changed_at, changes_adjustment, correction_value}
 use Rattle.precision_law.proofs.words.Runs.{cycle_in, earlier, had_come, is_integration_cycle, is_synchronised, local_at_change, recorded_cycle, same_some}
 use Rattle.precision_law.proofs.words.Std.{◌*◌, ◌+ℤ◌, ◌+◌, ◌-◌, ◌<◌, ◌∙◌, ◌≡◌, ◌≤ℤ◌, ◌≤◌, Bool, None, Option, Some, and_from, ap, arith, both_ways, cases_lt}
-use Rattle.precision_law.proofs.words.Std.{false, inl, inr, int_le, int_lt, ints, negsuc, option_map_or, pos, refl, subst, suc, sym, true, zero, ℕ, ℤ}
+use Rattle.precision_law.proofs.words.Std.{false, inl, inr, int_le, int_lt, ints, negsuc, option_map_or, pos, refl, subst, suc, sym, true, zero, ℕ}
 
 -- ---- the instants of the block
 
@@ -26,10 +26,10 @@ pub record HasLast (v : View) (n : ℕ) (over : BlockIsOver v n) : Type 0 where
   pub at : pos last ≡ last_correction v.sizes over.before.hull
   pub from : over.before.next ≤ last
 
-pub last_of : (v : View) (n : ℕ) (over : BlockIsOver v n) → IsView v → HasLast v n over
-last_of v n over is =
+pub last_of : {v : View} {n : ℕ} (over : BlockIsOver v n) → IsView v → HasLast v n over
+last_of {v} {n} over is =
     let ends = block_ends v n over.next over.before.hull over.before.is_hull over.is_over in
-    let later = later_end v n over.before is in
+    let later = later_end n over.before is in
     record { last = over.next - 1; is_last = omega (arith, ints, ends, later); at = omega (arith, ints, ends, later); from = omega (arith, ints, ends, later) }
 
 -- ---- what set a clock last
@@ -42,17 +42,19 @@ record IsSetBy (v : View) (n : ℕ) (over : BlockIsOver v n) (device : DeviceId)
   pub to : time_of h < over.next
   pub sets : changes_adjustment device h.note.body ≡ true
 
-set_last : (v : View) (n : ℕ) (over : BlockIsOver v n) (device : DeviceId) (o : Option Happening) → last_setting (earlier over.next v.records) device ≡ o
-    → pos over.before.next ≤ℤ option_map_or (λ h. pos (time_of h)) o (negsuc 0) → (h : Happening) × IsSetBy v n over device h
-set_last v n over device None e late = absurd (omega (arith, ints, late))
-set_last v n over device (Some h) e late =
+set_last : {v : View} {n : ℕ} (over : BlockIsOver v n) (device : DeviceId) (o : Option Happening)
+    → last_setting (earlier over.next v.records) device ≡ o
+    → pos over.before.next ≤ℤ option_map_or (λ h. pos (time_of h)) o (negsuc 0)
+    → (h : Happening) × IsSetBy v n over device h
+set_last over device None e late = absurd (omega (arith, ints, late))
+set_last {v} over device (Some h) e late =
     let at = setting_is v device over.next h e in
     (h, record { last = e; there = at.there; from = omega (arith, ints, late); to = at.early; sets = at.sets })
 
 -- each instant of the block went so
-all_went : BlocksGoSo → (v : View) (n : ℕ) (over : BlockIsOver v n) → IsView v → (t : ℕ) → over.before.next ≤ t → t < over.next
-    → BlockGoesSo v n over.before.next t over.before.hull
-all_went goes v n over is t from to = goes v n t (instant v n over t from to (omega (arith, to, over.in_run))) is
+all_went : BlocksGoSo → {v : View} {n : ℕ} (over : BlockIsOver v n) → IsView v → (t : ℕ) → over.before.next ≤ t
+    → t < over.next → BlockGoesSo v n over.before.next t over.before.hull
+all_went goes {v} {n} over is t from to = goes v n t (instant v n over t from to (omega (arith, to, over.in_run))) is
 
 module _ (goes : BlocksGoSo) (v : View) (n : ℕ) (over : BlockIsOver v n) (is : IsView v) (device : DeviceId) (h : Happening) (good : IsGood v device)
     (by : IsSetBy v n over device h) where
@@ -65,13 +67,13 @@ module _ (goes : BlocksGoSo) (v : View) (n : ℕ) (over : BlockIsOver v n) (is :
   -- how the clock was set
   set_so : IsSetInBlock v n (time_of h) device (adjustment_left v device over.next)
   set_so =
-      let set = set_by _ _ _ _ at_setting h h.note.body went_then is good by.from (omega arith) by.there refl by.sets in
+      let set = set_by _ at_setting h h.note.body went_then is good by.from (omega arith) by.there refl by.sets in
       let last = adjustment_is_last v.scenario (earlier over.next v.records) device ∙ ap (set_adjustment v.scenario device) by.last in
       subst (IsSetInBlock v n (time_of h) device) (sym (ap (λ (a : Units). a.0) last)) set
 
   -- a correction is at the point of the block, by an old clock
   corrected_old : (c : HasCorrected v device h) → IsOldAt v over.before.next device (time_of h) × IsPointOf v n (time_of h) over.before.hull c.cycle
-  corrected_old c = old_point v n over.before.next (time_of h) over.before.hull device c.cycle (Corrected c.by) went_then c.point
+  corrected_old c = old_point went_then c.point
 
   -- a joining is of the block's cycle
   joined_so : is_correction h.note.body ≡ false → JoinsSo v n (time_of h) over.before.hull device h
@@ -80,28 +82,28 @@ module _ (goes : BlocksGoSo) (v : View) (n : ℕ) (over : BlockIsOver v n) (is :
   -- the cycle for which it sets the clock
   set_cycle : (b : Bool) → is_correction h.note.body ≡ b → cycle_set h h.note.body ≡ suc n
   set_cycle true corrected =
-      let c = has_corrected v device h is good by.there by.sets corrected in
+      let c = has_corrected device h is good by.there by.sets corrected in
       ap (cycle_set h) c.is ∙ (corrected_old c).1.of_cycle
   set_cycle false joined = set_by_joining h h.note.body joined ∙ (joined_so joined).of_cycle
 
   -- the clock has had its correction point then
   has_point : (b : Bool) → is_correction h.note.body ≡ b → HadPoint v over.next (first_correction v.sizes over.before.hull) device
   has_point true corrected =
-      let point = (corrected_old (has_corrected v device h is good by.there by.sets corrected)).1 in
+      let point = (corrected_old (has_corrected device h is good by.there by.sets corrected)).1 in
       let time = ap (λ (o : Option Happening). option_map_or (λ g. pos (time_of g)) o (negsuc 0)) by.last in
       let is_so = ap (λ (o : Option Happening). option_map_or (λ g. is_correction g.note.body) o false) by.last ∙ corrected in
       record { how = inl (is_so, omega (arith, ints, time, point.not_early)) }
   has_point false joined =
       let s = v.scenario in
       let reading = s.reading device in
-      let space = room v is in
+      let space = room is in
       let so = joined_so joined in
       let integrates = joiner_integrates (earlier over.next v.records) device h by.last by.sets joined in
       let is_so = ap (λ (o : Option Happening). option_map_or (λ g. is_correction g.note.body) o false) by.last ∙ joined in
       let set = set_so in
-      let last = last_of v n over is in
-      let follows = follows_before v n over.before.hull set.hull is over.before.is_hull set.is_hull in
-      let order = instants_are_in_order v.sizes over.before.hull set.hull space (before_narrow v n over.before) follows in
+      let last = last_of over is in
+      let follows = follows_before n over.before.hull set.hull is over.before.is_hull set.is_hull in
+      let order = instants_are_in_order v.sizes over.before.hull set.hull space (before_narrow over.before) follows in
       let a = adjustment_left v device over.next in
       let same_hull : so.hull ≡ set.hull = same_some (hull_of v (suc n)) so.hull set.hull so.is_hull set.is_hull in
       let early : set.hull.least ≤ℤ pos (time_of h) = subst (λ (w : Hull). w.least ≤ℤ pos (time_of h)) same_hull so.not_early in
@@ -112,8 +114,8 @@ module _ (goes : BlocksGoSo) (v : View) (n : ℕ) (over : BlockIsOver v n) (is :
       (omega (arith, by.to, last.is_last, within)) set.anchored in
       let recorded : recorded_cycle (earlier over.next v.records) device ≡ suc n = integrates.1 ∙ so.of_cycle in
       let value = correction_value s.network (recorded_cycle (earlier over.next v.records) device) in
-      let sizes = sizes_are v is in
-      let product = ap (λ (x : ℕ). recorded_cycle (earlier over.next v.records) device * x) (sym sizes.cycle) ∙ ap (λ (c : ℕ). c * v.sizes.cycle) recorded in
+      let sizes = sizes_are is in
+      let product = ap (λ x. recorded_cycle (earlier over.next v.records) device * x) (sym sizes.cycle) ∙ ap (λ c. c * v.sizes.cycle) recorded in
       let at_change : reading (changed_at v.records device over.next) ≡ reading (time_of h) =
       ap (λ (o : Option Happening). reading (option_map_or time_of o 0)) by.last in
       let at_last : reading (over.next - 1) ≡ reading last.last = ap reading (omega (arith, last.is_last)) in
@@ -132,15 +134,15 @@ module _ (goes : BlocksGoSo) (v : View) (n : ℕ) (over : BlockIsOver v n) (is :
   shared_by : (hull : Hull) (share : PointsShare v n hull) (b : Bool) → is_correction h.note.body ≡ b → IsGoodEnd v device
       → state_left v device over.next ≡ Synchronised → IsSharedBy v (suc n) hull over.next share.shared device
   shared_by hull share false joined end synchronised =
-      let waits = joiner_waits v device over.next h is by.last (joining_of_setting device h.note.body by.sets joined) in
+      let waits = joiner_waits device over.next h is by.last (joining_of_setting device h.note.body by.sets joined) in
       absurd (both_ways (is_synchronised (state_left v device over.next)) waits (ap is_synchronised synchronised))
   shared_by hull share true corrected end synchronised =
-      let c = has_corrected v device h is good by.there by.sets corrected in
+      let c = has_corrected device h is good by.there by.sets corrected in
       let each = share.each (time_of h) at_setting device c.cycle (Corrected c.by) (inl end) c.point.has (corrected_old c).0 c.point.comes in
       let same_by : each.0 ≡ c.by = (let e = each.1 in cc) in
       let shared = each.2 end in
       let last = adjustment_is_last v.scenario (earlier over.next v.records) device ∙ ap (set_adjustment v.scenario device) by.last in
-      let shows = ap (λ (b : NoteBody). (adjustment_with v.scenario device (cycle_in h) (adjustment_at_start (start_of v.scenario.network device)) b).0) c.is
+      let shows = ap (λ b. (adjustment_with v.scenario device (cycle_in h) (adjustment_at_start (start_of v.scenario.network device)) b).0) c.is
       ∙ rw (ap (changes_adjustment device) (sym c.is) ∙ by.sets) refl in
       let left = ap (λ (a : Units). a.0) last ∙ shows ∙ c.sum ∙ ap (λ (u : Units). adjustment_left v device (time_of h) +ℤ u.0) (sym same_by) in
       record {
@@ -149,7 +151,7 @@ module _ (goes : BlocksGoSo) (v : View) (n : ℕ) (over : BlockIsOver v n) (is :
         set_at = shared.set_at;
         not_before = shared.not_before;
         not_behind = (let to = by.to in omega (arith, shared.not_behind, to));
-        anchored = subst (λ (a : ℤ). IsAnchored v.sizes (pos (v.scenario.reading device shared.set_at) +ℤ a) (suc n)
+        anchored = subst (λ a. IsAnchored v.sizes (pos (v.scenario.reading device shared.set_at) +ℤ a) (suc n)
             (low_by v.sizes share.shared shared.other) (high_by v.sizes share.shared shared.other) shared.set_at) (sym left) shared.anchored;
       }
 
@@ -165,71 +167,73 @@ module _ (goes : BlocksGoSo) (v : View) (n : ℕ) (over : BlockIsOver v n) (is :
         not_behind = (let to = by.to in omega (arith, set.not_behind, to));
         since = omega (arith, set.not_behind, time);
         anchored =
-            subst (λ (w : Hull). IsAnchoredIn v.sizes (v.scenario.reading device) (adjustment_left v device over.next) (suc n) w set.set_at) same set.anchored;
+            subst (λ w. IsAnchoredIn v.sizes (v.scenario.reading device) (adjustment_left v device over.next) (suc n) w set.set_at) same set.anchored;
       }
 
 -- ---- none is lost
 
 -- a firm device is good
-pub firm_good : SwitchesAreGood → (v : View) (device : DeviceId) → IsView v → IsFirm v device → IsGood v device
-firm_good switches v device is (inl end) = end.good
-firm_good switches v device is (inr switch) = switches v v.channel device is switch
+pub firm_good : SwitchesAreGood → {v : View} {device : DeviceId} → IsView v → IsFirm v device → IsGood v device
+firm_good switches is (inl end) = end.good
+firm_good switches {v} {device} is (inr switch) = switches v v.channel device is switch
 
-none_lost : SwitchesAreGood → BlocksGoSo → (v : View) (n : ℕ) (over : BlockIsOver v n) (hull : Hull) → PointsShare v n hull → IsView v → NoneLost v over.next
-none_lost switches goes v n over hull share is h device state cause why i lt body clique firm =
+none_lost : SwitchesAreGood → BlocksGoSo → {v : View} {n : ℕ} (over : BlockIsOver v n) {hull : Hull}
+    → PointsShare v n hull → IsView v → NoneLost v over.next
+none_lost switches goes {v} {n} over share is h device state cause why i lt body clique firm =
     elim (cases_lt (time_of h) over.before.next) [
       | inl early ↦ over.before.kept h device state cause why i early body clique firm
       | inr from ↦
-          let lost = has_lost v device h state cause why is (firm_good switches v device is firm) i body clique in
+          let lost = has_lost device h state cause why is (firm_good switches is firm) i body clique in
           let p = lost.point in
-          let old = (old_point v n _ _ _ device lost.cycle lost.verdict (all_went goes v n over is (time_of h) from lt) p).0 in
+          let old = (old_point (all_went goes over is (time_of h) from lt) p).0 in
           let each = share.each (time_of h) (instant v n over (time_of h) from lt (omega arith)) device lost.cycle lost.verdict firm p.has old p.comes in
           lost.not_corrected each.0 each.1
     ]
 
 -- ---- the step
 
-narrow_on : BlocksGoSo → (v : View) (n : ℕ) (before : Stands v n) (hull : Hull) → IsView v → hull_of v (suc n) ≡ Some hull → AreNarrow v (suc n)
-narrow_on goes v n before hull is is_hull c le =
+narrow_on : BlocksGoSo → {v : View} {n : ℕ} (before : Stands v n) (hull : Hull) → IsView v
+    → hull_of v (suc n) ≡ Some hull → AreNarrow v (suc n)
+narrow_on goes {v} {n} before hull is is_hull c le =
     elim (cases_lt c (suc n)) [
       | inl lt ↦ before.narrow c (omega (arith, lt))
       | inr ge ↦
           let same : suc n ≡ c = omega (arith, le, ge) in
-          subst (λ (x : ℕ). (w : Hull) × (hull_of v x ≡ Some w) × IsNarrow v.sizes w) same (hull, is_hull, hulls_are_narrow goes v n before hull is is_hull)
+          subst (λ x. (w : Hull) × (hull_of v x ≡ Some w) × IsNarrow v.sizes w) same (hull, is_hull, hulls_are_narrow goes v n before hull is is_hull)
     ]
 
 -- a hull is not behind itself
-pub hull_ordered : (v : View) (n : ℕ) (stands : Stands v n) → IsView v → stands.hull.least ≤ℤ stands.hull.greatest
-hull_ordered v zero stands is =
+pub hull_ordered : {v : View} (n : ℕ) (stands : Stands v n) → IsView v → stands.hull.least ≤ℤ stands.hull.greatest
+hull_ordered {v} zero stands is =
     let same : start_hull v.sizes ≡ stands.hull = same_some (hull_of v zero) (start_hull v.sizes) stands.hull refl stands.is_hull in
     omega (arith, ints, ap (λ (w : Hull). w.least) same, ap (λ (w : Hull). w.greatest) same)
-hull_ordered v (suc c) stands is =
+hull_ordered (suc c) stands is =
     let one = stands.narrow c (omega arith) in
-    (follows_before v c one.0 stands.hull is one.1 stands.is_hull).ordered
+    (follows_before c one.0 stands.hull is one.1 stands.is_hull).ordered
 
 pub stands_on : BlocksGoSo → PointsHaveCome → FirmDevicesCorrect → SwitchesAreGood → StandsOn
 stands_on goes come correct switches v n is over =
     let before = over.before in
-    let last = last_of v n over is in
+    let last = last_of over is in
     let in_last : IsInBlock v n last.last = instant v n over last.last last.from (omega (arith, last.is_last)) (omega (arith, last.is_last, over.in_run)) in
-    let share = correct v n last.last in_last is (omega (arith, ints, last.at, hull_ordered v n before is)) in
+    let share = correct v n last.last in_last is (omega (arith, ints, last.at, hull_ordered n before is)) in
     let hull = share.0 in
     let by : (device : DeviceId) → HasTimeAt v device over.next → (h : Happening) × IsSetBy v n over device h = λ device has.
-    set_last v n over device (last_setting (earlier over.next v.records) device) refl (come v n over device is has) in
+    set_last over device (last_setting (earlier over.next v.records) device) refl (come v n over device is has) in
     record {
       next = over.next;
       is_over = over.is_over;
       in_run = over.in_run;
       hull = hull;
       is_hull = share.1;
-      narrow = narrow_on goes v n before hull is share.1;
-      dispatches = known_dispatch v n over.next before (all_went goes v n over is);
+      narrow = narrow_on goes before hull is share.1;
+      dispatches = known_dispatch v n over.next before (all_went goes over is);
       clocks = λ device has. (let set = by device has in clock_is_set goes v n over is device set.0 has.good set.1 hull share.1);
       points = λ w c same at device has.
           let one : c ≡ n = omega (arith, same) in
-          let same_hull : before.hull ≡ w = same_some (hull_of v n) before.hull w before.is_hull (subst (λ (x : ℕ). hull_of v x ≡ Some w) one at) in
+          let same_hull : before.hull ≡ w = same_some (hull_of v n) before.hull w before.is_hull (subst (λ x. hull_of v x ≡ Some w) one at) in
           let set = by device has in
-          subst (λ (x : Hull). HadPoint v over.next (first_correction v.sizes x) device) same_hull
+          subst (λ x. HadPoint v over.next (first_correction v.sizes x) device) same_hull
           (has_point goes v n over is device set.0 has.good set.1 (is_correction set.0.note.body) refl);
       shared =
           λ some. record {
@@ -241,7 +245,8 @@ stands_on goes come correct switches v n is over =
           };
       joined = λ h device i joins good lt. elim (cases_lt (time_of h) before.next) [
         | inl early ↦ (let low = before.joined h device i joins good early in omega (arith, low))
-        | inr from ↦ (let so = (all_went goes v n over is (time_of h) from lt).joins h device i joins good refl in omega (arith, so.of_cycle))
+        | inr from ↦ (let so = (all_went goes over is (time_of h) from lt).joins h device i joins good refl in
+            omega (arith, so.of_cycle))
       ];
-      kept = none_lost switches goes v n over hull share.2 is;
+      kept = none_lost switches goes over share.2 is;
     }

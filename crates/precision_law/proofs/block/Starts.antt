@@ -1,5 +1,5 @@
 -- At the beginning the network stands as it should.
-use Rattle.precision_law.proofs.{Plain.reached, words.{Clocks.{room, sizes_are, starts_are_set, steady}, Laws.start_hull, Std.{true, ℕ}}}
+use Rattle.precision_law.proofs.{Plain.reached, words.{Clocks.{room, sizes_are, starts_are_set, steady}, Laws.start_hull, Std.true}}
 use Rattle.precision_law.proofs.words.Laws.{HasTimeAt, Hull, IsAnchoredIn, IsNarrow, IsSetFor, IsView, StandsAtStart, View, epoch_cycle, has_time, hull_of}
 use Rattle.precision_law.proofs.words.Plans.{Device, DeviceId, IsDeviceInRange, IsWithin, Masters, Units, adjustment_at_start, all_at, device_at}
 use Rattle.precision_law.proofs.words.{Plans.state_at_start, Runs.{Happening, adjustment_after, earlier, none_kept, start_of, state_after, time_of}}
@@ -24,28 +24,31 @@ pub record IsStart (v : View) (u : Units) : Type 0 where
   pub least : pos 0 ≤ℤ u.0
   pub most : u.0 ≤ℤ pos v.sizes.settled
 
-pub start_is : (v : View) (device : DeviceId) (u : Units) → IsView v → start_of v.scenario.network device ≡ Some u → IsStart v u
-start_is v device u is e =
+pub start_is : {v : View} (device : DeviceId) (u : Units) → IsView v → start_of v.scenario.network device ≡ Some u
+    → IsStart v u
+start_is {v} device u is e =
     let n = v.scenario.network in
     let from = reached (λ (d : Device). d.start) (device_at n device) u e in
     let known : IsDeviceInRange from.0 = all_at IsDeviceInRange n.device device.0 from.0 is.lawful.range.devices from.1 in
     let within : IsWithin 0 (2 ^ 40) u = if_some (IsWithin 0 (2 ^ 40)) from.0.start u from.2 known.start in
     let settled = all_at (λ d. IfSome d.start (λ start. start.0 ≤ℤ n.settled.0)) n.device device.0 from.0 ((is.lawful.rules Masters 4).starts refl) from.1 in
     let small : u.0 ≤ℤ n.settled.0 = if_some (λ start. start.0 ≤ℤ n.settled.0) from.0.start u from.2 settled in
-    record { least = within.least; most = omega (arith, ints, small, (sizes_are v is).settled, within.least) }
+    record { least = within.least; most = omega (arith, ints, small, (sizes_are is).settled, within.least) }
 
 -- ---- the beginning
 
-set_at_start : (v : View) (device : DeviceId) → IsView v → HasTimeAt v device 0 → IsSetFor v 0 (start_hull v.sizes) 0 device
-set_at_start v device is has =
+set_at_start : {v : View} {device : DeviceId} → IsView v → HasTimeAt v device 0
+    → IsSetFor v 0 (start_hull v.sizes) 0 device
+set_at_start {v} {device} is has =
     let none = none_at_start v.records in
-    let timed = subst (λ (hs : List Happening). has_time (state_after v.scenario hs device) ≡ true) none has.timed in
+    let timed = subst (λ hs. has_time (state_after v.scenario hs device) ≡ true) none has.timed in
     let start = has_start (start_of v.scenario.network device) timed in
-    let known = start_is v device start.0 is start.1 in
-    let same = ap (λ (hs : List Happening). adjustment_after v.scenario hs device) none ∙ ap adjustment_at_start start.1 in
-    let anchored = starts_are_set v.sizes (v.scenario.reading device) start.0.0 (room v is) (steady v is device) known.least known.most in
+    let known = start_is device start.0 is start.1 in
+    let same = ap (λ hs. adjustment_after v.scenario hs device) none ∙ ap adjustment_at_start start.1 in
+    let anchored = starts_are_set v.sizes (v.scenario.reading device) start.0.0 (room is) (steady v is device)
+    known.least known.most in
     record {
-      index = ap (λ (hs : List Happening). epoch_cycle hs device) none;
+      index = ap (λ hs. epoch_cycle hs device) none;
       set_at = 0;
       not_before = omega (arith, ints);
       not_behind = omega arith;
@@ -55,17 +58,17 @@ set_at_start v device is has =
 
 pub stands_at_start : StandsAtStart
 stands_at_start v is =
-    let space = room v is in
+    let space = room is in
     record {
       next = 0;
       is_over = refl;
       in_run = omega arith;
       hull = start_hull v.sizes;
       is_hull = refl;
-      narrow = λ c le. subst (λ (x : ℕ). (hull : Hull) × (hull_of v x ≡ Some hull) × IsNarrow v.sizes hull) (let e : 0 ≡ c = omega (arith, le) in e)
+      narrow = λ c le. subst (λ x. (hull : Hull) × (hull_of v x ≡ Some hull) × IsNarrow v.sizes hull) (let e : 0 ≡ c = omega (arith, le) in e)
           (start_hull v.sizes, refl, omega (arith, ints, space.errors.spread_is));
       dispatches = λ h device cycle dispatch lt. absurd (omega (arith, lt));
-      clocks = λ device has. set_at_start v device is has;
+      clocks = λ device has. set_at_start is has;
       points = λ before c e. absurd (omega (arith, e));
       shared = λ le. absurd (omega (arith, le));
       joined = λ h device i joined good lt. absurd (omega (arith, lt));

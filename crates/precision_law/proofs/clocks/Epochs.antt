@@ -74,11 +74,13 @@ no_setting u device xs (y ∷ ys) late early =
     absurd (omega (arith, ints, ap time_of_last (last_more None xs (y ∷ ys) ∙ last.1), late last.0 last.2, early))
 
 -- the records between the last setting and t set nothing
-pub none_between : (v : View) (device : DeviceId) (u t : ℕ) → IsView v → u ≤ t → epoch_time (earlier t v.records) device <ℤ pos u
-    → filter (λ h. changes_adjustment device h.note.body) (between u t v.records) ≡ []
-none_between v device u t is le early =
+pub none_between : {v : View} (device : DeviceId) (u t : ℕ) → IsView v → u ≤ t
+    → epoch_time (earlier t v.records) device <ℤ pos u → filter (λ h. changes_adjustment device h.note.body)
+    (between u t v.records) ≡ []
+none_between {v} device u t is le early =
     let sets = λ (h : Happening). changes_adjustment device h.note.body in
-    let moved = ap (filter sets) (earlier_parts u t v.records (in_order v is) le) ∙ filter-append sets (earlier u v.records) (between u t v.records) in
+    let moved = ap (filter sets) (earlier_parts u t v.records (in_order is) le) ∙ filter-append sets
+    (earlier u v.records) (between u t v.records) in
     no_setting u device (filter sets (earlier u v.records)) (filter sets (between u t v.records))
     (λ h i. (in_between u t v.records h (in_filter sets (between u t v.records) h i)).1)
     (subst (λ (hs : List Happening). time_of_last (last_or None hs) <ℤ pos u) moved early)
@@ -86,24 +88,27 @@ none_between v device u t is le early =
 pub settings_stay : SettingsStay
 settings_stay v device u t is le early =
     let sets = λ (h : Happening). changes_adjustment device h.note.body in
-    let none = none_between v device u t is le early in
-    let same = ap (filter sets) (earlier_parts u t v.records (in_order v is) le) ∙ filter-append sets (earlier u v.records) (between u t v.records) ∙ ap
+    let none = none_between device u t is le early in
+    let same = ap (filter sets) (earlier_parts u t v.records (in_order is) le) ∙ filter-append sets
+    (earlier u v.records) (between u t v.records) ∙ ap
     (λ (hs : List Happening). filter sets (earlier u v.records) ++ hs) none ∙ append-nil (filter sets (earlier u v.records)) in
     ap (last_or None) (sym same)
 
 -- a record between sets no clock that was set before
-pub sets_none : (v : View) (device : DeviceId) (from t : ℕ) → IsView v → from ≤ t → epoch_time (earlier t v.records) device <ℤ pos from → (h : Happening)
-    → IsIn h v.records → from ≤ time_of h → time_of h < t → changes_adjustment device h.note.body ≡ false
-sets_none v device from t is le old h i late early =
+pub sets_none : {v : View} (device : DeviceId) (from t : ℕ) → IsView v → from ≤ t
+    → epoch_time (earlier t v.records) device <ℤ pos from → (h : Happening) → IsIn h v.records → from ≤ time_of h
+    → time_of h < t → changes_adjustment device h.note.body ≡ false
+sets_none {v} device from t is le old h i late early =
     false_from_ne_true (changes_adjustment device h.note.body) (λ sets.
     let kept = in_kept (λ (x : Happening). changes_adjustment device x.note.body) (between from t v.records) h (is_between from t v.records h i late early) sets
     in
-    absurd (subst (IsIn h) (none_between v device from t is le old) kept))
+    absurd (subst (IsIn h) (none_between device from t is le old) kept))
 
 -- so does the adjustment
-pub adjustment_stays : (v : View) (device : DeviceId) (u t : ℕ) → IsView v → u ≤ t → epoch_time (earlier t v.records) device <ℤ pos u
-    → adjustment_before v.scenario v.records device u ≡ adjustment_before v.scenario v.records device t
-adjustment_stays v device u t is le early =
+pub adjustment_stays : {v : View} (device : DeviceId) (u t : ℕ) → IsView v → u ≤ t
+    → epoch_time (earlier t v.records) device <ℤ pos u → adjustment_before v.scenario v.records device u
+    ≡ adjustment_before v.scenario v.records device t
+adjustment_stays {v} device u t is le early =
     adjustment_is_last v.scenario (earlier u v.records) device ∙ ap (λ (o : Option Happening). option_map_or
     (λ h. adjustment_with v.scenario device (cycle_in h) (adjustment_at_start (start_of v.scenario.network device)) h.note.body) o
     (adjustment_at_start (start_of v.scenario.network device))) (settings_stay v device u t is le early)
@@ -126,34 +131,42 @@ pub kept_if : (p : State → Bool) (b : Bool) (state old : State) → (b ≡ tru
 kept_if p true state old never e = absurd (never refl e)
 kept_if p false state old never e = e
 
--- where nothing sets the device's clock at a time, its state changes to integrating alone
-no_change : (p : State → Bool) → p Integrating ≡ false → (s : Scenario) (ps : List Happening) (t : ℕ) (device : DeviceId) (state : State) (cause : ℕ)
-    (why : Why) → ((h : Happening) → IsIn h ps → time_of h ≡ t → changes_adjustment device h.note.body ≡ false) → ChangesState s ps device t state cause why
-    → p state ≡ true → ⊥
-no_change p out s ps t device state cause whys.Frame none c e =
-    let h = c.1.0 in
-    both_ways (changes_adjustment device h.note.body) (none h (numbered_in ps cause h c.1.1.there) c.1.1.same_time) (joined_changes device h.note.body c.1.2)
-no_change p out s ps t device state cause whys.Correction none c e = grind (arith, numbered_in, both_ways, changes_adjustment, eq-eqb)
-no_change p out s ps t device state cause why none c e = both_ways (p state) (ap p c.0 ∙ out) e
+module _ (p : State → Bool) (out : p Integrating ≡ false) (s : Scenario) (ps : List Happening) where
+  -- where nothing sets the device's clock at a time, its state changes to integrating alone
+  no_change : (t : ℕ) (device : DeviceId) (state : State) (cause : ℕ) (why : Why)
+      → ((h : Happening) → IsIn h ps → time_of h ≡ t → changes_adjustment device h.note.body ≡ false)
+      → ChangesState s ps device t state cause why → p state ≡ true → ⊥
+  no_change t device state cause whys.Frame none c e =
+      let h = c.1.0 in
+      both_ways (changes_adjustment device h.note.body) (none h (numbered_in ps cause h c.1.1.there) c.1.1.same_time)
+      (joined_changes device h.note.body c.1.2)
+  no_change t device state cause whys.Correction none c e =
+      grind (arith, numbered_in, both_ways, changes_adjustment, eq-eqb)
+  no_change t device state cause why none c e = both_ways (p state) (ap p c.0 ∙ out) e
 
--- nor does any other record
-pub keeps : (p : State → Bool) → p Integrating ≡ false → (s : Scenario) (ps : List Happening) (time : Units) (device : DeviceId) (body : NoteBody)
-    → changes_adjustment device body ≡ false → ((h : Happening) → IsIn h ps → time_of h ≡ amount time → changes_adjustment device h.note.body ≡ false)
-    → IsCaused s ps time body → Keeps p device body
-keeps p out s ps time device (notes.State other state cause why) e none c old timed =
-    kept_if p (device.0 == other.0) state old (λ same is.
-    let here = subst (λ (d : DeviceId). ChangesState s ps d (amount time) state cause why) (one_device device other same) c in
-    no_change p out s ps (amount time) device state cause why none here is) timed
-keeps p out s ps time device (notes.Permanent other link cause point Integrates) e none c old timed = (let at = rw e at timed in at)
-keeps p out s ps time device (notes.Compressed other opened own cycle members Integrates) e none c old timed = (let at = rw e at timed in at)
-keeps p out s ps time device body e none c old timed = timed
+  -- nor does any other record
+  pub keeps : (time : Units) (device : DeviceId) (body : NoteBody) → changes_adjustment device body ≡ false
+      → ((h : Happening) → IsIn h ps → time_of h ≡ amount time → changes_adjustment device h.note.body ≡ false)
+      → IsCaused s ps time body → Keeps p device body
+  keeps time device (notes.State other state cause why) e none c old timed =
+      kept_if p (device.0 == other.0) state old (λ same is.
+      let here = subst (λ d. ChangesState s ps d (amount time) state cause why)
+      (one_device device other same) c in
+      no_change (amount time) device state cause why none here is) timed
+  keeps time device (notes.Permanent other link cause point Integrates) e none c old timed =
+      (let at = rw e at timed in at)
+  keeps time device (notes.Compressed other opened own cycle members Integrates) e none c old timed =
+      (let at = rw e at timed in at)
+  keeps time device body e none c old timed = timed
 
 -- a device whose state passes the test has passed it since its clock was last set
-pub state_stays : (p : State → Bool) → p Integrating ≡ false → (v : View) (device : DeviceId) (u t : ℕ) → IsView v → u ≤ t
-    → epoch_time (earlier t v.records) device <ℤ pos u → p (state_left v device t) ≡ true → p (state_left v device u) ≡ true
-state_stays p out v device u t is le early timed =
-    let unset = sets_none v device u t is le early in
-    let whole = subst (λ (hs : List Happening). p (state_after v.scenario hs device) ≡ true) (earlier_parts u t v.records (in_order v is) le) timed in
+pub state_stays : (p : State → Bool) → p Integrating ≡ false → {v : View} (device : DeviceId) (u t : ℕ) → IsView v
+    → u ≤ t → epoch_time (earlier t v.records) device <ℤ pos u → p (state_left v device t) ≡ true
+    → p (state_left v device u) ≡ true
+state_stays p out {v} device u t is le early timed =
+    let unset = sets_none device u t is le early in
+    let whole = subst (λ hs. p (state_after v.scenario hs device) ≡ true)
+    (earlier_parts u t v.records (in_order is) le) timed in
     let apart = fold-append (λ (state : State) (h : Happening). state_with device state h.note.body) (state_at_start (start_of v.scenario.network device))
     (earlier u v.records) (between u t v.records) in
     kept_by_all p device (between u t v.records) (λ h i.
@@ -165,7 +178,7 @@ state_stays p out v device u t is le early timed =
     (state_after v.scenario (earlier u v.records) device) (subst (λ (x : State). p x ≡ true) apart whole)
 
 pub time_stays : TimeStays
-time_stays v device u t is le early timed = state_stays has_time refl v device u t is le early timed
+time_stays v device u t is le early timed = state_stays has_time refl device u t is le early timed
 
 -- ---- reaching
 
@@ -187,7 +200,8 @@ clocks_have_reached v device value x t is le lt below above =
     ] le in
     let same_last = settings_stay v device u t is r.2 early in
     let same_time : changed_at v.records device u ≡ changed_at v.records device t = ap (λ (o : Option Happening). option_map_or time_of o 0) same_last in
-    let same_adjustment : adjustment_left v device u ≡ adjustment_left v device t = ap (λ (a : Units). a.0) (adjustment_stays v device u t is r.2 early) in
+    let same_adjustment : adjustment_left v device u ≡ adjustment_left v device t =
+    ap (λ (a : Units). a.0) (adjustment_stays device u t is r.2 early) in
     let low = (steady v is device).never_falls (changed_at v.records device t) x le in (
       u,
       r.1,

@@ -25,7 +25,7 @@ keeps_unsynchronised : (s : Scenario) (ps : List Happening) (time : Units) (devi
     → IsCaused s ps time body → Keeps is_synchronised device body
 keeps_unsynchronised s ps time device (notes.State other state cause why) none c old e =
     kept_if is_synchronised (device.0 == other.0) state old (λ same at.
-    let here = subst (λ (d : DeviceId). ChangesState s ps d (amount time) state cause why) (one_device device other same) c in
+    let here = subst (λ d. ChangesState s ps d (amount time) state cause why) (one_device device other same) c in
     no_correction s ps (amount time) device state cause why none here at) e
 keeps_unsynchronised s ps time device (notes.Permanent other link cause point Integrates) none c old e =
     kept_if is_synchronised (device.0 == other.0) Joining old (λ same at. both_ways (is_synchronised Joining) refl at) e
@@ -45,68 +45,79 @@ joins_state device old (notes.Permanent other link cause point Integrates) e = r
 joins_state device old (notes.Compressed other opened own cycle members Integrates) e = rw e refl
 joins_state device old body e = absurd cc
 
--- behind the last setting before a time nothing sets the clock before it
-none_behind : (v : View) (device : DeviceId) (t : ℕ) (front rest : List Happening) (h x : Happening) → IsView v
-    → last_setting (earlier t v.records) device ≡ Some h → v.records ≡ front ++ h ∷ rest → IsIn x rest → time_of x < t
-    → changes_adjustment device x.note.body ≡ true → ⊥
-none_behind v device t front rest h x is e whole i early changes =
-    let sets = λ (g : Happening). changes_adjustment device g.note.body in
-    let before = earlier t (front ++ h ∷ []) in
-    let parts = ap (λ (hs : List Happening). filter sets (earlier t hs)) (whole ∙ sym (append_assoc front (h ∷ []) rest)) ∙ ap (filter sets)
-    (filter-append (λ g. nat_lt (time_of g) t) (front ++ h ∷ []) rest) ∙ filter-append sets before (earlier t rest) in
-    by (filter sets before) (filter sets (earlier t rest)) (in_kept sets (earlier t rest) x (is_earlier t rest x i early) changes)
-    (sym (ap (last_or None) parts) ∙ e) (λ y j. from_earlier t rest y (in_filter sets (earlier t rest) y j))
-  where
-    by : (us bs : List Happening) → IsIn x bs → last_or None (us ++ bs) ≡ Some h → ((y : Happening) → IsIn y bs → IsIn y rest × (time_of y < t)) → ⊥
-    by us [] j last back = absurd j
-    by us (b ∷ bs) j last back =
-        let found = last_some (last_or None us) b bs in
-        let same : found.0 ≡ h = same_some (last_or None (us ++ b ∷ bs)) found.0 h (last_more None us (b ∷ bs) ∙ found.1) last in
-        let there : IsIn h rest = subst (λ (y : Happening). IsIn y rest) same (back found.0 found.2).0 in
-        never_self (place_of h) (behind_first place_of (IsDue v.scenario) front rest h h (subst (IsFounded place_of (IsDue v.scenario)) whole is.run.founded)
-        there)
+module _ (v : View) (device : DeviceId) (t : ℕ) (front rest : List Happening) (h x : Happening) where
+  -- behind the last setting before a time nothing sets the clock before it
+  none_behind : IsView v → last_setting (earlier t v.records) device ≡ Some h → v.records ≡ front ++ h ∷ rest
+      → IsIn x rest → time_of x < t → changes_adjustment device x.note.body ≡ true → ⊥
+  none_behind is e whole i early changes =
+      let sets = λ (g : Happening). changes_adjustment device g.note.body in
+      let before = earlier t (front ++ h ∷ []) in
+      let parts = ap (λ hs. filter sets (earlier t hs))
+      (whole ∙ sym (append_assoc front (h ∷ []) rest)) ∙ ap (filter sets)
+      (filter-append (λ g. nat_lt (time_of g) t) (front ++ h ∷ []) rest) ∙ filter-append sets before (earlier t rest) in
+      by (filter sets before) (filter sets (earlier t rest))
+      (in_kept sets (earlier t rest) x (is_earlier t rest x i early) changes)
+      (sym (ap (last_or None) parts) ∙ e) (λ y j. from_earlier t rest y (in_filter sets (earlier t rest) y j))
+    where
+      by : (us bs : List Happening) → IsIn x bs → last_or None (us ++ bs) ≡ Some h
+          → ((y : Happening) → IsIn y bs → IsIn y rest × (time_of y < t)) → ⊥
+      by us [] j last back = absurd j
+      by us (b ∷ bs) j last back =
+          let found = last_some (last_or None us) b bs in
+          let same : found.0 ≡ h =
+          same_some (last_or None (us ++ b ∷ bs)) found.0 h (last_more None us (b ∷ bs) ∙ found.1) last in
+          let there : IsIn h rest = subst (λ y. IsIn y rest) same (back found.0 found.2).0 in
+          never_self (place_of h) (behind_first place_of (IsDue v.scenario) front rest h h
+          (subst (IsFounded place_of (IsDue v.scenario)) whole is.run.founded)
+          there)
 
--- no correction of the device comes at the time of a joining that is the last setting
-no_correction_then : (v : View) (device : DeviceId) (t : ℕ) (front rest : List Happening) (h x : Happening) (cycle : ℕ) (by adjustment : Units) → IsView v
-    → last_setting (earlier t v.records) device ≡ Some h → time_of h < t → is_joined_by device h.note.body ≡ true → v.records ≡ front ++ h ∷ rest
-    → IsIn x v.records → time_of x ≡ time_of h → x.note.body ≡ notes.Corrected device cycle by adjustment → ⊥
-no_correction_then v device t front rest h x cycle by adjustment is e early joined whole i same body =
-    let changes : changes_adjustment device x.note.body ≡ true = ap (changes_adjustment device) body ∙ (eq-eqb device.0 device.0 refl) in
-    elim (in_parts x front (h ∷ rest) (subst (IsIn x) whole i)) [
-      | inl before ↦
-          let low : rank h.note.body < rank x.note.body = omega (arith, ap rank body, joining_rank device h.note.body joined) in
-          let sooner = higher_before x h ((is.run.founded front rest h whole).0 x before) low in
-          omega (arith, same, sooner)
-      | inr (inl one) ↦ (let wrong : is_joined_by device h.note.body ≡ false = ap (λ (g : Happening). is_joined_by device g.note.body) (sym one)
-          ∙ ap (is_joined_by device) body in both_ways (is_joined_by device h.note.body) wrong joined)
-      | inr (inr later) ↦ none_behind v device t front rest h x is e whole later (omega (arith, same, early)) changes
-    ]
+  -- no correction of the device comes at the time of a joining that is the last setting
+  no_correction_then : (cycle : ℕ) (by adjustment : Units) → IsView v
+      → last_setting (earlier t v.records) device ≡ Some h → time_of h < t → is_joined_by device h.note.body ≡ true
+      → v.records ≡ front ++ h ∷ rest → IsIn x v.records → time_of x ≡ time_of h
+      → x.note.body ≡ notes.Corrected device cycle by adjustment → ⊥
+  no_correction_then cycle by adjustment is e early joined whole i same body =
+      let changes : changes_adjustment device x.note.body ≡ true =
+      ap (changes_adjustment device) body ∙ (eq-eqb device.0 device.0 refl) in
+      elim (in_parts x front (h ∷ rest) (subst (IsIn x) whole i)) [
+        | inl before ↦
+            let low : rank h.note.body < rank x.note.body =
+            omega (arith, ap rank body, joining_rank device h.note.body joined) in
+            let sooner = higher_before x h ((is.run.founded front rest h whole).0 x before) low in
+            omega (arith, same, sooner)
+        | inr (inl one) ↦ (let wrong : is_joined_by device h.note.body ≡ false = ap
+            (λ (g : Happening). is_joined_by device g.note.body) (sym one)
+            ∙ ap (is_joined_by device) body in both_ways (is_joined_by device h.note.body) wrong joined)
+        | inr (inr later) ↦ none_behind is e whole later (omega (arith, same, early)) changes
+      ]
 
 -- a device that a joining set last is not synchronised
-pub joiner_waits : (v : View) (device : DeviceId) (t : ℕ) (h : Happening) → IsView v → last_setting (earlier t v.records) device ≡ Some h
-    → is_joined_by device h.note.body ≡ true → is_synchronised (state_left v device t) ≡ false
-joiner_waits v device t h is e joined =
+pub joiner_waits : {v : View} (device : DeviceId) (t : ℕ) (h : Happening) → IsView v
+    → last_setting (earlier t v.records) device ≡ Some h → is_joined_by device h.note.body ≡ true
+    → is_synchronised (state_left v device t) ≡ false
+joiner_waits {v} device t h is e joined =
     false_from_ne_true (is_synchronised (state_left v device t)) (λ at.
     let setting = setting_is v device t h e in
     let w = time_of h in
     let time : epoch_time (earlier t v.records) device ≡ pos w = ap (λ (o : Option Happening). option_map_or (λ g. pos (time_of g)) o (negsuc 0)) e in
-    let still = state_stays is_synchronised refl v device (w + 1) t is (omega (arith, setting.early)) (omega (arith, ints, time)) at in
+    let still = state_stays is_synchronised refl device (w + 1) t is (omega (arith, setting.early))
+    (omega (arith, ints, time)) at in
     let found = founded_at v.scenario v.records h is.run.founded setting.there in
     let here : nat_lt w (w + 1) ≡ true = lt-ltb w (w + 1) (omega arith) in
     let parts = ap (earlier (w + 1)) found.whole ∙ filter-append (λ (g : Happening). nat_lt (time_of g) (w + 1)) found.front (h ∷ found.rest) ∙ ap
     (λ (b : Bool). earlier (w + 1) found.front ++ (if b then h ∷ earlier (w + 1) found.rest else earlier (w + 1) found.rest)) here in
     let step = λ (state : State) (g : Happening). state_with device state g.note.body in
-    let whole = subst (λ (hs : List Happening). is_synchronised (state_after v.scenario hs device) ≡ true) parts still in
+    let whole = subst (λ hs. is_synchronised (state_after v.scenario hs device) ≡ true) parts still in
     let apart = fold-append step (state_at_start (start_of v.scenario.network device)) (earlier (w + 1) found.front) (h ∷ earlier (w + 1) found.rest) in
     let old = state_after v.scenario (earlier (w + 1) found.front) device in
     let each : (g : Happening) → IsIn g (earlier (w + 1) found.rest) → Keeps is_synchronised device g.note.body = λ g i.
     let back = from_earlier (w + 1) found.rest g i in
     let in_all : IsIn g v.records = subst (IsIn g) (sym found.whole) (in_right g found.front (h ∷ found.rest) (inr back.0)) in
     let at_g = founded_at v.scenario v.records g is.run.founded in_all in
-    let order = sorted_parts found.front found.rest h (subst AreSorted found.whole (in_order v is)) in
+    let order = sorted_parts found.front found.rest h (subst AreSorted found.whole (in_order is)) in
     let same : time_of g ≡ w = (let up = order.1 g back.0 in omega (arith, up, back.1)) in
     keeps_unsynchronised v.scenario at_g.front g.note.time device g.note.body (λ x cycle by adjustment j at body.
     no_correction_then v device t found.front found.rest h x cycle by adjustment is e setting.early joined found.whole
     (subst (IsIn x) (sym at_g.whole) (in_left x at_g.front (g ∷ at_g.rest) j)) (omega (arith, at, same)) body) at_g.due.cause in
-    let now = kept_by_all is_synchronised device (earlier (w + 1) found.rest) each (step old h) (subst (λ (x : State). is_synchronised x ≡ true) apart whole) in
+    let now = kept_by_all is_synchronised device (earlier (w + 1) found.rest) each (step old h) (subst (λ x. is_synchronised x ≡ true) apart whole) in
     both_ways (is_synchronised (step old h)) (ap is_synchronised (joins_state device old h.note.body joined)) now)

@@ -42,18 +42,21 @@ pub record IsJoining (hs : List Happening) (device : DeviceId) (cycle : ℕ) : T
   pub joins : is_joined_by device h.note.body ≡ true
   pub of_cycle : cycle_in h ≡ cycle
 
-joining_by : (hs : List Happening) (device : DeviceId) (cycle : ℕ) (xs : List Happening) → xs ≡ filter (λ h. is_joined_by device h.note.body) hs
-    → option_map_or (λ h. Some (cycle_in h)) (last_or None xs) None ≡ Some cycle → IsJoining hs device cycle
-joining_by hs device cycle [] same e = absurd cc
-joining_by hs device cycle (x ∷ xs) same e =
-    let joins = λ (h : Happening). is_joined_by device h.note.body in
-    let last = last_some None x xs in
-    let shown : Some (cycle_in last.0) ≡ Some cycle = ap (λ (o : Option Happening). option_map_or (λ h. Some (cycle_in h)) o None) (sym last.1) ∙ e in
-    let i : IsIn last.0 (filter joins hs) = subst (IsIn last.0) same last.2 in
-    record { h = last.0; there = in_filter joins hs last.0 i; joins = passes joins hs last.0 i; of_cycle = cc }
+module _ (hs : List Happening) (device : DeviceId) (cycle : ℕ) where
+  joining_by : (xs : List Happening) → xs ≡ filter (λ h. is_joined_by device h.note.body) hs
+      → option_map_or (λ h. Some (cycle_in h)) (last_or None xs) None ≡ Some cycle → IsJoining hs device cycle
+  joining_by [] same e = absurd cc
+  joining_by (x ∷ xs) same e =
+      let joins = λ (h : Happening). is_joined_by device h.note.body in
+      let last = last_some None x xs in
+      let shown : Some (cycle_in last.0) ≡ Some cycle =
+      ap (λ (o : Option Happening). option_map_or (λ h. Some (cycle_in h)) o None) (sym last.1) ∙ e in
+      let i : IsIn last.0 (filter joins hs) = subst (IsIn last.0) same last.2 in
+      record { h = last.0; there = in_filter joins hs last.0 i; joins = passes joins hs last.0 i; of_cycle = cc }
 
-pub joining_from : (hs : List Happening) (device : DeviceId) (cycle : ℕ) → integration_cycle hs device ≡ Some cycle → IsJoining hs device cycle
-joining_from hs device cycle e = joining_by hs device cycle (filter (λ h. is_joined_by device h.note.body) hs) refl (sym (joining_is_last hs device) ∙ e)
+  pub joining_from : integration_cycle hs device ≡ Some cycle → IsJoining hs device cycle
+  joining_from e =
+      joining_by (filter (λ h. is_joined_by device h.note.body) hs) refl (sym (joining_is_last hs device) ∙ e)
 
 -- ---- integration cycles
 
@@ -96,14 +99,14 @@ joiner_integrates hs device h e changes other =
 -- ---- an old device
 
 -- one that had cleared before u, and is to integrate before t, had cleared before each instant from u on
-pub cleared_from : (v : View) (device : DeviceId) (u q t : ℕ) → IsView v → u ≤ q → u ≤ t → epoch_time (earlier t v.records) device <ℤ pos u
-    → is_integration_cycle (earlier t v.records) device ≡ true → has_cleared v.scenario v.records device u u ≡ true
-    → has_cleared v.scenario v.records device t q ≡ true
-cleared_from v device u q t is le_q le old at cleared =
+pub cleared_from : {v : View} (device : DeviceId) (u q t : ℕ) → IsView v → u ≤ q → u ≤ t
+    → epoch_time (earlier t v.records) device <ℤ pos u → is_integration_cycle (earlier t v.records) device ≡ true
+    → has_cleared v.scenario v.records device u u ≡ true → has_cleared v.scenario v.records device t q ≡ true
+cleared_from {v} device u q t is le_q le old at cleared =
     let s = v.scenario in
     let reading = s.reading device in
     let last = settings_stay v device u t is le old in
-    let a = adjustment_stays v device u t is le old in
+    let a = adjustment_stays device u t is le old in
     let recorded = next_cycle_is_of_last (earlier u v.records) device ∙ ap next_of last ∙ sym (next_cycle_is_of_last (earlier t v.records) device) in
     let time : changed_at v.records device u ≡ changed_at v.records device t = ap (λ (o : Option Happening). option_map_or time_of o 0) last in
     let value_u = correction_value s.network (recorded_cycle (earlier u v.records) device) in
@@ -122,13 +125,14 @@ cleared_from v device u q t is le_q le old at cleared =
     (int_le-true value_t (pos (reading (q - 1)) +ℤ (adjustment_before s v.records device t).0) (omega (arith, ints, above, same_a, value, up))))
 
 -- the device joined, and had cleared when the block began
-pub had_cleared : (v : View) (n t : ℕ) (device : DeviceId) (before : Stands v n) → IsView v → before.next ≤ t → HasTimeAt v device before.next
-    → IsOldAt v before.next device t → (h : Happening) → last_setting (earlier t v.records) device ≡ Some h → is_correction h.note.body ≡ false
+pub had_cleared : {v : View} (n t : ℕ) {device : DeviceId} (before : Stands v n) → IsView v → before.next ≤ t
+    → HasTimeAt v device before.next → IsOldAt v before.next device t → (h : Happening)
+    → last_setting (earlier t v.records) device ≡ Some h → is_correction h.note.body ≡ false
     → has_cleared v.scenario v.records device before.next before.next ≡ true
-had_cleared v zero t device before is from has old h e joined =
+had_cleared {v} zero t {device} before is from has old h e joined =
     let time : epoch_time (earlier t v.records) device ≡ pos (time_of h) = ap (λ (o : Option Happening). option_map_or (λ g. pos (time_of g)) o (negsuc 0)) e in
     absurd (omega (arith, ints, before.is_over, time, old))
-had_cleared v (suc c) t device before is from has old h e joined =
+had_cleared {v} (suc c) t {device} before is from has old h e joined =
     let one = before.narrow c (omega arith) in
     let last = settings_stay v device before.next t is from old in
     let not_corrected = ap (λ (o : Option Happening). option_map_or (λ g. is_correction g.note.body) o false) (last ∙ e) ∙ joined in
@@ -137,52 +141,61 @@ had_cleared v (suc c) t device before is from has old h e joined =
       | inr cleared ↦ cleared.1
     ]
 
--- by what set its clock last, its number is that of the block's cycle, or it has cleared and its number is the one before
-set_or_cleared : (v : View) (n t : ℕ) (device : DeviceId) (before : Stands v n) → IsView v → before.next ≤ t → HasTimeAt v device before.next
-    → IsOldAt v before.next device t → (o : Option Happening) → last_setting (earlier t v.records) device ≡ o
-    → option_map_or (λ h. cycle_set h h.note.body) o 0 ≡ n → (recorded_cycle (earlier t v.records) device ≡ suc n)
-    ⊎ ((recorded_cycle (earlier t v.records) device ≡ n) × (has_cleared v.scenario v.records device t t ≡ true))
-set_or_cleared v n t device before is from has old None e index = inl (omega (arith, index, next_cycle_is_of_last (earlier t v.records) device ∙ ap next_of e))
-set_or_cleared v n t device before is from has old (Some h) e index =
-    let recorded = next_cycle_is_of_last (earlier t v.records) device ∙ ap next_of e in
-    let number = λ (b : Bool). if b then cycle_set h h.note.body + 1 else cycle_set h h.note.body in
-    elim (is_correction h.note.body) as (λ b. is_correction h.note.body ≡ b → (recorded_cycle (earlier t v.records) device ≡ suc n)
-    ⊎ ((recorded_cycle (earlier t v.records) device ≡ n) × (has_cleared v.scenario v.records device t t ≡ true))) [
-      | true ↦ λ corrected. inl (omega (arith, index, recorded, ap number corrected))
-      | false ↦ λ joined.
-          let integrates = joiner_integrates (earlier t v.records) device h e (setting_is v device t h e).sets joined in
-          let first = had_cleared v n t device before is from has old h e joined in
-          inr (omega (arith, index, recorded, ap number joined), cleared_from v device before.next t t is from from old integrates.0 first)
-    ] refl
+module _ {v : View} {n : ℕ} (t : ℕ) (device : DeviceId) (before : Stands v n) (is : IsView v)
+    (from : before.next ≤ t) where
+  -- by what set its clock last, its number is that of the block's cycle, or it has cleared and its number is the one before
+  set_or_cleared : HasTimeAt v device before.next → IsOldAt v before.next device t → (o : Option Happening)
+      → last_setting (earlier t v.records) device ≡ o → option_map_or (λ h. cycle_set h h.note.body) o 0 ≡ n
+      → (recorded_cycle (earlier t v.records) device ≡ suc n)
+      ⊎ ((recorded_cycle (earlier t v.records) device ≡ n) × (has_cleared v.scenario v.records device t t ≡ true))
+  set_or_cleared has old None e index =
+      inl (omega (arith, index, next_cycle_is_of_last (earlier t v.records) device ∙ ap next_of e))
+  set_or_cleared has old (Some h) e index =
+      let recorded = next_cycle_is_of_last (earlier t v.records) device ∙ ap next_of e in
+      let number = λ (b : Bool). if b then cycle_set h h.note.body + 1 else cycle_set h h.note.body in
+      elim (is_correction h.note.body) as (λ b. is_correction h.note.body ≡ b
+      → (recorded_cycle (earlier t v.records) device ≡ suc n)
+      ⊎ ((recorded_cycle (earlier t v.records) device ≡ n) × (has_cleared v.scenario v.records device t t ≡ true))) [
+        | true ↦ λ corrected. inl (omega (arith, index, recorded, ap number corrected))
+        | false ↦ λ joined.
+            let integrates =
+            joiner_integrates (earlier t v.records) device h e (setting_is v device t h e).sets joined in
+            let first = had_cleared n t before is from has old h e joined in
+            inr (omega (arith, index, recorded, ap number joined), cleared_from device before.next t t is from from old integrates.0 first)
+      ] refl
 
--- where a device has cleared, it joined in an earlier cycle
-earlier_join : (v : View) (n t : ℕ) (device : DeviceId) (before : Stands v n) → IsView v → before.next ≤ t → IsGood v device → IsOldAt v before.next device t
-    → is_integration_cycle (earlier t v.records) device ≡ true → recorded_cycle (earlier t v.records) device ≤ n
-earlier_join v n t device before is from good old at =
-    let hs = earlier t v.records in
-    let j = joining_from hs device (recorded_cycle hs device) (integration_by (recorded_cycle hs device) (integration_cycle hs device) at) in
-    let back = in_earlier t v.records j.h j.there in
-    let early : time_of j.h < before.next = lt_by (λ ge. both_ways (changes_adjustment device j.h.note.body)
-    (sets_none v device before.next t is from old j.h back.0 ge back.1) (joined_changes device j.h.note.body j.joins)) in
-    omega (arith, before.joined j.h device back.0 j.joins good early, j.of_cycle)
+  -- where a device has cleared, it joined in an earlier cycle
+  earlier_join : IsGood v device → IsOldAt v before.next device t
+      → is_integration_cycle (earlier t v.records) device ≡ true → recorded_cycle (earlier t v.records) device ≤ n
+  earlier_join good old at =
+      let hs = earlier t v.records in
+      let j = joining_from hs device (recorded_cycle hs device)
+      (integration_by (recorded_cycle hs device) (integration_cycle hs device) at) in
+      let back = in_earlier t v.records j.h j.there in
+      let early : time_of j.h < before.next = lt_by (λ ge. both_ways (changes_adjustment device j.h.note.body)
+      (sets_none device before.next t is from old j.h back.0 ge back.1)
+      (joined_changes device j.h.note.body j.joins)) in
+      omega (arith, before.joined j.h device back.0 j.joins good early, j.of_cycle)
 
--- the number of an old device is that of the block's cycle
-pub old_number : (v : View) (n t : ℕ) (device : DeviceId) (before : Stands v n) → IsView v → before.next ≤ t → HasTimeAt v device t
-    → IsOldAt v before.next device t → next_cycle v.scenario v.records device t ≡ suc n
-old_number v n t device before is from has old =
-    let then_has : HasTimeAt v device before.next = record { good = has.good; timed = time_stays v device before.next t is from old has.timed } in
-    let recorded = recorded_cycle (earlier t v.records) device in
-    let number = λ (b : Bool). if b then recorded + 1 else recorded in
-    let index = ap (λ (x : Option Happening). option_map_or (λ h. cycle_set h h.note.body) x 0) (sym (settings_stay v device before.next t is from old))
-    ∙ (before.clocks device then_has).index in
-    let which = set_or_cleared v n t device before is from then_has old _ refl index in
-    elim (cases_Bool (has_cleared v.scenario v.records device t t)) [
-      | inl cleared ↦
-          let at = (and_parts (is_integration_cycle (earlier t v.records) device) _ cleared).0 in
-          let small = earlier_join v n t device before is from has.good old at in
-          ap number cleared ∙ elim which [ inl more ↦ absurd (omega (arith, more, small)) | inr so ↦ (let one = so.0 in omega (arith, one)) ]
-      | inr not_cleared ↦ ap number not_cleared ∙ elim which [
-        | inl more ↦ more
-        | inr so ↦ absurd (both_ways (has_cleared v.scenario v.records device t t) not_cleared so.1)
+  -- the number of an old device is that of the block's cycle
+  pub old_number : HasTimeAt v device t → IsOldAt v before.next device t
+      → next_cycle v.scenario v.records device t ≡ suc n
+  old_number has old =
+      let then_has : HasTimeAt v device before.next =
+      record { good = has.good; timed = time_stays v device before.next t is from old has.timed } in
+      let recorded = recorded_cycle (earlier t v.records) device in
+      let number = λ (b : Bool). if b then recorded + 1 else recorded in
+      let index = ap (λ (x : Option Happening). option_map_or (λ h. cycle_set h h.note.body) x 0)
+      (sym (settings_stay v device before.next t is from old))
+      ∙ (before.clocks device then_has).index in
+      let which = set_or_cleared then_has old _ refl index in
+      elim (cases_Bool (has_cleared v.scenario v.records device t t)) [
+        | inl cleared ↦
+            let at = (and_parts (is_integration_cycle (earlier t v.records) device) _ cleared).0 in
+            let small = earlier_join has.good old at in
+            ap number cleared ∙ elim which [ inl more ↦ absurd (omega (arith, more, small)) | inr so ↦ (let one = so.0 in omega (arith, one)) ]
+        | inr not_cleared ↦ ap number not_cleared ∙ elim which [
+          | inl more ↦ more
+          | inr so ↦ absurd (both_ways (has_cleared v.scenario v.records device t t) not_cleared so.1)
+        ]
       ]
-    ]

@@ -37,9 +37,10 @@ short_by_reading n reading s t steady le less =
 -- ---- reaching a value
 
 -- one unit before, a reading is little less
-step_back : (n : Sizes) (reading : ℕ → ℕ) (t : ℕ) → IsSteady n reading → 0 < t → reading t ≤ reading (t - 1) + 2 * n.grain + 1
-step_back n reading zero steady after = absurd (omega arith)
-step_back n reading (suc t) steady after = grind arith
+step_back : {n : Sizes} {reading : ℕ → ℕ} (t : ℕ) → IsSteady n reading → 0 < t
+    → reading t ≤ reading (t - 1) + 2 * n.grain + 1
+step_back zero steady after = absurd (omega arith)
+step_back (suc t) steady after = grind arith
 
 pub reach_is_sharp : ReachIsSharp
 reach_is_sharp n reading from v t steady below reach =
@@ -48,13 +49,14 @@ reach_is_sharp n reading from v t steady below reach =
     let there = rw same at reach.reached in
     omega (arith, ints, there, below)) in
     let before = reach.not_before (t - 1) (omega (arith, ints, after)) (omega (arith, ints, after)) in
-    record { after = after; before = before; least = reach.reached; most = omega (arith, ints, before, step_back n reading t steady (omega (arith, after))) }
+    record { after = after; before = before; least = reach.reached; most = omega (arith, ints, before, step_back t steady (omega (arith, after))) }
 
 -- among the units behind x there is a first at which the value is read
-first_of_all : (n : Sizes) (reading : ℕ → ℕ) (from x : ℕ) (v : ℤ) (more : ℕ) → IsSteady n reading → from ≤ x → pos (reading x) <ℤ v
-    → v ≤ℤ pos (reading (x + more)) → (u : ℕ) × (x < u) × (u ≤ x + more) × IsReach reading (pos from) v (pos u)
-first_of_all n reading from x v zero steady le below above = grind (arith, ints)
-first_of_all n reading from x v (suc more) steady le below above =
+first_of_all : {n : Sizes} {reading : ℕ → ℕ} (from x : ℕ) (v : ℤ) (more : ℕ) → IsSteady n reading → from ≤ x
+    → pos (reading x) <ℤ v → v ≤ℤ pos (reading (x + more))
+    → (u : ℕ) × (x < u) × (u ≤ x + more) × IsReach reading (pos from) v (pos u)
+first_of_all from x v zero steady le below above = grind (arith, ints)
+first_of_all {reading} from x v (suc more) steady le below above =
     by_lt_z {P = (u : ℕ) × (x < u) × (u ≤ x + suc more) × IsReach reading (pos from) v (pos u)} (pos (reading (x + more))) v (λ less. (
       x + suc more,
       omega arith,
@@ -65,13 +67,13 @@ first_of_all n reading from x v (suc more) steady le below above =
         not_before = λ y from_y y_before.
             omega (arith, ints, steady.never_falls y (x + more) (omega (arith, ints, y_before)), less);
       },
-    )) (λ enough. let r = first_of_all n reading from x v more steady le below enough in (r.0, r.1, omega arith, r.3))
+    )) (λ enough. let r = first_of_all from x v more steady le below enough in (r.0, r.1, omega arith, r.3))
 
 pub reach_is_there : ReachIsThere
 reach_is_there n reading from x v t steady le lt below above =
     let same : x + (t - x) ≡ t = omega arith in
     let there : v ≤ℤ pos (reading (x + (t - x))) = rw same above in
-    let r = first_of_all n reading from x v (t - x) steady le below there in
+    let r = first_of_all from x v (t - x) steady le below there in
     (r.0, r.1, omega (arith, r.2), r.3)
 
 -- ---- permanence
@@ -81,7 +83,7 @@ permanence_is_sharp n reading arrived point q steady up reach =
     elim (cases_lt arrived q) [
       | inl lt ↦
           let before = reach.not_before (q - 1) (omega (arith, ints, lt)) (omega (arith, ints, lt)) in
-          let back = step_back n reading q steady (omega (arith, lt)) in
+          let back = step_back q steady (omega (arith, lt)) in
           record { after = omega arith; least = reach.reached; most = omega (arith, ints, before, back); before = inl before }
       | inr ge ↦
           let same : q ≡ arrived = omega (arith, ints, reach.from_on, ge) in

@@ -18,24 +18,28 @@ pub record HearsAsAt (v : View) (t q : ℕ) (device : DeviceId) (hs : List Happe
   pub adjustment : (adjustment_at_hearing v.scenario hs device q).0 ≡ adjustment_left v device t
 
 -- so none tells it the time
-pub joins_none : (v : View) (device : DeviceId) (from t : ℕ) → IsView v → from ≤ t → epoch_time (earlier t v.records) device <ℤ pos from → (h : Happening)
-    → IsIn h v.records → from ≤ time_of h → time_of h < t → is_joined_by device h.note.body ≡ false
-joins_none v device from t is le old h i late early =
+pub joins_none : {v : View} (device : DeviceId) (from t : ℕ) → IsView v → from ≤ t
+    → epoch_time (earlier t v.records) device <ℤ pos from → (h : Happening) → IsIn h v.records → from ≤ time_of h
+    → time_of h < t → is_joined_by device h.note.body ≡ false
+joins_none device from t is le old h i late early =
     false_from_ne_true (is_joined_by device h.note.body)
-    (λ joins. both_ways (changes_adjustment device h.note.body) (sets_none _ device from t is le old h i late early) (joined_changes device h.note.body joins))
+    (λ joins. both_ways (changes_adjustment device h.note.body) (sets_none device from t is le old h i late early)
+    (joined_changes device h.note.body joins))
 
 or_quiet : (a b : Bool) → (a ≡ false → b ≡ false) → (a || b) ≡ a
 or_quiet true b quiet = refl
 or_quiet false b quiet = quiet refl
 
 -- a device whose clock was set before `from`, and that has a common time before t, hears with this clock between
-pub hears_as_at : (v : View) (device : DeviceId) (from q t : ℕ) (hs : List Happening) → IsView v → AreUpTo v q hs → from ≤ q → q < t
-    → epoch_time (earlier t v.records) device <ℤ pos from → has_time (state_left v device t) ≡ true → HearsAsAt v t q device hs
-hears_as_at v device from q t hs is up le lt old timed =
+pub hears_as_at : {v : View} (device : DeviceId) (from : ℕ) {q : ℕ} (t : ℕ) {hs : List Happening} → IsView v
+    → AreUpTo v q hs → from ≤ q → q < t → epoch_time (earlier t v.records) device <ℤ pos from
+    → has_time (state_left v device t) ≡ true → HearsAsAt v t q device hs
+hears_as_at {v} device from {q} t {hs} is up le lt old timed =
     let old_q : epoch_time (earlier t v.records) device <ℤ pos q = omega (arith, ints, old, le) in
     let timed_q = time_stays v device q t is (omega (arith, lt)) old_q timed in
     let quiet : (h : Happening) → IsIn h hs → q ≤ time_of h → is_joined_by device h.note.body ≡ false = λ h i ge.
-    (let to = up.to h i in joins_none v device from t is (omega (arith, le, lt)) old h (up.there h i) (omega (arith, le, ge)) (omega (arith, lt, to))) in
+    (let to = up.to h i in joins_none device from t is (omega (arith, le, lt)) old h (up.there h i)
+    (omega (arith, le, ge)) (omega (arith, lt, to))) in
     let none : has_joined_at hs device q ≡ false = false_from_ne_true (has_joined_at hs device q) (λ joined.
     let x = any_in (λ (h : Happening). time_of h == q && is_joined_by device h.note.body) hs joined in
     let both = and_parts (time_of x.0 == q) (is_joined_by device x.0.note.body) x.2 in
@@ -47,9 +51,10 @@ hears_as_at v device from q t hs is up le lt old timed =
     record {
       state =
           ap (λ (b : Bool). has_time (if b then Joining else state_before v.scenario hs device q)) none
-          ∙ ap (λ (b : Bool). has_time (if b then Integrating else state_after v.scenario (earlier q hs) device)) (not_turned_on_then v device q is timed_q)
-          ∙ ap (λ (es : List Happening). has_time (state_after v.scenario es device)) up.all ∙ timed_q;
+          ∙ ap (λ (b : Bool). has_time (if b then Integrating else state_after v.scenario (earlier q hs) device))
+          (not_turned_on_then device q is timed_q)
+          ∙ ap (λ es. has_time (state_after v.scenario es device)) up.all ∙ timed_q;
       adjustment =
-          ap (λ (es : List Happening). (adjustment_after v.scenario es device).0) (kept ∙ up.all)
-          ∙ ap (λ (a : Units). a.0) (adjustment_stays v device q t is (omega (arith, lt)) old_q);
+          ap (λ es. (adjustment_after v.scenario es device).0) (kept ∙ up.all)
+          ∙ ap (λ (a : Units). a.0) (adjustment_stays device q t is (omega (arith, lt)) old_q);
     }

@@ -11,8 +11,9 @@ use Rattle.precision_law.proofs.words.Std.{◌*◌, ◌+ℤ◌, ◌+◌, ◌-ℤ
 -- ---- numbers
 
 -- a reading that lies so far behind that of a time is read so much later
-later_by : (n : Sizes) (reading : ℕ → ℕ) (a s gap : ℕ) → IsSteady n reading → gap ≤ 2 * n.cycle → reading a + gap ≤ reading s → 1 ≤ gap → a + gap ≤ s + n.drift
-later_by n reading a s gap steady short le some =
+later_by : {n : Sizes} {reading : ℕ → ℕ} (a s gap : ℕ) → IsSteady n reading → gap ≤ 2 * n.cycle
+    → reading a + gap ≤ reading s → 1 ≤ gap → a + gap ≤ s + n.drift
+later_by {n} a s gap steady short le some =
     elim (cases_lt a s) [
       | inr ge ↦ (let up = steady.never_falls s a ge in absurd (omega (arith, up, le, some)))
       | inl lt ↦ elim (cases_lt (a + 2 * n.cycle) s) [
@@ -22,8 +23,9 @@ later_by n reading a s gap steady short le some =
     ]
 
 -- and one that lies at most so far behind is read at most so much later
-sooner_by : (n : Sizes) (reading : ℕ → ℕ) (b s gap : ℕ) → IsSteady n reading → gap + n.drift < 2 * n.cycle → reading s ≤ reading b + gap → s ≤ b + gap + n.drift
-sooner_by n reading b s gap steady short le =
+sooner_by : {n : Sizes} {reading : ℕ → ℕ} (b s gap : ℕ) → IsSteady n reading → gap + n.drift < 2 * n.cycle
+    → reading s ≤ reading b + gap → s ≤ b + gap + n.drift
+sooner_by {n} {reading} b s gap steady short le =
     elim (cases_lt b s) [
       | inr ge ↦ omega (arith, ge)
       | inl lt ↦ omega (arith, steady.slow b s (omega arith) (omega (arith, short_by_reading n reading b s steady (omega arith) (omega arith))), le)
@@ -63,9 +65,9 @@ record HasBounds (v : View) (cm : DeviceId) (cycle by : ℕ) : Type 0 where
   pub to : pos b ≤ℤ (hull.greatest +ℤ pos (v.sizes.dmax + v.sizes.path))
   pub each : (q : Point) → q.cycle ≡ cycle → IsGoodPoint v cm by q → LiesBetween v cm a b q.reading
 
-bounds_of : (v : View) (cm : DeviceId) (cycle by : ℕ) (q : Point) → IsView v → IsTidyBefore v by → q.cycle ≡ cycle → IsGoodPoint v cm by q
-    → HasBounds v cm cycle by
-bounds_of v cm cycle by q is tidy of_cycle good =
+bounds_of : {v : View} {cm : DeviceId} (cycle : ℕ) {by : ℕ} {q : Point} → IsView v → IsTidyBefore v by
+    → q.cycle ≡ cycle → IsGoodPoint v cm by q → HasBounds v cm cycle by
+bounds_of {v} {cm} cycle {q} is tidy of_cycle good =
     let inside = tidy good.first good.master q.cycle good.dispatch good.before in
     let hull = inside.hull in
     let n = v.sizes in
@@ -103,17 +105,18 @@ good_lie low high first more up each =
     (omega (arith, ints, middle.0, at.0), omega (arith, ints, middle.1, (last_within low high first.reading more at (λ x i. each x (inr i))).1))
 
 -- the middle of points of which one lies within bounds, and all but one do, is near them
-near_lie : (v : View) (low high : ℤ) (first : Point) (more : List Point) (q : Point) → IsView v → Ordered (first ∷ more) → Apart (first ∷ more)
-    → ((x : Point) → IsIn x (first ∷ more) → x.reading ≤ℤ (first.reading +ℤ pos (2 * v.sizes.precision)))
-    → ((x : Point) → IsIn x (first ∷ more) → LiesWithin low high x.reading ⊎ IsBadPoint v x)
-    → IsIn q (first ∷ more) → LiesWithin low high q.reading → LiesWithin (low -ℤ pos v.sizes.precision) (high +ℤ pos v.sizes.precision)
+near_lie : {v : View} (low high : ℤ) (first : Point) (more : List Point) (q : Point) → IsView v
+    → Ordered (first ∷ more) → Apart (first ∷ more) → ((x : Point) → IsIn x (first ∷ more)
+    → x.reading ≤ℤ (first.reading +ℤ pos (2 * v.sizes.precision)))
+    → ((x : Point) → IsIn x (first ∷ more) → LiesWithin low high x.reading ⊎ IsBadPoint v x) → IsIn q (first ∷ more)
+    → LiesWithin low high q.reading → LiesWithin (low -ℤ pos v.sizes.precision) (high +ℤ pos v.sizes.precision)
     (middle_point (map (λ q. q.reading) (first ∷ more)))
-near_lie v low high first [] q is up differ close each (inl same) at =
+near_lie low high first [] q is up differ close each (inl same) at =
     let here : LiesWithin low high first.reading = subst (λ (x : Point). LiesWithin low high x.reading) same at in
     let m = middle_from_first_to_last first.reading [] tt in
     (omega (arith, ints, m.0, here.0), omega (arith, ints, m.1, here.1))
-near_lie v low high first [] q is up differ close each (inr i) at = absurd i
-near_lie v low high first (next ∷ []) q is up differ close each i at =
+near_lie low high first [] q is up differ close each (inr i) at = absurd i
+near_lie low high first (next ∷ []) q is up differ close each i at =
     let m = mean_of-floor (first.reading -ℤ first.reading) (next.reading -ℤ first.reading) in
     let order : first.reading ≤ℤ next.reading = up.0.0 in
     let near = close next (inr (inl refl)) in
@@ -123,10 +126,11 @@ near_lie v low high first (next ∷ []) q is up differ close each i at =
       | inr (inr none) ↦ absurd none
     ] in
     elim which [ inl one ↦ (omega (arith, ints), omega (arith, ints)) | inr other ↦ (omega (arith, ints), omega (arith, ints)) ]
-near_lie v low high first (next ∷ third ∷ more) q is up differ close each i at =
+near_lie {v} low high first (next ∷ third ∷ more) q is up differ close each i at =
     let middle = middle_among_others (map (λ q. q.reading) (first ∷ next ∷ third ∷ more)) low high (omega arith)
     (ascending_from (first ∷ next ∷ third ∷ more) up)
-    (all_but_one low high (IsBadPoint v) (first ∷ next ∷ third ∷ more) differ each (λ p q i j a b. bad_is_one v p q is a b)) in
+    (all_but_one low high (IsBadPoint v) (first ∷ next ∷ third ∷ more) differ each
+    (λ p q i j a b. bad_is_one is a b)) in
     (omega (arith, ints, middle.0), omega (arith, ints, middle.1))
 
 -- ---- the base of what is sent
@@ -140,7 +144,7 @@ module _ (v : View) (h : Happening) (cm : DeviceId) (cycle : ℕ) (members : Mem
 
   -- a member that is good gives bounds
   bounds_by : IsTidyBefore v (time_of h) → (q : Point) → IsIn q points → IsGoodPoint v cm (time_of h) q → HasBounds v cm cycle (time_of h)
-  bounds_by tidy q i good = bounds_of v cm cycle (time_of h) q is tidy ((made v h cm cycle members is e).each q i).of_cycle good
+  bounds_by tidy q i good = bounds_of cycle is tidy ((made v h cm cycle members is e).each q i).of_cycle good
 
   -- where the middle lies near the bounds, the base lies near the hull
   base_near : (slack : ℕ) (bounds : HasBounds v cm cycle (time_of h)) → slack ≤ v.sizes.precision
@@ -149,14 +153,14 @@ module _ (v : View) (h : Happening) (cm : DeviceId) (cycle : ℕ) (members : Mem
   base_near slack bounds small lies =
       let m = made v h cm cycle members is e in
       let sharp = emissions_are_sharp v h cm cycle members e is in
-      let space = room v is in
+      let space = room is in
       let fit : 2 * v.sizes.grain + slack + 1 ≤ v.sizes.compression = omega (arith, space, small) in
       let short : v.sizes.compression + slack + 2 * v.sizes.grain + v.sizes.drift < 2 * v.sizes.cycle = omega (arith, space, small) in
       let gap : ℕ = v.sizes.compression - (2 * v.sizes.grain + slack) in
       let gap_is : gap + (2 * v.sizes.grain + slack) ≡ v.sizes.compression = omega (arith, fit) in
-      let late = later_by v.sizes (v.scenario.reading cm) bounds.a (time_of h) gap (steady v is cm) (omega (arith, short, gap_is))
+      let late = later_by bounds.a (time_of h) gap (steady v is cm) (omega (arith, short, gap_is))
       (omega (arith, ints, sharp, lies.0, m.at, gap_is)) (omega (arith, fit, gap_is)) in
-      let soon = sooner_by v.sizes (v.scenario.reading cm) bounds.b (time_of h) (v.sizes.compression + slack + 2 * v.sizes.grain) (steady v is cm) short
+      let soon = sooner_by bounds.b (time_of h) (v.sizes.compression + slack + 2 * v.sizes.grain) (steady v is cm) short
       (omega (arith, ints, sharp, lies.1, m.at)) in
       record {
         hull = bounds.hull;
@@ -185,7 +189,7 @@ module _ (v : View) (h : Happening) (cm : DeviceId) (cycle : ℕ) (members : Mem
       let m = made v h cm cycle members is e in
       middle_among_others (map (λ q. q.reading) points) _ _ (omega (arith, length-map points (λ (q : Point). q.reading), many))
       (ascending_from points m.ordered)
-      (all_but_one _ _ (IsBadPoint v) points m.differ (within_or_bad bounds) (λ p q i j a b. bad_is_one v p q is a b))
+      (all_but_one _ _ (IsBadPoint v) points m.differ (within_or_bad bounds) (λ p q i j a b. bad_is_one is a b))
 
   -- all points of good members are good
   all_good : AreGood v members → (q : Point) → IsIn q points → IsGoodPoint v cm (time_of h) q
@@ -193,7 +197,7 @@ module _ (v : View) (h : Happening) (cm : DeviceId) (cycle : ℕ) (members : Mem
     | inl good ↦ good
     | inr bad ↦
         let good = are q.master (is_of_member v h cm cycle members is e q i) in
-        absurd (not_both v good.0 bad.master good.2 bad.bad (one_member v good.0 bad.master q.master is good.1 bad.is_member))
+        absurd (not_both v good.0 bad.master good.2 bad.bad (one_member good.0 bad.master q.master is good.1 bad.is_member))
   ]
 
 pub bases_are_in_hulls : BasesAreInHulls
@@ -218,5 +222,6 @@ bases_are_near_hulls v h cm cycle members is e tidy good =
     let p = good_member_point v h cm cycle members is e good.0 good.1 good.2 in
     let bounds = bounds_by v h cm cycle members is e tidy p.0 p.1 p.2 in
     base_near v h cm cycle members is e v.sizes.precision bounds (omega arith)
-    (near_lie _ _ _ m.first m.more p.0 is m.ordered m.differ (λ x i. (m.each x i).to) (within_or_bad v h cm cycle members is e bounds) p.1
+    (near_lie _ _ m.first m.more p.0 is m.ordered m.differ (λ x i. (m.each x i).to)
+    (within_or_bad v h cm cycle members is e bounds) p.1
     (bounds.each p.0 (m.each p.0 p.1).of_cycle p.2))

@@ -3,7 +3,7 @@ use Rattle.precision_law.proofs.words.Clocks.{IsClusterOf, TakesWith, behind_las
 use Rattle.precision_law.proofs.words.{Clocks.{same_device, sizes_are, some_if, steady, taken_as, taken_sound}, Laws.{EmissionsAreSharp, IsView, View}}
 use Rattle.precision_law.proofs.words.Plans.{Cluster, Compressed, DeviceId, LinkId, Pcf, Point, Units, amount, cluster_of, emission, in_cases, last_but_one}
 use Rattle.{precision_law.proofs.words.Plans.{mean_of, mean_of-floor, middle_of, point_at, relative}, run_law.proofs.records.Order.contained}
-use Rattle.precision_law.proofs.words.Runs.{Arrival, Happening, IsArrivedRecord, IsCaused, IsDue, IsFounded, IsIn, Judgement, NoteBody, Signal, arrival_of}
+use Rattle.precision_law.proofs.words.Runs.{Happening, IsArrivedRecord, IsCaused, IsDue, IsFounded, IsIn, Judgement, NoteBody, Signal, arrival_of}
 use Rattle.precision_law.proofs.words.Runs.{control, cycle_in, ends_stretch, founded_at, in_right, master_of, members_in, numbered_in, observation_window}
 use Rattle.precision_law.proofs.words.{Runs.{place_of, point_by, points_of, standpoint, time_of, timed}, Std.{inr, ints, map, pos, refl, subst, sym, ℕ, ℤ}}
 use Rattle.precision_law.proofs.words.Std.{◌-ℤ◌, ◌==◌, ◌∙◌, ◌∷◌, ◌≡◌, ◌≤ℤ◌, ◌≤◌, AllByRecursion, Contains, Err, List, Ok, Some, [], after_last, ap, arith, inl}
@@ -54,20 +54,21 @@ pub in_cluster : {ow : ℤ} {ps : List Point} {c : Cluster} (k : IsClusterOf ow 
 in_cluster {ps = ps} k q at =
     contained ps q (elim (in_cases k.first q k.rest at) [ inl same ↦ subst (Contains ps) same k.there | inr later ↦ k.others q later ])
 
--- no arrival is too old
-young_by : (v : View) (hs : List Happening) (t : ℕ) (device : DeviceId) (link : LinkId) (cause : ℕ) (signal : Signal) (taken : Pcf)
-    → TakesWith (arrival_of v.scenario hs device t link cause signal) taken → taken.clock ≤ amount v.scenario.network.dmax
-young_by v hs t device link cause (control (Ok frame)) taken takes =
-    omega (arith, taken_sound v.scenario.network device link (standpoint v.scenario hs device t) frame taken takes)
-young_by v hs t device link cause (control (Err refusal)) taken takes = absurd takes
-young_by v hs t device link cause (timed octets) taken takes = absurd (never_timed v hs t device link cause octets taken takes)
+module _ (v : View) (hs : List Happening) (t : ℕ) (device : DeviceId) (link : LinkId) (cause : ℕ) where
+  -- no arrival is too old
+  young_by : (signal : Signal) (taken : Pcf) → TakesWith (arrival_of v.scenario hs device t link cause signal) taken
+      → taken.clock ≤ amount v.scenario.network.dmax
+  young_by (control (Ok frame)) taken takes =
+      omega (arith, taken_sound v.scenario.network device link (standpoint v.scenario hs device t) frame taken takes)
+  young_by (control (Err refusal)) taken takes = absurd takes
+  young_by (timed octets) taken takes = absurd (never_timed v hs t device link cause octets taken takes)
 
-pub arrival_young : (v : View) (hs : List Happening) (t : ℕ) (device : DeviceId) (link : LinkId) (cause clock : ℕ)
-    → IsArrivedRecord v.scenario hs device t link cause clock → clock ≤ amount v.scenario.network.dmax
-arrival_young v hs t device link cause clock a =
-    let x = taken_as a in
-    let young = young_by v hs t device link cause x.1.signal a.frame (subst (λ (y : Arrival). TakesWith y a.frame) x.1.becomes x.2) in
-    omega (arith, young, a.shows)
+  pub arrival_young : {clock : ℕ} → IsArrivedRecord v.scenario hs device t link cause clock
+      → clock ≤ amount v.scenario.network.dmax
+  arrival_young a =
+      let x = taken_as a in
+      let young = young_by x.1.signal a.frame (subst (λ y. TakesWith y a.frame) x.1.becomes x.2) in
+      omega (arith, young, a.shows)
 
 -- the record gives the device this point
 pub record GivesPoint (cm : DeviceId) (k : Happening) (p : Point) : Type 0 where
@@ -107,15 +108,15 @@ point_record cm front p i =
     (made.0, subst (IsIn made.0) (sym cut.whole) (in_right made.0 cut.front (after_last ends front) made.1), gives_point cm made.0 p made.2)
 
 -- a point is not negative
-point_not_negative : (v : View) (cm : DeviceId) (front : List Happening) (p : Point) → IsView v → IsFounded place_of (IsDue v.scenario) front
-    → IsIn p (points_of front cm) → NotNegative p.reading
-point_not_negative v cm front p is founded i =
+point_not_negative : {v : View} (cm : DeviceId) (front : List Happening) (p : Point) → IsView v
+    → IsFounded place_of (IsDue v.scenario) front → IsIn p (points_of front cm) → NotNegative p.reading
+point_not_negative {v} cm front p is founded i =
     let s = v.scenario in
     let given = point_record cm front p i in
     let at = founded_at s front given.0 founded given.1 in
     let q = (subst (IsCaused s at.front given.0.note.time) given.2.is at.due.cause).permanent in
     let at_a = founded_at s at.front q.arrival at.founded (numbered_in at.front given.2.cause q.arrival q.there) in
-    omega (arith, ints, arrival_young v _ _ cm _ _ _ (subst (IsCaused s at_a.front q.arrival.note.time) q.arrived at_a.due.cause), is.lawful.range.dmax.least)
+    omega (arith, ints, arrival_young v _ _ cm _ _ (subst (IsCaused s at_a.front q.arrival.note.time) q.arrived at_a.due.cause), is.lawful.range.dmax.least)
 
 pub emissions_are_sharp : EmissionsAreSharp
 emissions_are_sharp v h cm cycle members e is =
@@ -124,10 +125,11 @@ emissions_are_sharp v h cm cycle members e is =
     let emits = subst (IsCaused s at.front h.note.time) e.is at.due.cause in
     let ow = observation_window s.network in
     let c = cluster_from ow (points_of at.front cm) emits.clusters emits.cluster emits.are emits.there in
-    let first = point_not_negative v cm at.front c.first is at.founded (contained (points_of at.front cm) c.first c.there) in
+    let first = point_not_negative cm at.front c.first is at.founded
+    (contained (points_of at.front cm) c.first c.there) in
     let wide : pos 0 ≤ℤ ow = omega (arith, ints) in
     let middle = middle_late ow c.first c.rest wide in
     let shown = ap (emission ow (pos (amount s.network.calc))) c.is in
     reach_is_sharp v.sizes (s.reading cm) 0 e.at.0 (time_of h) (steady v is cm)
-    (omega (arith, ints, (steady v is cm).begins, ap (λ (x : Compressed). x.at.0) emits.is, shown, first, middle, (sizes_are v is).precision, room v is))
+    (omega (arith, ints, (steady v is cm).begins, ap (λ (x : Compressed). x.at.0) emits.is, shown, first, middle, (sizes_are is).precision, room is))
     emits.reached

@@ -37,25 +37,28 @@ pub not_both : (v : View) (device other : DeviceId) → IsGood v device → IsBa
 not_both v device other good bad same = both_ways (is_broken v.scenario other v.until) (subst (IsGood v) same good) bad
 
 -- a good point is of another master than a bad one
-pub point_not_both : (v : View) (cm : DeviceId) (by : ℕ) (p q : Point) → IsView v → IsGoodPoint v cm by p → IsBadPoint v q → p.master ≡ q.master → ⊥
-point_not_both v cm by p q is good bad same =
-    not_both v _ _ good.dispatch.good bad.bad (one_member v good.master bad.master _ is good.is_member (bad.is_member ∙ ap (λ (m : ℕ). Some m) (sym same)))
+pub point_not_both : {v : View} {cm : DeviceId} {by : ℕ} {p q : Point} → IsView v → IsGoodPoint v cm by p
+    → IsBadPoint v q → p.master ≡ q.master → ⊥
+point_not_both {v} is good bad same =
+    not_both v _ _ good.dispatch.good bad.bad (one_member good.master bad.master _ is good.is_member
+    (bad.is_member ∙ ap (λ (m : ℕ). Some m) (sym same)))
 
 -- bad points are of one master
-pub bad_is_one : (v : View) (p q : Point) → IsView v → IsBadPoint v p → IsBadPoint v q → p.master ≡ q.master
-bad_is_one v p q is a b = grind (arith, one_bad, member_of, same_some)
+pub bad_is_one : {v : View} {p q : Point} → IsView v → IsBadPoint v p → IsBadPoint v q → p.master ≡ q.master
+bad_is_one is a b = grind (arith, one_bad, member_of, same_some)
 
 -- a dispatch has no delay so far
-pub dispatch_clock : (v : View) (first : Happening) (master : DeviceId) (cycle : ℕ) → IsView v → IsDispatch v first master cycle → clock_in first ≡ 0
-dispatch_clock v first master cycle is d =
+pub dispatch_clock : {v : View} {first : Happening} {master : DeviceId} {cycle : ℕ} → IsView v
+    → IsDispatch v first master cycle → clock_in first ≡ 0
+dispatch_clock {v} {first} is d =
     let at = founded_at v.scenario v.records first is.run.founded d.there in
     ap (λ (o : Option Pcf). option_map_or (λ f. f.clock) o 0) (ap (λ (x : Happening). x.frame) at.due.same ∙ ap (frame_by v.scenario.network at.front) d.is)
 
 -- a point that a record gives is that of a good master or of a bad one
-pub record_point : (v : View) (cm : DeviceId) (q : Point) (by : ℕ) (k : Happening) → IsView v → IsIn k v.records → time_of k ≤ by
-    → is_cm v.scenario.network cm ≡ true → GivesPoint cm k q → IsGoodPoint v cm by q ⊎ IsBadPoint v q
-record_point v cm q by k is there early one g =
-    let r = ripening v cm k g.link g.cause g.point g.verdict is there g.is in
+pub record_point : {v : View} {cm : DeviceId} {q : Point} (by : ℕ) {k : Happening} → IsView v → IsIn k v.records
+    → time_of k ≤ by → is_cm v.scenario.network cm ≡ true → GivesPoint cm k q → IsGoodPoint v cm by q ⊎ IsBadPoint v q
+record_point {v} {cm} {q} by {k} is there early one g =
+    let r = ripening cm k g.link g.cause g.point g.verdict is there g.is in
     let p = r.permanent in
     elim (frames_up_are_of_masters v r.arrival cm p.link p.from p.clock is r.arrived p.is (r.up one)) [
       | inr bad ↦ inr (record {
@@ -64,8 +67,9 @@ record_point v cm q by k is there early one g =
         is_member = bad.is_member ∙ ap (λ (m : ℕ). Some m) (sym (master_is bad.master bad.member g.of_master r.members bad.is_member bad.members));
       })
       | inl good ↦
-          let channel = cm_channel v cm is one in
-          let path = path_up v channel.0 good.first r.arrival good.legs good.master cm (cycle_in r.arrival) p.link p.from p.clock is
+          let channel = cm_channel cm is one in
+          let path = path_up channel.0 good.first r.arrival good.legs good.master cm (cycle_in r.arrival) p.link
+          p.from p.clock is
           (cm_of v cm channel.0 one channel.1) good.trip p.is good.dispatch.is in
           inl (record {
             first = good.first;
@@ -77,27 +81,31 @@ record_point v cm q by k is there early one g =
             not_behind = early;
             in_time =
                 trips_up_take_dmax v good.first r.arrival good.legs channel.0 good.master cm g.point.0 (time_of k) is
-                (path_member v channel.0 good.master (links_of good.legs) is path) path (dispatch_clock v _ _ _ is good.dispatch) good.trip p r.clock;
+                (path_member v channel.0 good.master (links_of good.legs) is path) path
+                (dispatch_clock is good.dispatch) good.trip p r.clock;
             least = omega (arith, ints, r.sharp.least, g.reads);
             most = omega (arith, ints, r.sharp.most, g.reads);
           })
     ]
   where
     master_is : {a b : ℕ} (master : DeviceId) (m : ℕ) → q.master ≡ master_of a → a ≡ b → member_of v.scenario.network master ≡ Some m → b ≡ 2 ^ m → q.master ≡ m
-    master_is master m e same member bits = e ∙ ap master_of (same ∙ bits) ∙ master_of_bit m (has_member v master m is member).small
+    master_is master m e same member bits =
+        e ∙ ap master_of (same ∙ bits) ∙ master_of_bit m (has_member master m is member).small
 
-pub front_point : (v : View) (cm : DeviceId) (q : Point) (by : ℕ) (front rest : List Happening) → IsView v → v.records ≡ front ++ rest
-    → ((h : Happening) → IsIn h front → time_of h ≤ by) → is_cm v.scenario.network cm ≡ true → IsIn q (points_of front cm) → IsGoodPoint v cm by q
-    ⊎ IsBadPoint v q
-front_point v cm q by front rest is whole only one i =
+pub front_point : {v : View} (cm : DeviceId) (q : Point) (by : ℕ) (front rest : List Happening) → IsView v
+    → v.records ≡ front ++ rest → ((h : Happening) → IsIn h front → time_of h ≤ by)
+    → is_cm v.scenario.network cm ≡ true → IsIn q (points_of front cm) → IsGoodPoint v cm by q ⊎ IsBadPoint v q
+front_point cm q by front rest is whole only one i =
     let given = point_record cm front q i in
     let k = given.0 in
-    record_point v cm q by k is (subst (IsIn k) (sym whole) (in_left k front rest given.1)) (only k given.1) one given.2
+    record_point by is (subst (IsIn k) (sym whole) (in_left k front rest given.1)) (only k given.1) one given.2
 
 -- a point of those before a record
-pub point_is : (v : View) (h : Happening) (cm : DeviceId) (q : Point) → IsView v → (at : IsFoundedAt v.scenario v.records h)
-    → is_cm v.scenario.network cm ≡ true → IsIn q (points_of at.front cm) → IsGoodPoint v cm (time_of h) q ⊎ IsBadPoint v q
-point_is v h cm q is at one i = front_point v cm q (time_of h) at.front (h ∷ at.rest) is at.whole (before_of v h is at).only one i
+pub point_is : {v : View} {h : Happening} (cm : DeviceId) (q : Point) → IsView v
+    → (at : IsFoundedAt v.scenario v.records h) → is_cm v.scenario.network cm ≡ true → IsIn q (points_of at.front cm)
+    → IsGoodPoint v cm (time_of h) q ⊎ IsBadPoint v q
+point_is {h} cm q is at one i =
+    front_point cm q (time_of h) at.front (h ∷ at.rest) is at.whole (before_of {h = h} is at).only one i
 
 -- ---- clusters
 
@@ -119,9 +127,10 @@ pub record IsMade (v : View) (h : Happening) (cm : DeviceId) (cycle : ℕ) (memb
   pub ordered : Ordered (first ∷ more)
   pub at : sent ≡ ((first.reading +ℤ pos v.sizes.compression) +ℤ middle_of (relative (map (λ q. q.reading) (first ∷ more))))
 
-pub made_of : (v : View) (h : Happening) (cm : DeviceId) (cycle : ℕ) (members : Members) (is : IsView v) → (e : IsEmission v h cm cycle members)
-    → IsMade v h cm cycle members e.at.0 (founded_at v.scenario v.records h is.run.founded e.there).front
-made_of v h cm cycle members is e =
+pub made_of : {v : View} {h : Happening} {cm : DeviceId} {cycle : ℕ} {members : Members} (is : IsView v)
+    (e : IsEmission v h cm cycle members) → IsMade v h cm cycle members e.at.0
+    (founded_at v.scenario v.records h is.run.founded e.there).front
+made_of {v} {h} {cm} {cycle} is e =
     let at = founded_at v.scenario v.records h is.run.founded e.there in
     let emits = subst (IsCaused v.scenario at.front h.note.time) e.is at.due.cause in
     let ow = observation_window v.scenario.network in
@@ -139,10 +148,10 @@ made_of v h cm cycle members is e =
       members_are = ap (λ (x : Compressed). x.members.0) emits.is ∙ ap (λ (x : Cluster). x.members) c.is ∙ ap members_of f.are;
       each = λ q i.
           let k = f.each q i in
-          record { of_cycle = k.of_cycle ∙ sym cycle_is; from = k.from; to = omega (arith, ints, k.to, soon, sizes_are v is); there = in_cluster c q k.there };
+          record { of_cycle = k.of_cycle ∙ sym cycle_is; from = k.from; to = omega (arith, ints, k.to, soon, sizes_are is); there = in_cluster c q k.there };
       differ = f.differ;
-      ordered = f.ordered (c.ordered (points_ordered v cm at.front (h ∷ at.rest) is at.whole));
-      at = omega (arith, ints, sent, ap (λ (qs : List Point). middle_of (relative (map (λ q. q.reading) qs))) f.are, sizes_are v is);
+      ordered = f.ordered (c.ordered (points_ordered cm at.front (h ∷ at.rest) is at.whole));
+      at = omega (arith, ints, sent, ap (λ (qs : List Point). middle_of (relative (map (λ q. q.reading) qs))) f.are, sizes_are is);
     }
 
 -- ---- good members
@@ -160,11 +169,11 @@ member_of_point qs q i = has_is_member qs q.master (in_any (λ (x : Point). x.ma
 module _ (v : View) (h : Happening) (cm : DeviceId) (cycle : ℕ) (members : Members) (is : IsView v) (e : IsEmission v h cm cycle members) where
   -- the points of what is sent
   abbrev pub made : IsMade v h cm cycle members e.at.0 (founded_at v.scenario v.records h is.run.founded e.there).front
-  made = made_of v h cm cycle members is e
+  made = made_of is e
 
   -- each is good, or a broken master's
   pub good_or_bad_point : (q : Point) → IsIn q (made.first ∷ made.more) → IsGoodPoint v cm (time_of h) q ⊎ IsBadPoint v q
-  good_or_bad_point q i = point_is v h cm q is (founded_at v.scenario v.records h is.run.founded e.there) made.is_cm_one (made.each q i).there
+  good_or_bad_point q i = point_is cm q is (founded_at v.scenario v.records h is.run.founded e.there) made.is_cm_one (made.each q i).there
 
   -- and its master is a member
   pub is_of_member : (q : Point) → IsIn q (made.first ∷ made.more) → IsMember q.master members
@@ -176,7 +185,7 @@ module _ (v : View) (h : Happening) (cm : DeviceId) (cycle : ℕ) (members : Mem
       elim (good_or_bad_point p.0 p.1) [
         | inl one ↦ (p.0, p.1, one)
         | inr bad ↦ absurd (not_both v good.0 bad.master good.2 bad.bad
-            (one_member v good.0 bad.master i is good.1 (bad.is_member ∙ ap (λ (x : ℕ). Some x) p.2)))
+            (one_member good.0 bad.master i is good.1 (bad.is_member ∙ ap (λ (x : ℕ). Some x) p.2)))
       ]
 
   -- some member is good, or the only point is a broken master's
@@ -198,7 +207,7 @@ module _ (v : View) (h : Happening) (cm : DeviceId) (cycle : ℕ) (members : Mem
           elim (good_or_bad_point next (inr i)) [
             | inl good ↦ inl (has next (inr i) good)
             | inr other ↦ absurd (in_all (λ (q : Point). q.master ≡ made.first.master → ⊥) made.more next made.differ.0 i
-                (bad_is_one v next made.first is other bad))
+                (bad_is_one is other bad))
           ]
 
   one_at_least : 1 ≤ count_of members

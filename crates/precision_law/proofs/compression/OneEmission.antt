@@ -8,7 +8,7 @@ use Rattle.precision_law.proofs.words.Clocks.{all_by, ascending_from, before_of,
 use Rattle.precision_law.proofs.words.Clocks.{higher_before, member_has, middle_near, no_later, one_member, room, sizes_are, steady}
 use Rattle.precision_law.proofs.words.Laws.{EmissionIsOne, HasGood, Hull, IsEmission, IsGoodMember, IsInHull, IsNarrowIfThere, IsTidyBefore, IsView, View}
 use Rattle.precision_law.proofs.words.Plans.{AreClusters, AreInOrder, Cluster, Compressed, DeviceId, IsKept, LiesIn, LiesWithin, Members, Point, amount}
-use Rattle.precision_law.proofs.words.Runs.{Happening, IsBefore, IsCaused, IsDue, IsFounded, IsFoundedAt, IsIn, NoteBody, behind_first, in_left, in_parts}
+use Rattle.precision_law.proofs.words.Runs.{Happening, IsBefore, IsCaused, IsDue, IsFounded, IsFoundedAt, IsIn, behind_first, in_left, in_parts}
 use Rattle.precision_law.proofs.words.Runs.{in_right, is_cm, key, members_in, never_self, observation_window, parted, place_of, points_of, rank, same_some}
 use Rattle.precision_law.proofs.words.{Runs.time_of, Std.{append_assoc, arith, bit_at, cases_lt, inl, inr, ints, map, pos, refl, subst, sym, true, ℕ, ℤ}}
 use Rattle.precision_law.proofs.words.Std.{◌*ℤ◌, ◌*◌, ◌++◌, ◌+ℤ◌, ◌+◌, ◌-ℤ◌, ◌-◌, ◌<ℤ◌, ◌<◌, ◌∙◌, ◌∷◌, ◌≡◌, ◌≤ℤ◌, ◌≤◌, ◌⊎◌, Contains, List, Some, [], ap}
@@ -22,13 +22,14 @@ pub record IsKnown (v : View) (t cycle : ℕ) : Type 0 where
   pub tidy : IsTidyBefore v t
   pub narrow : IsNarrowIfThere v cycle
 
-pub good_near : (v : View) (t cycle : ℕ) (cm : DeviceId) (by late : ℕ) (p q : Point) → IsKnown v t cycle → by < t → late < t → p.cycle ≡ cycle → q.cycle ≡ cycle
-    → IsGoodPoint v cm by p → IsGoodPoint v cm late q → p.reading ≤ℤ (q.reading +ℤ pos v.sizes.precision)
-good_near v t cycle cm by late p q k lt less of_p of_q a b =
-    let w = subst (λ (c : ℕ). IsInHull v c (time_of a.first)) of_p (k.tidy a.first a.master p.cycle a.dispatch (omega (arith, a.before, lt))) in
-    let x = subst (λ (c : ℕ). IsInHull v c (time_of b.first)) of_q (k.tidy b.first b.master q.cycle b.dispatch (omega (arith, b.before, less))) in
+pub good_near : {v : View} {t cycle : ℕ} {cm : DeviceId} {by late : ℕ} {p q : Point} → IsKnown v t cycle → by < t
+    → late < t → p.cycle ≡ cycle → q.cycle ≡ cycle → IsGoodPoint v cm by p → IsGoodPoint v cm late q
+    → p.reading ≤ℤ (q.reading +ℤ pos v.sizes.precision)
+good_near {v} {cm} {p} {q} k lt less of_p of_q a b =
+    let w = subst (λ c. IsInHull v c (time_of a.first)) of_p (k.tidy a.first a.master p.cycle a.dispatch (omega (arith, a.before, lt))) in
+    let x = subst (λ c. IsInHull v c (time_of b.first)) of_q (k.tidy b.first b.master q.cycle b.dispatch (omega (arith, b.before, less))) in
     let low : w.hull.least ≤ℤ pos (time_of b.first) = subst (λ (y : Hull). y.least ≤ℤ pos (time_of b.first)) (same_some _ _ _ x.is w.is) x.least in
-    let space = room v k.is in
+    let space = room k.is in
     let clock = steady v k.is cm in
     let narrow = k.narrow w.hull w.is in
     elim (cases_lt b.ripe a.ripe) [
@@ -65,16 +66,19 @@ pub record IsFrontCluster (v : View) (t cycle : ℕ) (cm : DeviceId) (by : ℕ) 
   pub cycle_is : c.cycle ≡ cycle
 
 -- a member of such a cluster that is good has such a point
-pub front_witness : (v : View) (t cycle : ℕ) (cm : DeviceId) (by : ℕ) (front rest : List Happening) (clusters : List Cluster) (cluster : Cluster)
-    → IsFrontCluster v t cycle cm by front rest clusters cluster → (m : ℕ) → bit_at cluster.members m ≡ 1 → IsGoodMember v m
-    → (x : Point) × IsWitness v cm by cycle (emission (observation_window v.scenario.network) (pos (amount v.scenario.network.calc)) cluster)
+pub front_witness : {v : View} {t cycle : ℕ} {cm : DeviceId} {by : ℕ} {front rest : List Happening}
+    {clusters : List Cluster} {cluster : Cluster} → IsFrontCluster v t cycle cm by front rest clusters cluster
+    → (m : ℕ) → bit_at cluster.members m ≡ 1 → IsGoodMember v m
+    → (x : Point) × IsWitness v cm by cycle
+    (emission (observation_window v.scenario.network) (pos (amount v.scenario.network.calc)) cluster)
     (points_of front cm) cluster x
-front_witness v t cycle cm by front rest clusters cluster f m bit good =
+front_witness {v} {cycle} {cm} {by} {front} {rest} {clusters} {cluster} f m bit good =
     let n = v.scenario.network in
     let k = f.known in
     let ow = observation_window n in
     let ps = points_of front cm in
-    let point : (q : Point) → IsIn q ps → IsGoodPoint v cm by q ⊎ IsBadPoint v q = λ q i. front_point v cm q by front rest k.is f.whole f.only f.one i in
+    let point : (q : Point) → IsIn q ps → IsGoodPoint v cm by q ⊎ IsBadPoint v q =
+    λ q i. front_point cm q by front rest k.is f.whole f.only f.one i in
     let c = cluster_from ow ps clusters cluster f.are f.there in
     let o = c.first in
     let wide : pos 0 ≤ℤ ow = omega (arith, ints) in
@@ -87,27 +91,31 @@ front_witness v t cycle cm by front rest clusters cluster f m bit good =
     let i : IsIn x (o ∷ h.more) = subst (IsIn x) h.are found.1 in
     let is_good : IsGoodPoint v cm by x = elim (point x (in_points x i)) [
       | inl one ↦ one
-      | inr bad ↦ absurd (not_both v _ _ good.2 bad.bad (one_member v good.0 bad.master m k.is good.1 (bad.is_member ∙ ap (λ (m : ℕ). Some m) found.2)))
+      | inr bad ↦ absurd (not_both v _ _ good.2 bad.bad
+          (one_member good.0 bad.master m k.is good.1 (bad.is_member ∙ ap (λ (m : ℕ). Some m) found.2)))
     ] in
     let of_cycle : (q : Point) → IsIn q (o ∷ h.more) → q.cycle ≡ cycle = λ q j. (h.each q j).of_cycle ∙ cycle_is in
     let lies : (q : Point) → IsIn q (o ∷ h.more) → LiesWithin (x.reading -ℤ ow) (x.reading +ℤ ow) q.reading
     ⊎ IsBadPoint v q = λ q j. elim (point q (in_points q j)) [
       | inr bad ↦ inr bad
       | inl one ↦
-          let above = good_near v t cycle cm by by q x k f.early f.early (of_cycle q j) (of_cycle x i) one is_good in
-          let below = good_near v t cycle cm by by x q k f.early f.early (of_cycle x i) (of_cycle q j) is_good one in
-          inl (omega (arith, ints, below, sizes_are v k.is), omega (arith, ints, above, sizes_are v k.is))
+          let above = good_near k f.early f.early (of_cycle q j) (of_cycle x i) one is_good in
+          let below = good_near k f.early f.early (of_cycle x i) (of_cycle q j) is_good one in
+          inl (omega (arith, ints, below, sizes_are k.is), omega (arith, ints, above, sizes_are k.is))
     ] in
-    let near = middle_near ow (IsBadPoint v) x o h.more wide (h.ordered (c.ordered (points_ordered v cm front rest k.is f.whole))) h.differ i lies
-    (λ p q a d bad also. bad_is_one v p q k.is bad also) (λ q j. (let to = (h.each q j).to in omega (arith, ints, to, soon))) in
+    let near = middle_near ow (IsBadPoint v) x o h.more wide
+    (h.ordered (c.ordered (points_ordered cm front rest k.is f.whole))) h.differ i lies
+    (λ p q a d bad also. bad_is_one k.is bad also)
+    (λ q j. (let to = (h.each q j).to in omega (arith, ints, to, soon))) in
     let at : ℤ = emission ow (pos (amount n.calc)) cluster in
     let points = ap (λ (zs : List Point). middle_of (relative (map (λ q. q.reading) zs))) h.are in
-    let whole = (ap (emission ow (pos (amount n.calc))) c.is) ∙ ap (λ (z : ℤ). ((o.reading +ℤ (pos 2 *ℤ ow)) +ℤ pos (amount n.calc)) +ℤ z) points in
-    let late = subst (λ (z : ℤ). pos 0 ≤ℤ z) points (middle_late ow o c.rest wide) in
-    let calc : 1 ≤ amount n.calc = (let m = (room v k.is).compression_least in omega (arith, m, sizes_are v k.is)) in
+    let whole = (ap (emission ow (pos (amount n.calc))) c.is) ∙ ap (λ z. ((o.reading +ℤ (pos 2 *ℤ ow)) +ℤ pos (amount n.calc)) +ℤ z) points in
+    let late = subst (λ z. pos 0 ≤ℤ z) points (middle_late ow o c.rest wide) in
+    let calc : 1 ≤ amount n.calc = (let m = (room k.is).compression_least in omega (arith, m, sizes_are k.is)) in
     let given = point_record cm front o (in_points o (inl refl)) in
-    let begun = (read_at v cm given.0 o k.is (subst (IsIn given.0) (sym f.whole) (in_left given.0 front rest given.1)) given.2).not_negative in
-    let sizes = sizes_are v k.is in
+    let begun = (read_at k.is (subst (IsIn given.0) (sym f.whole) (in_left given.0 front rest given.1))
+    given.2).not_negative in
+    let sizes = sizes_are k.is in
     let here = h.each x i in (
       x,
       record {
@@ -128,19 +136,21 @@ abbrev IsSentBy : (v : View) (h : Happening) (cm : DeviceId) (cycle : ℕ) (memb
 IsSentBy v h cm cycle members e front =
     Emits v.scenario front cm (time_of h) (record { opened = e.opened; at = e.at; cycle = cycle; members = members }) e.verdict
 
-sent_by : (v : View) (h : Happening) (cm : DeviceId) (cycle : ℕ) (members : Members) (e : IsEmission v h cm cycle members)
-    (at : IsFoundedAt v.scenario v.records h) → IsSentBy v h cm cycle members e at.front
-sent_by v h cm cycle members e at = subst (IsCaused v.scenario at.front h.note.time) e.is at.due.cause
+sent_by : {v : View} {h : Happening} {cm : DeviceId} {cycle : ℕ} {members : Members}
+    (e : IsEmission v h cm cycle members) (at : IsFoundedAt v.scenario v.records h)
+    → IsSentBy v h cm cycle members e at.front
+sent_by {v} {h} e at = subst (IsCaused v.scenario at.front h.note.time) e.is at.due.cause
 
-witness : (v : View) (t : ℕ) (h : Happening) (cm : DeviceId) (cycle : ℕ) (members : Members) (k : IsKnown v t cycle) (e : IsEmission v h cm cycle members)
-    (at : IsFoundedAt v.scenario v.records h) → time_of h < t → HasGood v members
-    → (b : IsSentBy v h cm cycle members e at.front) → (x : Point) × IsWitness v cm (time_of h) cycle e.at.0 (points_of at.front cm) b.cluster x
-witness v t h cm cycle members k e at early good b =
-    let found = front_witness v t cycle cm (time_of h) at.front (h ∷ at.rest) b.clusters b.cluster
+witness : {v : View} {t : ℕ} {h : Happening} {cm : DeviceId} {cycle : ℕ} {members : Members} (k : IsKnown v t cycle)
+    (e : IsEmission v h cm cycle members) (at : IsFoundedAt v.scenario v.records h) → time_of h < t
+    → HasGood v members → (b : IsSentBy v h cm cycle members e at.front)
+    → (x : Point) × IsWitness v cm (time_of h) cycle e.at.0 (points_of at.front cm) b.cluster x
+witness {v} {t} {h} {cm} {cycle} k e at early good b =
+    let found = front_witness {v = v} {t = t} {cycle = cycle} {cm = cm} {by = time_of h} {front = at.front} {rest = h ∷ at.rest} {clusters = b.clusters} {cluster = b.cluster}
     (record {
       known = k;
       whole = at.whole;
-      only = (before_of v h k.is at).only;
+      only = (before_of {h = h} k.is at).only;
       early = early;
       one = b.cm;
       are = b.are;
@@ -148,7 +158,7 @@ witness v t h cm cycle members k e at early good b =
       cycle_is = ap (λ (x : Compressed). x.cycle) (sym b.is);
     }) good.0 (ap (λ (x : Compressed). bit_at x.members.0 good.0) (sym b.is) ∙ good.1) good.2 in
     let sent = ap (λ (x : Compressed). x.at.0) (sym b.is) in
-    (found.0, subst (λ (z : ℤ). IsWitness v cm (time_of h) cycle z (points_of at.front cm) b.cluster found.0) sent found.1)
+    (found.0, subst (λ z. IsWitness v cm (time_of h) cycle z (points_of at.front cm) b.cluster found.0) sent found.1)
 
 -- ---- the number of the broken master
 
@@ -168,18 +178,19 @@ bad_or_none v cm by (p ∷ qs) each = elim (each p (inl refl)) [
   ]
 ]
 
-pub bad_number : (v : View) (cm : DeviceId) (by : ℕ) (qs : List Point) → IsView v → ((q : Point) → IsIn q qs → IsGoodPoint v cm by q ⊎ IsBadPoint v q) → (b : ℕ)
-    × IsBadNumber v cm by qs b
-bad_number v cm by qs is each = elim (bad_or_none v cm by qs each) [
+pub bad_number : {v : View} (cm : DeviceId) (by : ℕ) (qs : List Point) → IsView v
+    → ((q : Point) → IsIn q qs → IsGoodPoint v cm by q ⊎ IsBadPoint v q) → (b : ℕ) × IsBadNumber v cm by qs b
+bad_number {v} cm by qs is each = elim (bad_or_none v cm by qs each) [
   | inl bad ↦ (
     bad.0.master,
-    record { of_bad = λ q i also. bad_is_one v q bad.0 is also bad.1; of_good = λ q i good same. point_not_both v cm by q bad.0 is good bad.1 same },
+    record { of_bad = λ q i also. bad_is_one is also bad.1; of_good = λ q i good same. point_not_both is good bad.1 same },
   )
   | inr all ↦ (
     32,
     record {
-      of_bad = λ q i bad. absurd (point_not_both v cm by q q is (all q i) bad refl);
-      of_good = λ q i good same. (let small = (has_member v good.master q.master is good.is_member).small in omega (arith, small, same));
+      of_bad = λ q i bad. absurd (point_not_both is (all q i) bad refl);
+      of_good = λ q i good same. (let small = (has_member good.master q.master is good.is_member).small in
+          omega (arith, small, same));
     },
   )
 ]
@@ -194,14 +205,15 @@ one_of_two v t g cm cycle k at early one ds are c d in_c in_d x y ix iy of_x of_
     let ow = observation_window v.scenario.network in
     let ps = points_of at.front cm in
     let wide : pos 0 ≤ℤ ow = omega (arith, ints) in
-    let up : AreInOrder ps = ascending_from ps (points_ordered v cm at.front (g ∷ at.rest) k.is at.whole) in
-    let each : (q : Point) → IsIn q ps → IsGoodPoint v cm (time_of g) q ⊎ IsBadPoint v q = λ q i. point_is v g cm q k.is at one i in
-    let b = bad_number v cm (time_of g) ps k.is each in
-    let sizes = sizes_are v k.is in
+    let up : AreInOrder ps = ascending_from ps (points_ordered cm at.front (g ∷ at.rest) k.is at.whole) in
+    let each : (q : Point) → IsIn q ps → IsGoodPoint v cm (time_of g) q ⊎ IsBadPoint v q =
+    λ q i. point_is {h = g} cm q k.is at one i in
+    let b = bad_number cm (time_of g) ps k.is each in
+    let sizes = sizes_are k.is in
     let kept_good : (q : Point) → IsKept ps ds b.0 cycle q → IsGoodPoint v cm (time_of g) q = λ q kept. elim (each q (contained ps q kept.there))
     [ inl good ↦ good | inr bad ↦ absurd (kept.other (b.1.of_bad q (contained ps q kept.there) bad)) ] in
     let near : (p q : Point) → IsKept ps ds b.0 cycle p → IsKept ps ds b.0 cycle q → p.reading ≤ℤ (q.reading +ℤ ow) = λ p q kp kq.
-    (let r = good_near v t cycle cm (time_of g) (time_of g) p q k early early kp.same kq.same (kept_good p kp) (kept_good q kq) in omega (arith, ints)) in
+    (let r = good_near k early early kp.same kq.same (kept_good p kp) (kept_good q kq) in omega (arith, ints)) in
     let time = one_time_law ow ps ds wide up are in
     let kept : (q : Point) (e : Cluster) → IsIn q ps → q.cycle ≡ cycle → q.cycle ≡ e.cycle → Contains ds e → LiesIn e q → (q.master ≡ b.0 → ⊥)
     → IsKept ps ds b.0 cycle q = λ q e i of_q of_e in_e lies_q other.
@@ -212,7 +224,8 @@ one_of_two v t g cm cycle k at early one ds are c d in_c in_d x y ix iy of_x of_
       kept = λ dropped.
           (let u = time q (contains ps q i) in dropped.2 (of_e ∙ ap (λ (z : Cluster). z.cycle) (u.3 e in_e lies_q ∙ sym (u.3 dropped.0 dropped.1 dropped.3))));
     } in
-    let other_x : x.master ≡ b.0 → ⊥ = elim (each x ix) [ inl good ↦ b.1.of_good x ix good | inr bad ↦ absurd (point_not_both v cm _ x x k.is gx bad refl) ] in
+    let other_x : x.master ≡ b.0 → ⊥ =
+    elim (each x ix) [ inl good ↦ b.1.of_good x ix good | inr bad ↦ absurd (point_not_both k.is gx bad refl) ] in
     let kx = kept x c ix of_x of_c in_c lies_x other_x in
     let ky = kept y d iy of_y of_d in_d lies_y (b.1.of_good y iy gy) in
     let z = one_cluster ow ps ds b.0 cycle wide up are near x kx in
@@ -223,10 +236,11 @@ one_of_two v t g cm cycle k at early one ds are c d in_c in_d x y ix iy of_x of_
 -- ---- one emission
 
 -- of two emissions one is not behind the other
-not_behind : (v : View) (t : ℕ) (h g : Happening) (cm : DeviceId) (cycle : ℕ) (members others : Members) (k : IsKnown v t cycle)
-    → IsEmission v h cm cycle members → IsEmission v g cm cycle others → time_of g < t → HasGood v members → HasGood v others
-    → (front mid rest : List Happening) → v.records ≡ front ++ h ∷ (mid ++ g ∷ rest) → ⊥
-not_behind v t h g cm cycle members others k e f early good also front mid rest whole =
+not_behind : {v : View} {t : ℕ} {h g : Happening} {cm : DeviceId} {cycle : ℕ} {members others : Members}
+    (k : IsKnown v t cycle) → IsEmission v h cm cycle members → IsEmission v g cm cycle others → time_of g < t
+    → HasGood v members → HasGood v others → (front mid rest : List Happening)
+    → v.records ≡ front ++ h ∷ (mid ++ g ∷ rest) → ⊥
+not_behind {v} {t} {h} {g} {cm} {cycle} {members} {others} k e f early good also front mid rest whole =
     let s = v.scenario in
     let ow = observation_window s.network in
     let wide : pos 0 ≤ℤ ow = omega (arith, ints) in
@@ -237,10 +251,10 @@ not_behind v t h g cm cycle members others k e f early good also front mid rest 
     let order = no_later (time_of h) (time_of g) (rank h.note.body ∷ key (members_in h) h.note.body) (rank g.note.body ∷ key (members_in g) g.note.body)
     before in
     let early_h : time_of h < t = omega (arith, order, early) in
-    let b = sent_by v h cm cycle members e at_h in
-    let c = sent_by v g cm cycle others f at in
-    let x = witness v t h cm cycle members k e at_h early_h good b in
-    let y = witness v t g cm cycle others k f at early also c in
+    let b = sent_by e at_h in
+    let c = sent_by f at in
+    let x = witness k e at_h early_h good b in
+    let y = witness k f at early also c in
     let sharp = emissions_are_sharp v h cm cycle members e k.is in
     let sharp_g = emissions_are_sharp v g cm cycle others f k.is in
     let late : (p : Point) → IsGivenIn cm (h ∷ mid) p → e.at.0 ≤ℤ p.reading = λ p given.
@@ -253,16 +267,16 @@ not_behind v t h g cm cycle members others k e f early good also front mid rest 
           let behind = behind_first place_of (IsDue s) front (mid ++ g ∷ rest) h given.0 founded in_rest in
           let lt = higher_before h given.0 behind (omega (arith, ap rank e.is, ap rank point.is)) in
           let in_all : IsIn given.0 v.records = subst (IsIn given.0) (sym whole) (in_right given.0 front (h ∷ (mid ++ g ∷ rest)) (inr in_rest)) in
-          (omega (arith, ints, later_point v cm p.reading (time_of h) (time_of given.0) k.is (read_at v cm given.0 p k.is in_all point) lt, sharp.least))
+          (omega (arith, ints, later_point (time_of h) k.is (read_at k.is in_all point) lt, sharp.least))
     ] in
     elim (points_go_on cm front (h ∷ mid)) [
       | inr anew ↦
-          let near = good_near v t cycle cm (time_of g) (time_of h) y.0 x.0 k early early_h y.1.of_cycle x.1.of_cycle y.1.good x.1.good in
+          let near = good_near k early early_h y.1.of_cycle x.1.of_cycle y.1.good x.1.good in
           (omega (arith, ints, late y.0 (anew y.0 y.1.there), near, x.1.near))
       | inl adds ↦
           let past = all_by (λ (q : Point). b.cluster.end <ℤ q.reading) adds.more
           (λ q i. (let above = late q (adds.given q i) in let ends = x.1.ends in omega (arith, ints, above, ends))) in
-          let next = subst (λ (ps : List Point). AreClusters ow ps c.clusters) adds.whole c.are in
+          let next = subst (λ ps. AreClusters ow ps c.clusters) adds.whole c.are in
           let stays = (same_beyond _ _ adds.more _ _ b.cluster wide b.are next past).0 b.there in
           let ix : IsIn x.0 (points_of at.front cm) = subst (IsIn x.0) (sym adds.whole) (in_left x.0 (points_of front cm) adds.more x.1.there) in
           let one = one_of_two v t g cm cycle k at early c.cm c.clusters c.are b.cluster c.cluster stays c.there x.0 y.0 ix y.1.there x.1.of_cycle y.1.of_cycle
@@ -275,11 +289,11 @@ not_behind v t h g cm cycle members others k e f early good also front mid rest 
                 let up = (steady v k.is cm).never_falls (time_of h) (time_of g - 1) (omega (arith, lt)) in
                 (let reached = sharp.least in let not_yet = sharp_g.before in absurd (omega (arith, ints, up, reached, not_yet, at_same)))
           ] in
-          let place : place_of h ≡ place_of g = ap (λ (z : NoteBody). time_of h ∷ rank z ∷ key (members_in h) z) e.is
+          let place : place_of h ≡ place_of g = ap (λ z. time_of h ∷ rank z ∷ key (members_in h) z) e.is
           ∙ ap (λ (z : ℕ). z ∷ 4 ∷ key 0 (notes.Compressed cm e.opened e.at cycle members e.verdict)) same_time
           ∙ ap (λ (x : Compressed). time_of g ∷ 4 ∷ key 0 (notes.Compressed cm x.opened x.at x.cycle x.members e.verdict)) sent
-          ∙ sym (ap (λ (z : NoteBody). time_of g ∷ rank z ∷ key (members_in g) z) f.is) in
-          never_self (place_of g) (subst (λ (p : List ℕ). IsBefore p (place_of g)) place before)
+          ∙ sym (ap (λ z. time_of g ∷ rank z ∷ key (members_in g) z) f.is) in
+          never_self (place_of g) (subst (λ p. IsBefore p (place_of g)) place before)
     ]
 
 pub emission_is_one : EmissionIsOne
@@ -290,10 +304,10 @@ emission_is_one v t h g cm cycle members others is tidy narrow e f before after 
       | inl first ↦
           let p = parted h at.0 first in
           let whole = at.2 ∙ ap (λ (hs : List Happening). hs ++ g ∷ at.1) p.2 ∙ append_assoc p.0 (h ∷ p.1) (g ∷ at.1) in
-          absurd (not_behind v t h g cm cycle members others k e f after good also p.0 p.1 at.1 whole)
+          absurd (not_behind k e f after good also p.0 p.1 at.1 whole)
       | inr (inl same) ↦ same
       | inr (inr later) ↦
           let p = parted h at.1 later in
           let whole = at.2 ∙ ap (λ (hs : List Happening). at.0 ++ g ∷ hs) p.2 in
-          absurd (not_behind v t g h cm cycle others members k f e before also good at.0 p.0 p.1 whole)
+          absurd (not_behind k f e before also good at.0 p.0 p.1 whole)
     ]

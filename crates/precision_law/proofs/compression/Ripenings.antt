@@ -16,19 +16,21 @@ cm_role_relays Master a b = absurd cc
 cm_role_relays role a b = absurd cc
 
 -- a compression master is no link's child
-cm_no_child : (v : View) (cm : DeviceId) (link : LinkId) → IsView v → is_cm v.scenario.network cm ≡ true → IsChildOf v.scenario.network cm link → ⊥
-cm_no_child v cm link is one child =
+cm_no_child : {v : View} (cm : DeviceId) (link : LinkId) → IsView v → is_cm v.scenario.network cm ≡ true
+    → IsChildOf v.scenario.network cm link → ⊥
+cm_no_child cm link is one child =
     grind (arith, device_of, is_cm_role, device_at, child_kind, cm_is_no_end, option_map_or, is_end_system, cm_role_relays, same_some)
 
-arrives_up : (v : View) (hs : List Happening) (t : ℕ) (cm : DeviceId) (link : LinkId) (cause clock : ℕ) → IsView v → is_cm v.scenario.network cm ≡ true
-    → IsArrivedRecord v.scenario hs cm t link cause clock → way_to v.scenario.network cm link ≡ Up
-arrives_up v hs t cm link cause clock is one a =
+arrives_up : {v : View} {hs : List Happening} {t : ℕ} {cm : DeviceId} {link : LinkId} {cause clock : ℕ} → IsView v
+    → is_cm v.scenario.network cm ≡ true → IsArrivedRecord v.scenario hs cm t link cause clock
+    → way_to v.scenario.network cm link ≡ Up
+arrives_up {v} {cm} {link} is one a =
     let put = (taken_as a).1.arrives in
     by put.way put.receiver
   where
     by : (way : Way) → receiver_of v.scenario.network link way ≡ Some cm → way_to v.scenario.network cm link ≡ Up
-    by Up e = receiver_way v link cm Up is e
-    by Down e = absurd (cm_no_child v cm link is one (receiver_down v.scenario.network link cm e))
+    by Up e = receiver_way link cm Up is e
+    by Down e = absurd (cm_no_child cm link is one (receiver_down v.scenario.network link cm e))
 
 -- ---- what is permanent
 
@@ -44,9 +46,10 @@ pub record IsRipening (v : View) (device : DeviceId) (ripe : Happening) (point :
   pub clock : clock_in arrival ≡ permanent.clock
   pub up : is_cm v.scenario.network device ≡ true → way_to v.scenario.network device permanent.link ≡ Up
 
-pub ripening : (v : View) (device : DeviceId) (ripe : Happening) (link : LinkId) (cause : ℕ) (point : Units) (verdict : Judgement) → IsView v
-    → IsIn ripe v.records → ripe.note.body ≡ notes.Permanent device link cause point verdict → IsRipening v device ripe point.0
-ripening v device ripe link cause point verdict is i body =
+pub ripening : {v : View} (device : DeviceId) (ripe : Happening) (link : LinkId) (cause : ℕ) (point : Units)
+    (verdict : Judgement) → IsView v → IsIn ripe v.records
+    → ripe.note.body ≡ notes.Permanent device link cause point verdict → IsRipening v device ripe point.0
+ripening {v} device ripe link cause point verdict is i body =
     let s = v.scenario in
     let n = s.network in
     let at = founded_at s v.records ripe is.run.founded i in
@@ -57,12 +60,12 @@ ripening v device ripe link cause point verdict is i body =
     let in_all : IsIn arrival v.records = subst (IsIn arrival) (sym at.whole) (in_left arrival at.front (ripe ∷ at.rest) in_front) in
     let at_a = founded_at s at.front arrival at.founded in_front in
     let caused = subst (IsCaused s at_a.front arrival.note.time) p.arrived at_a.due.cause in
-    let young = arrival_young v at_a.front (amount arrival.note.time) device link p.from p.clock caused in
+    let young = arrival_young v at_a.front (amount arrival.note.time) device link p.from caused in
     let of_frame : ripe.frame ≡ Some ripens.frame = ap (λ (x : Happening). x.frame) at.due.same ∙ ap (frame_by n at.front) body
     ∙ ap (λ (o : Option Happening). option_and_then (λ x. x.frame) o) p.there ∙ p.of_frame in
     let same : ripe.frame ≡ arrival.frame = of_frame ∙ sym p.of_frame in
     let reading = s.reading device in
-    let dmax = (sizes_are v is).dmax in
+    let dmax = (sizes_are is).dmax in
     let point_is = p.at_point ∙ ap (point_of (pos (reading (time_of arrival))) p.clock) ((natural n.dmax.0 (omega (arith, ints))) ∙ ap pos (sym dmax)) in
     record {
       arrival = arrival;
@@ -74,8 +77,8 @@ ripening v device ripe link cause point verdict is i body =
       members = ap (λ (o : Option Pcf). option_map_or (λ f. f.members.0) o 0) same;
       cycle = ap (λ (o : Option Pcf). option_map_or (λ f. f.cycle) o 0) same;
       not_negative = omega (arith, ints, point_is, young, dmax);
-      clock = arrived_clock v arrival device link p.from p.clock is in_all p.arrived ripens.frame p.of_frame;
-      up = λ one. arrives_up v at_a.front (amount arrival.note.time) device link p.from p.clock is one caused;
+      clock = arrived_clock arrival device link p.from p.clock is in_all p.arrived ripens.frame p.of_frame;
+      up = λ one. arrives_up is one caused;
     }
 
 -- the master whose bit is a power of two

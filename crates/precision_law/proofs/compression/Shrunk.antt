@@ -35,7 +35,7 @@ same_by ow (o ∷ ps) p (k ∷ cs) [] c some are next past = absurd next
 same_by ow (o ∷ ps) p (k ∷ cs) (e ∷ ds) c some are next past =
     let one = first_same ow o ps p k e some are.0 next.0 in
     let rest = λ (same : k ≡ e) (behind : k.end <ℤ p.reading).
-    same_by ow (beyond k.end ps) p cs ds c some are.1 (subst (λ (qs : List Point). AreClusters ow qs ds) (beyond-push_out k.end ps p behind)
+    same_by ow (beyond k.end ps) p cs ds c some are.1 (subst (λ qs. AreClusters ow qs ds) (beyond-push_out k.end ps p behind)
     (subst (λ (x : Cluster). AreClusters ow (beyond x.end (ps ++ p ∷ [])) ds) (sym same) next.1)) past in (
       λ at. elim (in_cases k c cs at) [
         | inl same ↦ subst (Contains (e ∷ ds)) (sym (one (inl (subst (λ (x : Cluster). x.end <ℤ p.reading) (sym same) past))) ∙ same) (in_head e ds)
@@ -57,11 +57,11 @@ pub same_beyond : (ow : ℤ) (ps more : List Point) (cs ds : List Cluster) (c : 
     → AllByRecursion (λ q. c.end <ℤ q.reading) more → (Contains cs c → Contains ds c) × (Contains ds c → Contains cs c)
 same_beyond ow ps [] cs ds c some are next past =
     let unique = (one_list_of_clusters ow ps).2 in
-    let same : ds ≡ cs = unique ds (subst (λ (qs : List Point). AreClusters ow qs ds) (append-nil ps) next) ∙ sym (unique cs are) in
+    let same : ds ≡ cs = unique ds (subst (λ qs. AreClusters ow qs ds) (append-nil ps) next) ∙ sym (unique cs are) in
     (subst (λ (x : List Cluster). Contains x c) (sym same), subst (λ (x : List Cluster). Contains x c) same)
 same_beyond ow ps (p ∷ more) cs ds c some are next past =
     let found = one_list_of_clusters ow (ps ++ p ∷ []) in
-    let whole : AreClusters ow ((ps ++ p ∷ []) ++ more) ds = subst (λ (qs : List Point). AreClusters ow qs ds) (sym (append_assoc ps (p ∷ []) more)) next in
+    let whole : AreClusters ow ((ps ++ p ∷ []) ++ more) ds = subst (λ qs. AreClusters ow qs ds) (sym (append_assoc ps (p ∷ []) more)) next in
     let one = same_by ow ps p cs found.0 c some are found.1 past.0 in
     let all = same_beyond ow (ps ++ p ∷ []) more found.0 ds c some found.1 whole past.1 in
     (λ at. all.0 (one.0 at), λ at. one.1 (all.1 at))
@@ -72,11 +72,11 @@ pub cluster_was : (ow : ℤ) (ps more : List Point) (cs ds : List Cluster) (c : 
 cluster_was ow ps more cs ds c some are next at past = (same_beyond ow ps more cs ds c some are next past).1 at
 
 -- the master of a point that a cluster holds is one of its members
-pub is_held : (ow : ℤ) (ps : List Point) (cs : List Cluster) (c : Cluster) (p : Point) → pos 0 ≤ℤ ow → Ordered ps → AreClusters ow ps cs → Contains cs c
-    → Contains ps p → Holds c p → bit_at c.members p.master ≡ 1
-is_held ow [] cs c p some up are at there holds = absurd (in_none p there)
-is_held ow (o ∷ ps) [] c p some up are at there holds = absurd are
-is_held ow (o ∷ ps) (k ∷ cs) c p some up are at there holds =
+pub is_held : (ow : ℤ) (ps : List Point) (cs : List Cluster) {c : Cluster} {p : Point} → pos 0 ≤ℤ ow → Ordered ps
+    → AreClusters ow ps cs → Contains cs c → Contains ps p → Holds c p → bit_at c.members p.master ≡ 1
+is_held ow [] cs {p} some up are at there holds = absurd (in_none p there)
+is_held ow (o ∷ ps) [] some up are at there holds = absurd are
+is_held ow (o ∷ ps) (k ∷ cs) {c} {p} some up are at there holds =
     let ends : k.end ≡ end_of ow o (o ∷ ps) = ap (λ (x : Cluster). x.end) are.0 in
     elim (in_cases k c cs at) [
       | inl same ↦
@@ -93,6 +93,6 @@ is_held ow (o ∷ ps) (k ∷ cs) c p some up are at there holds =
           subst (λ (x : Cluster). bit_at x.members p.master ≡ 1) (sym is) bit
       | inr later ↦
           let opens = opens_behind ow k.end ps cs c some are.1 later in
-          is_held ow (beyond k.end ps) cs c p some (Ordered-beyond k.end ps up.1) are.1 later
+          is_held ow (beyond k.end ps) cs {p = p} some (Ordered-beyond k.end ps up.1) are.1 later
           (in_rest o ps p k.end (omega (arith, ints, end_of-least ow o (o ∷ ps) some, ends, some)) (omega (arith, ints, opens.0, holds.1.low)) there) holds
     ]

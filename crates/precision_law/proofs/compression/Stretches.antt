@@ -15,18 +15,20 @@ pub record IsReadAt (v : View) (cm : DeviceId) (point : ℤ) (q : ℕ) : Type 0 
   pub ripe : IsRipe v.sizes (v.scenario.reading cm) arrived point q
   pub not_negative : pos 0 ≤ℤ point
 
-pub read_at : (v : View) (cm : DeviceId) (k : Happening) (p : Point) → IsView v → IsIn k v.records → GivesPoint cm k p → IsReadAt v cm p.reading (time_of k)
-read_at v cm k p is i g =
-    let r = ripening v cm k g.link g.cause g.point g.verdict is i g.is in
+pub read_at : {v : View} {cm : DeviceId} {k : Happening} {p : Point} → IsView v → IsIn k v.records
+    → GivesPoint cm k p → IsReadAt v cm p.reading (time_of k)
+read_at {v} {cm} {k} is i g =
+    let r = ripening cm k g.link g.cause g.point g.verdict is i g.is in
     record {
       arrived = time_of r.arrival;
-      ripe = subst (λ (z : ℤ). IsRipe v.sizes (v.scenario.reading cm) (time_of r.arrival) z (time_of k)) (sym g.reads) r.sharp;
+      ripe = subst (λ z. IsRipe v.sizes (v.scenario.reading cm) (time_of r.arrival) z (time_of k)) (sym g.reads) r.sharp;
       not_negative = omega (arith, ints, g.reads, r.not_negative);
     }
 
 -- a point that is permanent later is not below an earlier reading
-pub later_point : (v : View) (cm : DeviceId) (point : ℤ) (t q : ℕ) → IsView v → IsReadAt v cm point q → t < q → pos (v.scenario.reading cm t) ≤ℤ point
-later_point v cm point t q is r lt =
+pub later_point : {v : View} {cm : DeviceId} {point : ℤ} (t : ℕ) {q : ℕ} → IsView v → IsReadAt v cm point q → t < q
+    → pos (v.scenario.reading cm t) ≤ℤ point
+later_point {v} {cm} t {q} is r lt =
     let up = (steady v is cm).never_falls in
     elim r.ripe.before [
       | inl before ↦ (let u = up t (q - 1) (omega (arith, lt)) in omega (arith, ints, u, before))
@@ -35,11 +37,12 @@ later_point v cm point t q is r lt =
 
 -- ---- order
 
-points_in_order : (v : View) (cm : DeviceId) (k l : Happening) (p q : Point) → IsView v → IsIn k v.records → IsIn l v.records → GivesPoint cm k p
-    → GivesPoint cm l q → IsBefore (place_of k) (place_of l) → p.reading ≤ℤ q.reading
-points_in_order v cm k l p q is i j gk gl before =
-    let a = read_at v cm k p is i gk in
-    let b = read_at v cm l q is j gl in
+points_in_order : {v : View} {cm : DeviceId} {k l : Happening} {p q : Point} → IsView v → IsIn k v.records
+    → IsIn l v.records → GivesPoint cm k p → GivesPoint cm l q → IsBefore (place_of k) (place_of l)
+    → p.reading ≤ℤ q.reading
+points_in_order {v} {cm} {k} {l} {p} {q} is i j gk gl before =
+    let a = read_at is i gk in
+    let b = read_at is j gl in
     let of_l = rw (gk.is, gl.is) at before in
     elim (place_order (time_of k) (time_of l) cm.0 (amount gk.point) (amount gl.point) (members_in k ∷ gk.link.0 ∷ gk.cause ∷ [])
     (members_in l ∷ gl.link.0 ∷ gl.cause ∷ []) of_l) [
@@ -47,11 +50,12 @@ points_in_order v cm k l p q is i j gk gl before =
       | inr le ↦ omega (arith, ints, le, gk.reads, gl.reads, a.not_negative, b.not_negative)
     ]
 
-ordered_by : (v : View) (cm : DeviceId) (ps ks rest : List Happening) → IsView v → v.records ≡ ps ++ (ks ++ rest)
+ordered_by : {v : View} (cm : DeviceId) (ps ks rest : List Happening) → IsView v → v.records ≡ ps ++ (ks ++ rest)
     → Ordered (filter_map (λ h. point_by cm h h.note.body) ks)
-ordered_by v cm ps [] rest is whole = tt
-ordered_by v cm ps (k ∷ ks) rest is whole =
-    by (point_by cm k k.note.body) refl (ordered_by v cm (ps ++ k ∷ []) ks rest is (whole ∙ sym (append_assoc ps (k ∷ []) (ks ++ rest))))
+ordered_by cm ps [] rest is whole = tt
+ordered_by {v} cm ps (k ∷ ks) rest is whole =
+    by (point_by cm k k.note.body) refl (ordered_by cm (ps ++ k ∷ []) ks rest is
+    (whole ∙ sym (append_assoc ps (k ∷ []) (ks ++ rest))))
   where
     by : (o : Option Point) → point_by cm k k.note.body ≡ o → Ordered (filter_map (λ h. point_by cm h h.note.body) ks)
         → Ordered (cons_option o (filter_map (λ h. point_by cm h h.note.body) ks))
@@ -62,17 +66,18 @@ ordered_by v cm ps (k ∷ ks) rest is whole =
           let in_rest : IsIn made.0 (ks ++ rest) = in_left made.0 ks rest made.1 in
           let before = behind_first place_of (IsDue v.scenario) ps (ks ++ rest) k made.0 (subst (IsFounded place_of (IsDue v.scenario)) whole is.run.founded)
           in_rest in
-          points_in_order v cm k _ p q is (subst (IsIn k) (sym whole) (in_right k ps (k ∷ (ks ++ rest)) (inl refl)))
+          points_in_order is (subst (IsIn k) (sym whole) (in_right k ps (k ∷ (ks ++ rest)) (inl refl)))
           (subst (IsIn made.0) (sym whole) (in_right made.0 ps (k ∷ (ks ++ rest)) (inr in_rest))) (gives_point cm k p e)
           (gives_point cm made.0 q made.2) before),
       up,
     )
 
 -- the points of a stretch are in their order
-pub points_ordered : (v : View) (cm : DeviceId) (front rest : List Happening) → IsView v → v.records ≡ front ++ rest → Ordered (points_of front cm)
-points_ordered v cm front rest is whole =
+pub points_ordered : {v : View} (cm : DeviceId) (front rest : List Happening) → IsView v → v.records ≡ front ++ rest
+    → Ordered (points_of front cm)
+points_ordered cm front rest is whole =
     let cut = behind_last (λ (h : Happening). ends_stretch cm h.note.body) front in
-    ordered_by v cm cut.front (after_last (λ (h : Happening). ends_stretch cm h.note.body) front) rest is
+    ordered_by cm cut.front (after_last (λ (h : Happening). ends_stretch cm h.note.body) front) rest is
     (whole ∙ ap (λ (hs : List Happening). hs ++ rest) cut.whole ∙ append_assoc cut.front (after_last (λ (h : Happening). ends_stretch cm h.note.body) front)
     rest)
 
@@ -83,10 +88,10 @@ abbrev pub IsGivenIn : DeviceId → List Happening → Point → Type 0
 IsGivenIn cm ks p = (k : Happening) × IsIn k ks × (point_by cm k k.note.body ≡ Some p)
 
 -- behind the last of a kind stands what stood there, with what comes, or only what comes
-last_parts : {X : Type 0} (p : X → Bool) (xs ys : List X) → PartsAtLast p ys → (after_last p (xs ++ ys) ≡ after_last p xs ++ ys)
-    ⊎ ((x : X) → IsIn x (after_last p (xs ++ ys)) → IsIn x ys)
-last_parts p xs ys (none all) = inl (after_more p xs ys all (parts_at_last p xs))
-last_parts {X} p xs ys (some front rest last whole here all) =
+last_parts : {X : Type 0} {p : X → Bool} (xs : List X) {ys : List X} → PartsAtLast p ys
+    → (after_last p (xs ++ ys) ≡ after_last p xs ++ ys) ⊎ ((x : X) → IsIn x (after_last p (xs ++ ys)) → IsIn x ys)
+last_parts {p} xs {ys} (none all) = inl (after_more ys all (parts_at_last p xs))
+last_parts {X} {p} xs (some front rest last whole here all) =
     let at = ap (λ (zs : List X). after_last p (xs ++ zs)) whole ∙ ap (after_last p) (sym (append_assoc xs front (last ∷ rest)))
     ∙ after_last_at p (xs ++ front) last rest here (not_each p rest all) in
     inr (λ x i. subst (IsIn x) (sym whole) (in_right x front (last ∷ rest) (inr (subst (IsIn x) at i))))
@@ -102,7 +107,7 @@ pub points_go_on : (cm : DeviceId) (front back : List Happening) → AddsPoints 
 points_go_on cm front back =
     let ends = λ (h : Happening). ends_stretch cm h.note.body in
     let point = λ (h : Happening). point_by cm h h.note.body in
-    elim (last_parts (λ (h : Happening). ends_stretch cm h.note.body) front back (parts_at_last ends back)) [
+    elim (last_parts front (parts_at_last ends back)) [
       | inl same ↦ inl (record {
         more = filter_map point back;
         whole = ap (filter_map point) same ∙ filter_map-append point (after_last ends front) back;

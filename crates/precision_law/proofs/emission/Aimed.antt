@@ -25,14 +25,16 @@ pub record IsTakenFor (n : Sizes) (cycle : ℕ) (value : ℤ) : Type 0 where
   pub least : pos (cycle * n.cycle) ≤ℤ value
   pub most : value ≤ℤ pos (cycle * n.cycle + 4 * n.precision)
 
-never_less : (n : Sizes) (a b : ℕ) (x y : ℤ) → HaveRoom n → IsTakenFor n a x → IsTakenFor n b y → y ≤ℤ (x +ℤ pos (2 * n.precision)) → a < b → ⊥
-never_less n a b x y space of_a of_b near lt =
+never_less : {n : Sizes} {a b : ℕ} {x y : ℤ} → HaveRoom n → IsTakenFor n a x → IsTakenFor n b y
+    → y ≤ℤ (x +ℤ pos (2 * n.precision)) → a < b → ⊥
+never_less {n} {a} {b} space of_a of_b near lt =
     let times : suc a * n.cycle ≤ b * n.cycle = mul-le-mul_right n.cycle (omega (arith, lt)) in
     omega (arith, ints, one_more a n.cycle, times, near, of_a.most, of_b.least, space)
 
 -- two such values, at most two precisions apart, are of one cycle
-pub of_one_cycle : (n : Sizes) (a b : ℕ) (x y : ℤ) → HaveRoom n → IsTakenFor n a x → IsTakenFor n b y → x ≤ℤ y → y ≤ℤ (x +ℤ pos (2 * n.precision)) → a ≡ b
-of_one_cycle n a b x y space of_a of_b le near = grind (arith, cases_lt, never_less, ints)
+pub of_one_cycle : {n : Sizes} {a b : ℕ} {x y : ℤ} → HaveRoom n → IsTakenFor n a x → IsTakenFor n b y → x ≤ℤ y
+    → y ≤ℤ (x +ℤ pos (2 * n.precision)) → a ≡ b
+of_one_cycle space of_a of_b le near = grind (arith, cases_lt, never_less, ints)
 
 -- ---- what a compression master takes
 
@@ -51,21 +53,23 @@ is_itself c =
     ap (λ (b : Bool). b && int_le (pos c) (pos c)) (int_le-true (pos c) (pos c) (omega (arith, ints))) ∙ int_le-true (pos c) (pos c) (omega (arith, ints))
 
 -- a frame whose dispatch seems to lie so near to the beginning of its cycle has no fault
-pub no_point_fault : (v : View) (state : State) (adjustment point : ℤ) (cycle : ℕ) → IsView v
-    → IsTakenFor v.sizes cycle (dispatch_value v.scenario.network adjustment point) → point_fault v.scenario.network state adjustment point cycle ≡ None
-no_point_fault v state adjustment point cycle is near =
+pub no_point_fault : {v : View} (state : State) (adjustment point : ℤ) {cycle : ℕ} → IsView v
+    → IsTakenFor v.sizes cycle (dispatch_value v.scenario.network adjustment point)
+    → point_fault v.scenario.network state adjustment point cycle ≡ None
+no_point_fault {v} state adjustment point {cycle} is near =
     let n = v.scenario.network in
-    let sizes = sizes_are v is in
+    let sizes = sizes_are is in
     let value = dispatch_value n adjustment point in
     let product : cycle * amount n.cycle ≡ cycle * v.sizes.cycle = ap (λ (x : ℕ). cycle * x) (sym sizes.cycle) in
     let m = natural_of value (cycle * amount n.cycle) (omega (arith, ints, near.least, product)) in
     let r : ℕ = m.0 - cycle * amount n.cycle in
     let is_r : m.0 ≡ cycle * amount n.cycle + r = omega (arith, ints, near.least, m.1, product) in
     let small : r ≤ 4 * amount n.precision = omega (arith, ints, is_r, near.most, m.1, product, sizes.precision) in
-    let place = in_cycle n cycle r m.0 value (omega (arith, ints, is.lawful.range.cycle.least)) (omega (arith, small, sizes.cycle, sizes.precision, room v is))
+    let place = in_cycle n cycle r m.0 value (omega (arith, ints, is.lawful.range.cycle.least))
+    (omega (arith, small, sizes.cycle, sizes.precision, room is))
     is_r m.1 in
     no_reason (is_synchronised state) _ _ Gate Cycle (ap (int_lt (pos (4 * amount n.precision))) place.0 ∙ le-ltb (4 * amount n.precision) r small)
-    (ap (λ (z : ℤ). is_number z cycle) place.1 ∙ is_itself cycle)
+    (ap (λ z. is_number z cycle) place.1 ∙ is_itself cycle)
 
 -- ---- what has no fault
 
@@ -78,9 +82,10 @@ product_is : (c l k d : ℕ) → k ≡ l → d ≡ c → c * l ≡ k * d
 product_is c l k d a b = rw a (rw b (omega arith))
 
 -- a synchronised compression master finds no fault only where the dispatch lies near the beginning of the frame's cycle
-taken_for : (v : View) (adjustment point : ℤ) (cycle m : ℕ) → IsView v → dispatch_value v.scenario.network adjustment point ≡ pos m
+taken_for : {v : View} (adjustment point : ℤ) (cycle m : ℕ) → IsView v
+    → dispatch_value v.scenario.network adjustment point ≡ pos m
     → point_fault v.scenario.network Synchronised adjustment point cycle ≡ None → IsTakenFor v.sizes cycle (pos m)
-taken_for v adjustment point cycle m is value fine =
+taken_for {v} adjustment point cycle m is value fine =
     let n = v.scenario.network in
     let least = is.lawful.range.cycle.least in
     let whole : n.cycle.0 ≡ pos (amount n.cycle) = natural n.cycle.0 (omega (arith, ints, least)) in
@@ -88,12 +93,12 @@ taken_for v adjustment point cycle m is value fine =
     let place = int_rem_euclid_is z n.cycle.0 (amount n.cycle) 0 m (omega (arith, ints, least, whole)) whole (omega (arith, ints, value)) in
     let number : int_div_euclid z n.cycle.0 ≡ pos (m / amount n.cycle) = ap (λ (x : ℤ). int_div_euclid x n.cycle.0) value ∙ ap (int_div_euclid (pos m)) whole in
     let none = no_faults (int_lt (pos (4 * amount n.precision)) (offset_in_cycle n z)) (not (is_number (int_div_euclid z n.cycle.0) cycle)) Gate Cycle fine in
-    let same = ap (λ (x : ℤ). is_number x cycle) (sym number) ∙ not-false (is_number (int_div_euclid z n.cycle.0) cycle) none.1 in
+    let same = ap (λ x. is_number x cycle) (sym number) ∙ not-false (is_number (int_div_euclid z n.cycle.0) cycle) none.1 in
     let both = and_parts (int_le (pos (m / amount n.cycle)) (pos cycle)) (int_le (pos cycle) (pos (m / amount n.cycle))) same in
     let up = int_le-is (pos (m / amount n.cycle)) (pos cycle) both.0 in
     let down = int_le-is (pos cycle) (pos (m / amount n.cycle)) both.1 in
     let small = ltb-false (4 * amount n.precision) (m % amount n.cycle) (ap (int_lt (pos (4 * amount n.precision))) (sym place) ∙ none.0) in
-    let sizes = sizes_are v is in
+    let sizes = sizes_are is in
     let parts = div-add-mod m (amount n.cycle) in
     let product = product_is cycle v.sizes.cycle (amount n.cycle) (m / amount n.cycle) (sym sizes.cycle) (omega (arith, ints, up, down)) in
     record { least = omega (arith, ints, parts, product); most = omega (arith, ints, parts, product, small, sizes) }
@@ -123,19 +128,20 @@ pub record IsAimed (v : View) (before : Hull) (next : ℕ) (cm : DeviceId) (poin
   pub late : next + 4 * v.sizes.precision ≤ q
 
 -- a clock that was set before the block, and has the common time, takes it for one of the block's cycle
-pub taken_by_old : (v : View) (n t : ℕ) (block : IsInBlock v n t) (cm : DeviceId) (point : ℤ) (q : ℕ) → IsView v → q ≤ t → HasTimeAt v cm q
-    → IsOldAt v block.before.next cm q → IsAimed v block.before.hull block.before.next cm point q
+pub taken_by_old : {v : View} {n t : ℕ} (block : IsInBlock v n t) {cm : DeviceId} {point : ℤ} {q : ℕ} → IsView v
+    → q ≤ t → HasTimeAt v cm q → IsOldAt v block.before.next cm q
+    → IsAimed v block.before.hull block.before.next cm point q
     → IsTakenFor v.sizes (suc n) (value_of v cm block.before.next point)
-taken_by_old v n t block cm point q is le has old aimed =
+taken_by_old {v} {n} block {cm} {q} is le has old aimed =
     let before = block.before in
-    let space = room v is in
+    let space = room is in
     let there : IsInBlock v n q = earlier_in_block _ _ _ _ block (omega (arith, aimed.late)) le in
-    let shows = old_shows v n q q cm there is (omega arith) has old in
-    let same = sym (ap (λ (a : Units). a.0) (adjustment_stays v cm before.next q is (omega (arith, aimed.late)) old)) in
-    let shows_so = subst (λ (a : ℤ). ShowsIn v.sizes (pos (v.scenario.reading cm q) +ℤ a) n before.hull q) same shows in
-    let narrow = before_narrow v n before in
+    let shows = old_shows there is (omega arith) has old in
+    let same = sym (ap (λ (a : Units). a.0) (adjustment_stays cm before.next q is (omega (arith, aimed.late)) old)) in
+    let shows_so = subst (λ a. ShowsIn v.sizes (pos (v.scenario.reading cm q) +ℤ a) n before.hull q) same shows in
+    let narrow = before_narrow before in
     let more = one_more n v.sizes.cycle in
-    let sizes = sizes_are v is in
+    let sizes = sizes_are is in
     record {
       least = omega (arith, ints, aimed.low, aimed.most, aimed.not_early, aimed.not_late, sizes.dmax, sizes.precision);
       most = omega (arith, ints, aimed.high, aimed.least, aimed.not_early, aimed.not_late, sizes.dmax, sizes.precision);
@@ -160,8 +166,8 @@ module _ (goes : BlocksGoSo) (v : View) (n t : ℕ) (block : IsInBlock v n t) (c
       let to : q + 1 ≤ b + 1 = omega (arith, le) in
       let old = old_then goes v n t block cm b (q + 1) is calm to in
       let timed = ap has_time (synchronised_then goes v n t block cm b (q + 1) is calm to) in
-      (hears_as_at v cm block.before.next q (q + 1) hs is j from (omega arith) old timed).adjustment
-      ∙ sym (ap (λ (a : Units). a.0) (adjustment_stays v cm block.before.next (q + 1) is (omega (arith, from)) old))
+      (hears_as_at cm block.before.next (q + 1) is j from (omega arith) old timed).adjustment
+      ∙ sym (ap (λ (a : Units). a.0) (adjustment_stays cm block.before.next (q + 1) is (omega (arith, from)) old))
 
   -- no record ends its stretch
   pub never_ends : (h : Happening) (body : NoteBody) → IsIn h v.records → time_of h ≤ b → h.note.body ≡ body → ends_stretch cm body ≡ true → ⊥
@@ -183,7 +189,7 @@ module _ (goes : BlocksGoSo) (v : View) (n t : ℕ) (block : IsInBlock v n t) (c
       let at = founded_at v.scenario v.records k is.run.founded i in
       let ripens = subst (IsCaused v.scenario at.front k.note.time) g.is at.due.cause in
       let hs : List Happening = before_permanence at.front cm q g.link g.cause ripens.frame g.point in
-      let judge = judged_up_to v k is at cm g.link g.cause ripens.frame g.point in
+      let judge = judged_up_to {h = k} is at cm g.link g.cause ripens.frame g.point in
       let framed : k.frame ≡ Some ripens.frame = ap (λ (x : Happening). x.frame) at.due.same ∙ ap (frame_by network at.front) g.is
       ∙ ap (λ (x : Option Happening). option_and_then (λ y. y.frame) x) ripens.permanent.there ∙ ripens.permanent.of_frame in
       let cycle : o.cycle ≡ ripens.frame.cycle = g.of_cycle ∙ ap (λ (x : Option Pcf). option_map_or (λ f. f.cycle) x 0) framed in
@@ -196,15 +202,15 @@ module _ (goes : BlocksGoSo) (v : View) (n t : ℕ) (block : IsInBlock v n t) (c
   value_then point q le aimed =
       let old = old_then goes v n t block cm b q is calm (omega (arith, le)) in
       let timed = ap has_time (synchronised_then goes v n t block cm b q is calm (omega (arith, le))) in
-      taken_by_old v n t block cm point q is (omega (arith, le, calm.to)) (record { good = calm.good; timed = timed }) old aimed
+      taken_by_old block is (omega (arith, le, calm.to)) (record { good = calm.good; timed = timed }) old aimed
 
   -- so it finds no fault
   pub fine_then : (q : ℕ) (hs : List Happening) (point : ℤ) → AreUpTo v q hs → q ≤ b → IsAimed v block.before.hull block.before.next cm point q
       → point_fault v.scenario.network (state_at_hearing v.scenario hs cm q) (adjustment_at_hearing v.scenario hs cm q).0 point (suc n) ≡ None
   fine_then q hs point up le aimed =
       let stands = hearing_adjustment q hs (omega (arith, aimed.late)) le up in
-      no_point_fault v (state_at_hearing v.scenario hs cm q) (adjustment_at_hearing v.scenario hs cm q).0 point (suc n) is
-      (subst (λ (z : ℤ). IsTakenFor v.sizes (suc n) (dispatch_value v.scenario.network z point)) (sym stands) (value_then point q le aimed))
+      no_point_fault (state_at_hearing v.scenario hs cm q) (adjustment_at_hearing v.scenario hs cm q).0 point {cycle = suc n} is
+      (subst (λ z. IsTakenFor v.sizes (suc n) (dispatch_value v.scenario.network z point)) (sym stands) (value_then point q le aimed))
 
   -- what lies at most two windows before it is of its cycle
   pub of_block_cycle : is_cm v.scenario.network cm ≡ true → (point : ℤ) (q : ℕ) (k : Happening) (o : Point) → q ≤ b
@@ -213,17 +219,17 @@ module _ (goes : BlocksGoSo) (v : View) (n t : ℕ) (block : IsInBlock v n t) (c
       let value = value_then point q le aimed in
       elim (cases_lt (time_of k) block.before.next) [
         | inl early ↦
-            let r = (read_at v cm k o is i g).ripe in
+            let r = (read_at is i g).ripe in
             let clock = steady v is cm in
             let last = block.before.next - 1 in
-            let slow = clock.slow last (last + 4 * v.sizes.precision) (omega arith) (omega (arith, (room v is).cycles)) in
+            let slow = clock.slow last (last + 4 * v.sizes.precision) (omega arith) (omega (arith, (room is).cycles)) in
             let rises = clock.never_falls (time_of k) last (omega (arith, early)) in
             let more = clock.never_falls (last + 4 * v.sizes.precision) q (omega (arith, early, aimed.late)) in
-            absurd (omega (arith, ints, rises, slow, more, r.least, aimed.most, high, room v is))
+            absurd (omega (arith, ints, rises, slow, more, r.least, aimed.most, high, room is))
         | inr from ↦
             let m = natural_of (value_of v cm block.before.next o.reading) 0
-            (omega (arith, ints, value.least, high, one_more n v.sizes.cycle, (room v is).cycles)) in
-            let taken = taken_for v (adjustment_left v cm block.before.next) o.reading o.cycle m.0 is m.1 (no_fault_then one k o i from to g) in
-            of_one_cycle v.sizes o.cycle (suc n) (value_of v cm block.before.next o.reading) (value_of v cm block.before.next point) (room v is)
+            (omega (arith, ints, value.least, high, one_more n v.sizes.cycle, (room is).cycles)) in
+            let taken = taken_for (adjustment_left v cm block.before.next) o.reading o.cycle m.0 is m.1 (no_fault_then one k o i from to g) in
+            of_one_cycle (room is)
             (subst (IsTakenFor v.sizes o.cycle) (sym m.1) taken) value (omega (arith, ints, low)) (omega (arith, ints, high))
       ]

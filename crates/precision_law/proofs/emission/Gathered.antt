@@ -7,7 +7,7 @@ use Rattle.precision_law.proofs.words.Clocks.{IsRipeArrival, IsRipeRecord, befor
 use Rattle.precision_law.proofs.words.Clocks.{master_member, opened_by, permanence_is_sharp, place_of_ripe, room, sizes_are, steady, trip_says}
 use Rattle.precision_law.proofs.words.Laws.{Hull, IsFirstMaster, IsInBlock, IsRipe, IsTrip, IsView, Leg, View, first_correction}
 use Rattle.precision_law.proofs.words.Plans.{AreClusters, Channel, Cluster, DeviceId, IsCmOf, Members, Pcf, Point, Up, Way, amount, has_point_of, none, point_at}
-use Rattle.precision_law.proofs.words.Runs.{Happening, IsBefore, IsCaused, IsDue, IsIn, IsSplit, Judgement, NoteBody, adjustment_at_hearing, cycle_in}
+use Rattle.precision_law.proofs.words.Runs.{Happening, IsBefore, IsCaused, IsDue, IsIn, IsSplit, Judgement, adjustment_at_hearing, cycle_in}
 use Rattle.precision_law.proofs.words.Runs.{founded_at, frame_by, in_left, key, master_of, member_of, members_in, observation_window, place_of}
 use Rattle.precision_law.proofs.words.{Runs.{ends_stretch, point_by, point_fault, points_of, rank, split, state_at_hearing, time_of}, Std.{unsigned_abs, unwrap_or, ℕ, ℤ}}
 use Rattle.precision_law.proofs.words.Std.{◌*◌, ◌+ℤ◌, ◌+◌, ◌^◌, ◌∙◌, ◌∷◌, ◌≡◌, ◌≤ℤ◌, ◌≤◌, Bool, List, None, Option, Some, [], ap, arith, eq-eqb, false}
@@ -46,7 +46,7 @@ meets_other cs p e = by (last_or None cs) refl e
 
 -- the last record of a trip is one of the run
 last_there : (v : View) (way : Way) (first last : Happening) (legs : List Leg) → IsTrip v way first legs last → IsIn first v.records → IsIn last v.records
-last_there v way first last [] trip i = subst (λ (h : Happening). IsIn h v.records) trip i
+last_there v way first last [] trip i = subst (λ h. IsIn h v.records) trip i
 last_there v way first last (leg ∷ legs) trip i = last_there v way leg.arriving last legs trip.2 trip.1.arrived
 
 -- the point of a first master's frame at the compression master
@@ -75,19 +75,21 @@ pub record HasFrame (v : View) (n : ℕ) (before : Hull) (cm master : DeviceId) 
   pub not_negative : pos 0 ≤ℤ s.brought.point
 
 -- it brings one
-pub has_frame : (v : View) (n : ℕ) (before : Hull) (cm master : DeviceId) (s : IsSender v n before cm master) → IsView v → IsFirstMaster v master
-    → HasFrame v n before cm master s
-has_frame v n before cm master s is first =
+pub has_frame : {v : View} {n : ℕ} {before : Hull} {cm master : DeviceId} (s : IsSender v n before cm master)
+    → IsView v → IsFirstMaster v master → HasFrame v n before cm master s
+has_frame {v} {cm} {master} s is first =
     let network = v.scenario.network in
     let b = s.brought in
     let p = b.permanent in
     let at = founded_at v.scenario v.records s.first is.run.founded s.dispatch.there in
-    let says = trip_says v Up s.first b.last b.legs _ is b.trip (ap (λ (x : Happening). x.frame) at.due.same ∙ ap (frame_by network at.front) s.dispatch.is) in
-    let member = master_member v master is first.master in
+    let says = trip_says Up s.first b.last b.legs _ is b.trip
+    (ap (λ (x : Happening). x.frame) at.due.same ∙ ap (frame_by network at.front) s.dispatch.is) in
+    let member = master_member master is first.master in
     let there = last_there v Up s.first b.last b.legs b.trip s.dispatch.there in
     let at_a = founded_at v.scenario v.records b.last is.run.founded there in
-    let young = arrival_young v _ _ cm _ _ _ (subst (IsCaused v.scenario at_a.front b.last.note.time) p.is at_a.due.cause) in
-    let size = (sizes_are v is).dmax in
+    let young = arrival_young v _ _ cm _ _ (subst (IsCaused v.scenario at_a.front b.last.note.time) p.is
+    at_a.due.cause) in
+    let size = (sizes_are is).dmax in
     record {
       member = member.0;
       is_member = member.1;
@@ -126,7 +128,7 @@ module _ (v : View) (channel : Channel) (n t : ℕ) (block : IsInBlock v n t) (c
   aims : (s.brought.q ≤ by) × IsAimed v block.before.hull block.before.next cm s.brought.point s.brought.q
   aims =
       let before = block.before in
-      let space = room v is in
+      let space = room is in
       let b = s.brought in
       let high = s.high in (
         omega (arith, ints, high, b.in_time.not_late, c.over),
@@ -138,7 +140,7 @@ module _ (v : View) (channel : Channel) (n t : ℕ) (block : IsInBlock v n t) (c
           not_late = b.in_time.not_late;
           least = f.sharp.least;
           most = f.sharp.most;
-          late = omega (arith, ints, early_show v n before is, s.low, b.in_time.not_early, space);
+          late = omega (arith, ints, early_show n before is, s.low, b.in_time.not_early, space);
         },
       )
 
@@ -151,7 +153,7 @@ module _ (v : View) (channel : Channel) (n t : ℕ) (block : IsInBlock v n t) (c
       let b = s.brought in
       let to = aims.0 in
       let meets = meets_other clusters (point_at b.point (master_of f.frame.members.0) f.frame.cycle) e in
-      let opened = opened_by _ _ _ meets.cluster (points_ordered _ cm at.front at.rest is at.whole) are (contains clusters meets.cluster meets.there) in
+      let opened = opened_by _ _ _ meets.cluster (points_ordered cm at.front at.rest is at.whole) are (contains clusters meets.cluster meets.there) in
       let o = opened.first in
       let given = point_record cm at.front o (contained (points_of at.front cm) o opened.there) in
       let k = given.0 in
@@ -159,16 +161,16 @@ module _ (v : View) (channel : Channel) (n t : ℕ) (block : IsInBlock v n t) (c
       let i : IsIn k v.records = subst (IsIn k) (sym at.whole) (in_left k at.front at.rest given.1) in
       let split_at = before_place v b.q (3 ∷ cm.0 ∷ unsigned_abs b.point ∷ f.frame.members.0 ∷ b.permanent.link.0 ∷ b.last.note.number ∷ []) at in
       let early = split_at.only k given.1 in
-      let r = read_at v cm k o is i g in
+      let r = read_at is i g in
       let read : IsReadAt v cm b.point b.q = record { arrived = time_of b.last; ripe = f.sharp; not_negative = f.not_negative } in
-      let placed = subst (λ (z : NoteBody). IsBefore (time_of k ∷ rank z ∷ key (members_in k) z)
+      let placed = subst (λ z. IsBefore (time_of k ∷ rank z ∷ key (members_in k) z)
       (place_of_ripe cm b.last b.permanent.link f.frame b.point b.q)) g.is (at.before k given.1) in
       let low : o.reading ≤ℤ b.point = elim (place_order (time_of k) b.q cm.0 (amount g.point) (unsigned_abs b.point) (members_in k ∷ g.link.0 ∷ g.cause ∷ [])
       (f.frame.members.0 ∷ b.permanent.link.0 ∷ b.last.note.number ∷ []) placed) [
-        | inl lt ↦ (let above = later_point v cm b.point (time_of k) b.q is read lt in let below = r.ripe.least in omega (arith, ints, above, below))
+        | inl lt ↦ (let above = later_point (time_of k) is read lt in let below = r.ripe.least in omega (arith, ints, above, below))
         | inr le ↦ omega (arith, ints, le, g.reads, r.not_negative, f.not_negative)
       ] in
-      let size = (sizes_are v is).precision in
+      let size = (sizes_are is).precision in
       let soon = ends_soon ow o (o ∷ opened.rest) (omega (arith, ints)) in
       let high : b.point ≤ℤ (o.reading +ℤ pos (2 * v.sizes.precision)) = omega (arith, ints, meets.to, soon, ap (λ (x : Cluster). x.end) opened.is, size) in
       let same = c.alike b.point b.q k o aims.0 aims.1 i (omega (arith, early, to)) g low high in
@@ -188,7 +190,7 @@ module _ (v : View) (channel : Channel) (n t : ℕ) (block : IsInBlock v n t) (c
         gives = ap (point_by cm r.h) r.is ∙ ap (λ (x : Bool). if x then Some p else None) (eq-eqb cm.0 cm.0 refl);
         of_cycle = ap (λ (o : Option Pcf). option_map_or (λ x. x.cycle) o 0) r.of_frame ∙ f.of_cycle;
         of_master =
-            f.is_member ∙ ap (λ (m : ℕ). Some m) (sym (ap master_of members ∙ master_of_bit f.member (has_member v master f.member is f.is_member).small));
+            f.is_member ∙ ap (λ (m : ℕ). Some m) (sym (ap master_of members ∙ master_of_bit f.member (has_member master f.member is f.is_member).small));
         aimed = subst (IsAimed v block.before.hull block.before.next cm b.point) (sym r.time) aims.1;
         to = omega (arith, r.time, aims.0);
       }
@@ -211,10 +213,10 @@ module _ (v : View) (channel : Channel) (n t : ℕ) (block : IsInBlock v n t) (c
       } in
       let at = split place_of (IsDue v.scenario) v.records (place_of_ripe cm b.last link f.frame b.point b.q) is.run.founded in
       let split_at = before_place v b.q (3 ∷ cm.0 ∷ unsigned_abs b.point ∷ f.frame.members.0 ∷ link.0 ∷ b.last.note.number ∷ []) at in
-      let fine = subst (λ (k : ℕ). point_fault v.scenario.network (state_at_hearing v.scenario at.front cm b.q)
+      let fine = subst (λ k. point_fault v.scenario.network (state_at_hearing v.scenario at.front cm b.q)
       (adjustment_at_hearing v.scenario at.front cm b.q).0 b.point k ≡ None) (sym f.of_cycle)
-      (c.fine b.q at.front b.point (up_to_then v b.q at.front split_at) aims.0 aims.1) in
-      elim (is_collected v cm b.last link f.frame b.point b.q is cm_so.one ripe at fine) [
+      (c.fine b.q at.front b.point (up_to_then split_at) aims.0 aims.1) in
+      elim (is_collected is cm_so.one ripe at fine) [
         | inl meets ↦ absurd (never_other at meets.0 meets.1 meets.2)
         | inr found ↦ recorded found.0 found.1
       ]

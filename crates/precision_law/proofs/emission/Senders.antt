@@ -11,9 +11,9 @@ use Rattle.precision_law.proofs.words.Std.{both_ways, cases_Bool, cases_lt, fals
 -- ---- the compression master
 
 -- each channel has one
-pub channel_cm : (v : View) (channel : Channel) → IsView v → (cm : DeviceId) × IsCmOf v.scenario.network channel cm
-channel_cm v A is = (let one = (is.lawful.rules CompressionMasters 0).on_a refl in (one.0, one.1))
-channel_cm v B is = (let one = (is.lawful.rules CompressionMasters 1).on_b refl in (one.0, one.1))
+pub channel_cm : {v : View} (channel : Channel) → IsView v → (cm : DeviceId) × IsCmOf v.scenario.network channel cm
+channel_cm A is = (let one = (is.lawful.rules CompressionMasters 0).on_a refl in (one.0, one.1))
+channel_cm B is = (let one = (is.lawful.rules CompressionMasters 1).on_b refl in (one.0, one.1))
 
 -- what it is
 pub record IsOneCm (v : View) (channel : Channel) (cm : DeviceId) : Type 0 where
@@ -54,8 +54,8 @@ within (x ∷ xs) zero kind e = omega arith
 within (x ∷ xs) (suc i) kind e = (let more = within xs i kind e in omega (arith, more))
 
 -- the masters are enough, so there is one
-pub first_master : (v : View) → IsView v → (device : DeviceId) × IsFirstMaster v device
-first_master v is =
+pub first_master : {v : View} → IsView v → (device : DeviceId) × IsFirstMaster v device
+first_master {v} is =
     elim (some_below (λ i. IsFirstMaster v (record { 0 = i })) (λ i. first_or_not v (record { 0 = i })) (length v.scenario.network.device)) [
       | inl found ↦ (record { 0 = found.0 }, found.1)
       | inr none ↦
@@ -76,12 +76,13 @@ pub record IsSender (v : View) (n : ℕ) (before : Hull) (cm master : DeviceId) 
   pub brought : IsBrought v Up first cm
 
 -- each first master has one
-pub sends_up : BlocksGoSo → (v : View) (channel : Channel) (n t : ℕ) (block : IsInBlock v n t) (cm master : DeviceId) → IsView v
-    → (first_correction v.sizes block.before.hull +ℤ pos v.sizes.reach) ≤ℤ pos t → IsCmOf v.scenario.network channel cm
-    → ((u : ℕ) → IsInHull v (suc n) u → IsWholeFrom v channel u) → IsFirstMaster v master → IsSender v n block.before.hull cm master
-sends_up goes v channel n t block cm master is late one whole first =
+pub sends_up : BlocksGoSo → {v : View} (channel : Channel) {n t : ℕ} (block : IsInBlock v n t) (cm : DeviceId)
+    {master : DeviceId} → IsView v → (first_correction v.sizes block.before.hull +ℤ pos v.sizes.reach) ≤ℤ pos t
+    → IsCmOf v.scenario.network channel cm → ((u : ℕ) → IsInHull v (suc n) u → IsWholeFrom v channel u)
+    → IsFirstMaster v master → IsSender v n block.before.hull cm master
+sends_up goes {v} channel {n} {t} block cm {master} is late one whole first =
     let before = block.before in
-    let space = frames_come_first v.sizes before.hull (room v is) (before_narrow v n before) in
+    let space = frames_come_first v.sizes before.hull (room is) (before_narrow before) in
     let sent = masters_dispatch goes v n t block master is (omega (arith, ints, space, late)) first in
     let w = time_of sent.0 in
     let soon : w + v.sizes.dmax + v.sizes.path ≤ v.until = omega (arith, ints, sent.2, space, late, block.in_run) in
@@ -92,12 +93,13 @@ sends_up goes v channel n t block cm master is late one whole first =
     let there : IsInBlock v n w = earlier_in_block _ _ _ _ block from (omega (arith, ints, sent.2, space, late)) in
     let so = (goes v n w there is).dispatches sent.0 master (suc n) sent.1 refl in
     let hull = so.inside in
-    let low : first_dispatch v.sizes before.hull ≤ℤ pos w = omega (arith, ints, (follows_before v n _ _ is before.is_hull hull.is).least, hull.least) in
+    let low : first_dispatch v.sizes before.hull ≤ℤ pos w =
+    omega (arith, ints, (follows_before n _ _ is before.is_hull hull.is).least, hull.least) in
     record {
       first = sent.0;
       dispatch = sent.1;
       low = low;
       high = sent.2;
       brought = frames_go_up v channel sent.0 master cm (suc n) is (whole w hull) sent.1 one
-          (dispatches_pass goes v channel n w there is low sent.2 (omega (arith, soon))) soon;
+          (dispatches_pass goes channel there is low sent.2 (omega (arith, soon))) soon;
     }

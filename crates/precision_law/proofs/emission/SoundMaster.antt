@@ -22,7 +22,7 @@ points_more : (cm : DeviceId) (front back : List Happening) → ((h : Happening)
     → points_of (front ++ back) cm ≡ points_of front cm ++ filter_map (λ h. point_by cm h h.note.body) back
 points_more cm front back quiet =
     let point = λ (h : Happening). point_by cm h h.note.body in
-    ap (filter_map point) (after_more (λ (h : Happening). ends_stretch cm h.note.body) front back quiet
+    ap (filter_map point) (after_more back quiet
     (parts_at_last (λ (h : Happening). ends_stretch cm h.note.body) front))
     ∙ filter_map-append point (after_last (λ (h : Happening). ends_stretch cm h.note.body) front) back
 
@@ -58,11 +58,11 @@ module _ (goes : BlocksGoSo) (v : View) (channel : Channel) (n t : ℕ) (block :
 
   -- each is a good one or a bad one
   each_is : (q : Point) → IsIn q points → IsGoodPoint v cm by q ⊎ IsBadPoint v q
-  each_is q i = front_point v cm q by by_then.front by_then.rest is by_then.whole (λ h j. (up_to h j).1) one i
+  each_is q i = front_point cm q by by_then.front by_then.rest is by_then.whole (λ h j. (up_to h j).1) one i
 
   -- they are in order
   ordered : Ordered points
-  ordered = points_ordered v cm by_then.front by_then.rest is by_then.whole
+  ordered = points_ordered cm by_then.front by_then.rest is by_then.whole
 
   -- the clusters that they make
   found : (cs : List Cluster) × AreClusters ow points cs
@@ -70,8 +70,8 @@ module _ (goes : BlocksGoSo) (v : View) (channel : Channel) (n t : ℕ) (block :
 
   gather : (master : DeviceId) → IsFirstMaster v master → IsGathered v n block.before.hull block.before.next cm master by
   gather m first =
-      let sender = sends_up goes v channel n t block cm m is coll.late coll.of_channel coll.whole first in
-      gathered v channel n t block cm by is coll m sender (has_frame v n block.before.hull cm m sender is first)
+      let sender = sends_up goes channel block cm is coll.late coll.of_channel coll.whole first in
+      gathered v channel n t block cm by is coll m sender (has_frame sender is first)
 
   -- a first master's point is among them
   is_point : (master : DeviceId) (g : IsGathered v n block.before.hull block.before.next cm master by) → IsIn g.p points
@@ -90,7 +90,7 @@ module _ (goes : BlocksGoSo) (v : View) (channel : Channel) (n t : ℕ) (block :
             absurd (omega (arith, early, g.aimed.late))
       ] in
       let more = points_more cm cut.front cut.rest (λ h i. coll.quiet h (up_to h (in_all h i)).0 (late h i) (up_to h (in_all h i)).1) in
-      subst (IsIn g.p) (sym (ap (λ (hs : List Happening). points_of hs cm) cut.whole ∙ more))
+      subst (IsIn g.p) (sym (ap (λ hs. points_of hs cm) cut.whole ∙ more))
       (in_right g.p (points_of cut.front cm) (filter_map (λ h. point_by cm h h.note.body) cut.rest)
       (made_in (λ (h : Happening). point_by cm h h.note.body) cut.rest g.k g.p behind g.gives))
 
@@ -99,7 +99,7 @@ module _ (goes : BlocksGoSo) (v : View) (channel : Channel) (n t : ℕ) (block :
       → IsGoodPoint v cm by q
   good_by master q first member i = elim (each_is q i) [
     | inl good ↦ good
-    | inr bad ↦ absurd (not_both v master bad.master first.good bad.bad (one_member v master bad.master q.master is member bad.is_member))
+    | inr bad ↦ absurd (not_both v master bad.master first.good bad.bad (one_member master bad.master q.master is member bad.is_member))
   ]
 
   -- and it is in the time of no cluster of another cycle
@@ -113,7 +113,7 @@ module _ (goes : BlocksGoSo) (v : View) (channel : Channel) (n t : ℕ) (block :
       let ends : dropped.0.end ≡ end_of ow o (o ∷ opened.rest) = ap (λ (x : Cluster). x.end) opened.is in
       let opens : dropped.0.opened ≡ o.reading = ap (λ (x : Cluster). x.opened) opened.is in
       let cycle = coll.alike g.p.reading (time_of g.k) given.0 o g.to g.aimed there.0 there.1 given.2
-      (omega (arith, ints, lies.low, opens)) (omega (arith, ints, lies.high, ends, ends_soon ow o (o ∷ opened.rest) (omega (arith, ints)), sizes_are v is)) in
+      (omega (arith, ints, lies.low, opens)) (omega (arith, ints, lies.high, ends, ends_soon ow o (o ∷ opened.rest) (omega (arith, ints)), sizes_are is)) in
       dropped.2 (g.of_cycle ∙ sym cycle ∙ sym (ap (λ (x : Cluster). x.cycle) opened.is))
 
   -- ---- the cluster
@@ -128,8 +128,8 @@ module _ (goes : BlocksGoSo) (v : View) (channel : Channel) (n t : ℕ) (block :
   -- there is one
   all : HasAll
   all =
-      let bad = bad_number v cm by points is each_is in
-      let sizes = sizes_are v is in
+      let bad = bad_number cm by points is each_is in
+      let sizes = sizes_are is in
       let kept : (m : DeviceId) → (f : IsFirstMaster v m) → IsKept points found.0 bad.0 (suc n) (gather m f).p = λ m f.
       let g = gather m f in
       let i = is_point m g in
@@ -138,8 +138,8 @@ module _ (goes : BlocksGoSo) (v : View) (channel : Channel) (n t : ℕ) (block :
       let good : (q : Point) → IsKept points found.0 bad.0 (suc n) q → IsGoodPoint v cm by q = λ q k. elim (each_is q (contained points q k.there))
       [ inl fine ↦ fine | inr wrong ↦ absurd (k.other (bad.1.of_bad q (contained points q k.there) wrong)) ] in
       let near : (p q : Point) → IsKept points found.0 bad.0 (suc n) p → IsKept points found.0 bad.0 (suc n) q → p.reading ≤ℤ (q.reading +ℤ ow) = λ p q k l.
-      (let r = good_near v (by + 1) (suc n) cm by by p q known (omega arith) (omega arith) k.same l.same (good p k) (good q l) in omega (arith, ints)) in
-      let m = first_master v is in
+      (let r = good_near known (omega arith) (omega arith) k.same l.same (good p k) (good q l) in omega (arith, ints)) in
+      let m = first_master is in
       let z = one_cluster ow points found.0 bad.0 (suc n) (omega (arith, ints)) (ascending_from points ordered) found.1 near (gather m.0 m.1).p (kept m.0 m.1)
       in
       record { cluster = z.0; there = z.1; holds = λ m f. (let g = gather m f in (g.p, g.of_master, is_point m g, z.2 g.p (kept m f), g.of_cycle)) }
@@ -149,12 +149,12 @@ module _ (goes : BlocksGoSo) (v : View) (channel : Channel) (n t : ℕ) (block :
       → IsMember i (record { 0 = all.cluster.members })
   is_member device i first e =
       let p = all.holds device first in
-      let bit = is_held ow points found.0 all.cluster p.0 (omega (arith, ints)) ordered found.1 all.there (contains points p.0 p.2) p.3 in
+      let bit = is_held ow points found.0 (omega (arith, ints)) ordered found.1 all.there (contains points p.0 p.2) p.3 in
       subst (λ (j : ℕ). bit_at all.cluster.members j ≡ 1) (same_some (member_of v.scenario.network device) p.0.master i p.1 e) bit
 
   -- it is of the block's cycle
   of_cycle : all.cluster.cycle ≡ suc n
-  of_cycle = (let m = first_master v is in let p = all.holds m.0 m.1 in sym p.3.0 ∙ p.4)
+  of_cycle = (let m = first_master is in let p = all.holds m.0 m.1 in sym p.3.0 ∙ p.4)
 
   -- ---- what it sends
 
@@ -164,9 +164,9 @@ module _ (goes : BlocksGoSo) (v : View) (channel : Channel) (n t : ℕ) (block :
   -- a good point of the cycle witnesses the emission reading of the cluster
   emerges : (x : Point) × IsWitness v cm by (suc n) sent_reading points all.cluster x
   emerges =
-      let m = first_master v is in
+      let m = first_master is in
       let p = all.holds m.0 m.1 in
-      front_witness v (by + 1) (suc n) cm by by_then.front by_then.rest found.0 all.cluster
+      front_witness {v = v} {t = by + 1} {cycle = suc n} {cm = cm} {by = by} {front = by_then.front} {rest = by_then.rest} {clusters = found.0} {cluster = all.cluster}
       (record {
         known = known;
         whole = by_then.whole;
@@ -184,11 +184,11 @@ module _ (goes : BlocksGoSo) (v : View) (channel : Channel) (n t : ℕ) (block :
       let near = emerges.0 in
       let e = emerges.1 in
       let reading = v.scenario.reading cm in
-      let space = room v is in
+      let space = room is in
       let clock = steady v is cm in
       let g = e.good in
       let q = g.ripe in
-      let w = subst (λ (m : ℕ). IsInHull v m (time_of g.first)) e.of_cycle (known.tidy g.first g.master near.cycle g.dispatch (omega (arith, g.before))) in
+      let w = subst (λ m. IsInHull v m (time_of g.first)) e.of_cycle (known.tidy g.first g.master near.cycle g.dispatch (omega (arith, g.before))) in
       let high = w.most in
       let last = natural_of (w.hull.greatest +ℤ pos (v.sizes.dmax + v.sizes.compression + v.sizes.base + v.sizes.precision)) 0 (omega (arith, ints, high)) in
       let x = last.0 in
@@ -198,7 +198,7 @@ module _ (goes : BlocksGoSo) (v : View) (channel : Channel) (n t : ℕ) (block :
       omega (arith, ints, clock.slow q x after within, last.1, high, g.in_time.not_late, space.errors.base_is, g.least, e.soon) in
       let there = reach_is_there v.sizes reading 0 0 sent_reading x clock (omega arith) (omega (arith, ints, last.1, high, space.compression_least))
       (omega (arith, ints, clock.begins, e.begun)) reached in
-      let follows = follows_before v n block.before.hull w.hull is block.before.is_hull w.is in
+      let follows = follows_before n block.before.hull w.hull is block.before.is_hull w.is in
       (there.0, omega (arith, ints, there.2, last.1, follows.most, coll.over), there.3)
 
   abbrev u : ℕ
@@ -210,16 +210,16 @@ module _ (goes : BlocksGoSo) (v : View) (channel : Channel) (n t : ℕ) (block :
       let near = emerges.0 in
       let e = emerges.1 in
       let g = e.good in
-      let space = room v is in
-      let w = subst (λ (m : ℕ). IsInHull v m (time_of g.first)) e.of_cycle (known.tidy g.first g.master near.cycle g.dispatch (omega (arith, g.before))) in
-      let follows = follows_before v n block.before.hull w.hull is block.before.is_hull w.is in
+      let space = room is in
+      let w = subst (λ m. IsInHull v m (time_of g.first)) e.of_cycle (known.tidy g.first g.master near.cycle g.dispatch (omega (arith, g.before))) in
+      let follows = follows_before n block.before.hull w.hull is block.before.is_hull w.is in
       let above : g.ripe ≤ u = elim (cases_lt u g.ripe) [
         | inr ge ↦ ge
         | inl lt ↦
             let up = (steady v is cm).never_falls u g.ripe (omega (arith, lt)) in
             absurd (omega (arith, ints, up, g.most, e.near, comes_to.2.reached, space))
       ] in
-      omega (arith, ints, above, early_show v n block.before is, follows, w.least, g.in_time.not_early, space)
+      omega (arith, ints, above, early_show n block.before is, follows, w.least, g.in_time.not_early, space)
 
   -- the records before the place of the frame
   first : IsSplit place_of by_then.front (place_of_sent v cm all.cluster u)
@@ -256,14 +256,14 @@ module _ (goes : BlocksGoSo) (v : View) (channel : Channel) (n t : ℕ) (block :
           | inr ge ↦ absurd (first.none k made.1 (inr (omega (arith, le, ge), inl (omega (arith, ap rank g.is)))))
         ]
       ] in
-      omega (arith, ints, later_point v cm q.reading u (time_of k) is (read_at v cm k q is in_all g) behind, comes_to.2.reached)
+      omega (arith, ints, later_point u is (read_at is in_all g) behind, comes_to.2.reached)
 
   -- so the frame is sent
   sends : IsSentAt v cm all.cluster u
   sends =
       let point = λ (h : Happening). point_by cm h h.note.body in
       let more = filter_map point first.rest in
-      let whole = ap (λ (hs : List Happening). points_of hs cm) first.whole ∙ points_more cm first.front first.rest (λ h i.
+      let whole = ap (λ hs. points_of hs cm) first.whole ∙ points_more cm first.front first.rest (λ h i.
       (let there = up_to h (subst (IsIn h) (sym first.whole) (in_right h first.front first.rest i)) in
       let late : u ≤ time_of h = elim (cases_lt (time_of h) u) [ inl lt ↦ absurd (first.none h i (inl lt)) | inr ge ↦ ge ] in
       coll.quiet h there.0 (omega (arith, late, begun)) there.1)) in
@@ -271,14 +271,14 @@ module _ (goes : BlocksGoSo) (v : View) (channel : Channel) (n t : ℕ) (block :
       let past = all_by (λ (q : Point). all.cluster.end <ℤ q.reading) more (λ q i. (let above = past_sent q i in omega (arith, ints, above, ends))) in
       let before = one_list_of_clusters ow (points_of first.front cm) in
       let was = cluster_was ow (points_of first.front cm) more before.0 found.0 all.cluster (omega (arith, ints)) before.1
-      (subst (λ (ps : List Point). AreClusters ow ps found.0) whole found.1) all.there past in
-      is_sent v cm u all.cluster before.0 is one coll.good (omega (arith, comes_to.1, coll.to, block.in_run)) all_before before.1 was comes_to.2
+      (subst (λ ps. AreClusters ow ps found.0) whole found.1) all.there past in
+      is_sent cm u all.cluster before.0 is one coll.good (omega (arith, comes_to.1, coll.to, block.in_run)) all_before before.1 was comes_to.2
 
   -- and its base lies in the hull
   pub emits : (hull : Hull) × (hull_of v (suc n) ≡ Some hull) × SendsOn v channel n hull
   emits =
       let members : Members = record { 0 = all.cluster.members } in
-      let emission : IsEmission v sends.h cm (suc n) members = subst (λ (k : ℕ). IsEmission v sends.h cm k members) of_cycle sends.emission in
+      let emission : IsEmission v sends.h cm (suc n) members = subst (λ k. IsEmission v sends.h cm k members) of_cycle sends.emission in
       let enough = enough_masters v members is is_member in
       let base = bases_are_in_hulls v sends.h cm (suc n) members is emission
       (λ h d m dispatch lt. known.tidy h d m dispatch (omega (arith, lt, sends.time, comes_to.1)))
@@ -299,19 +299,19 @@ module _ (goes : BlocksGoSo) (v : View) (channel : Channel) (n t : ℕ) (block :
 -- ---- the law
 
 -- the compression master of a channel that is whole sends its frame, where it has kept the time
-pub calm_master_sends : BlocksGoSo → (v : View) (channel : Channel) (n t : ℕ) (block : IsInBlock v n t) (cm : DeviceId) → IsView v
-    → IsCmOf v.scenario.network channel cm → BeginsOn v.scenario.network cm → NoCliqueBefore v cm block.before.next
-    → ((u : ℕ) → IsInHull v (suc n) u → IsWholeFrom v channel u)
+pub calm_master_sends : BlocksGoSo → {v : View} (channel : Channel) {n t : ℕ} (block : IsInBlock v n t)
+    (cm : DeviceId) → IsView v → IsCmOf v.scenario.network channel cm → BeginsOn v.scenario.network cm
+    → NoCliqueBefore v cm block.before.next → ((u : ℕ) → IsInHull v (suc n) u → IsWholeFrom v channel u)
     → (first_correction v.sizes block.before.hull +ℤ pos v.sizes.reach) ≤ℤ pos t
     → (hull : Hull) × (hull_of v (suc n) ≡ Some hull) × SendsOn v channel n hull
-calm_master_sends goes v channel n t block cm is of_channel on kept whole late =
+calm_master_sends goes {v} channel {n} {t} block cm is of_channel on kept whole late =
     let before = block.before in
-    let space = room v is in
+    let space = room is in
     let natural = natural_of (last_dispatch v.sizes before.hull +ℤ pos
     (v.sizes.dmax + v.sizes.compression + v.sizes.base + v.sizes.path + v.sizes.precision)) 0
-    (omega (arith, ints, early_show v n before is, hull_ordered v n before is, space)) in
+    (omega (arith, ints, early_show n before is, hull_ordered n before is, space)) in
     let by : ℕ = natural.0 in
-    let early = frames_come_first v.sizes before.hull space (before_narrow v n before) in
+    let early = frames_come_first v.sizes before.hull space (before_narrow before) in
     let as_cm = cm_is v channel cm of_channel in
     let calm : IsCalm v n t block cm by = record {
       before = omega (arith, ints, natural.1, early);
@@ -335,7 +335,7 @@ calm_master_sends goes v channel n t block cm is of_channel on kept whole late =
 
 pub sound_master_sends : BlocksGoSo → SoundMasterSends
 sound_master_sends goes v n t block is late =
-    let cm = channel_cm v v.channel is in
+    let cm = channel_cm v.channel is in
     let switch = (cm_is v v.channel cm.0 cm.1).switch in
-    calm_master_sends goes v v.channel n t block cm.0 is cm.1 (sound_switches_begin_on v cm.0 is switch)
-    (firm_kept v n block.before cm.0 (inr switch)) (λ u inside. sound_is_whole v u is) late
+    calm_master_sends goes v.channel block cm.0 is cm.1 (sound_switches_begin_on v cm.0 is switch)
+    (firm_kept block.before {device = cm.0} (inr switch)) (λ u inside. sound_is_whole u is) late

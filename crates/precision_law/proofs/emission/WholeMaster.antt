@@ -54,23 +54,23 @@ in_step_by false true state e = absurd cc
 in_step_by true turned state e = absurd cc
 
 -- who hears as a synchronised device was one before, and no frame has told it the time at this instant
-in_step : (v : View) (device : DeviceId) (q : ℕ) (hs : List Happening) → AreUpTo v q hs
+in_step : {v : View} (device : DeviceId) {q : ℕ} {hs : List Happening} → AreUpTo v q hs
     → is_synchronised (state_at_hearing v.scenario hs device q) ≡ true
     → (has_joined_at hs device q ≡ false) × (is_synchronised (state_left v device q) ≡ true)
-in_step v device q hs up so =
+in_step {v} device {q} {hs} up so =
     let parts = in_step_by (has_joined_at hs device q) (is_turned_on_at v.scenario device q)
     (state_after v.scenario (earlier q hs) device) so in
-    (parts.0, ap (λ (es : List Happening). is_synchronised (state_after v.scenario es device)) (sym up.all) ∙ parts.1)
+    (parts.0, ap (λ es. is_synchronised (state_after v.scenario es device)) (sym up.all) ∙ parts.1)
 
 or_not : (a b : Bool) → (a ≡ false → b ≡ false) → (a || b) ≡ a
 or_not true b quiet = refl
 or_not false b quiet = quiet refl
 
 -- so it hears with the adjustment that it had before
-adjusts_as : (v : View) (device : DeviceId) (q : ℕ) (hs : List Happening) → AreUpTo v q hs
-    → has_joined_at hs device q ≡ false
-    → (adjustment_at_hearing v.scenario hs device q).0 ≡ adjustment_left v device q
-adjusts_as v device q hs up none =
+adjusts_as : {v : View} (device : DeviceId) {q : ℕ} {hs : List Happening} → AreUpTo v q hs
+    → has_joined_at hs device q ≡ false → (adjustment_at_hearing v.scenario hs device q).0
+    ≡ adjustment_left v device q
+adjusts_as {v} device {q} {hs} up none =
     let quiet : (h : Happening) → IsIn h hs → q ≤ time_of h → is_joined_by device h.note.body ≡ false = λ h i ge.
     false_from_ne_true (is_joined_by device h.note.body) (λ joins.
     (let to = up.to h i in
@@ -86,26 +86,26 @@ adjusts_as v device q hs up none =
           (lt-ltb (time_of h) q early))
       | inr ge ↦ quiet h i ge
     ])) in
-    ap (λ (es : List Happening). (adjustment_after v.scenario es device).0) (kept ∙ up.all)
+    ap (λ es. (adjustment_after v.scenario es device).0) (kept ∙ up.all)
 
 -- ---- points of other cycles
 
 -- hulls of later cycles begin no earlier
-pub leasts_grow : (v : View) (c n : ℕ) (a b : Hull) → IsView v → c ≤ n → hull_of v c ≡ Some a → hull_of v n ≡ Some b
+pub leasts_grow : {v : View} (c n : ℕ) (a b : Hull) → IsView v → c ≤ n → hull_of v c ≡ Some a → hull_of v n ≡ Some b
     → a.least ≤ℤ b.least
-leasts_grow v c zero a b is le one two =
+leasts_grow {v} c zero a b is le one two =
     let same : c ≡ zero = omega (arith, le) in
-    let equal = same_some (hull_of v zero) a b (subst (λ (k : ℕ). hull_of v k ≡ Some a) same one) two in
+    let equal = same_some (hull_of v zero) a b (subst (λ k. hull_of v k ≡ Some a) same one) two in
     omega (arith, ints, ap (λ (h : Hull). h.least) equal)
-leasts_grow v c (suc n) a b is le one two =
+leasts_grow {v} c (suc n) a b is le one two =
     elim (cases_lt c (suc n)) [
       | inl lt ↦
-          let has = has_before v n b (within_run v is) two in
-          let more = leasts_grow v c n a has.before is (omega (arith, lt)) one has.is_before in
-          omega (arith, ints, more, has.follows.least, room v is)
+          let has = has_before v n b (within_run is) two in
+          let more = leasts_grow c n a has.before is (omega (arith, lt)) one has.is_before in
+          omega (arith, ints, more, has.follows.least, room is)
       | inr ge ↦
           let same : c ≡ suc n = omega (arith, le, ge) in
-          let equal = same_some (hull_of v (suc n)) a b (subst (λ (k : ℕ). hull_of v k ≡ Some a) same one) two in
+          let equal = same_some (hull_of v (suc n)) a b (subst (λ k. hull_of v k ≡ Some a) same one) two in
           omega (arith, ints, ap (λ (h : Hull). h.least) equal)
     ]
 
@@ -180,14 +180,14 @@ module _ (goes : BlocksGoSo) (v : View) (n t : ℕ) (block : IsInBlock v n t) (c
       elim (cases_Bool (is_synchronised state)) [
         | inr not_so ↦ fine_unsynchronised (is_synchronised state) _ _ Gate Cycle not_so
         | inl so ↦
-            let step = in_step v cm q hs up so in
+            let step = in_step cm up so in
             let has : HasTimeAt v cm q = record { good = all cm; timed = has_it (state_left v cm q) step.1 } in
             let old = old_early goes v n t block cm by q is early (all cm) (omega (arith, le)) step.1 in
-            let value = taken_by_old v n t block cm point q is (omega (arith, le, early.1)) has old aimed in
-            let same = adjusts_as v cm q hs up step.0
-            ∙ sym (ap (λ (a : Units). a.0) (adjustment_stays v cm next q is (omega (arith, aimed.late)) old)) in
-            no_point_fault v state adjustment point (suc n) is
-            (subst (λ (z : ℤ). IsTakenFor v.sizes (suc n) (dispatch_value network z point)) (sym same) value)
+            let value = taken_by_old block is (omega (arith, le, early.1)) has old aimed in
+            let same = adjusts_as cm up step.0
+            ∙ sym (ap (λ (a : Units). a.0) (adjustment_stays cm next q is (omega (arith, aimed.late)) old)) in
+            no_point_fault state adjustment point is
+            (subst (λ z. IsTakenFor v.sizes (suc n) (dispatch_value network z point)) (sym same) value)
       ]
 
   went : (u : ℕ) → block.before.next ≤ u → u < by + 1 → BlockGoesSo v n block.before.next u block.before.hull
@@ -200,7 +200,7 @@ module _ (goes : BlocksGoSo) (v : View) (n t : ℕ) (block : IsInBlock v n t) (c
       → point ≤ℤ (o.reading +ℤ pos (2 * v.sizes.precision))
       → o.cycle ≡ suc n
   alike point q k o le aimed i to g low high =
-      elim (record_point v cm o by k is i to one g) [
+      elim (record_point by is i to one g) [
         | inr bad ↦ absurd (both_ways (is_broken v.scenario bad.master v.until) (all bad.master) bad.bad)
         | inl good ↦
             let known = known_dispatch v n (by + 1) block.before went good.first good.master o.cycle good.dispatch
@@ -209,12 +209,12 @@ module _ (goes : BlocksGoSo) (v : View) (n t : ℕ) (block : IsInBlock v n t) (c
               | inr ge ↦ omega (arith, ge, known.0)
               | inl lt ↦
                   let w = known.1 in
-                  let narrow = narrow_at v n o.cycle block.before w.hull (omega (arith, lt)) w.is in
-                  let least = leasts_grow v o.cycle n w.hull block.before.hull is
+                  let narrow = narrow_at o.cycle block.before w.hull (omega (arith, lt)) w.is in
+                  let least = leasts_grow o.cycle n w.hull block.before.hull is
                   (omega (arith, lt)) w.is block.before.is_hull in
                   let clock = steady v is cm in
                   let x = good.ripe in
-                  let space = room v is in
+                  let space = room is in
                   let apart : x + 4 * v.sizes.precision ≤ q =
                   omega (arith, ints, least, narrow, w.most, good.in_time.not_late, aimed.low, aimed.not_early, space)
                   in
@@ -250,15 +250,15 @@ module _ (goes : BlocksGoSo) (v : View) (n t : ℕ) (block : IsInBlock v n t) (c
       (numbered_in at.front cause g c.2.4.there)) in
       let same : time_of g ≡ time_of h = c.2.4.same_time in
       let sets = ap (changes_adjustment cm) c.2.5 ∙ eq-eqb cm.0 cm.0 refl in
-      let corrected = has_corrected v cm g is (all cm) there sets (ap is_correction c.2.5) in
+      let corrected = has_corrected cm g is (all cm) there sets (ap is_correction c.2.5) in
       absurd (early_point goes v n t block cm by (time_of g) corrected.cycle (Corrected corrected.by) is early
       (omega (arith, same, from))
       (omega (arith, same, le)) corrected.point)
   told_by h state cause whys.SyncClique i from le body other =
-      let lost = has_lost v cm h state cause whys.SyncClique is (all cm) i body tt in
+      let lost = has_lost cm h state cause whys.SyncClique is (all cm) i body tt in
       absurd (early_point goes v n t block cm by (time_of h) lost.cycle lost.verdict is early from le lost.point)
   told_by h state cause whys.AsyncClique i from le body other =
-      let lost = has_lost v cm h state cause whys.AsyncClique is (all cm) i body tt in
+      let lost = has_lost cm h state cause whys.AsyncClique is (all cm) i body tt in
       absurd (early_point goes v n t block cm by (time_of h) lost.cycle lost.verdict is early from le lost.point)
 
   -- so what ends its stretch there is such a frame
@@ -290,12 +290,12 @@ module _ (goes : BlocksGoSo) (v : View) (n t : ℕ) (block : IsInBlock v n t) (c
       enough_by (plan_of v.scenario.network cm) (observation_window v.scenario.network)
       (state_at_hearing v.scenario at.front cm (time_of g))
       (adjustment_at_hearing v.scenario at.front cm (time_of g)).0 own.0 cycle members emits_so.heard in
-      let shows = emission_shows v g cm opened own cycle members Integrates is i body in
+      let shows = emission_shows g cm opened own cycle members Integrates is i body in
       let joined = ap (is_joined_by cm) same ∙ e in
       let joins = (went (time_of g) from (omega (arith, le))).joins g cm i joined (all cm) refl in
       let of_cycle : cycle ≡ suc n = shows.0 ∙ joins.of_cycle in
       let emission : IsEmission v g cm (suc n) members =
-      subst (λ (k : ℕ). IsEmission v g cm k members) of_cycle (record
+      subst (λ k. IsEmission v g cm k members) of_cycle (record
       { there = i; opened = opened; at = own; verdict = Integrates; is = body }) in
       let base = bases_are_in_hulls v g cm (suc n) members is emission
       (λ h d m dispatch lt. (known_dispatch v n (by + 1) block.before went h d m dispatch (omega (arith, lt, le))).1)
@@ -317,26 +317,24 @@ module _ (goes : BlocksGoSo) (v : View) (n t : ℕ) (block : IsInBlock v n t) (c
 -- ---- the law
 
 -- the compression master of a channel that is whole from the dispatches of the block's cycle on sends its frame
-pub whole_master_sends : BlocksGoSo → (v : View) (channel : Channel) (n t : ℕ) (block : IsInBlock v n t) → IsView v
-    → AreAllGood v
-    → ((u : ℕ) → IsInHull v (suc n) u → IsWholeFrom v channel u)
-    → (first_correction v.sizes block.before.hull +ℤ pos v.sizes.reach) ≤ℤ pos t
-    → IsFrameSent v channel n
-whole_master_sends goes v channel n t block is all whole late =
+pub whole_master_sends : BlocksGoSo → {v : View} (channel : Channel) {n t : ℕ} (block : IsInBlock v n t) → IsView v
+    → AreAllGood v → ((u : ℕ) → IsInHull v (suc n) u → IsWholeFrom v channel u)
+    → (first_correction v.sizes block.before.hull +ℤ pos v.sizes.reach) ≤ℤ pos t → IsFrameSent v channel n
+whole_master_sends goes {v} channel {n} {t} block is all whole late =
     let before = block.before in
     let next = before.next in
-    let space = room v is in
+    let space = room is in
     let natural = natural_of (last_dispatch v.sizes before.hull +ℤ pos
     (v.sizes.dmax + v.sizes.compression + v.sizes.base + v.sizes.path + v.sizes.precision)) 0
-    (omega (arith, ints, early_show v n before is, hull_ordered v n before is, space)) in
+    (omega (arith, ints, early_show n before is, hull_ordered n before is, space)) in
     let by : ℕ = natural.0 in
-    let first = frames_come_first v.sizes before.hull space (before_narrow v n before) in
+    let first = frames_come_first v.sizes before.hull space (before_narrow before) in
     let early : IsEarly v n t block by = (
       omega (arith, ints, natural.1, first),
       omega
           (arith, ints, natural.1, first, late),
     ) in
-    let cm = channel_cm v channel is in
+    let cm = channel_cm channel is in
     let one = (cm_is v channel cm.0 cm.1).one in
     let test = λ (h : Happening). nat_le next (time_of h) && (nat_le (time_of h) by && is_joined_by cm.0 h.note.body) in
     elim (cases_Bool (list_any test v.records)) [

@@ -10,12 +10,13 @@ use Rattle.precision_law.proofs.words.Runs.{Happening, Scenario, adjustment_afte
 use Rattle.precision_law.proofs.words.Std.{◌*◌, ◌+ℤ◌, ◌+◌, ◌-◌, ◌<◌, ◌∙◌, ◌≡◌, ◌≤ℤ◌, ◌≤◌, ◌⊎◌, List, Some, ap, arith, cases_lt, false, inl, inr, ints}
 
 -- the hull of an earlier cycle is not behind itself either
-ordered_before : (v : View) (k : ℕ) (stands : Stands v k) (j : ℕ) (hull : Hull) → IsView v → j ≤ k → hull_of v j ≡ Some hull → hull.least ≤ℤ hull.greatest
-ordered_before v k stands zero hull view le is =
+ordered_before : {v : View} {k : ℕ} (stands : Stands v k) (j : ℕ) (hull : Hull) → IsView v → j ≤ k
+    → hull_of v j ≡ Some hull → hull.least ≤ℤ hull.greatest
+ordered_before {v} stands zero hull view le is =
     let same : start_hull v.sizes ≡ hull = same_some (hull_of v zero) (start_hull v.sizes) hull refl is in
     omega (arith, ints, ap (λ (z : Hull). z.least) same, ap (λ (z : Hull). z.greatest) same)
-ordered_before v k stands (suc i) hull view le is =
-    let prior = stands.narrow i (omega (arith, le)) in (follows_before v i prior.0 hull view prior.1 is).ordered
+ordered_before stands (suc i) hull view le is =
+    let prior = stands.narrow i (omega (arith, le)) in (follows_before i prior.0 hull view prior.1 is).ordered
 
 module _ (cover : BlocksCover) (goes : BlocksGoSo) (s : Scenario) (hs : List Happening) (path x y until : ℕ)
     (near_in : AreNearIn s hs until) (most : y ≤ until) (two : AreViews s hs path x y) where
@@ -26,7 +27,7 @@ module _ (cover : BlocksCover) (goes : BlocksGoSo) (s : Scenario) (hs : List Hap
       let v = first_of two in
       let w = second_of two in
       let le = two.le in
-      let space = room v two.a.is in
+      let space = room two.a.is in
       let before = one.block.before in
       let after = other.block.before in
       let close = near_hulls cover goes s hs path x y until near_in most two n before.hull after.hull before.is_hull after.is_hull in
@@ -35,12 +36,12 @@ module _ (cover : BlocksCover) (goes : BlocksGoSo) (s : Scenario) (hs : List Hap
         | inl old ↦
             elim other.how [
               | inl too ↦ omega (arith, ints, old.most, too.least, close, space, le)
-              | inr new ↦ (let follows = follows_before w n after.hull new.hull two.b.is after.is_hull new.is_hull in
+              | inr new ↦ (let follows = follows_before n after.hull new.hull two.b.is after.is_hull new.is_hull in
                   omega (arith, ints, old.most, new.shows.least, close, space, le, more, follows.most))
             ]
         | inr set ↦
             elim other.how [
-              | inl too ↦ (let follows = follows_before v n before.hull set.hull two.a.is before.is_hull set.is_hull in
+              | inl too ↦ (let follows = follows_before n before.hull set.hull two.a.is before.is_hull set.is_hull in
                   omega (arith, ints, set.shows.most, too.least, close, space, le, more, follows.least))
               | inr new ↦ (let both = near_hulls cover goes s hs path x y until near_in most two (suc n) set.hull new.hull set.is_hull new.is_hull in
                   omega (arith, ints, set.shows.most, new.shows.least, both, space, le))
@@ -53,19 +54,19 @@ module _ (cover : BlocksCover) (goes : BlocksGoSo) (s : Scenario) (hs : List Hap
       let v = first_of two in
       let w = second_of two in
       let order = two.le in
-      let space = room v two.a.is in
+      let space = room two.a.is in
       let before = block.before in
       let here = before.narrow n (omega (arith, le)) in
       let next = before.narrow (suc n) (omega (arith, lt)) in
       let there = before.narrow j (omega arith) in
       let close = near_hulls cover goes s hs path x y until near_in most two n here.0 later.before.hull here.1 later.before.is_hull in
-      let follows = follows_before v n here.0 next.0 two.a.is here.1 next.1 in
+      let follows = follows_before n here.0 next.0 two.a.is here.1 next.1 in
       let gap : suc n + (j - suc n) ≡ j = omega (arith, lt) in
-      let low = corrections_go_on v (suc j) (suc n) (j - suc n) before next.0 there.0 two.a.is (omega (arith, lt)) next.1
-      (subst (λ (z : ℕ). hull_of v z ≡ Some there.0) (sym gap) there.1) in
+      let low = corrections_go_on (suc n) (j - suc n) before next.0 there.0 two.a.is (omega (arith, lt)) next.1
+      (subst (λ z. hull_of v z ≡ Some there.0) (sym gap) there.1) in
       let begins = block_ends v j before.next there.0 there.1 before.is_over in
       let ends = block_ends w n later.next later.before.hull later.before.is_hull later.is_over in
-      let ordered = ordered_before v (suc j) before j there.0 two.a.is (omega arith) there.1 in
+      let ordered = ordered_before before j there.0 two.a.is (omega arith) there.1 in
       omega (arith, ints, close, follows.least, low, begins, ends, ordered, order, space, block.from, later.to)
   not_back j n block later le (inr same) =
       let v = first_of two in
@@ -75,10 +76,10 @@ module _ (cover : BlocksCover) (goes : BlocksGoSo) (s : Scenario) (hs : List Hap
       let there = before.narrow j (omega arith) in
       let begins = block_ends v j before.next there.0 there.1 before.is_over in
       let ends = block_ends w n later.next later.before.hull later.before.is_hull later.is_over in
-      let ordered = ordered_before v (suc j) before j there.0 two.a.is (omega arith) there.1 in
+      let ordered = ordered_before before j there.0 two.a.is (omega arith) there.1 in
       let from = block.from in
       let none = no_later_hull cover goes s hs path x y until near_in most two n there.0 later.before.hull
-      (subst (λ (z : ℕ). hull_of v z ≡ Some there.0) (sym same) there.1) later.before.is_hull ordered (omega (arith, ints, begins, from)) in
+      (subst (λ z. hull_of v z ≡ Some there.0) (sym same) there.1) later.before.is_hull ordered (omega (arith, ints, begins, from)) in
       omega (arith, ints, none, begins, ends, order, from, later.to)
 
   -- in blocks of any two cycles
@@ -92,7 +93,7 @@ module _ (cover : BlocksCover) (goes : BlocksGoSo) (s : Scenario) (hs : List Hap
               | inl lt ↦ ahead n later other lt
               | inr le ↦
                   let same : n ≡ k = omega (arith, ge, le) in
-                  same_block k shown later one (subst (λ (z : ℕ). IsShown (second_of two) z y later) same other)
+                  same_block k shown later one (subst (λ z. IsShown (second_of two) z y later) same other)
             ]
       ]
     where
@@ -107,8 +108,8 @@ module _ (cover : BlocksCover) (goes : BlocksGoSo) (s : Scenario) (hs : List Hap
       ahead zero later other lt = absurd (omega (arith, lt))
       ahead (suc m) later other lt =
           let v = first_of two in
-          let a = most_shown v k x shown two.a.is one in
-          let b = least_shown (second_of two) m y later two.b.is other in
+          let a = most_shown two.a.is one in
+          let b = least_shown m two.b.is other in
           let product : suc k * v.sizes.cycle ≤ suc m * v.sizes.cycle = mul-le-mul_right v.sizes.cycle (omega (arith, lt)) in
           omega (arith, ints, a, b, product)
 
@@ -119,33 +120,38 @@ record IsBlockOf (v : View) (t : ℕ) (shown : ℤ) : Type 0 where
   pub n : ℕ
   pub is : IsShown v n t shown
 
-left_in : (s : Scenario) (hs : List Happening) (t u : ℕ) (channel : Channel) (path : ℕ) (device : DeviceId) → (at : IsViewWith s hs t channel path) → t ≤ u
-    → u ≤ t + 1 → is_broken s device t ≡ false → state_after s (earlier u hs) device ≡ Synchronised
-    → IsBlockOf (view_of s t channel path at.cut.front) t (pos (s.reading device t) +ℤ (adjustment_after s (earlier u hs) device).0)
-left_in s hs t u channel path device at from to correct synchronised =
+left_in : {s : Scenario} {hs : List Happening} {t : ℕ} (u : ℕ) {channel : Channel} {path : ℕ} (device : DeviceId)
+    (at : IsViewWith s hs t channel path) → t ≤ u → u ≤ t + 1 → is_broken s device t ≡ false
+    → state_after s (earlier u hs) device ≡ Synchronised → IsBlockOf (view_of s t channel path at.cut.front) t
+    (pos (s.reading device t) +ℤ (adjustment_after s (earlier u hs) device).0)
+left_in {s} {t} u {channel} {path} device at from to correct synchronised =
     let v = view_of s t channel path at.cut.front in
     let block = blocks_known.cover v t at.is (omega arith) in
     let same = sym (at.cut.early u to) in
-    let timed = timed_of _ (subst (λ (gs : List Happening). state_after s gs device ≡ Synchronised) same synchronised) in
+    let timed = timed_of _ (subst (λ gs. state_after s gs device ≡ Synchronised) same synchronised) in
     record {
       n = block.0;
       is =
-          subst (λ (gs : List Happening). IsShown v block.0 t (pos (s.reading device t) +ℤ (adjustment_after s gs device).0)) (sym same)
-          (is_shown blocks_known.goes v block.0 t u device block.1 at.is from to (record { good = correct; timed = timed }));
+          subst (λ gs. IsShown v block.0 t (pos (s.reading device t) +ℤ (adjustment_after s gs device).0)) (sym same)
+          (is_shown blocks_known.goes {u = u} {d = device} block.1 at.is from to
+          (record { good = correct; timed = timed }));
     }
 
-shown_in : (s : Scenario) (hs : List Happening) (t : ℕ) (channel : Channel) (path : ℕ) (device : DeviceId) (shown : ℤ) → (at : IsViewWith s hs t channel path)
-    → ShowsInStep s hs device t shown → IsBlockOf (view_of s t channel path at.cut.front) t shown
-shown_in s hs t channel path device shown at (inl after) =
+shown_in : {s : Scenario} {hs : List Happening} {t : ℕ} {channel : Channel} {path : ℕ} {device : DeviceId}
+    (shown : ℤ) (at : IsViewWith s hs t channel path) → ShowsInStep s hs device t shown
+    → IsBlockOf (view_of s t channel path at.cut.front) t shown
+shown_in {s} {hs} {t} {channel} {path} {device} shown at (inl after) =
     let same = up_to_is t hs in
-    let state = subst (λ (gs : List Happening). state_after s gs device ≡ Synchronised) same after.0.synchronised in
-    let shows = after.1 ∙ ap (λ (gs : List Happening). pos (s.reading device t) +ℤ (adjustment_after s gs device).0) same in
+    let state = subst (λ gs. state_after s gs device ≡ Synchronised) same after.0.synchronised in
+    let shows = after.1 ∙ ap (λ gs. pos (s.reading device t) +ℤ (adjustment_after s gs device).0) same in
     subst (IsBlockOf (view_of s t channel path at.cut.front) t) (sym shows)
-    (left_in s hs t (t + 1) channel path device at (omega arith) (omega arith) after.0.correct state)
-shown_in s hs t channel path device shown at (inr before) =
+    (left_in {s = s} {hs = hs} {t = t} (t + 1) {channel = channel} {path = path} device at (omega arith)
+    (omega arith) after.0.correct state)
+shown_in {s} {hs} {t} {channel} {path} {device} shown at (inr before) =
     let state = not_integrating (is_turned_on_at s device t) (state_after s (earlier t hs) device) before.0.synchronised in
     subst (IsBlockOf (view_of s t channel path at.cut.front) t) (sym before.1)
-    (left_in s hs t t channel path device at (omega arith) (omega arith) before.0.correct state)
+    (left_in {s = s} {hs = hs} {t = t} t {channel = channel} {path = path} device at (omega arith) (omega arith)
+    before.0.correct state)
 
 pub never_fall : ClocksDoNotFallBack
 never_fall s mark ns until up x y d e shown later le most one other =
@@ -156,12 +162,12 @@ never_fall s mark ns until up x y d e shown later le most one other =
     let is_beta = subst (IsBeta n) beta.value beta in
     let c = one_channel_is_sound s x up.lawful in
     let f = one_channel_is_sound s y up.lawful in
-    let a = view_with s mark ns until x c.0 path up is_beta (omega (arith, le, most)) c.1 in
-    let b = view_with s mark ns until y f.0 path up is_beta most f.1 in
+    let a = view_with x c.0 path up is_beta (omega (arith, le, most)) c.1 in
+    let b = view_with y f.0 path up is_beta most f.1 in
     let two : AreViews s hs path x y = record { c = c.0; d = f.0; a = a; b = b; le = le } in
-    let first = shown_in s hs x c.0 path d shown a one in
-    let second = shown_in s hs y f.0 path e later b other in
+    let first = shown_in shown a one in
+    let second = shown_in later b other in
     let v = view_of s x c.0 path a.cut.front in
     let fall = falls blocks_known.cover blocks_known.goes s hs path x y until (near s mark ns until up) most two first.n second.n
     shown later first.is second.is in
-    in_network v shown later a.is fall
+    in_network shown later a.is fall

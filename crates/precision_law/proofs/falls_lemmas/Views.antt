@@ -20,50 +20,52 @@ pub record IsShown (v : View) (n t : ℕ) (shown : ℤ) : Type 0 where
   pub block : IsInBlock v n t
   pub how : ShowsIn v.sizes shown n block.before.hull t ⊎ IsNewShown v n t shown
 
-pub is_shown : BlocksGoSo → (v : View) (n t u : ℕ) (d : DeviceId) (block : IsInBlock v n t) → IsView v → t ≤ u → u ≤ t + 1 → HasTimeAt v d u
-    → IsShown v n t (pos (v.scenario.reading d t) +ℤ adjustment_left v d u)
-is_shown goes v n t u d block is le most has = record {
+pub is_shown : BlocksGoSo → {v : View} {n t u : ℕ} {d : DeviceId} (block : IsInBlock v n t) → IsView v → t ≤ u
+    → u ≤ t + 1 → HasTimeAt v d u → IsShown v n t (pos (v.scenario.reading d t) +ℤ adjustment_left v d u)
+is_shown goes {v} {n} {t} {u} {d} block is le most has = record {
   block = block;
   how =
       by_lt_z {P = ShowsIn v.sizes (pos (v.scenario.reading d t) +ℤ adjustment_left v d u) n block.before.hull t
       ⊎ IsNewShown v n t (pos (v.scenario.reading d t) +ℤ adjustment_left v d u)} (epoch_time (earlier u v.records) d) (pos block.before.next)
-      (λ old. inl (old_shows _ _ _ _ _ block is le has old))
+      (λ old. inl (old_shows block is le has old))
       (λ late.
-      let set = new_shows v n t u d block (λ w from lt. goes v n w (earlier_in_block v n t w block from (omega (arith, lt, most))) is) is most has
+      let set = new_shows {u = u} block (λ w from lt. goes v n w
+      (earlier_in_block v n t w block from (omega (arith, lt, most))) is) is most has
       (last_setting (earlier u v.records) d) refl late in
       inr (record {
         hull = set.hull;
         is_hull = set.is_hull;
-        shows = set_shows v n t d (adjustment_left v d u) block is set;
+        shows = set_shows block is set;
         ahead = omega (arith, ints, set.ahead);
       }));
 }
 
 -- up to the end of its block it shows at most this
-pub most_shown : (v : View) (n t : ℕ) (shown : ℤ) → IsView v → IsShown v n t shown
+pub most_shown : {v : View} {n t : ℕ} {shown : ℤ} → IsView v → IsShown v n t shown
     → shown ≤ℤ pos (suc n * v.sizes.cycle + v.sizes.correction + v.sizes.precision)
-most_shown v n t shown is s =
+most_shown {v} {n} is s =
     let before = s.block.before in
     let ends = block_ends v n s.block.next before.hull before.is_hull s.block.is_over in
-    let narrow = before_narrow v n before in
-    let space = room v is in
+    let narrow = before_narrow before in
+    let space = room is in
     let more = one_more n v.sizes.cycle in
     let to = s.block.to in
     elim s.how [
       | inl old ↦ omega (arith, ints, ends, narrow, space, more, old.most, to)
       | inr new ↦
-          let follows = follows_before v n before.hull new.hull is before.is_hull new.is_hull in
+          let follows = follows_before n before.hull new.hull is before.is_hull new.is_hull in
           omega (arith, ints, ends, narrow, space, more, new.shows.most, to, follows.least)
     ]
 
 -- from the beginning of its block on, at least this
-pub least_shown : (v : View) (m t : ℕ) (shown : ℤ) → IsView v → IsShown v (suc m) t shown → pos (suc m * v.sizes.cycle + v.sizes.correction) ≤ℤ shown
-least_shown v m t shown is s =
+pub least_shown : {v : View} (m : ℕ) {t : ℕ} {shown : ℤ} → IsView v → IsShown v (suc m) t shown
+    → pos (suc m * v.sizes.cycle + v.sizes.correction) ≤ℤ shown
+least_shown {v} m is s =
     let before = s.block.before in
     let prior = before.narrow m (omega arith) in
     let begins = block_ends v m before.next prior.0 prior.1 before.is_over in
-    let follows = follows_before v m prior.0 before.hull is prior.1 before.is_hull in
-    let space = room v is in
+    let follows = follows_before m prior.0 before.hull is prior.1 before.is_hull in
+    let space = room is in
     let more = one_more (suc m) v.sizes.cycle in
     let from = s.block.from in
     elim s.how [
@@ -73,8 +75,9 @@ least_shown v m t shown is s =
 
 -- ---- the precision of the network
 
-pub in_network : (v : View) (x y : ℤ) → IsView v → x ≤ℤ (y +ℤ pos v.sizes.precision) → x ≤ℤ (y +ℤ v.scenario.network.precision.0)
-in_network v x y is le = omega (arith, ints, le, sizes_are v is)
+pub in_network : {v : View} (x y : ℤ) → IsView v → x ≤ℤ (y +ℤ pos v.sizes.precision)
+    → x ≤ℤ (y +ℤ v.scenario.network.precision.0)
+in_network x y is le = omega (arith, ints, le, sizes_are is)
 
 -- ---- two views of a run
 
@@ -107,11 +110,11 @@ module _ (cover : BlocksCover) (goes : BlocksGoSo) (s : Scenario) (hs : List Hap
       let w = second_of two in
       let one : start_hull v.sizes ≡ hull = same_some (hull_of v zero) (start_hull v.sizes) hull refl is in
       let too : start_hull w.sizes ≡ other = same_some (hull_of w zero) (start_hull w.sizes) other refl are in
-      let space = room v two.a.is in
+      let space = room two.a.is in
       omega (arith, ints, ap (λ (z : Hull). z.least) one, ap (λ (z : Hull). z.greatest) too, space.errors.spread_is)
   near_hulls near most two (suc c) hull other is are =
-      let one = hull_lies cover goes (first_of two) two.a.is c hull is in
-      let too = hull_lies cover goes (second_of two) two.b.is c other are in
+      let one = hull_lies cover goes two.a.is c hull is in
+      let too = hull_lies cover goes two.b.is c other are in
       let g = too.is_latest in
       let h = one.is_earliest in
       let le = two.le in
@@ -132,12 +135,12 @@ module _ (cover : BlocksCover) (goes : BlocksGoSo) (s : Scenario) (hs : List Hap
       omega (arith, ints, ap (λ (z : Hull). z.greatest) one, ap (λ (z : Hull). z.greatest) too)
   no_later_hull near most two (suc c) hull other is are ordered behind =
       let v = first_of two in
-      let space = room v two.a.is in
-      let too = hull_lies cover goes (second_of two) two.b.is c other are in
+      let space = room two.a.is in
+      let too = hull_lies cover goes two.b.is c other are in
       let g = too.is_latest in
       let close = near_hulls near most two (suc c) hull other is are in
       let early : time_of too.latest ≤ x = omega (arith, ints, close, too.last_is, ordered, behind, space) in
-      let inside = all_in_hulls cover goes v two.a.is too.latest g.master (suc c) (record {
+      let inside = all_in_hulls cover goes two.a.is {h = too.latest} {device = g.master} {cycle = suc c} (record {
         there = two.a.cut.has too.latest (two.b.cut.inside too.latest g.there) early;
         is = g.is;
         good = good_is_correct (second_of two) g.master x g.correct two.le;

@@ -83,8 +83,9 @@ pub record HasMember (v : View) (device : DeviceId) (m : ℕ) : Type 0 where
   pub master : is_master d.role ≡ true
   pub small : m ≤ 31
 
-pub has_member : (v : View) (device : DeviceId) (m : ℕ) → IsView v → member_of v.scenario.network device ≡ Some m → HasMember v device m
-has_member v device m is e =
+pub has_member : {v : View} (device : DeviceId) (m : ℕ) → IsView v → member_of v.scenario.network device ≡ Some m
+    → HasMember v device m
+has_member {v} device m is e =
     let d = reached (λ (x : Device). x.member) (device_at v.scenario.network device) m e in
     let known : IsDeviceInRange d.0 = all_at IsDeviceInRange v.scenario.network.device device.0 d.0 is.lawful.range.devices d.1 in
     record {
@@ -95,10 +96,11 @@ has_member v device m is e =
       small = subst (λ (o : Option ℕ). IfSome o (λ k. k ≤ 31)) d.2 known.member;
     }
 
-pub one_member : (v : View) (a b : DeviceId) (m : ℕ) → IsView v → member_of v.scenario.network a ≡ Some m → member_of v.scenario.network b ≡ Some m → a ≡ b
-one_member v a b m is of_a of_b =
-    let x = has_member v a m is of_a in
-    let y = has_member v b m is of_b in
+pub one_member : {v : View} (a b : DeviceId) (m : ℕ) → IsView v → member_of v.scenario.network a ≡ Some m
+    → member_of v.scenario.network b ≡ Some m → a ≡ b
+one_member {v} a b m is of_a of_b =
+    let x = has_member a m is of_a in
+    let y = has_member b m is of_b in
     let differ = (is.lawful.rules Masters 1).members refl in
     let clash = λ (p q : DeviceId) (at_p : HasMember v p m) (at_q : HasMember v q m) (lt : p.0 < q.0).
     let k = kept_pair (λ (d : Device). is_master d.role) v.scenario.network.device p.0 q.0 at_p.d at_q.d lt at_p.at at_q.at at_p.master at_q.master in

@@ -41,11 +41,12 @@ AreBelow v befallen place set = (i : ℕ) → IsMember i set → (s : IsSoundAt 
 abbrev HasSound : View → List Event → ℕ → Type 0
 HasSound v befallen n = (set : Members) × (count_of set ≡ n) × ((i : ℕ) → IsMember i set → IsSoundAt v befallen i)
 
-grow : (v : View) (befallen : List Event) (xs : List Device) (k : ℕ) (set : Members) → IsView v
-    → ((j : ℕ) (d : Device) → slice_get xs j ≡ Some d → slice_get v.scenario.network.device (k + j) ≡ Some d) → AreBelow v befallen k set
+grow : {v : View} (befallen : List Event) (xs : List Device) (k : ℕ) (set : Members) → IsView v
+    → ((j : ℕ) (d : Device) → slice_get xs j ≡ Some d → slice_get v.scenario.network.device (k + j) ≡ Some d)
+    → AreBelow v befallen k set
     → HasSound v befallen (count_of set + count_by (is_sound_master befallen) (enumerate_from k xs))
-grow v befallen [] k set is there below = (set, omega arith, λ i m. (below i m).0)
-grow v befallen (d ∷ xs) k set is there below =
+grow befallen [] k set is there below = (set, omega arith, λ i m. (below i m).0)
+grow {v} befallen (d ∷ xs) k set is there below =
     let test = is_sound_master befallen (k, d) in
     let here : slice_get v.scenario.network.device k ≡ Some d =
     (let same : k + 0 ≡ k = omega arith in subst (λ (n : ℕ). slice_get v.scenario.network.device n ≡ Some d) same (there 0 d refl)) in
@@ -55,17 +56,19 @@ grow v befallen (d ∷ xs) k set is there below =
     let counts = sum_by-cons (λ (x : ℕ × Device). cond (is_sound_master befallen x) 1 0) (k, d) (enumerate_from (k + 1) xs) in
     elim test as (λ b. test ≡ b → HasSound v befallen (count_of set + count_by (is_sound_master befallen) (enumerate_from k (d ∷ xs)))) [
       | false ↦ λ e.
-          let r = grow v befallen xs (k + 1) set is later old in
+          let r = grow befallen xs (k + 1) set is later old in
           (r.0, omega (arith, r.1, counts, ap (λ (b : Bool). let n : ℕ = cond b 1 0 in n) e), r.2)
       | true ↦ λ e.
           let role = (and_parts (is_master d.role) (is_some d.start)
           (and_parts (is_master d.role && is_some d.start) (not (list_any (λ e. breaks_at k e.what) befallen)) e).0).0 in
-          let m = master_member v (record { 0 = k }) is (ap (λ (o : Option Device). option_map_or (λ x. is_master x.role) o false) here ∙ role) in
+          let m = master_member (record { 0 = k }) is
+          (ap (λ (o : Option Device). option_map_or (λ x. is_master x.role) o false) here ∙ role) in
           let new : IsMember m.0 set → ⊥ = λ old.
           let b = below m.0 old in
-          let place : b.0.device.0 ≡ k = ap (λ (x : DeviceId). x.0) (one_member v b.0.device (record { 0 = k }) m.0 is b.0.is_member m.1) in
+          let place : b.0.device.0 ≡ k =
+          ap (λ (x : DeviceId). x.0) (one_member b.0.device (record { 0 = k }) m.0 is b.0.is_member m.1) in
           absurd (omega (arith, b.1, place)) in
-          let r = grow v befallen xs (k + 1) (union (single m.0) set) is later (λ i j. elim (cases_eq i m.0) [
+          let r = grow befallen xs (k + 1) (union (single m.0) set) is later (λ i j. elim (cases_eq i m.0) [
             | inl same ↦ (record { device = record { 0 = k }; d = d; at = here; sound = e; is_member = m.1 ∙ ap (λ (x : ℕ). Some x) (sym same) }, omega arith)
             | inr other ↦ old i (omega (arith, j, bit_at_or (single m.0).0 set.0 i, bit_at-pow_other m.0 i other))
           ]) in
@@ -73,12 +76,13 @@ grow v befallen (d ∷ xs) k set is there below =
     ] refl
 
 -- a set that has all first masters has as many members as there are sound masters, where these are good
-enough_by : (v : View) (befallen : List Event) (members : Members) → IsView v
-    → ((device : DeviceId) (i : ℕ) → IsFirstMaster v device → member_of v.scenario.network device ≡ Some i → IsMember i members)
-    → ((device : DeviceId) (d : Device) → device_at v.scenario.network device ≡ Some d → list_any (λ e. breaks_at device.0 e.what) befallen ≡ false
-    → IsGood v device) → sound_masters v.scenario.network befallen ≤ count_of members
-enough_by v befallen members is all good =
-    let r = grow v befallen v.scenario.network.device 0 none is (λ j d at.
+enough_by : {v : View} (befallen : List Event) (members : Members) → IsView v
+    → ((device : DeviceId) (i : ℕ) → IsFirstMaster v device → member_of v.scenario.network device ≡ Some i
+    → IsMember i members) → ((device : DeviceId) (d : Device) → device_at v.scenario.network device ≡ Some d
+    → list_any (λ e. breaks_at device.0 e.what) befallen ≡ false → IsGood v device)
+    → sound_masters v.scenario.network befallen ≤ count_of members
+enough_by {v} befallen members is all good =
+    let r = grow befallen v.scenario.network.device 0 none is (λ j d at.
     let same : j ≡ 0 + j = omega arith in
     subst (λ (x : ℕ). slice_get v.scenario.network.device x ≡ Some d) same at) (λ i m. (let z = bit_at-zero i in absurd (omega (arith, m, z)))) in
     let empty : count_of none ≡ 0 = (let le = ones_le_self 0 in omega (arith, le)) in
@@ -130,14 +134,15 @@ enough_masters v members is all =
     let n = v.scenario.network in
     elim (some_bad v n.device 0) [
       | inr good ↦
-          let enough = enough_by v [] members is all (λ device d at none_breaks.
+          let enough = enough_by [] members is all (λ device d at none_breaks.
           good device.0 (omega arith) (omega (arith, slice_get_within n.device device.0 d at))) in
           omega (arith, (is.lawful.rules Masters 3).begin_on refl, none_befell n.device 0, enough)
       | inl bad ↦
           let b = broke_by v bad.0 bad.1 in
           let at = parted b.event v.scenario.events b.there in
           let befallen = at.0 ++ b.event ∷ [] in
-          let enough = enough_by v befallen members is all (λ device d place none_breaks. spared v bad.0 b.event at.0 device is bad.1 b.breaks none_breaks) in
+          let enough = enough_by befallen members is all
+          (λ device d place none_breaks. spared v bad.0 b.event at.0 device is bad.1 b.breaks none_breaks) in
           let many : n.sync_threshold ≤ sound_masters n befallen =
           le_by (λ few. is.lawful.within at.0 at.1 b.event at.2 TooFewMasters (record { device = bad.0; breaks = b.breaks; few = few })) in
           omega (arith, many, enough)

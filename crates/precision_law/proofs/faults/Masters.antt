@@ -16,9 +16,9 @@ breaks_it place (events.Break d) e = (d, refl, eqb-true d.0 place e)
 breaks_it place other e = absurd cc
 
 -- a broken device is a master
-pub bad_is_master : (v : View) (device : DeviceId) → IsView v → IsBad v device
+pub bad_is_master : {v : View} (device : DeviceId) → IsView v → IsBad v device
     → (IsSomeAnd (device_at v.scenario.network device) (λ d. is_master d.role ≡ true) → ⊥) → ⊥
-bad_is_master v device is bad no_master =
+bad_is_master {v} device is bad no_master =
     let found = any_in (λ (e : Event). breaks_at device.0 e.what) (events_up_to v.scenario v.until) bad in
     let breaks = breaks_it device.0 found.0.what found.2 in
     let same = same_device breaks.0 device breaks.2 in
@@ -27,7 +27,7 @@ bad_is_master v device is bad no_master =
 
 pub switches_are_good : SwitchesAreGood
 switches_are_good v channel device is switch =
-    false_from_ne_true (is_broken v.scenario device v.until) (λ bad. bad_is_master v device is bad (λ master.
+    false_from_ne_true (is_broken v.scenario device v.until) (λ bad. bad_is_master device is bad (λ master.
     let d = opened (λ (x : Device). x.channel ≡ Some channel) (device_at v.scenario.network device) switch in
     let m = opened (λ (x : Device). is_master x.role ≡ true) (device_at v.scenario.network device) master in
     let known : IsDeviceInRange d.0 = all_at IsDeviceInRange v.scenario.network.device device.0 d.0 is.lawful.range.devices d.1 in
@@ -76,12 +76,12 @@ pub link_of_one : (n : Network) (c d : Channel) (link : LinkId) → IsLinkOf n c
 link_of_one n c d link one other = grind (arith, opened, link_at, device_at, same_some)
 
 -- no two channels are faulty
-pub one_is_faulty : (n : Network) (es : List Event) (c d : Channel) → ((x y : Channel) → HasOffSwitch n x → HasOffSwitch n y → x ≡ y) → IsFaulty n es c
-    → IsFaulty n es d → c ≡ d
-one_is_faulty n es c d off (inl a) (inl b) = off c d a b
-one_is_faulty n es c d off (inl a) (inr b) = absurd (b.0 c a)
-one_is_faulty n es c d off (inr a) (inl b) = absurd (a.0 d b)
-one_is_faulty n es c d off (inr a) (inr b) =
+pub one_is_faulty : {n : Network} {es : List Event} {c d : Channel}
+    → ((x y : Channel) → HasOffSwitch n x → HasOffSwitch n y → x ≡ y) → IsFaulty n es c → IsFaulty n es d → c ≡ d
+one_is_faulty {c} {d} off (inl a) (inl b) = off c d a b
+one_is_faulty {c} off (inl a) (inr b) = absurd (b.0 c a)
+one_is_faulty {d} off (inr a) (inl b) = absurd (a.0 d b)
+one_is_faulty {n} {c} {d} off (inr a) (inr b) =
     let x = a.1 in
     let y = b.1 in
     let same : x.cut ≡ y.cut = first_cut_is_one x.before y.before x.behind y.behind x.cut y.cut x.cuts.0 y.cuts.0 (sym x.order ∙ y.order) x.cuts.1 y.cuts.1
@@ -89,12 +89,12 @@ one_is_faulty n es c d off (inr a) (inr b) =
     let mine = subst (Cuts x.cuts.0) same x.cuts.1 in
     let both : events.Cut y.cuts.0 y.cuts.1.0 ≡ events.Cut x.cuts.0 mine.0 = sym y.cuts.1.1 ∙ mine.1 in
     let link : y.cuts.0 ≡ x.cuts.0 = cc in
-    link_of_one n c d x.cuts.0 x.cuts.2 (subst (λ (l : LinkId). IsLinkOf n d l) link y.cuts.2)
+    link_of_one n c d x.cuts.0 x.cuts.2 (subst (λ l. IsLinkOf n d l) link y.cuts.2)
 
 pub one_channel_is_sound : OneChannelIsSound
 one_channel_is_sound s t lawful =
     let es = events_up_to s t in
     elim (is_faulty s.network es A) [
       | inr sound ↦ (A, sound)
-      | inl faulty ↦ (B, λ other. (let wrong : A ≡ B = one_is_faulty s.network es A B ((lawful.rules Masters 5).one_faulty refl) faulty other in cc))
+      | inl faulty ↦ (B, λ other. (let wrong : A ≡ B = one_is_faulty ((lawful.rules Masters 5).one_faulty refl) faulty other in cc))
     ]

@@ -47,13 +47,13 @@ module _ (v : View) (device : DeviceId) (t : ℕ) (is : IsView v) (none : (w : �
       elim (is_turned_on_at v.scenario device w) as (λ b. is_turned_on_at v.scenario device w ≡ b
       → is_on (if b then Integrating else state_after v.scenario (earlier w front) device) ≡ true → ⊥) [
         | true ↦ λ turned now. none w lt (turned_at v.scenario device w turned)
-        | false ↦ λ left on. before w lt (subst (λ (hs : List Happening). is_on (state_after v.scenario hs device) ≡ true) (earlier_before v w front split) on)
+        | false ↦ λ left on. before w lt (subst (λ hs. is_on (state_after v.scenario hs device) ≡ true) (earlier_before split) on)
       ] refl e
 
   never_joined : (h : Happening) → IsIn h v.records → time_of h < t → is_joined_by device h.note.body ≡ true → ⊥
   never_joined h i lt joined =
       let at = founded_at v.scenario v.records h is.run.founded i in
-      never_on (time_of h) at.front (before_of v h is at) lt (ap is_on (looking_by v.scenario at.front h.note.time device h.note.body joined at.due.cause))
+      never_on (time_of h) at.front (before_of {h = h} is at) lt (ap is_on (looking_by v.scenario at.front h.note.time device h.note.body joined at.due.cause))
 
   never_changes : (w : ℕ) (front : List Happening) (state : State) (cause : ℕ) (why : Why) → AreBeforeCorrections v w front → w < t
       → ChangesState v.scenario front device w state cause why → ⊥
@@ -76,7 +76,7 @@ module _ (v : View) (device : DeviceId) (t : ℕ) (is : IsView v) (none : (w : �
       → AreBeforeCorrections v (time_of h) front → IsCaused v.scenario front h.note.time body → Keeps is_on device body
   keeps_off h front (notes.State other state cause why) i lt same split c old e =
       kept_if is_on (device.0 == other.0) state old (λ own on. never_changes (time_of h) front state cause why split lt
-      (subst (λ (d : DeviceId). ChangesState v.scenario front d (time_of h) state cause why) (same_device device other own) c)) e
+      (subst (λ d. ChangesState v.scenario front d (time_of h) state cause why) (same_device device other own) c)) e
   keeps_off h front (notes.Permanent other link cause point Integrates) i lt same split c old e =
       kept_if is_on (device.0 == other.0) Joining old (λ own on. never_joined h i lt (ap (is_joined_by device) same ∙ own)) e
   keeps_off h front (notes.Compressed other opened own cycle members Integrates) i lt same split c old e =
@@ -88,14 +88,17 @@ module _ (v : View) (device : DeviceId) (t : ℕ) (is : IsView v) (none : (w : �
       kept_by_all is_on device (earlier t v.records) (λ h i.
       let back = in_earlier t v.records h i in
       let at = founded_at v.scenario v.records h is.run.founded back.0 in
-      keeps_off h at.front h.note.body back.0 back.1 refl (before_of _ _ is at) at.due.cause) (state_at_start (start_of v.scenario.network device)) e
+      keeps_off h at.front h.note.body back.0 back.1 refl (before_of is at) at.due.cause) (state_at_start (start_of v.scenario.network device)) e
 
 -- a device that begins off and is not turned on before a time is off then
-off_until : (v : View) (device : DeviceId) (bound t : ℕ) → IsView v → t ≤ bound → ((w : ℕ) → w < t → IsTurnedAt v.scenario device w → ⊥)
-    → (is_on (state_at_start (start_of v.scenario.network device)) ≡ true → ⊥) → is_on (state_left v device t) ≡ true → ⊥
-off_until v device zero t is le none begins e = begins (started_on v device t is none (λ w lt on. absurd (omega (arith, lt, le))) e)
-off_until v device (suc bound) t is le none begins e =
-    begins (started_on v device t is none (λ w lt on. off_until v device bound w is (omega arith)
+off_until : {v : View} (device : DeviceId) (bound t : ℕ) → IsView v → t ≤ bound
+    → ((w : ℕ) → w < t → IsTurnedAt v.scenario device w → ⊥)
+    → (is_on (state_at_start (start_of v.scenario.network device)) ≡ true → ⊥) → is_on (state_left v device t) ≡ true
+    → ⊥
+off_until {v} device zero t is le none begins e =
+    begins (started_on v device t is none (λ w lt on. absurd (omega (arith, lt, le))) e)
+off_until {v} device (suc bound) t is le none begins e =
+    begins (started_on v device t is none (λ w lt on. off_until device bound w is (omega arith)
     (λ x less. none x (omega (arith, less, lt))) begins on) e)
 
 -- ---- a device is turned on once
@@ -105,13 +108,14 @@ begins_by None e = absurd cc
 begins_by (Some d) e = elim d.start as (λ o. is_on (state_at_start o) ≡ true → IsNone o → ⊥) [ None ↦ λ on off. absurd cc | Some x ↦ λ on off. absurd cc ] e
 
 -- a device that is on is not turned on
-pub on_not_turned_on : (v : View) (device : DeviceId) (u : ℕ) → IsView v → is_off (state_left v device u) ≡ false
+pub on_not_turned_on : {v : View} (device : DeviceId) (u : ℕ) → IsView v → is_off (state_left v device u) ≡ false
     → is_turned_on_at v.scenario device u ≡ false
-on_not_turned_on v device u is on_then =
+on_not_turned_on {v} device u is on_then =
     false_from_ne_true (is_turned_on_at v.scenario device u) (λ turned.
     let x = turned_at v.scenario device u turned in
     let parts = parted x.event v.scenario.events x.there in
-    off_until v device u u is (omega arith) (λ w lt y. elim (in_parts y.event parts.0 (x.event ∷ parts.1) (subst (IsIn y.event) parts.2 y.there)) [
+    off_until device u u is (omega arith) (λ w lt y. elim (in_parts y.event parts.0 (x.event ∷ parts.1)
+    (subst (IsIn y.event) parts.2 y.there)) [
       | inl sooner ↦ is.lawful.within parts.0 parts.1 x.event parts.2 NotOff
           (record { device = device; what = x.turns; known = inr (inl (any_of_in (TurnsOn device) y.event parts.0 sooner y.turns)) })
       | inr (inl same) ↦ (let time : amount y.event.time ≡ amount x.event.time = ap (λ (e : Event). amount e.time)
@@ -130,10 +134,10 @@ on_not_turned_on v device u is on_then =
     (record { device = device; what = x.turns; known = inl (begins_by (device_at v.scenario.network device) on) })) (ap not on_then))
 
 -- so one that has the common time is not
-pub not_turned_on_then : (v : View) (device : DeviceId) (u : ℕ) → IsView v → has_time (state_left v device u) ≡ true
+pub not_turned_on_then : {v : View} (device : DeviceId) (u : ℕ) → IsView v → has_time (state_left v device u) ≡ true
     → is_turned_on_at v.scenario device u ≡ false
-not_turned_on_then v device u is timed = on_not_turned_on v device u is (timed_not_off (state_left v device u) timed)
+not_turned_on_then {v} device u is timed = on_not_turned_on device u is (timed_not_off (state_left v device u) timed)
 
 -- so none that has the common time is
 pub none_turns_on : NoneTurnsOn
-none_turns_on v device u is has = not_turned_on_then v device u is has.timed
+none_turns_on v device u is has = not_turned_on_then device u is has.timed

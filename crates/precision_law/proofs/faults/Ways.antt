@@ -27,9 +27,10 @@ data FirstCut (es : List Event) : Type 0 where
   cut_at : (before behind : List Event) (e : Event) (link : LinkId) → es ≡ before ++ e ∷ behind → Cuts link e → ((l : LinkId) → Any (Cuts l) before → ⊥)
       → FirstCut es
 
-not_cut : (e : Event) (es : List Event) → ((link : LinkId) → Cuts link e → ⊥) → FirstCut es → FirstCut (e ∷ es)
-not_cut e es never (uncut none) = uncut (λ link any. elim (any_parts (Cuts link) e es any) [ inl here ↦ never link here | inr later ↦ none link later ])
-not_cut e es never (cut_at before behind c link whole cuts none) =
+not_cut : (e : Event) {es : List Event} → ((link : LinkId) → Cuts link e → ⊥) → FirstCut es → FirstCut (e ∷ es)
+not_cut e {es} never (uncut none) = uncut (λ link any. elim (any_parts (Cuts link) e es
+    any) [ inl here ↦ never link here | inr later ↦ none link later ])
+not_cut e never (cut_at before behind c link whole cuts none) =
     cut_at (e ∷ before) behind c link (ap (λ (t : List Event). e ∷ t) whole) cuts
     (λ l any. elim (any_parts (Cuts l) e before any) [ inl here ↦ never l here | inr later ↦ none l later ])
 
@@ -39,7 +40,8 @@ first_cut (e ∷ es) = by e.what refl (first_cut es)
   where
     by : (what : What) → e.what ≡ what → FirstCut es → FirstCut (e ∷ es)
     by (events.Cut link way) same more = cut_at [] es e link refl (way, same) (λ l any. any_of_none (Cuts l) any)
-    by what same more = not_cut e es (λ l cuts. (let wrong : what ≡ events.Cut l cuts.0 = sym same ∙ cuts.1 in absurd cc)) more
+    by what same more =
+        not_cut e (λ l cuts. (let wrong : what ≡ events.Cut l cuts.0 = sym same ∙ cuts.1 in absurd cc)) more
 
 -- a way is cut by an event
 cut_by : (s : Scenario) (link : LinkId) (way : Way) (t : ℕ) → is_cut s link way t ≡ true → (e : Event) × IsIn e (events_up_to s t) × Cuts link e
@@ -69,9 +71,9 @@ same_or_not B A = inr (λ e. absurd cc)
 same_or_not c d = inl refl
 
 -- a link that an event cuts is of a channel
-channel_cut : (v : View) (e : Event) (link : LinkId) → IsView v → IsIn e v.scenario.events → Cuts link e → (channel : Channel)
-    × IsLinkOf v.scenario.network channel link
-channel_cut v e link is i cuts =
+channel_cut : {v : View} (e : Event) (link : LinkId) → IsView v → IsIn e v.scenario.events → Cuts link e
+    → (channel : Channel) × IsLinkOf v.scenario.network channel link
+channel_cut {v} e link is i cuts =
     let l = there_within v.scenario.network.link link.0 (is.lawful.named e link i cuts) in
     let joint = is.lawful.rules Joints link.0 l.0 l.1 in
     (joint.0, closed (λ (k : Link). IsSwitchOf v.scenario.network joint.0 k.parent) (link_at v.scenario.network link) l.0 l.1 joint.1)
@@ -82,10 +84,11 @@ channel_cut v e link is i cuts =
     there_within (x ∷ xs) (suc i) lt = there_within xs i (omega (arith, lt))
 
 -- where no switch begins off, the first cut is not of the sound channel
-sound_cut : (v : View) (before behind : List Event) (e : Event) (link : LinkId) → IsView v → v.scenario.events ≡ before ++ e ∷ behind
-    → amount e.time ≤ v.until → Cuts link e → IsLinkOf v.scenario.network v.channel link → ((c : Channel) → HasOffSwitch v.scenario.network c → ⊥)
+sound_cut : {v : View} (before behind : List Event) (e : Event) (link : LinkId) → IsView v
+    → v.scenario.events ≡ before ++ e ∷ behind → amount e.time ≤ v.until → Cuts link e
+    → IsLinkOf v.scenario.network v.channel link → ((c : Channel) → HasOffSwitch v.scenario.network c → ⊥)
     → ((l : LinkId) → Any (Cuts l) before → ⊥) → ⊥
-sound_cut v before behind e link is whole early cuts of_channel on none =
+sound_cut {v} before behind e link is whole early cuts of_channel on none =
     let p = λ (x : Event). nat_le (amount x.time) v.until in
     is.sound (inr (
       on,
@@ -117,17 +120,17 @@ module _ (v : View) (link : LinkId) (e : Event) (before behind : List Event) (is
 
   -- where none does, it is that of the first cut
   never_cut : amount e.time ≤ v.until → FirstCut before → ⊥
-  never_cut early (uncut none) = sound_cut v before behind e link is whole early cuts of_channel none_off none
+  never_cut early (uncut none) = sound_cut before behind e link is whole early cuts of_channel none_off none
   never_cut early (cut_at b m c l split cuts_c none) =
       let in_before : IsIn c before = subst (IsIn c) (sym split) (in_right c b (c ∷ m) (inl refl)) in
       let in_all : IsIn c v.scenario.events = subst (IsIn c) (sym whole) (in_left c before (e ∷ behind) in_before) in
       let order = no_earlier v.scenario.network v.scenario.events before behind c e is.lawful.within whole in_before in
-      let of_c = channel_cut v c l is in_all cuts_c in
+      let of_c = channel_cut c l is in_all cuts_c in
       elim (same_or_not of_c.0 v.channel) [
         | inl same ↦
             let parts = whole ∙ ap (λ (t : List Event). t ++ e ∷ behind) split ∙ append_assoc b (c ∷ m) (e ∷ behind) in
-            sound_cut v b (m ++ e ∷ behind) c l is parts (omega (arith, ints, order, (given v.scenario c is.lawful in_all).range.time, early)) cuts_c
-            (subst (λ (x : Channel). IsLinkOf v.scenario.network x l) same of_c.1) none_off none
+            sound_cut b (m ++ e ∷ behind) c l is parts (omega (arith, ints, order, (given v.scenario c is.lawful in_all).range.time, early)) cuts_c
+            (subst (λ x. IsLinkOf v.scenario.network x l) same of_c.1) none_off none
         | inr other ↦ other_faulty of_c.0
             (inr (none_off, record { before = b; cut = c; behind = m; order = split; none_before = none; cuts = (l, cuts_c, of_c.1) })) other
       ]

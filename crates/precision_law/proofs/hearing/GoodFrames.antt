@@ -21,9 +21,10 @@ record IsJudgedAs (v : View) (device : DeviceId) (h : Happening) (point : ℤ) (
   pub is : judgement ≡ judged_at v.scenario device judged (time_of h) point (cycle_in h) members
 
 -- a device judges what it hears by the records before
-judged_as : (v : View) (device : DeviceId) (channel : Channel) (point : ℤ) (judgement : Judgement) (h : Happening) → IsView v → IsOfHearer judgement
-    → HearsBy v device channel point judgement h → IsJudgedAs v device h point judgement
-judged_as v device channel point judgement h is hearer hears =
+judged_as : {v : View} {device : DeviceId} {channel : Channel} {point : ℤ} {judgement : Judgement} {h : Happening}
+    → IsView v → IsOfHearer judgement → HearsBy v device channel point judgement h
+    → IsJudgedAs v device h point judgement
+judged_as {v} {device} {judgement} {h} is hearer hears =
     let s = v.scenario in
     let n = s.network in
     let found = founded_at s v.records h is.run.founded hears.there in
@@ -39,16 +40,16 @@ judged_as v device channel point judgement h is hearer hears =
           let cycle : ripens.frame.cycle ≡ cycle_in h = ap (λ (o : Option Pcf). option_map_or (λ f. f.cycle) o 0) (sym of_frame) in
           record {
             judged = judged;
-            up_to = judged_up_to v h is found device far.0 far.1 ripens.frame at;
+            up_to = judged_up_to is found device far.0 far.1 ripens.frame at;
             members = ripens.frame.members;
             is = cc (said, far.5, cycle);
           }
       | inr own ↦
-          let shown = emission_shows v h device own.0 own.1 own.2 own.3 judgement is hears.there own.4 in
+          let shown = emission_shows h device own.0 own.1 own.2 own.3 judgement is hears.there own.4 in
           let said = (subst (IsCaused s found.front h.note.time) own.4 found.due.cause).heard in
           record {
             judged = found.front;
-            up_to = up_to_then v (time_of h) found.front (before_of v h is found);
+            up_to = up_to_then (before_of is found);
             members = own.3;
             is = cc (said, own.6, shown.0);
           }
@@ -68,9 +69,10 @@ if_same : {X : Type 0} (n : ℕ) (x y : X) → (if n == n then x else y) ≡ x
 if_same n x y = ap (λ (b : Bool). if b then x else y) (eq-eqb n n refl)
 
 -- a frame that was heard within its time is a hearing
-pub heard_within_by : (v : View) (device : DeviceId) (channel : Channel) (point : ℤ) (h : Happening) → HearsBy v device channel point Within h
-    → (at : Units) × (hearing_by v.scenario.network device h h.note.body ≡ Some (heard_by channel h at true))
-heard_within_by v device channel point h hears = grind (arith, hearing_by, if_same, option_map, heard_by)
+pub heard_within_by : {v : View} {device : DeviceId} {channel : Channel} {point : ℤ} {h : Happening}
+    → HearsBy v device channel point Within h → (at : Units)
+    × (hearing_by v.scenario.network device h h.note.body ≡ Some (heard_by channel h at true))
+heard_within_by hears = grind (arith, hearing_by, if_same, option_map, heard_by)
 
 -- ---- old devices at their points
 
@@ -81,16 +83,16 @@ pub record IsAtPoint (v : View) (n t : ℕ) (block : IsInBlock v n t) (device : 
   pub late : (first_correction v.sizes block.before.hull +ℤ pos v.sizes.reach) ≤ℤ pos t
 
 -- what is heard before the first correction is heard before the point
-pub sooner : (v : View) (n t : ℕ) (block : IsInBlock v n t) (device : DeviceId) (q : ℕ) → IsAtPoint v n t block device
-    → pos q <ℤ first_correction v.sizes block.before.hull → q < t
-sooner v n t block device q at lt = omega (arith, ints, at.late, lt)
+pub sooner : {v : View} {n t : ℕ} {block : IsInBlock v n t} {device : DeviceId} (q : ℕ)
+    → IsAtPoint v n t block device → pos q <ℤ first_correction v.sizes block.before.hull → q < t
+sooner q at lt = omega (arith, ints, at.late, lt)
 
 -- ---- one frame a channel
 
 -- who sends one is the compression master of the channel
-sender_is : (v : View) (n : ℕ) (channel : Channel) (members : Members) (h : Happening) → IsView v → (x : IsSentOn v n channel members h)
-    → IsCmOf v.scenario.network channel x.cm
-sender_is v n channel members h is x =
+sender_is : {v : View} {n : ℕ} {channel : Channel} {members : Members} {h : Happening} → IsView v
+    → (x : IsSentOn v n channel members h) → IsCmOf v.scenario.network channel x.cm
+sender_is {v} {channel} {h} is x =
     let at = founded_at v.scenario v.records h is.run.founded x.emission.there in
     cm_of v x.cm channel (subst (IsCaused v.scenario at.front h.note.time) x.emission.is at.due.cause).cm x.of_channel
 
@@ -103,8 +105,8 @@ module _ (goes : BlocksGoSo) (v : View) (n t : ℕ) (block : IsInBlock v n t) (i
   pub same_sent : (channel : Channel) (a b : Happening) (members others : Members) → IsSentOn v n channel members a → IsSentOn v n channel others b
       → time_of a < t → time_of b < t → (a ≡ b) × (members ≡ others)
   same_sent channel a b members others x y before_a before_b =
-      let one = one_cm v channel y.cm x.cm is (sender_is v n channel others b is y) (sender_is v n channel members a is x) in
-      let e : IsEmission v b x.cm (suc n) others = subst (λ (d : DeviceId). IsEmission v b d (suc n) others) one y.emission in
+      let one = one_cm channel y.cm x.cm is (sender_is is y) (sender_is is x) in
+      let e : IsEmission v b x.cm (suc n) others = subst (λ d. IsEmission v b d (suc n) others) one y.emission in
       let f = x.emission in
       let same = emission_is_one v t a b x.cm (suc n) members others is (tidy v n t block.before went_so)
       (λ hull at. hulls_are_narrow goes v n block.before hull is at) f e before_a before_b x.good y.good in
@@ -121,18 +123,18 @@ module _ (goes : BlocksGoSo) (v : View) (n t : ℕ) (block : IsInBlock v n t) (i
       let before = block.before in
       let q = time_of h in
       let near = near_hull laws v n t before is went_so device channel point h (omega (arith, lt)) g enough in
-      let j = judged_as v device channel point judgement h is hearer hears in
-      let follows = follows_before v n before.hull g.hull is before.is_hull g.is_hull in
-      let le : before.next ≤ q = omega (arith, ints, next_first v n before is, follows.least, g.not_early) in
+      let j = judged_as is hearer hears in
+      let follows = follows_before n before.hull g.hull is before.is_hull g.is_hull in
+      let le : before.next ≤ q = omega (arith, ints, next_first before is, follows.least, g.not_early) in
       let here : IsInBlock v n q = earlier_in_block _ _ _ _ block le (omega (arith, lt)) in
-      let stands = hears_as_at v device before.next q t j.judged is j.up_to le lt at.old at.has.timed in
-      let shows = old_shows v n q t device here is (omega (arith, lt)) at.has at.old in
-      let narrow = before_narrow v n before in
-      let space = room v is in
+      let stands = hears_as_at device before.next t is j.up_to le lt at.old at.has.timed in
+      let shows = old_shows here is (omega (arith, lt)) at.has at.old in
+      let narrow = before_narrow before in
+      let space = room is in
       let more = one_more n v.sizes.cycle in
-      let expected = expected_is v device (suc n) point is in
-      let precision = (sizes_are v is).precision in
-      j.is ∙ ap (λ (c : ℕ). judged_at s device j.judged q point c j.members) g.of_cycle
+      let expected = expected_is device (suc n) point is in
+      let precision = (sizes_are is).precision in
+      j.is ∙ ap (λ c. judged_at s device j.judged q point c j.members) g.of_cycle
       ∙ heard_as_within (plan_of s.network device) (observation_window s.network) _ _ point (suc n) j.members stands.state
-      (le-leb (suc n) last_cycle (few_cycles v (suc n) _ is g.is_hull (omega (arith, ints, g.not_early, lt, block.in_run))))
+      (le-leb (suc n) last_cycle (few_cycles (suc n) _ is g.is_hull (omega (arith, ints, g.not_early, lt, block.in_run))))
       (omega (arith, ints, g.timely)) (omega (arith, ints, g.timely))

@@ -19,15 +19,16 @@ cleared_by s device by es =
     (correction_value s.network (recorded_cycle es device))
     && int_le (correction_value s.network (recorded_cycle es device)) (pos (s.reading device (by - 1)) +ℤ (adjustment_after s es device).0))
 
-pub same_cleared : (v : View) (device : DeviceId) (t by : ℕ) (front : List Happening) → AreBeforeCorrections v t front
-    → has_cleared v.scenario front device t by ≡ has_cleared v.scenario v.records device t by
-same_cleared v device t by front split = ap (cleared_by v.scenario device by) (earlier_before v t front split)
+pub same_cleared : {v : View} (device : DeviceId) {t : ℕ} (by : ℕ) {front : List Happening}
+    → AreBeforeCorrections v t front → has_cleared v.scenario front device t by
+    ≡ has_cleared v.scenario v.records device t by
+same_cleared {v} device by split = ap (cleared_by v.scenario device by) (earlier_before split)
 
-pub same_next : (v : View) (device : DeviceId) (t : ℕ) (front : List Happening) → AreBeforeCorrections v t front
+pub same_next : {v : View} (device : DeviceId) {t : ℕ} {front : List Happening} → AreBeforeCorrections v t front
     → next_cycle v.scenario front device t ≡ next_cycle v.scenario v.records device t
-same_next v device t front split =
-    ap (λ (es : List Happening). if cleared_by v.scenario device t es then recorded_cycle es device + 1 else recorded_cycle es device)
-    (earlier_before v t front split)
+same_next {v} device {t} split =
+    ap (λ es. if cleared_by v.scenario device t es then recorded_cycle es device + 1 else recorded_cycle es device)
+    (earlier_before split)
 
 -- ---- hearings
 
@@ -45,9 +46,10 @@ front_first [] qs x h order a b = absurd a
 front_first (p ∷ ps) qs x h order (inl same) b = (let up = order.0 h (in_right h ps qs b) in rw same up)
 front_first (p ∷ ps) qs x h order (inr more) b = front_first ps qs x h order.1 more b
 
-pub hearing_of : (v : View) (device : DeviceId) (t : ℕ) (front : List Happening) (hearing : Hearing) → IsView v → AreBeforeCorrections v t front
-    → IsIn hearing (heard_since v.scenario front device t) → IsHearingOf v device t front hearing
-hearing_of v device t front hearing is split i =
+pub hearing_of : {v : View} (device : DeviceId) {t : ℕ} {front : List Happening} (hearing : Hearing) → IsView v
+    → AreBeforeCorrections v t front → IsIn hearing (heard_since v.scenario front device t)
+    → IsHearingOf v device t front hearing
+hearing_of {v} device {t} {front} hearing is split i =
     let set = λ (h : Happening). nat_lt (time_of h) t && changes_adjustment device h.note.body in
     let late = λ (h : Happening). not (has_cleared v.scenario front device t t) || has_cleared v.scenario front device t (time_of h) in
     let since = after_last set front in
@@ -63,7 +65,8 @@ hearing_of v device t front hearing is split i =
       since = λ x j lt changes. elim (in_parts x cut.front since (subst (IsIn x) cut.whole j)) [
         | inr behind ↦ absurd (both_ways (set x) (cut.others x behind)
             (and_from (nat_lt (time_of x) t) (changes_adjustment device x.note.body) (lt-ltb (time_of x) t lt) changes))
-        | inl ahead ↦ front_first cut.front (since ++ split.rest) x h (subst AreSorted all (in_order v is)) ahead (in_left h since split.rest in_since)
+        | inl ahead ↦ front_first cut.front (since ++ split.rest) x h (subst AreSorted all (in_order is)) ahead
+            (in_left h since split.rest in_since)
       ];
       cleared = λ c. subst (λ (b : Bool). (not b || has_cleared v.scenario front device t (time_of h)) ≡ true) c (has_passed late since h made.1);
     }
@@ -95,10 +98,11 @@ pub record HearsThis (v : View) (device : DeviceId) (h : Happening) (hearing : H
   pub members : members_in h ≡ hearing.frame.members.0
 
 -- a record by which a device hears a frame at a point, on the channel that is there
-hears_on : (v : View) (device : DeviceId) (h : Happening) (hearing : Hearing) (judgement : Judgement) (within : Bool) (point : Units) (o : Option Channel)
-    → Judges judgement within → ((channel : Channel) → o ≡ Some channel → HearsBy v device channel point.0 judgement h)
+hears_on : (v : View) (device : DeviceId) (h : Happening) (hearing : Hearing) {judgement : Judgement} {within : Bool}
+    (point : Units) (o : Option Channel) → Judges judgement within
+    → ((channel : Channel) → o ≡ Some channel → HearsBy v device channel point.0 judgement h)
     → option_map (λ channel. heard_by channel h point within) o ≡ Some hearing → HearsThis v device h hearing
-hears_on v device h hearing judgement within point o judges how e =
+hears_on v device h hearing {judgement} {within} point o judges how e =
     let at = mapped (λ (c : Channel). heard_by c h point within) o hearing e in
     subst (HearsThis v device h) at.2 (record { judgement = judgement; judges = judges; hears = how at.0 at.1; members = refl })
 
@@ -111,7 +115,7 @@ module _ (v : View) (device : DeviceId) (h : Happening) (hearing : Hearing) wher
   from_afar other link cause point judgement within judges i same e =
       let both = if_some (device.0 == other.0) _ hearing e in
       let mine = same ∙ ap (λ (d : DeviceId). notes.Permanent d link cause point judgement) (one_device device other both.0) in
-      hears_on v device h hearing judgement within point (channel_of_link v.scenario.network link) judges
+      hears_on v device h hearing point (channel_of_link v.scenario.network link) judges
       (λ channel of. record { there = i; how = inl (link, cause, point, mine, of, refl) }) both.1
 
   -- what the record of a frame that was sent says
@@ -122,7 +126,7 @@ module _ (v : View) (device : DeviceId) (h : Happening) (hearing : Hearing) wher
   from_itself other opened point cycle members judgement within judges i same e =
       let both = if_some (device.0 == other.0) _ hearing e in
       let mine = same ∙ ap (λ (d : DeviceId). notes.Compressed d opened point cycle members judgement) (one_device device other both.0) in
-      hears_on v device h hearing judgement within point (channel_of v.scenario.network device) judges
+      hears_on v device h hearing point (channel_of v.scenario.network device) judges
       (λ channel of. record { there = i; how = inr (opened, point, cycle, members, mine, of, refl) }) both.1
 
   pub hears_by : (body : NoteBody) → IsIn h v.records → h.note.body ≡ body → hearing_by v.scenario.network device h body ≡ Some hearing
@@ -134,7 +138,8 @@ module _ (v : View) (device : DeviceId) (h : Happening) (hearing : Hearing) wher
   hears_by body = λ i same e. absurd cc
 
 -- the best frame of a channel was heard
-pub best_is_heard : (heard : List Hearing) (channel : Channel) (frame : HeardFrame) → IsBest heard channel frame → IsIn (within_on channel frame) heard
-best_is_heard heard channel frame best =
+pub best_is_heard : {heard : List Hearing} {channel : Channel} {frame : HeardFrame} → IsBest heard channel frame
+    → IsIn (within_on channel frame) heard
+best_is_heard {channel} {frame} best =
     subst (IsIn (within_on channel frame)) (sym best.is_heard) (in_right (within_on channel frame) best.before (within_on channel frame ∷ best.after)
     (inl refl))

@@ -47,9 +47,9 @@ switch_is_relay Relay a b = refl
 switch_is_relay role a b = absurd cc
 
 -- so it receives on a way down
-hearer_down : (v : View) (device : DeviceId) (link : LinkId) → IsView v → is_cm v.scenario.network device ≡ false
+hearer_down : {v : View} (device : DeviceId) (link : LinkId) → IsView v → is_cm v.scenario.network device ≡ false
     → waits_for v.scenario.network device link ≡ true → way_to v.scenario.network device link ≡ Down
-hearer_down v device link is cm waits =
+hearer_down {v} device link is cm waits =
     ap (λ (b : Bool). if b then Up else Down) (false_from_ne_true (is_parent_of v.scenario.network device link) (λ parent.
     let n = v.scenario.network in
     let l = passed (λ (k : Link). k.parent.0 == device.0) (link_at n link) parent in
@@ -66,9 +66,9 @@ hearer_down v device link is cm waits =
 
 -- ---- what is heard
 
-expected_is : (v : View) (device : DeviceId) (b : Bool) → IsView v → is_cm v.scenario.network device ≡ b
+expected_is : {v : View} (device : DeviceId) (b : Bool) → IsView v → is_cm v.scenario.network device ≡ b
     → expected_by v.scenario.network device ≡ (if b then v.sizes.dmax + v.sizes.compression else expectation v.sizes)
-expected_is v device b is cm = grind (arith, amount, compression_time, expectation)
+expected_is device b is cm = grind (arith, amount, compression_time, expectation)
 
 pub hearings_are_of_frames : HearingsAreOfFrames
 hearings_are_of_frames v device channel point judgement h is hearer hears = elim hears.how [
@@ -80,14 +80,14 @@ hearings_are_of_frames v device channel point judgement h is hearer hears = elim
       let in_all : IsIn p.arrival v.records = subst (IsIn p.arrival) (sym found.whole)
       (in_left p.arrival found.front (h ∷ found.rest) (numbered_in found.front cause p.arrival p.there)) in
       let not_cm = hearer_not_cm v.scenario.network device _ _ _ ripens.frame far.2.0 judgement hearer ripens.becomes in
-      let down = hearer_down v device far.0 is not_cm p.waits in
+      let down = hearer_down device far.0 is not_cm p.waits in
       let from_cm = frames_down_are_of_cms v p.arrival device far.0 p.from p.clock is in_all p.arrived down in
       let framed : h.frame ≡ p.arrival.frame = ap (λ (x : Happening). x.frame) found.due.same ∙ ap (frame_by v.scenario.network found.front) far.3
       ∙ ap (λ (o : Option Happening). option_and_then (λ x. x.frame) o) p.there in
       let by_h : cause_of h.note.body ≡ cause = ap cause_of far.3 in
-      let there_all : numbered v.records (cause_of h.note.body) ≡ Some p.arrival = subst (λ (n : ℕ). numbered v.records n ≡ Some p.arrival) (sym by_h)
-      (subst (λ (hs : List Happening). numbered hs cause ≡ Some p.arrival) (sym found.whole) (numbered_front found.front (h ∷ found.rest) cause _ p.there)) in
-      let earlier_arrival = (before_of v h is found).only p.arrival (numbered_in found.front cause p.arrival p.there) in (
+      let there_all : numbered v.records (cause_of h.note.body) ≡ Some p.arrival = subst (λ n. numbered v.records n ≡ Some p.arrival) (sym by_h)
+      (subst (λ hs. numbered hs cause ≡ Some p.arrival) (sym found.whole) (numbered_front found.front (h ∷ found.rest) cause _ p.there)) in
+      let earlier_arrival = (before_of is found).only p.arrival (numbered_in found.front cause p.arrival p.there) in (
         from_cm.first,
         record {
           cm = from_cm.cm;
@@ -106,7 +106,7 @@ hearings_are_of_frames v device channel point judgement h is hearer hears = elim
             back = record { causes = p.arrival ∷ from_cm.back.causes; chain = (there_all, from_cm.back.chain); begins = from_cm.back.begins };
             ripe_at = refl;
             reading = far.5;
-            due = expected_is v device false is not_cm;
+            due = expected_is device false is not_cm;
           });
         },
         (omega (arith, from_cm.in_order, earlier_arrival)),
@@ -114,7 +114,7 @@ hearings_are_of_frames v device channel point judgement h is hearer hears = elim
   | inr own ↦
       let found = founded_at v.scenario v.records h is.run.founded hears.there in
       let emits = subst (IsCaused v.scenario found.front h.note.time) own.4 found.due.cause in
-      let shown = emission_shows v h device own.0 own.1 own.2 own.3 judgement is hears.there own.4 in (
+      let shown = emission_shows h device own.0 own.1 own.2 own.3 judgement is hears.there own.4 in (
         h,
         record {
           cm = device;
@@ -128,7 +128,7 @@ hearings_are_of_frames v device channel point judgement h is hearer hears = elim
                 ∙ ap (λ (m : ℕ). notes.Compressed device own.0 own.1 (cycle_in h) (record { 0 = m }) judgement) shown.1;
           };
           of_channel = own.5;
-          hears = inl (record { same = refl; at_once = refl; reading = own.6; due = expected_is v device true is emits.cm });
+          hears = inl (record { same = refl; at_once = refl; reading = own.6; due = expected_is device true is emits.cm });
         },
         omega arith,
       )

@@ -1,13 +1,13 @@
 -- When frames are heard.
 use Rattle.precision_law.proofs.words.{Blocks.has_dispatched, Clocks.{frames_come_first, has_before, room, within_run}}
 use Rattle.precision_law.proofs.words.Laws.{BasesAreNearHulls, EmissionsAreOfDispatches, HeardFramesAreTimely, HeardInTheirBlocks, expectation, hull_of}
-use Rattle.precision_law.proofs.words.Std.{◌+◌, ◌-◌, ◌≡◌, ◌≤◌, Some, arith, inl, inr, ints, subst, suc, ℕ}
+use Rattle.precision_law.proofs.words.Std.{◌+◌, ◌-◌, ◌≡◌, ◌≤◌, Some, arith, inl, inr, ints, subst, suc}
 
 pub heard_in_their_blocks : HeardFramesAreTimely → EmissionsAreOfDispatches → BasesAreNearHulls → HeardInTheirBlocks
 heard_in_their_blocks timely dispatched near v device channel cycle members h q point expected is tidy good narrow heard =
-    let space = room v is in
+    let space = room is in
     let sent = dispatched v h heard.cm cycle members is heard.emission good in
-    let begun = (has_dispatched v sent.first sent.master cycle is sent.dispatch).begun in
+    let begun = (has_dispatched is sent.dispatch).begun in
     let k = cycle - 1 in
     let next : cycle ≡ suc k = omega (arith, begun) in
     let due : (v.sizes.dmax + v.sizes.compression ≤ expected) × (expected ≤ expectation v.sizes) = elim heard.hears [
@@ -15,7 +15,8 @@ heard_in_their_blocks timely dispatched near v device channel cycle members h q 
       | inr afar ↦ (let is_due = afar.due in (omega (arith, is_due), omega (arith, is_due)))
     ] in
     let base = near v h heard.cm cycle members is heard.emission tidy good in
-    let before = has_before v k base.hull (within_run v is) (subst (λ (c : ℕ). hull_of v c ≡ Some base.hull) next base.is) in
+    let before =
+    has_before v k base.hull (within_run is) (subst (λ c. hull_of v c ≡ Some base.hull) next base.is) in
     let on_time = timely v device channel cycle members h q point expected is heard in
     record {
       before = before.before;

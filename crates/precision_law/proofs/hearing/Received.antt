@@ -10,7 +10,7 @@ use Rattle.precision_law.proofs.words.Clocks.{frames_come_first, is_heard_of, pl
 use Rattle.precision_law.proofs.words.Laws.{BlocksGoSo, HearsBy, Hull, IsBrought, IsEmission, IsFirm, IsInBlock, IsNearHull, IsGood, IsOfHearer, IsTrip, IsWholeFrom}
 use Rattle.precision_law.proofs.words.Laws.{IsView, Leg, Stands, View, base_of, epoch_time, first_correction, first_dispatch, has_time, hull_of, state_left}
 use Rattle.precision_law.proofs.words.Plans.{Cm, Device, DeviceId, Down, Integrating, IsCmOf, IsDeviceOf, Joining, LinkId, Members, Pcf, State, SyncPlan}
-use Rattle.precision_law.proofs.words.Runs.{Gives, Happening, IsCaused, IsDue, IsIn, Judgement, NoteBody, adjustment_at_hearing, channel_of, channel_of_link}
+use Rattle.precision_law.proofs.words.Runs.{Gives, Happening, IsCaused, IsDue, IsIn, Judgement, adjustment_at_hearing, channel_of, channel_of_link}
 use Rattle.precision_law.proofs.words.Runs.{IsSplit, cycle_in, earlier, founded_at, heard_as, heard_by_schedule, is_cm, is_cm_role, is_off, is_parent_of, is_relay, members_in}
 use Rattle.precision_law.proofs.words.{Runs.{observation_window, place_of, plan_of, receiver_of, split, state_before, time_of}, Std.{true, unsigned_abs, ℕ, ℤ}}
 use Rattle.precision_law.proofs.words.Std.{◌+◌, ◌<ℤ◌, ◌<◌, ◌||◌, ◌∙◌, ◌∷◌, ◌≡◌, ◌≤ℤ◌, ◌≤◌, ◌⊎◌, Bool, List, None, Option, Some, [], ap, arith, cases_eq, false}
@@ -25,15 +25,16 @@ pub record IsSentInTime (v : View) (n : ℕ) (before : Stands v n) (first : Happ
   pub low : first_dispatch v.sizes before.hull ≤ℤ pos (time_of first)
   pub soon : pos (time_of first + v.sizes.dmax + v.sizes.path) <ℤ first_correction v.sizes before.hull
 
-pub sent_in_time : (v : View) (n : ℕ) (before : Stands v n) (hull : Hull) (first : Happening) → IsView v → hull_of v (suc n) ≡ Some hull
-    → IsNearHull v.sizes hull (base_of v.sizes (time_of first)) → IsSentInTime v n before first
-sent_in_time v n before hull first is at near =
-    let space = room v is in
-    let follows = follows_before v n before.hull hull is before.is_hull at in
+pub sent_in_time : {v : View} {n : ℕ} (before : Stands v n) {hull : Hull} (first : Happening) → IsView v
+    → hull_of v (suc n) ≡ Some hull → IsNearHull v.sizes hull (base_of v.sizes (time_of first))
+    → IsSentInTime v n before first
+sent_in_time {v} {n} before {hull} first is at near =
+    let space = room is in
+    let follows = follows_before n before.hull hull is before.is_hull at in
     record {
-      from = omega (arith, ints, next_first v n before is, follows, near, space);
+      from = omega (arith, ints, next_first before is, follows, near, space);
       low = omega (arith, ints, follows, near, space);
-      soon = omega (arith, ints, follows.most, near.most, frames_come_first v.sizes before.hull space (before_narrow v n before));
+      soon = omega (arith, ints, follows.most, near.most, frames_come_first v.sizes before.hull space (before_narrow before));
     }
 
 -- ---- who hears
@@ -54,17 +55,18 @@ no_end_cm None a b = absurd cc
 no_end_cm (Some d) a b = cm_is_no_end d.role a b
 
 -- a device that is to keep the time is of the channel
-pub firm_member : (v : View) (device : DeviceId) → IsFirm v device → IsDeviceOf v.scenario.network v.channel device
-firm_member v device (inl end) =
+pub firm_member : {v : View} {device : DeviceId} → IsFirm v device → IsDeviceOf v.scenario.network v.channel device
+firm_member {v} {device} (inl end) =
     (let d = device_of is_end_system (device_at v.scenario.network device) end.end in of_channel_is v v.channel device d.0 d.1 (inl d.2))
-firm_member v device (inr switch) =
+firm_member {v} {device} (inr switch) =
     (let d = opened (λ (x : Device). x.channel ≡ Some v.channel) (device_at v.scenario.network device) switch in of_channel_is v v.channel device d.0 d.1
     (inr d.2))
 
 -- a device of a channel other than its compression master is none
-pub other_than_cm : (v : View) (channel : Channel) (device cm : DeviceId) → IsView v → IsDeviceOf v.scenario.network channel device
-    → IsCmOf v.scenario.network channel cm → (device ≡ cm → ⊥) → is_cm v.scenario.network device ≡ false
-other_than_cm v channel device cm is member one other =
+pub other_than_cm : {v : View} (channel : Channel) (device cm : DeviceId) → IsView v
+    → IsDeviceOf v.scenario.network channel device → IsCmOf v.scenario.network channel cm → (device ≡ cm → ⊥)
+    → is_cm v.scenario.network device ≡ false
+other_than_cm {v} channel device cm is member one other =
     let d = opened (λ (x : Device). (is_end_system x.role ≡ true) ⊎ (x.channel ≡ Some channel)) (device_at v.scenario.network device) member in
     false_from_ne_true (is_cm v.scenario.network device) (λ also. elim d.2 [
       | inl end ↦ no_end_cm (device_at v.scenario.network device) also
@@ -72,7 +74,7 @@ other_than_cm v channel device cm is member one other =
       | inr of_channel ↦
           let on : channel_of v.scenario.network device ≡ Some channel =
           ap (λ (o : Option Device). option_and_then (λ x. x.channel) o) d.1 ∙ of_channel in
-          other (one_cm v channel device cm is (cm_of v device channel also on) one)
+          other (one_cm channel device cm is (cm_of v device channel also on) one)
     ])
 
 -- the channel of its compression master
@@ -128,7 +130,7 @@ module _ (v : View) (channel : Channel) (n t : ℕ) (block : IsInBlock v n t) (i
     (one : IsCmOf v.scenario.network channel cm) (first : Happening) (members : Members) (e : IsEmission v first cm (suc n) members)
     (timed : IsSentInTime v n block.before first) where
   shows : (suc n ≡ cycle_in first) × (members.0 ≡ members_in first)
-  shows = emission_shows v first cm e.opened e.at (suc n) members e.verdict is e.there e.is
+  shows = emission_shows first cm e.opened e.at (suc n) members e.verdict is e.there e.is
 
   -- what was brought down to a device came by a last leg
   brought_by_leg : (b : IsBrought v Down first device) → EndsSo v channel first b.last
@@ -139,8 +141,8 @@ module _ (v : View) (channel : Channel) (n t : ℕ) (block : IsInBlock v n t) (i
           let wrong : notes.Compressed cm e.opened e.at (suc n) members e.verdict ≡ notes.Arrived device b.permanent.link b.permanent.from b.permanent.clock =
           sym e.is ∙ ap (λ (h : Happening). h.note.body) trip ∙ b.permanent.is in absurd (never_both _ _ _ _ _ _ _ _ _ _ wrong)
       by (leg ∷ legs) trip =
-          ends_so v channel first b.last leg legs is (λ d k gives.
-          (let g = subst (λ (x : NoteBody). Gives v.scenario.network x d k) e.is gives in ap (channel_of v.scenario.network) g.0 ∙ cm_of_channel v channel cm one)) trip
+          ends_so channel first b.last leg legs is (λ d k gives.
+          (let g = subst (λ x. Gives v.scenario.network x d k) e.is gives in ap (channel_of v.scenario.network) g.0 ∙ cm_of_channel v channel cm one)) trip
 
   -- the frame comes to each other device that is on
   pub comes_down : BlocksGoSo → IsWholeFrom v channel (time_of first) → (device ≡ cm → ⊥) → time_of first + v.sizes.dmax + v.sizes.path ≤ t
@@ -150,10 +152,10 @@ module _ (v : View) (channel : Channel) (n t : ℕ) (block : IsInBlock v n t) (i
       let s = v.scenario in
       let network = s.network in
       let w = time_of first in
-      let space = room v is in
+      let space = room is in
       let soon = timed.soon in
       let instant : IsInBlock v n w = earlier_in_block _ _ _ _ block timed.from (omega (arith, le)) in
-      let opens = are_open_on goes v channel n w instant is timed.low (omega (arith, ints, soon)) (omega (arith, le, block.in_run)) in
+      let opens = are_open_on goes channel instant is timed.low (omega (arith, ints, soon)) (omega (arith, le, block.in_run)) in
       let b = frames_go_down v channel first device cm (suc n) members is intact e one member good other opens (omega (arith, le, block.in_run))
       on in
       let p = b.permanent in
@@ -163,12 +165,12 @@ module _ (v : View) (channel : Channel) (n t : ℕ) (block : IsInBlock v n t) (i
       let arrival = same_arrival _ _ _ _ _ _ _ _ same in
       let receiver : ends.is.receiver ≡ device = arrival.0 in
       let link : ends.leg.link ≡ p.link = arrival.1 in
-      let child = receiver_down network p.link device (ap (λ (k : LinkId). receiver_of network k Down) (sym link) ∙ ends.is.comes_to
+      let child = receiver_down network p.link device (ap (λ k. receiver_of network k Down) (sym link) ∙ ends.is.comes_to
       ∙ ap (λ (d : DeviceId). Some d) receiver) in
-      let parent = false_from_ne_true (is_parent_of network device p.link) (λ yes_parent. child_not_parent v device p.link is child yes_parent) in
+      let parent = false_from_ne_true (is_parent_of network device p.link) (λ yes_parent. child_not_parent device p.link is child yes_parent) in
       let frame = ends.keeps.frame in
       let r : IsRipeArrival v device b.last p.link frame b.point q = record {
-        there = subst (λ (h : Happening). IsIn h v.records) ends.ends ends.is.arrived;
+        there = subst (λ h. IsIn h v.records) ends.ends ends.is.arrived;
         of_frame = ends.keeps.of_frame;
         waits = waits_by (is_relay network device) (is_parent_of network device p.link) parent;
         good = good;
@@ -185,7 +187,7 @@ module _ (v : View) (channel : Channel) (n t : ℕ) (block : IsInBlock v n t) (i
         point = b.point;
         q = q;
         place = place;
-        ripe = is_heard_of v device b.last p.link frame b.point q is (other_than_cm v channel device cm is member one other) r place;
+        ripe = is_heard_of is (other_than_cm channel device cm is member one other) r place;
         of_channel = ap (channel_of_link network) (sym link) ∙ ends.of_channel;
         of_cycle = ap (λ (o : Option Pcf). option_map_or (λ f. f.cycle) o 0) (sym ends.keeps.of_frame) ∙ sym ends.keeps.cycle ∙ sym shows.0;
         of_members = ap (λ (o : Option Pcf). option_map_or (λ f. f.members.0) o 0) (sym ends.keeps.of_frame) ∙ sym ends.keeps.members ∙ sym shows.1;
@@ -202,7 +204,7 @@ module _ (v : View) (channel : Channel) (n t : ℕ) (block : IsInBlock v n t) (i
       → IsOfHearer (judged_at v.scenario device hs q point cycle others)
   hears q hs point cycle others up from lt =
       hearer_of (plan_of v.scenario.network device) (observation_window v.scenario.network) _ (adjustment_at_hearing v.scenario hs device q).0 point cycle
-      others (hears_as_at v device block.before.next q t hs is up from lt at.old at.has.timed).state
+      others (hears_as_at device block.before.next t is up from lt at.old at.has.timed).state
 
   -- the compression master's own frame
   own_frame : cm ≡ device → Receives v channel n block.before device members
@@ -213,9 +215,9 @@ module _ (v : View) (channel : Channel) (n t : ℕ) (block : IsInBlock v n t) (i
       let found = founded_at s v.records first is.run.founded e.there in
       let emits = subst (IsCaused s found.front first.note.time) body found.due.cause in
       let late : pos q <ℤ first_correction v.sizes block.before.hull = (let soon = timed.soon in omega (arith, ints, soon)) in
-      let hearer = hears q found.front e.at.0 (suc n) members (up_to_then v q found.front (before_of v first is found)) timed.from
-      (sooner v n t block device q at late) in
-      let of_channel = subst (λ (d : DeviceId). channel_of s.network d ≡ Some channel) same (cm_of_channel v channel cm one) in
+      let hearer = hears q found.front e.at.0 (suc n) members (up_to_then (before_of is found)) timed.from
+      (sooner {v = v} {n = n} {t = t} {block = block} {device = device} q at late) in
+      let of_channel = subst (λ d. channel_of s.network d ≡ Some channel) same (cm_of_channel v channel cm one) in
       record {
         h = first;
         point = e.at.0;
@@ -233,18 +235,18 @@ module _ (v : View) (channel : Channel) (n t : ℕ) (block : IsInBlock v n t) (i
       let s = v.scenario in
       let w = time_of first in
       let soon = timed.soon in
-      let lt : w + v.sizes.dmax + v.sizes.path < t = sooner v n t block device (w + v.sizes.dmax + v.sizes.path) at soon in
+      let lt : w + v.sizes.dmax + v.sizes.path < t = sooner {v = v} {n = n} {t = t} {block = block} {device = device} (w + v.sizes.dmax + v.sizes.path) at soon in
       let on : (u : ℕ) → w ≤ u → u + v.sizes.path ≤ w + v.sizes.dmax → is_off (state_before s v.records device u) ≡ false = λ u ge le.
       (let old_u : epoch_time (earlier t v.records) device <ℤ pos u = omega (arith, ints, at.old, timed.from, ge) in
       let timed_u = time_stays v device u t is (omega (arith, le, lt)) old_u at.has.timed in
-      ap (λ (b : Bool). is_off (if b then Integrating else state_left v device u)) (not_turned_on_then v device u is timed_u)
+      ap (λ (b : Bool). is_off (if b then Integrating else state_left v device u)) (not_turned_on_then device u is timed_u)
       ∙ timed_not_off (state_left v device u) timed_u) in
       let c = comes_down v channel n t block is device cm member at.has.good one first members e timed goes intact other (omega (arith, lt)) on in
       let q = c.q in
       let split_at = before_place v q (3 ∷ device.0 ∷ unsigned_abs c.point ∷ c.frame.members.0 ∷ c.link.0 ∷ c.arrival.note.number ∷ []) c.place in
       let ripe = c.ripe in
       let from : block.before.next ≤ q = omega (arith, c.from, timed.from) in
-      let hearer = hears q c.place.front c.point c.frame.cycle c.frame.members (up_to_then v q c.place.front split_at) from (omega (arith, c.soon, lt)) in
+      let hearer = hears q c.place.front c.point c.frame.cycle c.frame.members (up_to_then split_at) from (omega (arith, c.soon, lt)) in
       record {
         h = ripe.h;
         point = c.point;

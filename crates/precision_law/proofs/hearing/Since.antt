@@ -39,7 +39,7 @@ module _ (v : View) (n t : ℕ) (block : IsInBlock v n t) (is : IsView v) (devic
   cleared_before cleared = by (last_setting (earlier t v.records) device) refl
     where
       had : HasTimeAt v device block.before.next
-      had = had_time v device block.before.next t is block.from at.old at.has
+      had = had_time block.before.next is block.from at.old at.has
 
       index : (o : Option Happening) → last_setting (earlier t v.records) device ≡ o → option_map_or (λ h. cycle_set h h.note.body) o 0 ≡ n
       index o e = ap (λ (x : Option Happening). option_map_or (λ h. cycle_set h h.note.body) x 0)
@@ -48,14 +48,14 @@ module _ (v : View) (n t : ℕ) (block : IsInBlock v n t) (is : IsView v) (devic
       number : (o : Option Happening) → last_setting (earlier t v.records) device ≡ o → next_of o ≡ n
       number o e =
           let shown = ap (λ (b : Bool). if b then recorded_cycle (earlier t v.records) device + 1 else recorded_cycle (earlier t v.records) device) cleared in
-          let own = old_number v n t device block.before is block.from at.has at.old in
+          let own = old_number t device block.before is block.from at.has at.old in
           omega (arith, next_cycle_is_of_last (earlier t v.records) device ∙ ap next_of e, shown, own)
 
       by : (o : Option Happening) → last_setting (earlier t v.records) device ≡ o
           → has_cleared v.scenario v.records device block.before.next block.before.next ≡ true
       by None e = absurd (omega (arith, index None e, number None e))
       by (Some h) e = elim (cases_Bool (is_correction h.note.body)) [
-        | inr joined ↦ had_cleared v n t device block.before is block.from had at.old h e joined
+        | inr joined ↦ had_cleared n t block.before is block.from had at.old h e joined
         | inl corrected ↦
             let behind = ap (λ (b : Bool). if b then cycle_set h h.note.body + 1 else cycle_set h h.note.body) corrected in
             absurd (omega (arith, index (Some h) e, number (Some h) e, behind))
@@ -64,7 +64,7 @@ module _ (v : View) (n t : ℕ) (block : IsInBlock v n t) (is : IsView v) (devic
   -- so it has before each instant of the block
   cleared_then : (q : ℕ) → block.before.next ≤ q → has_cleared v.scenario v.records device t t ≡ true → has_cleared v.scenario v.records device t q ≡ true
   cleared_then q le cleared =
-      cleared_from v device block.before.next q t is le block.from at.old (and_parts (is_integration_cycle (earlier t v.records) device) _ cleared).0
+      cleared_from device block.before.next q t is le block.from at.old (and_parts (is_integration_cycle (earlier t v.records) device) _ cleared).0
       (cleared_before cleared)
 
   -- ---- what it has heard since its last point
@@ -73,9 +73,9 @@ module _ (v : View) (n t : ℕ) (block : IsInBlock v n t) (is : IsView v) (devic
     -- an old device does not only clear
     pub not_integrating : IsAtIntegration (standing_before v.scenario front device t) → ⊥
     not_integrating integrates =
-        never_joined v n t t block.before device is block.from at.has.good at.old (omega arith)
-        (ap (λ (hs : List Happening). integration_cycle hs device) (sym (earlier_before v t front split)) ∙ integrates.cycle
-        ∙ ap (λ (c : ℕ). Some c) (same_next v device t front split ∙ old_number v n t device block.before is block.from at.has at.old))
+        never_joined t t block.before device is block.from at.has.good at.old (omega arith)
+        (ap (λ hs. integration_cycle hs device) (sym (earlier_before split)) ∙ integrates.cycle
+        ∙ ap (λ (c : ℕ). Some c) (same_next device split ∙ old_number t device block.before is block.from at.has at.old))
 
     -- no setting of the device stands at or behind a record of the block
     behind_settings : (h : Happening) → block.before.next ≤ time_of h → (before rest : List Happening) (last : Happening) → front ≡ before ++ last ∷ rest
@@ -83,11 +83,11 @@ module _ (v : View) (n t : ℕ) (block : IsInBlock v n t) (is : IsView v) (devic
     behind_settings h from before rest last whole hit where_is =
         let both = and_parts (nat_lt (time_of last) t) (changes_adjustment device last.note.body) hit in
         let all = split.whole ∙ ap (λ (hs : List Happening). hs ++ split.rest) whole ∙ append_assoc before (last ∷ rest) split.rest in
-        let parts = sorted_parts before (rest ++ split.rest) last (subst AreSorted all (in_order v is)) in
+        let parts = sorted_parts before (rest ++ split.rest) last (subst AreSorted all (in_order is)) in
         let in_all : IsIn last v.records = subst (IsIn last) (sym all) (in_right last before (last ∷ (rest ++ split.rest)) (inl refl)) in
         let up : time_of h ≤ time_of last = elim where_is as (λ _. time_of h ≤ time_of last)
         [ inl i ↦ parts.0 h i | inr same ↦ (let e = ap time_of same in omega (arith, e)) ] in
-        both_ways (changes_adjustment device last.note.body) (sets_none v device block.before.next t is block.from at.old last in_all (omega (arith, from, up))
+        both_ways (changes_adjustment device last.note.body) (sets_none device block.before.next t is block.from at.old last in_all (omega (arith, from, up))
         (ltb-true (time_of last) t both.0)) both.1
 
     -- what an old device hears by a record of the block is among what it heard since its last point
@@ -97,7 +97,7 @@ module _ (v : View) (n t : ℕ) (block : IsInBlock v n t) (is : IsView v) (devic
         let s = v.scenario in
         let set = λ (x : Happening). nat_lt (time_of x) t && changes_adjustment device x.note.body in
         let late = λ (x : Happening). not (has_cleared s front device t t) || has_cleared s front device t (time_of x) in
-        let since = in_after_last set front h (in_part v t front h split i lt) (behind_settings h from) in
+        let since = in_after_last set front h (in_part h split i lt) (behind_settings h from) in
         let kept = in_kept late (after_last set front) h since (kept_by (has_cleared s front device t t) (has_cleared s front device t (time_of h)) (λ cleared.
-        same_cleared v device t (time_of h) front split ∙ cleared_then (time_of h) from (sym (same_cleared v device t t front split) ∙ cleared))) in
+        same_cleared device (time_of h) split ∙ cleared_then (time_of h) from (sym (same_cleared device t split) ∙ cleared))) in
         made_in (λ x. hearing_by s.network device x x.note.body) (filter late (after_last set front)) h hearing kept shows

@@ -5,15 +5,16 @@ use Rattle.precision_law.proofs.words.{Laws.{last_correction, start_hull}, Runs.
 use Rattle.precision_law.proofs.words.Std.{◌+ℤ◌, ◌+◌, ◌<◌, ◌≡◌, ◌≤ℤ◌, ◌≤◌, ap, arith, cases_lt, inl, inr, ints, negsuc, pos, refl, suc, zero, ℕ, ℤ}
 
 -- the last correction comes behind the block before, so it is not before time 0
-pub later_end : (v : View) (n : ℕ) (stands : Stands v n) → IsView v → pos stands.next ≤ℤ last_correction v.sizes stands.hull
-later_end v zero stands is =
+pub later_end : {v : View} (n : ℕ) (stands : Stands v n) → IsView v
+    → pos stands.next ≤ℤ last_correction v.sizes stands.hull
+later_end {v} zero stands is =
     let same : start_hull v.sizes ≡ stands.hull = same_some (hull_of v zero) (start_hull v.sizes) stands.hull refl stands.is_hull in
     omega (arith, ints, stands.is_over, ap (λ (w : Hull). w.greatest) same)
-later_end v (suc c) stands is =
+later_end {v} (suc c) stands is =
     let one = stands.narrow c (omega arith) in
-    let follows = follows_before v c one.0 stands.hull is one.1 stands.is_hull in
-    let space = room v is in
-    omega (arith, ints, block_ends v c stands.next _ one.1 stands.is_over, corrections_come_first v.sizes one.0 stands.hull (room v is) one.2 follows)
+    let follows = follows_before c one.0 stands.hull is one.1 stands.is_hull in
+    let space = room is in
+    omega (arith, ints, block_ends v c stands.next _ one.1 stands.is_over, corrections_come_first v.sizes one.0 stands.hull (room is) one.2 follows)
 
 -- the natural number behind an instant
 pub record IsBehind (z : ℤ) (next : ℕ) : Type 0 where
@@ -24,11 +25,11 @@ behind_of (pos n) least le = (n + 1, record { behind = omega (arith, ints) })
 behind_of (negsuc n) least le = absurd (omega (arith, ints, le))
 
 -- from a block that is over the next ones reach each later time
-reach_from : StandsOn → (v : View) (t : ℕ) (fuel n : ℕ) (stands : Stands v n) → IsView v → t ≤ v.until → stands.next ≤ t → t < stands.next + fuel → (m : ℕ)
-    × IsInBlock v m t × (n ≤ m)
-reach_from on v t zero n stands is in_run from short = absurd (omega (arith, from, short))
-reach_from on v t (suc fuel) n stands is in_run from short =
-    let later = later_end v n stands is in
+reach_from : StandsOn → {v : View} (t fuel n : ℕ) (stands : Stands v n) → IsView v → t ≤ v.until → stands.next ≤ t
+    → t < stands.next + fuel → (m : ℕ) × IsInBlock v m t × (n ≤ m)
+reach_from on t zero n stands is in_run from short = absurd (omega (arith, from, short))
+reach_from on {v} t (suc fuel) n stands is in_run from short =
+    let later = later_end n stands is in
     let next = behind_of (last_correction v.sizes stands.hull) stands.next later in
     let over : IsOverBefore v (suc n) next.0 = (stands.hull, stands.is_hull, next.1.behind) in
     elim (cases_lt t next.0) [
@@ -38,18 +39,20 @@ reach_from on v t (suc fuel) n stands is in_run from short =
           let more = on v n is done in
           let same : more.next ≡ next.0 = omega (arith, ints, block_ends v n more.next stands.hull stands.is_hull more.is_over, next.1.behind) in
           let grows : stands.next < next.0 = omega (arith, ints, later, next.1.behind) in
-          let found = reach_from on v t fuel (suc n) more is in_run (omega (arith, same, ge)) (omega (arith, same, grows, short)) in
+          let found = reach_from on t fuel (suc n) more is in_run (omega (arith, same, ge))
+          (omega (arith, same, grows, short)) in
           let above = found.2 in
           (found.0, found.1, omega (arith, above))
     ]
 
 -- each time behind a block lies in that of a later cycle
-pub later_block : StandsOn → (v : View) (n t : ℕ) (stands : Stands v n) → IsView v → t ≤ v.until → stands.next ≤ t → (m : ℕ) × IsInBlock v m t × (n ≤ m)
-later_block on v n t stands is in_run from = reach_from on v t (t + 1) n stands is in_run from (omega arith)
+pub later_block : StandsOn → {v : View} {n : ℕ} (t : ℕ) (stands : Stands v n) → IsView v → t ≤ v.until
+    → stands.next ≤ t → (m : ℕ) × IsInBlock v m t × (n ≤ m)
+later_block on {n} t stands is in_run from = reach_from on t (t + 1) n stands is in_run from (omega arith)
 
 pub blocks_cover : StandsAtStart → StandsOn → BlocksCover
 blocks_cover start on v t is in_run =
     let first = start v is in
     let zero_next : first.next ≡ 0 = first.is_over in
-    let found = reach_from on v t (t + 1) 0 first is in_run (omega (arith, zero_next)) (omega (arith, zero_next)) in
+    let found = reach_from on t (t + 1) 0 first is in_run (omega (arith, zero_next)) (omega (arith, zero_next)) in
     (found.0, found.1)

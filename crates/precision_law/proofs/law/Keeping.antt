@@ -22,72 +22,83 @@ joined_cycle : (device : DeviceId) (h : Happening) (body : NoteBody) → is_join
 joined_cycle device h (notes.Corrected other cycle by adjustment) joined = absurd cc
 joined_cycle device h body joined = refl
 
--- a clock that was set in the block was set for the block's cycle
-set_for : BlocksGoSo → (v : View) (n t u : ℕ) (device : DeviceId) (block : IsInBlock v n t) → IsView v → u ≤ t + 1 → HasTimeAt v device u
-    → (o : Option Happening) → last_setting (earlier u v.records) device ≡ o → pos block.before.next ≤ℤ option_map_or (λ h. pos (time_of h)) o (negsuc 0)
-    → option_map_or (λ h. cycle_set h h.note.body) o 0 ≡ suc n
-set_for goes v n t u device block is most has None e late = absurd (omega (arith, ints, late))
-set_for goes v n t u device block is most has (Some h) e late =
-    let at = setting_is v device u h e in
-    let from : block.before.next ≤ time_of h = omega (arith, ints, late) in
-    let here : IsInBlock v n (time_of h) = earlier_in_block _ _ _ _ block from (omega arith) in
-    let so = goes v n (time_of h) here is in
-    elim (is_joined_by device h.note.body) as (λ b. is_joined_by device h.note.body ≡ b → cycle_set h h.note.body ≡ suc n) [
-      | true ↦ λ joined. joined_cycle device h h.note.body joined ∙ (so.joins h device at.there joined has.good refl).of_cycle
-      | false ↦ λ none.
-          let c = corrects_by device h.note.body at.sets none in
-          let found = founded_at v.scenario v.records h is.run.founded at.there in
-          let cause = subst (IsCaused v.scenario found.front h.note.time) c.is found.due.cause in
-          let split = before_of v h is found in
-          let then_has : HasTimeAt v device (time_of h) = record {
-            good = has.good;
-            timed = point_timed v (time_of h) device c.cycle (Corrected c.by) found.front split cause.corrected;
-          } in
-          let comes : ComesTo v (time_of h) device c.cycle (Corrected c.by) = record { front = found.front; split = split; point = cause.corrected } in
-          let old = so.old_alone device c.cycle (Corrected c.by) then_has comes (λ z. cc) in
-          ap (cycle_set h) c.is ∙ (so.points device c.cycle (Corrected c.by) then_has old comes).of_cycle
-    ] refl
+module _ (goes : BlocksGoSo) {v : View} {n t : ℕ} (u : ℕ) (device : DeviceId) (block : IsInBlock v n t)
+    (is : IsView v) where
+  -- a clock that was set in the block was set for the block's cycle
+  set_for : u ≤ t + 1 → HasTimeAt v device u → (o : Option Happening) → last_setting (earlier u v.records) device ≡ o
+      → pos block.before.next ≤ℤ option_map_or (λ h. pos (time_of h)) o (negsuc 0)
+      → option_map_or (λ h. cycle_set h h.note.body) o 0 ≡ suc n
+  set_for most has None e late = absurd (omega (arith, ints, late))
+  set_for most has (Some h) e late =
+      let at = setting_is v device u h e in
+      let from : block.before.next ≤ time_of h = omega (arith, ints, late) in
+      let here : IsInBlock v n (time_of h) = earlier_in_block _ _ _ _ block from (omega arith) in
+      let so = goes v n (time_of h) here is in
+      elim (is_joined_by device h.note.body) as (λ b. is_joined_by device h.note.body ≡ b → cycle_set h h.note.body
+      ≡ suc n) [
+        | true ↦ λ joined. joined_cycle device h h.note.body joined
+            ∙ (so.joins h device at.there joined has.good refl).of_cycle
+        | false ↦ λ none.
+            let c = corrects_by device h.note.body at.sets none in
+            let found = founded_at v.scenario v.records h is.run.founded at.there in
+            let cause = subst (IsCaused v.scenario found.front h.note.time) c.is found.due.cause in
+            let split = before_of is found in
+            let then_has : HasTimeAt v device (time_of h) = record {
+              good = has.good;
+              timed = point_timed split cause.corrected;
+            } in
+            let comes : ComesTo v (time_of h) device c.cycle (Corrected c.by) =
+            record { front = found.front; split = split; point = cause.corrected } in
+            let old = so.old_alone device c.cycle (Corrected c.by) then_has comes (λ z. cc) in
+            ap (cycle_set h) c.is ∙ (so.points device c.cycle (Corrected c.by) then_has old comes).of_cycle
+      ] refl
 
--- each clock of a block shows the cycle for which it was last set
-pub shows_cycle : BlocksGoSo → (v : View) (n t u : ℕ) (device : DeviceId) (block : IsInBlock v n t) → IsView v → t ≤ u → u ≤ t + 1 → HasTimeAt v device u
-    → ShowsCycle v t (epoch_cycle (earlier u v.records) device) (pos (v.scenario.reading device t) +ℤ adjustment_left v device u)
-shows_cycle goes v n t u device block is le most has =
-    let before = block.before in
-    let shown = pos (v.scenario.reading device t) +ℤ adjustment_left v device u in
-    by_lt_z {P = ShowsCycle v t (epoch_cycle (earlier u v.records) device) (pos (v.scenario.reading device t) +ℤ adjustment_left v device u)}
-    (epoch_time (earlier u v.records) device) (pos before.next)
-    (λ old.
-    let from : before.next ≤ u = omega (arith, block.from, le) in
-    let set = before.clocks device (record { good = has.good; timed = (time_stays v device before.next u is from old has.timed) }) in
-    let index : epoch_cycle (earlier u v.records) device ≡ n = ap (λ (o : Option Happening). option_map_or (λ h. cycle_set h h.note.body) o 0)
-    (sym (settings_stay v device before.next u is from old)) ∙ set.index in
-    let here : ShowsCycle v t n shown = record {
-      hull = before.hull;
-      is_hull = before.is_hull;
-      narrow = before_narrow v n before;
-      shows = old_shows v n t u device block is le has old;
-    } in
-    subst (λ (c : ℕ). ShowsCycle v t c shown) (sym index) here)
-    (λ late.
-    let set = new_shows _ _ _ u device block (λ w from lt. goes v n w (earlier_in_block _ _ _ _ block from (omega arith)) is) is most has
-    (last_setting (earlier u v.records) device) refl late in
-    let here : ShowsCycle v t (suc n) shown = record {
-      hull = set.hull;
-      is_hull = set.is_hull;
-      narrow = hulls_are_narrow goes v n before set.hull is set.is_hull;
-      shows = set_shows v n t device (adjustment_left v device u) block is set;
-    } in
-    subst (λ (c : ℕ). ShowsCycle v t c shown) (sym (set_for goes v n t u device block is most has (last_setting (earlier u v.records) device) refl late)) here)
+  -- each clock of a block shows the cycle for which it was last set
+  pub shows_cycle : t ≤ u → u ≤ t + 1 → HasTimeAt v device u
+      → ShowsCycle v t (epoch_cycle (earlier u v.records) device)
+      (pos (v.scenario.reading device t) +ℤ adjustment_left v device u)
+  shows_cycle le most has =
+      let before = block.before in
+      let shown = pos (v.scenario.reading device t) +ℤ adjustment_left v device u in
+      by_lt_z {P = ShowsCycle v t (epoch_cycle (earlier u v.records) device) (pos (v.scenario.reading device t) +ℤ adjustment_left v device u)}
+      (epoch_time (earlier u v.records) device) (pos before.next)
+      (λ old.
+      let from : before.next ≤ u = omega (arith, block.from, le) in
+      let set = before.clocks device
+      (record { good = has.good; timed = (time_stays v device before.next u is from old has.timed) }) in
+      let index : epoch_cycle (earlier u v.records) device ≡ n =
+      ap (λ (o : Option Happening). option_map_or (λ h. cycle_set h h.note.body) o 0)
+      (sym (settings_stay v device before.next u is from old)) ∙ set.index in
+      let here : ShowsCycle v t n shown = record {
+        hull = before.hull;
+        is_hull = before.is_hull;
+        narrow = before_narrow before;
+        shows = old_shows block is le has old;
+      } in
+      subst (λ c. ShowsCycle v t c shown) (sym index) here)
+      (λ late.
+      let set = new_shows {u = u} block (λ w from lt. goes v n w (earlier_in_block _ _ _ _ block from (omega arith))
+      is) is most has
+      (last_setting (earlier u v.records) device) refl late in
+      let here : ShowsCycle v t (suc n) shown = record {
+        hull = set.hull;
+        is_hull = set.is_hull;
+        narrow = hulls_are_narrow goes v n before set.hull is set.is_hull;
+        shows = set_shows block is set;
+      } in
+      subst (λ c. ShowsCycle v t c shown) (sym
+      (set_for most has (last_setting (earlier u v.records) device) refl late)) here)
 
 -- ---- of a run
 
-keeps_by : BlocksCover → BlocksGoSo → (s : Scenario) (hs : List Happening) (t : ℕ) (channel : Channel) (path : ℕ) (cut : IsCutAt s hs t) (cycle : ℕ) (shown : ℤ)
-    → IsView (view_of s t channel path cut.front) → ShowsCycle (view_of s t channel path cut.front) t cycle shown → KeepsCycle s hs path t cycle shown
-keeps_by cover goes s hs t channel path cut cycle shown is c = record {
+keeps_by : BlocksCover → BlocksGoSo → {s : Scenario} {hs : List Happening} {t : ℕ} (channel : Channel) (path : ℕ)
+    (cut : IsCutAt s hs t) {cycle : ℕ} {shown : ℤ} → IsView (view_of s t channel path cut.front)
+    → ShowsCycle (view_of s t channel path cut.front) t cycle shown → KeepsCycle s hs path t cycle shown
+keeps_by cover goes channel path cut {cycle} is c = record {
   first = c.hull.least;
   last = c.hull.greatest;
   dispatches =
-      from_to_of_run s hs t cycle c.hull.least c.hull.greatest cut (hull_is_from_to cover goes (view_of s t channel path cut.front) is cycle c.hull c.is_hull);
+      from_to_of_run cycle c.hull.least c.hull.greatest cut (hull_is_from_to cover goes is cycle c.hull c.is_hull);
   narrow = c.narrow;
   between = record { least = omega (arith, ints, c.shows.least); most = omega (arith, ints, c.shows.most) };
 }
@@ -96,9 +107,9 @@ pub clocks_keep_their_cycles : OneChannelIsSound → BlocksCover → BlocksGoSo 
 clocks_keep_their_cycles sound cover goes s mark ns until beta up is_beta t device le =
     let hs = happenings s.network ns in
     let same = up_to_is t hs in (
-      λ step. subst (λ (gs : List Happening). KeepsCycle s hs beta t (epoch_cycle gs device) (pos (s.reading device t) +ℤ (adjustment_after s gs device).0))
+      λ step. subst (λ gs. KeepsCycle s hs beta t (epoch_cycle gs device) (pos (s.reading device t) +ℤ (adjustment_after s gs device).0))
           (sym same) (keeps (t + 1) (omega arith) (omega arith) step.correct
-          (subst (λ (gs : List Happening). state_after s gs device ≡ Synchronised) same step.synchronised)),
+          (subst (λ gs. state_after s gs device ≡ Synchronised) same step.synchronised)),
       λ step. keeps t (omega arith) (omega arith) step.correct
           (not_integrating (is_turned_on_at s device t) (state_after s (earlier t hs) device) step.synchronised),
     )
@@ -109,11 +120,11 @@ clocks_keep_their_cycles sound cover goes s mark ns until beta up is_beta t devi
     keeps u from to correct synchronised =
         let hs = happenings s.network ns in
         let channel = sound s t up.lawful in
-        let at = view_with s mark ns until t channel.0 beta up is_beta le channel.1 in
+        let at = view_with t channel.0 beta up is_beta le channel.1 in
         let v = view_of s t channel.0 beta at.cut.front in
         let block = cover v t at.is (omega arith) in
         let same = sym (at.cut.early u to) in
-        let timed = timed_of _ (subst (λ (gs : List Happening). state_after s gs device ≡ Synchronised) same synchronised) in
-        let shows = shows_cycle goes v block.0 t u device block.1 at.is from to (record { good = correct; timed = timed }) in
-        subst (λ (gs : List Happening). KeepsCycle s hs beta t (epoch_cycle gs device) (pos (s.reading device t) +ℤ (adjustment_after s gs device).0))
-        (sym same) (keeps_by cover goes s hs t channel.0 beta at.cut _ _ at.is shows)
+        let timed = timed_of _ (subst (λ gs. state_after s gs device ≡ Synchronised) same synchronised) in
+        let shows = shows_cycle goes u device block.1 at.is from to (record { good = correct; timed = timed }) in
+        subst (λ gs. KeepsCycle s hs beta t (epoch_cycle gs device) (pos (s.reading device t) +ℤ (adjustment_after s gs device).0))
+        (sym same) (keeps_by cover goes channel.0 beta at.cut at.is shows)

@@ -7,7 +7,7 @@ use Rattle.precision_law.proofs.words.Laws.{BlocksCover, BlocksGoSo, ComesTo, Ha
 use Rattle.precision_law.proofs.words.Laws.{ValuesAreReachedOnTime, View, adjustment_left, epoch_time, first_correction, hull_of, last_setting, state_left}
 use Rattle.precision_law.proofs.words.{Plans.{Corrected, DeviceId, Synchronised, Units}, Runs.{is_synchronised, is_turned_on_at, state_after, time_of}}
 use Rattle.precision_law.proofs.words.Runs.{Happening, IsCaused, NoteBody, Reaches, changes_adjustment, earlier, founded_at, happenings, is_joined_by}
-use Rattle.precision_law.proofs.words.Std.{◌*◌, ◌+ℤ◌, ◌+◌, ◌<ℤ◌, ◌<◌, ◌≡◌, ◌≤ℤ◌, ◌≤◌, List, None, Option, Some, ap, arith, both_ways, by_lt_z, cases_lt, false}
+use Rattle.precision_law.proofs.words.Std.{◌*◌, ◌+ℤ◌, ◌+◌, ◌<ℤ◌, ◌<◌, ◌≡◌, ◌≤ℤ◌, ◌≤◌, None, Option, Some, ap, arith, both_ways, by_lt_z, cases_lt, false}
 use Rattle.precision_law.proofs.words.Std.{false_from_ne_true, inl, inr, ints, mul-le-mul_right, negsuc, option_map_or, pos, refl, subst, suc, sym, true, zero}
 use Rattle.run_law.specs.declared.note.NoteBody.TheVariants as notes
 
@@ -32,26 +32,29 @@ corrects_by device (notes.Corrected other cycle by adjustment) sets none =
 corrects_by device body sets none = absurd (both_ways _ none sets)
 
 -- the record that set a synchronised device's clock last corrected it
-pub last_corrects : (v : View) (device : DeviceId) (t : ℕ) (h : Happening) → IsView v → state_left v device t ≡ Synchronised
-    → last_setting (earlier t v.records) device ≡ Some h → CorrectsClock device h.note.body
-last_corrects v device t h is synchronised last =
+pub last_corrects : {v : View} (device : DeviceId) (t : ℕ) (h : Happening) → IsView v
+    → state_left v device t ≡ Synchronised → last_setting (earlier t v.records) device ≡ Some h
+    → CorrectsClock device h.note.body
+last_corrects {v} device t h is synchronised last =
     corrects_by device h.note.body (setting_is v device t h last).sets (false_from_ne_true (is_joined_by device h.note.body)
-    (λ joined. both_ways (is_synchronised (state_left v device t)) (joiner_waits v device t h is last joined) (ap is_synchronised synchronised)))
+    (λ joined. both_ways (is_synchronised (state_left v device t)) (joiner_waits device t h is last joined)
+    (ap is_synchronised synchronised)))
 
 -- one whose clock was set in the block was corrected there, not before the first correction
-pub corrected_late : (v : View) (n t : ℕ) (block : IsInBlock v n t) (device : DeviceId) (o : Option Happening) → BlocksGoSo → IsView v → HasTimeAt v device t
-    → state_left v device t ≡ Synchronised → last_setting (earlier t v.records) device ≡ o
-    → pos block.before.next ≤ℤ option_map_or (λ h. pos (time_of h)) o (negsuc 0) → (first_correction v.sizes block.before.hull +ℤ pos v.sizes.reach) <ℤ pos t
-corrected_late v n t block device None goes is has synchronised e late = absurd (omega (arith, ints, late))
-corrected_late v n t block device (Some h) goes is has synchronised e late =
+pub corrected_late : {v : View} {n t : ℕ} (block : IsInBlock v n t) {device : DeviceId} (o : Option Happening)
+    → BlocksGoSo → IsView v → HasTimeAt v device t → state_left v device t ≡ Synchronised
+    → last_setting (earlier t v.records) device ≡ o → pos block.before.next ≤ℤ option_map_or (λ h. pos (time_of h)) o
+    (negsuc 0) → (first_correction v.sizes block.before.hull +ℤ pos v.sizes.reach) <ℤ pos t
+corrected_late block None goes is has synchronised e late = absurd (omega (arith, ints, late))
+corrected_late {v} {n} {t} block {device} (Some h) goes is has synchronised e late =
     let at = setting_is v device t h e in
-    let set = last_corrects v device t h is synchronised e in
+    let set = last_corrects device t h is synchronised e in
     let found = founded_at v.scenario v.records h is.run.founded at.there in
     let cause = subst (IsCaused v.scenario found.front h.note.time) set.is found.due.cause in
-    let split = before_of v h is found in
+    let split = before_of is found in
     let then_has : HasTimeAt v device (time_of h) = record {
       good = has.good;
-      timed = point_timed v (time_of h) device set.cycle (Corrected set.by) found.front split cause.corrected;
+      timed = point_timed split cause.corrected;
     } in
     let comes : ComesTo v (time_of h) device set.cycle (Corrected set.by) = record { front = found.front; split = split; point = cause.corrected } in
     let here : IsInBlock v n (time_of h) = earlier_in_block _ _ _ _ block (omega (arith, ints, late)) (omega arith) in
@@ -67,11 +70,12 @@ pub record IsInCycle (v : View) (value : ℕ) : Type 0 where
   pub ends : value + 4 * v.sizes.precision ≤ v.sizes.cycle
 
 -- behind the end of a cycle's block its hull lies a correction back
-pub begins_late : (v : View) (n : ℕ) (stands : Stands v (suc n)) → IsView v
+pub begins_late : {v : View} (n : ℕ) (stands : Stands v (suc n)) → IsView v
     → ((stands.hull.greatest +ℤ pos (v.sizes.correction + v.sizes.reach)) +ℤ pos 1) ≤ℤ pos stands.next
-begins_late v n stands is =
+begins_late {v} n stands is =
     let there = stands.narrow n (omega arith) in
-    let order = instants_are_in_order v.sizes there.0 stands.hull (room v is) there.2 (follows_before v n there.0 stands.hull is there.1 stands.is_hull) in
+    let order = instants_are_in_order v.sizes there.0 stands.hull (room is) there.2
+    (follows_before n there.0 stands.hull is there.1 stands.is_hull) in
     omega (arith, ints, block_ends v n stands.next there.0 there.1 stands.is_over, order.last_not_early)
 
 -- the instant lies so far from the hull of the cycle
@@ -89,28 +93,28 @@ module _ (v : View) (is : IsView v) (n value t : ℕ) (within : IsInCycle v valu
   never_before zero block shows lt = omega (arith, lt)
   never_before (suc j) block shows lt =
       let more : suc n * v.sizes.cycle ≤ suc j * v.sizes.cycle = mul-le-mul_right v.sizes.cycle (omega (arith, lt)) in
-      omega (arith, ints, more, one_more n v.sizes.cycle, most, shows.least, block.from, begins_late v j block.before is, within.ends, room v is)
+      omega (arith, ints, more, one_more n v.sizes.cycle, most, shows.least, block.from, begins_late j block.before is, within.ends, room is)
 
   -- nor in a later one
   same_cycle : (k : ℕ) (block : IsInBlock v k t) → ShowsIn v.sizes shown k block.before.hull t → k ≡ n
   same_cycle k block shows = elim (cases_lt k n) [
     | inl lt ↦
-        let space = room v is in
+        let space = room is in
         let ends = block_ends v k block.next block.before.hull block.before.is_hull block.is_over in
         let more : suc k * v.sizes.cycle ≤ n * v.sizes.cycle = mul-le-mul_right v.sizes.cycle (omega (arith, lt)) in
-        absurd (omega (arith, ints, more, one_more k v.sizes.cycle, least, shows.most, block.to, ends, before_narrow v k block.before, within.begins, space))
+        absurd (omega (arith, ints, more, one_more k v.sizes.cycle, least, shows.most, block.to, ends, before_narrow block.before, within.begins, space))
     | inr ge ↦ elim (cases_lt n k) [ inl lt ↦ absurd (never_before k block shows lt) | inr le ↦ omega (arith, ge, le) ]
   ]
 
   old_reaches : (k : ℕ) (block : IsInBlock v k t) → ShowsIn v.sizes shown k block.before.hull t → IsReachedFrom v n value t
   old_reaches k block shows =
-      let space = room v is in
+      let space = room is in
       let same = same_cycle k block shows in
-      let whole : n * v.sizes.cycle ≡ k * v.sizes.cycle = ap (λ (m : ℕ). m * v.sizes.cycle) (sym same) in
+      let whole : n * v.sizes.cycle ≡ k * v.sizes.cycle = ap (λ m. m * v.sizes.cycle) (sym same) in
       record {
         hull = block.before.hull;
-        is_hull = subst (λ (m : ℕ). hull_of v m ≡ Some block.before.hull) same block.before.is_hull;
-        narrow = before_narrow v k block.before;
+        is_hull = subst (λ m. hull_of v m ≡ Some block.before.hull) same block.before.is_hull;
+        narrow = before_narrow block.before;
         not_early = omega (arith, ints, whole, least, shows.most, space.errors.reach_is);
         not_late = omega (arith, ints, whole, most, shows.least, space.errors.reach_is);
       }
@@ -119,9 +123,9 @@ module _ (v : View) (is : IsView v) (n value t : ℕ) (within : IsInCycle v valu
   new_reaches_none : (k : ℕ) (block : IsInBlock v k t) (hull : Hull) → hull_of v (suc k) ≡ Some hull → ShowsIn v.sizes shown (suc k) hull t
       → (first_correction v.sizes block.before.hull +ℤ pos v.sizes.reach) <ℤ pos t → ⊥
   new_reaches_none k block hull is_hull shows after =
-      let space = room v is in
-      let near = set_clocks_stay_at_correction v.sizes shown (suc k) t block.before.hull hull space (before_narrow v k block.before)
-      (follows_before v k block.before.hull hull is block.before.is_hull is_hull)
+      let space = room is in
+      let near = set_clocks_stay_at_correction v.sizes shown (suc k) t block.before.hull hull space (before_narrow block.before)
+      (follows_before k block.before.hull hull is block.before.is_hull is_hull)
       (omega (arith, ints, after)) (omega (arith, ints, block_ends v k block.next block.before.hull block.before.is_hull block.is_over, block.to)) shows in
       elim (cases_lt k n) [
         | inl lt ↦
@@ -132,10 +136,10 @@ module _ (v : View) (is : IsView v) (n value t : ℕ) (within : IsInCycle v valu
             omega (arith, ints, more, one_more k v.sizes.cycle, most, near.least, within.ends, space)
       ]
 
-pub value_reached : BlocksCover → BlocksGoSo → (v : View) (n value t : ℕ) (device : DeviceId) → IsView v → HasTimeAt v device t
-    → state_left v device t ≡ Synchronised → t ≤ v.until → IsInCycle v value → Reaches v.scenario v.records device (pos (n * v.sizes.cycle + value)) t
-    → IsReachedFrom v n value t
-value_reached cover goes v n value t device is has synchronised in_run within reaches =
+pub value_reached : BlocksCover → BlocksGoSo → {v : View} (n : ℕ) {value t : ℕ} {device : DeviceId} → IsView v
+    → HasTimeAt v device t → state_left v device t ≡ Synchronised → t ≤ v.until → IsInCycle v value
+    → Reaches v.scenario v.records device (pos (n * v.sizes.cycle + value)) t → IsReachedFrom v n value t
+value_reached cover goes {v} n {value} {t} {device} is has synchronised in_run within reaches =
     let covered = cover v t is in_run in
     let k = covered.0 in
     let block = covered.1 in
@@ -144,13 +148,14 @@ value_reached cover goes v n value t device is has synchronised in_run within re
     let least : pos (n * v.sizes.cycle + value) ≤ℤ shown = omega (arith, ints, sharp.least) in
     let most : shown ≤ℤ (pos (n * v.sizes.cycle + value) +ℤ pos (2 * v.sizes.grain)) = omega (arith, ints, sharp.most) in
     by_lt_z {P = IsReachedFrom v n value t} (epoch_time (earlier t v.records) device) (pos block.before.next)
-    (λ old. old_reaches v is n value t within shown least most k block (old_shows v k t t device block is (omega arith) has old))
+    (λ old. old_reaches v is n value t within shown least most k block (old_shows block is (omega arith) has old))
     (λ late.
-    let set = new_shows v k t t device block (λ w from lt. goes v k w (earlier_in_block _ _ _ _ block from (omega arith)) is) is (omega arith) has
+    let set = new_shows {u = t} block (λ w from lt. goes v k w (earlier_in_block _ _ _ _ block from (omega arith))
+    is) is (omega arith) has
     (last_setting (earlier t v.records) device) refl late in
     absurd (new_reaches_none v is n value t within shown least most k block set.hull set.is_hull
-    (set_shows v k t device (adjustment_left v device t) block is set)
-    (corrected_late v k t block device (last_setting (earlier t v.records) device) goes is has synchronised refl late)))
+    (set_shows block is set)
+    (corrected_late block (last_setting (earlier t v.records) device) goes is has synchronised refl late)))
 
 -- ---- in a run
 
@@ -158,18 +163,20 @@ pub values_are_reached_on_time : OneChannelIsSound → BlocksCover → BlocksGoS
 values_are_reached_on_time sound cover goes s mark ns until beta up is_beta t cycle value device le step within reaches =
     let hs = happenings s.network ns in
     let channel = sound s t up.lawful in
-    let at = view_with s mark ns until t channel.0 beta up is_beta le channel.1 in
+    let at = view_with t channel.0 beta up is_beta le channel.1 in
     let v = view_of s t channel.0 beta at.cut.front in
     let same : earlier t hs ≡ earlier t at.cut.front = sym (at.cut.early t (omega arith)) in
-    let synchronised : state_left v device t ≡ Synchronised = subst (λ (gs : List Happening). state_after s gs device ≡ Synchronised) same
+    let synchronised : state_left v device t ≡ Synchronised = subst (λ gs. state_after s gs device ≡ Synchronised) same
     (not_integrating (is_turned_on_at s device t) (state_after s (earlier t hs) device) step.synchronised) in
     let has : HasTimeAt v device t = record { good = step.correct; timed = timed_of (state_left v device t) synchronised } in
-    let from = value_reached cover goes v cycle value t device at.is has synchronised (omega arith) (record { begins = within.begins; ends = within.ends })
+    let from = value_reached cover goes cycle {value = value} at.is has synchronised (omega arith)
+    (record { begins = within.begins; ends = within.ends })
     (reaches_by at.cut.front same reaches) in
     record {
       first = from.hull.least;
       last = from.hull.greatest;
-      dispatches = from_to_of_run s hs t cycle from.hull.least from.hull.greatest at.cut (hull_is_from_to cover goes v at.is cycle from.hull from.is_hull);
+      dispatches = from_to_of_run cycle from.hull.least from.hull.greatest at.cut
+          (hull_is_from_to cover goes at.is cycle from.hull from.is_hull);
       narrow = from.narrow;
       not_early = from.not_early;
       not_late = from.not_late;

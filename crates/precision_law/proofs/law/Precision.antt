@@ -18,11 +18,11 @@ pub record IsViewOf (s : Scenario) (hs : List Happening) (t : ℕ) (channel : Ch
   pub path : ℕ
   pub is : IsView (record { scenario = s; until = t; records = cut.front; sizes = sizes_of s.network path; channel = channel })
 
-pub view_at : (s : Scenario) (mark : List ℕ) (ns : List Note) (until t : ℕ) (channel : Channel) → IsRunUpTo s mark ns until → t ≤ until → IsSound s t channel
-    → IsViewOf s (happenings s.network ns) t channel
-view_at s mark ns until t channel up le sound =
+pub view_at : {s : Scenario} {mark : List ℕ} {ns : List Note} {until : ℕ} (t : ℕ) (channel : Channel)
+    → IsRunUpTo s mark ns until → t ≤ until → IsSound s t channel → IsViewOf s (happenings s.network ns) t channel
+view_at {s} {until} t channel up le sound =
     let n = s.network in
-    let cut = cut_at s mark (happenings n ns) until t up.run up.covers le in
+    let cut = cut_at s until t up.run up.covers le in
     let beta = (beta_exists n (rules_give_trees n (shape_rules n up.lawful.rules))).1 in
     record {
       cut = cut;
@@ -52,8 +52,8 @@ clocks_stay_together sound cover agree s mark ns until up =
       after = λ t d e le one other.
           let same = up_to_is t hs in
           let left : (x : DeviceId) → IsInStep s hs x t → state_after s (earlier (t + 1) hs) x ≡ Synchronised = λ x step.
-          subst (λ (gs : List Happening). state_after s gs x ≡ Synchronised) same step.synchronised in
-          subst (λ (gs : List Happening). AreClose s.network (pos (s.reading d t) +ℤ (adjustment_after s gs d).0)
+          subst (λ gs. state_after s gs x ≡ Synchronised) same step.synchronised in
+          subst (λ gs. AreClose s.network (pos (s.reading d t) +ℤ (adjustment_after s gs d).0)
           (pos (s.reading e t) +ℤ (adjustment_after s gs e).0)) (sym same)
           (close t (t + 1) d e le (omega arith) (omega arith) one.correct other.correct (left d one) (left e other));
       before = λ t d e le one other.
@@ -68,13 +68,13 @@ clocks_stay_together sound cover agree s mark ns until up =
         (pos (s.reading e t) +ℤ (adjustment_after s (earlier u (happenings s.network ns)) e).0)
     close t u d e le from to good good' one other =
         let channel = sound s t up.lawful in
-        let at = view_at s mark ns until t channel.0 up le channel.1 in
+        let at = view_at t channel.0 up le channel.1 in
         let v = view_of s (happenings s.network ns) t channel.0 at in
         let block = cover v t at.is (omega arith) in
         let same : earlier u (happenings s.network ns) ≡ earlier u at.cut.front = sym (at.cut.early u to) in
         let timed : (x : DeviceId) → state_after s (earlier u (happenings s.network ns)) x ≡ Synchronised → has_time (state_left v x u) ≡ true = λ x left.
-        timed_of _ (subst (λ (gs : List Happening). state_after s gs x ≡ Synchronised) same left) in
-        subst (λ (gs : List Happening). AreClose s.network (pos (s.reading d t) +ℤ (adjustment_after s gs d).0)
+        timed_of _ (subst (λ gs. state_after s gs x ≡ Synchronised) same left) in
+        subst (λ gs. AreClose s.network (pos (s.reading d t) +ℤ (adjustment_after s gs d).0)
         (pos (s.reading e t) +ℤ (adjustment_after s gs e).0)) (sym same)
         (agree v block.0 t u d e block.1 at.is from to (record { good = good; timed = timed d one }) (record { good = good'; timed = timed e other }))
 
@@ -97,20 +97,21 @@ clique_point s ps t device state cause whys.AsyncClique clique c =
 clique_point s ps t device state cause why clique c = absurd clique
 
 -- no firm device comes to a clique
-pub no_clique : BlocksCover → BlocksGoSo → FirmDevicesCorrect → (v : View) (h : Happening) (device : DeviceId) (state : State) (cause : ℕ) (why : Why)
-    → IsView v → IsIn h v.records → h.note.body ≡ notes.State device state cause why → IsClique why
+pub no_clique : BlocksCover → BlocksGoSo → FirmDevicesCorrect
+    → {v : View} (h : Happening) (device : DeviceId) (state : State) (cause : ℕ) (why : Why) → IsView v
+    → IsIn h v.records → h.note.body ≡ notes.State device state cause why → IsClique why
     → (is_broken v.scenario device (time_of h) ≡ false → IsGood v device × IsFirm v device) → ⊥
-no_clique cover goes correct v h device state cause why is i body clique firm =
+no_clique cover goes correct {v} h device state cause why is i body clique firm =
     let s = v.scenario in
     let t = time_of h in
-    let block = cover v t is (within_run v is h i) in
+    let block = cover v t is (within_run is h i) in
     let found = founded_at s v.records h is.run.founded i in
     let point = clique_point s found.front t device state cause why clique (subst (IsCaused s found.front h.note.time) body found.due.cause) in
-    let split = before_of v h is found in
+    let split = before_of is found in
     let so = firm point.point.correct in
     let has : HasTimeAt v device t = record {
       good = so.0;
-      timed = point_timed v t device point.cycle point.verdict found.front split point.point;
+      timed = point_timed split point.point;
     } in
     let comes : ComesTo v t device point.cycle point.verdict = record { front = found.front; split = split; point = point.point } in
     let old = (goes v block.0 t block.1 is).old_alone device point.cycle point.verdict has comes point.not_cleared in
@@ -120,29 +121,32 @@ no_clique cover goes correct v h device state cause why is i body clique firm =
     point.not_corrected verdict.0 verdict.1
 
 -- so in each run none does
-never_lost : BlocksCover → BlocksGoSo → FirmDevicesCorrect → (s : Scenario) (mark : List ℕ) (ns : List Note) (until : ℕ) (h : Happening) (device : DeviceId)
-    (state : State) (cause : ℕ) (why : Why) (channel : Channel) → IsRunUpTo s mark ns until → IsIn h (happenings s.network ns) → time_of h ≤ until
-    → h.note.body ≡ notes.State device state cause why → IsClique why → IsSound s (time_of h) channel
-    → ((v : View) → v.scenario ≡ s → v.until ≡ time_of h → v.channel ≡ channel → is_broken s device (time_of h) ≡ false → IsFirm v device) → ⊥
-never_lost cover goes correct s mark ns until h device state cause why channel up i le body clique sound firm =
+never_lost : BlocksCover → BlocksGoSo → FirmDevicesCorrect
+    → {s : Scenario} {mark : List ℕ} {ns : List Note} {until : ℕ} (h : Happening) (device : DeviceId) (state : State)
+    (cause : ℕ) (why : Why) (channel : Channel) → IsRunUpTo s mark ns until → IsIn h (happenings s.network ns)
+    → time_of h ≤ until → h.note.body ≡ notes.State device state cause why → IsClique why
+    → IsSound s (time_of h) channel → ((v : View) → v.scenario ≡ s → v.until ≡ time_of h → v.channel ≡ channel
+    → is_broken s device (time_of h) ≡ false → IsFirm v device) → ⊥
+never_lost cover goes correct {s} {ns} h device state cause why channel up i le body clique sound firm =
     let t = time_of h in
-    let at = view_at s mark ns until t channel up le sound in
+    let at = view_at t channel up le sound in
     let v = view_of s (happenings s.network ns) t channel at in
-    no_clique cover goes correct v h device state cause why at.is (at.cut.has h i (omega arith)) body clique
+    no_clique cover goes correct h device state cause why at.is (at.cut.has h i (omega arith)) body clique
     (λ good. (good, firm v refl refl refl good))
 
 pub time_is_kept : OneChannelIsSound → BlocksCover → BlocksGoSo → FirmDevicesCorrect → TimeIsKept
 time_is_kept sound cover goes correct s mark ns until up h device state cause why i le body clique = (
   λ end.
       let channel = sound s (time_of h) up.lawful in
-      never_lost cover goes correct s _ ns _ h device state cause why _ up i le body clique channel.1 (λ v same at of good. inl (record {
+      never_lost cover goes correct h device state cause why _ up i le body clique channel.1
+      (λ v same at of good. inl (record {
         end = subst (λ (x : Scenario). is_end x.network device ≡ true) (sym same) end;
         good =
-            subst (λ (u : ℕ). is_broken v.scenario device u ≡ false) (sym at)
-            (subst (λ (x : Scenario). is_broken x device (time_of h) ≡ false) (sym same) good);
+            subst (λ u. is_broken v.scenario device u ≡ false) (sym at)
+            (subst (λ x. is_broken x device (time_of h) ≡ false) (sym same) good);
       })),
   λ channel switch quiet.
-      never_lost cover goes correct s mark ns until h device state cause why channel up i le body clique quiet (λ v same at of good. inr
-      (subst (λ (c : Channel). IsSwitchOf v.scenario.network c device) (sym of)
+      never_lost cover goes correct h device state cause why channel up i le body clique quiet (λ v same at of good. inr
+      (subst (λ c. IsSwitchOf v.scenario.network c device) (sym of)
       (subst (λ (x : Scenario). IsSwitchOf x.network channel device) (sym same) switch))),
 )

@@ -1,7 +1,7 @@
 -- How near to one another all dispatches of a cycle lie, those of a master that breaks later among them.
 use Rattle.precision_law.proofs.law.Breaking.{AreTwo, first_view, second_view, set_before}
 use Rattle.precision_law.proofs.words.Blocks.{IsReachedBy, all_in_hulls, before_narrow, block_of, follows_before, has_dispatched, high_by, hull_lies, low_by}
-use Rattle.precision_law.proofs.words.{Blocks.{shared_near, start_near, synchronised_is, view_of, view_with}, Std.{subst, suc, sym, true, zero, ℕ, ℤ}}
+use Rattle.precision_law.proofs.words.{Blocks.{shared_near, start_near, synchronised_is, view_with}, Std.{subst, suc, sym, true, zero, ℕ, ℤ}}
 use Rattle.precision_law.proofs.words.Clocks.{adjustment_stays, anchored_clocks_reach, anchored_clocks_show, one_more, room, shared_clocks_halve}
 use Rattle.precision_law.proofs.words.Clocks.{short_by_reading, starts_stay_together, state_stays, steady, within_run}
 use Rattle.precision_law.proofs.words.Laws.{AreShared, BlocksCover, BlocksGoSo, DispatchesHalve, DispatchesStayNear, IsAnchored, IsDispatch, IsDispatchOf}
@@ -24,22 +24,23 @@ record IsSharing (v : View) (n w u : ℕ) (before : Stands v n) (device : Device
   pub least : pos (suc n * v.sizes.cycle) ≤ℤ (pos (v.scenario.reading device u) +ℤ adjustment_left v device w)
   pub most : (pos (v.scenario.reading device u) +ℤ adjustment_left v device w) ≤ℤ (pos (suc n * v.sizes.cycle) +ℤ pos (2 * v.sizes.grain))
 
-later_near : (v : View) (n w u : ℕ) (before : Stands v n) (device : DeviceId) (share : AreShared v n before.hull before.next) → IsView v
-    → IsSharing v n w u before device → IsReachedBy v n u before.hull share.shared
-later_near v n w u before device share is at =
+later_near : {v : View} {n w u : ℕ} {before : Stands v n} {device : DeviceId}
+    (share : AreShared v n before.hull before.next) → IsView v → IsSharing v n w u before device
+    → IsReachedBy v n u before.hull share.shared
+later_near {v} {n} {w} {u} {before} {device} share is at =
     let reading = v.scenario.reading device in
-    let still = state_stays is_synchronised refl v device before.next w is at.from at.old at.synchronised in
+    let still = state_stays is_synchronised refl device before.next w is at.from at.old at.synchronised in
     let by = share.each device (record { end = at.end; good = at.good }) (synchronised_is (state_left v device before.next) still) in
-    let same = ap (λ (a : Units). a.0) (adjustment_stays v device before.next w is at.from at.old) in
+    let same = ap (λ (a : Units). a.0) (adjustment_stays device before.next w is at.from at.old) in
     let low = low_by v.sizes share.shared by.other in
     let high = high_by v.sizes share.shared by.other in
-    let anchored = subst (λ (a : ℤ). IsAnchored v.sizes (pos (reading by.set_at) +ℤ a) n low high by.set_at) same by.anchored in
+    let anchored = subst (λ a. IsAnchored v.sizes (pos (reading by.set_at) +ℤ a) n low high by.set_at) same by.anchored in
     let product = one_more n v.sizes.cycle in
     let first : by.set_at ≤ u = omega (arith, by.not_behind, at) in
     let short : reading u + v.sizes.drift < reading by.set_at + 2 * v.sizes.cycle =
     (let a = anchored.least in let m = at.most in let near = share.near.most in let far = by.near.most in let begun = by.not_before in let narrow =
-    before_narrow v n before in
-    omega (arith, ints, a, m, near, far, begun, narrow, product, room v is)) in
+    before_narrow before in
+    omega (arith, ints, a, m, near, far, begun, narrow, product, room is)) in
     let within = short_by_reading v.sizes reading by.set_at u (steady v is device) first short in
     let shows = anchored_clocks_show v.sizes reading (adjustment_left v device w) n low high by.set_at u (steady v is device) first (omega (arith, within))
     anchored in
@@ -58,13 +59,14 @@ pub record AreWithin (w u : ℕ) (twice : ℤ) : Type 0 where
   pub other : pos (2 * w) ≤ℤ (pos (2 * u) +ℤ twice)
 
 -- a dispatch of the first cycle is near the start
-start_at : BlocksGoSo → (v : View) (g : Happening) (one : DeviceId) → IsView v → IsDispatch v g one 1 → IsInHull v 1 (time_of g)
-    → IsInBlock v 0 (time_of g) → IsReachedNear v.sizes (pos 0 -ℤ pos (2 * v.sizes.settled)) (pos 0) v.sizes.cycle (time_of g)
-start_at goes v g one is sent own block =
-    let old = subst (λ (x : ℕ). epoch_time (earlier (time_of g) v.records) one <ℤ pos x) block.before.is_over
+start_at : BlocksGoSo → {v : View} {g : Happening} {one : DeviceId} → IsView v → IsDispatch v g one 1
+    → IsInHull v 1 (time_of g) → IsInBlock v 0 (time_of g)
+    → IsReachedNear v.sizes (pos 0 -ℤ pos (2 * v.sizes.settled)) (pos 0) v.sizes.cycle (time_of g)
+start_at goes {v} {g} {one} is sent own block =
+    let old = subst (λ x. epoch_time (earlier (time_of g) v.records) one <ℤ pos x) block.before.is_over
     ((goes v 0 (time_of g) block is).dispatches g one 1 sent refl).old in
-    let follows = follows_before v 0 (start_hull v.sizes) own.hull is refl own.is in
-    start_near v one (time_of g) is sent.good (has_dispatched v g one 1 is sent) old (omega (arith, ints, own.most, follows.most))
+    let follows = follows_before 0 (start_hull v.sizes) own.hull is refl own.is in
+    start_near is sent.good (has_dispatched is sent) old (omega (arith, ints, own.most, follows.most))
 
 module _ (cover : BlocksCover) (goes : BlocksGoSo) (s : Scenario) (hs : List Happening) (path : ℕ) (g h : Happening) (one other : DeviceId) where
   -- those of a later cycle
@@ -77,14 +79,14 @@ module _ (cover : BlocksCover) (goes : BlocksGoSo) (s : Scenario) (hs : List Hap
       let before = block.before in
       let set = set_before cover goes s hs path g h one other n two block later in
       let share = before.shared (omega arith) in
-      let own = all_in_hulls cover goes v two.is g one (suc n) two.first in
+      let own = all_in_hulls cover goes two.is two.first in
       let late : pos (time_of g) ≤ℤ last_dispatch v.sizes before.hull =
-      omega (arith, ints, own.most, (follows_before v n _ _ two.is before.is_hull own.is).most) in
+      omega (arith, ints, own.most, (follows_before n _ _ two.is before.is_hull own.is).most) in
       let old = ((goes v n (time_of g) block two.is).dispatches g one (suc n) two.first refl).old in
-      let x = shared_near v n (time_of g) before one share two.is two.first.good (has_dispatched v g one (suc n) two.is two.first) block.from old late in
-      let y = later_near _ _ (time_of g) (time_of h) before other share two.is (record {
+      let x = shared_near before share two.is two.first.good (has_dispatched two.is two.first) block.from old late in
+      let y = later_near {w = time_of g} {u = time_of h} {before = before} {device = other} share two.is (record {
         good = set.good;
-        end = (has_dispatched (second_view two) h other (suc n) two.longer two.second).end;
+        end = (has_dispatched two.longer two.second).end;
         synchronised = set.synchronised;
         from = block.from;
         le = two.le;
@@ -92,7 +94,7 @@ module _ (cover : BlocksCover) (goes : BlocksGoSo) (s : Scenario) (hs : List Hap
         least = set.least;
         most = set.most;
       }) in
-      let space = room v two.is in
+      let space = room two.is in
       record {
         one = shared_clocks_halve v.sizes before.hull share.shared y.other x.other (time_of h) (time_of g) space y.near x.near y.reached x.reached;
         other = shared_clocks_halve v.sizes before.hull share.shared x.other y.other (time_of g) (time_of h) space x.near y.near x.reached y.reached;
@@ -104,29 +106,32 @@ module _ (cover : BlocksCover) (goes : BlocksGoSo) (s : Scenario) (hs : List Hap
   start_two two block later =
       let v = first_view two in
       let v' = second_view two in
-      let x = start_at goes v g one two.is two.first (all_in_hulls cover goes v two.is g one 1 two.first) block in
-      let y = start_at goes v' h other two.longer two.second (all_in_hulls cover goes v' two.longer h other 1 two.second) later in
-      let a = starts_stay_together v.sizes (time_of g) (time_of h) (room v two.is) x y in
-      record { one = omega (arith, ints, starts_stay_together v.sizes (time_of h) (time_of g) (room v two.is) y x); other = omega (arith, ints, a) }
+      let x = start_at goes two.is two.first (all_in_hulls cover goes two.is two.first) block in
+      let y = start_at goes two.longer two.second (all_in_hulls cover goes two.longer two.second) later in
+      let a = starts_stay_together v.sizes (time_of g) (time_of h) (room two.is) x y in
+      record { one = omega (arith, ints, starts_stay_together v.sizes (time_of h) (time_of g) (room two.is) y x); other = omega (arith, ints, a) }
 
 -- ---- in a run
 
 -- a dispatch is of a master that is correct then
-sends_correct : (s : Scenario) (mark : List ℕ) (ns : List Note) (until cycle : ℕ) → IsRunUpTo s mark ns until → (h : Happening)
-    → (d : IsDispatchOf (happenings s.network ns) until cycle h) → is_broken s d.master (time_of h) ≡ false
-sends_correct s mark ns until cycle up h d =
+sends_correct : {s : Scenario} {mark : List ℕ} {ns : List Note} {until cycle : ℕ} → IsRunUpTo s mark ns until
+    → {h : Happening} (d : IsDispatchOf (happenings s.network ns) until cycle h)
+    → is_broken s d.master (time_of h) ≡ false
+sends_correct {s} {ns} up {h} d =
     let found = founded_at s (happenings s.network ns) h up.run.founded d.there in
     (subst (IsCaused s found.front h.note.time) d.is found.due.cause).up.correct
 
 -- the views at a dispatch and at a later one
-two_of : OneChannelIsSound → (s : Scenario) (mark : List ℕ) (ns : List Note) (until path n : ℕ) → (up : IsRunUpTo s mark ns until)
-    → IsBeta s.network (pos path) → (g h : Happening) → (a : IsDispatchOf (happenings s.network ns) until (suc n) g)
-    → (b : IsDispatchOf (happenings s.network ns) until (suc n) h) → time_of g ≤ time_of h → AreTwo s (happenings s.network ns) path n g h a.master b.master
-two_of sound s mark ns until path n up beta g h a b le =
+two_of : OneChannelIsSound → {s : Scenario} {mark : List ℕ} {ns : List Note} {until : ℕ} (path n : ℕ)
+    (up : IsRunUpTo s mark ns until) → IsBeta s.network (pos path)
+    → {g h : Happening} (a : IsDispatchOf (happenings s.network ns) until (suc n) g)
+    (b : IsDispatchOf (happenings s.network ns) until (suc n) h) → time_of g ≤ time_of h
+    → AreTwo s (happenings s.network ns) path n g h a.master b.master
+two_of sound {s} path n up beta {g} {h} a b le =
     let c = sound s (time_of g) up.lawful in
     let d = sound s (time_of h) up.lawful in
-    let x = view_with s mark ns until (time_of g) c.0 path up beta a.by_then c.1 in
-    let y = view_with s mark ns until (time_of h) d.0 path up beta b.by_then d.1 in
+    let x = view_with (time_of g) c.0 path up beta a.by_then c.1 in
+    let y = view_with (time_of h) d.0 path up beta b.by_then d.1 in
     record {
       c = c.0;
       d = d.0;
@@ -134,12 +139,12 @@ two_of sound s mark ns until path n up beta g h a b le =
       more = y.cut.front;
       is = x.is;
       longer = y.is;
-      first = record { there = x.cut.has g a.there (omega arith); is = a.is; good = sends_correct s mark ns until (suc n) up g a };
-      second = record { there = y.cut.has h b.there (omega arith); is = b.is; good = sends_correct s mark ns until (suc n) up h b };
+      first = record { there = x.cut.has g a.there (omega arith); is = a.is; good = sends_correct up a };
+      second = record { there = y.cut.has h b.there (omega arith); is = b.is; good = sends_correct up b };
       le = le;
       early = λ t within. x.cut.early t (omega (arith, within)) ∙ sym (y.cut.early t (omega (arith, within, le)));
       inside = λ e i.
-          y.cut.has e (x.cut.inside e i) (omega (arith, within_run (view_of s (time_of g) c.0 path x.cut.front) x.is e i, le));
+          y.cut.has e (x.cut.inside e i) (omega (arith, within_run x.is e i, le));
       of_run = x.cut.inside;
     }
 
@@ -149,21 +154,21 @@ record AreApart (s : Scenario) (hs : List Happening) (until k : ℕ) (g h : Happ
   pub halves : (first last : ℤ) → 1 ≤ k → ((e : Happening) → IsDispatchOf hs until k e → (first ≤ℤ pos (time_of e)) × (pos (time_of e) ≤ℤ last))
       → AreWithin (time_of g) (time_of h) ((last -ℤ first) +ℤ pos (amount s.network.settled))
 
-apart_by : BlocksCover → BlocksGoSo → (s : Scenario) (hs : List Happening) (path until k : ℕ) (g h : Happening) (one other : DeviceId)
-    → (two : AreTwo s hs path k g h one other) → time_of g ≤ until → IsInBlock (first_view two) k (time_of g) → IsInBlock (second_view two) k (time_of h)
-    → AreApart s hs until k g h
-apart_by cover goes s hs path until zero g h one other two to block later =
+apart_by : BlocksCover → BlocksGoSo → {s : Scenario} {hs : List Happening} {path : ℕ} (until k : ℕ) {g h : Happening}
+    {one other : DeviceId} (two : AreTwo s hs path k g h one other) → time_of g ≤ until
+    → IsInBlock (first_view two) k (time_of g) → IsInBlock (second_view two) k (time_of h) → AreApart s hs until k g h
+apart_by cover goes {s} {hs} {path} until zero {g} {h} {one} {other} two to block later =
     record { near = start_two cover goes s hs path g h one other two block later; halves = λ first last begun lie. absurd (omega (arith, begun)) }
-apart_by cover goes s hs path until (suc m) g h one other two to block later =
+apart_by cover goes {s} {hs} {path} until (suc m) {g} {h} {one} {other} two to block later =
     let v = first_view two in
     let half = halve_two cover goes s hs path g h one other m two block later in
     let hull = block.before.hull in
-    let narrow = before_narrow v _ block.before in
-    let spread_is = (room v two.is).errors.spread_is in
+    let narrow = before_narrow block.before in
+    let spread_is = (room two.is).errors.spread_is in
     record {
       near = record { one = omega (arith, ints, half.one, narrow, spread_is); other = omega (arith, ints, half.other, narrow, spread_is) };
       halves = λ first last begun lie.
-          let ends = hull_lies cover goes v two.is m hull block.before.is_hull in
+          let ends = hull_lies cover goes two.is m hull block.before.is_hull in
           let a = ends.is_earliest in
           let b = ends.is_latest in
           let low = (lie ends.earliest (record { there = two.of_run ends.earliest a.there; master = a.master; is = a.is; by_then = omega arith })).0 in
@@ -171,35 +176,38 @@ apart_by cover goes s hs path until (suc m) g h one other two to block later =
           record { one = omega (arith, ints, half.one); other = omega (arith, ints, half.other) };
     }
 
-apart : OneChannelIsSound → BlocksCover → BlocksGoSo → (s : Scenario) (mark : List ℕ) (ns : List Note) (until k : ℕ) → IsRunUpTo s mark ns until
-    → (g h : Happening) → IsDispatchOf (happenings s.network ns) until (suc k) g → IsDispatchOf (happenings s.network ns) until (suc k) h
-    → time_of g ≤ time_of h → AreApart s (happenings s.network ns) until k g h
-apart sound cover goes s mark ns until k up g h a b le =
-    let n = s.network in
-    let beta = (beta_exists n (rules_give_trees n (shape_rules n up.lawful.rules))).1 in
-    let path = beta_at n beta.jitter beta.links in
-    let two = two_of sound s mark ns until path k up (subst (IsBeta n) beta.value beta) g h a b le in
-    let first = block_of cover goes (first_view two) two.is g a.master (suc k) two.first in
-    let second = block_of cover goes (second_view two) two.longer h b.master (suc k) two.second in
-    let at : first.n ≡ k = omega (arith, first.of_cycle) in
-    let too : second.n ≡ k = omega (arith, second.of_cycle) in
-    apart_by cover goes s (happenings s.network ns) path until k g h a.master b.master two a.by_then
-    (subst (λ (j : ℕ). IsInBlock (first_view two) j (time_of g)) at first.block) (subst (λ (j : ℕ). IsInBlock (second_view two) j (time_of h)) too second.block)
+module _ (sound : OneChannelIsSound) (cover : BlocksCover) (goes : BlocksGoSo) where
+  apart : {s : Scenario} {mark : List ℕ} {ns : List Note} {until : ℕ} (k : ℕ) → IsRunUpTo s mark ns until
+      → {g h : Happening} → IsDispatchOf (happenings s.network ns) until (suc k) g
+      → IsDispatchOf (happenings s.network ns) until (suc k) h → time_of g ≤ time_of h
+      → AreApart s (happenings s.network ns) until k g h
+  apart {s} {until} k up {g} {h} a b le =
+      let n = s.network in
+      let beta = (beta_exists n (rules_give_trees n (shape_rules n up.lawful.rules))).1 in
+      let path = beta_at n beta.jitter beta.links in
+      let two = two_of sound path k up (subst (IsBeta n) beta.value beta) a b le in
+      let first = block_of cover goes two.is two.first in
+      let second = block_of cover goes two.longer two.second in
+      let at : first.n ≡ k = omega (arith, first.of_cycle) in
+      let too : second.n ≡ k = omega (arith, second.of_cycle) in
+      apart_by cover goes until k two a.by_then
+      (subst (λ j. IsInBlock (first_view two) j (time_of g)) at first.block)
+      (subst (λ j. IsInBlock (second_view two) j (time_of h)) too second.block)
 
-pub dispatches_stay_near : OneChannelIsSound → BlocksCover → BlocksGoSo → DispatchesStayNear
-dispatches_stay_near sound cover goes s mark ns until up zero g h a b =
-    let found = founded_at s (happenings s.network ns) g up.run.founded a.there in
-    let begun = (subst (IsCaused s found.front g.note.time) a.is found.due.cause).begun in
-    absurd (omega (arith, begun))
-dispatches_stay_near sound cover goes s mark ns until up (suc k) g h a b =
-    elim (cases_lt (time_of h) (time_of g)) [
-      | inr le ↦ (let near = (apart sound cover goes s mark ns until k up g h a b le).near.other in omega (arith, ints, near))
-      | inl lt ↦ (let near = (apart sound cover goes s mark ns until k up h g b a (omega (arith, lt))).near.one in omega (arith, ints, near))
-    ]
+  pub dispatches_stay_near : DispatchesStayNear
+  dispatches_stay_near s mark ns until up zero g h a b =
+      let found = founded_at s (happenings s.network ns) g up.run.founded a.there in
+      let begun = (subst (IsCaused s found.front g.note.time) a.is found.due.cause).begun in
+      absurd (omega (arith, begun))
+  dispatches_stay_near s mark ns until up (suc k) g h a b =
+      elim (cases_lt (time_of h) (time_of g)) [
+        | inr le ↦ (let near = (apart k up a b le).near.other in omega (arith, ints, near))
+        | inl lt ↦ (let near = (apart k up b a (omega (arith, lt))).near.one in omega (arith, ints, near))
+      ]
 
-pub dispatches_halve : OneChannelIsSound → BlocksCover → BlocksGoSo → DispatchesHalve
-dispatches_halve sound cover goes s mark ns until up cycle first last begun lie g h a b =
-    elim (cases_lt (time_of h) (time_of g)) [
-      | inr le ↦ ((apart sound cover goes s mark ns until cycle up g h a b le).halves first last begun lie).other
-      | inl lt ↦ ((apart sound cover goes s mark ns until cycle up h g b a (omega (arith, lt))).halves first last begun lie).one
-    ]
+  pub dispatches_halve : DispatchesHalve
+  dispatches_halve s mark ns until up cycle first last begun lie g h a b =
+      elim (cases_lt (time_of h) (time_of g)) [
+        | inr le ↦ ((apart cycle up a b le).halves first last begun lie).other
+        | inl lt ↦ ((apart cycle up b a (omega (arith, lt))).halves first last begun lie).one
+      ]

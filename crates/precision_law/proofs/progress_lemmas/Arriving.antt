@@ -11,8 +11,8 @@ use Rattle.precision_law.proofs.words.Laws.{PointsHaveCome, SoundMasterSends, Si
 use Rattle.precision_law.proofs.words.Laws.{hull_of, last_correction, start_hull, state_left}
 use Rattle.precision_law.proofs.words.Plans.{DeviceId, IsBeta, amount, beta_at, beta_exists, margins, rules_give_trees}
 use Rattle.precision_law.proofs.words.Plans.{shape_rules}
-use Rattle.precision_law.proofs.words.Runs.{Happening, happenings, same_some, state_after, up_to}
-use Rattle.precision_law.proofs.words.Std.{◌*◌, ◌+ℤ◌, ◌+◌, ◌<ℤ◌, ◌<◌, ◌∙◌, ◌≡◌, ◌≤ℤ◌, ◌≤◌, List, ap, arith, by_lt_z}
+use Rattle.precision_law.proofs.words.Runs.{happenings, same_some, state_after, up_to}
+use Rattle.precision_law.proofs.words.Std.{◌*◌, ◌+ℤ◌, ◌+◌, ◌<ℤ◌, ◌<◌, ◌∙◌, ◌≡◌, ◌≤ℤ◌, ◌≤◌, ap, arith, by_lt_z}
 use Rattle.precision_law.proofs.words.Std.{inl, ints, pos, refl, subst, suc, sym, true, zero, ℕ, ℤ}
 use Rattle.precision_law.specs.Progress.{EndSystemsComeIn, EndSystemsComeInSoon, coming_time}
 
@@ -30,35 +30,34 @@ abbrev pub coming : Sizes → ℕ
 coming s = 2 * s.cycle + s.correction + s.spread + 3 * s.reach
 
 -- a hull lies before the end of its block
-pub hull_before : (v : View) (n : ℕ) (stands : Stands v n) → IsView v → stands.hull.greatest ≤ℤ pos stands.next
-hull_before v zero stands is =
+pub hull_before : {v : View} (n : ℕ) (stands : Stands v n) → IsView v → stands.hull.greatest ≤ℤ pos stands.next
+hull_before {v} zero stands is =
     let same : start_hull v.sizes ≡ stands.hull = same_some (hull_of v zero)
     (start_hull v.sizes) stands.hull refl stands.is_hull in
     omega (arith, ints, ap (λ (w : Hull). w.greatest) same)
-hull_before v (suc n) stands is = omega (arith, ints, begins_late v n stands is)
+hull_before (suc n) stands is = omega (arith, ints, begins_late n stands is)
 
 -- a time in a block lies before the dispatches of the cycle after the block's
-pub later_hull : (s : Sizes) (t next : ℕ) (before hull later : Hull) → HaveRoom s → IsNarrow s before
-    → Follows s before hull → Follows s hull later
-    → pos next ≡ (last_correction s before +ℤ pos 1) → t < next → pos (t + 1) ≤ℤ (later.least +ℤ pos 1)
-later_hull s t next before hull later space narrow follows more ends to =
+pub later_hull : {s : Sizes} (t next : ℕ) {before hull later : Hull} → HaveRoom s → IsNarrow s before
+    → Follows s before hull → Follows s hull later → pos next ≡ (last_correction s before +ℤ pos 1) → t < next
+    → pos (t + 1) ≤ℤ (later.least +ℤ pos 1)
+later_hull {s} t next {before} {hull} space narrow follows more ends to =
     omega (arith, ints, to, ends, corrections_come_first s before hull space narrow follows, more.least)
 
 pub less_at_most : (a b : ℤ) → a <ℤ b → a ≤ℤ b
 less_at_most a b lt = omega (arith, ints, lt)
 
 -- where a cycle's dispatches begin before the time, the block of the next cycle is over in time
-pub later_soon : (s : Sizes) (t until : ℕ) (hull later : Hull) → IsNarrow s hull → Follows s hull later
-    → hull.least ≤ℤ pos t → t + coming s ≤ until
-    → last_correction s later ≤ℤ pos until
-later_soon s t until hull later narrow follows early long = omega (arith, ints, follows.most, narrow, early, long)
+pub later_soon : {s : Sizes} (t until : ℕ) {hull later : Hull} → IsNarrow s hull → Follows s hull later
+    → hull.least ≤ℤ pos t → t + coming s ≤ until → last_correction s later ≤ℤ pos until
+later_soon t until narrow follows early long = omega (arith, ints, follows.most, narrow, early, long)
 
 -- behind a block that is over the next one is, where its last correction lies in the run
 abbrev pub next_over : (known : AreBlocksKnown) (v : View) (is : IsView v) (n : ℕ) (over : BlockIsOver v n)
     → last_correction v.sizes (known.on v n is over).hull ≤ℤ pos v.until → BlockIsOver v (suc n)
 next_over known v is n over short =
     let stands = known.on v n is over in
-    let next = behind_of (last_correction v.sizes stands.hull) stands.next (later_end v (suc n) stands is) in
+    let next = behind_of (last_correction v.sizes stands.hull) stands.next (later_end (suc n) stands is) in
     record {
       before = stands;
       next = next.0;
@@ -69,7 +68,7 @@ next_over known v is n over short =
 module _ (known : AreBlocksKnown) (v : View) (device : DeviceId) (is : IsView v) (end : IsGoodEnd v device) where
   never : KeepsFrom v device 0
   never h state cause why i late body clique =
-      no_clique known.cover known.goes known.correct v h device state cause why is i body clique
+      no_clique known.cover known.goes known.correct h device state cause why is i body clique
       (λ good. (end.good, inl end))
 
   -- what is on when the dispatches of a block's cycle begin is synchronised when the next block is over
@@ -84,7 +83,7 @@ module _ (known : AreBlocksKnown) (v : View) (device : DeviceId) (is : IsView v)
       let other = block_ends v n next.before.next hull over.before.is_hull next.before.is_over in
       let same : over.next ≡ next.before.next = omega (arith, ints, one, other) in
       let has : HasTimeAt v device next.before.next =
-      record { good = end.good; timed = subst (λ (y : ℕ). has_time (state_left v device y) ≡ true) same timed } in
+      record { good = end.good; timed = subst (λ y. has_time (state_left v device y) ≡ true) same timed } in
       stays_synchronised v device is 0 never next.next (v.until + 1) (omega arith) next.in_run
       (synchronised_by v device is 0 never known.come (suc n) next (omega arith) has)
 
@@ -96,9 +95,9 @@ module _ (known : AreBlocksKnown) (v : View) (device : DeviceId) (is : IsView v)
       let n = found.0 in
       let block = found.1 in
       let before = block.before in
-      let space = room v is in
+      let space = room is in
       let ends = block_ends v n block.next before.hull before.is_hull block.is_over in
-      let begun = hull_before v n before is in
+      let begun = hull_before n before is in
       let over : BlockIsOver v n = record {
         before = before;
         next = block.next;
@@ -106,18 +105,18 @@ module _ (known : AreBlocksKnown) (v : View) (device : DeviceId) (is : IsView v)
         in_run = omega (arith, ints, ends, begun, block.from, long);
       } in
       let stands = known.on v n is over in
-      let follows = follows_before v n before.hull stands.hull is before.is_hull stands.is_hull in
+      let follows = follows_before n before.hull stands.hull is before.is_hull stands.is_hull in
       let short : last_correction v.sizes stands.hull ≤ℤ pos v.until =
       omega (arith, ints, follows.most, begun, block.from, long) in
       let next = next_over known v is n over short in
       by_lt_z {P = IsSynchronised (state_left v device (v.until + 1))} stands.hull.least (pos t)
       (λ late.
       let later = known.on v (suc n) is next in
-      let follows_next = follows_before v (suc n) stands.hull later.hull is stands.is_hull later.is_hull in
-      let early = later_hull v.sizes t block.next before.hull stands.hull later.hull space
-      (before_narrow v n before) follows follows_next ends block.to in
-      let low = later_soon v.sizes t v.until stands.hull later.hull
-      (before_narrow v (suc n) stands) follows_next (less_at_most stands.hull.least (pos t) late) long in
+      let follows_next = follows_before (suc n) stands.hull later.hull is stands.is_hull later.is_hull in
+      let early = later_hull t block.next space
+      (before_narrow before) follows follows_next ends block.to in
+      let low = later_soon t v.until
+      (before_narrow stands) follows_next (less_at_most stands.hull.least (pos t) late) long in
       in_two_blocks (suc n) (t + 1) next (next_over known v is (suc n) next low) on early)
       (λ soon. in_two_blocks n (t + 1) over next on (omega (arith, ints, soon)))
 
@@ -125,10 +124,10 @@ pub end_systems_come_in_soon : OneChannelIsSound → AreBlocksKnown → EndSyste
 end_systems_come_in_soon sound known s mark ns until beta up is_beta device t u end on long le good =
     let hs = happenings s.network ns in
     let channel = sound s u up.lawful in
-    let at = view_with s mark ns until u channel.0 beta up is_beta le channel.1 in
+    let at = view_with u channel.0 beta up is_beta le channel.1 in
     let v = view_of s u channel.0 beta at.cut.front in
     let left : (x : ℕ) → x ≤ u → state_after s (up_to x hs) device ≡ state_left v device (x + 1) = λ x to.
-    ap (λ (gs : List Happening). state_after s gs device)
+    ap (λ gs. state_after s gs device)
     (up_to_is x hs ∙ sym (at.cut.early (x + 1) (omega (arith, to)))) in
     let on_then = subst IsOn (left t (omega (arith, long))) on in
     record {
@@ -144,7 +143,7 @@ end_systems_come_in come s mark ns until up device t u end on long le good =
     let beta = (beta_exists n (rules_give_trees n (shape_rules n up.lawful.rules))).1 in
     let path = beta_at n beta.jitter beta.links in
     let is_beta : IsBeta n (pos path) = subst (IsBeta n) beta.value beta in
-    let space = room_of n path up.lawful.rules (margins rules_give_trees n path up.lawful.range up.lawful.rules is_beta)
+    let space = room_of up.lawful.rules (margins rules_give_trees n path up.lawful.range up.lawful.rules is_beta)
     in
     let short : coming_time n path ≤ 3 * amount n.cycle = omega (arith, space.cycles, space.eight_errors) in
     come s mark ns until path up is_beta device t u end on (omega (arith, short, long)) le good

@@ -31,24 +31,24 @@ AllCarry P v device x y =
     (h : Happening) → IsIn h v.records → x ≤ time_of h → time_of h < y → Carries P device h.note.body
 
 -- so what holds at x holds at y
-pub carried_between : (P : State → Type 0) (v : View) (device : DeviceId) (x y : ℕ) → IsView v → x ≤ y
+pub carried_between : (P : State → Type 0) {v : View} (device : DeviceId) (x y : ℕ) → IsView v → x ≤ y
     → AllCarry P v device x y → P (state_left v device x) → P (state_left v device y)
-carried_between P v device x y is le each p =
+carried_between P {v} device x y is le each p =
     let step = λ (state : State) (h : Happening). state_with device state h.note.body in
     let hs = between x y v.records in
     let apart = fold-append step (state_at_start (start_of v.scenario.network device)) (earlier x v.records) hs in
     let same : state_left v device y ≡ fold step (state_left v device x) hs =
-    ap (λ (gs : List Happening). state_after v.scenario gs device) (earlier_parts x y v.records (in_order v is) le)
+    ap (λ gs. state_after v.scenario gs device) (earlier_parts x y v.records (in_order is) le)
     ∙ apart in
     subst P (sym same) (fold_carries P device hs (λ h i.
     let there = in_between x y v.records h i in
     each h there.0 there.1 there.2) (state_left v device x) p)
 
 -- and what a record brings about, the later ones carry on
-pub carried_behind : (P : State → Type 0) (v : View) (device : DeviceId) (g : Happening) (y : ℕ) → IsView v
+pub carried_behind : (P : State → Type 0) {v : View} (device : DeviceId) (g : Happening) (y : ℕ) → IsView v
     → IsIn g v.records → time_of g < y → AllCarry P v device (time_of g) y
     → ((old : State) → P (state_with device old g.note.body)) → P (state_left v device y)
-carried_behind P v device g y is i lt each brings =
+carried_behind P {v} device g y is i lt each brings =
     let s = v.scenario in
     let found = founded_at s v.records g is.run.founded i in
     let test = λ (h : Happening). nat_lt (time_of h) y in
@@ -60,8 +60,8 @@ carried_behind P v device g y is i lt each brings =
     let apart = fold-append step (state_at_start (start_of s.network device)) (earlier y found.front)
     (g ∷ earlier y found.rest) in
     let same : state_left v device y ≡ fold step (step before g) (earlier y found.rest) =
-    ap (λ (hs : List Happening). state_after s hs device) parts ∙ apart in
-    let order = sorted_parts found.front found.rest g (subst AreSorted found.whole (in_order v is)) in
+    ap (λ hs. state_after s hs device) parts ∙ apart in
+    let order = sorted_parts found.front found.rest g (subst AreSorted found.whole (in_order is)) in
     subst P (sym same) (fold_carries P device (earlier y found.rest) (λ h j.
     let back = in_earlier y found.rest h j in
     let there : IsIn h v.records = subst (IsIn h) (sym found.whole)
@@ -81,11 +81,11 @@ holds_if : (P : State → Type 0) (b : Bool) (new old : State) → (b ≡ true �
 holds_if P true new old now p = now refl
 holds_if P false new old now p = p
 
-carries_by : (P : State → Type 0) (v : View) (device : DeviceId) (h : Happening) (body : NoteBody) → IsView v
-    → IsIn h v.records
-    → h.note.body ≡ body → (is_joined_by device body ≡ true → P Joining)
-    → ((state : State) (cause : ℕ) (why : Why) → IsChange v device h state cause why → P state) → Carries P device body
-carries_by P v device h (notes.State other state cause why) is i body told changed old p =
+carries_by : (P : State → Type 0) {v : View} (device : DeviceId) (h : Happening) (body : NoteBody) → IsView v
+    → IsIn h v.records → h.note.body ≡ body → (is_joined_by device body ≡ true → P Joining)
+    → ((state : State) (cause : ℕ) (why : Why) → IsChange v device h state cause why → P state)
+    → Carries P device body
+carries_by P {v} device h (notes.State other state cause why) is i body told changed old p =
     holds_if P (device.0 == other.0) state old (λ own.
     let found = founded_at v.scenario v.records h is.run.founded i in
     let same = same_device device other own in
@@ -95,16 +95,16 @@ carries_by P v device h (notes.State other state cause why) is i body told chang
       found = found;
       changes = subst (IsCaused v.scenario found.front h.note.time) is_own found.due.cause;
     })) p
-carries_by P v device h (notes.Permanent other link cause point Integrates) is i body told changed old p =
+carries_by P device h (notes.Permanent other link cause point Integrates) is i body told changed old p =
     holds_if P (device.0 == other.0) Joining old told p
-carries_by P v device h (notes.Compressed other opened own cycle members Integrates) is i body told changed old p =
+carries_by P device h (notes.Compressed other opened own cycle members Integrates) is i body told changed old p =
     holds_if P (device.0 == other.0) Joining old told p
-carries_by P v device h body is i same told changed old p = p
+carries_by P device h body is i same told changed old p = p
 
 -- a record carries it on, if it holds of a joiner where the record makes one, and of each state to which the record
 -- changes the device's
-pub carries : (P : State → Type 0) (v : View) (device : DeviceId) (h : Happening) → IsView v → IsIn h v.records
+pub carries : (P : State → Type 0) {v : View} (device : DeviceId) (h : Happening) → IsView v → IsIn h v.records
     → (is_joined_by device h.note.body ≡ true → P Joining)
     → ((state : State) (cause : ℕ) (why : Why) → IsChange v device h state cause why → P state)
     → Carries P device h.note.body
-carries P v device h is i told changed = carries_by P v device h h.note.body is i refl told changed
+carries P device h is i told changed = carries_by P device h h.note.body is i refl told changed

@@ -50,17 +50,17 @@ module _ (v : View) (device : DeviceId) (is : IsView v) (z : ℕ) (never : Keeps
       let founded = front_founded place_of (IsDue s) at.front at.rest
       (subst (IsFounded place_of (IsDue s)) at.whole is.run.founded) in
       let found = by_number s at.front h founded (in_front_of at h i sooner) in
-      let off = not_turned_on_then v device t is (ap has_time joining) in
+      let off = not_turned_on_then device t is (ap has_time joining) in
       let before : state_before s at.front device t ≡ Joining =
       ap (λ (b : Bool). if b then Integrating else state_after s (earlier t at.front) device) off
-      ∙ ap (λ (hs : List Happening). state_after s hs device) (earlier_before v t at.front
+      ∙ ap (λ hs. state_after s hs device) (earlier_before
       (before_place v t (7 ∷ rest) at)) ∙ joining in
       let state : NoteBody = notes.State device Synchronised number whys.Correction in
       let changes : ChangesState s at.front device t Synchronised number whys.Correction =
       (refl, before, (cycle, by, adjustment, h, record { there = found; same_time = refl }, body)) in
       record {
         g = happening s.network at.front (next_note at.front t state);
-        there = due_there v t state (t ∷ 7 ∷ rest) at is (within_run v is h i) refl changes;
+        there = due_there {v = v} t state {p = t ∷ 7 ∷ rest} at is (within_run is h i) refl changes;
         at = refl;
         makes = λ old. ap (λ (b : Bool). if b then Synchronised else old) (eq-eqb device.0 device.0 refl);
       }
@@ -75,11 +75,11 @@ module _ (v : View) (device : DeviceId) (is : IsView v) (z : ℕ) (never : Keeps
       let found = founded_at s v.records h is.run.founded i in
       let cause : IsCaused s found.front h.note.time (notes.Corrected device cycle by adjustment) =
       subst (IsCaused s found.front h.note.time) body found.due.cause in
-      let timed = point_timed v t device cycle (Corrected by) found.front (before_of v h is found) cause.corrected in
+      let timed = point_timed (before_of is found) cause.corrected in
       elim (timed_cases (state_left v device t) timed) [
         | inl joining ↦
             let m = first_corrected h cycle by adjustment i body joining in
-            let timed_m = subst (λ (x : ℕ). has_time (state_left v device x) ≡ true) (sym m.at) timed in
+            let timed_m = subst (λ x. has_time (state_left v device x) ≡ true) (sym m.at) timed in
             becomes_synchronised v device is z never m.g y (omega (arith, m.at, late)) m.there timed_m
             (omega (arith, m.at, to)) m.makes
         | inr synchronised ↦ stays_synchronised v device is z never t y late (omega (arith, to)) synchronised
@@ -105,7 +105,7 @@ module _ (v : View) (device : DeviceId) (is : IsView v) (z : ℕ) (never : Keeps
       let x = over.before.next in
       let y = over.next in
       let ends = block_ends v n y over.before.hull over.before.is_hull over.is_over in
-      let le : x ≤ y = omega (arith, ints, ends, later_end v n over.before is) in
+      let le : x ≤ y = omega (arith, ints, ends, later_end n over.before is) in
       let new = come v n over device is (record {
         good = has.good;
         timed = time_stays_on v device is z never x y soon le has.timed;

@@ -25,7 +25,7 @@ use Rattle.precision_law.proofs.words.Blocks.{before_narrow, follows_before, up_
 use Rattle.precision_law.proofs.words.Clocks.{corrections_come_first}
 use Rattle.precision_law.proofs.words.Laws.{Follows, HaveRoom, IsNarrow, OneChannelIsSound, Sizes, last_correction}
 use Rattle.precision_law.proofs.words.Plans.{Device, Integrating, device_at, opened}
-use Rattle.precision_law.proofs.words.Runs.{Happening, happenings, is_off, state_after, up_to}
+use Rattle.precision_law.proofs.words.Runs.{happenings, is_off, state_after, up_to}
 use Rattle.precision_law.proofs.words.Std.{◌<ℤ◌, ◌<◌, ◌∙◌, if◌then◌else◌, Bool, List, by_lt_z}
 use Rattle.precision_law.proofs.block.Dispatched.{NoCliqueBefore}
 use Rattle.precision_law.proofs.records.RunViews.{IsViewWith}
@@ -44,10 +44,10 @@ one_end : (z : ℤ) (a b t x : ℕ) → pos a ≡ (z +ℤ pos 1) → pos b ≡ (
 one_end z a b t x one other lt le = omega (arith, ints, one, other, lt, le)
 
 -- the dispatches of the cycle after the block's come behind the block
-behind_block : (s : Sizes) (before hull later : Hull) (next : ℕ) → HaveRoom s → IsNarrow s before
-    → Follows s before hull → Follows s hull later
-    → pos next ≡ (last_correction s before +ℤ pos 1) → pos next ≤ℤ later.least
-behind_block s before hull later next space narrow follows more ends =
+behind_block : {s : Sizes} {before hull later : Hull} (next : ℕ) → HaveRoom s → IsNarrow s before
+    → Follows s before hull → Follows s hull later → pos next ≡ (last_correction s before +ℤ pos 1)
+    → pos next ≤ℤ later.least
+behind_block {s} {before} {hull} next space narrow follows more ends =
     omega (arith, ints, corrections_come_first s before hull space narrow follows, more.least, ends)
 
 le_self : (n : ℕ) → n ≤ n
@@ -65,8 +65,9 @@ next_above t x z lt le = omega (arith, ints, lt, le)
 -- ---- channels
 
 -- what is whole from a time on is so from each later one on
-later_whole : (v : View) (channel : Channel) (x u : ℕ) → x ≤ u → IsWholeFrom v channel x → IsWholeFrom v channel u
-later_whole v channel x u le whole = record {
+later_whole : {v : View} {channel : Channel} {x : ℕ} (u : ℕ) → x ≤ u → IsWholeFrom v channel x
+    → IsWholeFrom v channel u
+later_whole u le whole = record {
   ways = λ link way t of_channel from in_run. whole.ways link way t of_channel (omega (arith, le, from)) in_run;
   on = λ switch t of_channel from. whole.on switch t of_channel (omega (arith, le, from));
 }
@@ -86,32 +87,32 @@ module _ (laws : FramesGoSo) (known : AreBlocksKnown) (v : View) (channel : Chan
       → (first_correction v.sizes block.before.hull +ℤ pos v.sizes.reach) ≤ℤ pos t → IsFrameSent v channel m
   sends_in k m t block first le is_first early late =
       sending m t block (λ u inside.
-      (let grows = leasts_grow v (suc k) (suc m) first inside.hull is (omega (arith, le)) is_first inside.is in
-      later_whole v channel x u (omega (arith, ints, grows, early, inside.least)) whole)) late
+      (let grows = leasts_grow (suc k) (suc m) first inside.hull is (omega (arith, le)) is_first inside.is in
+      later_whole u (omega (arith, ints, grows, early, inside.least)) whole)) late
 
   -- so from then on no correction point takes the common time from its devices
   keeps_from : (k : ℕ) (stands : Stands v k) (first : Hull) → hull_of v (suc k) ≡ Some first → pos x ≤ℤ first.least
       → KeepsFrom v device stands.next
   keeps_from k stands first is_first early h state cause why i from body clique =
       let w = time_of h in
-      let lost = has_lost v device h state cause why is good i body clique in
-      let found = later_block known.on v k w stands is (within_run v is h i) from in
+      let lost = has_lost device h state cause why is good i body clique in
+      let found = later_block known.on w stands is (within_run is h i) from in
       let m = found.0 in
       let block = found.1 in
-      let point = old_point v m _ w _ device lost.cycle lost.verdict (known.goes v m w block is) lost.point in
+      let point = old_point (known.goes v m w block is) lost.point in
       let late = point.1.not_early in
       let sent = sends_in k m w block first found.2 is_first early late in
       let sound = known.sends v m w block is late in
-      let sound_so = subst (λ (z : Hull). SendsSo v m z) (same_some (hull_of v (suc m)) sound.0 sent.0 sound.1 sent.1)
+      let sound_so = subst (λ z. SendsSo v m z) (same_some (hull_of v (suc m)) sound.0 sent.0 sound.1 sent.1)
       sound.2 in
       let at : IsAtPoint v m w block device = record { has = lost.point.has; old = point.0; late = late } in
       let comes = lost.point.comes in
       let so = sent.2 in
       let inside : pos x ≤ℤ pos (time_of so.first) =
-      (let grows = leasts_grow v (suc k) (suc m) first sent.0 is (omega (arith, found.2)) is_first sent.1 in
-      omega (arith, ints, grows, early, so.near.least, room v is)) in
+      (let grows = leasts_grow (suc k) (suc m) first sent.0 is (omega (arith, found.2)) is_first sent.1 in
+      omega (arith, ints, grows, early, so.near.least, room is)) in
       let corrected = corrects_on laws known.goes v m w block is device at sent.0 sent.1 sound_so channel member so
-      (later_whole v channel x (time_of so.first) (omega (arith, ints, inside)) whole) comes.front comes.split
+      (later_whole (time_of so.first) (omega (arith, ints, inside)) whole) comes.front comes.split
       comes.point.summary comes.point.heard
       lost.verdict comes.point.comes in
       lost.not_corrected corrected.0 corrected.1
@@ -122,7 +123,7 @@ module _ (laws : FramesGoSo) (known : AreBlocksKnown) (v : View) (channel : Chan
       → over.before.next ≤ y → pos y ≤ℤ (first.least +ℤ pos 1) → IsOn (state_left v device y)
       → IsTimed (state_left v device over.next)
   timed_when_over k y over first is_first early from soon on =
-      let last = last_of v k over is in
+      let last = last_of over is in
       let block : IsInBlock v k last.last = record {
         before = over.before;
         next = over.next;
@@ -131,13 +132,13 @@ module _ (laws : FramesGoSo) (known : AreBlocksKnown) (v : View) (channel : Chan
         to = omega (arith, last.is_last);
         in_run = omega (arith, last.is_last, over.in_run);
       } in
-      let ordered = hull_ordered v k over.before is in
+      let ordered = hull_ordered k over.before is in
       let sent = sends_in k k last.last block first (omega arith) is_first early
       (omega (arith, ints, last.at, ordered)) in
-      let so = subst (λ (z : Hull). SendsOn v channel k z) (same_some (hull_of v (suc k)) sent.0 first sent.1 is_first)
+      let so = subst (λ z. SendsOn v channel k z) (same_some (hull_of v (suc k)) sent.0 first sent.1 is_first)
       sent.2 in
       let never = keeps_from k over.before first is_first early in
-      let inside : x ≤ time_of so.first = omega (arith, ints, early, so.near.least, room v is) in
+      let inside : x ≤ time_of so.first = omega (arith, ints, early, so.near.least, room is) in
       elim (cases_eq device.0 so.cm.0) [
         | inl same ↦
             has_time_itself v device is over.before.next never channel k over y first from is_first so
@@ -145,7 +146,7 @@ module _ (laws : FramesGoSo) (known : AreBlocksKnown) (v : View) (channel : Chan
         | inr differs ↦
             has_time_on v device is over.before.next never known.goes channel k over y first from good member
             is_first so (λ d. differs (ap (λ (e : DeviceId). e.0) d))
-            (later_whole v channel x (time_of so.first) inside whole) on soon
+            (later_whole (time_of so.first) inside whole) on soon
       ]
 
   -- and is synchronised when the next one is
@@ -159,15 +160,15 @@ module _ (laws : FramesGoSo) (known : AreBlocksKnown) (v : View) (channel : Chan
       let timed = timed_when_over k y over first next.before.is_hull early from soon on in
       let one = block_ends v k over.next hull over.before.is_hull over.is_over in
       let other = block_ends v k next.before.next hull over.before.is_hull next.before.is_over in
-      let later = later_end v k over.before is in
+      let later = later_end k over.before is in
       let same : over.next ≡ next.before.next = omega (arith, ints, one, other) in
       let z = over.before.next in
       let never = keeps_from k over.before first next.before.is_hull early in
       let behind : z ≤ next.before.next = omega (arith, ints, later, one, same) in
       let has : HasTimeAt v device next.before.next =
-      record { good = good; timed = subst (λ (w : ℕ). has_time (state_left v device w) ≡ true) same timed } in
+      record { good = good; timed = subst (λ w. has_time (state_left v device w) ≡ true) same timed } in
       let ends = block_ends v (suc k) next.next first next.before.is_hull next.is_over in
-      let over_later = later_end v (suc k) next.before is in
+      let over_later = later_end (suc k) next.before is in
       stays_synchronised v device is z never next.next (v.until + 1)
       (omega (arith, ints, ends, over_later, behind)) next.in_run
       (synchronised_by v device is z never known.come (suc k) next behind has)
@@ -180,9 +181,9 @@ module _ (laws : FramesGoSo) (known : AreBlocksKnown) (v : View) (channel : Chan
       let n = found.0 in
       let block = found.1 in
       let before = block.before in
-      let space = room v is in
+      let space = room is in
       let ends = block_ends v n block.next before.hull before.is_hull block.is_over in
-      let begun = hull_before v n before is in
+      let begun = hull_before n before is in
       let over : BlockIsOver v n = record {
         before = before;
         next = block.next;
@@ -190,7 +191,7 @@ module _ (laws : FramesGoSo) (known : AreBlocksKnown) (v : View) (channel : Chan
         in_run = omega (arith, ints, ends, begun, block.from, long);
       } in
       let stands = known.on v n is over in
-      let follows = follows_before v n before.hull stands.hull is before.is_hull stands.is_hull in
+      let follows = follows_before n before.hull stands.hull is before.is_hull stands.is_hull in
       let short : last_correction v.sizes stands.hull ≤ℤ pos v.until =
       omega (arith, ints, follows.most, begun, block.from, long) in
       let next = next_over known v is n over short in
@@ -200,13 +201,13 @@ module _ (laws : FramesGoSo) (known : AreBlocksKnown) (v : View) (channel : Chan
       in_two n x over next high (omega (arith, block.from, lt)) (one_above (pos x) stands.hull.least high) on)
       (λ late.
       let later = known.on v (suc n) is next in
-      let follows_next = follows_before v (suc n) stands.hull later.hull is stands.is_hull later.is_hull in
-      let low = later_soon v.sizes t v.until stands.hull later.hull
-      (before_narrow v (suc n) stands) follows_next late long in
+      let follows_next = follows_before (suc n) stands.hull later.hull is stands.is_hull later.is_hull in
+      let low = later_soon t v.until
+      (before_narrow stands) follows_next late long in
       let stood = block_ends v n stands.next before.hull before.is_hull stands.is_over in
       let from = one_end (last_correction v.sizes before.hull) stands.next block.next t x stood ends block.to le in
-      let high = behind_block v.sizes before.hull stands.hull later.hull stands.next space
-      (before_narrow v n before) follows follows_next stood in
+      let high = behind_block stands.next space
+      (before_narrow before) follows follows_next stood in
       in_two (suc n) stands.next next (next_over known v is (suc n) next low)
       (through x stands.next later.hull.least from high) (le_self stands.next)
       (one_above (pos stands.next) later.hull.least high) (stays_on v device is x stands.next from on))
@@ -215,26 +216,27 @@ module _ (laws : FramesGoSo) (known : AreBlocksKnown) (v : View) (channel : Chan
 
 -- a switch of a channel that is mended at t is synchronised at the end of the view, where the channel's compression master
 -- sends
-mended : (laws : FramesGoSo) (known : AreBlocksKnown) (s : Scenario) (mark : List ℕ) (ns : List Note) (until beta : ℕ)
-    (up : IsRunUpTo s mark ns until) (is_beta : IsBeta s.network (pos beta)) (channel : Channel) (switch : DeviceId) (t u : ℕ)
-    → IsSwitchOf s.network channel switch → IsMended s (happenings s.network ns) channel t u
-    → (sure : Channel) (at : IsViewWith s (happenings s.network ns) u sure beta)
-    → SendsWhole (view_of s u sure beta at.cut.front) channel
-    → t + coming_time s.network beta ≤ u → IsInStep s (happenings s.network ns) switch u
-mended laws known s mark ns until beta up is_beta channel switch t u of_channel mends sure at sending long =
+mended : (laws : FramesGoSo) (known : AreBlocksKnown) {s : Scenario} {mark : List ℕ} {ns : List Note}
+    {until beta : ℕ} (up : IsRunUpTo s mark ns until) (is_beta : IsBeta s.network (pos beta)) {channel : Channel}
+    (switch : DeviceId) {t u : ℕ} → IsSwitchOf s.network channel switch
+    → IsMended s (happenings s.network ns) channel t u → {sure : Channel}
+    (at : IsViewWith s (happenings s.network ns) u sure beta)
+    → SendsWhole (view_of s u sure beta at.cut.front) channel → t + coming_time s.network beta ≤ u
+    → IsInStep s (happenings s.network ns) switch u
+mended laws known {s} {ns} {beta} up is_beta {channel} switch {t} {u} of_channel mends {sure} at sending long =
     let hs = happenings s.network ns in
     let is = at.is in
     let v = view_of s u sure beta at.cut.front in
     let good = switches_are_good v channel switch is of_channel in
     let left : (d : DeviceId) (w : ℕ) → w ≤ u → state_after s (up_to w hs) d ≡ state_left v d (w + 1) = λ d w to.
-    ap (λ (gs : List Happening). state_after s gs d) (up_to_is w hs ∙ sym (at.cut.early (w + 1) (omega (arith, to)))) in
+    ap (λ gs. state_after s gs d) (up_to_is w hs ∙ sym (at.cut.early (w + 1) (omega (arith, to)))) in
     let on : (d : DeviceId) → IsSwitchOf s.network channel d → IsOn (state_left v d (t + 1)) = λ d has.
     subst IsOn (left d t (omega (arith, long))) (mends.on d has) in
     let whole : IsWholeFrom v channel (t + 1) = record {
       ways = λ link way w has from to. mends.ways link way w has (omega (arith, from)) to;
       on = λ d w has from.
           (let on_w = stays_on v d is (t + 1) w from (on d has) in
-          ap (λ (b : Bool). is_off (if b then Integrating else state_left v d w)) (on_not_turned_on v d w is on_w)
+          ap (λ (b : Bool). is_off (if b then Integrating else state_left v d w)) (on_not_turned_on d w is on_w)
           ∙ on_w);
     } in
     let d = opened (λ (x : Device). x.channel ≡ Some channel) (device_at s.network switch) of_channel in
@@ -249,18 +251,18 @@ mended laws known s mark ns until beta up is_beta channel switch t u of_channel 
 pub mended_channels_come_in : OneChannelIsSound → FramesGoSo → AreBlocksKnown → MendedChannelsComeIn
 mended_channels_come_in sound laws known s mark ns until beta up is_beta channel switch t u of_channel mends all long le =
     let sure = sound s u up.lawful in
-    let at = view_with s mark ns until u sure.0 beta up is_beta le sure.1 in
+    let at = view_with u sure.0 beta up is_beta le sure.1 in
     let v = view_of s u sure.0 beta at.cut.front in
-    mended laws known s mark ns until beta up is_beta channel switch t u of_channel mends sure.0 at
-    (λ m w block whole late. whole_master_sends known.goes v channel m w block at.is all whole late) long
+    mended laws known {beta = beta} up is_beta switch of_channel mends {sure = sure.0} at
+    (λ m w block whole late. whole_master_sends known.goes channel block at.is all whole late) long
 
 pub mended_relays_come_in : OneChannelIsSound → FramesGoSo → AreBlocksKnown → MendedRelaysComeIn
 mended_relays_come_in sound laws known s mark ns until beta up is_beta channel cm switch t u of_cm of_channel mends keeps long le =
     let sure = sound s u up.lawful in
-    let at = view_with s mark ns until u sure.0 beta up is_beta le sure.1 in
+    let at = view_with u sure.0 beta up is_beta le sure.1 in
     let v = view_of s u sure.0 beta at.cut.front in
     let kept : (next : ℕ) → next ≤ u + 1 → NoCliqueBefore v cm next = λ next to h state cause why i early body clique.
     keeps.kept h state cause why (at.cut.inside h i) (omega (arith, early, to)) body clique in
-    mended laws known s mark ns until beta up is_beta channel switch t u of_channel mends sure.0 at
-    (λ m w block whole late. calm_master_sends known.goes v channel m w block cm at.is of_cm keeps.on
+    mended laws known {beta = beta} up is_beta switch of_channel mends {sure = sure.0} at
+    (λ m w block whole late. calm_master_sends known.goes channel block cm at.is of_cm keeps.on
     (kept block.before.next block.before.in_run) whole late) long

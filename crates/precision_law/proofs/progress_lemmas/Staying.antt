@@ -52,8 +52,8 @@ module _ (v : View) (device : DeviceId) (is : IsView v) where
   -- a device that is on stays so
   pub stays_on : (x y : ℕ) → x ≤ y → IsOn (state_left v device x) → IsOn (state_left v device y)
   stays_on x y le on =
-      carried_between IsOn v device x y is le (λ h i from to.
-      carries IsOn v device h is i (λ told. refl) (λ state cause why c. changes_on c.found.front
+      carried_between IsOn device x y is le (λ h i from to.
+      carries IsOn device h is i (λ told. refl) (λ state cause why c. changes_on c.found.front
       (time_of h) state cause why c.changes)) on
 
   -- ---- with the common time
@@ -68,7 +68,7 @@ module _ (v : View) (device : DeviceId) (is : IsView v) where
       (numbered_in change.found.front cause g c.2.2.there) in
       let caused : IsCaused v.scenario at.front g.note.time (notes.Event c.2.0 (events.On device)) =
       subst (IsCaused v.scenario at.front g.note.time) c.2.3 at.due.cause in
-      ap (is_turned_on_at v.scenario device) (sym c.2.2.same_time) ∙ turned_on_by v.scenario g.note.time c.2.0 device
+      ap (is_turned_on_at v.scenario device) (sym c.2.2.same_time) ∙ turned_on_by v.scenario device
       caused
 
   -- no frame tells the time a device that has it
@@ -78,9 +78,9 @@ module _ (v : View) (device : DeviceId) (is : IsView v) where
       let s = v.scenario in
       let t = time_of h in
       let found = founded_at s v.records h is.run.founded i in
-      let same = earlier_before v t found.front (before_of v h is found) in
-      let left = subst (λ (hs : List Happening). has_time (state_after s hs device) ≡ true) (sym same) timed in
-      let off = on_not_turned_on v device t is (timed_not_off (state_left v device t) timed) in
+      let same = earlier_before (before_of is found) in
+      let left = subst (λ hs. has_time (state_after s hs device) ≡ true) (sym same) timed in
+      let off = on_not_turned_on device t is (timed_not_off (state_left v device t) timed) in
       false_from_ne_true (is_joined_by device h.note.body) (λ joined.
       apart (is_turned_on_at s device t) (state_after s (earlier t found.front) device) off left
       (looking_by s found.front h.note.time device h.note.body joined found.due.cause))
@@ -105,14 +105,14 @@ module _ (v : View) (device : DeviceId) (is : IsView v) where
     -- once it is on, all records leave it the common time
     timed_carry : (x y : ℕ) → z ≤ x → IsOn (state_left v device x) → AllCarry IsTimed v device x y
     timed_carry x y late on h i from to =
-        let off = on_not_turned_on v device (time_of h) is (stays_on x (time_of h) from on) in
-        carries IsTimed v device h is i (λ told. refl) (λ state cause why c. changes_timed h state cause why i
+        let off = on_not_turned_on device (time_of h) is (stays_on x (time_of h) from on) in
+        carries IsTimed device h is i (λ told. refl) (λ state cause why c. changes_timed h state cause why i
         (omega (arith, late, from)) c off)
 
     -- the common time stays
     pub time_stays_on : (x y : ℕ) → z ≤ x → x ≤ y → IsTimed (state_left v device x) → IsTimed (state_left v device y)
     time_stays_on x y late le timed =
-        carried_between IsTimed v device x y is le (timed_carry x y late (timed_not_off (state_left v device x) timed))
+        carried_between IsTimed device x y is le (timed_carry x y late (timed_not_off (state_left v device x) timed))
         timed
 
     -- a frame that tells a device the time leaves it with the time
@@ -120,7 +120,7 @@ module _ (v : View) (device : DeviceId) (is : IsView v) where
         → IsOn (state_left v device x) → x ≤ time_of g → time_of g < y → IsTimed (state_left v device y)
     told_has_time g x y late i joined on from to =
         let on_then = stays_on x (time_of g) from on in
-        carried_behind IsTimed v device g y is i to (timed_carry (time_of g) y (omega (arith, late, from)) on_then)
+        carried_behind IsTimed device g y is i to (timed_carry (time_of g) y (omega (arith, late, from)) on_then)
         (λ old. joins_timed device old g.note.body joined)
 
     -- ---- synchronised
@@ -129,7 +129,7 @@ module _ (v : View) (device : DeviceId) (is : IsView v) where
         → z ≤ time_of h → IsChange v device h state cause why
         → IsTimed (state_left v device (time_of h)) → IsSynchronised state
     changes_synchronised h state cause whys.On i from c timed =
-        let off = on_not_turned_on v device (time_of h) is (timed_not_off (state_left v device (time_of h)) timed) in
+        let off = on_not_turned_on device (time_of h) is (timed_not_off (state_left v device (time_of h)) timed) in
         absurd (both_ways _ off (turned_then h state cause c))
     changes_synchronised h state cause whys.Frame i from c timed =
         let told = c.changes.1 in
@@ -137,7 +137,7 @@ module _ (v : View) (device : DeviceId) (is : IsView v) where
         let there : IsIn g v.records =
         subst (IsIn g) (sym c.found.whole) (in_left g c.found.front (h ∷ c.found.rest)
         (numbered_in c.found.front cause g told.1.there)) in
-        let same = subst (λ (t : ℕ). IsTimed (state_left v device t)) (sym told.1.same_time) timed in
+        let same = subst (λ t. IsTimed (state_left v device t)) (sym told.1.same_time) timed in
         absurd (both_ways _ (not_told g there same) told.2)
     changes_synchronised h state cause whys.Correction i from c timed = c.changes.0
     changes_synchronised h state cause whys.SyncClique i from c timed =
@@ -149,14 +149,14 @@ module _ (v : View) (device : DeviceId) (is : IsView v) where
     synchronised_carry : (x y : ℕ) → z ≤ x → IsTimed (state_left v device x) → AllCarry IsSynchronised v device x y
     synchronised_carry x y late timed h i from to =
         let then_timed = time_stays_on x (time_of h) late from timed in
-        carries IsSynchronised v device h is i (λ told. absurd (both_ways _ (not_told h i then_timed) told))
+        carries IsSynchronised device h is i (λ told. absurd (both_ways _ (not_told h i then_timed) told))
         (λ state cause why c. changes_synchronised h state cause why i (omega (arith, late, from)) c then_timed)
 
     -- a synchronised device stays so
     pub stays_synchronised : (x y : ℕ) → z ≤ x → x ≤ y → IsSynchronised (state_left v device x)
         → IsSynchronised (state_left v device y)
     stays_synchronised x y late le synchronised =
-        carried_between IsSynchronised v device x y is le (synchronised_carry x y late (ap has_time synchronised))
+        carried_between IsSynchronised device x y is le (synchronised_carry x y late (ap has_time synchronised))
         synchronised
 
     -- and is so behind a record that makes it so
@@ -165,4 +165,4 @@ module _ (v : View) (device : DeviceId) (is : IsView v) where
         → time_of g < y
         → ((old : State) → IsSynchronised (state_with device old g.note.body)) → IsSynchronised (state_left v device y)
     becomes_synchronised g y late i timed to brings =
-        carried_behind IsSynchronised v device g y is i to (synchronised_carry (time_of g) y late timed) brings
+        carried_behind IsSynchronised device g y is i to (synchronised_carry (time_of g) y late timed) brings

@@ -57,8 +57,8 @@ module _ (v : View) (device : DeviceId) (is : IsView v) (z : ℕ) (never : Keeps
       let s = v.scenario in
       ap (λ (b : Bool). if b then Joining else state_before s front device q) none
       ∙ ap (λ (b : Bool). if b then Integrating else state_after s (earlier q front) device)
-      (on_not_turned_on v device q is on)
-      ∙ ap (λ (hs : List Happening). state_after s hs device) before
+      (on_not_turned_on device q is on)
+      ∙ ap (λ hs. state_after s hs device) before
       ∙ looks
 
   module _ (x q y : ℕ) (late : z ≤ x) (on : IsOn (state_left v device x)) (from : x ≤ q) (to : q < y)
@@ -104,10 +104,10 @@ module _ (v : View) (device : DeviceId) (is : IsView v) (z : ℕ) (never : Keeps
       let s = v.scenario in
       let enough_then : s.network.sync_threshold ≤ count_of c.frame.members =
       subst (λ (m : ℕ). s.network.sync_threshold ≤ count_of (record { 0 = m })) (sym c.of_members) enough in
-      let few_then : c.frame.cycle ≤ last_cycle = subst (λ (k : ℕ). k ≤ last_cycle) (sym c.of_cycle) few in
+      let few_then : c.frame.cycle ≤ last_cycle = subst (λ k. k ≤ last_cycle) (sym c.of_cycle) few in
       record {
         front = c.place.front;
-        before = earlier_before v c.q c.place.front (before_place v c.q _ c.place);
+        before = earlier_before (before_place v c.q _ c.place);
         inside = λ g i. subst (IsIn g) (sym c.place.whole) (in_left g c.place.front c.place.rest i);
         h = c.ripe.h;
         there = c.ripe.there;
@@ -131,7 +131,7 @@ module _ (v : View) (device : DeviceId) (is : IsView v) (z : ℕ) (never : Keeps
       let emits = subst (IsCaused s found.front first.note.time) e.is found.due.cause in
       record {
         front = found.front;
-        before = earlier_before v (time_of first) found.front (before_of v first is found);
+        before = earlier_before (before_of is found);
         inside = λ g i. subst (IsIn g) (sym found.whole) (in_left g found.front (first ∷ found.rest) i);
         h = first;
         there = e.there;
@@ -152,7 +152,7 @@ module _ (v : View) (device : DeviceId) (is : IsView v) (z : ℕ) (never : Keeps
       → IsOn (state_left v device x) → pos x ≤ℤ (hull.least +ℤ pos 1) → IsTimed (state_left v device over.next)
   has_time_on goes channel n over x hull late good member at so other intact on early =
       let s = v.scenario in
-      let last = last_of v n over is in
+      let last = last_of over is in
       let t = last.last in
       let block : IsInBlock v n t = record {
         before = over.before;
@@ -162,19 +162,19 @@ module _ (v : View) (device : DeviceId) (is : IsView v) (z : ℕ) (never : Keeps
         to = omega (arith, last.is_last);
         in_run = omega (arith, last.is_last, over.in_run);
       } in
-      let ordered = hull_ordered v n over.before is in
+      let ordered = hull_ordered n over.before is in
       let w = time_of so.first in
-      let space = room v is in
-      let timed = sent_in_time v n over.before hull so.first is at so.near in
+      let space = room is in
+      let timed = sent_in_time over.before {hull = hull} so.first is at so.near in
       let soon = timed.soon in
       let le : w + v.sizes.dmax + v.sizes.path ≤ t = omega (arith, ints, soon, last.at, ordered) in
       let from : x ≤ w = omega (arith, ints, early, so.near.least, space) in
       let on_then : (u : ℕ) → w ≤ u → u + v.sizes.path ≤ w + v.sizes.dmax
       → is_off (state_before s v.records device u) ≡ false = λ u ge short.
       (let on_u = stays_on v device is x u (omega (arith, from, ge)) on in
-      ap (λ (b : Bool). is_off (if b then Integrating else state_left v device u)) (on_not_turned_on v device u is on_u)
+      ap (λ (b : Bool). is_off (if b then Integrating else state_left v device u)) (on_not_turned_on device u is on_u)
       ∙ on_u) in
-      let few = few_cycles v (suc n) hull is at (has_before v n hull (within_run v is) at).begun in
+      let few = few_cycles (suc n) hull is at (has_before v n hull (within_run is) at).begun in
       let c = comes_down v channel n t block is device so.cm member good so.is_cm so.first so.members so.emission
       timed goes intact other le on_then in
       told_by x c.q over.next late on (omega (arith, from, c.from)) (omega (arith, c.soon, le, last.is_last))
@@ -185,15 +185,15 @@ module _ (v : View) (device : DeviceId) (is : IsView v) (z : ℕ) (never : Keeps
       → hull_of v (suc n) ≡ Some hull → (so : SendsOn v channel n hull) → so.cm ≡ device
       → IsOn (state_left v device x) → pos x ≤ℤ (hull.least +ℤ pos 1) → IsTimed (state_left v device over.next)
   has_time_itself channel n over x hull late at so same on early =
-      let last = last_of v n over is in
+      let last = last_of over is in
       let w = time_of so.first in
-      let space = room v is in
-      let timed = sent_in_time v n over.before hull so.first is at so.near in
+      let space = room is in
+      let timed = sent_in_time over.before {hull = hull} so.first is at so.near in
       let soon = timed.soon in
-      let ordered = hull_ordered v n over.before is in
+      let ordered = hull_ordered n over.before is in
       let from : x ≤ w = omega (arith, ints, early, so.near.least, space) in
-      let few = few_cycles v (suc n) hull is at (has_before v n hull (within_run v is) at).begun in
-      let e = subst (λ (d : DeviceId). IsEmission v so.first d (suc n) so.members) same so.emission in
+      let few = few_cycles (suc n) hull is at (has_before v n hull (within_run is) at).begun in
+      let e = subst (λ d. IsEmission v so.first d (suc n) so.members) same so.emission in
       told_by x w over.next late on from (omega (arith, ints, soon, last.at, ordered, last.is_last))
       (sent_tells n so.first so.members e so.enough few)
 
@@ -205,7 +205,7 @@ module _ (v : View) (device : DeviceId) (is : IsView v) (z : ℕ) (never : Keeps
       → IsTimed (state_left v device over.next)
   has_time_by sends goes n over x late end on early =
       let s = v.scenario in
-      let last = last_of v n over is in
+      let last = last_of over is in
       let block : IsInBlock v n last.last = record {
         before = over.before;
         next = over.next;
@@ -214,11 +214,11 @@ module _ (v : View) (device : DeviceId) (is : IsView v) (z : ℕ) (never : Keeps
         to = omega (arith, last.is_last);
         in_run = omega (arith, last.is_last, over.in_run);
       } in
-      let ordered = hull_ordered v n over.before is in
+      let ordered = hull_ordered n over.before is in
       let sent = sends v n last.last block is (omega (arith, ints, last.at, ordered)) in
       let so = sent.2 in
       let other : device ≡ so.cm → ⊥ = λ same.
       no_end_cm (device_at s.network device)
-      (subst (λ (d : DeviceId). is_cm s.network d ≡ true) (sym same) (cm_is v v.channel so.cm so.is_cm).one) end.end in
-      has_time_on goes v.channel n over x sent.0 late end.good (firm_member v device (inl end)) sent.1 so other
-      (sound_is_whole v (time_of so.first) is) on (early sent.0 sent.1)
+      (subst (λ d. is_cm s.network d ≡ true) (sym same) (cm_is v v.channel so.cm so.is_cm).one) end.end in
+      has_time_on goes v.channel n over x sent.0 late end.good (firm_member {v = v} {device = device} (inl end)) sent.1 so other
+      (sound_is_whole (time_of so.first) is) on (early sent.0 sent.1)

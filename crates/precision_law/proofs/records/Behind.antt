@@ -15,7 +15,7 @@ module _ {X : Type 0} (p : X → Bool) where
       let shown = λ (l : List X) (k : ℕ). not (p (get_or l k y)) in
       let first : length xs + 1 - 1 ≡ length xs = omega arith in
       let none : length xs - length xs ≡ 0 = omega arith in
-      let suffix = suffix_len_is (λ x. not (p x)) whole (length xs + 1) y (omega (arith, long)) (λ k from to. ap (λ (l : List X). shown l k) moved
+      let suffix = suffix_len_is (λ x. not (p x)) whole (length xs + 1) y (omega (arith, long)) (λ k from to. ap (λ l. shown l k) moved
       ∙ ap (λ (x : X). not (p x)) (get_or-append_right (xs ++ y ∷ []) ys (length xs + 1) k y (length_push xs y) from)
       ∙ All-get_or (λ x. not (p x) ≡ true) ys (k - (length xs + 1)) y (omega (arith, to, long, from)) h) (λ some. ap (shown whole) first
       ∙ ap (λ (x : X). not (p x)) (get_or-append_right xs (y ∷ ys) (length xs) (length xs) y refl (omega arith))
@@ -39,22 +39,24 @@ pub data PartsAtLast {X : Type 0} (p : X → Bool) (xs : List X) : Type 0 where
   none : ((x : X) → IsIn x xs → p x ≡ false) → PartsAtLast p xs
   some : (front rest : List X) (last : X) → xs ≡ front ++ last ∷ rest → p last ≡ true → ((x : X) → IsIn x rest → p x ≡ false) → PartsAtLast p xs
 
-parts_by : {X : Type 0} (p : X → Bool) (x : X) (xs : List X) (b : Bool) → p x ≡ b → PartsAtLast p xs → PartsAtLast p (x ∷ xs)
-parts_by {X} p x xs b e (some front rest last whole is all) = some (x ∷ front) rest last (ap (λ (t : List X). x ∷ t) whole) is all
-parts_by p x xs true e (none all) = some [] xs x refl e all
-parts_by p x xs false e (none all) = none (λ y i. elim i [ inl same ↦ ap p same ∙ e | inr more ↦ all y more ])
+parts_by : {X : Type 0} {p : X → Bool} (x : X) {xs : List X} (b : Bool) → p x ≡ b → PartsAtLast p xs
+    → PartsAtLast p (x ∷ xs)
+parts_by {X} x b e (some front rest last whole is all) =
+    some (x ∷ front) rest last (ap (λ (t : List X). x ∷ t) whole) is all
+parts_by x {xs} true e (none all) = some [] xs x refl e all
+parts_by {p} x false e (none all) = none (λ y i. elim i [ inl same ↦ ap p same ∙ e | inr more ↦ all y more ])
 
 pub parts_at_last : {X : Type 0} (p : X → Bool) (xs : List X) → PartsAtLast p xs
 parts_at_last p [] = none (λ x i. absurd i)
-parts_at_last p (x ∷ xs) = parts_by p x xs (p x) refl (parts_at_last p xs)
+parts_at_last p (x ∷ xs) = parts_by x (p x) refl (parts_at_last p xs)
 
 -- what is not of the kind may be added behind the last that is
-pub after_more : {X : Type 0} (p : X → Bool) (xs ys : List X) → ((y : X) → IsIn y ys → p y ≡ false) → PartsAtLast p xs
-    → after_last p (xs ++ ys) ≡ after_last p xs ++ ys
-after_more {X} p xs ys quiet (none all) =
+pub after_more : {X : Type 0} {p : X → Bool} {xs : List X} (ys : List X) → ((y : X) → IsIn y ys → p y ≡ false)
+    → PartsAtLast p xs → after_last p (xs ++ ys) ≡ after_last p xs ++ ys
+after_more {X} {p} {xs} ys quiet (none all) =
     after_last_none p (xs ++ ys) (not_each p (xs ++ ys) (λ x i. elim (in_parts x xs ys i) [ inl l ↦ all x l | inr r ↦ quiet x r ]))
     ∙ ap (λ (zs : List X). zs ++ ys) (sym (after_last_none p xs (not_each p xs all)))
-after_more {X} p xs ys quiet (some front rest last whole hit all) =
+after_more {X} {p} ys quiet (some front rest last whole hit all) =
     ap (λ (zs : List X). after_last p (zs ++ ys)) whole ∙ ap (after_last p) (append_assoc front (last ∷ rest) ys)
     ∙ after_last_at p front last (rest ++ ys) hit (not_each p (rest ++ ys) (λ x i. elim (in_parts x rest ys i) [ inl l ↦ all x l | inr r ↦ quiet x r ]))
     ∙ ap (λ (zs : List X). zs ++ ys) (sym (ap (after_last p) whole ∙ after_last_at p front last rest hit (not_each p rest all)))
@@ -65,11 +67,11 @@ pub record IsBehindLast {X : Type 0} (p : X → Bool) (xs : List X) : Type 0 whe
   pub whole : xs ≡ front ++ after_last p xs
   pub others : (x : X) → IsIn x (after_last p xs) → p x ≡ false
 
-behind_by : {X : Type 0} (p : X → Bool) (xs : List X) → PartsAtLast p xs → IsBehindLast p xs
-behind_by {X} p xs (none all) =
+behind_by : {X : Type 0} {p : X → Bool} {xs : List X} → PartsAtLast p xs → IsBehindLast p xs
+behind_by {X} {p} {xs} (none all) =
     let same = after_last_none p xs (not_each p xs all) in
     record { front = []; whole = sym same; others = λ x i. all x (subst (IsIn x) same i) }
-behind_by {X} p xs (some front rest last whole is all) =
+behind_by {X} {p} {xs} (some front rest last whole is all) =
     let at = after_last_at p front last rest is (not_each p rest all) in
     let same : after_last p xs ≡ rest = ap (after_last p) whole ∙ at in
     record {
@@ -79,4 +81,4 @@ behind_by {X} p xs (some front rest last whole is all) =
     }
 
 pub behind_last : {X : Type 0} (p : X → Bool) (xs : List X) → IsBehindLast p xs
-behind_last p xs = behind_by p xs (parts_at_last p xs)
+behind_last p xs = behind_by (parts_at_last p xs)

@@ -5,9 +5,10 @@ use Rattle.precision_law.proofs.words.Std.{◌++◌, ◌+◌, ◌<◌, ◌∙◌
 use Rattle.{precision_law.proofs.words.Std.{sym, ℕ}, run_law.proofs.records.{Happenings.soon, Order.all_kept}}
 
 -- the records of a run before an earlier place are the run up to this place
-pub cut_run : {N : Type 0} (place : N → List ℕ) (IsDue : List N → N → Type 0) (mark p : List ℕ) (ns : List N) (at : IsSplit place ns p)
-    → ((q : List ℕ) → IsBefore q p → IsBefore q mark) → IsRun place IsDue mark ns → IsRun place IsDue p at.front
-cut_run {N} place IsDue mark p ns at up run = record {
+pub cut_run : {N : Type 0} {place : N → List ℕ} (IsDue : List N → N → Type 0) {mark p : List ℕ} {ns : List N}
+    (at : IsSplit place ns p) → ((q : List ℕ) → IsBefore q p → IsBefore q mark) → IsRun place IsDue mark ns
+    → IsRun place IsDue p at.front
+cut_run {N} {place} IsDue {p} {ns} at up run = record {
   founded = front_founded place IsDue at.front at.rest (subst (IsFounded place IsDue) at.whole run.founded);
   full = λ ps qs x e before none due here.
       let whole : ns ≡ ps ++ (qs ++ at.rest) = at.whole ∙ ap (λ (t : List N). t ++ at.rest) e ∙ append_assoc ps qs at.rest in
@@ -15,7 +16,7 @@ cut_run {N} place IsDue mark p ns at up run = record {
         | inl l ↦ none n l lt
         | inr r ↦ at.none n r (chain (place n) (place x) p lt here)
       ]) due (up (place x) here) in
-      (found.0, in_front_of {place = place} {ns = ns} {p = p} at found.0 found.1 (subst (λ (q : List ℕ). IsBefore q p) (sym found.2) here), found.2);
+      (found.0, in_front_of {place = place} {ns = ns} {p = p} at found.0 found.1 (subst (λ q. IsBefore q p) (sym found.2) here), found.2);
   within = at.before;
 }
 
@@ -46,16 +47,17 @@ pub record IsCutAt (s : Scenario) (hs : List Happening) (t : ℕ) : Type 0 where
 sooner : (h : Happening) (u : ℕ) → time_of h < u → IsBefore (place_of h) (u ∷ [])
 sooner h u lt = inl lt
 
-pub cut_at : (s : Scenario) (mark : List ℕ) (hs : List Happening) (until t : ℕ) → IsRun place_of (IsDue s) mark hs → Covers mark until → t ≤ until
-    → IsCutAt s hs t
-cut_at s mark hs until t run covers le =
+pub cut_at : (s : Scenario) {mark : List ℕ} {hs : List Happening} (until t : ℕ) → IsRun place_of (IsDue s) mark hs
+    → Covers mark until → t ≤ until → IsCutAt s hs t
+cut_at s {mark} {hs} until t run covers le =
     let at = split place_of (IsDue s) hs ((t + 1) ∷ []) run.founded in
     let keeps : (u : ℕ) → u ≤ t + 1 → earlier u at.front ≡ earlier u hs = λ u within.
     earlier_front u at.front at.rest (λ h i. le_by (λ lt. at.none h i (sooner h (t + 1) (omega (arith, lt, within))))) ∙ ap (earlier u) (sym at.whole) in
     let all = all_kept (λ h. nat_lt (time_of h) (t + 1)) at.front (λ h i. lt-ltb (time_of h) (t + 1) (soon h (t + 1) (at.before h i))) in
     record {
       front = at.front;
-      run = cut_run place_of (IsDue s) mark ((t + 1) ∷ []) hs at (λ q b. before_cover mark until t q covers le b) run;
+      run = cut_run {place = place_of} (IsDue s) {mark = mark} {p = (t + 1) ∷ []} {ns = hs} at (λ q b. before_cover
+          mark until t q covers le b) run;
       same = sym (keeps (t + 1) (omega arith)) ∙ all;
       inside = λ h i. subst (IsIn h) (sym at.whole) (in_left h at.front at.rest i);
       has = λ h i early. in_front_of {place = place_of} {ns = hs} {p = (t + 1) ∷ []} at h i

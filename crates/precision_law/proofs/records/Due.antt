@@ -16,10 +16,11 @@ use Rattle.run_law.specs.declared.note.NoteBody.TheVariants as notes
 -- ---- what is sent
 
 -- what a time of the run brings, given the records before its place, is recorded
-pub due_there : (v : View) (t : ℕ) (body : NoteBody) (p : List ℕ) (at : IsSplit place_of v.records p) → IsView v → t ≤ v.until
-    → place_of (happening v.scenario.network at.front (next_note at.front t body)) ≡ p → IsCaused v.scenario at.front (units_of t) body
-    → IsIn (happening v.scenario.network at.front (next_note at.front t body)) v.records
-due_there v t body p at is within same cause =
+pub due_there : {v : View} (t : ℕ) (body : NoteBody) {p : List ℕ} (at : IsSplit place_of v.records p) → IsView v
+    → t ≤ v.until → place_of (happening v.scenario.network at.front (next_note at.front t body)) ≡ p
+    → IsCaused v.scenario at.front (units_of t) body → IsIn
+    (happening v.scenario.network at.front (next_note at.front t body)) v.records
+due_there {v} t body at is within same cause =
     due_is_there (record {
       front = at.front;
       rest = at.rest;
@@ -45,11 +46,12 @@ pub record IsSentAt (v : View) (cm : DeviceId) (c : Cluster) (t : ℕ) : Type 0 
 
 -- where a compression master's reading first reaches the emission reading of a cluster of its points so far, the frame
 -- of the cluster is sent
-pub is_sent : (v : View) (cm : DeviceId) (t : ℕ) (c : Cluster) (clusters : List Cluster) (is : IsView v) → is_cm v.scenario.network cm ≡ true → IsGood v cm
-    → t ≤ v.until
-    → (at : IsSplit place_of v.records (place_of_sent v cm c t)) → AreClusters (observation_window v.scenario.network) (points_of at.front cm) clusters
-    → Contains clusters c → IsReach (v.scenario.reading cm) (pos 0) (sent_at v c) (pos t) → IsSentAt v cm c t
-is_sent v cm t c clusters is one good within at are there reached =
+pub is_sent : {v : View} (cm : DeviceId) (t : ℕ) (c : Cluster) (clusters : List Cluster) (is : IsView v)
+    → is_cm v.scenario.network cm ≡ true → IsGood v cm → t ≤ v.until
+    → (at : IsSplit place_of v.records (place_of_sent v cm c t))
+    → AreClusters (observation_window v.scenario.network) (points_of at.front cm) clusters → Contains clusters c
+    → IsReach (v.scenario.reading cm) (pos 0) (sent_at v c) (pos t) → IsSentAt v cm c t
+is_sent {v} cm t c clusters is one good within at are there reached =
     let s = v.scenario in
     let n = s.network in
     let verdict = heard_as (plan_of n cm) (observation_window n) (state_at_hearing s at.front cm t) (adjustment_at_hearing s at.front cm t).0 (sent_at v c)
@@ -72,7 +74,7 @@ is_sent v cm t c clusters is one good within at are there reached =
     record {
       h = h;
       emission = record {
-        there = due_there v t body (place_of_sent v cm c t) at is within refl emits;
+        there = due_there {v = v} t body {p = place_of_sent v cm c t} at is within refl emits;
         opened = record { 0 = c.opened };
         at = record { 0 = sent_at v c };
         verdict = verdict;
@@ -110,11 +112,13 @@ pub record IsRipeRecord (v : View) (device : DeviceId) (arrival : Happening) (li
 
 -- given those before its place, it becomes what the law of permanence says: where this is a judgement, there is a
 -- record of it
-pub is_recorded : (v : View) (device : DeviceId) (arrival : Happening) (link : LinkId) (frame : Pcf) (point : ℤ) (q : ℕ) (verdict : Judgement) (is : IsView v)
-    → IsRipeArrival v device arrival link frame point q → (at : IsSplit place_of v.records (place_of_ripe device arrival link frame point q))
-    → IsPermanenceOutcome v.scenario.network device (state_at_hearing v.scenario at.front device q) (adjustment_at_hearing v.scenario at.front device q).0
-    (points_of at.front device) frame point (ripe_as verdict) → IsRipeRecord v device arrival link point q verdict frame
-is_recorded v device arrival link frame point q verdict is r at becomes =
+pub is_recorded : {v : View} {device : DeviceId} {arrival : Happening} {link : LinkId} {frame : Pcf} {point : ℤ}
+    {q : ℕ} (verdict : Judgement) (is : IsView v) → IsRipeArrival v device arrival link frame point q
+    → (at : IsSplit place_of v.records (place_of_ripe device arrival link frame point q))
+    → IsPermanenceOutcome v.scenario.network device (state_at_hearing v.scenario at.front device q)
+    (adjustment_at_hearing v.scenario at.front device q).0 (points_of at.front device) frame point (ripe_as verdict)
+    → IsRipeRecord v device arrival link point q verdict frame
+is_recorded {v} {device} {arrival} {link} {frame} {point} {q} verdict is r at becomes =
     let s = v.scenario in
     let n = s.network in
     let number : ℕ = arrival.note.number in
@@ -141,7 +145,8 @@ is_recorded v device arrival link frame point q verdict is r at becomes =
     let place = ap (λ (m : ℕ). q ∷ 3 ∷ device.0 ∷ unsigned_abs point ∷ m ∷ link.0 ∷ number ∷ []) members in
     record {
       h = h;
-      there = due_there v q body (place_of_ripe device arrival link frame point q) at is r.in_run place ripens;
+      there = due_there {v = v} q body {p = place_of_ripe device arrival link frame point q} at is r.in_run place
+          ripens;
       is = refl;
       time = refl;
       of_frame = framed;
@@ -155,14 +160,15 @@ if_true false P Q e p = absurd cc
 
 -- a frame that is permanent at a compression master, and has no fault, has a record that gives its point, but where it
 -- is dropped since it lies in the time of a cluster of another cycle
-pub is_collected : (v : View) (cm : DeviceId) (arrival : Happening) (link : LinkId) (frame : Pcf) (point : ℤ) (q : ℕ) (is : IsView v)
-    → is_cm v.scenario.network cm ≡ true → IsRipeArrival v cm arrival link frame point q
+pub is_collected : {v : View} {cm : DeviceId} {arrival : Happening} {link : LinkId} {frame : Pcf} {point : ℤ} {q : ℕ}
+    (is : IsView v) → is_cm v.scenario.network cm ≡ true → IsRipeArrival v cm arrival link frame point q
     → (at : IsSplit place_of v.records (place_of_ripe cm arrival link frame point q))
-    → point_fault v.scenario.network (state_at_hearing v.scenario at.front cm q) (adjustment_at_hearing v.scenario at.front cm q).0 point frame.cycle ≡ None
-    → ((clusters : List Cluster) × AreClusters (observation_window v.scenario.network) (points_of at.front cm) clusters
+    → point_fault v.scenario.network (state_at_hearing v.scenario at.front cm q)
+    (adjustment_at_hearing v.scenario at.front cm q).0 point frame.cycle ≡ None →
+    ((clusters : List Cluster) × AreClusters (observation_window v.scenario.network) (points_of at.front cm) clusters
     × (role clusters (point_at point (master_of frame.members.0) frame.cycle) ≡ taken.OtherCycle))
     ⊎ ((verdict : Judgement) × IsRipeRecord v cm arrival link point q verdict frame)
-is_collected v cm arrival link frame point q is one r at fine =
+is_collected {v} {cm} {arrival} {link} {frame} {point} {q} is one r at fine =
     let found = one_list_of_clusters (observation_window v.scenario.network) (points_of at.front cm) in
     by found.0 found.1 (role found.0 (point_at point (master_of frame.members.0) frame.cycle)) refl
   where
@@ -176,7 +182,7 @@ is_collected v cm arrival link frame point q is one r at fine =
         → IsCollectionOutcome v.scenario.network (points_of at.front cm) (point_at point (master_of frame.members.0) frame.cycle) (ripe_as verdict)
         → (verdict : Judgement) × IsRipeRecord v cm arrival link point q verdict frame
     kept verdict so =
-        (verdict, is_recorded v cm arrival link frame point q verdict is r at (if_true (is_cm v.scenario.network cm) _ _ one (becomes _ verdict fine so)))
+        (verdict, is_recorded verdict is r at (if_true (is_cm v.scenario.network cm) _ _ one (becomes _ verdict fine so)))
 
     by : (clusters : List Cluster) → AreClusters (observation_window v.scenario.network) (points_of at.front cm) clusters → (t : Taken)
         → role clusters (point_at point (master_of frame.members.0) frame.cycle) ≡ t
@@ -192,10 +198,13 @@ is_collected v cm arrival link frame point q is one r at fine =
         inr (kept judgements.Repeat (record { taken = taken.Repeat; collected = record { clusters = clusters; are = are; is = sym e }; becomes = refl }))
 
 -- a frame that is permanent at any other device has a record, by which the device hears it
-pub is_heard_of : (v : View) (device : DeviceId) (arrival : Happening) (link : LinkId) (frame : Pcf) (point : ℤ) (q : ℕ) (is : IsView v)
-    → is_cm v.scenario.network device ≡ false → IsRipeArrival v device arrival link frame point q
+pub is_heard_of : {v : View} {device : DeviceId} {arrival : Happening} {link : LinkId} {frame : Pcf} {point : ℤ}
+    {q : ℕ} (is : IsView v) → is_cm v.scenario.network device ≡ false
+    → IsRipeArrival v device arrival link frame point q
     → (at : IsSplit place_of v.records (place_of_ripe device arrival link frame point q))
-    → IsRipeRecord v device arrival link point q (heard_as (plan_of v.scenario.network device) (observation_window v.scenario.network)
-    (state_at_hearing v.scenario at.front device q) (adjustment_at_hearing v.scenario at.front device q).0 point frame.cycle frame.members) frame
-is_heard_of v device arrival link frame point q is other r at =
-    is_recorded v device arrival link frame point q _ is r at (match_false (is_cm v.scenario.network device) _ _ other refl)
+    → IsRipeRecord v device arrival link point q
+    (heard_as (plan_of v.scenario.network device) (observation_window v.scenario.network) (state_at_hearing
+    v.scenario at.front device q) (adjustment_at_hearing v.scenario at.front device q).0 point frame.cycle
+    frame.members) frame
+is_heard_of {v} {device} is other r at =
+    is_recorded _ is r at (match_false (is_cm v.scenario.network device) _ _ other refl)

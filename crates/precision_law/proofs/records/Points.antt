@@ -11,8 +11,8 @@ use Rattle.precision_law.proofs.words.Std.{if◌then◌else◌, inl, inr, last_o
 -- ---- records with those before them
 
 -- each record of a view is of a time up to its end
-pub within_run : (v : View) → IsView v → (h : Happening) → IsIn h v.records → time_of h ≤ v.until
-within_run v is h i = let lt = soon h (v.until + 1) (is.run.within h i) in omega (arith, lt)
+pub within_run : {v : View} → IsView v → (h : Happening) → IsIn h v.records → time_of h ≤ v.until
+within_run {v} is h i = let lt = soon h (v.until + 1) (is.run.within h i) in omega (arith, lt)
 
 -- of sorted records those before one are not later, and those behind it not earlier
 pub sorted_parts : (ps qs : List Happening) (x : Happening) → AreSorted (ps ++ x ∷ qs) → ((y : Happening) → IsIn y ps → time_of y ≤ time_of x)
@@ -28,9 +28,10 @@ sorted_parts (p ∷ ps) qs x order =
     )
 
 -- those before a record are the records before corrections at its time
-pub before_of : (v : View) (h : Happening) → IsView v → (at : IsFoundedAt v.scenario v.records h) → AreBeforeCorrections v (time_of h) at.front
-before_of v h is at =
-    let parts = sorted_parts at.front at.rest h (subst AreSorted at.whole (in_order v is)) in
+pub before_of : {v : View} {h : Happening} → IsView v → (at : IsFoundedAt v.scenario v.records h)
+    → AreBeforeCorrections v (time_of h) at.front
+before_of {h} is at =
+    let parts = sorted_parts at.front at.rest h (subst AreSorted at.whole (in_order is)) in
     record { rest = h ∷ at.rest; whole = at.whole; later = λ g i. elim i [ inl same ↦ (rw same (omega arith)) | inr more ↦ parts.1 g more ]; only = parts.0 }
 
 -- a record at a place of the view, with those before it
@@ -44,8 +45,9 @@ founded_by v front rest h is whole = record {
 }
 
 -- they have all earlier records
-pub earlier_before : (v : View) (t : ℕ) (front : List Happening) → AreBeforeCorrections v t front → earlier t front ≡ earlier t v.records
-earlier_before v t front split = earlier_front t front split.rest split.later ∙ ap (earlier t) (sym split.whole)
+pub earlier_before : {v : View} {t : ℕ} {front : List Happening} → AreBeforeCorrections v t front
+    → earlier t front ≡ earlier t v.records
+earlier_before {t} {front} split = earlier_front t front split.rest split.later ∙ ap (earlier t) (sym split.whole)
 
 -- ---- correction points
 
@@ -61,17 +63,20 @@ not_turned_on true state e = absurd cc
 not_turned_on false state e = e
 
 -- one that comes to a correction point has the time
-pub point_timed : (v : View) (t : ℕ) (device : DeviceId) (cycle : ℕ) (verdict : Verdict) (front : List Happening) → AreBeforeCorrections v t front
-    → ComesToCorrection v.scenario front device t cycle verdict → has_time (state_left v device t) ≡ true
-point_timed v t device cycle verdict front split point =
+pub point_timed : {v : View} {t : ℕ} {device : DeviceId} {cycle : ℕ} {verdict : Verdict} {front : List Happening}
+    → AreBeforeCorrections v t front → ComesToCorrection v.scenario front device t cycle verdict
+    → has_time (state_left v device t) ≡ true
+point_timed {v} {t} {device} {cycle} {front} split point =
     let now = point_has_time (state_before v.scenario front device t) _ cycle point.next in
     let here = not_turned_on (is_turned_on_at v.scenario device t) (state_after v.scenario (earlier t front) device) now in
-    subst (λ (hs : List Happening). has_time (state_after v.scenario hs device) ≡ true) (earlier_before v t front split) here
+    subst (λ hs. has_time (state_after v.scenario hs device) ≡ true) (earlier_before split) here
 
 -- the adjustment is that which the earlier records leave
-pub same_adjustment : (v : View) (device : DeviceId) (t : ℕ) (front : List Happening) → AreBeforeCorrections v t front
-    → adjustment_before v.scenario front device t ≡ adjustment_before v.scenario v.records device t
-same_adjustment v device t front split = ap (λ (hs : List Happening). adjustment_after v.scenario hs device) (earlier_before v t front split)
+pub same_adjustment : {v : View} (device : DeviceId) {t : ℕ} {front : List Happening}
+    → AreBeforeCorrections v t front → adjustment_before v.scenario front device t
+    ≡ adjustment_before v.scenario v.records device t
+same_adjustment {v} device split =
+    ap (λ hs. adjustment_after v.scenario hs device) (earlier_before split)
 
 -- ---- the last setting
 
@@ -99,11 +104,11 @@ setting_is v device t h e =
 -- ---- what a clock reaches
 
 -- where a clock reaches a value given the records before, it does given all
-pub reaches_whole : (v : View) (device : DeviceId) (value : ℤ) (t : ℕ) (front : List Happening) → AreBeforeCorrections v t front
-    → Reaches v.scenario front device value t → Reaches v.scenario v.records device value t
-reaches_whole v device value t front split =
-    reaches_by {s = v.scenario} {gs = front} v.records {device = device} {v = value} {t = t} (earlier_before v t
-    front split)
+pub reaches_whole : {v : View} {device : DeviceId} {value : ℤ} {t : ℕ} {front : List Happening}
+    → AreBeforeCorrections v t front → Reaches v.scenario front device value t
+    → Reaches v.scenario v.records device value t
+reaches_whole {v} {device} {value} {t} {front} split =
+    reaches_by {s = v.scenario} {gs = front} v.records {device = device} {v = value} {t = t} (earlier_before split)
 
 -- ---- the records before a place of a time
 
@@ -112,8 +117,9 @@ pub before_place : (v : View) (t : ℕ) (more : List ℕ) (at : IsSplit place_of
 before_place v t more at = grind (arith, cases_lt, time_of, time_before, rank, key, members_in)
 
 -- what a clock reaches given all records it reaches given those before
-pub reaches_front : (v : View) (device : DeviceId) (value : ℤ) (t : ℕ) (front : List Happening) → AreBeforeCorrections v t front
-    → Reaches v.scenario v.records device value t → Reaches v.scenario front device value t
-reaches_front v device value t front before =
+pub reaches_front : {v : View} {device : DeviceId} {value : ℤ} {t : ℕ} {front : List Happening}
+    → AreBeforeCorrections v t front → Reaches v.scenario v.records device value t
+    → Reaches v.scenario front device value t
+reaches_front {v} {device} {value} {t} {front} before =
     reaches_by {s = v.scenario} {gs = v.records} front {device = device} {v = value} {t = t} (sym
-    (earlier_before v t front before))
+    (earlier_before before))

@@ -33,11 +33,11 @@ heard_more v device u front mid cleared cleared_at at high =
     let f = λ (h : Happening). hearing_by s.network device h h.note.body in
     let late = λ (h : Happening). not (has_cleared s front device u u) || has_cleared s front device u (time_of h) in
     let late_more = λ (h : Happening). not (has_cleared s (front ++ mid) device u u) || has_cleared s (front ++ mid) device u (time_of h) in
-    let since = after_more set front mid
+    let since = after_more {p = set} mid
     (λ m i. ap (λ (b : Bool). b && changes_adjustment device m.note.body) (le-ltb (time_of m) u (let e = at m i in omega (arith, e))))
     (parts_at_last set front) in
     let quiet = makes_none f (filter late mid) (λ m i. (let back = in_filter late mid m i in high_quiet v device u m m.note.body (at m back) (high m back))) in
-    ap (λ (hs : List Happening). filter_map f (filter late_more hs)) since ∙ ap (filter_map f)
+    ap (λ hs. filter_map f (filter late_more hs)) since ∙ ap (filter_map f)
     (same_kept late_more late (after_last set front ++ mid) (λ h i. ap (λ (b : Bool). not b || has_cleared s (front ++ mid) device u (time_of h)) cleared
     ∙ ap (λ (b : Bool). not (has_cleared s front device u u) || b) (cleared_at (time_of h))))
     ∙ ap (filter_map f) (filter-append late (after_last set front) mid) ∙ filter_map-append f (filter late (after_last set front)) (filter late mid)
@@ -51,44 +51,46 @@ point_of_timed Integrating n e = absurd cc
 point_of_timed state n e = refl
 
 -- the point comes, given such a part
-comes_given : (v : View) (device : DeviceId) (u : ℕ) (front : List Happening) (summary : Summary) (verdict : Verdict) → IsView v → NoneTurnsOn → u ≤ v.until
-    → HasTimeAt v device u → AreBeforeCorrections v u front
-    → Reaches v.scenario v.records device (correction_value v.scenario.network (next_cycle v.scenario v.records device u)) u
-    → Summarizes summary (heard_since v.scenario front device u) → HasVerdict (standing_before v.scenario front device u) summary verdict
+comes_given : {v : View} {device : DeviceId} {u : ℕ} {front : List Happening} {summary : Summary} (verdict : Verdict)
+    → IsView v → NoneTurnsOn → u ≤ v.until → HasTimeAt v device u → AreBeforeCorrections v u front
+    → Reaches v.scenario v.records device
+    (correction_value v.scenario.network (next_cycle v.scenario v.records device u)) u
+    → Summarizes summary (heard_since v.scenario front device u)
+    → HasVerdict (standing_before v.scenario front device u) summary verdict
     → ComesToCorrection v.scenario front device u (next_cycle v.scenario v.records device u) verdict
-comes_given v device u front summary verdict is steady_on le timed before reaches heard has =
+comes_given {v} {device} {u} {front} {summary} verdict is steady_on le timed before reaches heard has =
     let s = v.scenario in
     let state = ap (λ (b : Bool). has_time (if b then Integrating else state_after s (earlier u front) device)) (steady_on v device u is timed) ∙ ap
-    (λ (hs : List Happening). has_time (state_after s hs device)) (earlier_before v u front before) ∙ timed.timed in
+    (λ hs. has_time (state_after s hs device)) (earlier_before before) ∙ timed.timed in
     record {
       next =
           point_of_timed (if is_turned_on_at s device u then Integrating else state_after s (earlier u front) device) (next_cycle s front device u) state
-          ∙ ap (λ (n : ℕ). Some n) (same_next v device u front before);
-      reached = reaches_front v device (correction_value s.network (next_cycle s v.records device u)) u front before reaches;
+          ∙ ap (λ (n : ℕ). Some n) (same_next device before);
+      reached = reaches_front before reaches;
       correct = good_is_correct v device u timed.good le;
       summary = summary;
       heard = heard;
       comes = has;
     }
 
-not_at : (v : View) (device : DeviceId) (u : ℕ) (front : List Happening) → AreBeforeCorrections v u front
-    → (integration_cycle (earlier u v.records) device ≡ Some (next_cycle v.scenario v.records device u) → ⊥)
-    → IsAtIntegration (standing_before v.scenario front device u) → ⊥
-not_at v device u front before never at =
-    never (ap (λ (hs : List Happening). integration_cycle hs device) (sym (earlier_before v u front before)) ∙ at.cycle
-    ∙ ap (λ (n : ℕ). Some n) (same_next v device u front before))
+module _ {v : View} (device : DeviceId) {u : ℕ} {front : List Happening}
+    (before : AreBeforeCorrections v u front) where
+  not_at : (integration_cycle (earlier u v.records) device ≡ Some (next_cycle v.scenario v.records device u) → ⊥)
+      → IsAtIntegration (standing_before v.scenario front device u) → ⊥
+  not_at never at =
+      never (ap (λ hs. integration_cycle hs device) (sym (earlier_before before)) ∙ at.cycle
+      ∙ ap (λ (n : ℕ). Some n) (same_next device before))
 
-same_standing : (v : View) (device : DeviceId) (u : ℕ) (front : List Happening) → AreBeforeCorrections v u front
-    → standing_before v.scenario front device u ≡ standing_before v.scenario v.records device u
-same_standing v device u front before =
-    let s = v.scenario in
-    ap (λ (es : List Happening). let st : Standing = record {
-      plan = plan_of s.network device;
-      state = if is_turned_on_at s device u then Integrating else state_after s es device;
-      adjustment = adjustment_after s es device;
-      number = if cleared_by s device u es then recorded_cycle es device + 1 else recorded_cycle es device;
-      integrated = integration_cycle es device;
-    } in st) (earlier_before v u front before)
+  same_standing : standing_before v.scenario front device u ≡ standing_before v.scenario v.records device u
+  same_standing =
+      let s = v.scenario in
+      ap (λ (es : List Happening). let st : Standing = record {
+        plan = plan_of s.network device;
+        state = if is_turned_on_at s device u then Integrating else state_after s es device;
+        adjustment = adjustment_after s es device;
+        number = if cleared_by s device u es then recorded_cycle es device + 1 else recorded_cycle es device;
+        integrated = integration_cycle es device;
+      } in st) (earlier_before before)
 
 -- what lies between the places of a correction and of the loss of the time
 between_is : (h : Happening) (u d : ℕ) → IsBefore (place_of h) (u ∷ 7 ∷ d ∷ 0 ∷ []) → (IsBefore (place_of h) (u ∷ 6 ∷ d ∷ []) → ⊥) → (time_of h ≡ u)
@@ -104,8 +106,8 @@ record HasParts (v : View) (device : DeviceId) (u : ℕ) : Type 0 where
   pub whole : seven.front ≡ six.front ++ mid
   pub at : (m : Happening) → IsIn m mid → (time_of m ≡ u) × (rank m.note.body < 6 → ⊥)
 
-parts_of : (v : View) (device : DeviceId) (u : ℕ) → IsView v → HasParts v device u
-parts_of v device u is =
+parts_of : {v : View} (device : DeviceId) (u : ℕ) → IsView v → HasParts v device u
+parts_of {v} device u is =
     let seven = split place_of (IsDue v.scenario) v.records (u ∷ 7 ∷ device.0 ∷ 0 ∷ []) is.run.founded in
     let founded = front_founded place_of (IsDue v.scenario) seven.front seven.rest (subst (IsFounded place_of (IsDue v.scenario)) seven.whole is.run.founded) in
     let six = split place_of (IsDue v.scenario) seven.front (u ∷ 6 ∷ device.0 ∷ []) founded in
@@ -127,48 +129,56 @@ parts_of v device u is =
     }
 
 -- the record of a correction
-corrected_there : (v : View) (device : DeviceId) (u : ℕ) (cycle : ℕ) (by : Units) (at : IsSplit place_of v.records (u ∷ 6 ∷ device.0 ∷ [])) → IsView v
-    → u ≤ v.until → ComesToCorrection v.scenario at.front device u cycle (Corrected by) → (h : Happening) × IsPointRecord v device u h
-corrected_there v device u cycle by at is le comes =
+corrected_there : {v : View} {device : DeviceId} {u cycle : ℕ} (by : Units)
+    (at : IsSplit place_of v.records (u ∷ 6 ∷ device.0 ∷ [])) → IsView v → u ≤ v.until
+    → ComesToCorrection v.scenario at.front device u cycle (Corrected by)
+    → (h : Happening) × IsPointRecord v device u h
+corrected_there {v} {device} {u} {cycle} by at is le comes =
     let adjustment : Units = record { 0 = (adjustment_before v.scenario at.front device u).0 +ℤ by.0 } in
     let body : NoteBody = notes.Corrected device cycle by adjustment in (
       happening v.scenario.network at.front (next_note at.front u body),
       record {
-        there = due_there v u body (u ∷ 6 ∷ device.0 ∷ []) at is le refl (record { corrected = comes; sum = refl });
+        there = due_there {v = v} u body {p = u ∷ 6 ∷ device.0 ∷ []} at is
+            le refl (record { corrected = comes; sum = refl });
         at = refl;
         says = inl (cycle, by, adjustment, refl);
       },
     )
 
 -- and that of the loss of the time
-lost_there : (v : View) (device : DeviceId) (u : ℕ) (why : Why) (at : IsSplit place_of v.records (u ∷ 7 ∷ device.0 ∷ 0 ∷ [])) → IsView v → u ≤ v.until
+lost_there : {v : View} (device : DeviceId) (u : ℕ) (why : Why)
+    (at : IsSplit place_of v.records (u ∷ 7 ∷ device.0 ∷ 0 ∷ [])) → IsView v → u ≤ v.until
     → ChangesState v.scenario at.front device u Integrating 0 why → (h : Happening) × IsPointRecord v device u h
-lost_there v device u why at is le changes =
+lost_there {v} device u why at is le changes =
     let body : NoteBody = notes.State device Integrating 0 why in (
       happening v.scenario.network at.front (next_note at.front u body),
-      record { there = due_there v u body (u ∷ 7 ∷ device.0 ∷ 0 ∷ []) at is le refl changes; at = refl; says = inr (0, why, refl) },
+      record { there = due_there {v = v} u body {p = u ∷ 7 ∷ device.0 ∷ 0 ∷ []} at is le refl changes; at = refl; says = inr (0, why, refl) },
     )
 
 pub points_are_recorded : NoneTurnsOn → PointsAreRecorded
 points_are_recorded steady_on v device u is le timed reaches never =
     let s = v.scenario in
-    let p = parts_of v device u is in
+    let p = parts_of device u is in
     let six = before_place v u (6 ∷ device.0 ∷ []) p.six in
     let seven = before_place v u (7 ∷ device.0 ∷ 0 ∷ []) p.seven in
-    let standing = same_standing v device u p.seven.front seven ∙ sym (same_standing v device u p.six.front six) in
+    let standing = same_standing device seven ∙ sym (same_standing device six) in
     let cleared : (x : ℕ) → has_cleared s (p.six.front ++ p.mid) device u x ≡ has_cleared s p.six.front device u x = λ x.
-    subst (λ (hs : List Happening). has_cleared s hs device u x ≡ has_cleared s p.six.front device u x) p.whole (same_cleared v device u x p.seven.front seven
-    ∙ sym (same_cleared v device u x p.six.front six)) in
-    let heard : heard_since s p.seven.front device u ≡ heard_since s p.six.front device u = ap (λ (hs : List Happening). heard_since s hs device u) p.whole
+    subst (λ hs. has_cleared s hs device u x ≡ has_cleared s p.six.front device u x) p.whole
+    (same_cleared device x seven
+    ∙ sym (same_cleared device x six)) in
+    let heard : heard_since s p.seven.front device u ≡ heard_since s p.six.front device u = ap (λ hs. heard_since s hs device u) p.whole
     ∙ heard_more v device u p.six.front p.mid (cleared u) cleared (λ m i. (p.at m i).0) (λ m i. (p.at m i).1) in
     let summary = summary_of (heard_since s p.seven.front device u) in
     let comes = λ (verdict : Verdict) (has : HasVerdict (standing_before s p.seven.front device u) summary.0 verdict).
-    comes_given v device u p.seven.front summary.0 verdict is steady_on le timed seven reaches summary.1 has in
-    elim (verdict_of (standing_before s p.seven.front device u) summary.0 (not_at v device u p.seven.front seven never)) [
+    comes_given verdict is steady_on le timed seven reaches summary.1 has in
+    elim (verdict_of (standing_before s p.seven.front device u) summary.0 (not_at device seven never)) [
       | inl correct ↦
-          corrected_there v device u (next_cycle s v.records device u) correct.0 p.six is le
-          (comes_given v device u p.six.front summary.0 (Corrected correct.0) is steady_on le timed six reaches (subst (Summarizes summary.0) heard summary.1)
-          (subst (λ (st : Standing). HasVerdict st summary.0 (Corrected correct.0)) standing correct.1))
-      | inr (inl sync) ↦ lost_there v device u whys.SyncClique p.seven is le (refl, refl, (next_cycle s v.records device u, comes SyncClique sync))
-      | inr (inr async) ↦ lost_there v device u whys.AsyncClique p.seven is le (refl, refl, (next_cycle s v.records device u, comes AsyncClique async))
+          corrected_there correct.0 p.six is le
+          (comes_given (Corrected correct.0) is steady_on le timed six reaches
+          (subst (Summarizes summary.0) heard summary.1)
+          (subst (λ st. HasVerdict st summary.0 (Corrected correct.0)) standing correct.1))
+      | inr (inl sync) ↦ lost_there device u whys.SyncClique p.seven is le
+          (refl, refl, (next_cycle s v.records device u, comes SyncClique sync))
+      | inr (inr async) ↦ lost_there device u whys.AsyncClique p.seven is le
+          (refl, refl, (next_cycle s v.records device u, comes AsyncClique async))
     ]

@@ -16,74 +16,77 @@ pub record IsViewWith (s : Scenario) (hs : List Happening) (t : ℕ) (channel : 
   pub cut : IsCutAt s hs t
   pub is : IsView (view_of s t channel path cut.front)
 
-pub view_with : (s : Scenario) (mark : List ℕ) (ns : List Note) (until t : ℕ) (channel : Channel) (path : ℕ) → IsRunUpTo s mark ns until
-    → IsBeta s.network (pos path) → t ≤ until → IsSound s t channel → IsViewWith s (happenings s.network ns) t channel path
-view_with s mark ns until t channel path up beta le sound =
-    let cut = cut_at s mark (happenings s.network ns) until t up.run up.covers le in
+pub view_with : {s : Scenario} {mark : List ℕ} {ns : List Note} {until : ℕ} (t : ℕ) (channel : Channel) (path : ℕ)
+    → IsRunUpTo s mark ns until → IsBeta s.network (pos path) → t ≤ until → IsSound s t channel
+    → IsViewWith s (happenings s.network ns) t channel path
+view_with {s} {until} t channel path up beta le sound =
+    let cut = cut_at s until t up.run up.covers le in
     record { cut = cut; is = record { lawful = up.lawful; run = cut.run; short = omega (arith, up.short, le); beta = beta; sizes = refl; sound = sound } }
 
 -- ---- dispatches
 
--- each dispatch of a good master lies in the hull of its cycle
-pub all_in_hulls : BlocksCover → BlocksGoSo → (v : View) → IsView v → (h : Happening) (device : DeviceId) (cycle : ℕ) → IsDispatch v h device cycle
-    → IsInHull v cycle (time_of h)
-all_in_hulls cover goes v is h device cycle dispatch =
-    let found = cover v v.until is (omega arith) in
-    (known_dispatch v found.0 (v.until + 1) found.1.before
-    (λ u from lt. goes v found.0 u (earlier_in_block _ _ _ _ found.1 from (omega arith)) is) h device cycle dispatch
-    (let in_run = within_run v is h dispatch.there in omega (arith, in_run))).1
+module _ (cover : BlocksCover) (goes : BlocksGoSo) {v : View} (is : IsView v) where
+  -- each dispatch of a good master lies in the hull of its cycle
+  pub all_in_hulls : {h : Happening} {device : DeviceId} {cycle : ℕ} → IsDispatch v h device cycle
+      → IsInHull v cycle (time_of h)
+  all_in_hulls {h} {device} {cycle} dispatch =
+      let found = cover v v.until is (omega arith) in
+      (known_dispatch v found.0 (v.until + 1) found.1.before
+      (λ u from lt. goes v found.0 u (earlier_in_block _ _ _ _ found.1 from (omega arith)) is) h device cycle dispatch
+      (let in_run = within_run is h dispatch.there in omega (arith, in_run))).1
 
--- the hull of a cycle is from its first to its last dispatch
-pub hull_lies : BlocksCover → BlocksGoSo → (v : View) → IsView v → (cycle : ℕ) (hull : Hull) → hull_of v (suc cycle) ≡ Some hull
-    → LieFromTo v.scenario v.records v.until (suc cycle) hull.least hull.greatest
-hull_lies cover goes v is cycle hull at =
-    let has = has_before v cycle hull (within_run v is) at in
-    let test = λ (g : Happening). is_dispatch v has.before (suc cycle) g g.note.body in
-    let over_is = subst (λ (o : Option Hull). option_and_then (λ w. hull_over (filter (λ h. is_dispatch v w (suc cycle) h h.note.body) v.records)) o
-    ≡ Some hull) has.is_before at in
-    let ends = ends_of None (filter test v.records) hull over_is in
-    let dispatched : (h : Happening) → IsIn h (filter test v.records) → IsDispatchedBy v.scenario v.records v.until (suc cycle) h = λ h i.
-    (let t = tested v has.before (suc cycle) h h.note.body (passes test v.records h i) in
-    let there = in_filter test v.records h i in
-    record { there = there; master = t.device; is = t.is; correct = t.good; by_then = within_run v is h there }) in
-    elim ends.greatest [
-      | inr none ↦ absurd (never_some none.0 none.1)
-      | inl top ↦ elim ends.least [
+  -- the hull of a cycle is from its first to its last dispatch
+  pub hull_lies : (cycle : ℕ) (hull : Hull) → hull_of v (suc cycle) ≡ Some hull
+      → LieFromTo v.scenario v.records v.until (suc cycle) hull.least hull.greatest
+  hull_lies cycle hull at =
+      let has = has_before v cycle hull (within_run is) at in
+      let test = λ (g : Happening). is_dispatch v has.before (suc cycle) g g.note.body in
+      let over_is = subst (λ (o : Option Hull). option_and_then
+      (λ w. hull_over (filter (λ h. is_dispatch v w (suc cycle) h h.note.body) v.records)) o
+      ≡ Some hull) has.is_before at in
+      let ends = ends_of None (filter test v.records) hull over_is in
+      let dispatched : (h : Happening) → IsIn h (filter test v.records) → IsDispatchedBy v.scenario v.records v.until
+      (suc cycle) h = λ h i.
+      (let t = tested v has.before (suc cycle) h h.note.body (passes test v.records h i) in
+      let there = in_filter test v.records h i in
+      record { there = there; master = t.device; is = t.is; correct = t.good; by_then = within_run is h there }) in
+      elim ends.greatest [
         | inr none ↦ absurd (never_some none.0 none.1)
-        | inl low ↦ record {
-          earliest = low.0;
-          is_earliest = dispatched low.0 low.1;
-          first_is = sym low.2;
-          latest = top.0;
-          is_latest = dispatched top.0 top.1;
-          last_is = sym top.2;
-          each = λ h d.
-              (let inside = all_in_hulls cover goes v is h d.master (suc cycle) (record { there = d.there; is = d.is; good = d.correct }) in
-              let same : inside.hull ≡ hull = same_some (hull_of v (suc cycle)) inside.hull hull inside.is at in
-              (subst (λ (w : Hull). w.least ≤ℤ pos (time_of h)) same inside.least, subst (λ (w : Hull). pos (time_of h) ≤ℤ w.greatest) same inside.most));
-        }
+        | inl top ↦ elim ends.least [
+          | inr none ↦ absurd (never_some none.0 none.1)
+          | inl low ↦ record {
+            earliest = low.0;
+            is_earliest = dispatched low.0 low.1;
+            first_is = sym low.2;
+            latest = top.0;
+            is_latest = dispatched top.0 top.1;
+            last_is = sym top.2;
+            each = λ h d.
+                (let inside = all_in_hulls {h = h} {device = d.master} {cycle = suc cycle} (record { there = d.there; is = d.is; good = d.correct }) in
+                let same : inside.hull ≡ hull = same_some (hull_of v (suc cycle)) inside.hull hull inside.is at in
+                (subst (λ (w : Hull). w.least ≤ℤ pos (time_of h)) same inside.least, subst (λ (w : Hull). pos (time_of h) ≤ℤ w.greatest) same inside.most));
+          }
+        ]
       ]
-    ]
 
--- so that of any cycle
-pub hull_is_from_to : BlocksCover → BlocksGoSo → (v : View) → IsView v → (cycle : ℕ) (hull : Hull) → hull_of v cycle ≡ Some hull
-    → AreFromTo v.scenario v.records v.until cycle hull.least hull.greatest
-hull_is_from_to cover goes v is zero hull at =
-    let same : start_hull v.sizes ≡ hull = same_some (hull_of v zero) (start_hull v.sizes) hull refl at in
-    (ap (λ (w : Hull). w.least) (sym same) ∙ ap (λ (x : ℕ). pos 0 -ℤ pos x) (sizes_are v is).settled, ap (λ (w : Hull). w.greatest) (sym same))
-hull_is_from_to cover goes v is (suc c) hull at = hull_lies cover goes v is c hull at
+  -- so that of any cycle
+  pub hull_is_from_to : (cycle : ℕ) (hull : Hull) → hull_of v cycle ≡ Some hull
+      → AreFromTo v.scenario v.records v.until cycle hull.least hull.greatest
+  hull_is_from_to zero hull at =
+      let same : start_hull v.sizes ≡ hull = same_some (hull_of v zero) (start_hull v.sizes) hull refl at in
+      (ap (λ (w : Hull). w.least) (sym same) ∙ ap (λ x. pos 0 -ℤ pos x) (sizes_are is).settled, ap (λ (w : Hull). w.greatest) (sym same))
+  hull_is_from_to (suc c) hull at = hull_lies c hull at
 
 -- ---- the records up to a time
 
--- what holds of the dispatches up to a time holds of those of the run
-of_run : (s : Scenario) (hs : List Happening) (t cycle : ℕ) (cut : IsCutAt s hs t) (h : Happening) → IsDispatchedBy s cut.front t cycle h
-    → IsDispatchedBy s hs t cycle h
-of_run s hs t cycle cut h d = record { there = cut.inside h d.there; master = d.master; is = d.is; correct = d.correct; by_then = d.by_then }
+module _ {s : Scenario} {hs : List Happening} {t : ℕ} (cycle : ℕ) (cut : IsCutAt s hs t) (h : Happening) where
+  -- what holds of the dispatches up to a time holds of those of the run
+  of_run : IsDispatchedBy s cut.front t cycle h → IsDispatchedBy s hs t cycle h
+  of_run d = record { there = cut.inside h d.there; master = d.master; is = d.is; correct = d.correct; by_then = d.by_then }
 
--- and the other way round
-pub of_cut : (s : Scenario) (hs : List Happening) (t cycle : ℕ) (cut : IsCutAt s hs t) (h : Happening) → IsDispatchedBy s hs t cycle h
-    → IsDispatchedBy s cut.front t cycle h
-of_cut s hs t cycle cut h d = record { there = cut.has h d.there d.by_then; master = d.master; is = d.is; correct = d.correct; by_then = d.by_then }
+  -- and the other way round
+  pub of_cut : IsDispatchedBy s hs t cycle h → IsDispatchedBy s cut.front t cycle h
+  of_cut d = record { there = cut.has h d.there d.by_then; master = d.master; is = d.is; correct = d.correct; by_then = d.by_then }
 
 -- so the first and the last of the one are those of the other
 pub from_to_by : (s : Scenario) (hs gs : List Happening) (t cycle : ℕ) (first last : ℤ)
@@ -92,13 +95,12 @@ pub from_to_by : (s : Scenario) (hs gs : List Happening) (t cycle : ℕ) (first 
 from_to_by s hs gs t zero first last there back at = at
 from_to_by s hs gs t (suc c) first last there back at = grind arith
 
-pub from_to_of_run : (s : Scenario) (hs : List Happening) (t cycle : ℕ) (first last : ℤ) (cut : IsCutAt s hs t) → AreFromTo s cut.front t cycle first last
-    → AreFromTo s hs t cycle first last
-from_to_of_run s hs t cycle first last cut = from_to_by s cut.front hs t cycle first last (λ c h. of_run s hs t c cut h) (λ c h. of_cut s hs t c cut h)
+module _ {s : Scenario} {hs : List Happening} {t : ℕ} (cycle : ℕ) (first last : ℤ) (cut : IsCutAt s hs t) where
+  pub from_to_of_run : AreFromTo s cut.front t cycle first last → AreFromTo s hs t cycle first last
+  from_to_of_run = from_to_by s cut.front hs t cycle first last (λ c h. of_run c cut h) (λ c h. of_cut c cut h)
 
-pub from_to_of_cut : (s : Scenario) (hs : List Happening) (t cycle : ℕ) (first last : ℤ) (cut : IsCutAt s hs t) → AreFromTo s hs t cycle first last
-    → AreFromTo s cut.front t cycle first last
-from_to_of_cut s hs t cycle first last cut = from_to_by s hs cut.front t cycle first last (λ c h. of_cut s hs t c cut h) (λ c h. of_run s hs t c cut h)
+  pub from_to_of_cut : AreFromTo s hs t cycle first last → AreFromTo s cut.front t cycle first last
+  from_to_of_cut = from_to_by s hs cut.front t cycle first last (λ c h. of_cut c cut h) (λ c h. of_run c cut h)
 
 -- ---- blocks of dispatches
 
@@ -108,8 +110,8 @@ pub record IsOfBlockOf (v : View) (cycle : ℕ) (h : Happening) : Type 0 where
   pub block : IsInBlock v n (time_of h)
   pub of_cycle : cycle ≡ suc n
 
-pub block_of : BlocksCover → BlocksGoSo → (v : View) → IsView v → (h : Happening) (device : DeviceId) (cycle : ℕ) → IsDispatch v h device cycle
-    → IsOfBlockOf v cycle h
-block_of cover goes v is h device cycle dispatch =
-    let found = cover v (time_of h) is (within_run v is h dispatch.there) in
+pub block_of : BlocksCover → BlocksGoSo → {v : View} → IsView v → {h : Happening} {device : DeviceId} {cycle : ℕ}
+    → IsDispatch v h device cycle → IsOfBlockOf v cycle h
+block_of cover goes {v} is {h} {device} {cycle} dispatch =
+    let found = cover v (time_of h) is (within_run is h dispatch.there) in
     record { n = found.0; block = found.1; of_cycle = ((goes v found.0 (time_of h) found.1 is).dispatches h device cycle dispatch refl).of_cycle }

@@ -1,14 +1,14 @@
 -- What a view gives: room, steady clocks, and records that are due.
 use Rattle.schedule_tables.{proofs.Margins.some_link, specs.Rules.KeepsRules}
 use Rattle.precision_law.proofs.{clocks.Readings.clocks_are_steady, records.Times.{AreSorted, sorted}}
-use Rattle.precision_law.proofs.words.{Laws.{HaveRoom, IsSteady, IsView, Sizes, View, sizes_of}, Std.{◌*◌, ◌+◌, ◌≡◌, ◌≤◌, arith, refl, subst, sym, ℕ}}
+use Rattle.precision_law.proofs.words.{Laws.{HaveRoom, IsSteady, IsView, View, sizes_of}, Std.{◌*◌, ◌+◌, ◌≡◌, ◌≤◌, arith, refl, subst, sym, ℕ}}
 use Rattle.precision_law.proofs.words.Plans.{DeviceId, HasMargins, Network, all_at, amount, compression_time, margins, pcf_port_time, rules_give_trees}
 
 -- ---- the sizes of an accepted network leave room
 
 -- the sizes of a network that keeps the rules leave room
-pub room_of : (n : Network) (path : ℕ) → KeepsRules n → HasMargins n path → HaveRoom (sizes_of n path)
-room_of n path keeps margins =
+pub room_of : {n : Network} {path : ℕ} → KeepsRules n → HasMargins n path → HaveRoom (sizes_of n path)
+room_of {n} keeps margins =
     let link = some_link n keeps in
     let last = all_at (λ l. amount n.correction + amount n.dmax + 8 * amount n.precision + pcf_port_time l ≤ amount n.cycle) n.link link.0 link.1
     margins.cycle.last_frame link.2 in
@@ -31,18 +31,19 @@ room_of n path keeps margins =
 -- ---- views
 
 -- the sizes of a view leave room
-pub room : (v : View) → IsView v → HaveRoom v.sizes
-room v is =
+pub room : {v : View} → IsView v → HaveRoom v.sizes
+room {v} is =
     subst HaveRoom (sym is.sizes)
-    (room_of _ _ is.lawful.rules (margins rules_give_trees v.scenario.network v.sizes.path is.lawful.range is.lawful.rules is.beta))
+    (room_of is.lawful.rules (margins rules_give_trees v.scenario.network v.sizes.path is.lawful.range
+    is.lawful.rules is.beta))
 
 -- its clocks are steady
 pub steady : (v : View) → IsView v → (device : DeviceId) → IsSteady v.sizes (v.scenario.reading device)
-steady v is device = subst (λ (n : Sizes). IsSteady n (v.scenario.reading device)) (sym is.sizes) (clocks_are_steady v.scenario v.sizes.path device is.lawful)
+steady v is device = subst (λ n. IsSteady n (v.scenario.reading device)) (sym is.sizes) (clocks_are_steady v.scenario v.sizes.path device is.lawful)
 
 -- its records are sorted
-pub in_order : (v : View) → IsView v → AreSorted v.records
-in_order v is = sorted v.scenario v.records is.run.founded
+pub in_order : {v : View} → IsView v → AreSorted v.records
+in_order {v} is = sorted v.scenario v.records is.run.founded
 
 -- its sizes are those of the network
 pub record AreSizes (v : View) : Type 0 where
@@ -53,5 +54,5 @@ pub record AreSizes (v : View) : Type 0 where
   pub settled : v.sizes.settled ≡ amount v.scenario.network.settled
   pub compression : v.sizes.compression ≡ compression_time v.scenario.network
 
-pub sizes_are : (v : View) → IsView v → AreSizes v
-sizes_are v is = grind arith
+pub sizes_are : {v : View} → IsView v → AreSizes v
+sizes_are is = grind arith

@@ -23,38 +23,40 @@ use Rattle.run_law.specs.declared.steps.Arrival.TheVariants as arrivals
 -- ---- masters
 
 -- a master has a member number
-pub master_member : (v : View) (device : DeviceId) → IsView v → has_role v.scenario.network is_master device ≡ true → (m : ℕ)
-    × (member_of v.scenario.network device ≡ Some m)
-master_member v device is role =
+pub master_member : {v : View} (device : DeviceId) → IsView v → has_role v.scenario.network is_master device ≡ true
+    → (m : ℕ) × (member_of v.scenario.network device ≡ Some m)
+master_member {v} device is role =
     let d = device_of is_master (device_at v.scenario.network device) role in
     let known : IsDeviceInRange d.0 = all_at IsDeviceInRange v.scenario.network.device device.0 d.0 is.lawful.range.devices d.1 in
     let m = some_of d.0.member (known.masters ∙ d.2) in
     (m.0, ap (λ (o : Option Device). option_and_then (λ x. x.member) o) d.1 ∙ m.1)
 
 -- a broken device is a master
-pub bad_role : (v : View) (device : DeviceId) → IsView v → IsBad v device → has_role v.scenario.network is_master device ≡ true
-bad_role v device is bad =
-    true_from_ne_false (has_role v.scenario.network is_master device) (λ other. bad_is_master v device is bad (λ master.
+pub bad_role : {v : View} (device : DeviceId) → IsView v → IsBad v device
+    → has_role v.scenario.network is_master device ≡ true
+bad_role {v} device is bad =
+    true_from_ne_false (has_role v.scenario.network is_master device) (λ other. bad_is_master device is bad (λ master.
     let d = opened (λ (x : Device). is_master x.role ≡ true) (device_at v.scenario.network device) master in
     both_ways (has_role v.scenario.network is_master device) other (ap (λ (o : Option Device). option_map_or (λ x. is_master x.role) o false) d.1 ∙ d.2)))
 
 -- ---- events in order
 
--- of events within the hypothesis none is earlier than the one before it
-next_turn : (n : Network) (all : List Event) → AreWithinHypothesis n all → (pre behind : List Event) (e event : Event) → all ≡ pre ++ e ∷ event ∷ behind
-    → e.time.0 ≤ℤ event.time.0
-next_turn n all within pre behind e event whole =
-    by_lt_z {P = e.time.0 ≤ℤ event.time.0} event.time.0 e.time.0
-    (λ later. absurd (within (pre ++ e ∷ []) behind event (whole ∙ sym (append_assoc pre (e ∷ []) (event ∷ behind))) Order
-    (record { front = pre; last = e; order = refl; later = later }))) (λ kept. kept)
+module _ (n : Network) (all : List Event) (within : AreWithinHypothesis n all) where
+  -- of events within the hypothesis none is earlier than the one before it
+  next_turn : (pre behind : List Event) (e event : Event) → all ≡ pre ++ e ∷ event ∷ behind → e.time.0 ≤ℤ event.time.0
+  next_turn pre behind e event whole =
+      by_lt_z {P = e.time.0 ≤ℤ event.time.0} event.time.0 e.time.0
+      (λ later. absurd (within (pre ++ e ∷ []) behind event
+      (whole ∙ sym (append_assoc pre (e ∷ []) (event ∷ behind))) Order
+      (record { front = pre; last = e; order = refl; later = later }))) (λ kept. kept)
 
--- nor than any before it
-in_turn : (n : Network) (all : List Event) → AreWithinHypothesis n all → (mid pre behind : List Event) (e event : Event) → all ≡ pre ++ e
-    ∷ (mid ++ event ∷ behind) → e.time.0 ≤ℤ event.time.0
-in_turn n all within [] pre behind e event whole = next_turn n all within pre behind e event whole
-in_turn n all within (m ∷ mid) pre behind e event whole =
-    let one = next_turn n all within pre (mid ++ event ∷ behind) e m whole in
-    omega (arith, ints, one, in_turn n all within mid (pre ++ e ∷ []) behind m event (whole ∙ sym (append_assoc pre (e ∷ []) (m ∷ (mid ++ event ∷ behind)))))
+  -- nor than any before it
+  in_turn : (mid pre behind : List Event) (e event : Event) → all ≡ pre ++ e ∷ (mid ++ event ∷ behind)
+      → e.time.0 ≤ℤ event.time.0
+  in_turn [] pre behind e event whole = next_turn pre behind e event whole
+  in_turn (m ∷ mid) pre behind e event whole =
+      let one = next_turn pre (mid ++ event ∷ behind) e m whole in
+      omega (arith, ints, one, in_turn mid (pre ++ e ∷ []) behind m event (whole ∙ sym (append_assoc pre (e ∷ []) (m ∷ (mid ++ event ∷ behind)))))
 
 pub no_earlier : (n : Network) (all before behind : List Event) (e event : Event) → AreWithinHypothesis n all → all ≡ before ++ event ∷ behind → IsIn e before
     → e.time.0 ≤ℤ event.time.0
@@ -63,9 +65,10 @@ no_earlier n all before behind e event within whole i =
     in_turn n all within at.1 at.0 behind e event (whole ∙ ap (λ (t : List Event). t ++ event ∷ behind) at.2 ∙ append_assoc at.0 (e ∷ at.1) (event ∷ behind))
 
 -- what sends by an event is broken
-sender_broken : (v : View) (e : Event) (link : LinkId) (l : Link) (octets : List ℕ) → IsView v → IsIn e v.scenario.events → e.what ≡ events.Send link octets
-    → link_at v.scenario.network link ≡ Some l → amount e.time ≤ v.until → IsBad v l.child
-sender_broken v e link l octets is i what there early =
+sender_broken : {v : View} (e : Event) (link : LinkId) (l : Link) (octets : List ℕ) → IsView v
+    → IsIn e v.scenario.events → e.what ≡ events.Send link octets → link_at v.scenario.network link ≡ Some l
+    → amount e.time ≤ v.until → IsBad v l.child
+sender_broken {v} e link l octets is i what there early =
     true_from_ne_false (is_broken v.scenario l.child v.until) (λ at.
     let s = v.scenario in
     let split = parted e s.events i in
@@ -137,19 +140,20 @@ decoded_as v ps t device link cause octets taken takes =
     ] takes
 
 -- what is taken from a way left its sender, or an event sent it up
-put_on : (v : View) (ps : List Happening) (t : ℕ) (device : DeviceId) (link : LinkId) (cause : ℕ) (a : Arrival) (taken : Pcf) (way : Way) → IsView v
-    → ArrivesAs v.scenario ps device t link cause a → TakesWith a taken → way_to v.scenario.network device link ≡ way
-    → (IsPutAs v ps device link cause way ⊎ ((way ≡ Up) × IsSentUp v ps device link cause)) × (receiver_of v.scenario.network link way ≡ Some device)
-put_on v ps t device link cause a taken way is comes takes on =
+put_on : {v : View} {ps : List Happening} {t : ℕ} {device : DeviceId} {link : LinkId} {cause : ℕ} {a : Arrival}
+    (taken : Pcf) (way : Way) → IsView v → ArrivesAs v.scenario ps device t link cause a → TakesWith a taken
+    → way_to v.scenario.network device link ≡ way → (IsPutAs v ps device link cause way
+    ⊎ ((way ≡ Up) × IsSentUp v ps device link cause)) × (receiver_of v.scenario.network link way ≡ Some device)
+put_on {v} {ps} {t} {device} {link} {cause} taken way is comes takes on =
     let put = comes.arrives in
-    let same : put.way ≡ way = sym (receiver_way v link device put.way is put.receiver) ∙ on in (
-      by comes.putting.note.body refl put.put same (subst (λ (x : Arrival). TakesWith x taken) comes.becomes takes),
-      subst (λ (w : Way). receiver_of v.scenario.network link w ≡ Some device) same put.receiver,
+    let same : put.way ≡ way = sym (receiver_way link device put.way is put.receiver) ∙ on in (
+      by comes.putting.note.body refl put.put same (subst (λ x. TakesWith x taken) comes.becomes takes),
+      subst (λ w. receiver_of v.scenario.network link w ≡ Some device) same put.receiver,
     )
   where
     never : (signal : Signal) → signal ≡ timed comes.putting.octets → TakesWith (arrival_of v.scenario ps device t link cause signal) taken → ⊥
     never signal e c = never_timed v ps t device link cause comes.putting.octets taken
-        (subst (λ (x : Signal). TakesWith (arrival_of v.scenario ps device t link cause x) taken) e c)
+        (subst (λ x. TakesWith (arrival_of v.scenario ps device t link cause x) taken) e c)
 
     sent : (cut : Bool) (out : LinkId) (signal : Signal) (l : Launch) → (if cut then None else Some (record { link = out; way = Up; signal = signal })) ≡ Some l
         → (record { link = out; way = Up; signal = signal }) ≡ l
@@ -178,7 +182,7 @@ put_on v ps t device link cause a taken way is comes takes on =
         absurd (never comes.signal (ap (λ (x : Launch). x.signal) (sym l)) c)
     by (notes.Event line (events.Send out octets)) same put along c =
         let l = sent (is_cut v.scenario out Up (time_of comes.putting)) out (signal_of octets) _ put in
-        let d = decoded_as v ps t device link cause octets taken (subst (λ (x : Signal). TakesWith (arrival_of v.scenario ps device t link cause x) taken)
+        let d = decoded_as v ps t device link cause octets taken (subst (λ x. TakesWith (arrival_of v.scenario ps device t link cause x) taken)
         (ap (λ (x : Launch). x.signal) (sym l)) c) in
         inr (
           sym along ∙ ap (λ (x : Launch). x.way) (sym l),
@@ -198,11 +202,11 @@ put_on v ps t device link cause a taken way is comes takes on =
 -- ---- leg by leg
 
 -- what an event sent up is a broken master's
-sent_by_bad : (v : View) (h : Happening) (device : DeviceId) (link : LinkId) (cause clock : ℕ) (is : IsView v) → (i : IsIn h v.records)
-    → h.note.body ≡ notes.Arrived device link cause clock
-    → receiver_of v.scenario.network link Up ≡ Some device → IsSentUp v (founded_at v.scenario v.records h is.run.founded i).front device link cause
-    → IsOfBad v h
-sent_by_bad v h device link cause clock is i body to put =
+sent_by_bad : {v : View} (h : Happening) {device : DeviceId} {link : LinkId} {cause : ℕ} (clock : ℕ) (is : IsView v)
+    (i : IsIn h v.records) → h.note.body ≡ notes.Arrived device link cause clock
+    → receiver_of v.scenario.network link Up ≡ Some device
+    → IsSentUp v (founded_at v.scenario v.records h is.run.founded i).front device link cause → IsOfBad v h
+sent_by_bad {v} h {device} {link} {cause} clock is i body to put =
     let s = v.scenario in
     let n = s.network in
     let at = founded_at s v.records h is.run.founded i in
@@ -214,12 +218,13 @@ sent_by_bad v h device link cause clock is i body to put =
     let in_events : IsIn event.event s.events = in_at s.events event.before event.event event.is in
     let time : amount event.event.time ≡ time_of putting = ap amount (sym event.at) in
     let l = mapped (λ (x : Link). x.parent) (link_at n link) device to in
-    let bad = sender_broken v event.event link l.0 put.octets is in_events (sym event.same) l.1 (omega (arith, within_run v is putting in_all, time)) in
+    let bad = sender_broken event.event link l.0 put.octets is in_events (sym event.same) l.1
+    (omega (arith, within_run is putting in_all, time)) in
     let framed = frame_is at_e _ put.sends ∙ ap frame_in put.decodes in
     let frame_h = frame_is at _ body ∙ clocked clock _ putting put.frame put.there framed in
     let mine = sym (ap (λ (o : Option Link). option_map_or (λ k. k.parent.0 == device.0 && is_end n k.child && are_others
     (member_of n k.child) put.frame.members) o false) l.1) ∙ put.mine in
-    let d = device_of is_master (device_at n l.0.child) (bad_role v l.0.child is bad) in
+    let d = device_of is_master (device_at n l.0.child) (bad_role l.0.child is bad) in
     let is_mine = mine_is (l.0.parent.0 == device.0) (is_end n l.0.child) (member_of n l.0.child) put.frame.members mine
     (eq-eqb l.0.parent.0 device.0 (ap (λ (d : DeviceId). d.0) l.2))
     (ap (λ (o : Option Device). option_map_or (λ x. is_end_system x.role) o false) d.1 ∙ master_ends d.0.role d.2) in
@@ -261,14 +266,15 @@ comes v (suc n) way h device link cause clock is i small body on =
     let at = founded_at v.scenario v.records h is.run.founded i in
     let a = subst (IsCaused v.scenario at.front h.note.time) body at.due.cause in
     let x = taken_as a in
-    let put = put_on v at.front (amount h.note.time) device link cause x.0 a.frame way is x.1 x.2 on in
+    let put = put_on a.frame way is x.1 x.2 on in
     elim put.0 [
       | inr sent ↦ inr (
         sent.0,
-        sent_by_bad v h device link cause clock is i body (subst (λ (w : Way). receiver_of v.scenario.network link w ≡ Some device) sent.0 put.1) sent.1,
+        sent_by_bad h clock is i body (subst (λ w. receiver_of v.scenario.network link w ≡ Some device)
+            sent.0 put.1) sent.1,
       )
       | inl left ↦
-          let l = has_leg v way h device link cause clock is i body on put.1 left in
+          let l = has_leg h clock is i body on put.1 left in
           given_by l (λ g d k c t j less at to. comes v n way g d k c t is j (omega (arith, less, l.sooner, small)) at to) l.giving.note.body refl l.leg.gives
     ]
   where
@@ -276,9 +282,9 @@ comes v (suc n) way h device link cause clock is i small body on =
         → way_to v.scenario.network relay by ≡ way
     on_way sender relay by passes same from =
         let n = v.scenario.network in
-        subst (λ (d : DeviceId). way_to n d by ≡ way) same (elim passes.on [
-          | inl up ↦ (parent_ways n sender by up.0).0 ∙ sym (child_ways v sender link is up.1).1 ∙ from
-          | inr down ↦ (child_ways v sender by is down.0).0 ∙ sym (parent_ways n sender link down.1).1 ∙ from
+        subst (λ d. way_to n d by ≡ way) same (elim passes.on [
+          | inl up ↦ (parent_ways n sender by up.0).0 ∙ sym (child_ways sender link is up.1).1 ∙ from
+          | inr down ↦ (child_ways sender by is down.0).0 ∙ sym (parent_ways n sender link down.1).1 ∙ from
         ])
 
     given_by : (l : HasLeg v way h device link)
@@ -296,7 +302,7 @@ comes v (suc n) way h device link cause clock is i small body on =
             first = c.first;
             start = c.start;
             legs = c.legs ++ record { link = link; giving = l.giving; leaving = l.leaving; arriving = h } ∷ [];
-            trip = trip_more v way c.first l.giving h c.legs _ c.trip refl refl l.leg;
+            trip = trip_more c.first l.giving h c.legs c.trip refl refl l.leg;
             back = record { causes = l.leaving ∷ l.giving ∷ c.back.causes; chain = (l.left, (l.given, c.back.chain)); begins = c.back.begins };
             in_order = omega (arith, c.in_order, l.in_time);
             cycle = c.cycle ∙ kept.0;
@@ -304,8 +310,10 @@ comes v (suc n) way h device link cause clock is i small body on =
             same_channel = λ down.
                 let parent = gives_down v.scenario.network l.leg.sender link (l.leg.from_way ∙ down) in
                 elim gives.1.on [
-                  | inl up ↦ absurd (child_not_parent v l.leg.sender link is up.1 (shown_parent v.scenario.network l.leg.sender link parent))
-                  | inr both ↦ parent_channel v l.leg.sender link parent ∙ child_channel v l.leg.sender by is gives.1.relay both.0 ∙ c.same_channel down
+                  | inl up ↦ absurd (child_not_parent l.leg.sender link is up.1
+                      (shown_parent v.scenario.network l.leg.sender link parent))
+                  | inr both ↦ parent_channel v l.leg.sender link parent ∙ child_channel l.leg.sender by is
+                      gives.1.relay both.0 ∙ c.same_channel down
                 ];
           })
         ]
@@ -333,9 +341,10 @@ comes v (suc n) way h device link cause clock is i small body on =
 -- ---- up from a master
 
 -- the frame of a dispatch is that of its master
-pub dispatch_shows : (v : View) (g : Happening) (master : DeviceId) (cycle m : ℕ) → IsView v → IsIn g v.records → g.note.body ≡ notes.Sent master cycle
-    → member_of v.scenario.network master ≡ Some m → (cycle ≡ cycle_in g) × (members_in g ≡ 2 ^ m)
-dispatch_shows v g master cycle m is i body member =
+pub dispatch_shows : {v : View} (g : Happening) (master : DeviceId) (cycle m : ℕ) → IsView v → IsIn g v.records
+    → g.note.body ≡ notes.Sent master cycle → member_of v.scenario.network master ≡ Some m
+    → (cycle ≡ cycle_in g) × (members_in g ≡ 2 ^ m)
+dispatch_shows {v} g master cycle m is i body member =
     let found = founded_at v.scenario v.records g is.run.founded i in
     let framed = frame_is found _ body in (
       ap (λ (o : Option Pcf). option_map_or (λ f. f.cycle) o 0) (sym framed),
@@ -353,8 +362,9 @@ frames_up_are_of_masters v h switch link cause clock is i body up =
         → IsOfGood v h ⊎ IsOfBad v h
     of_master c (notes.Sent master cycle) same gives =
         let at = founded_at v.scenario v.records c.first is.run.founded c.start.there in
-        let m = master_member v master is (subst (IsCaused v.scenario at.front c.first.note.time) same at.due.cause).master in
-        let shown = dispatch_shows v c.first master cycle m.0 is c.start.there same m.1 in
+        let m = master_member master is (subst (IsCaused v.scenario at.front c.first.note.time) same
+        at.due.cause).master in
+        let shown = dispatch_shows c.first master cycle m.0 is c.start.there same m.1 in
         elim (is_broken v.scenario master v.until) as (λ b. is_broken v.scenario master v.until ≡ b → IsOfGood v h ⊎ IsOfBad v h) [
           | true ↦ λ bad. inr (record { master = master; bad = bad; member = m.0; is_member = m.1; members = sym c.members ∙ shown.1 })
           | false ↦ λ good. inl (record {

@@ -6,9 +6,11 @@ use Rattle.precision_law.proofs.words.Std.{◌+◌, ◌∙◌, ◌≡◌, Option
 use Rattle.run_law.specs.declared.note.NoteBody.TheVariants as notes
 
 -- the frame of an emission shows the cycle and members
-pub emission_shows : (v : View) (g : Happening) (cm : DeviceId) (opened at : Units) (cycle : ℕ) (members : Members) (verdict : Judgement) → IsView v
-    → IsIn g v.records → g.note.body ≡ notes.Compressed cm opened at cycle members verdict → (cycle ≡ cycle_in g) × (members.0 ≡ members_in g)
-emission_shows v g cm opened at cycle members verdict is i body =
+pub emission_shows : {v : View} (g : Happening) (cm : DeviceId) (opened at : Units) (cycle : ℕ) (members : Members)
+    (verdict : Judgement) → IsView v → IsIn g v.records
+    → g.note.body ≡ notes.Compressed cm opened at cycle members verdict
+    → (cycle ≡ cycle_in g) × (members.0 ≡ members_in g)
+emission_shows {v} g cm opened at cycle members verdict is i body =
     let found = founded_at v.scenario v.records g is.run.founded i in
     let framed = frame_is found _ body in
     (ap (λ (o : Option Pcf). option_map_or (λ f. f.cycle) o 0) (sym framed), ap (λ (o : Option Pcf). option_map_or (λ f. f.members.0) o 0) (sym framed))
@@ -22,9 +24,10 @@ frames_down_are_of_cms v h device link cause clock is i body down =
   where
     of_cm : (c : ComesSo v Down h link) (b : NoteBody) → c.first.note.body ≡ b → Gives v.scenario.network b c.start.sender c.start.by → IsOfCm v h
     of_cm c (notes.Sent master cycle) same gives =
-        (let wrong : Up ≡ Down = sym (child_ways v c.start.sender c.start.by is gives.1).1 ∙ c.start.from_way in absurd cc)
+        (let wrong : Up ≡ Down = sym (child_ways c.start.sender c.start.by is gives.1).1 ∙ c.start.from_way in
+        absurd cc)
     of_cm c (notes.Compressed cm opened at cycle members verdict) same gives =
-        let shown = emission_shows v c.first cm opened at cycle members verdict is c.start.there same in
+        let shown = emission_shows {v = v} c.first cm opened at cycle members verdict is c.start.there same in
         let body_is = same ∙ ap (λ (x : ℕ). notes.Compressed cm opened at x members verdict) (shown.0 ∙ c.cycle)
         ∙ ap (λ (m : ℕ). notes.Compressed cm opened at (cycle_in h) (record { 0 = m }) verdict) (shown.1 ∙ c.members) in
         record {

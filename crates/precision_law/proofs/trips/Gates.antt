@@ -4,7 +4,7 @@ use Rattle.precision_law.proofs.{block.Onward.hull_ordered, words.Plans.{Channel
 use Rattle.precision_law.proofs.words.{Blocks.{before_narrow, block_ends, old_shows}, Std.{int_rem_euclid_is, ints, le-ltb, mod-mul-add, pos, suc, ℕ, ℤ}}
 use Rattle.precision_law.proofs.words.Clocks.{frames_come_first, natural, natural_of, one_more, room, sizes_are, switches_are_good}
 use Rattle.precision_law.proofs.words.Laws.{AreOpenFrom, AreOpenOn, BlocksGoSo, IsGood, HasTimeAt, HaveRoom, Hull, IsInBlock, IsNarrow, IsOpen, IsView, ShowsIn}
-use Rattle.precision_law.proofs.words.Laws.{Sizes, View, adjustment_left, first_correction, first_dispatch, has_time, last_dispatch, state_left}
+use Rattle.precision_law.proofs.words.Laws.{Sizes, View, first_correction, first_dispatch, has_time, last_dispatch, state_left}
 use Rattle.precision_law.proofs.words.Std.{◌%◌, ◌&&◌, ◌*◌, ◌+ℤ◌, ◌+◌, ◌-◌, ◌<◌, ◌∙◌, ◌≡◌, ◌≤ℤ◌, ◌≤◌, Bool, and_right, ap, arith, cases_Bool, false, if◌then◌else◌, inl, inr, int_lt, refl, true}
 
 -- ---- a value's place in its cycle
@@ -21,23 +21,23 @@ record IsInWindow (n : Sizes) (cycle : ℕ) (shown : ℤ) : Type 0 where
   pub least : pos (cycle * n.cycle) ≤ℤ (shown +ℤ pos (2 * n.precision))
   pub most : shown ≤ℤ pos (cycle * n.cycle + n.correction)
 
-in_window : (s : Sizes) (shown : ℤ) (n u : ℕ) (hull : Hull) → HaveRoom s → IsNarrow s hull → ShowsIn s shown n hull u → first_dispatch s hull ≤ℤ pos u
-    → pos u ≤ℤ first_correction s hull → IsInWindow s (suc n) shown
-in_window s shown n u hull space narrow shows low high =
+in_window : {s : Sizes} {shown : ℤ} {n u : ℕ} {hull : Hull} → HaveRoom s → IsNarrow s hull → ShowsIn s shown n hull u
+    → first_dispatch s hull ≤ℤ pos u → pos u ≤ℤ first_correction s hull → IsInWindow s (suc n) shown
+in_window {s} {n} space narrow shows low high =
     let more = one_more n s.cycle in
     record { least = omega (arith, ints, more, narrow, shows.least, low, space); most = omega (arith, ints, more, shows.most, high, space.errors.reach_is) }
 
 -- ---- gates
 
 -- then the gate is open
-open_by : (v : View) (cycle : ℕ) (shown : ℤ) → IsView v → IsInWindow v.sizes cycle shown
+open_by : {v : View} {cycle : ℕ} {shown : ℤ} → IsView v → IsInWindow v.sizes cycle shown
     → int_lt (pos (amount v.scenario.network.correction + 2 * amount v.scenario.network.precision))
     (offset_in_cycle v.scenario.network (shown +ℤ pos (2 * amount v.scenario.network.precision))) ≡ false
-open_by v cycle shown is window =
+open_by {v} {cycle} {shown} is window =
     let n = v.scenario.network in
-    let precision = (sizes_are v is).precision in
-    let correction = (sizes_are v is).correction in
-    let length = (sizes_are v is).cycle in
+    let precision = (sizes_are is).precision in
+    let correction = (sizes_are is).correction in
+    let length = (sizes_are is).cycle in
     let product : cycle * v.sizes.cycle ≡ cycle * amount n.cycle = ap (λ (x : ℕ). cycle * x) length in
     let z = shown +ℤ pos (2 * amount n.precision) in
     let from : pos (cycle * amount n.cycle) ≤ℤ z = omega (arith, ints, product, precision, window.least) in
@@ -45,7 +45,7 @@ open_by v cycle shown is window =
     let rest : ℕ = m.0 - cycle * amount n.cycle in
     let is_rest : m.0 ≡ cycle * amount n.cycle + rest = omega (arith, ints, from, m.1) in
     let top : rest ≤ amount n.correction + 2 * amount n.precision = omega (arith, ints, product, precision, correction, window.most, m.1, is_rest) in
-    let small : rest < amount n.cycle = omega (arith, top, precision, correction, length, room v is) in
+    let small : rest < amount n.cycle = omega (arith, top, precision, correction, length, room is) in
     let some : 0 < amount n.cycle = omega (arith, small) in
     let place = placed n cycle rest m.0 z some (omega (arith, ints, is.lawful.range.cycle.least)) small is_rest m.1 in
     ap (int_lt (pos (amount n.correction + 2 * amount n.precision))) place ∙ le-ltb (amount n.correction + 2 * amount n.precision) rest top
@@ -66,9 +66,10 @@ has_it Synchronised e = refl
 has_it state e = absurd cc
 
 -- from the first dispatch to the first correction of a cycle the gates are open
-pub gate_is_open : BlocksGoSo → (v : View) (n u : ℕ) (block : IsInBlock v n u) (switch : DeviceId) → IsView v → IsGood v switch
-    → first_dispatch v.sizes block.before.hull ≤ℤ pos u → pos u ≤ℤ first_correction v.sizes block.before.hull → IsOpen v switch u
-gate_is_open goes v n u block switch is good low high =
+pub gate_is_open : BlocksGoSo → {v : View} {n u : ℕ} (block : IsInBlock v n u) (switch : DeviceId) → IsView v
+    → IsGood v switch → first_dispatch v.sizes block.before.hull ≤ℤ pos u
+    → pos u ≤ℤ first_correction v.sizes block.before.hull → IsOpen v switch u
+gate_is_open goes {v} {n} {u} block switch is good low high =
     let s = v.scenario in
     let relay = is_relay s.network switch in
     let state = state_before s v.records switch u in
@@ -77,37 +78,42 @@ gate_is_open goes v n u block switch is good low high =
       | inl so ↦
           let left = synchronised_left (is_turned_on_at s switch u) (state_left v switch u) so in
           let has : HasTimeAt v switch u = record { good = good; timed = has_it (state_left v switch u) left } in
-          let old = old_early goes v n u block switch u u is (omega (arith, ints, high, room v is), omega arith) good (omega arith) left in
-          let window = in_window v.sizes (pos (s.reading switch u) +ℤ adjustment_left v switch u) n u block.before.hull (room v is)
-          (before_narrow v n block.before) (old_shows v n u u switch block is (omega arith) has old) low high in
-          and_right (relay && is_synchronised state) _ (open_by v _ _ is window)
+          let old = old_early goes v n u block switch u u is (omega (arith, ints, high, room is), omega arith) good
+          (omega arith) left in
+          let window = in_window (room is)
+          (before_narrow block.before) (old_shows block is (omega arith) has old) low high in
+          and_right (relay && is_synchronised state) _ (open_by is window)
     ]
 
 -- so they are while a frame that is given then may travel
-pub are_open_on : BlocksGoSo → (v : View) (channel : Channel) (n w : ℕ) (block : IsInBlock v n w) → IsView v
-    → first_dispatch v.sizes block.before.hull ≤ℤ pos w → pos (w + v.sizes.dmax) ≤ℤ first_correction v.sizes block.before.hull
+pub are_open_on : BlocksGoSo → {v : View} (channel : Channel) {n w : ℕ} (block : IsInBlock v n w) → IsView v
+    → first_dispatch v.sizes block.before.hull ≤ℤ pos w
+    → pos (w + v.sizes.dmax) ≤ℤ first_correction v.sizes block.before.hull
     → w + v.sizes.dmax ≤ v.until + v.sizes.path → AreOpenOn v channel w
-are_open_on goes v channel n w block is low high in_run switch u of_channel from to =
-    let space = room v is in
-    let narrow = before_narrow v n block.before in
+are_open_on goes {v} channel {n} block is low high in_run switch u of_channel from to =
+    let space = room is in
+    let narrow = before_narrow block.before in
     let at : IsInBlock v n u = record {
       before = block.before;
       next = block.next;
       is_over = block.is_over;
       from = omega (arith, block.from, from);
-      to = omega (arith, ints, block_ends v n block.next _ block.before.is_hull block.is_over, high, to, hull_ordered v n block.before is);
+      to = omega (arith, ints, block_ends v n block.next _ block.before.is_hull block.is_over, high, to, hull_ordered n block.before is);
       in_run = omega (arith, to, in_run);
     } in
-    gate_is_open goes v n u at switch is (switches_are_good v channel switch is of_channel) (omega (arith, ints, low, from)) (omega (arith, ints, high, to))
+    gate_is_open goes {v = v} {n = n} {u = u} at switch is (switches_are_good v channel switch is of_channel)
+    (omega (arith, ints, low, from)) (omega (arith, ints, high, to))
 
-pub are_open_from : BlocksGoSo → (v : View) (n w : ℕ) (block : IsInBlock v n w) → IsView v → first_dispatch v.sizes block.before.hull ≤ℤ pos w
-    → pos (w + v.sizes.dmax) ≤ℤ first_correction v.sizes block.before.hull → w + v.sizes.dmax ≤ v.until + v.sizes.path → AreOpenFrom v w
-are_open_from goes v n w block is low high in_run = are_open_on goes v v.channel n w block is low high in_run
+pub are_open_from : BlocksGoSo → {v : View} {n w : ℕ} (block : IsInBlock v n w) → IsView v
+    → first_dispatch v.sizes block.before.hull ≤ℤ pos w
+    → pos (w + v.sizes.dmax) ≤ℤ first_correction v.sizes block.before.hull
+    → w + v.sizes.dmax ≤ v.until + v.sizes.path → AreOpenFrom v w
+are_open_from goes {v} block is low high in_run = are_open_on goes v.channel block is low high in_run
 
 -- so they are for the dispatches of the block's cycle
-pub dispatches_pass : BlocksGoSo → (v : View) (channel : Channel) (n w : ℕ) (block : IsInBlock v n w) → IsView v
+pub dispatches_pass : BlocksGoSo → {v : View} (channel : Channel) {n w : ℕ} (block : IsInBlock v n w) → IsView v
     → first_dispatch v.sizes block.before.hull ≤ℤ pos w → pos w ≤ℤ last_dispatch v.sizes block.before.hull
     → w + v.sizes.dmax ≤ v.until + v.sizes.path → AreOpenOn v channel w
-dispatches_pass goes v channel n w block is low high in_run =
-    let first = frames_come_first v.sizes block.before.hull (room v is) (before_narrow v n block.before) in
-    are_open_on goes v channel n w block is low (omega (arith, ints, high, first)) in_run
+dispatches_pass goes {v} channel block is low high in_run =
+    let first = frames_come_first v.sizes block.before.hull (room is) (before_narrow block.before) in
+    are_open_on goes channel block is low (omega (arith, ints, high, first)) in_run

@@ -5,7 +5,7 @@ use Rattle.{precision_law.proofs.words.Laws.{IsLeg, IsTrip, IsView, Leg, View}, 
 use Rattle.precision_law.proofs.words.Plans.{Channel, Device, DeviceId, Down, IsChildOf, IsPath, IsSwitchOf, IsTree, IsUplink, Joints, Link, LinkId, Master}
 use Rattle.precision_law.proofs.words.Plans.{Network, Pcf, Relay, Role, Up, Way, closed, device_at, is_end_system, link_at, opened, rules_give_trees}
 use Rattle.precision_law.proofs.words.{Plans.shape_rules, Runs.{numbered_within, rank, receiver_of, same_some, time_of, way_from, way_to, with_clock}}
-use Rattle.precision_law.proofs.words.Runs.{Happening, IsCaused, IsIn, IsParentOf, NoteBody, cause_of, channel_of, channel_of_link, cycle_in, founded_at}
+use Rattle.precision_law.proofs.words.Runs.{Happening, IsCaused, IsIn, IsParentOf, cause_of, channel_of, channel_of_link, cycle_in, founded_at}
 use Rattle.precision_law.proofs.words.Runs.{in_left, is_end, is_parent_of, is_relay, is_relay_role, members_in, number_is, numbered, numbered_in}
 use Rattle.precision_law.proofs.words.Std.{◌++◌, ◌<◌, ◌∙◌, ◌∷◌, ◌≡◌, ◌⊎◌, Bool, List, Option, Some, [], ap, arith, false, false_from_ne_true, if◌then◌else◌}
 use Rattle.run_law.specs.declared.note.NoteBody.TheVariants as notes
@@ -13,20 +13,22 @@ use Rattle.run_law.specs.declared.note.NoteBody.TheVariants as notes
 -- ---- no link leads from a device to itself
 
 -- a path never goes through a link that leads to its own device
-no_loop_on : (n : Network) (channel : Channel) (device : DeviceId) (link : LinkId) (l : Link) → IsTree n → link_at n link ≡ Some l
-    → IsUplink n channel device link → l.parent ≡ device → (links : List LinkId) → IsPath n channel device links → ⊥
-no_loop_on n channel device link l tree at up parent [] path = tree.root channel device link path up
-no_loop_on n channel device link l tree at up parent (first ∷ links) path =
+no_loop_on : {n : Network} (channel : Channel) (device : DeviceId) (link : LinkId) (l : Link) → IsTree n
+    → link_at n link ≡ Some l → IsUplink n channel device link → l.parent ≡ device → (links : List LinkId)
+    → IsPath n channel device links → ⊥
+no_loop_on channel device link l tree at up parent [] path = tree.root channel device link path up
+no_loop_on {n} channel device link l tree at up parent (first ∷ links) path =
     let m = opened (λ (k : Link). (k.child ≡ device) × IsSwitchOf n channel k.parent × IsPath n channel k.parent links) (link_at n first) path in
     let one : first ≡ link = tree.one_uplink channel device first link
     (closed (λ (k : Link). (k.child ≡ device) × IsSwitchOf n channel k.parent) (link_at n first) m.0 m.1 (m.2.0, m.2.1)) up in
-    let same : m.0 ≡ l = same_some (link_at n link) m.0 l (subst (λ (x : LinkId). link_at n x ≡ Some m.0) one m.1) at in
-    no_loop_on n channel device link l tree at up parent links
-    (subst (λ (d : DeviceId). IsPath n channel d links) (ap (λ (k : Link). k.parent) same ∙ parent) m.2.2)
+    let same : m.0 ≡ l = same_some (link_at n link) m.0 l (subst (λ x. link_at n x ≡ Some m.0) one m.1) at in
+    no_loop_on channel device link l tree at up parent links
+    (subst (λ d. IsPath n channel d links) (ap (λ (k : Link). k.parent) same ∙ parent) m.2.2)
 
 -- so no link's child is its parent
-no_loop : (v : View) (link : LinkId) (l : Link) → IsView v → link_at v.scenario.network link ≡ Some l → l.child ≡ l.parent → ⊥
-no_loop v link l is at same =
+no_loop : {v : View} (link : LinkId) (l : Link) → IsView v → link_at v.scenario.network link ≡ Some l
+    → l.child ≡ l.parent → ⊥
+no_loop {v} link l is at same =
     let n = v.scenario.network in
     let tree = rules_give_trees n (shape_rules n is.lawful.rules) in
     let joint = is.lawful.rules Joints link.0 l at in
@@ -34,18 +36,18 @@ no_loop v link l is at same =
     let member = closed (λ (d : Device). (is_end_system d.role ≡ true) ⊎ (d.channel ≡ Some joint.0)) (device_at n l.parent) p.0 p.1 (inr p.2) in
     let path = tree.reach joint.0 l.parent member in
     let up = closed (λ (k : Link). (k.child ≡ l.parent) × IsSwitchOf n joint.0 k.parent) (link_at n link) l at (same, joint.1) in
-    no_loop_on n joint.0 l.parent link l tree at up refl path.0 path.2
+    no_loop_on joint.0 l.parent link l tree at up refl path.0 path.2
 
 -- ---- parents and children
 
 -- a child of a link is not its parent
-pub child_not_parent : (v : View) (device : DeviceId) (link : LinkId) → IsView v → IsChildOf v.scenario.network device link
-    → is_parent_of v.scenario.network device link ≡ true → ⊥
-child_not_parent v device link is child shown =
+pub child_not_parent : {v : View} (device : DeviceId) (link : LinkId) → IsView v
+    → IsChildOf v.scenario.network device link → is_parent_of v.scenario.network device link ≡ true → ⊥
+child_not_parent {v} device link is child shown =
     let n = v.scenario.network in
     let l = opened (λ (k : Link). k.child ≡ device) (link_at n link) child in
     let p = opened (λ (k : Link). k.parent ≡ device) (link_at n link) (parent_shown n device link shown) in
-    no_loop v link l.0 is l.1 (l.2 ∙ sym (ap (λ (k : Link). k.parent) (same_some _ _ _ l.1 p.1) ∙ p.2))
+    no_loop link l.0 is l.1 (l.2 ∙ sym (ap (λ (k : Link). k.parent) (same_some _ _ _ l.1 p.1) ∙ p.2))
 
 -- the parent of a link receives on its way up, and gives on its way down
 pub parent_ways : (n : Network) (device : DeviceId) (link : LinkId) → IsParentOf n device link → (way_to n device link ≡ Up) × (way_from n device link ≡ Down)
@@ -54,10 +56,11 @@ parent_ways n device link parent =
     (ap (λ (b : Bool). if b then Up else Down) shown, ap (λ (b : Bool). if b then Down else Up) shown)
 
 -- its child receives on its way down, and gives on its way up
-pub child_ways : (v : View) (device : DeviceId) (link : LinkId) → IsView v → IsChildOf v.scenario.network device link
+pub child_ways : {v : View} (device : DeviceId) (link : LinkId) → IsView v → IsChildOf v.scenario.network device link
     → (way_to v.scenario.network device link ≡ Down) × (way_from v.scenario.network device link ≡ Up)
-child_ways v device link is child =
-    let hidden = false_from_ne_true (is_parent_of v.scenario.network device link) (child_not_parent v device link is child) in
+child_ways {v} device link is child =
+    let hidden =
+    false_from_ne_true (is_parent_of v.scenario.network device link) (child_not_parent device link is child) in
     (ap (λ (b : Bool). if b then Up else Down) hidden, ap (λ (b : Bool). if b then Down else Up) hidden)
 
 -- who gives on a way down is the parent
@@ -75,10 +78,11 @@ receiver_down n link device e =
     (let l = mapped (λ (l : Link). l.child) (link_at n link) device e in closed (λ (k : Link). k.child ≡ device) (link_at n link) l.0 l.1 l.2)
 
 -- it receives it on the way that it was given to
-pub receiver_way : (v : View) (link : LinkId) (device : DeviceId) (way : Way) → IsView v → receiver_of v.scenario.network link way ≡ Some device
-    → way_to v.scenario.network device link ≡ way
-receiver_way v link device Up is e = (parent_ways v.scenario.network device link (receiver_up v.scenario.network link device e)).0
-receiver_way v link device Down is e = (child_ways v device link is (receiver_down v.scenario.network link device e)).0
+pub receiver_way : {v : View} (link : LinkId) (device : DeviceId) (way : Way) → IsView v
+    → receiver_of v.scenario.network link way ≡ Some device → way_to v.scenario.network device link ≡ way
+receiver_way {v} link device Up is e =
+    (parent_ways v.scenario.network device link (receiver_up v.scenario.network link device e)).0
+receiver_way {v} link device Down is e = (child_ways device link is (receiver_down v.scenario.network link device e)).0
 
 -- ---- channels
 
@@ -94,10 +98,10 @@ relay_not_end Master e end = absurd cc
 relay_not_end role e end = absurd cc
 
 -- a child of a link is an end system, or a relay of the link's channel
-pub child_kind : (v : View) (device : DeviceId) (link : LinkId) → IsView v → IsChildOf v.scenario.network device link
-    → (is_end v.scenario.network device ≡ true) ⊎ ((x : Device) × (device_at v.scenario.network device ≡ Some x) × (x.role ≡ Relay)
-    × (x.channel ≡ channel_of_link v.scenario.network link))
-child_kind v device link is child =
+pub child_kind : {v : View} (device : DeviceId) (link : LinkId) → IsView v → IsChildOf v.scenario.network device link
+    → (is_end v.scenario.network device ≡ true) ⊎ ((x : Device) × (device_at v.scenario.network device ≡ Some x)
+    × (x.role ≡ Relay) × (x.channel ≡ channel_of_link v.scenario.network link))
+child_kind {v} device link is child =
     let n = v.scenario.network in
     let l = opened (λ (k : Link). k.child ≡ device) (link_at n link) child in
     let joint = is.lawful.rules Joints link.0 l.0 l.1 in
@@ -114,9 +118,10 @@ child_kind v device link is child =
     ]
 
 -- so a relay is of it
-pub child_channel : (v : View) (device : DeviceId) (link : LinkId) → IsView v → is_relay v.scenario.network device ≡ true
-    → IsChildOf v.scenario.network device link → channel_of v.scenario.network device ≡ channel_of_link v.scenario.network link
-child_channel v device link is relay child = elim (child_kind v device link is child) [
+pub child_channel : {v : View} (device : DeviceId) (link : LinkId) → IsView v
+    → is_relay v.scenario.network device ≡ true → IsChildOf v.scenario.network device link
+    → channel_of v.scenario.network device ≡ channel_of_link v.scenario.network link
+child_channel {v} device link is relay child = elim (child_kind device link is child) [
   | inr x ↦ ap (λ (o : Option Device). option_and_then (λ d. d.channel) o) x.1 ∙ x.3
   | inl end ↦
       let r = device_of is_relay_role (device_at v.scenario.network device) relay in
@@ -126,11 +131,12 @@ child_channel v device link is relay child = elim (child_kind v device link is c
 -- ---- trips
 
 -- a trip with one more leg
-pub trip_more : (v : View) (way : Way) (first last next : Happening) (legs : List Leg) (leg : Leg) → IsTrip v way first legs last → leg.giving ≡ last
-    → leg.arriving ≡ next → IsLeg v way leg → IsTrip v way first (legs ++ leg ∷ []) next
-trip_more v way first last next [] leg trip giving arriving is = (giving ∙ sym trip, is, arriving)
-trip_more v way first last next (l ∷ legs) leg trip giving arriving is =
-    (trip.0, trip.1, trip_more v way l.arriving last next legs leg trip.2 giving arriving is)
+pub trip_more : {v : View} {way : Way} (first last next : Happening) (legs : List Leg) {leg : Leg}
+    → IsTrip v way first legs last → leg.giving ≡ last → leg.arriving ≡ next → IsLeg v way leg
+    → IsTrip v way first (legs ++ leg ∷ []) next
+trip_more first last next [] trip giving arriving is = (giving ∙ sym trip, is, arriving)
+trip_more first last next (l ∷ legs) trip giving arriving is =
+    (trip.0, trip.1, trip_more l.arriving last next legs trip.2 giving arriving is)
 
 -- the frame keeps its cycle and members
 pub same_cycle : (h g : Happening) (frame : Pcf) (clock : ℕ) → g.frame ≡ Some frame → h.frame ≡ Some (with_clock clock frame) → (cycle_in g ≡ cycle_in h)
@@ -163,11 +169,12 @@ pub record HasLeg (v : View) (way : Way) (h : Happening) (device : DeviceId) (li
   pub clock : ℕ
   pub shows : h.frame ≡ Some (with_clock clock of_frame)
 
-pub has_leg : (v : View) (way : Way) (h : Happening) (device : DeviceId) (link : LinkId) (cause clock : ℕ) (is : IsView v) → (i : IsIn h v.records)
-    → h.note.body ≡ notes.Arrived device link cause clock → way_to v.scenario.network device link ≡ way
-    → receiver_of v.scenario.network link way ≡ Some device → IsPutAs v (founded_at v.scenario v.records h is.run.founded i).front device link cause way
+pub has_leg : {v : View} {way : Way} (h : Happening) {device : DeviceId} {link : LinkId} {cause : ℕ} (clock : ℕ)
+    (is : IsView v) (i : IsIn h v.records) → h.note.body ≡ notes.Arrived device link cause clock
+    → way_to v.scenario.network device link ≡ way → receiver_of v.scenario.network link way ≡ Some device
+    → IsPutAs v (founded_at v.scenario v.records h is.run.founded i).front device link cause way
     → HasLeg v way h device link
-has_leg v way h device link cause clock is i body on to put =
+has_leg {v} h {device} {link} {cause} clock is i body on to put =
     let s = v.scenario in
     let at = founded_at s v.records h is.run.founded i in
     let putting = put.putting in
@@ -201,8 +208,8 @@ has_leg v way h device link cause clock is i body on to put =
         on_way = on;
         comes_to = to;
       };
-      left = ap (λ (b : NoteBody). numbered v.records (cause_of b)) body ∙ numbered_all at cause putting put.there;
-      given = ap (λ (b : NoteBody). numbered v.records (cause_of b)) put.left ∙ numbered_all at_l put.given giving departs.there;
+      left = ap (λ b. numbered v.records (cause_of b)) body ∙ numbered_all at cause putting put.there;
+      given = ap (λ b. numbered v.records (cause_of b)) put.left ∙ numbered_all at_l put.given giving departs.there;
       sooner = omega (arith, numbered_within at.front cause _ put.there, numbered_within at_l.front put.given _ departs.there);
       in_time = omega (arith, departs.held, later);
       of_frame = departs.frame;

@@ -22,13 +22,14 @@ gives_low n other device link g = absurd g
 -- ---- what is taken
 
 -- what is taken without a fault waits, is passed on, or both
-taken_by : (s : Scenario) (hs : List Happening) (device : DeviceId) (t : ℕ) (link : LinkId) (cause : ℕ) (frame : Pcf) (point : Units) (relay parent : Bool)
-    → ArrivesAs s hs device t link cause
-    (if relay then (if parent then arrivals.Passes frame Up else arrivals.PassesAndWaits frame Down point) else arrivals.Waits frame point)
-    → IsArrivedRecord s hs device t link cause frame.clock
-taken_by s hs device t link cause frame point true true a = record { frame = frame; point = point; way = Up; taken = inr (inl a); shows = refl }
-taken_by s hs device t link cause frame point true false a = record { frame = frame; point = point; way = Down; taken = inr (inr a); shows = refl }
-taken_by s hs device t link cause frame point false parent a = record { frame = frame; point = point; way = Up; taken = inl a; shows = refl }
+taken_by : {s : Scenario} {hs : List Happening} {device : DeviceId} {t : ℕ} {link : LinkId} {cause : ℕ} (frame : Pcf)
+    (point : Units) (relay parent : Bool) → ArrivesAs s hs device t link cause
+    (if relay then (if parent then arrivals.Passes frame Up else arrivals.PassesAndWaits frame Down point) else
+    arrivals.Waits frame point) → IsArrivedRecord s hs device t link cause frame.clock
+taken_by frame point true true a = record { frame = frame; point = point; way = Up; taken = inr (inl a); shows = refl }
+taken_by frame point true false a =
+    record { frame = frame; point = point; way = Down; taken = inr (inr a); shows = refl }
+taken_by frame point false parent a = record { frame = frame; point = point; way = Up; taken = inl a; shows = refl }
 
 abbrev standpoint_by : Scenario → DeviceId → ℕ → List Happening → Standpoint
 standpoint_by s device t es = record {
@@ -70,37 +71,41 @@ pub record HasGone (v : View) (way : Way) (r : Happening) (frame : Pcf) (receive
   pub grows : 10 ^ 9 * clock ≤ 10 ^ 9 * frame.clock + 10 ^ 9 * delay_by l + v.scenario.network.rho * delay_by l + 2 * amount v.scenario.network.grain * 10 ^ 9
 
 -- how long it takes
-pub takes_at_most : (v : View) (way : Way) (link : LinkId) (l : Link) (t : ℕ) → IsView v → link_at v.scenario.network link ≡ Some l
-    → (arrives_at v.scenario link way t ≤ t + delay_by l) × (leaves_at v.scenario link way t < arrives_at v.scenario link way t)
-takes_at_most v way link l t is there =
+pub takes_at_most : {v : View} (way : Way) (link : LinkId) (l : Link) (t : ℕ) → IsView v
+    → link_at v.scenario.network link ≡ Some l → (arrives_at v.scenario link way t ≤ t + delay_by l)
+    × (leaves_at v.scenario link way t < arrives_at v.scenario link way t)
+takes_at_most {v} way link l t is there =
     let known : IsLinkInRange v.scenario.network l = all_at (IsLinkInRange v.scenario.network) v.scenario.network.link link.0 l is.lawful.range.links there in
     let hold = hold_most v.scenario link l way t is.lawful there known.hold.least in
-    let delay = delay_is v link l way (leaves_at v.scenario link way t) is there in
+    let delay = delay_is link l way (leaves_at v.scenario link way t) is there in
     (omega (arith, hold, delay.1), omega (arith, delay_least v.scenario link l way (leaves_at v.scenario link way t) is.lawful there known.wire.least))
 
 -- over a way that is whole a frame comes from a correct sender
-pub goes_over : (v : View) (way : Way) (r : Happening) (frame : Pcf) (sender receiver : DeviceId) (link : LinkId) (l : Link) → IsView v
-    → IsGivenOn v way r frame sender receiver link l → is_broken v.scenario sender (leaves_at v.scenario link way (time_of r)) ≡ false
-    → is_cut v.scenario link way (leaves_at v.scenario link way (time_of r)) ≡ false
-    → ((clock : ℕ) → 10 ^ 9 * clock ≤ 10 ^ 9 * frame.clock + 10 ^ 9 * delay_by l + v.scenario.network.rho * delay_by l + 2 * amount
+pub goes_over : {v : View} {way : Way} {r : Happening} {frame : Pcf} {sender receiver : DeviceId} {link : LinkId}
+    {l : Link} → IsView v → IsGivenOn v way r frame sender receiver link l
+    → is_broken v.scenario sender (leaves_at v.scenario link way (time_of r)) ≡ false
+    → is_cut v.scenario link way (leaves_at v.scenario link way (time_of r)) ≡ false →
+    ((clock : ℕ)
+    → 10 ^ 9 * clock ≤ 10 ^ 9 * frame.clock + 10 ^ 9 * delay_by l + v.scenario.network.rho * delay_by l + 2 * amount
     v.scenario.network.grain * 10 ^ 9 → clock ≤ amount v.scenario.network.dmax)
     → ((clock : ℕ) → clock + wire_of v.scenario.network link ≤ amount v.scenario.network.dmax
-    → frame_fault v.scenario.network receiver link (standpoint v.scenario v.records receiver (arrives_at v.scenario link way (time_of r)))
-    (with_clock clock frame) ≡ None) → arrives_at v.scenario link way (time_of r) ≤ v.until → HasGone v way r frame receiver link l
-goes_over v way r frame sender receiver link l is g correct uncut young fair in_run =
+    → frame_fault v.scenario.network receiver link (standpoint v.scenario v.records receiver (arrives_at v.scenario
+    link way (time_of r))) (with_clock clock frame) ≡ None) → arrives_at v.scenario link way (time_of r) ≤ v.until
+    → HasGone v way r frame receiver link l
+goes_over {v} {way} {r} {frame} {sender} {receiver} {link} {l} is g correct uncut young fair in_run =
     let s = v.scenario in
     let n = s.network in
     let hs = v.records in
     let t : ℕ = leaves_at s link way (time_of r) in
     let u : ℕ = arrives_at s link way (time_of r) in
-    let takes = takes_at_most v way link l (time_of r) is g.there in
+    let takes = takes_at_most way link l (time_of r) is g.there in
     let known : IsLinkInRange n l = all_at (IsLinkInRange n) n.link link.0 l is.lawful.range.links g.there in
     let held = hold_most s link l way (time_of r) is.lawful g.there known.hold.least in
     let nominal : wire_of n link ≡ amount l.wire = ap (λ (o : Option Link). option_map_or (λ k. amount k.wire) o 0) g.there in
     let seen : ℕ = s.reading sender t - s.reading sender (time_of r) in
     let clock : ℕ = clock_at_leaving s sender frame (time_of r) t in
     let hold_is : t - time_of r ≡ hold_at s link way (time_of r) = omega arith in
-    let measures = subst (λ (x : ℕ). Measures n.rho (amount n.grain) x seen) hold_is ((is.lawful.clocks sender).drifts (time_of r) t (omega arith)) in
+    let measures = subst (λ x. Measures n.rho (amount n.grain) x seen) hold_is ((is.lawful.clocks sender).drifts (time_of r) t (omega arith)) in
     let drift : n.rho * hold_at s link way (time_of r) ≤ n.rho * delay_by l = mul-le-mul_left n.rho (omega (arith, held)) in
     let then_clock : ℕ = clock + wire_of n link in
     let grows_so : 10 ^ 9 * then_clock ≤ 10 ^ 9 * frame.clock + 10 ^ 9 * delay_by l + n.rho * delay_by l + 2 * amount n.grain * 10 ^ 9 =
@@ -114,21 +119,22 @@ goes_over v way r frame sender receiver link l is g correct uncut young fair in_
     (in_front_of {place = place_of} {ns = hs} {p = t ∷ 8 ∷ sender.0 ∷ link.0 ∷ r.note.number ∷ []} at r g.given
     sooner) in
     let old : nat_lt (amount n.dmax) clock ≡ false = le-ltb (amount n.dmax) clock (omega (arith, small)) in
-    let cut : is_cut s link (way_from n sender link) t ≡ false = ap (λ (w : Way). is_cut s link w t) g.from_way ∙ uncut in
+    let cut : is_cut s link (way_from n sender link) t ≡ false = ap (λ w. is_cut s link w t) g.from_way ∙ uncut in
     let departs : Departs s at.front sender t link r.note.number (leaves clock) = record {
       giving = r;
       there = found;
       gives = g.gives;
       frame = frame;
       of_frame = g.of_frame;
-      held = ap (λ (w : Way). time_of r + hold_at s link w (time_of r)) (sym g.from_way);
+      held = ap (λ w. time_of r + hold_at s link w (time_of r)) (sym g.from_way);
       correct = correct;
       becomes =
           sym (ap (λ (b : Bool). if b then too_old else (if is_cut s link (way_from n sender link) t then on_cut_way else leaves clock)) old
           ∙ ap (λ (b : Bool). if b then on_cut_way else leaves clock) cut);
     } in
     let leaving : Happening = happening n at.front (next_note at.front t (notes.Left sender link r.note.number clock)) in
-    let left_there = due_there v t (notes.Left sender link r.note.number clock) _ at is (omega (arith, takes.1, in_run)) refl departs in
+    let left_there = due_there {v = v} t (notes.Left sender link r.note.number clock) at is
+    (omega (arith, takes.1, in_run)) refl departs in
     let left_frame : leaving.frame ≡ Some (with_clock clock frame) = clocked clock _ r frame found g.of_frame in
     let by = split place_of (IsDue s) hs (u ∷ 2 ∷ receiver.0 ∷ link.0 ∷ leaving.note.number ∷ []) is.run.founded in
     let front_by = front_founded place_of (IsDue s) by.front by.rest (subst (IsFounded place_of (IsDue s)) by.whole is.run.founded) in
@@ -138,9 +144,9 @@ goes_over v way r frame sender receiver link l is g correct uncut young fair in_
     grind (arith, option_map, way_from, n, control, left_frame, with_clock, clock) in
     let stands =
     ap (standpoint_by s receiver u) (same_earlier u (2 ∷ receiver.0 ∷ link.0 ∷ leaving.note.number ∷ []) by) in
-    let no_fault = ap (λ (p : Standpoint). frame_fault n receiver link p (with_clock clock frame)) stands ∙ fair clock small in
+    let no_fault = ap (λ p. frame_fault n receiver link p (with_clock clock frame)) stands ∙ fair clock small in
     let arrived : IsArrivedRecord s by.front receiver u link leaving.note.number then_clock =
-    taken_by s by.front receiver u link leaving.note.number (with_clock then_clock frame) (point_on_arrival n (standpoint s by.front receiver u) then_clock)
+    taken_by {s = s} {hs = by.front} {device = receiver} {t = u} {link = link} {cause = leaving.note.number} (with_clock then_clock frame) (point_on_arrival n (standpoint s by.front receiver u) then_clock)
     (is_relay n receiver) (is_parent_of n receiver link) (record {
       putting = leaving;
       there = found_by;
@@ -149,7 +155,7 @@ goes_over v way r frame sender receiver link l is g correct uncut young fair in_
       becomes = ap (frame_or_fault n receiver link (standpoint s by.front receiver u) (with_clock clock frame)) (sym no_fault);
     }) in
     let arriving : Happening = happening n by.front (next_note by.front u (notes.Arrived receiver link leaving.note.number then_clock)) in
-    let there = due_there v u (notes.Arrived receiver link leaving.note.number then_clock) _ by is in_run refl arrived in
+    let there = due_there u (notes.Arrived receiver link leaving.note.number then_clock) by is in_run refl arrived in
     record {
       leaving = leaving;
       arriving = arriving;

@@ -29,7 +29,7 @@ clocked clock o g frame there framed =
 -- the record of a number before another one is that of all
 pub numbered_all : {s : Scenario} {hs : List Happening} {h : Happening} (at : IsFoundedAt s hs h) (n : ℕ) (g : Happening) → numbered at.front n ≡ Some g
     → numbered hs n ≡ Some g
-numbered_all {h = h} at n g there = subst (λ (hs : List Happening). numbered hs n ≡ Some g) (sym at.whole) (numbered_front at.front (h ∷ at.rest) n g there)
+numbered_all {h = h} at n g there = subst (λ hs. numbered hs n ≡ Some g) (sym at.whole) (numbered_front at.front (h ∷ at.rest) n g there)
 
 -- the leg of a frame, as a hop: what it is held and what of this is measured, the wire and the delay
 pub record HasHop (v : View) (leg : Leg) : Type 0 where
@@ -47,9 +47,9 @@ pub record HasHop (v : View) (leg : Leg) : Type 0 where
 abbrev pub IsDelay : Link → ℕ → Type 0
 IsDelay l d = (amount l.wire ≤ d) × (d ≤ amount l.wire + amount l.jitter)
 
-set_delay : (v : View) (link : LinkId) (l : Link) (way : Way) → IsView v → link_at v.scenario.network link ≡ Some l → (e : Event) → IsIn e v.scenario.events
-    → (d : ℕ) → wire_set link way e.what ≡ Some d → IsDelay l d
-set_delay v link l way is there e i d set =
+set_delay : {v : View} (link : LinkId) (l : Link) (way : Way) → IsView v → link_at v.scenario.network link ≡ Some l
+    → (e : Event) → IsIn e v.scenario.events → (d : ℕ) → wire_set link way e.what ≡ Some d → IsDelay l d
+set_delay {v} link l way is there e i d set =
     let n = v.scenario.network in
     let w = sets_wire link way e.what d set in
     let range : IsLinkInRange n l = all_at (IsLinkInRange n) n.link link.0 l is.lawful.range.links there in
@@ -67,11 +67,12 @@ set_delay v link l way is there e i d set =
     let c = w.sets in
     (omega (arith, ints, enough, a, b, c), omega (arith, ints, small, enough, a, b, c))))
 
-pub delay_is : (v : View) (link : LinkId) (l : Link) (way : Way) (t : ℕ) → IsView v → link_at v.scenario.network link ≡ Some l
-    → IsDelay l (delay_at v.scenario link way t)
-delay_is v link l way t is there =
+pub delay_is : {v : View} (link : LinkId) (l : Link) (way : Way) (t : ℕ) → IsView v
+    → link_at v.scenario.network link ≡ Some l → IsDelay l (delay_at v.scenario link way t)
+delay_is {v} link l way t is there =
     let nominal : wire_of v.scenario.network link ≡ amount l.wire = ap (λ (o : Option Link). option_map_or (λ k. amount k.wire) o 0) there in
-    last_is (IsDelay l) v.scenario (wire_set link way) (wire_of v.scenario.network link) t (omega arith, omega arith) (set_delay v link l way is there)
+    last_is (IsDelay l) v.scenario (wire_set link way) (wire_of v.scenario.network link) t (omega arith, omega arith)
+    (set_delay link l way is there)
 
 -- ---- arrivals
 
@@ -138,8 +139,9 @@ pub record LeavingIs (v : View) (leg : Leg) (sender : DeviceId) (left_clock : �
   pub clock : left_clock ≡ frame.clock + (v.scenario.reading sender (time_of leg.leaving) - v.scenario.reading sender (time_of leg.giving))
   pub left_frame : leg.leaving.frame ≡ Some (with_clock left_clock frame)
 
-pub leaving_is : (v : View) (way : Way) (leg : Leg) → IsView v → (is_leg : IsLeg v way leg) → LeavingIs v leg is_leg.sender is_leg.left_clock
-leaving_is v way leg is l =
+pub leaving_is : {v : View} {way : Way} {leg : Leg} → IsView v → (is_leg : IsLeg v way leg)
+    → LeavingIs v leg is_leg.sender is_leg.left_clock
+leaving_is {v} {leg} is l =
     let s = v.scenario in
     let at = founded_at s v.records leg.leaving is.run.founded l.left in
     let departs = subst (IsCaused s at.front leg.leaving.note.time) l.leaves at.due.cause in
@@ -170,9 +172,9 @@ record ArrivingIs (v : View) (leg : Leg) (left arrived_clock : ℕ) : Type 0 whe
   pub clock : arrived_clock ≡ left + wire_of v.scenario.network leg.link
   pub young : arrived_clock ≤ amount v.scenario.network.dmax
 
-arriving_is : (v : View) (way : Way) (leg : Leg) (is : IsView v) (l : IsLeg v way leg) (frame : Pcf) → leg.leaving.frame ≡ Some frame
-    → ArrivingIs v leg frame.clock l.arrived_clock
-arriving_is v way leg is l frame framed =
+arriving_is : {v : View} {way : Way} {leg : Leg} (is : IsView v) (l : IsLeg v way leg) (frame : Pcf)
+    → leg.leaving.frame ≡ Some frame → ArrivingIs v leg frame.clock l.arrived_clock
+arriving_is {v} {way} {leg} is l frame framed =
     let s = v.scenario in
     let at = founded_at s v.records leg.arriving is.run.founded l.arrived in
     let a = subst (IsCaused s at.front leg.arriving.note.time) l.arrives at.due.cause in
@@ -182,14 +184,14 @@ arriving_is v way leg is l frame framed =
     (numbered_all at leg.leaving.note.number comes.putting comes.there) (by_number s v.records leg.leaving is.run.founded l.left) in
     let launch : Launch = record { link = leg.link; way = comes.arrives.way; signal = comes.signal } in
     let put = subst (λ (h : Happening). launched s h (time_of h) h.note.body ≡ Some launch) same comes.arrives.put in
-    let put_left = subst (λ (b : NoteBody). launched s leg.leaving (time_of leg.leaving) b ≡ Some launch) l.leaves put in
+    let put_left = subst (λ b. launched s leg.leaving (time_of leg.leaving) b ≡ Some launch) l.leaves put in
     let on_wire = mapped (λ (f : Pcf). let x : Launch = record { link = leg.link; way = way_from s.network l.sender leg.link; signal = control (Ok f) } in x)
     leg.leaving.frame launch put_left in
     let signal : comes.signal ≡ control (Ok frame) =
     ap (λ (x : Launch). x.signal) (sym on_wire.2) ∙ ap (λ (f : Pcf). control (Ok f)) (same_some _ _ _ on_wire.1 framed) in
     let arrival = comes.becomes ∙ ap (arrival_of s at.front l.receiver (time_of leg.arriving) leg.link leg.leaving.note.number) signal in
     let young = taken_sound s.network l.receiver leg.link (standpoint s at.front l.receiver (time_of leg.arriving)) frame a.frame
-    (subst (λ (y : Arrival). TakesWith y a.frame) arrival x.2) in
+    (subst (λ y. TakesWith y a.frame) arrival x.2) in
     let put_time : time_of comes.putting ≡ time_of leg.leaving = ap time_of same in
     record {
       delay = delay_at s leg.link comes.arrives.way (time_of leg.leaving);
@@ -201,9 +203,9 @@ arriving_is v way leg is l frame framed =
     }
 
 -- the frame that arrived
-pub arrived_frame : (v : View) (way : Way) (leg : Leg) (frame : Pcf) → IsView v → (l : IsLeg v way leg) → leg.leaving.frame ≡ Some frame
-    → leg.arriving.frame ≡ Some (with_clock l.arrived_clock frame)
-arrived_frame v way leg frame is l framed =
+pub arrived_frame : {v : View} {way : Way} {leg : Leg} (frame : Pcf) → IsView v → (l : IsLeg v way leg)
+    → leg.leaving.frame ≡ Some frame → leg.arriving.frame ≡ Some (with_clock l.arrived_clock frame)
+arrived_frame {v} {leg} frame is l framed =
     let s = v.scenario in
     let at = founded_at s v.records leg.arriving is.run.founded l.arrived in
     let a = subst (IsCaused s at.front leg.arriving.note.time) l.arrives at.due.cause in
@@ -213,24 +215,27 @@ arrived_frame v way leg frame is l framed =
     frame_is at _ l.arrives ∙ clocked l.arrived_clock _ put.putting frame put.there (ap (λ (h : Happening). h.frame) same ∙ framed)
 
 -- what a leg brings is what was given, but for its clock
-pub leg_frame : (v : View) (way : Way) (leg : Leg) (frame : Pcf) → IsView v → IsLeg v way leg → leg.giving.frame ≡ Some frame → (clock : ℕ)
-    × (leg.arriving.frame ≡ Some (with_clock clock frame))
-leg_frame v way leg frame is l framed =
-    let d = leaving_is v way leg is l in
-    (l.arrived_clock, (arrived_frame v _ _ _ is l d.left_frame) ∙ ap (λ (f : Pcf). Some (with_clock l.arrived_clock f)) (same_some _ _ _ d.of_frame framed))
+pub leg_frame : {v : View} {way : Way} {leg : Leg} (frame : Pcf) → IsView v → IsLeg v way leg
+    → leg.giving.frame ≡ Some frame → (clock : ℕ) × (leg.arriving.frame ≡ Some (with_clock clock frame))
+leg_frame frame is l framed =
+    let d = leaving_is is l in
+    (l.arrived_clock, (arrived_frame _ is l d.left_frame) ∙ ap (λ f. Some (with_clock l.arrived_clock f)) (same_some _ _ _ d.of_frame framed))
 
 -- a leg is a hop
-pub leg_hop : (v : View) (way : Way) (leg : Leg) (link : Link) → IsView v → IsLeg v way leg → link_at v.scenario.network leg.link ≡ Some link → HasHop v leg
-leg_hop v way leg link is l there =
+pub leg_hop : {v : View} {way : Way} {leg : Leg} (link : Link) → IsView v → IsLeg v way leg
+    → link_at v.scenario.network leg.link ≡ Some link → HasHop v leg
+leg_hop {v} {leg} link is l there =
     let n = v.scenario.network in
-    let d = leaving_is v way leg is l in
-    let a = arriving_is v way leg is l (with_clock l.left_clock d.frame) d.left_frame in
-    let clock = ap (λ (o : Option Pcf). option_map_or (λ f. f.clock) o 0) (arrived_frame v way leg (with_clock l.left_clock d.frame) is l d.left_frame) in
+    let d = leaving_is is l in
+    let a = arriving_is is l (with_clock l.left_clock d.frame) d.left_frame in
+    let clock = ap (λ (o : Option Pcf). option_map_or (λ f. f.clock) o 0)
+    (arrived_frame (with_clock l.left_clock d.frame) is l d.left_frame) in
     let given : clock_in leg.giving ≡ d.frame.clock = ap (λ (o : Option Pcf). option_map_or (λ f. f.clock) o 0) d.of_frame in
     let reading = v.scenario.reading l.sender in
     let drifts = (is.lawful.clocks l.sender).drifts (time_of leg.giving) (time_of leg.leaving) (omega (arith, d.held)) in
     let hold : time_of leg.leaving - time_of leg.giving ≡ d.hold = omega (arith, d.held) in
-    let within : IsDelay link a.delay = subst (IsDelay link) (sym a.is_delay) (delay_is v leg.link link a.way (time_of leg.leaving) is there) in
+    let within : IsDelay link a.delay =
+    subst (IsDelay link) (sym a.is_delay) (delay_is leg.link link a.way (time_of leg.leaving) is there) in
     let wire : wire_of n leg.link ≡ amount link.wire = ap (λ (o : Option Link). option_map_or (λ k. amount k.wire) o 0) there in
     let jitter = ap (λ (o : Option Link). option_map_or (λ k. amount k.jitter) o 0) there in
     record {
@@ -242,7 +247,7 @@ leg_hop v way leg link is l there =
         delay = a.delay;
       };
       is = record {
-        measures = subst (λ (x : ℕ). Measures n.rho (amount n.grain) x (reading (time_of leg.leaving) - reading (time_of leg.giving))) hold drifts;
+        measures = subst (λ x. Measures n.rho (amount n.grain) x (reading (time_of leg.leaving) - reading (time_of leg.giving))) hold drifts;
         least = omega (arith, within.0, wire);
         most = omega (arith, within.1, wire, jitter);
       };
@@ -265,15 +270,15 @@ pub record SaysSo (h : Happening) (frame : Pcf) : Type 0 where
   pub of_members : carried.members ≡ frame.members
 
 -- so is that of the last record of a trip
-pub trip_says : (v : View) (way : Way) (first last : Happening) (legs : List Leg) (frame : Pcf) → IsView v → IsTrip v way first legs last
-    → first.frame ≡ Some frame → SaysSo last frame
-trip_says v way first last [] frame is trip framed = record {
+pub trip_says : {v : View} (way : Way) (first last : Happening) (legs : List Leg) (frame : Pcf) → IsView v
+    → IsTrip v way first legs last → first.frame ≡ Some frame → SaysSo last frame
+trip_says way first last [] frame is trip framed = record {
   carried = frame;
   is = ap (λ (h : Happening). h.frame) (sym trip) ∙ framed;
   of_cycle = refl;
   of_members = refl;
 }
-trip_says v way first last (leg ∷ legs) frame is trip framed =
-    let one = leg_frame v way leg frame is trip.1 (ap (λ (h : Happening). h.frame) trip.0 ∙ framed) in
-    let more = trip_says v way leg.arriving last legs (with_clock one.0 frame) is trip.2 one.1 in
+trip_says way first last (leg ∷ legs) frame is trip framed =
+    let one = leg_frame frame is trip.1 (ap (λ (h : Happening). h.frame) trip.0 ∙ framed) in
+    let more = trip_says way leg.arriving last legs (with_clock one.0 frame) is trip.2 one.1 in
     record { carried = more.carried; is = more.is; of_cycle = more.of_cycle; of_members = more.of_members }

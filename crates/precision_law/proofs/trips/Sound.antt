@@ -18,32 +18,35 @@ state_is_on : (s : _) (ps : List Happening) (t : ℕ) (device : DeviceId) (state
 state_is_on s ps t device state cause whys.On c = ap is_off c.0
 state_is_on s ps t device state cause why c = ap is_off c.0
 
-stays_on : (v : View) (device : DeviceId) (h : Happening) (old : State) (body : NoteBody) → IsView v → IsIn h v.records → h.note.body ≡ body
-    → is_off old ≡ false → is_off (state_with device old body) ≡ false
-stays_on v device h old (notes.State other state cause why) is i same on =
+stays_on : {v : View} (device : DeviceId) (h : Happening) (old : State) (body : NoteBody) → IsView v
+    → IsIn h v.records → h.note.body ≡ body → is_off old ≡ false → is_off (state_with device old body) ≡ false
+stays_on {v} device h old (notes.State other state cause why) is i same on =
     let at = founded_at v.scenario v.records h is.run.founded i in
     let changes : ChangesState v.scenario at.front other (time_of h) state cause why = subst (IsCaused v.scenario at.front h.note.time) same at.due.cause in
     elim (device.0 == other.0) as (λ b. is_off (if b then state else old) ≡ false) [
       | true ↦ state_is_on v.scenario at.front (time_of h) other state cause why changes
       | false ↦ on
     ]
-stays_on v device h old body is i same on = joined_or (is_joined_by device body) old on
+stays_on device h old body is i same on = joined_or (is_joined_by device body) old on
 
-fold_on : (v : View) (device : DeviceId) (hs : List Happening) (old : State) → IsView v → ((h : Happening) → IsIn h hs → IsIn h v.records) → is_off old ≡ false
+fold_on : {v : View} (device : DeviceId) (hs : List Happening) (old : State) → IsView v
+    → ((h : Happening) → IsIn h hs → IsIn h v.records) → is_off old ≡ false
     → is_off (fold (λ state h. state_with device state h.note.body) old hs) ≡ false
-fold_on v device [] old is all on = on
-fold_on v device (h ∷ hs) old is all on =
-    fold_on v device hs (state_with device old h.note.body) is (λ g i. all g (inr i)) (stays_on v device h old h.note.body is (all h (inl refl)) refl on)
+fold_on device [] old is all on = on
+fold_on device (h ∷ hs) old is all on =
+    fold_on device hs (state_with device old h.note.body) is (λ g i. all g (inr i))
+    (stays_on device h old h.note.body is (all h (inl refl)) refl on)
 
 starts_on : (network : Network) (device : DeviceId) → BeginsOn network device → is_off (state_at_start (start_of network device)) ≡ false
 starts_on network device on = grind (arith, device_at, is_off, state_at_start, option_and_then)
 
-pub sound_switch_on : (v : View) (device : DeviceId) (t : ℕ) → IsView v → IsSoundSwitch v device → is_off (state_before v.scenario v.records device t) ≡ false
-sound_switch_on v device t is switch =
+pub sound_switch_on : {v : View} (device : DeviceId) (t : ℕ) → IsView v → IsSoundSwitch v device
+    → is_off (state_before v.scenario v.records device t) ≡ false
+sound_switch_on {v} device t is switch =
     let starts = starts_on v.scenario.network device (sound_switches_begin_on v device is switch) in
     elim (is_turned_on_at v.scenario device t) as (λ b. is_off (if b then Integrating else state_after v.scenario (earlier t v.records) device) ≡ false) [
       | true ↦ refl
-      | false ↦ fold_on v device (earlier t v.records) (state_at_start (start_of v.scenario.network device)) is
+      | false ↦ fold_on device (earlier t v.records) (state_at_start (start_of v.scenario.network device)) is
           (λ h i. in_filter (λ h. nat_lt (time_of h) t) v.records h i) starts
     ]
 
@@ -72,11 +75,14 @@ abbrev pub IsReady : View → DeviceId → ℕ → Type 0
 IsReady v device t0 =
     (u : ℕ) → t0 ≤ u → u + v.sizes.path ≤ t0 + v.sizes.dmax → (is_off (state_before v.scenario v.records device u) ≡ false) × IsOpen v device u
 
-pub no_fault : (v : View) (device : DeviceId) (link : LinkId) (u clock : ℕ) (frame : Pcf) → IsView v → IsClean v.scenario.network frame → IsGood v device
-    → u ≤ v.until → is_off (state_before v.scenario v.records device u) ≡ false → IsOpen v device u
-    → is_of_other_member v.scenario.network device link frame.members ≡ false → clock + wire_of v.scenario.network link ≤ amount v.scenario.network.dmax
-    → frame_fault v.scenario.network device link (standpoint v.scenario v.records device u) (with_clock clock frame) ≡ None
-no_fault v device link u clock frame is clean good within on is_open member small =
+pub no_fault : {v : View} (device : DeviceId) (link : LinkId) (u clock : ℕ) {frame : Pcf} → IsView v
+    → IsClean v.scenario.network frame → IsGood v device → u ≤ v.until
+    → is_off (state_before v.scenario v.records device u) ≡ false → IsOpen v device u
+    → is_of_other_member v.scenario.network device link frame.members ≡ false
+    → clock + wire_of v.scenario.network link ≤ amount v.scenario.network.dmax
+    → frame_fault v.scenario.network device link (standpoint v.scenario v.records device u) (with_clock clock frame)
+    ≡ None
+no_fault device link u clock is clean good within on is_open member small =
     grind (arith, standpoint, none_holds, taking_part, good_is_correct, is_cold_start, same_domain, le-ltb, amount, wire_of)
 
 -- ---- permanence
@@ -88,13 +94,14 @@ pub record WillBePermanent (v : View) (last : Happening) (device : DeviceId) (cl
   pub permanent : IsPermanentAt v last device point q
   pub same : permanent.clock ≡ clock
 
-pub will_be_permanent : (v : View) (last : Happening) (device : DeviceId) (link : LinkId) (cause clock : ℕ) → IsView v
-    → last.note.body ≡ notes.Arrived device link cause clock → clock ≤ v.sizes.dmax → WillBePermanent v last device clock
-will_be_permanent v last device link cause clock is body small =
+pub will_be_permanent : {v : View} (last : Happening) (device : DeviceId) (link : LinkId) (cause clock : ℕ)
+    → IsView v → last.note.body ≡ notes.Arrived device link cause clock → clock ≤ v.sizes.dmax
+    → WillBePermanent v last device clock
+will_be_permanent {v} last device link cause clock is body small =
     let reading = v.scenario.reading device in
     let a : ℕ = time_of last in
     let point : ℤ = point_of (pos (reading a)) clock (pos v.sizes.dmax) in
-    let space = room v is in
+    let space = room is in
     let of_reach : (q : ℕ) → IsReach reading (pos a) point (pos q) → WillBePermanent v last device clock = λ q reach.
     record {
       point = point;

@@ -34,17 +34,19 @@ pub record HasCome (v : View) (way : Way) (t0 : ℕ) (r : Happening) (frame : Pc
 -- the delay of a path is that of its first link and of the others
 pub delay_more : (n : Network) (link : LinkId) (l : Link) (rest : List LinkId) → link_at n link ≡ Some l
     → delay_on n (link ∷ rest) ≡ delay_by l + delay_on n rest
-delay_more n link l rest at = sum_by-cons (delay_of n) link rest ∙ ap (λ (x : ℕ). x + delay_on n rest) (ap (λ (o : Option Link). option_map_or delay_by o 0) at)
+delay_more n link l rest at = sum_by-cons (delay_of n) link rest ∙ ap (λ x. x + delay_on n rest) (ap (λ (o : Option Link). option_map_or delay_by o 0) at)
 
 -- so it does, where its path is no longer than others
-pub comes_over : (v : View) (channel : Channel) (way : Way) (t0 : ℕ) (r : Happening) (frame : Pcf) (sender receiver : DeviceId) (link : LinkId) (l : Link) (d k : ℕ)
-    (is : IsView v) → IsWholeFrom v channel t0 → IsUnderWay v channel way t0 r frame sender receiver link l d k → v.sizes.path + (d + delay_by l) ≤ v.sizes.dmax → k + 1 ≤ is.beta.links
-    → t0 + v.sizes.dmax + v.sizes.path ≤ v.until → HasCome v way t0 r frame receiver link l d k
-comes_over v channel way t0 r frame sender receiver link l d k is intact c fits few in_run =
+pub comes_over : {v : View} {channel : Channel} {way : Way} {t0 : ℕ} {r : Happening} {frame : Pcf}
+    {sender receiver : DeviceId} {link : LinkId} {l : Link} {d k : ℕ} (is : IsView v) → IsWholeFrom v channel t0
+    → IsUnderWay v channel way t0 r frame sender receiver link l d k → v.sizes.path + (d + delay_by l) ≤ v.sizes.dmax
+    → k + 1 ≤ is.beta.links → t0 + v.sizes.dmax + v.sizes.path ≤ v.until
+    → HasCome v way t0 r frame receiver link l d k
+comes_over {v} {channel} {way} {t0} {r} {frame} {sender} {receiver} {link} {l} {d} {k} is intact c fits few in_run =
     let n = v.scenario.network in
-    let takes = takes_at_most v way link l (time_of r) is c.given.there in
+    let takes = takes_at_most way link l (time_of r) is c.given.there in
     let value : v.sizes.path ≡ beta_at n is.beta.jitter is.beta.links = omega (arith, ints, is.beta.value) in
-    let fits_so : v.sizes.path + (d + delay_by l) ≤ amount n.dmax = omega (arith, fits, (sizes_are v is).dmax) in
+    let fits_so : v.sizes.path + (d + delay_by l) ≤ amount n.dmax = omega (arith, fits, (sizes_are is).dmax) in
     let left : ℕ = leaves_at v.scenario link way (time_of r) in
     let u : ℕ = arrives_at v.scenario link way (time_of r) in
     let soon : u ≤ t0 + (d + delay_by l) = omega (arith, takes.0, c.time) in
@@ -59,8 +61,8 @@ comes_over v channel way t0 r frame sender receiver link l d k is intact c fits 
     (omega (arith, value, fits_so, c.clock, grows, drift, grains, floor), omega (arith, c.clock, grows)) in
     let of_channel = closed (λ (x : Link). IsSwitchOf n channel x.parent) (link_at n link) l c.given.there c.switch in
     let whole = intact.ways link way left of_channel (omega (arith, c.after)) (omega (arith, takes.1, within)) in
-    let gone = goes_over v way r frame sender receiver link l is c.given (good_is_correct v sender left c.good (omega (arith, takes.1, within))) whole
+    let gone = goes_over is c.given (good_is_correct v sender left c.good (omega (arith, takes.1, within))) whole
     (λ next grows. (spend next grows).0)
-    (λ next small. no_fault v receiver link u next frame is c.clean c.taken_by within stands.0 stands.1 c.mine small) within in
+    (λ next small. no_fault receiver link u next is c.clean c.taken_by within stands.0 stands.1 c.mine small) within in
     let spent = spend gone.clock gone.grows in
     record { gone = gone; small = spent.0; clock = spent.1; time = omega (arith, gone.at, soon); after = omega (arith, gone.at, behind) }

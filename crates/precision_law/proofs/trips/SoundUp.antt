@@ -6,7 +6,7 @@ use Rattle.precision_law.proofs.words.Laws.{AreOpenOn, FramesGoUp, IsBrought, Is
 use Rattle.precision_law.proofs.words.Plans.{A, B, Channel, Cm, CompressionMasters, Device, DeviceId, IsChildOf, IsCmOf, IsDeviceInRange, IsDeviceOf, IsPath}
 use Rattle.precision_law.proofs.words.Plans.{IsSwitchOf, Link, LinkId, Master, Pcf, Role, Up, all_at, amount, closed, delay_by, delay_on, device_at}
 use Rattle.precision_law.proofs.words.Plans.{is_end_system, is_master, link_at, margins, opened, rules_give_trees, shape_rules, target_by}
-use Rattle.precision_law.proofs.words.Runs.{Gives, Happening, IsCaused, IsIn, IsParentOf, NoteBody, are_others, dispatched_frame, founded_at, frame_by, is_end}
+use Rattle.precision_law.proofs.words.Runs.{Gives, Happening, IsCaused, IsIn, IsParentOf, are_others, dispatched_frame, founded_at, frame_by, is_end}
 use Rattle.precision_law.proofs.words.Runs.{is_of_other_member, is_relay, is_relay_role, member_of, receiver_of, same_some, time_of, with_clock}
 use Rattle.precision_law.proofs.words.Std.{◌&&◌, ◌+◌, ◌^◌, ◌∙◌, ◌∷◌, ◌≡◌, ◌≤◌, ◌⊎◌, Bool, List, Option, Some, [], ap, arith, both_ways, eq-eqb, false, inl, inr}
 use Rattle.precision_law.proofs.words.Std.{is_some, length, not, not-true, option_map, option_map_or, refl, subst, suc, sym, true, ℕ}
@@ -15,20 +15,22 @@ use Rattle.run_law.specs.declared.note.NoteBody.TheVariants as notes
 -- ---- roles
 
 -- a switch is no end system
-pub switch_ends : (v : View) (device : DeviceId) (channel : Channel) → IsView v → IsSwitchOf v.scenario.network channel device
-    → is_end v.scenario.network device ≡ false
-switch_ends v device channel is switch =
+pub switch_ends : {v : View} (device : DeviceId) (channel : Channel) → IsView v
+    → IsSwitchOf v.scenario.network channel device → is_end v.scenario.network device ≡ false
+switch_ends {v} device channel is switch =
     let d = opened (λ (x : Device). x.channel ≡ Some channel) (device_at v.scenario.network device) switch in
     let known : IsDeviceInRange d.0 = all_at IsDeviceInRange v.scenario.network.device device.0 d.0 is.lawful.range.devices d.1 in
     ap (λ (o : Option Device). option_map_or (λ x. is_end_system x.role) o false) d.1
     ∙ not-true (is_end_system d.0.role) (sym (ap (λ (c : Option Channel). is_some c) (sym d.2) ∙ known.switches))
 
 -- one that is a link's child is a relay
-pub child_relays : (v : View) (device : DeviceId) (channel : Channel) (link : LinkId) (l : Link) → IsView v → link_at v.scenario.network link ≡ Some l
-    → l.child ≡ device → IsSwitchOf v.scenario.network channel device → is_relay v.scenario.network device ≡ true
-child_relays v device channel link l is at child switch =
-    elim (child_kind v device link is (closed (λ (k : Link). k.child ≡ device) (link_at v.scenario.network link) l at child)) [
-      | inl end ↦ absurd (both_ways (is_end v.scenario.network device) (switch_ends v device channel is switch) end)
+pub child_relays : {v : View} (device : DeviceId) (channel : Channel) (link : LinkId) (l : Link) → IsView v
+    → link_at v.scenario.network link ≡ Some l → l.child ≡ device → IsSwitchOf v.scenario.network channel device
+    → is_relay v.scenario.network device ≡ true
+child_relays {v} device channel link l is at child switch =
+    elim (child_kind device link is (closed (λ (k : Link). k.child ≡ device) (link_at v.scenario.network link)
+    l at child)) [
+      | inl end ↦ absurd (both_ways (is_end v.scenario.network device) (switch_ends device channel is switch) end)
       | inr x ↦ ap (λ (o : Option Device). option_map_or (λ d. is_relay_role d.role) o false) x.1 ∙ ap is_relay_role x.2
     ]
 
@@ -37,9 +39,10 @@ last_false true true c f = f refl
 last_false a b c f = refl
 
 -- a channel has one compression master
-pub one_cm : (v : View) (channel : Channel) (a b : DeviceId) → IsView v → IsCmOf v.scenario.network channel a → IsCmOf v.scenario.network channel b → a ≡ b
-one_cm v A a b is x y = (let one = (is.lawful.rules CompressionMasters 0).on_a refl in one.2 a x ∙ sym (one.2 b y))
-one_cm v B a b is x y = (let one = (is.lawful.rules CompressionMasters 1).on_b refl in one.2 a x ∙ sym (one.2 b y))
+pub one_cm : {v : View} (channel : Channel) (a b : DeviceId) → IsView v → IsCmOf v.scenario.network channel a
+    → IsCmOf v.scenario.network channel b → a ≡ b
+one_cm A a b is x y = (let one = (is.lawful.rules CompressionMasters 0).on_a refl in one.2 a x ∙ sym (one.2 b y))
+one_cm B a b is x y = (let one = (is.lawful.rules CompressionMasters 1).on_b refl in one.2 a x ∙ sym (one.2 b y))
 
 -- ---- one link up
 
@@ -66,10 +69,11 @@ record Stepped (v : View) (channel : Channel) (t0 : ℕ) (link : LinkId) (rest :
   pub path : IsPath v.scenario.network channel l.parent rest
   pub come : HasCome v Up t0 r frame l.parent link l d k
 
-step_up : (v : View) (channel : Channel) (t0 : ℕ) (link : LinkId) (rest : List LinkId) (r : Happening) (frame : Pcf) (sender : DeviceId) (d k : ℕ) (is : IsView v)
-    → IsWholeFrom v channel t0 → CanGoUp v channel t0 link rest r frame sender d k is.beta.links → AreOpenOn v channel t0 → t0 + v.sizes.dmax + v.sizes.path ≤ v.until
-    → Stepped v channel t0 link rest r frame d k
-step_up v channel t0 link rest r frame sender d k is intact c opens in_run =
+step_up : {v : View} {channel : Channel} {t0 : ℕ} {link : LinkId} {rest : List LinkId} {r : Happening} {frame : Pcf}
+    {sender : DeviceId} {d k : ℕ} (is : IsView v) → IsWholeFrom v channel t0
+    → CanGoUp v channel t0 link rest r frame sender d k is.beta.links → AreOpenOn v channel t0
+    → t0 + v.sizes.dmax + v.sizes.path ≤ v.until → Stepped v channel t0 link rest r frame d k
+step_up {v} {channel} {link} {rest} {r} {frame} {sender} {d} {k} is intact c opens in_run =
     let n = v.scenario.network in
     let l = opened (λ (x : Link). (x.child ≡ sender) × IsSwitchOf n channel x.parent × IsPath n channel x.parent rest) (link_at n link) c.path in
     let receiver : DeviceId = l.0.parent in
@@ -82,14 +86,14 @@ step_up v channel t0 link rest r frame sender d k is intact c opens in_run =
       at = l.1;
       switch = l.2.1;
       path = l.2.2;
-      come = comes_over v channel Up t0 r frame sender receiver link l.0 d k is intact (record {
+      come = comes_over {way = Up} {r = r} {frame = frame} {sender = sender} {receiver = receiver} {link = link} {l = l.0} {d = d} {k = k} is intact (record {
         given = record {
           given = c.there;
           of_frame = c.of_frame;
           gives = c.gives;
           there = l.1;
-          from_way = (child_ways v sender link is child).1;
-          on_way = receiver_way v link receiver Up is to;
+          from_way = (child_ways sender link is child).1;
+          on_way = receiver_way link receiver Up is to;
           comes_to = to;
         };
         switch = l.2.1;
@@ -123,10 +127,12 @@ record GoesUp (v : View) (channel : Channel) (r : Happening) : Type 0 where
   pub trip : IsTrip v Up r legs last
   pub come : IsAtCm v channel last
 
-go_up : (v : View) (channel : Channel) (t0 : ℕ) (link : LinkId) (rest : List LinkId) (r : Happening) (frame : Pcf) (sender : DeviceId) (d k : ℕ) (is : IsView v)
-    → IsWholeFrom v channel t0 → CanGoUp v channel t0 link rest r frame sender d k is.beta.links → AreOpenOn v channel t0 → t0 + v.sizes.dmax + v.sizes.path ≤ v.until → GoesUp v channel r
-go_up v channel t0 link [] r frame sender d k is intact c opens in_run =
-    let p = step_up v channel t0 link [] r frame sender d k is intact c opens in_run in
+go_up : {v : View} {channel : Channel} {t0 : ℕ} (link : LinkId) (rest : List LinkId) (r : Happening) (frame : Pcf)
+    (sender : DeviceId) (d k : ℕ) (is : IsView v) → IsWholeFrom v channel t0
+    → CanGoUp v channel t0 link rest r frame sender d k is.beta.links → AreOpenOn v channel t0
+    → t0 + v.sizes.dmax + v.sizes.path ≤ v.until → GoesUp v channel r
+go_up link [] r frame sender d k is intact c opens in_run =
+    let p = step_up is intact c opens in_run in
     let gone = p.come.gone in
     record {
       legs = record { link = link; giving = r; leaving = gone.leaving; arriving = gone.arriving } ∷ [];
@@ -143,23 +149,24 @@ go_up v channel t0 link [] r frame sender d k is intact c opens in_run =
         small = p.come.small;
       };
     }
-go_up v channel t0 link (next ∷ rest) r frame sender d k is intact c opens in_run =
+go_up {v} {channel} link (next ∷ rest) r frame sender d k is intact c opens in_run =
     let n = v.scenario.network in
-    let p = step_up v channel t0 link (next ∷ rest) r frame sender d k is intact c opens in_run in
+    let p = step_up is intact c opens in_run in
     let gone = p.come.gone in
     let device : DeviceId = p.l.parent in
     let m = opened (λ (x : Link). (x.child ≡ device) × IsSwitchOf n channel x.parent × IsPath n channel x.parent rest) (link_at n next) p.path in
-    let relay = child_relays v device channel next m.0 is m.1 m.2.0 p.switch in
+    let relay = child_relays device channel next m.0 is m.1 m.2.0 p.switch in
     let parent : IsParentOf n device link = closed (λ (x : Link). x.parent ≡ device) (link_at n link) p.l p.at refl in
     let child : IsChildOf n device next = closed (λ (x : Link). x.child ≡ device) (link_at n next) m.0 m.1 m.2.0 in
-    let more = go_up v channel t0 next rest gone.arriving (with_clock gone.clock frame) device (d + delay_by p.l) (suc k) is intact (record {
+    let more = go_up next rest gone.arriving (with_clock gone.clock frame) device (d + delay_by p.l) (suc k) is
+    intact (record {
       path = p.path;
       there = gone.is.arrived;
       of_frame = gone.of_frame;
       clean = record { kind = c.clean.kind; priority = c.clean.priority; domain = c.clean.domain };
-      gives = subst (λ (b : NoteBody). Gives n b device next) (sym gone.body) (refl, record { relay = relay; on = inl (parent, child) });
+      gives = subst (λ b. Gives n b device next) (sym gone.body) (refl, record { relay = relay; on = inl (parent, child) });
       good = switches_are_good v channel device is p.switch;
-      member = λ ends. absurd (both_ways (is_end n device) (switch_ends v device channel is p.switch) ends);
+      member = λ ends. absurd (both_ways (is_end n device) (switch_ends device channel is p.switch) ends);
       clock = p.come.clock;
       time = p.come.time;
       after = p.come.after;
@@ -180,11 +187,12 @@ master_no_cm Master e f = cc
 master_no_cm role e f = cc
 
 -- the delays of a path leave room for its error
-pub path_fits : (v : View) (channel : Channel) (device : DeviceId) (links : List LinkId) (is : IsView v) → IsDeviceOf v.scenario.network channel device
-    → IsPath v.scenario.network channel device links → (v.sizes.path + delay_on v.scenario.network links ≤ v.sizes.dmax) × (length links ≤ is.beta.links)
-path_fits v channel device links is member path =
+pub path_fits : {v : View} (channel : Channel) (device : DeviceId) (links : List LinkId) (is : IsView v)
+    → IsDeviceOf v.scenario.network channel device → IsPath v.scenario.network channel device links
+    → (v.sizes.path + delay_on v.scenario.network links ≤ v.sizes.dmax) × (length links ≤ is.beta.links)
+path_fits {v} channel device links is member path =
     let fits = (margins rules_give_trees v.scenario.network v.sizes.path is.lawful.range is.lawful.rules is.beta).dmax.paths channel device links member path in
-    (omega (arith, fits, (sizes_are v is).dmax), is.beta.links_greatest.most (length links) (channel, (device, (links, member, path, refl))))
+    (omega (arith, fits, (sizes_are is).dmax), is.beta.links_greatest.most (length links) (channel, (device, (links, member, path, refl))))
 
 pub frames_go_up : FramesGoUp
 frames_go_up v channel h master cm cycle is intact d one opens in_run =
@@ -196,19 +204,19 @@ frames_go_up v channel h master cm cycle is intact d one opens in_run =
     role.0 role.1 (inl (master_ends role.0.role role.2)) in
     let reach = (rules_give_trees n (shape_rules n is.lawful.rules)).reach channel master of_channel in
     let framed : h.frame ≡ Some (dispatched_frame n master cycle) = ap (λ (x : Happening). x.frame) at.due.same ∙ ap (frame_by n at.front) d.is in
-    let m = master_member v master is sends.master in
+    let m = master_member master is sends.master in
     elim reach.0 as (λ links. IsPath n channel master links → IsBrought v Up h cm) [
       | [] ↦ grind (arith, opened, device_at, n, role.0, same_some, role.1, master_no_cm, role.0.role, role.2)
       | link ∷ rest ↦ λ path.
           let l = opened (λ (x : Link). (x.child ≡ master) × IsSwitchOf n channel x.parent × IsPath n channel x.parent rest) (link_at n link) path in
           let child : IsChildOf n master link = closed (λ (x : Link). x.child ≡ master) (link_at n link) l.0 l.1 l.2.0 in
-          let fits = path_fits v channel master (link ∷ rest) is of_channel path in
-          let goes = go_up v channel (time_of h) link rest h (dispatched_frame n master cycle) master 0 0 is intact (record {
+          let fits = path_fits channel master (link ∷ rest) is of_channel path in
+          let goes = go_up link rest h (dispatched_frame n master cycle) master 0 0 is intact (record {
             path = path;
             there = d.there;
             of_frame = framed;
             clean = record { kind = refl; priority = refl; domain = refl };
-            gives = subst (λ (b : NoteBody). Gives n b master link) (sym d.is) (refl, child);
+            gives = subst (λ b. Gives n b master link) (sym d.is) (refl, child);
             good = d.good;
             member = λ ends. rw m.1 (ap not (eq-eqb (2 ^ m.0) (2 ^ m.0) refl));
             clock = omega arith;
@@ -218,9 +226,12 @@ frames_go_up v channel h master cm cycle is intact d one opens in_run =
             few = omega (arith, fits.1);
           }) opens in_run in
           let come = goes.come in
-          let body = come.body ∙ ap (λ (x : DeviceId). notes.Arrived x come.link come.cause come.clock) (one_cm v channel come.cm cm is come.is_cm one) in
-          let will = will_be_permanent v goes.last cm come.link come.cause come.clock is body (omega (arith, come.small, sizes_are v is)) in
-          let up = path_up v channel h goes.last goes.legs master cm cycle come.link come.cause come.clock is one goes.trip body d.is in
+          let body = come.body ∙ ap (λ (x : DeviceId). notes.Arrived x come.link come.cause come.clock)
+          (one_cm channel come.cm cm is come.is_cm one) in
+          let will = will_be_permanent goes.last cm come.link come.cause come.clock is body
+          (omega (arith, come.small, sizes_are is)) in
+          let up = path_up channel h goes.last goes.legs master cm cycle come.link come.cause come.clock is one
+          goes.trip body d.is in
           record {
             legs = goes.legs;
             last = goes.last;
@@ -229,18 +240,19 @@ frames_go_up v channel h master cm cycle is intact d one opens in_run =
             q = will.q;
             permanent = will.permanent;
             in_time =
-                trips_up_take_dmax v h goes.last goes.legs channel master cm will.point will.q is of_channel up (dispatch_clock v h master cycle is d)
+                trips_up_take_dmax v h goes.last goes.legs channel master cm will.point will.q is of_channel up
+                (dispatch_clock is d)
                 goes.trip will.permanent (come.clock_is ∙ sym will.same);
           }
     ] reach.2
 
 -- the sound channel is whole
-pub sound_is_whole : (v : View) (t : ℕ) → IsView v → IsWholeFrom v v.channel t
-sound_is_whole v t is = record {
+pub sound_is_whole : {v : View} (t : ℕ) → IsView v → IsWholeFrom v v.channel t
+sound_is_whole {v} t is = record {
   ways = λ link way u of_channel from le. sound_ways_are_whole v link way u is of_channel le;
-  on = λ switch u of_channel from. sound_switch_on v switch u is of_channel;
+  on = λ switch u of_channel from. sound_switch_on switch u is of_channel;
 }
 
 pub sound_frames_go_up : SoundFramesGoUp
 sound_frames_go_up v h master cm cycle is d one opens in_run =
-    frames_go_up v v.channel h master cm cycle is (sound_is_whole v (time_of h) is) d one opens in_run
+    frames_go_up v v.channel h master cm cycle is (sound_is_whole (time_of h) is) d one opens in_run

@@ -3,7 +3,7 @@ use Rattle.precision_law.proofs.{block.Joins.arrival_link, words.Clocks.{arrived
 use Rattle.precision_law.proofs.words.Laws.{IsLeg, IsTrip, IsView, Leg, View, clock_in, links_back}
 use Rattle.precision_law.proofs.words.Plans.{Channel, Device, DeviceId, Down, Hop, IsHop, IsPath, IsSwitchOf, Link, LinkId, Network, Pcf, Way, amount, closed}
 use Rattle.precision_law.proofs.words.Plans.{device_at, growth, jitter_of, jitter_on, link_at, opened, target_by, travel}
-use Rattle.precision_law.proofs.words.Runs.{Gives, Happening, IsCaused, NoteBody, channel_of, channel_of_link, cycle_in, founded_at, is_relay, members_in}
+use Rattle.precision_law.proofs.words.Runs.{Gives, Happening, IsCaused, channel_of, channel_of_link, cycle_in, founded_at, is_relay, members_in}
 use Rattle.precision_law.proofs.words.{Runs.{same_some, time_of, with_clock}, Std.{option_map, subst, suc, sum_by, sum_by-cons, sym, true, ℕ}}
 use Rattle.precision_law.proofs.words.Std.{◌+◌, ◌∙◌, ◌∷◌, ◌≡◌, ◌≤◌, All, All-cons, All-nil, List, Option, Some, [], ap, arith, fold, length, option_and_then}
 use Rattle.run_law.specs.declared.note.NoteBody.TheVariants as notes
@@ -24,17 +24,19 @@ pub record AddsUp (v : View) (first last : Happening) (legs : List Leg) : Type 0
   pub jitter : sum_by (λ h. h.jitter) hops ≡ jitter_of_legs v.scenario.network legs
 
 -- the link of a leg is there
-pub leg_link : (v : View) (way : Way) (leg : Leg) → IsView v → IsLeg v way leg → (l : Link) × (link_at v.scenario.network leg.link ≡ Some l)
-leg_link v way leg is l =
+pub leg_link : {v : View} {way : Way} {leg : Leg} → IsView v → IsLeg v way leg
+    → (l : Link) × (link_at v.scenario.network leg.link ≡ Some l)
+leg_link {v} {leg} is l =
     let at = founded_at v.scenario v.records leg.arriving is.run.founded l.arrived in
-    arrival_link v _ _ _ _ _ _ (subst (IsCaused v.scenario at.front leg.arriving.note.time) l.arrives at.due.cause)
+    arrival_link v (subst (IsCaused v.scenario at.front leg.arriving.note.time) l.arrives at.due.cause)
 
-pub adds_up : (v : View) (way : Way) (first last : Happening) (legs : List Leg) → IsView v → IsTrip v way first legs last → AddsUp v first last legs
-adds_up v way first last [] is trip = grind (arith, All-nil, amount, time_of, clock_in)
-adds_up v way first last (leg ∷ legs) is trip =
-    let more = adds_up v way leg.arriving last legs is trip.2 in
-    let link = leg_link v way leg is trip.1 in
-    let hop = leg_hop v way leg link.0 is trip.1 link.1 in
+pub adds_up : {v : View} (way : Way) (first last : Happening) (legs : List Leg) → IsView v
+    → IsTrip v way first legs last → AddsUp v first last legs
+adds_up way first last [] is trip = grind (arith, All-nil, amount, time_of, clock_in)
+adds_up {v} way first last (leg ∷ legs) is trip =
+    let more = adds_up way leg.arriving last legs is trip.2 in
+    let link = leg_link is trip.1 in
+    let hop = leg_hop link.0 is trip.1 link.1 in
     record {
       hops = hop.hop ∷ more.hops;
       are = All-cons (IsHop v.scenario.network.rho (amount v.scenario.network.grain)) hop.hop more.hops hop.is more.are;
@@ -45,16 +47,18 @@ adds_up v way first last (leg ∷ legs) is trip =
     }
 
 -- what a trip brings is not too old
-stays_young : (v : View) (way : Way) (first last : Happening) (legs : List Leg) → IsView v → IsTrip v way first legs last
-    → clock_in first ≤ amount v.scenario.network.dmax → clock_in last ≤ amount v.scenario.network.dmax
-stays_young v way first last [] is trip young = (let same : clock_in first ≡ clock_in last = ap clock_in trip in omega (arith, same, young))
-stays_young v way first last (leg ∷ legs) is trip young =
-    let link = leg_link v way leg is trip.1 in
-    stays_young v way leg.arriving last legs is trip.2 (leg_hop v way leg link.0 is trip.1 link.1).young
-
-pub last_young : (v : View) (way : Way) (first last : Happening) (legs : List Leg) → IsView v → IsTrip v way first legs last → clock_in first ≡ 0
+stays_young : {v : View} (way : Way) (first last : Happening) (legs : List Leg) → IsView v
+    → IsTrip v way first legs last → clock_in first ≤ amount v.scenario.network.dmax
     → clock_in last ≤ amount v.scenario.network.dmax
-last_young v way first last legs is trip zero_clock = stays_young v way first last legs is trip (omega (arith, zero_clock))
+stays_young way first last [] is trip young =
+    (let same : clock_in first ≡ clock_in last = ap clock_in trip in omega (arith, same, young))
+stays_young way first last (leg ∷ legs) is trip young =
+    let link = leg_link is trip.1 in
+    stays_young way leg.arriving last legs is trip.2 (leg_hop link.0 is trip.1 link.1).young
+
+pub last_young : {v : View} (way : Way) (first last : Happening) (legs : List Leg) → IsView v
+    → IsTrip v way first legs last → clock_in first ≡ 0 → clock_in last ≤ amount v.scenario.network.dmax
+last_young way first last legs is trip zero_clock = stays_young way first last legs is trip (omega (arith, zero_clock))
 
 -- ---- links from the last to the first
 
@@ -82,9 +86,10 @@ switch_of n channel device e =
     closed (λ (x : Device). x.channel ≡ Some channel) (device_at n device) d.0 d.1 d.2
 
 -- the link of a leg down leads from its receiver to its sender
-pub leg_down : (v : View) (leg : Leg) → IsView v → (l : IsLeg v Down leg) → (link : Link) × (link_at v.scenario.network leg.link ≡ Some link)
-    × (link.child ≡ l.receiver) × (link.parent ≡ l.sender)
-leg_down v leg is l = grind (arith, leg_link, option_map, target_by, opened, link_at, gives_down, same_some)
+pub leg_down : {v : View} {leg : Leg} → IsView v → (l : IsLeg v Down leg)
+    → (link : Link) × (link_at v.scenario.network leg.link ≡ Some link) × (link.child ≡ l.receiver)
+    × (link.parent ≡ l.sender)
+leg_down is l = grind (arith, leg_link, option_map, target_by, opened, link_at, gives_down, same_some)
 
 -- what gives a frame down is of the channel, and has this path
 pub record GivesDown (v : View) (channel : Channel) (first : Happening) (giver : DeviceId) (links : List LinkId) : Type 0 where
@@ -94,36 +99,40 @@ pub record GivesDown (v : View) (channel : Channel) (first : Happening) (giver :
   pub arrived : (d : DeviceId) (k : LinkId) (c t : ℕ) → first.note.body ≡ notes.Arrived d k c t → d ≡ giver
 
 -- a relay that a leg down leads to is of the channel
-pub through : (v : View) (channel : Channel) (leg : Leg) → IsView v → (l : IsLeg v Down leg) → (m : Link) → link_at v.scenario.network leg.link ≡ Some m
-    → m.child ≡ l.receiver → m.parent ≡ l.sender → channel_of v.scenario.network l.sender ≡ Some channel → is_relay v.scenario.network l.receiver ≡ true
+pub through : {v : View} (channel : Channel) {leg : Leg} → IsView v → (l : IsLeg v Down leg) (m : Link)
+    → link_at v.scenario.network leg.link ≡ Some m → m.child ≡ l.receiver → m.parent ≡ l.sender
+    → channel_of v.scenario.network l.sender ≡ Some channel → is_relay v.scenario.network l.receiver ≡ true
     → channel_of v.scenario.network l.receiver ≡ Some channel
-through v channel leg is l m at child parent of_sender relay =
-    let up = child_channel v l.receiver leg.link is relay (closed (λ (x : Link). x.child ≡ l.receiver) (link_at v.scenario.network leg.link) m at child) in
+through {v} channel {leg} is l m at child parent of_sender relay =
+    let up = child_channel l.receiver leg.link is relay
+    (closed (λ (x : Link). x.child ≡ l.receiver) (link_at v.scenario.network leg.link) m at child) in
     up ∙ ap (λ (o : Option Link). option_and_then (λ x. channel_of v.scenario.network x.parent) o) at ∙ ap (channel_of v.scenario.network) parent ∙ of_sender
 
-pub path_down : (v : View) (channel : Channel) (first last : Happening) (legs : List Leg) (giver : DeviceId) (links : List LinkId) → IsView v
-    → GivesDown v channel first giver links → IsTrip v Down first legs last → (device : DeviceId) (link : LinkId) (cause clock : ℕ)
-    → last.note.body ≡ notes.Arrived device link cause clock → IsPath v.scenario.network channel device (fold (λ links leg. leg.link ∷ links) links legs)
-path_down v channel first last [] giver links is g trip device link cause clock body =
+pub path_down : {v : View} {channel : Channel} (first last : Happening) (legs : List Leg) (giver : DeviceId)
+    (links : List LinkId) → IsView v → GivesDown v channel first giver links → IsTrip v Down first legs last
+    → (device : DeviceId) (link : LinkId) (cause clock : ℕ) → last.note.body ≡ notes.Arrived device link cause clock
+    → IsPath v.scenario.network channel device (fold (λ links leg. leg.link ∷ links) links legs)
+path_down {v} {channel} first last [] giver links is g trip device link cause clock body =
     let at : first.note.body ≡ notes.Arrived device link cause clock = ap (λ (h : Happening). h.note.body) trip ∙ body in
-    subst (λ (d : DeviceId). IsPath v.scenario.network channel d links) (sym (g.arrived device link cause clock at)) g.path
-path_down v channel first last (leg ∷ legs) giver links is g trip device link cause clock body =
+    subst (λ d. IsPath v.scenario.network channel d links) (sym (g.arrived device link cause clock at)) g.path
+path_down {v} {channel} first last (leg ∷ legs) giver links is g trip device link cause clock body =
     let n = v.scenario.network in
     let l = trip.1 in
     let gives : Gives n first.note.body l.sender leg.link = subst (λ (h : Happening). Gives n h.note.body l.sender leg.link) trip.0 l.gives in
     let sender : l.sender ≡ giver = g.is_giver l.sender leg.link gives in
-    let at = leg_down v leg is l in
+    let at = leg_down is l in
     let channel_s : channel_of n l.sender ≡ Some channel = ap (channel_of n) sender ∙ g.of_channel l.sender leg.link gives in
     let switch : IsSwitchOf n channel at.0.parent = subst (IsSwitchOf n channel) (sym at.3) (switch_of n channel l.sender channel_s) in
-    let path : IsPath n channel at.0.parent links = subst (λ (d : DeviceId). IsPath n channel d links) (sym (at.3 ∙ sender)) g.path in
+    let path : IsPath n channel at.0.parent links = subst (λ d. IsPath n channel d links) (sym (at.3 ∙ sender)) g.path in
     let here : IsPath n channel l.receiver (leg.link ∷ links) = closed (λ (k : Link). (k.child ≡ l.receiver) × IsSwitchOf n channel k.parent
     × IsPath n channel k.parent links) (link_at n leg.link) at.0 at.1 (at.2, switch, path) in
-    path_down v channel leg.arriving last legs l.receiver (leg.link ∷ links) is (record {
+    path_down {channel = channel} leg.arriving last legs l.receiver (leg.link ∷ links) is (record {
       path = here;
-      is_giver = λ d k passes. (subst (λ (b : NoteBody). Gives n b d k) l.arrives passes).0;
+      is_giver = λ d k passes. (subst (λ b. Gives n b d k) l.arrives passes).0;
       of_channel =
-          λ d k passes. (let p = (subst (λ (b : NoteBody). Gives n b d k) l.arrives passes) in through v channel leg is l at.0 at.1 at.2 at.3 channel_s
-          (subst (λ (x : DeviceId). is_relay n x ≡ true) p.0 p.1.relay));
+          λ d k passes. (let p = (subst (λ b. Gives n b d k) l.arrives passes) in through channel is l
+          at.0 at.1 at.2 at.3 channel_s
+          (subst (λ x. is_relay n x ≡ true) p.0 p.1.relay));
       arrived =
           λ d k c t e. (let one : notes.Arrived l.receiver leg.link leg.leaving.note.number l.arrived_clock ≡ notes.Arrived d k c t = sym l.arrives
           ∙ e in let same : d ≡ l.receiver = cc in same);
@@ -138,10 +147,10 @@ pub record KeepsFrame (g h : Happening) : Type 0 where
   pub cycle : cycle_in g ≡ cycle_in h
   pub members : members_in g ≡ members_in h
 
-leg_keeps : (v : View) (way : Way) (leg : Leg) → IsView v → IsLeg v way leg → KeepsFrame leg.giving leg.arriving
-leg_keeps v way leg is l =
-    let left = leaving_is v way leg is l in
-    let arrived = arrived_frame v way leg (with_clock l.left_clock left.frame) is l left.left_frame in
+leg_keeps : {v : View} {way : Way} {leg : Leg} → IsView v → IsLeg v way leg → KeepsFrame leg.giving leg.arriving
+leg_keeps {leg} is l =
+    let left = leaving_is is l in
+    let arrived = arrived_frame (with_clock l.left_clock left.frame) is l left.left_frame in
     let first = same_cycle leg.leaving leg.giving left.frame l.left_clock left.of_frame left.left_frame in
     let second = same_cycle leg.arriving leg.leaving (with_clock l.left_clock left.frame) l.arrived_clock left.left_frame arrived in
     record {
@@ -159,31 +168,34 @@ pub record EndsSo (v : View) (channel : Channel) (first last : Happening) : Type
   pub keeps : KeepsFrame first last
   pub of_channel : channel_of_link v.scenario.network leg.link ≡ Some channel
 
-pub ends_so : (v : View) (channel : Channel) (first last : Happening) (leg : Leg) (legs : List Leg) → IsView v
-    → ((d : DeviceId) (k : LinkId) → Gives v.scenario.network first.note.body d k → channel_of v.scenario.network d ≡ Some channel)
-    → IsTrip v Down first (leg ∷ legs) last → EndsSo v channel first last
-ends_so v channel first last leg [] is of_channel trip =
+pub ends_so : {v : View} (channel : Channel) (first last : Happening) (leg : Leg) (legs : List Leg) → IsView v
+    → ((d : DeviceId) (k : LinkId) → Gives v.scenario.network first.note.body d k
+    → channel_of v.scenario.network d ≡ Some channel) → IsTrip v Down first (leg ∷ legs) last
+    → EndsSo v channel first last
+ends_so {v} channel first last leg [] is of_channel trip =
     let n = v.scenario.network in
     let l = trip.1 in
     let gives : Gives n first.note.body l.sender leg.link = subst (λ (h : Happening). Gives n h.note.body l.sender leg.link) trip.0 l.gives in
-    let at = leg_down v leg is l in
+    let at = leg_down is l in
     record {
       leg = leg;
       is = l;
       ends = trip.2;
-      keeps = subst (λ (h : Happening). KeepsFrame first h) trip.2 (subst (λ (h : Happening). KeepsFrame h leg.arriving) trip.0 (leg_keeps v Down leg is l));
+      keeps = subst (λ h. KeepsFrame first h) trip.2
+          (subst (λ h. KeepsFrame h leg.arriving) trip.0 (leg_keeps is l));
       of_channel = ap (λ (o : Option Link). option_and_then (λ x. channel_of n x.parent) o) at.1 ∙ ap (channel_of n) at.3 ∙ of_channel l.sender leg.link gives;
     }
-ends_so v channel first last leg (next ∷ more) is of_channel trip =
+ends_so {v} channel first last leg (next ∷ more) is of_channel trip =
     let n = v.scenario.network in
     let l = trip.1 in
     let gives : Gives n first.note.body l.sender leg.link = subst (λ (h : Happening). Gives n h.note.body l.sender leg.link) trip.0 l.gives in
-    let at = leg_down v leg is l in
+    let at = leg_down is l in
     let channel_s = of_channel l.sender leg.link gives in
-    let later = ends_so v channel leg.arriving last next more is (λ d k passes.
-    let p = subst (λ (b : NoteBody). Gives n b d k) l.arrives passes in
-    ap (channel_of n) p.0 ∙ through v channel leg is l at.0 at.1 at.2 at.3 channel_s (subst (λ (x : DeviceId). is_relay n x ≡ true) p.0 p.1.relay)) trip.2 in
-    let here = subst (λ (h : Happening). KeepsFrame h leg.arriving) trip.0 (leg_keeps v Down leg is l) in
+    let later = ends_so channel leg.arriving last next more is (λ d k passes.
+    let p = subst (λ b. Gives n b d k) l.arrives passes in
+    ap (channel_of n) p.0 ∙ through channel is l at.0 at.1 at.2 at.3 channel_s
+    (subst (λ x. is_relay n x ≡ true) p.0 p.1.relay)) trip.2 in
+    let here = subst (λ h. KeepsFrame h leg.arriving) trip.0 (leg_keeps is l) in
     let k = later.keeps in
     record {
       leg = later.leg;

@@ -7,7 +7,7 @@ use Rattle.precision_law.proofs.words.Laws.{IsSharedCorrection, IsView, IsWholeF
 use Rattle.precision_law.proofs.words.Plans.{A, AsyncClique, B, Channel, Cleared, Corrected, DeviceId, HasVerdict, HeardFrame, Hearing, IsBehind, IsBestOf, IsDeviceOf}
 use Rattle.precision_law.proofs.words.Plans.{IsLevel, IsWithinOn, Masters, Members, SomeQualifies, Standing, Summarizes, Summary, SyncClique, Units, Verdict}
 use Rattle.precision_law.proofs.words.Plans.{best_on, correction_of, count_of, deviation_by, deviation_on, within_on}
-use Rattle.precision_law.proofs.words.Runs.{Happening, IsIn, Judgement, Within, heard_by, heard_since, in_parts, same_some, standing_before, time_of}
+use Rattle.precision_law.proofs.words.Runs.{Happening, IsIn, Within, heard_by, heard_since, in_parts, same_some, standing_before, time_of}
 use Rattle.precision_law.proofs.words.Std.{◌+◌, ◌<◌, ◌∙◌, ◌∷◌, ◌≡◌, ◌≤◌, ◌⊎◌, All, All-head, All-tail, Bool, IfSome, List, None, Option, Some, [], ap, arith}
 use Rattle.precision_law.proofs.words.Std.{if◌then◌else◌, inl, inr, le-leb, nat_le, option_and_then, refl, subst, suc, sym, true, ℕ}
 
@@ -53,9 +53,10 @@ pub record HasBest (standing : Standing) (summary : Summary) (channel : Channel)
   pub enough : standing.plan.threshold ≤ count_of best.members
   pub more : count_of summary.outside < count_of best.members
 
-some_qualifies : (standing : Standing) (summary : Summary) (channel : Channel) → HasBest standing summary channel → SomeQualifies standing summary
-some_qualifies standing summary A b = inl (let e = b.is in rw e b.enough)
-some_qualifies standing summary B b = inr (let e = b.is in rw e b.enough)
+some_qualifies : {standing : Standing} {summary : Summary} (channel : Channel) → HasBest standing summary channel
+    → SomeQualifies standing summary
+some_qualifies A b = inl (let e = b.is in rw e b.enough)
+some_qualifies B b = inr (let e = b.is in rw e b.enough)
 
 module _ (laws : FramesGoSo) (goes : BlocksGoSo) (v : View) (n t : ℕ) (block : IsInBlock v n t) (is : IsView v) (device : DeviceId)
     (at : IsAtPoint v n t block device) (hull : Hull) (is_hull : hull_of v (suc n) ≡ Some hull) (sound_sends : SendsSo v n hull) (channel : Channel)
@@ -69,7 +70,7 @@ module _ (laws : FramesGoSo) (goes : BlocksGoSo) (v : View) (n t : ℕ) (block :
   many_of c s = (let enough = s.enough in omega (arith, (is.lawful.rules Masters 2).threshold_least refl, enough))
 
   in_time : (c : Channel) (s : SendsOn v c n hull) → IsSentInTime v n block.before s.first
-  in_time c s = sent_in_time v n block.before hull s.first is is_hull s.near
+  in_time c s = sent_in_time block.before s.first is is_hull s.near
 
   sent_sound : SoundIsSent v n t sound_sends.first sound_sends.members
   sent_sound = record {
@@ -80,7 +81,7 @@ module _ (laws : FramesGoSo) (goes : BlocksGoSo) (v : View) (n t : ℕ) (block :
       good = laws.three v sound_sends.first sound_sends.cm (suc n) sound_sends.members is sound_sends.emission (many_of v.channel sound_sends);
     };
     before = (let soon = (in_time v.channel sound_sends).soon in
-        let lt = sooner v n t block device (time_of sound_sends.first + v.sizes.dmax + v.sizes.path) at soon in omega (arith, lt));
+        let lt = sooner {v = v} {n = n} {t = t} {block = block} {device = device} (time_of sound_sends.first + v.sizes.dmax + v.sizes.path) at soon in omega (arith, lt));
     three = many_of v.channel sound_sends;
   }
 
@@ -92,12 +93,12 @@ module _ (laws : FramesGoSo) (goes : BlocksGoSo) (v : View) (n t : ℕ) (block :
       let h = r.h in
       let same : count_of (members_by h) ≡ count_of sends.members = ap (λ (x : ℕ). let m : Members = record { 0 = x } in count_of m) r.members_are in
       let many : 3 ≤ count_of (members_by h) = omega (arith, same, many_of channel sends) in
-      let lt = sooner v n t block device (time_of h) at r.late in
+      let lt = sooner {v = v} {n = n} {t = t} {block = block} {device = device} (time_of h) at r.late in
       let g = good_hearing laws v n t block.before is (went_so goes v n t block is) device channel r.point h (omega (arith, lt)) r.judgement r.hearer r.hears
-      (late_from v n (time_of h) block.before is r.from) (λ e cm f. laws.three v e cm _ (members_by h) is f many) in
+      (late_from n (time_of h) block.before is r.from) (λ e cm f. laws.three v e cm _ (members_by h) is f many) in
       let within = heard_within goes v n t block is laws device channel r.point r.judgement h at lt r.hearer r.hears g (inl many) in
-      let hears : HearsBy v device channel r.point Within h = subst (λ (j : Judgement). HearsBy v device channel r.point j h) within r.hears in
-      let shown = heard_within_by v device channel r.point h hears in
+      let hears : HearsBy v device channel r.point Within h = subst (λ j. HearsBy v device channel r.point j h) within r.hears in
+      let shown = heard_within_by hears in
       let hearing : Hearing = heard_by channel h shown.0 true in
       (hearing.frame, is_since v n t block is device at front split h hearing hears.there r.from lt shown.1, omega (arith, same))
 
@@ -116,7 +117,7 @@ module _ (laws : FramesGoSo) (goes : BlocksGoSo) (v : View) (n t : ℕ) (block :
   -- and the point is not one of the cliques
   pub corrects_on : (verdict : Verdict) → HasVerdict (standing_before v.scenario front device t) summary verdict → (by : Units) × (verdict ≡ Corrected by)
   corrects_on Cleared has = absurd (not_integrating v n t block is device at front split has)
-  corrects_on SyncClique has = absurd (has.1 (some_qualifies on_standing summary channel best_is_enough))
+  corrects_on SyncClique has = absurd (has.1 (some_qualifies channel best_is_enough))
   corrects_on AsyncClique has =
       let best = best_is_enough in
       let few = subst (λ (o : Option HeardFrame). IfSome o (λ frame. count_of frame.members ≤ count_of summary.outside)) best.is (has.2 channel) in
@@ -133,16 +134,16 @@ module _ (laws : FramesGoSo) (goes : BlocksGoSo) (v : View) (n t : ℕ) (block :
   deviation channel = deviation_on standing summary channel
 
   sound : SoundIsSent v n t sends.first sends.members
-  sound = sent_sound laws goes v n t block is device at hull is_hull sends v.channel (firm_member v device firm) sends
-      (sound_is_whole v (time_of sends.first) is) front split summary sums
+  sound = sent_sound laws goes v n t block is device at hull is_hull sends v.channel (firm_member firm) sends
+      (sound_is_whole (time_of sends.first) is) front split summary sums
 
   has_best : HasBest standing summary v.channel
-  has_best = best_is_enough laws goes v n t block is device at hull is_hull sends v.channel (firm_member v device firm) sends
-      (sound_is_whole v (time_of sends.first) is) front split summary sums
+  has_best = best_is_enough laws goes v n t block is device at hull is_hull sends v.channel (firm_member firm) sends
+      (sound_is_whole (time_of sends.first) is) front split summary sums
 
   -- the deviation of a channel is by a frame
   by_frame : (channel : Channel) (dev : Units) → deviation channel ≡ Some dev → IsByFrame v n t block.before device channel dev
-  by_frame channel dev e = is_by_frame laws v n t block device is (went_so goes v n t block is) at.has at.old front summary split sums channel dev
+  by_frame channel dev e = is_by_frame laws block is (went_so goes v n t block is) at.has at.old split sums channel dev
       (best_on channel summary) refl e
 
   -- that of the sound channel is by the frame that all share
@@ -155,21 +156,21 @@ module _ (laws : FramesGoSo) (goes : BlocksGoSo) (v : View) (n t : ℕ) (block :
       let f = by_frame v.channel dev is_dev in
       let o = opposite v.channel in
       let in_order = f.heard.in_order in
-      let lt = sooner v n t block device (time_of f.h) at f.heard.not_late in
+      let lt = sooner {v = v} {n = n} {t = t} {block = block} {device = device} (time_of f.h) at f.heard.not_late in
       let same = same_sent goes v n t block is v.channel f.heard.emission sends.first (members_by f.h) sends.members f.heard.sent sound.sent
       (omega (arith, in_order, lt)) sound.before in
-      subst (λ (w : Hull). IsSharedCorrection v n t w (base_of v.sizes (time_of sends.first)) device by) (same_some _ _ _ f.heard.is_hull is_hull)
-      (subst (λ (h : Happening). IsSharedCorrection v n t f.heard.hull (base_of v.sizes (time_of h)) device by) same.0
+      subst (λ w. IsSharedCorrection v n t w (base_of v.sizes (time_of sends.first)) device by) (same_some _ _ _ f.heard.is_hull is_hull)
+      (subst (λ h. IsSharedCorrection v n t f.heard.hull (base_of v.sizes (time_of h)) device by) same.0
       (shared_by v n t block.before is device v.channel o.0 dev by (deviation o.0) f (by_frame o.0)
-      (ap (λ (x : Option Units). correction_of x (deviation o.0)) (sym is_dev) ∙ o.1)))
+      (ap (λ x. correction_of x (deviation o.0)) (sym is_dev) ∙ o.1)))
     where
       opposite : (channel : Channel) → (other : Channel) × (correction_of (deviation channel) (deviation other) ≡ Some by)
       opposite A = (B, e)
       opposite B = (A, turned (deviation B) (deviation A) ∙ e)
 
   corrects_so : (verdict : Verdict) → HasVerdict standing summary verdict → (by : Units) × (verdict ≡ Corrected by)
-  corrects_so = corrects_on laws goes v n t block is device at hull is_hull sends v.channel (firm_member v device firm) sends
-      (sound_is_whole v (time_of sends.first) is) front split summary sums
+  corrects_so = corrects_on laws goes v n t block is device at hull is_hull sends v.channel (firm_member firm) sends
+      (sound_is_whole (time_of sends.first) is) front split summary sums
 
   -- the point comes to a correction
   corrects : (verdict : Verdict) → HasVerdict standing summary verdict

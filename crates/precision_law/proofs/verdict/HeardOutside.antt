@@ -23,14 +23,14 @@ one_or_all {X} P Q (x ∷ xs) each = by (each x (inl refl)) (one_or_all P Q xs (
 -- ---- members
 
 -- the members of what is sent are good, or a broken one is among them
-good_or_bad : (v : View) (h : Happening) (cm : DeviceId) (cycle : ℕ) (members : Members) → IsView v → IsEmission v h cm cycle members
-    → ((b : ℕ) × IsMember b members × IsBadMember v b) ⊎ AreGood v members
-good_or_bad v h cm cycle members is e =
-    let m = made_of v h cm cycle members is e in
+good_or_bad : {v : View} {h : Happening} {cm : DeviceId} {cycle : ℕ} {members : Members} → IsView v
+    → IsEmission v h cm cycle members → ((b : ℕ) × IsMember b members × IsBadMember v b) ⊎ AreGood v members
+good_or_bad {v} {h} {cm} is e =
+    let m = made_of is e in
     let at = founded_at v.scenario v.records h is.run.founded e.there in
     let points = m.first ∷ m.more in
     elim (one_or_all (IsBadPoint v) (IsGoodPoint v cm (time_of h)) points (λ q i.
-    elim (point_is v h cm q is at m.is_cm_one (m.each q i).there) [ inl good ↦ inr good | inr bad ↦ inl bad ])) [
+    elim (point_is {h = h} cm q is at m.is_cm_one (m.each q i).there) [ inl good ↦ inr good | inr bad ↦ inl bad ])) [
       | inl bad ↦ inl (
         bad.0.master,
         ap (λ (x : ℕ). bit_at x bad.0.master) m.members_are ∙ member_of_point points bad.0 bad.1,
@@ -100,7 +100,7 @@ module _ (laws : FramesGoSo) (goes : BlocksGoSo) (v : View) (n t : ℕ) (block :
     (split : AreBeforeCorrections v t front) where
   hears_so : (hearing : Hearing) → IsIn hearing (heard_since v.scenario front device t) → HearsSo v n t block device hearing
   hears_so hearing i =
-      let heard = hearing_of v device t front hearing is split i in
+      let heard = hearing_of device hearing is split i in
       let h = heard.h in
       let in_all : IsIn h v.records = subst (IsIn h) (sym split.whole) (in_left h front split.rest heard.there) in
       let this = hears_by v device h hearing h.note.body in_all refl heard.shows in
@@ -112,7 +112,7 @@ module _ (laws : FramesGoSo) (goes : BlocksGoSo) (v : View) (n t : ℕ) (block :
         cm = sent.1.cm;
         is_emission = sent.1.emission;
         good = λ good. good_hearing laws v n t block.before is (went_so goes v n t block is) device hearing.channel hearing.frame.point.0 h
-            (split.only h heard.there) this.judgement this.judges.hearer this.hears (heard_late v n t block device is at.has at.old front hearing split heard)
+            (split.only h heard.there) this.judgement this.judges.hearer this.hears (heard_late n block is at.has at.old split heard)
             (λ e c f. good);
       }
 
@@ -123,7 +123,7 @@ module _ (laws : FramesGoSo) (goes : BlocksGoSo) (v : View) (n t : ℕ) (block :
       let own = members_by hears.h in
       let g = hears.good good in
       let this = hears.this in
-      let lt = sooner v n t block device (time_of hears.h) at g.not_late in
+      let lt = sooner {v = v} {n = n} {t = t} {block = block} {device = device} (time_of hears.h) at g.not_late in
       let never : (3 ≤ count_of own) ⊎ AreGood v own → ⊥ = λ enough.
       this.judges.outside outside (heard_within goes v n t block is laws device hearing.channel hearing.frame.point.0 this.judgement hears.h at lt
       this.judges.hearer this.hears g enough) in
@@ -133,14 +133,14 @@ module _ (laws : FramesGoSo) (goes : BlocksGoSo) (v : View) (n t : ℕ) (block :
         | inr yes_other ↦ yes_other
         | inl same ↦
             let both = same_sent goes v n t block is _ _ _ _ own sound.sent
-            (subst (λ (c : Channel). IsSentOn v n c own g.emission) same g.sent) sound.before before in
-            absurd (omega (arith, ap (λ (m : Members). count_of m) both.1, sound.three, two))
+            (subst (λ c. IsSentOn v n c own g.emission) same g.sent) sound.before before in
+            absurd (omega (arith, ap (λ m. count_of m) both.1, sound.three, two))
       ] in
-      elim (good_or_bad v hears.emission hears.cm (cycle_in hears.h) own is hears.is_emission) [
+      elim (good_or_bad is hears.is_emission) [
         | inr all ↦ absurd (never (inr all))
         | inl bad ↦ record {
           emission = g.emission;
-          sent = subst (λ (c : Channel). IsSentOn v n c own g.emission) other g.sent;
+          sent = subst (λ c. IsSentOn v n c own g.emission) other g.sent;
           before = before;
           two = two;
           member = bad.0;
@@ -162,7 +162,7 @@ module _ (laws : FramesGoSo) (goes : BlocksGoSo) (v : View) (n t : ℕ) (block :
           elim (members_are_masters v hears.emission hears.cm (cycle_in hears.h) own is hears.is_emission).1 [
             | inl good ↦ inl (out, subst (IsPair v n t) same (is_pair hearing hears good out))
             | inr bad ↦
-                let m = made_of v hears.emission hears.cm (cycle_in hears.h) own is hears.is_emission in
+                let m = made_of is hears.is_emission in
                 let first_is = ap (λ (x : ℕ). bit_at x m.first.master) m.members_are ∙ member_of_point (m.first ∷ m.more) m.first (inl refl) in
                 inr (inl (out, subst (IsLone v) same (record { bad = bad.0; one = bad.1; member = m.first.master; is_member = first_is })))
           ]
@@ -193,7 +193,7 @@ module _ (laws : FramesGoSo) (goes : BlocksGoSo) (v : View) (n t : ℕ) (block :
 
       alike : (i j : ℕ) (members : Members) → IsMember i members → IsBadMember v i → IsBadMember v j → IsMember j members
       alike i j members set a b =
-          subst (λ (k : ℕ). IsMember k members)
+          subst (λ k. IsMember k members)
           (same_some (Some j) i j (sym b.1 ∙ ap (member_of v.scenario.network) (one_bad v a.0 b.0 is a.2 b.2) ∙ a.1) refl) set
 
       lone_bad : (h : Hearing) (i : ℕ) → IsOutside h → IsMember i h.frame.members → IsLoneIfOutside v h → IsBadMember v i

@@ -18,7 +18,7 @@ pub same_before : (s : Scenario) {mark later : List ℕ} {hs gs : List Happening
 same_before s {mark} {later} {hs} {gs} t up down one other =
     let a = split place_of (IsDue s) hs (t ∷ []) one.founded in
     let b = split place_of (IsDue s) gs (t ∷ []) other.founded in
-    let left = cut_run place_of (IsDue s) mark (t ∷ []) hs a up one in
-    let right = cut_run place_of (IsDue s) later (t ∷ []) gs b down other in
+    let left = cut_run (IsDue s) a up one in
+    let right = cut_run (IsDue s) b down other in
     let same : a.front ≡ b.front = one_run (IsDue s) (due_is_determined s) left right in
     sym (same_earlier t [] a) ∙ ap (earlier t) same ∙ same_earlier t [] b

@@ -25,7 +25,7 @@ module _ (granule : ℕ) (network : Network) (octets : List ℕ) (events : List 
     (under : IsUnder network events) (all : AreAdmitted network octets events) (run : AreRecordsBefore network events mark notes)
     (up : IsUpTo (amount (last_time events)) mark) (fine : least_granule network ≤ granule) where
   in_run : IsRunInGranules granule (exact_scenario network events) mark notes
-  in_run = record { lawful = lawful fresh_segment stepped_segment segment_reading exact_laws exact_begins network events under; run = run; fine = fine }
+  in_run = record { lawful = lawful fresh_segment stepped_segment segment_reading exact_laws exact_begins under; run = run; fine = fine }
 
   is_line : (before behind : List Event) (event : Event) → events ≡ before ++ event ∷ behind
       → IsLineOf (exact_scenario network events) mark (happenings network notes) (line_at network before event notes)

@@ -15,9 +15,10 @@ abbrev LiesOn : Link → ℕ → Type 0
 LiesOn l delay = (amount l.wire ≤ delay) × (delay ≤ amount l.wire + amount l.jitter)
 
 -- each wire delay that an event sets lies so
-set_delay_lies : (s : Scenario) (link : LinkId) (l : Link) (way : Way) → IsLawful s → link_at s.network link ≡ Some l → pos 1 ≤ℤ l.wire.0 → pos 0 ≤ℤ l.jitter.0
-    → (e : Event) → IsIn e s.events → (d : ℕ) → wire_set link way e.what ≡ Some d → LiesOn l d
-set_delay_lies s link l way lawful there least spread e i d is =
+set_delay_lies : {s : Scenario} (link : LinkId) (l : Link) (way : Way) → IsLawful s → link_at s.network link ≡ Some l
+    → pos 1 ≤ℤ l.wire.0 → pos 0 ≤ℤ l.jitter.0 → (e : Event) → IsIn e s.events → (d : ℕ)
+    → wire_set link way e.what ≡ Some d → LiesOn l d
+set_delay_lies {s} link l way lawful there least spread e i d is =
     let set = sets_wire link way e.what d is in
     let known = given s e lawful i in
     let other : ((set.delay.0 <ℤ l.wire.0) ⊎ ((l.wire.0 +ℤ l.jitter.0) <ℤ set.delay.0)) → ⊥ = λ far. known.within Wire (record {
@@ -34,12 +35,12 @@ set_delay_lies s link l way lawful there least spread e i d is =
     (λ near. (omega (arith, ints, long, least, set.sets), omega (arith, ints, near, long, least, spread, set.sets))))
 
 -- so does the wire delay at any time
-pub delay_lies : (s : Scenario) (link : LinkId) (l : Link) (way : Way) (t : ℕ) → IsLawful s → link_at s.network link ≡ Some l → pos 1 ≤ℤ l.wire.0
-    → pos 0 ≤ℤ l.jitter.0 → LiesOn l (delay_at s link way t)
-delay_lies s link l way t lawful there least spread =
+pub delay_lies : {s : Scenario} (link : LinkId) (l : Link) (way : Way) (t : ℕ) → IsLawful s
+    → link_at s.network link ≡ Some l → pos 1 ≤ℤ l.wire.0 → pos 0 ≤ℤ l.jitter.0 → LiesOn l (delay_at s link way t)
+delay_lies {s} link l way t lawful there least spread =
     let nominal : wire_of s.network link ≡ amount l.wire = ap (λ (o : Option Link). option_map_or (λ k. amount k.wire) o 0) there in
     last_is (LiesOn l) s (wire_set link way) (wire_of s.network link) t (omega (arith, nominal), omega (arith, nominal))
-    (set_delay_lies s link l way lawful there least spread)
+    (set_delay_lies link l way lawful there least spread)
 
 -- ---- arrivals
 
@@ -51,12 +52,13 @@ frames_arrive_in_spans brings v h device link cause vl cycle way is good d in_ru
     let here = dispatches_are_in_spans brings v h device link cause vl cycle is good d in
     let block = here.span.block in
     let range = in_range n d.place d.entry is.lawful.range d.row in
-    let at : link_at n link ≡ Some d.entry.link = subst (λ (x : LinkId). link_at n x ≡ Some d.entry.link) d.by d.row.link in
-    let delay = delay_lies s link d.entry.link way (time_of h) is.lawful at range.link.wire.least range.link.jitter.least in
+    let at : link_at n link ≡ Some d.entry.link = subst (λ x. link_at n x ≡ Some d.entry.link) d.by d.row.link in
+    let delay = delay_lies link d.entry.link way (time_of h) is.lawful at range.link.wire.least
+    range.link.jitter.least in
     let times = rows_are_in_time v d.place d.entry is d.row in
-    let narrow = before_narrow v cycle block.before in
+    let narrow = before_narrow block.before in
     let ends = block_ends v cycle block.next block.before.hull block.before.is_hull block.is_over in
-    let space = room v is in
+    let space = room is in
     let late : pos u ≤ℤ ((block.before.hull.greatest +ℤ pos (arrival_of d.entry + amount d.entry.link.jitter)) +ℤ pos v.sizes.reach) = omega
     (arith, ints, here.not_late, delay.1) in
     let span : IsInSpan v cycle u = record {
@@ -85,10 +87,10 @@ arrivals_are_in_windows v place cycle u entry receiver is row arrives timed =
     let z = shown_at v receiver u in
     let shows = arrives.shows receiver timed in
     let times = rows_are_in_time v place entry is row in
-    let space = room v is in
+    let space = room is in
     let far = so_far z (cycle * v.sizes.cycle) v.sizes.cycle (omega (arith, ints, shows.0, times.begins, space.eight_errors))
     (omega (arith, ints, shows.1, times.tolerates, times.ends, space.eight_errors)) in
-    let is_far = so_far_in n v.sizes.cycle z cycle far.0 (cycle_whole v is) far.1 far.2 in
+    let is_far = so_far_in n v.sizes.cycle z cycle far.0 (cycle_whole is) far.1 far.2 in
     record {
       in_cycle = is_far.cycle_is;
       not_before = omega (arith, ints, is_far.place_is, far.1, shows.0);

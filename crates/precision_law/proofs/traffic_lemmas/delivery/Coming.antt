@@ -20,9 +20,9 @@ spans_are_apart v n zero t u is lt one two = absurd (omega (arith, lt))
 spans_are_apart v n (suc k) t u is lt one two =
     let a = one.block.before.hull in
     let b = two.block.before.hull in
-    let grow = hulls_grow v n (suc k) a b is lt one.block.before.is_hull two.block.before.is_hull in
-    let late = begins_late v k two.block.before is in
-    let proper = hull_proper v (suc k) b is two.block.before.is_hull in
+    let grow = hulls_grow n (suc k) a b is lt one.block.before.is_hull two.block.before.is_hull in
+    let late = begins_late k two.block.before is in
+    let proper = hull_proper (suc k) b is two.block.before.is_hull in
     omega (arith, ints, grow, late, proper, one.early, two.block.from)
 
 -- ---- ids
@@ -49,13 +49,17 @@ record PutByRow (v : View) (h : Happening) (device : DeviceId) (link : LinkId) (
   pub dispatch : IsRowDispatch v taking.putting (source_of taking.by_row.entry) link from vl number
   pub same : dispatch.entry ≡ taking.by_row.entry
 
--- the link of what is put
-same_link : (a b : LinkId) (way turned : Way) (one two : Signal) → Some (put_on a way one) ≡ Some (put_on b turned two) → a ≡ b
-same_link a b way turned one two e = ap (λ (l : Launch). l.link) (same_some (Some (put_on a way one)) (put_on a way one) (put_on b turned two) refl e)
+module _ (a b : LinkId) (way turned : Way) (one two : Signal)
+    (e : Some (put_on a way one) ≡ Some (put_on b turned two)) where
+  -- the link of what is put
+  same_link : a ≡ b
+  same_link = ap (λ (l : Launch). l.link) (same_some (Some (put_on a way one)) (put_on a way one)
+      (put_on b turned two) refl e)
 
--- and its way
-same_turn : (a b : LinkId) (way turned : Way) (one two : Signal) → Some (put_on a way one) ≡ Some (put_on b turned two) → way ≡ turned
-same_turn a b way turned one two e = ap (λ (l : Launch). l.way) (same_some (Some (put_on a way one)) (put_on a way one) (put_on b turned two) refl e)
+  -- and its way
+  same_turn : way ≡ turned
+  same_turn = ap (λ (l : Launch). l.way) (same_some (Some (put_on a way one)) (put_on a way one)
+      (put_on b turned two) refl e)
 
 -- what `send` events put goes up
 sent_up : (cut : Bool) (link by : LinkId) (turned : Way) (signal other : Signal)
@@ -64,20 +68,22 @@ sent_up true link by turned signal other e = absurd cc
 sent_up false link by turned signal other e = (same_link link by Up turned signal other e, same_turn link by Up turned signal other e)
 
 -- the record that put the octets is a dispatch of the row
-put_by_row : SendersAreBroken → (v : View) (h : Happening) (device : DeviceId) (link : LinkId) (cause : ℕ) (vl : VlId) (cycle : ℕ) → IsView v
-    → FieldsFit v.scenario.network
-    → (taking : IsTaking v h device link cause vl cycle) → IsGood v (source_of taking.by_row.entry) → (body : NoteBody) → taking.putting.note.body ≡ body
-    → launched v.scenario taking.putting (time_of taking.putting) body ≡ Some (put_on link taking.way (timed h.octets))
-    → PutByRow v h device link cause vl cycle taking
-put_by_row broken v h device link cause vl cycle is fit taking fine (notes.Left d l c clock) same put =
+put_by_row : SendersAreBroken → {v : View} {h : Happening} {device : DeviceId} {link : LinkId} {cause : ℕ}
+    {vl : VlId} {cycle : ℕ} → IsView v → FieldsFit v.scenario.network
+    → (taking : IsTaking v h device link cause vl cycle) → IsGood v (source_of taking.by_row.entry)
+    → (body : NoteBody) → taking.putting.note.body ≡ body
+    → launched v.scenario taking.putting (time_of taking.putting) body
+    ≡ Some (put_on link taking.way (timed h.octets)) → PutByRow v h device link cause vl cycle taking
+put_by_row broken {h} {link} is fit taking fine (notes.Left d l c clock) same put =
     absurd (left_control taking.putting.frame l _ link taking.way h.octets put)
-put_by_row broken v h device link cause vl cycle is fit taking fine (notes.TtSent d l c other number) same put =
+put_by_row broken {v} {h} {device} {link} {cause} {vl} {cycle} is fit taking fine (notes.TtSent d l c other number)
+    same put =
     let n = v.scenario.network in
     let putting = taking.putting in
     let entry = taking.by_row.entry in
     let sent = dispatches_are_of_rows v putting d l c other number is taking.put_there same in
     let links : l ≡ link = same_link l link _ taking.way _ _ put in
-    let ids : sent.entry.vl.id ≡ entry.vl.id = sym (dispatch_shows v putting d l c other number is fit sent) ∙ ap (field 4 2) (sym taking.octets)
+    let ids : sent.entry.vl.id ≡ entry.vl.id = sym (dispatch_shows is fit sent) ∙ ap (field 4 2) (sym taking.octets)
     ∙ sym taking.by_row.id_is in
     let vls : sent.entry.row.vl ≡ entry.row.vl = same_id n sent.entry.row.vl entry.row.vl sent.entry.vl entry.vl is.lawful.rules sent.row.vl
     taking.by_row.row.vl ids in
@@ -90,54 +96,57 @@ put_by_row broken v h device link cause vl cycle is fit taking fine (notes.TtSen
     by : (d : DeviceId) (l : LinkId) (other : VlId) → d ≡ source_of taking.by_row.entry → l ≡ link → other ≡ vl
         → (sent : IsRowDispatch v taking.putting d l c other number) → sent.entry ≡ taking.by_row.entry → PutByRow v h device link cause vl cycle taking
     by d l other devices links own sent entries =
-        let from_d = subst (λ (x : DeviceId). (y : IsRowDispatch v taking.putting x l c other number) × (y.entry ≡ taking.by_row.entry)) devices (sent, entries)
+        let from_d = subst (λ x. (y : IsRowDispatch v taking.putting x l c other number) × (y.entry ≡ taking.by_row.entry)) devices (sent, entries)
         in
-        let from_l = subst (λ (x : LinkId). (y : IsRowDispatch v taking.putting (source_of taking.by_row.entry) x c other number)
+        let from_l = subst (λ x. (y : IsRowDispatch v taking.putting (source_of taking.by_row.entry) x c other number)
         × (y.entry ≡ taking.by_row.entry)) links from_d in
-        let from_vl = subst (λ (x : VlId). (y : IsRowDispatch v taking.putting (source_of taking.by_row.entry) link c x number)
+        let from_vl = subst (λ x. (y : IsRowDispatch v taking.putting (source_of taking.by_row.entry) link c x number)
         × (y.entry ≡ taking.by_row.entry)) own from_l in
         record { from = c; number = number; dispatch = from_vl.0; same = from_vl.1 }
-put_by_row broken v h device link cause vl cycle is fit taking fine (notes.Event line (Send l octets)) same put =
+put_by_row broken {v} {h} {link} is fit taking fine (notes.Event line (Send l octets)) same put =
     let entry = taking.by_row.entry in
     let up = sent_up (is_cut v.scenario l Up (time_of taking.putting)) l link taking.way (signal_of octets) (timed h.octets) put in
-    let at : link_at v.scenario.network l ≡ Some entry.link = subst (λ (x : LinkId). link_at v.scenario.network x ≡ Some entry.link)
+    let at : link_at v.scenario.network l ≡ Some entry.link = subst (λ x. link_at v.scenario.network x ≡ Some entry.link)
     (taking.by_row.by ∙ sym up.0) taking.by_row.row.link in
     let bad = broken v taking.putting line l octets entry.link is taking.put_there same at in
-    let source : source_of entry ≡ entry.link.child = ap (λ (w : Way). source_by w entry.link) (taking.by_row.on_way ∙ sym up.1) in
-    absurd (both_ways _ (subst (λ (d : DeviceId). is_broken v.scenario d v.until ≡ false) source fine) bad)
-put_by_row broken v h device link cause vl cycle is fit taking fine body same put = absurd cc
+    let source : source_of entry ≡ entry.link.child = ap (λ w. source_by w entry.link) (taking.by_row.on_way ∙ sym up.1) in
+    absurd (both_ways _ (subst (λ d. is_broken v.scenario d v.until ≡ false) source fine) bad)
+put_by_row broken is fit taking fine body same put = absurd cc
 
 -- how long the frame is on its port
-pub on_port : (v : View) (place : ℕ) (entry : Entry) (link : LinkId) (octets : List ℕ) → IsEntry v.scenario.network place entry → entry.row.link ≡ link
-    → length octets ≡ entry.vl.length → time_on_port v.scenario.network link (timed octets) ≡ port_time entry
-on_port v place entry link octets row by whole = grind (arith, option_map_or, length, octet_time, link_at)
+pub on_port : (v : View) {place : ℕ} {entry : Entry} (link : LinkId) (octets : List ℕ)
+    → IsEntry v.scenario.network place entry → entry.row.link ≡ link → length octets ≡ entry.vl.length
+    → time_on_port v.scenario.network link (timed octets) ≡ port_time entry
+on_port v link octets row by whole = grind (arith, option_map_or, length, octet_time, link_at)
 
 pub takings_come_by_rows : BringsBlocks → SendersAreBroken → TakingsComeByRows
 takings_come_by_rows brings broken v h device link cause vl cycle is fit good taking fine =
     let entry = taking.by_row.entry in
-    let put = put_by_row broken v h device link cause vl cycle is fit taking fine taking.putting.note.body refl taking.put in
-    let port = on_port v taking.by_row.place entry link h.octets taking.by_row.row taking.by_row.by taking.whole in
+    let put = put_by_row broken is fit taking fine taking.putting.note.body refl taking.put in
+    let port = on_port v link h.octets taking.by_row.row taking.by_row.by taking.whole in
     let ports : port_time put.dispatch.entry ≡ port_time entry = ap port_time put.same in
     let at : arrives_at v taking.putting link taking.way put.dispatch.entry ≡ time_of h = omega (arith, port, ports, taking.at) in
     let arrives = frames_arrive_in_spans brings v taking.putting (source_of entry) link put.from vl put.number taking.way is fine put.dispatch
-    (omega (arith, at, within_run v is h taking.there)) in
-    let here : ArrivesInSpan v put.number (time_of h) entry = subst (λ (e : Entry). ArrivesInSpan v put.number (time_of h) e) put.same
-    (subst (λ (u : ℕ). ArrivesInSpan v put.number u put.dispatch.entry) at arrives) in
+    (omega (arith, at, within_run is h taking.there)) in
+    let here : ArrivesInSpan v put.number (time_of h) entry = subst (λ e. ArrivesInSpan v put.number (time_of h) e) put.same
+    (subst (λ u. ArrivesInSpan v put.number u put.dispatch.entry) at arrives) in
     let timed : IsTimedAt v device (time_of h) = record { good = good; synchronised = taking.synchronised } in
     let window = arrivals_are_in_windows v taking.by_row.place put.number (time_of h) entry device is taking.by_row.row here timed in
     let cycles : put.number ≡ cycle = sym window.in_cycle ∙ sym taking.in_cycle in
-    let moved = subst (λ (c : ℕ). (y : IsRowDispatch v taking.putting (source_of entry) link put.from vl c) × (y.entry ≡ entry)) cycles (put.dispatch, put.same)
+    let moved = subst (λ c. (y : IsRowDispatch v taking.putting (source_of entry) link put.from vl c) × (y.entry ≡ entry)) cycles (put.dispatch, put.same)
     in
-    record { from = put.from; dispatch = moved.0; same = moved.1; in_span = subst (λ (c : ℕ). ArrivesInSpan v c (time_of h) entry) cycles here }
+    record { from = put.from; dispatch = moved.0; same = moved.1; in_span = subst (λ c. ArrivesInSpan v c (time_of h) entry) cycles here }
 
 -- ---- back to the sender
 
 -- by the time of the dispatch
-begins_below : BringsBlocks → SendersAreBroken → (bound : ℕ) (v : View) (h : Happening) (device : DeviceId) (link : LinkId) (cause : ℕ) (vl : VlId)
-    (of_vl : VirtualLink) (cycle : ℕ) → IsView v → FieldsFit v.scenario.network → IsGood v device → HasGoodSources v vl
-    → slice_get v.scenario.network.vl vl.0 ≡ Some of_vl → IsRowDispatch v h device link cause vl cycle → time_of h < bound → BeginsAtSender v h vl of_vl cycle
-begins_below brings broken zero v h device link cause vl of_vl cycle is fit good sources there d lt = absurd (omega (arith, lt))
-begins_below brings broken (suc bound) v h device link cause vl of_vl cycle is fit good sources there d lt =
+begins_below : BringsBlocks → SendersAreBroken → (bound : ℕ) {v : View} (h : Happening) (device : DeviceId)
+    (link : LinkId) (cause : ℕ) {vl : VlId} (of_vl : VirtualLink) {cycle : ℕ} → IsView v
+    → FieldsFit v.scenario.network → IsGood v device → HasGoodSources v vl
+    → slice_get v.scenario.network.vl vl.0 ≡ Some of_vl → IsRowDispatch v h device link cause vl cycle
+    → time_of h < bound → BeginsAtSender v h vl of_vl cycle
+begins_below brings broken zero h device link cause of_vl is fit good sources there d lt = absurd (omega (arith, lt))
+begins_below brings broken (suc bound) {v} h device link cause {vl} of_vl {cycle} is fit good sources there d lt =
     let own : d.entry.vl ≡ of_vl = same_some (slice_get v.scenario.network.vl vl.0) d.entry.vl of_vl
     (subst (λ (x : VlId). slice_get v.scenario.network.vl x.0 ≡ Some d.entry.vl) d.of_vl d.row.vl) there in
     elim (octets_come_so v h device link cause vl cycle is d) [
@@ -148,17 +157,18 @@ begins_below brings broken (suc bound) v h device link cause vl of_vl cycle is f
             first = h;
             back = record { causes = []; chain = tt; begins = refl };
             begins = subst (IsFirstDispatch vl of_vl cycle) (sym d.is) begins;
-            whole = made.frame ∙ ap (λ (x : VirtualLink). tt_frame_by v.scenario.network x cycle) own;
+            whole = made.frame ∙ ap (λ x. tt_frame_by v.scenario.network x cycle) own;
           }
       | inr passed ↦
           let taking = takings_are_so v passed.taken device passed.link passed.from vl cycle is passed.there (inl passed.is) in
           let fine = sources taking.by_row.place taking.by_row.entry taking.by_row.row taking.by_row.of_vl in
           let comes = takings_come_by_rows brings broken v passed.taken device passed.link passed.from vl cycle is fit good taking fine in
-          let rest = begins_below brings broken bound v taking.putting (source_of taking.by_row.entry) passed.link comes.from vl of_vl cycle is fit fine sources
+          let rest = begins_below brings broken bound taking.putting (source_of taking.by_row.entry) passed.link
+          comes.from of_vl is fit fine sources
           there comes.dispatch (omega (arith, taking.at, passed.earlier, lt)) in
-          let first_cause : numbered v.records (cause_of h.note.body) ≡ Some passed.taken = ap (λ (b : NoteBody). numbered v.records (cause_of b)) d.is
+          let first_cause : numbered v.records (cause_of h.note.body) ≡ Some passed.taken = ap (λ b. numbered v.records (cause_of b)) d.is
           ∙ passed.number in
-          let second_cause : numbered v.records (cause_of passed.taken.note.body) ≡ Some taking.putting = ap (λ (b : NoteBody). numbered v.records (cause_of b))
+          let second_cause : numbered v.records (cause_of passed.taken.note.body) ≡ Some taking.putting = ap (λ b. numbered v.records (cause_of b))
           passed.is ∙ taking.number in
           record {
             first = rest.first;
@@ -174,7 +184,7 @@ begins_below brings broken (suc bound) v h device link cause vl of_vl cycle is f
 
 pub dispatches_begin : BringsBlocks → SendersAreBroken → DispatchesBegin
 dispatches_begin brings broken v h device link cause vl of_vl cycle is fit good sources there d =
-    begins_below brings broken (time_of h + 1) v h device link cause vl of_vl cycle is fit good sources there d (omega arith)
+    begins_below brings broken (time_of h + 1) h device link cause of_vl is fit good sources there d (omega arith)
 
 pub takings_begin : BringsBlocks → SendersAreBroken → TakingsBegin
 takings_begin brings broken v h device link cause vl of_vl cycle is fit good sources there taking =

@@ -9,7 +9,7 @@ use Rattle.precision_law.proofs.traffic_lemmas.Words.{VlId, [], adjustment_after
 use Rattle.precision_law.proofs.traffic_lemmas.Words.{cases_lt, cause_of, clocks_reach_sharply, earlier, epoch_time, false, in_all, inl, inr, ints, is_broken}
 use Rattle.precision_law.proofs.traffic_lemmas.Words.{is_turned_on_at, numbered, numbered_in, offset_in_cycle, place_of, pos, reaches_by, refl, room, same_some}
 use Rattle.precision_law.proofs.traffic_lemmas.Words.{shown_at, slice_get, source_of, state_after, state_left, steady, subst, suc, sym, target_of, time_of}
-use Rattle.precision_law.proofs.traffic_lemmas.{Words.{tt_frame_by, window_of, within_run, zero, ℕ, ℤ}, delivery.Sent.{Brings, arrives_in_time, rows_are_sent}}
+use Rattle.precision_law.proofs.traffic_lemmas.{Words.{tt_frame_by, window_of, within_run, zero, ℕ}, delivery.Sent.{Brings, arrives_in_time, rows_are_sent}}
 use Rattle.precision_law.proofs.traffic_lemmas.{delivery.Arriving.frames_arrive_in_spans, ports.{Cycles.same_next, Dispatched.{cycle_is, offset_in_schedule}}}
 use Rattle.precision_law.proofs.traffic_lemmas.delivery.{Coming.{dispatches_begin, takings_begin}, Receiving.{arrivals_are_taken, state_is}}
 use Rattle.precision_law.proofs.traffic_lemmas.{delivery.{Once.delivered_once, Since.synchronised_before, Taken.takings_are_so}, schedule.Rows.rows_are_in_time}
@@ -46,9 +46,10 @@ record ComesInTime (v : View) (vl : VlId) (cycle : ℕ) (device : DeviceId) : Ty
   pub is : delivery.note.body ≡ notes.Delivered device link cause vl cycle
 
 -- the frame that is owed comes
-comes_in_time : Brings → (v : View) (vl : VlId) (of_vl : VirtualLink) (cycle : ℕ) (device : DeviceId) (from last : ℕ) → IsView v → FieldsFit v.scenario.network
-    → HasGoodSources v vl → IsOwedIn v vl of_vl cycle device from last → ComesInTime v vl cycle device
-comes_in_time brings v vl of_vl cycle device from last is fit sources owed =
+comes_in_time : Brings → {v : View} {vl : VlId} {of_vl : VirtualLink} {cycle : ℕ} {device : DeviceId} {from last : ℕ}
+    → IsView v → FieldsFit v.scenario.network → HasGoodSources v vl → IsOwedIn v vl of_vl cycle device from last
+    → ComesInTime v vl cycle device
+comes_in_time brings {v} {vl} {of_vl} {cycle} {device} {last} is fit sources owed =
     let n = v.scenario.network in
     let entry = owed.entry in
     let went = rows_are_sent brings v vl of_vl cycle last is fit sources owed.sent owed.place entry owed.row owed.own owed.on_channel owed.ends in
@@ -60,14 +61,14 @@ comes_in_time brings v vl of_vl cycle device from last is fit sources owed =
     let begun = dispatches_begin brings.blocks brings.senders v h source link went.cause vl of_vl cycle is fit good sources owed.sent.there d in
     let vls : d.entry.vl ≡ of_vl = same_some (slice_get n.vl vl.0) d.entry.vl of_vl
     (subst (λ (x : VlId). slice_get n.vl x.0 ≡ Some d.entry.vl) d.of_vl d.row.vl) owed.sent.there in
-    let whole : h.octets ≡ tt_frame_by n d.entry.vl cycle = begun.whole ∙ ap (λ (x : VirtualLink). tt_frame_by n x cycle) (sym vls) in
-    let window : window_end n d.entry ≤ last = subst (λ (e : Entry). window_end n e ≤ last) (sym went.same) owed.ends in
-    let in_time = arrives_in_time brings v vl of_vl cycle last is owed.sent h source link went.cause good d window in
+    let whole : h.octets ≡ tt_frame_by n d.entry.vl cycle = begun.whole ∙ ap (λ x. tt_frame_by n x cycle) (sym vls) in
+    let window : window_end n d.entry ≤ last = subst (λ e. window_end n e ≤ last) (sym went.same) owed.ends in
+    let in_time = arrives_in_time brings is owed.sent good d window in
     let t = arrives_at v h link d.entry.row.way d.entry in
     let arrives = frames_arrive_in_spans brings.blocks v h source link went.cause vl cycle d.entry.row.way is good d in_time in
-    let next = same_next v cycle arrives.span.block.before owed.span.block.before in
+    let next = same_next arrives.span.block.before owed.span.block.before in
     let timed = owed.timed t (omega (arith, next, arrives.span.block.from)) in_time in
-    let off = brings.not_on v device t is (has_time_at v device t timed).timed in
+    let off = brings.not_on v device t is (has_time_at timed).timed in
     let taken = arrivals_are_taken brings.blocks brings.channels v h source device link went.cause vl cycle is fit good owed.good d whole
     (ap target_of went.same ∙ owed.enters) in_time timed off in
     record {
@@ -75,27 +76,29 @@ comes_in_time brings v vl of_vl cycle device from last is fit sources owed =
       there = taken.there;
       link = taken.link;
       cause = taken.cause;
-      is = end_delivers v taken.taking device taken.link taken.cause vl cycle is taken.there (end_test n device owed.end_system) taken.says;
+      is = end_delivers taken.taking device taken.link taken.cause vl cycle is taken.there
+          (end_test n device owed.end_system) taken.says;
     }
 
 -- ---- the beginning of the cycle
 
 -- a device that reaches the beginning of the cycle and is synchronised from then on does so before the cycle's span
-begins_before : Brings → (v : View) (n t : ℕ) (span : IsInSpan v n (t + 1)) (device : DeviceId) → IsView v → 1 ≤ n → IsTimedAt v device (t + 1)
-    → Reaches v.scenario v.records device (pos (n * v.sizes.cycle)) t → t < span.block.before.next
-begins_before brings v zero t span device is begun timed reached = absurd (omega (arith, begun))
-begins_before brings v (suc c) t span device is begun timed reached =
+begins_before : Brings → {v : View} (n : ℕ) {t : ℕ} (span : IsInSpan v n (t + 1)) {device : DeviceId} → IsView v
+    → 1 ≤ n → IsTimedAt v device (t + 1) → Reaches v.scenario v.records device (pos (n * v.sizes.cycle)) t
+    → t < span.block.before.next
+begins_before brings zero span is begun timed reached = absurd (omega (arith, begun))
+begins_before brings {v} (suc c) {t} span {device} is begun timed reached =
     elim (cases_lt t span.block.before.next) [
       | inl lt ↦ lt
       | inr ge ↦
           let keep = synchronised_keep_time brings.blocks v (suc c) (t + 1) span device is timed in
-          let late = begins_late v c span.block.before is in
+          let late = begins_late c span.block.before is in
           let early : epoch_time (earlier (t + 1) v.records) device <ℤ pos t = omega (arith, ints, keep.old, ge) in
           let same : adjustment_left v device t ≡ adjustment_left v device (t + 1) = ap (λ (a : Units). a.0)
-          (adjustment_stays v device t (t + 1) is (omega arith) early) in
+          (adjustment_stays device t (t + 1) is (omega arith) early) in
           let sharp = clocks_reach_sharply v device (pos (suc c * v.sizes.cycle)) t is reached in
           let step = (steady v is device).steps t in
-          let space = room v is in
+          let space = room is in
           absurd (omega (
             arith,
             ints,
@@ -119,7 +122,7 @@ numbered_more : (s : Scenario) (gs hs : List Happening) → IsFounded place_of (
     → ((h : Happening) → IsIn h gs → IsIn h hs) → (n : ℕ) (h : Happening) → numbered gs n ≡ Some h → numbered hs n ≡ Some h
 numbered_more s gs hs one two inside n h e =
     let there = by_number s hs h two (inside h (numbered_in gs n h e)) in
-    subst (λ (k : ℕ). numbered hs k ≡ Some h) (number_is s gs n h one e) there
+    subst (λ k. numbered hs k ≡ Some h) (number_is s gs n h one e) there
 
 -- a chain of causes in a front is one in the whole
 chain_more : (gs hs : List Happening) → ((n : ℕ) (h : Happening) → numbered gs n ≡ Some h → numbered hs n ≡ Some h) → (h : Happening) (causes : List Happening)
@@ -130,9 +133,10 @@ chain_more gs hs more h (g ∷ rest) chain = (more (cause_of h.note.body) g chai
 -- ---- the law
 
 -- where the last window into the device ends
-pub last_in_schedule : (v : View) (vl : VlId) (device : DeviceId) (last : ℕ) (into : Entry) → IsView v → IsRowInto v.scenario.network vl device into
-    → IsGreatest (IsWindowEnd v.scenario.network vl device) last → IsInSchedule v.sizes last
-last_in_schedule v vl device last into is enters greatest =
+pub last_in_schedule : {v : View} {vl : VlId} {device : DeviceId} {last : ℕ} {into : Entry} → IsView v
+    → IsRowInto v.scenario.network vl device into → IsGreatest (IsWindowEnd v.scenario.network vl device) last
+    → IsInSchedule v.sizes last
+last_in_schedule {v} {into} is enters greatest =
     let times = rows_are_in_time v enters.place into is enters.is in
     let most = greatest.most (window_end v.scenario.network into) (into, enters, refl) in
     elim greatest.reached [
@@ -142,9 +146,9 @@ last_in_schedule v vl device last into is enters greatest =
         most,
         times.begins,
         times.tolerates,
-        (room v is).eight_errors,
-        (room v is).errors.reach_is,
-        (room v is).errors.clock_is,
+        (room is).eight_errors,
+        (room is).errors.reach_is,
+        (room is).errors.clock_is,
       ))
       | inr end ↦
           let at = rows_are_in_time v end.1.place end.0 is end.1.is in
@@ -152,9 +156,10 @@ last_in_schedule v vl device last into is enters greatest =
     ]
 
 -- the row into the device on a channel
-pub row_on : (v : View) (vl : VlId) (channel : Channel) (device : DeviceId) (into : Entry) → IsView v → IsEndSystem v.scenario.network device
-    → IsRowInto v.scenario.network vl device into → EntersOn v.scenario.network vl channel device
-row_on v vl channel device into is end enters =
+pub row_on : {v : View} {vl : VlId} (channel : Channel) {device : DeviceId} {into : Entry} → IsView v
+    → IsEndSystem v.scenario.network device → IsRowInto v.scenario.network vl device into
+    → EntersOn v.scenario.network vl channel device
+row_on {v} {vl} channel {device} {into} is end enters =
     let n = v.scenario.network in
     let joint = is.lawful.rules Joints into.row.link.0 into.link enters.is.link in
     (is.lawful.rules BothChannels vl.0).same device joint.0 channel end (record {
@@ -173,49 +178,51 @@ pub record IsFrontOf (v : View) (hs : List Happening) : Type 0 where
   pub founded : IsFounded place_of (IsDue v.scenario) hs
 
 -- the device is synchronised behind the beginning of the cycle
-pub timed_behind : (v : View) (hs : List Happening) (device : DeviceId) (from t : ℕ) → IsFrontOf v hs → IsGood v device
-    → ((x : ℕ) → from ≤ x → x ≤ v.until → IsInStep v.scenario hs device x) → from < t → t ≤ v.until → IsTimedAt v device t
-timed_behind v hs device from t front good receiver lt le =
+pub timed_behind : {v : View} {hs : List Happening} (device : DeviceId) (from t : ℕ) → IsFrontOf v hs
+    → IsGood v device → ((x : ℕ) → from ≤ x → x ≤ v.until → IsInStep v.scenario hs device x) → from < t → t ≤ v.until
+    → IsTimedAt v device t
+timed_behind {v} {hs} device from t front good receiver lt le =
     let next : t - 1 + 1 ≡ t = omega (arith, lt) in
     let step = (receiver (t - 1) (omega (arith, lt)) (omega (arith, le))).synchronised in
     let moved : state_after v.scenario (earlier (t - 1 + 1) hs) device ≡ Synchronised = subst
-    (λ (xs : List Happening). state_after v.scenario xs device ≡ Synchronised) (up_to_is (t - 1) hs) step in
-    let here : state_after v.scenario (earlier t hs) device ≡ Synchronised = subst (λ (u : ℕ). state_after v.scenario (earlier u hs) device ≡ Synchronised) next
+    (λ xs. state_after v.scenario xs device ≡ Synchronised) (up_to_is (t - 1) hs) step in
+    let here : state_after v.scenario (earlier t hs) device ≡ Synchronised = subst (λ u. state_after v.scenario (earlier u hs) device ≡ Synchronised) next
     moved in
     record {
       good = good;
-      synchronised = subst (λ (xs : List Happening). state_after v.scenario xs device ≡ Synchronised) (front.early t (omega (arith, le))) here;
+      synchronised = subst (λ xs. state_after v.scenario xs device ≡ Synchronised) (front.early t (omega (arith, le))) here;
     }
 
 -- a clock that reaches a place of the cycle does so in the view
-pub reaches_in : (v : View) (hs : List Happening) (device : DeviceId) (cycle place t : ℕ) → IsView v → IsFrontOf v hs → t ≤ v.until
-    → ReachesPlace v.scenario hs device cycle place t → Reaches v.scenario v.records device (pos (cycle * v.sizes.cycle + place)) t
-reaches_in v hs device cycle place t is front le reaches =
-    subst (λ (n : ℕ). Reaches v.scenario v.records device (pos (cycle * n + place)) t) (sym (cycle_is v is))
+pub reaches_in : {v : View} {hs : List Happening} {device : DeviceId} (cycle place : ℕ) {t : ℕ} → IsView v
+    → IsFrontOf v hs → t ≤ v.until → ReachesPlace v.scenario hs device cycle place t
+    → Reaches v.scenario v.records device (pos (cycle * v.sizes.cycle + place)) t
+reaches_in {v} {hs} {device} cycle place {t} is front le reaches =
+    subst (λ (n : ℕ). Reaches v.scenario v.records device (pos (cycle * n + place)) t) (sym (cycle_is is))
     (reaches_by {gs = hs} v.records {t = t} (front.early t (omega (arith, le))) reaches)
 
 -- the frame is sent in the view
-sent_in : Brings → (v : View) (hs : List Happening) (until : ℕ) (vl : VlId) (of_vl : VirtualLink) (cycle : ℕ) (device : DeviceId) → IsView v → IsFrontOf v hs
-    → (owed : IsOwed v.scenario hs until vl of_vl cycle device) → owed.to ≡ v.until
-    → IsReachedInSpan v cycle owed.last v.until → IsSentIn v vl of_vl cycle owed.last
-sent_in brings v hs until vl of_vl cycle device is front owed end reached = record {
+sent_in : Brings → {v : View} {hs : List Happening} {until : ℕ} {vl : VlId} {of_vl : VirtualLink} {cycle : ℕ}
+    {device : DeviceId} → IsView v → IsFrontOf v hs → (owed : IsOwed v.scenario hs until vl of_vl cycle device)
+    → owed.to ≡ v.until → IsReachedInSpan v cycle owed.last v.until → IsSentIn v vl of_vl cycle owed.last
+sent_in brings {v} {hs} {of_vl} {cycle} {device} is front owed end reached = record {
   there = owed.there;
   occurs = owed.occurs;
-  sender = subst (λ (t : ℕ). is_broken v.scenario of_vl.sender t ≡ false) end owed.sender;
+  sender = subst (λ t. is_broken v.scenario of_vl.sender t ≡ false) end owed.sender;
   before = reached.span.block.before;
   in_run = reached.not_early;
   rows = λ place entry row own source.
       let r = owed.rows place entry row own source in
       let sender = of_vl.sender in
       let le : r.0 ≤ v.until = omega (arith, r.1, end) in
-      let reaches = reaches_in v hs sender cycle (amount entry.row.offset) r.0 is front le r.2 in
+      let reaches = reaches_in cycle (amount entry.row.offset) is front le r.2 in
       let left : state_after v.scenario (earlier (r.0 + 1) hs) sender ≡ Synchronised = subst
-      (λ (xs : List Happening). state_after v.scenario xs sender ≡ Synchronised) (up_to_is r.0 hs) r.3 in
-      let behind : state_left v sender (r.0 + 1) ≡ Synchronised = subst (λ (xs : List Happening). state_after v.scenario xs sender ≡ Synchronised)
+      (λ xs. state_after v.scenario xs sender ≡ Synchronised) (up_to_is r.0 hs) r.3 in
+      let behind : state_left v sender (r.0 + 1) ≡ Synchronised = subst (λ xs. state_after v.scenario xs sender ≡ Synchronised)
       (front.early (r.0 + 1) (omega (arith, le))) left in
-      let timed = synchronised_before v sender cycle (amount entry.row.offset) r.0 is (offset_in_schedule v place entry is row) reaches behind in
-      let good : IsGood v sender = subst (λ (t : ℕ). is_broken v.scenario sender t ≡ false) end owed.sender in
-      let has = has_time_at v sender r.0 (record { good = good; synchronised = timed }) in (
+      let timed = synchronised_before cycle is (offset_in_schedule is row) reaches behind in
+      let good : IsGood v sender = subst (λ t. is_broken v.scenario sender t ≡ false) end owed.sender in
+      let has = has_time_at {v = v} {device = sender} {t = r.0} (record { good = good; synchronised = timed }) in (
         r.0,
         le,
         reaches,
@@ -224,9 +231,11 @@ sent_in brings v hs until vl of_vl cycle device is front owed end reached = reco
 }
 
 -- the cycle begins before its span
-pub from_before : Brings → (v : View) (cycle from : ℕ) (device : DeviceId) → IsView v → (span : IsInSpan v cycle v.until) → 1 ≤ cycle → from < v.until
-    → Reaches v.scenario v.records device (pos (cycle * v.sizes.cycle + 0)) from → IsTimedAt v device (from + 1) → from < span.block.before.next
-from_before brings v cycle from device is span begun lt reaches timed =
+pub from_before : Brings → {v : View} {cycle from : ℕ} {device : DeviceId} → IsView v
+    → (span : IsInSpan v cycle v.until) → 1 ≤ cycle → from < v.until
+    → Reaches v.scenario v.records device (pos (cycle * v.sizes.cycle + 0)) from → IsTimedAt v device (from + 1)
+    → from < span.block.before.next
+from_before brings {v} {cycle} {from} {device} is span begun lt reaches timed =
     elim (cases_lt from span.block.before.next) [
       | inl less ↦ less
       | inr ge ↦
@@ -242,31 +251,34 @@ from_before brings v cycle from device is span begun lt reaches timed =
             early = omega (arith, ints, lt, span.early);
           } in
           let whole : cycle * v.sizes.cycle + 0 ≡ cycle * v.sizes.cycle = omega arith in
-          begins_before brings v cycle from next_span device is begun timed (subst (λ (n : ℕ). Reaches v.scenario v.records device (pos n) from) whole reaches)
+          begins_before brings cycle next_span is begun timed
+          (subst (λ n. Reaches v.scenario v.records device (pos n) from) whole reaches)
     ]
 
 -- the frame is owed in the view
-owed_in : Brings → (v : View) (hs : List Happening) (until : ℕ) (vl : VlId) (of_vl : VirtualLink) (cycle : ℕ) (device : DeviceId) → IsView v → IsFrontOf v hs
-    → (owed : IsOwed v.scenario hs until vl of_vl cycle device) → owed.to ≡ v.until → IsOwedIn v vl of_vl cycle device owed.from owed.last
-owed_in brings v hs until vl of_vl cycle device is front owed end =
+owed_in : Brings → {v : View} {hs : List Happening} {until : ℕ} {vl : VlId} {of_vl : VirtualLink} {cycle : ℕ}
+    {device : DeviceId} → IsView v → IsFrontOf v hs → (owed : IsOwed v.scenario hs until vl of_vl cycle device)
+    → owed.to ≡ v.until → IsOwedIn v vl of_vl cycle device owed.from owed.last
+owed_in brings {v} {hs} {of_vl} {cycle} {device} is front owed end =
     let lt : owed.from < v.until = omega (arith, owed.in_order, end) in
     let receiver : (x : ℕ) → owed.from ≤ x → x ≤ v.until → IsInStep v.scenario hs device x = λ x from le. owed.receiver x from (omega (arith, le, end)) in
     let good : IsGood v device = (receiver v.until (omega (arith, lt)) (omega arith)).correct in
-    let timed_at : (t : ℕ) → owed.from < t → t ≤ v.until → IsTimedAt v device t = λ t less le. timed_behind v hs device owed.from t front good receiver less le
+    let timed_at : (t : ℕ) → owed.from < t → t ≤ v.until → IsTimedAt v device t =
+    λ t less le. timed_behind device owed.from t front good receiver less le
     in
-    let within = last_in_schedule v vl device owed.last owed.into is owed.enters owed.greatest in
-    let ends : ReachesPlace v.scenario hs device cycle owed.last v.until = subst (λ (t : ℕ). ReachesPlace v.scenario hs device cycle owed.last t) end owed.ends
+    let within = last_in_schedule is owed.enters owed.greatest in
+    let ends : ReachesPlace v.scenario hs device cycle owed.last v.until = subst (λ t. ReachesPlace v.scenario hs device cycle owed.last t) end owed.ends
     in
     let reached = values_are_reached_in_spans brings.blocks v cycle owed.last v.until device is (timed_at v.until lt (omega arith)) (omega arith)
-    owed.occurs.begun within (reaches_in v hs device cycle owed.last v.until is front (omega arith) ends) in
-    let row = row_on v vl v.channel device owed.into is owed.end_system owed.enters in
-    let begins = reaches_in v hs device cycle 0 owed.from is front (omega (arith, lt)) owed.begins in
-    let before_span = from_before brings v cycle owed.from device is reached.span owed.occurs.begun lt begins
+    owed.occurs.begun within (reaches_in cycle owed.last is front (omega arith) ends) in
+    let row = row_on v.channel is owed.end_system owed.enters in
+    let begins = reaches_in cycle 0 is front (omega (arith, lt)) owed.begins in
+    let before_span = from_before brings is reached.span owed.occurs.begun lt begins
     (timed_at (owed.from + 1) (omega arith) (omega (arith, lt))) in
     record {
       end_system = owed.end_system;
       good = good;
-      sent = sent_in brings v hs until vl of_vl cycle device is front owed end reached;
+      sent = sent_in brings is front owed end reached;
       span = reached.span;
       place = row.place;
       entry = row.entry;
@@ -281,19 +293,20 @@ owed_in brings v hs until vl of_vl cycle device is front owed end =
     }
 
 -- a delivery in the view is one of the whole
-delivered_in : Brings → (v : View) (hs : List Happening) (vl : VlId) (of_vl : VirtualLink) (cycle : ℕ) (device : DeviceId) → IsView v
-    → FieldsFit v.scenario.network → IsGood v device → HasGoodSources v vl → slice_get v.scenario.network.vl vl.0 ≡ Some of_vl → IsFrontOf v hs
-    → (come : ComesInTime v vl cycle device)
-    → ((other : Happening) (by : LinkId) (from : ℕ) → IsIn other hs → other.note.body ≡ notes.Delivered device by from vl cycle → other ≡ come.delivery)
+delivered_in : Brings → {v : View} {hs : List Happening} {vl : VlId} (of_vl : VirtualLink) {cycle : ℕ}
+    {device : DeviceId} → IsView v → FieldsFit v.scenario.network → IsGood v device → HasGoodSources v vl
+    → slice_get v.scenario.network.vl vl.0 ≡ Some of_vl → IsFrontOf v hs → (come : ComesInTime v vl cycle device)
+    → ((other : Happening) (by : LinkId) (from : ℕ) → IsIn other hs
+    → other.note.body ≡ notes.Delivered device by from vl cycle → other ≡ come.delivery)
     → IsDelivered v.scenario hs vl of_vl cycle device
-delivered_in brings v hs vl of_vl cycle device is fit good sources there front come once =
+delivered_in brings {v} {hs} {vl} of_vl {cycle} {device} is fit good sources there front come once =
     let h = come.delivery in
     let t = time_of h in
-    let early : t ≤ v.until = within_run v is h come.there in
+    let early : t ≤ v.until = within_run is h come.there in
     let taking = takings_are_so v h device come.link come.cause vl cycle is come.there (inr come.is) in
     let begun = takings_begin brings.blocks brings.senders v h device come.link come.cause vl of_vl cycle is fit good sources there taking in
     let shown : shown_at v device t ≡ local_before v.scenario hs device t =
-    ap (λ (xs : List Happening). pos (v.scenario.reading device t) +ℤ (adjustment_after v.scenario xs device).0)
+    ap (λ xs. pos (v.scenario.reading device t) +ℤ (adjustment_after v.scenario xs device).0)
     (sym (front.early t (omega (arith, early)))) in
     record {
       delivery = h;
@@ -307,8 +320,8 @@ delivered_in brings v hs vl of_vl cycle device is fit good sources there front c
         row = record { place = taking.by_row.place; is = taking.by_row.row; of_vl = taking.by_row.of_vl; enters = taking.by_row.enters };
         by = taking.by_row.by;
         not_before =
-            subst (λ (z : ℤ). (window_of v.scenario.network taking.by_row.entry).from.0 ≤ℤ offset_in_cycle v.scenario.network z) shown taking.not_before;
-        not_behind = subst (λ (z : ℤ). offset_in_cycle v.scenario.network z ≤ℤ (window_of v.scenario.network taking.by_row.entry).to.0) shown taking.not_behind;
+            subst (λ z. (window_of v.scenario.network taking.by_row.entry).from.0 ≤ℤ offset_in_cycle v.scenario.network z) shown taking.not_before;
+        not_behind = subst (λ z. offset_in_cycle v.scenario.network z ≤ℤ (window_of v.scenario.network taking.by_row.entry).to.0) shown taking.not_behind;
       };
       first = begun.first;
       back = record {
@@ -321,34 +334,36 @@ delivered_in brings v hs vl of_vl cycle device is fit good sources there front c
     }
 
 -- two deliveries of a run are one, where both are in a view that ends with the later of them
-one_in : Brings → (v : View) (h g : Happening) (device : DeviceId) (link other : LinkId) (cause second : ℕ) (vl : VlId) (cycle : ℕ) → IsView v
-    → FieldsFit v.scenario.network → IsIn h v.records → IsIn g v.records → v.until ≡ max (time_of h) (time_of g)
-    → h.note.body ≡ notes.Delivered device link cause vl cycle → g.note.body ≡ notes.Delivered device other second vl cycle → h ≡ g
-one_in brings v h g device link other cause second vl cycle is fit i j end one two =
+one_in : Brings → {v : View} (h g : Happening) (device : DeviceId) (link other : LinkId) (cause second : ℕ)
+    (vl : VlId) (cycle : ℕ) → IsView v → FieldsFit v.scenario.network → IsIn h v.records → IsIn g v.records
+    → v.until ≡ max (time_of h) (time_of g) → h.note.body ≡ notes.Delivered device link cause vl cycle
+    → g.note.body ≡ notes.Delivered device other second vl cycle → h ≡ g
+one_in brings {v} h g device link other cause second vl cycle is fit i j end one two =
     let first = takings_are_so v h device link cause vl cycle is i (inr one) in
     let last = takings_are_so v g device other second vl cycle is j (inr two) in
     let good : IsGood v device = elim (cases_lt (time_of h) (time_of g)) [
-      | inl lt ↦ (let at : time_of g ≡ v.until = omega (arith, lt, end) in subst (λ (t : ℕ). is_broken v.scenario device t ≡ false) at last.correct)
-      | inr ge ↦ (let at : time_of h ≡ v.until = omega (arith, ge, end) in subst (λ (t : ℕ). is_broken v.scenario device t ≡ false) at first.correct)
+      | inl lt ↦ (let at : time_of g ≡ v.until = omega (arith, lt, end) in subst (λ t. is_broken v.scenario device t ≡ false) at last.correct)
+      | inr ge ↦ (let at : time_of h ≡ v.until = omega (arith, ge, end) in subst (λ t. is_broken v.scenario device t ≡ false) at first.correct)
     ] in
-    delivered_once brings v h g device link other cause second vl cycle is fit good i j one two
+    delivered_once brings h g device link other cause second vl cycle is fit good i j one two
 
 -- so are two deliveries of a run
-delivered_once_in : Brings → (s : Scenario) (mark : List ℕ) (ns : List Note) (until : ℕ) → IsRunTo s mark ns until → FieldsFit s.network
-    → (h g : Happening) (device : DeviceId) (link other : LinkId) (cause second : ℕ) (vl : VlId) (cycle : ℕ)
-    → IsIn h (happenings s.network ns) → IsIn g (happenings s.network ns) → h.note.body ≡ notes.Delivered device link cause vl cycle
+delivered_once_in : Brings → {s : Scenario} {mark : List ℕ} {ns : List Note} {until : ℕ} → IsRunTo s mark ns until
+    → FieldsFit s.network → (h g : Happening) (device : DeviceId) (link other : LinkId) (cause second : ℕ)
+    (vl : VlId) (cycle : ℕ) → IsIn h (happenings s.network ns) → IsIn g (happenings s.network ns)
+    → h.note.body ≡ notes.Delivered device link cause vl cycle
     → g.note.body ≡ notes.Delivered device other second vl cycle → h ≡ g
-delivered_once_in brings s mark ns until run fit h g device link other cause second vl cycle i j one two =
+delivered_once_in brings {s} {ns} run fit h g device link other cause second vl cycle i j one two =
     let hs = happenings s.network ns in
     let w = max (time_of h) (time_of g) in
     let sound = brings.channels.sound s w run.up.lawful in
-    let at = view_at s mark ns until w sound.0 run.up (omega (arith, run.within h i, run.within g j)) sound.1 in
-    one_in brings (view_of s hs w sound.0 at) h g device link other cause second vl cycle at.is fit (at.cut.has h i (omega arith))
+    let at = view_at w sound.0 run.up (omega (arith, run.within h i, run.within g j)) sound.1 in
+    one_in brings h g device link other cause second vl cycle at.is fit (at.cut.has h i (omega arith))
     (at.cut.has g j (omega arith)) refl one two
 
 -- the numbers of a network in range fit into their fields
-pub fields_fit : (network : Network) → IsInRange network → FieldsFit network
-fields_fit network range = record {
+pub fields_fit : {network : Network} → IsInRange network → FieldsFit network
+fields_fit {network} range = record {
   marker = range.marker;
   ids = λ place vl there. (in_all (IsVlInRange network) network.vl place vl range.vls there).id;
   types = λ place vl there. (in_all (IsVlInRange network) network.vl place vl range.vls there).ethertype_most;
@@ -356,15 +371,16 @@ fields_fit network range = record {
 
 pub owed_frames_come : Brings → OwedFramesCome
 owed_frames_come brings s mark ns until run vl of_vl cycle device owed =
-    let fit = fields_fit s.network run.up.lawful.range in
+    let fit = fields_fit run.up.lawful.range in
     let hs = happenings s.network ns in
     let channel = brings.channels.sound s owed.to run.up.lawful in
-    let at = view_at s mark ns until owed.to channel.0 run.up owed.in_run channel.1 in
+    let at = view_at owed.to channel.0 run.up owed.in_run channel.1 in
     let v = view_of s hs owed.to channel.0 at in
     let front : IsFrontOf v hs = record { early = λ t le. sym (at.cut.early t le); inside = at.cut.inside; founded = run.up.run.founded } in
-    let sources = good_sources brings.channels v vl of_vl at.is owed.there owed.sender in
-    let in_view = owed_in brings v hs until vl of_vl cycle device at.is front owed refl in
-    let come = comes_in_time brings v vl of_vl cycle device owed.from owed.last at.is fit sources in_view in
-    delivered_in brings v hs vl of_vl cycle device at.is fit in_view.good sources owed.there front come (λ other by from i body.
-    delivered_once_in brings s mark ns until run fit other come.delivery device by come.link from come.cause vl cycle i (at.cut.inside come.delivery come.there)
+    let sources = good_sources brings.channels vl of_vl at.is owed.there owed.sender in
+    let in_view = owed_in brings at.is front owed refl in
+    let come = comes_in_time brings at.is fit sources in_view in
+    delivered_in brings of_vl at.is fit in_view.good sources owed.there front come (λ other by from i body.
+    delivered_once_in brings run fit other come.delivery device by come.link from come.cause vl cycle i
+    (at.cut.inside come.delivery come.there)
     body come.is)

@@ -2,7 +2,7 @@
 use Rattle.{net_plan.specs.declared.tables.Row.Row, run_law.proofs.scenario.Ways.way_itself, std.proofs.Common.{◌%◌, arith, cond, find}}
 use Rattle.pcf_codec.specs.EtherType.{least_type}
 use Rattle.precision_law.proofs.traffic_lemmas.Words.{◌&&◌, ◌==◌, ◌||◌, ◌∙◌, ◌∷◌, ◌≡◌, ◌≤ℤ◌, ◌≤◌, Bool, DeviceId, Entry, IsEntry, KeepsRules, Link, LinkId}
-use Rattle.precision_law.proofs.traffic_lemmas.Words.{List, Network, None, OccursIn, Option, Reason, Some, Standpoint, VirtualLink, Way, [], ap, clock_of}
+use Rattle.precision_law.proofs.traffic_lemmas.Words.{List, Network, None, OccursIn, Option, Reason, Some, Standpoint, VirtualLink, [], ap, clock_of}
 use Rattle.precision_law.proofs.traffic_lemmas.Words.{cycle_at, entry_entering, eq-eqb, eqb-true, false, field, int_lt, is_synchronised, is_taken_in, le-ltb}
 use Rattle.precision_law.proofs.traffic_lemmas.Words.{link_at, nat_le, nat_lt, not, octets_fault, offset_in_cycle, option_and_then, option_map, option_map_or}
 use Rattle.precision_law.proofs.traffic_lemmas.Words.{refl, row_fault, slice_get, subst, suc, sym, true, way_to, window_of, zero, ℕ}
@@ -40,14 +40,15 @@ entry_some network device link id row found named l at =
     )
 
 -- the entry by which a frame of a row's virtual link enters by the row's link is the row's
-pub enters_by : (network : Network) (device : DeviceId) (link : LinkId) (place : ℕ) (entry : Entry) → KeepsRules network → IsEntry network place entry
-    → entry.row.link ≡ link → way_to network device link ≡ entry.row.way → entry_entering network device link entry.vl.id ≡ Some entry
-enters_by network device link place entry keeps row by way =
+pub enters_by : {network : Network} (device : DeviceId) (link : LinkId) {place : ℕ} {entry : Entry}
+    → KeepsRules network → IsEntry network place entry → entry.row.link ≡ link
+    → way_to network device link ≡ entry.row.way → entry_entering network device link entry.vl.id ≡ Some entry
+enters_by {network} device link {place} {entry} keeps row by way =
     let id = entry.vl.id in
     let named : is_row_with network id entry.row ≡ true = ap (λ (o : Option VirtualLink). option_map_or (λ vl. vl.id == id) o false) row.vl
     ∙ eq-eqb id id refl in
     let links : (link.0 == entry.row.link.0) ≡ true = eq-eqb link.0 entry.row.link.0 (ap (λ (l : LinkId). l.0) (sym by)) in
-    let ways : is_way (way_to network device link) entry.row.way ≡ true = ap (λ (w : Way). is_way w entry.row.way) way ∙ way_itself entry.row.way in
+    let ways : is_way (way_to network device link) entry.row.way ≡ true = ap (λ w. is_way w entry.row.way) way ∙ way_itself entry.row.way in
     let test : (is_way_of link (way_to network device link) entry.row.link entry.row.way && is_row_with network id entry.row) ≡ true = rw (links, ways, named)
     refl in
     let found = found_some (λ (r : Row). is_way_of link (way_to network device link) r.link r.way && is_row_with network id r) network.row place entry.row
@@ -57,7 +58,7 @@ enters_by network device link place entry keeps row by way =
     let same_link = both_true (link.0 == found.0.link.0) (is_way (way_to network device link) found.0.way) parts.0 in
     let links_is : entry.row.link ≡ found.0.link = by ∙ ap (λ (n : ℕ). let l : LinkId = record { 0 = n } in l) (eqb-true link.0 found.0.link.0 same_link.0) in
     let some = entry_some network device link id found.0 found.1 parts.1 entry.link
-    (subst (λ (l : LinkId). link_at network l ≡ Some entry.link) links_is row.link) in
+    (subst (λ l. link_at network l ≡ Some entry.link) links_is row.link) in
     let at = entering network device link id some.0 some.1 in
     let vls = same_id network some.0.row.vl entry.row.vl some.0.vl entry.vl keeps at.row.vl row.vl at.id_is in
     let rows = rows_go_once network at.place place some.0 entry keeps at.row row vls (at.by ∙ sym by) in

@@ -18,9 +18,10 @@ frame_shows network vl cycle marker id ethertype = grind (arith, replicate, leng
 -- ---- dispatches
 
 -- a dispatch shows its virtual link's id
-pub dispatch_shows : (v : View) (h : Happening) (device : DeviceId) (link : LinkId) (cause : ℕ) (vl : VlId) (cycle : ℕ) → IsView v
-    → FieldsFit v.scenario.network → (d : IsRowDispatch v h device link cause vl cycle) → field 4 2 h.octets ≡ d.entry.vl.id
-dispatch_shows v h device link cause vl cycle is fit d =
+pub dispatch_shows : {v : View} {h : Happening} {device : DeviceId} {link : LinkId} {cause : ℕ} {vl : VlId}
+    {cycle : ℕ} → IsView v → FieldsFit v.scenario.network → (d : IsRowDispatch v h device link cause vl cycle)
+    → field 4 2 h.octets ≡ d.entry.vl.id
+dispatch_shows {v} {h} {device} {link} {cause} {vl} {cycle} is fit d =
     elim (octets_come_so v h device link cause vl cycle is d) [
       | inl made ↦
           let at = d.entry.row.vl.0 in
@@ -28,7 +29,6 @@ dispatch_shows v h device link cause vl cycle is fit d =
           ∙ (frame_shows v.scenario.network d.entry.vl cycle fit.marker (fit.ids at d.entry.vl d.row.vl) (fit.types at d.entry.vl d.row.vl)).id
       | inr passed ↦
           let taking = takings_are_so v passed.taken device passed.link passed.from vl cycle is passed.there (inl passed.is) in
-          let vls = same_vl v.scenario.network taking.by_row.place d.place taking.by_row.entry d.entry taking.by_row.row d.row
-          (taking.by_row.of_vl ∙ sym d.of_vl) in
+          let vls = same_vl taking.by_row.row d.row (taking.by_row.of_vl ∙ sym d.of_vl) in
           ap (field 4 2) passed.frame ∙ sym taking.by_row.id_is ∙ ap (λ (x : VirtualLink). x.id) vls
     ]

@@ -41,12 +41,11 @@ record IsFirstRow (network : Network) (vl : VlId) (channel : Channel) (offset : 
   pub early : amount entry.row.offset ≤ offset
 
 -- each row of the channel has one
-first_row : (bound : ℕ) (v : View) (vl : VlId) (channel : Channel) → IsView v → (place : ℕ) (entry : Entry)
-    → IsEntry v.scenario.network place entry
-    → entry.row.vl ≡ vl → IsOnChannel v.scenario.network channel entry → amount entry.row.offset < bound
-    → IsFirstRow v.scenario.network vl channel (amount entry.row.offset)
-first_row zero v vl channel is place entry row own on below = absurd (omega (arith, below))
-first_row (suc bound) v vl channel is place entry row own on below =
+first_row : (bound : ℕ) {v : View} (vl : VlId) (channel : Channel) → IsView v → (place : ℕ) (entry : Entry)
+    → IsEntry v.scenario.network place entry → entry.row.vl ≡ vl → IsOnChannel v.scenario.network channel entry
+    → amount entry.row.offset < bound → IsFirstRow v.scenario.network vl channel (amount entry.row.offset)
+first_row zero vl channel is place entry row own on below = absurd (omega (arith, below))
+first_row (suc bound) {v} vl channel is place entry row own on below =
     let n = v.scenario.network in
     let device = source_of entry in
     elim (same_or_other device entry.vl.sender) [
@@ -65,15 +64,15 @@ first_row (suc bound) v vl channel is place entry row own on below =
             let k = switch.1.0 in
             let enters = switch.1.2 in
             let entering = enters.entry in
-            let of_channel = switch_channel n device is.lawful.range switch.0 in
-            let no_end = switch_no_end n of_channel.0 device is.lawful.range of_channel.1 in
-            let firm = source_on n place entry channel is.lawful.range is.lawful.rules row no_end on in
-            let on_channel = target_on n k entering channel is.lawful.range is.lawful.rules enters.is
+            let of_channel = switch_channel device is.lawful.range switch.0 in
+            let no_end = switch_no_end of_channel.0 device is.lawful.range of_channel.1 in
+            let firm = source_on channel is.lawful.range is.lawful.rules row no_end on in
+            let on_channel = target_on channel is.lawful.range is.lawful.rules enters.is
             (subst (IsSwitchOf n channel) (sym enters.target) firm) in
             let behind = (is.lawful.rules Forwarding place).from_switch k entering entry enters.is row
             (sym enters.same_vl) other enters.target in
             let times = rows_are_in_time v k entering is enters.is in
-            let first = first_row bound v vl channel is k entering enters.is (enters.same_vl ∙ own) on_channel
+            let first = first_row bound vl channel is k entering enters.is (enters.same_vl ∙ own) on_channel
             (omega (arith, behind, times.tolerates, below)) in
             record {
               place = first.place;
@@ -88,11 +87,11 @@ first_row (suc bound) v vl channel is place entry row own on below =
     ]
 
 -- a row that leaves an end system goes by its uplink
-by_uplink : (v : View) (channel : Channel) (place : ℕ) (entry : Entry) (device : DeviceId) → IsView v
-    → IsEntry v.scenario.network place entry
-    → IsOnChannel v.scenario.network channel entry → is_end v.scenario.network device ≡ true → source_of entry ≡ device
+by_uplink : {v : View} (channel : Channel) {place : ℕ} {entry : Entry} (device : DeviceId) → IsView v
+    → IsEntry v.scenario.network place entry → IsOnChannel v.scenario.network channel entry
+    → is_end v.scenario.network device ≡ true → source_of entry ≡ device
     → IsUplink v.scenario.network channel device entry.row.link
-by_uplink v channel place entry device is row on end source = by entry.row.way source
+by_uplink {v} channel {entry} device is row on end source = by entry.row.way source
   where
     by : (way : Way) → source_by way entry.link ≡ device → IsUplink v.scenario.network channel device entry.row.link
     by Up e =
@@ -101,42 +100,37 @@ by_uplink v channel place entry device is row on end source = by entry.row.way s
         row.link (e, on)
     by Down e =
         (let switch = subst (IsSwitchOf v.scenario.network channel) e on in
-        absurd (both_ways _ (switch_no_end v.scenario.network channel device is.lawful.range switch) end))
+        absurd (both_ways _ (switch_no_end channel device is.lawful.range switch) end))
 
 -- so an end system has one row of a virtual link on a channel
-one_row : (v : View) (vl : VlId) (channel : Channel) (device : DeviceId) (place other : ℕ) (entry second : Entry)
-    → IsView v
-    → is_end v.scenario.network device ≡ true → IsEntry v.scenario.network place entry
-    → IsEntry v.scenario.network other second
-    → entry.row.vl ≡ vl → second.row.vl ≡ vl → IsOnChannel v.scenario.network channel entry
-    → IsOnChannel v.scenario.network channel second
+one_row : {v : View} (vl : VlId) (channel : Channel) (device : DeviceId) {place other : ℕ} {entry second : Entry}
+    → IsView v → is_end v.scenario.network device ≡ true → IsEntry v.scenario.network place entry
+    → IsEntry v.scenario.network other second → entry.row.vl ≡ vl → second.row.vl ≡ vl
+    → IsOnChannel v.scenario.network channel entry → IsOnChannel v.scenario.network channel second
     → source_of entry ≡ device → source_of second ≡ device → entry ≡ second
-one_row v vl channel device place other entry second is end row also own same on there source from =
+one_row {v} vl channel device {place} {other} {entry} {second} is end row also own same on there source from =
     let n = v.scenario.network in
     let tree = rules_give_trees n (shape_rules n is.lawful.rules) in
     let link = tree.one_uplink channel device entry.row.link second.row.link
-    (by_uplink v channel place entry device is row on end source)
-    (by_uplink v channel other second device is also there end from) in
+    (by_uplink channel device is row on end source) (by_uplink channel device is also there end from) in
     (rows_go_once n place other entry second is.lawful.rules row also (own ∙ sym same) link).1
 
 -- the sender's rows leave before the last window into a device ends, with a precision to spare
-leaves_early : (v : View) (hs : List Happening) (until : ℕ) (vl : VlId) (of_vl : VirtualLink) (cycle : ℕ)
-    (device : DeviceId) → IsView v
-    → (due : IsDueAt v.scenario hs until vl of_vl cycle device) → (place : ℕ) (entry : Entry)
-    → IsEntry v.scenario.network place entry
-    → entry.row.vl ≡ vl → source_of entry ≡ of_vl.sender → amount entry.row.offset + v.sizes.precision ≤ due.last
-leaves_early v hs until vl of_vl cycle device is due place entry row own source =
+leaves_early : {v : View} {hs : List Happening} {until : ℕ} {vl : VlId} {of_vl : VirtualLink} {cycle : ℕ}
+    {device : DeviceId} → IsView v → (due : IsDueAt v.scenario hs until vl of_vl cycle device) {place : ℕ}
+    {entry : Entry} → IsEntry v.scenario.network place entry → entry.row.vl ≡ vl → source_of entry ≡ of_vl.sender
+    → amount entry.row.offset + v.sizes.precision ≤ due.last
+leaves_early {v} {vl} {of_vl} is due {place} {entry} row own source =
     let n = v.scenario.network in
     let joint = is.lawful.rules Joints entry.row.link.0 entry.link row.link in
-    let into = row_on v vl joint.0 device due.into is due.end_system due.enters in
-    let first = first_row (amount into.entry.row.offset + 1) v vl joint.0 is into.place into.entry into.is into.same_vl
+    let into = row_on joint.0 is due.end_system due.enters in
+    let first = first_row (amount into.entry.row.offset + 1) vl joint.0 is into.place into.entry into.is into.same_vl
     into.on_channel (omega arith) in
     let vls : first.entry.vl ≡ of_vl = same_some (slice_get n.vl vl.0) first.entry.vl of_vl
     (subst (λ (x : VlId). slice_get n.vl x.0 ≡ Some first.entry.vl) first.own first.row.vl) due.there in
     let from = first.source ∙ ap (λ (x : VirtualLink). x.sender) vls in
     let end = end_test n of_vl.sender (is.lawful.rules Senders vl.0 of_vl due.there) in
-    let same = one_row v vl joint.0 of_vl.sender place first.place entry first.entry is end row first.row own first.own
-    joint.1 first.on source from in
+    let same = one_row vl joint.0 of_vl.sender is end row first.row own first.own joint.1 first.on source from in
     let offset : amount entry.row.offset ≡ amount first.entry.row.offset =
     ap (λ (e : Entry). amount e.row.offset) same in
     let times = rows_are_in_time v into.place into.entry is into.is in
@@ -147,25 +141,24 @@ leaves_early v hs until vl of_vl cycle device is due place entry row own source 
 -- ---- the law
 
 -- a clock that reaches a place of the cycle in the view does so in the whole
-reaches_out : (v : View) (hs : List Happening) (device : DeviceId) (cycle place t : ℕ) → IsView v → IsFrontOf v hs
-    → t ≤ v.until
-    → Reaches v.scenario v.records device (pos (cycle * v.sizes.cycle + place)) t
+reaches_out : {v : View} {hs : List Happening} {device : DeviceId} (cycle place : ℕ) {t : ℕ} → IsView v
+    → IsFrontOf v hs → t ≤ v.until → Reaches v.scenario v.records device (pos (cycle * v.sizes.cycle + place)) t
     → ReachesPlace v.scenario hs device cycle place t
-reaches_out v hs device cycle place t is front le reaches =
+reaches_out {v} {hs} {device} cycle place {t} is front le reaches =
     let value = pos (cycle * amount v.scenario.network.cycle + place) in
     reaches_by {gs = v.records} hs {t = t} (sym (front.early t (omega (arith, le))))
-    (subst (λ (n : ℕ). Reaches v.scenario v.records device (pos (cycle * n + place)) t) (cycle_is v is) reaches)
+    (subst (λ (n : ℕ). Reaches v.scenario v.records device (pos (cycle * n + place)) t) (cycle_is is) reaches)
 
 -- what comes in the span of a cycle comes behind what lies before the span
-behind_by : (v : View) (n from t : ℕ) (before : Stands v n) (span : IsInSpan v n t) → from < before.next → from ≤ t
-behind_by v n from t before span lt = omega (arith, same_next v n span.block.before before, span.block.from, lt)
+behind_by : {v : View} {n : ℕ} (from : ℕ) {t : ℕ} (before : Stands v n) (span : IsInSpan v n t) → from < before.next
+    → from ≤ t
+behind_by from before span lt = omega (arith, same_next span.block.before before, span.block.from, lt)
 
 -- and a value that lies a precision before the end of a window is reached before that end may be
-reached_sooner : (s : Sizes) (hull own : Hull) (offset last at until : ℕ) → HaveRoom s → IsNarrow s hull → own ≡ hull
-    → offset + s.precision ≤ last
-    → (hull.least +ℤ pos last) ≤ℤ (pos until +ℤ pos s.reach) → pos at ≤ℤ ((own.greatest +ℤ pos offset) +ℤ pos s.reach)
-    → at < until
-reached_sooner s hull own offset last at until space narrow same early low high =
+reached_sooner : {s : Sizes} (hull own : Hull) (offset last at until : ℕ) → HaveRoom s → IsNarrow s hull → own ≡ hull
+    → offset + s.precision ≤ last → (hull.least +ℤ pos last) ≤ℤ (pos until +ℤ pos s.reach)
+    → pos at ≤ℤ ((own.greatest +ℤ pos offset) +ℤ pos s.reach) → at < until
+reached_sooner hull own offset last at until space narrow same early low high =
     omega (
       arith,
       ints,
@@ -180,38 +173,35 @@ reached_sooner s hull own offset last at until space narrow same early low high 
     )
 
 -- in the view up to the end of the last window what is due is owed
-owed_in_view : Brings
-    → (v : View) (hs : List Happening) (until : ℕ) (vl : VlId) (of_vl : VirtualLink) (cycle : ℕ) (device : DeviceId)
-    → IsView v
-    → IsFrontOf v hs → (due : IsDueAt v.scenario hs until vl of_vl cycle device) → due.to ≡ v.until
-    → ((x : DeviceId) (t : ℕ) → is_end v.scenario.network x ≡ true
-    → is_off (state_after v.scenario (up_to due.on_at hs) x) ≡ false → IsGood v x
-    → due.from ≤ t → t ≤ v.until → IsInStep v.scenario hs x t)
-    → IsOwed v.scenario hs until vl of_vl cycle device
-owed_in_view brings v hs until vl of_vl cycle device is front due end steps =
+owed_in_view : Brings → {v : View} {hs : List Happening} {until : ℕ} {vl : VlId} {of_vl : VirtualLink} {cycle : ℕ}
+    {device : DeviceId} → IsView v → IsFrontOf v hs → (due : IsDueAt v.scenario hs until vl of_vl cycle device)
+    → due.to ≡ v.until → ((x : DeviceId) (t : ℕ) → is_end v.scenario.network x ≡ true
+    → is_off (state_after v.scenario (up_to due.on_at hs) x) ≡ false → IsGood v x → due.from ≤ t → t ≤ v.until
+    → IsInStep v.scenario hs x t) → IsOwed v.scenario hs until vl of_vl cycle device
+owed_in_view brings {v} {hs} {vl} {of_vl} {cycle} {device} is front due end steps =
     let n = v.scenario.network in
     let sender = of_vl.sender in
     let lt : due.from < v.until = omega (arith, due.in_order, end) in
-    let fine : IsGood v device = subst (λ (t : ℕ). is_broken v.scenario device t ≡ false) end due.receiver in
-    let fine_sender : IsGood v sender = subst (λ (t : ℕ). is_broken v.scenario sender t ≡ false) end due.sender in
+    let fine : IsGood v device = subst (λ t. is_broken v.scenario device t ≡ false) end due.receiver in
+    let fine_sender : IsGood v sender = subst (λ t. is_broken v.scenario sender t ≡ false) end due.sender in
     let receiver : (t : ℕ) → due.from ≤ t → t ≤ v.until → IsInStep v.scenario hs device t =
     λ t from le. steps device t (end_test n device due.end_system) due.device_on fine from le in
     let sends : (t : ℕ) → due.from ≤ t → t ≤ v.until → IsInStep v.scenario hs sender t =
     λ t from le. steps sender t (end_test n sender (is.lawful.rules Senders vl.0 of_vl due.there)) due.sender_on
     fine_sender from le in
     let timed : (t : ℕ) → due.from < t → t ≤ v.until → IsTimedAt v device t =
-    λ t less le. timed_behind v hs device due.from t front fine receiver less le in
-    let within = last_in_schedule v vl device due.last due.into is due.enters due.greatest in
-    let ends = subst (λ (t : ℕ). ReachesPlace v.scenario hs device cycle due.last t) end due.ends in
+    λ t less le. timed_behind device due.from t front fine receiver less le in
+    let within = last_in_schedule is due.enters due.greatest in
+    let ends = subst (λ t. ReachesPlace v.scenario hs device cycle due.last t) end due.ends in
     let reached = values_are_reached_in_spans brings.blocks v cycle due.last v.until device is
     (timed v.until lt (omega arith)) (omega arith) due.occurs.begun
-    within (reaches_in v hs device cycle due.last v.until is front (omega arith) ends) in
-    let begins = reaches_in v hs device cycle 0 due.from is front (omega (arith, lt)) due.begins in
+    within (reaches_in cycle due.last is front (omega arith) ends) in
+    let begins = reaches_in cycle 0 is front (omega (arith, lt)) due.begins in
     let block = reached.span.block in
     let before = block.before in
-    let behind = from_before brings v cycle due.from device is reached.span due.occurs.begun lt begins
+    let behind = from_before brings is reached.span due.occurs.begun lt begins
     (timed (due.from + 1) (omega arith) (omega (arith, lt))) in
-    let begun = timed_behind v hs sender due.from before.next front fine_sender sends behind block.from in
+    let begun = timed_behind sender due.from before.next front fine_sender sends behind block.from in
     record {
       there = due.there;
       occurs = due.occurs;
@@ -228,21 +218,21 @@ owed_in_view brings v hs until vl of_vl cycle device is front due end steps =
       in_run = due.in_run;
       receiver = λ t from le. receiver t from (omega (arith, le, end));
       rows = λ place entry row own source.
-          let early = leaves_early v hs until vl of_vl cycle device is due place entry row own source in
-          let narrow = before_narrow v cycle before in
-          let space = room v is in
+          let early = leaves_early is due row own source in
+          let narrow = before_narrow before in
+          let space = room is in
           let offset = amount entry.row.offset in
           let last : ((before.hull.greatest +ℤ pos offset) +ℤ pos v.sizes.reach) ≤ℤ pos v.until =
           omega (arith, ints, early, narrow, reached.not_early, space.eight_errors) in
           let r = values_are_reached brings.blocks brings.not_on v cycle offset before sender is begun due.occurs.begun
-          (offset_in_schedule v place entry is row) last in
-          let less = reached_sooner v.sizes before.hull r.in_span.span.block.before.hull offset due.last r.at v.until
+          (offset_in_schedule is row) last in
+          let less = reached_sooner before.hull r.in_span.span.block.before.hull offset due.last r.at v.until
           space narrow
           (same_hull v cycle r.in_span.span.block.before before) early reached.not_early r.in_span.not_late in
-          let later = behind_by v cycle due.from r.at before r.in_span.span behind in (
+          let later = behind_by due.from before r.in_span.span behind in (
             r.at,
             omega (arith, less, end),
-            reaches_out v hs sender cycle offset r.at is front (omega (arith, less)) r.reached,
+            reaches_out cycle offset is front (omega (arith, less)) r.reached,
             (sends r.at later (omega (arith, less))).synchronised,
           );
       sender = due.sender;
@@ -252,13 +242,13 @@ pub due_frames_are_owed : Brings → EndSystemsComeIn → DueFramesAreOwed
 due_frames_are_owed brings come s mark ns until up vl of_vl cycle device due =
     let hs = happenings s.network ns in
     let channel = brings.channels.sound s due.to up.lawful in
-    let at = view_at s mark ns until due.to channel.0 up due.in_run channel.1 in
+    let at = view_at due.to channel.0 up due.in_run channel.1 in
     let v = view_of s hs due.to channel.0 at in
     let front : IsFrontOf v hs = record {
       early = λ t le. sym (at.cut.early t le);
       inside = at.cut.inside;
       founded = up.run.founded;
     } in
-    owed_in_view brings v hs until vl of_vl cycle device at.is front due refl (λ x t end on good from le.
+    owed_in_view brings at.is front due refl (λ x t end on good from le.
     come s mark ns until up x due.on_at t end on (omega (arith, due.long, from)) (omega (arith, le, due.in_run))
     (brings.channels.correct v x t good le))

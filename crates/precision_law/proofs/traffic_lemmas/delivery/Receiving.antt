@@ -128,53 +128,58 @@ synchronised_test : (state : State) → state ≡ Synchronised → is_synchronis
 synchronised_test state e = rw e refl
 
 -- a dispatch is on its way to the device that its row enters
-comes_to : (v : View) (h : Happening) (device receiver : DeviceId) (link : LinkId) (cause : ℕ) (vl : VlId) (cycle : ℕ) → IsView v
-    → (d : IsRowDispatch v h device link cause vl cycle) → target_of d.entry ≡ receiver
-    → Arrives v.scenario h receiver link (arrives_at v h link d.entry.row.way d.entry) (timed h.octets)
-comes_to v h device receiver link cause vl cycle is d enters =
+comes_to : {v : View} {h : Happening} {device : DeviceId} (receiver : DeviceId) {link : LinkId} {cause : ℕ}
+    {vl : VlId} {cycle : ℕ} → IsView v → (d : IsRowDispatch v h device link cause vl cycle)
+    → target_of d.entry ≡ receiver → Arrives v.scenario h receiver link (arrives_at v h link d.entry.row.way d.entry)
+    (timed h.octets)
+comes_to {v} {h} {device} receiver {link} {cause} {vl} {cycle} is d enters =
     let s = v.scenario in
     let n = s.network in
-    let at : link_at n link ≡ Some d.entry.link = subst (λ (x : LinkId). link_at n x ≡ Some d.entry.link) d.by d.row.link in
+    let at : link_at n link ≡ Some d.entry.link = subst (λ x. link_at n x ≡ Some d.entry.link) d.by d.row.link in
     let way : way_from n device link ≡ d.entry.row.way = sends_on n link d.entry.link d.entry.row.way device is.lawful.rules at d.leaves in
-    let port = on_port v d.place d.entry link h.octets d.row d.by (dispatches_are_whole v h device link cause vl cycle is d) in
+    let port = on_port v link h.octets d.row d.by (dispatches_are_whole v h device link cause vl cycle is d) in
     record {
       way = d.entry.row.way;
-      put = ap (launched s h (time_of h)) d.is ∙ ap (λ (w : Way). Some (put_on link w (timed h.octets))) way;
+      put = ap (launched s h (time_of h)) d.is ∙ ap (λ w. Some (put_on link w (timed h.octets))) way;
       receiver = ap (λ (o : Option Link). option_map (target_by d.entry.row.way) o) at ∙ ap (λ (x : DeviceId). Some x) enters;
       at = omega (arith, port);
     }
 
 -- what becomes of it, by records that have those of earlier times
-taken_so : BringsBlocks → BringsChannels → (v : View) (h : Happening) (device receiver : DeviceId) (link : LinkId) (cause : ℕ) (vl : VlId) (cycle : ℕ)
-    → IsView v → FieldsFit v.scenario.network → IsGood v device → IsGood v receiver
-    → (d : IsRowDispatch v h device link cause vl cycle) → h.octets ≡ tt_frame_by v.scenario.network d.entry.vl cycle → target_of d.entry ≡ receiver
-    → arrives_at v h link d.entry.row.way d.entry ≤ v.until → IsTimedAt v receiver (arrives_at v h link d.entry.row.way d.entry)
+taken_so : BringsBlocks → BringsChannels → {v : View} {h : Happening} {device receiver : DeviceId} {link : LinkId}
+    {cause : ℕ} {vl : VlId} {cycle : ℕ} → IsView v → FieldsFit v.scenario.network → IsGood v device
+    → IsGood v receiver → (d : IsRowDispatch v h device link cause vl cycle)
+    → h.octets ≡ tt_frame_by v.scenario.network d.entry.vl cycle → target_of d.entry ≡ receiver
+    → arrives_at v h link d.entry.row.way d.entry ≤ v.until
+    → IsTimedAt v receiver (arrives_at v h link d.entry.row.way d.entry)
     → is_turned_on_at v.scenario receiver (arrives_at v h link d.entry.row.way d.entry) ≡ false
-    → (ps : List Happening) → earlier (arrives_at v h link d.entry.row.way d.entry) ps ≡ earlier (arrives_at v h link d.entry.row.way d.entry) v.records
-    → (last : VlId → Option ℕ) → is_taken_in cycle (last vl) ≡ false
-    → timed_arrival v.scenario.network receiver link (standpoint v.scenario ps receiver (arrives_at v h link d.entry.row.way d.entry)) h.octets last ≡ taken_by
-    v.scenario.network receiver vl cycle
-taken_so brings channels v h device receiver link cause vl cycle is fit good fine d whole enters in_run up off ps same last anew =
+    → (ps : List Happening) → earlier (arrives_at v h link d.entry.row.way d.entry) ps
+    ≡ earlier (arrives_at v h link d.entry.row.way d.entry) v.records → (last : VlId → Option ℕ)
+    → is_taken_in cycle (last vl) ≡ false → timed_arrival v.scenario.network receiver link
+    (standpoint v.scenario ps receiver (arrives_at v h link d.entry.row.way d.entry)) h.octets last
+    ≡ taken_by v.scenario.network receiver vl cycle
+taken_so brings channels {v} {h} {device} {receiver} {link} {cause} {vl} {cycle} is fit good fine d whole enters
+    in_run up off ps same last anew =
     let s = v.scenario in
     let n = s.network in
     let entry = d.entry in
     let t = arrives_at v h link entry.row.way entry in
     let at = standpoint s ps receiver t in
-    let left : state_after s (earlier t ps) receiver ≡ Synchronised = ap (λ (xs : List Happening). state_after s xs receiver) same ∙ up.synchronised in
+    let left : state_after s (earlier t ps) receiver ≡ Synchronised = ap (λ xs. state_after s xs receiver) same ∙ up.synchronised in
     let state : at.state ≡ Synchronised = state_is (is_turned_on_at s receiver t) (state_after s (earlier t ps) receiver) off left in
     let part : at.takes_part ≡ true = takes_part at.state (is_broken s receiver t) state (channels.correct v receiver t fine in_run) in
-    let shown : clock_of at ≡ shown_at v receiver t = ap (λ (xs : List Happening). pos (s.reading receiver t) +ℤ (adjustment_after s xs receiver).0) same in
+    let shown : clock_of at ≡ shown_at v receiver t = ap (λ xs. pos (s.reading receiver t) +ℤ (adjustment_after s xs receiver).0) same in
     let shows = frame_shows n entry.vl cycle fit.marker (fit.ids entry.row.vl.0 entry.vl d.row.vl) (fit.types entry.row.vl.0 entry.vl d.row.vl) in
     let range = in_range n d.place entry is.lawful.range d.row in
     let type_is : field 12 2 h.octets ≡ entry.vl.ethertype = ap (field 12 2) whole ∙ shows.ethertype in
     let marker_is : field 0 4 h.octets ≡ n.marker = ap (field 0 4) whole ∙ shows.marker in
     let id_is : field 4 2 h.octets ≡ entry.vl.id = ap (field 4 2) whole ∙ shows.id in
     let sound = octets_sound n at h.octets part (omega (arith, type_is, range.vl.ethertype_least)) (synchronised_test at.state state) marker_is in
-    let link_there : link_at n link ≡ Some entry.link = subst (λ (x : LinkId). link_at n x ≡ Some entry.link) d.by d.row.link in
+    let link_there : link_at n link ≡ Some entry.link = subst (λ x. link_at n x ≡ Some entry.link) d.by d.row.link in
     let receives : receiver_of n link entry.row.way ≡ Some receiver = ap (λ (o : Option Link). option_map (target_by entry.row.way) o) link_there
     ∙ ap (λ (x : DeviceId). Some x) enters in
     let found : entry_entering n receiver link (field 4 2 h.octets) ≡ Some entry =
-    ap (entry_entering n receiver link) id_is ∙ enters_by n receiver link d.place entry is.lawful.rules d.row d.by
+    ap (entry_entering n receiver link) id_is ∙ enters_by receiver link is.lawful.rules d.row d.by
     (way_is n link entry.row.way receiver is.lawful.rules receives) in
     let arrives = frames_arrive_in_spans brings v h device link cause vl cycle entry.row.way is good d in_run in
     let window = arrivals_are_in_windows v d.place cycle t entry receiver is d.row arrives up in
@@ -183,24 +188,26 @@ taken_so brings channels v h device receiver link cause vl cycle is fit good fin
     let times = rows_are_in_time v d.place entry is d.row in
     let precision : v.sizes.precision ≡ amount n.precision = ap (λ (x : Sizes). x.precision) is.sizes in
     let gamma : v.sizes.gamma ≡ gamma_of n = ap (λ (x : Sizes). x.gamma) is.sizes in
-    let space = room v is in
+    let space = room is in
     let fits = row_sound n at entry (length h.octets) (last entry.row.vl) (dispatches_are_whole v h device link cause vl cycle is d)
     (subst (OccursIn entry.vl) (sym cycle_at_t) d.occurs)
     (omega (arith, ints, place_at_t, window.not_before, precision, gamma, space.eight_errors))
     (omega (arith, ints, place_at_t, window.not_behind, times.tolerates, space.eight_errors))
-    (ap (λ (c : ℕ). is_taken_in c (last entry.row.vl)) cycle_at_t ∙ ap (λ (x : VlId). is_taken_in cycle (last x)) d.of_vl ∙ anew) in
+    (ap (λ c. is_taken_in c (last entry.row.vl)) cycle_at_t ∙ ap (λ (x : VlId). is_taken_in cycle (last x)) d.of_vl ∙ anew) in
     judged n receiver link at h.octets last entry sound found fits
-    ∙ ap (λ (x : VlId). taken_by n receiver x (cycle_at n (clock_of at))) d.of_vl
+    ∙ ap (λ x. taken_by n receiver x (cycle_at n (clock_of at))) d.of_vl
     ∙ ap (taken_by n receiver vl) cycle_at_t
 
 -- the frame is later than its dispatch
-later_than : (v : View) (h : Happening) (device : DeviceId) (link : LinkId) (cause : ℕ) (vl : VlId) (cycle : ℕ) → IsView v
-    → (d : IsRowDispatch v h device link cause vl cycle) → time_of h < arrives_at v h link d.entry.row.way d.entry
-later_than v h device link cause vl cycle is d =
+later_than : {v : View} {h : Happening} {device : DeviceId} {link : LinkId} {cause : ℕ} {vl : VlId} {cycle : ℕ}
+    → IsView v → (d : IsRowDispatch v h device link cause vl cycle)
+    → time_of h < arrives_at v h link d.entry.row.way d.entry
+later_than {v} {h} {link} is d =
     let n = v.scenario.network in
     let range = in_range n d.place d.entry is.lawful.range d.row in
-    let at : link_at n link ≡ Some d.entry.link = subst (λ (x : LinkId). link_at n x ≡ Some d.entry.link) d.by d.row.link in
-    let delay = delay_lies v.scenario link d.entry.link d.entry.row.way (time_of h) is.lawful at range.link.wire.least range.link.jitter.least in
+    let at : link_at n link ≡ Some d.entry.link = subst (λ x. link_at n x ≡ Some d.entry.link) d.by d.row.link in
+    let delay = delay_lies link d.entry.link d.entry.row.way (time_of h) is.lawful at range.link.wire.least
+    range.link.jitter.least in
     omega (arith, ints, delay.0, range.link.wire.least)
 
 pub arrivals_are_taken : BringsBlocks → BringsChannels → ArrivalsAreTaken
@@ -228,7 +235,7 @@ arrivals_are_taken brings channels v h device receiver link cause vl cycle is fi
       putting = h;
       there = found;
       signal = timed h.octets;
-      arrives = comes_to v h device receiver link cause vl cycle is d
+      arrives = comes_to receiver is d
           enters;
       becomes = sym e;
     }
@@ -239,12 +246,12 @@ arrivals_are_taken brings channels v h device receiver link cause vl cycle is fi
         let t = arrives_at v h link d.entry.row.way d.entry in
         let at = split place_of (IsDue s) v.records (t ∷ 11 ∷ receiver.0 ∷ link.0 ∷ h.note.number ∷ []) is.run.founded in
         let found = found_before s {hs = v.records} t _ at h is.run.founded d.there
-        (later_than v h device link cause vl cycle is d) in
+        (later_than is d) in
         elim (is_taken_in cycle (last_taken at.front receiver t link h.note.number vl)) as
         (λ b. is_taken_in cycle (last_taken at.front receiver t link h.note.number vl) ≡ b → HasTaken v receiver vl cycle t) [
           | true ↦ λ again. repeated at.front at.rest at.whole again
           | false ↦ λ anew.
-              let judgement = taken_so brings channels v h device receiver link cause vl cycle is fit good fine d whole enters in_run up off at.front
+              let judgement = taken_so brings channels is fit good fine d whole enters in_run up off at.front
               (same_earlier t _ {hs = v.records} at) (last_taken at.front receiver t link h.note.number) anew in
               let kind : taken_by s.network receiver vl cycle ≡ arrivals.Accepted vl cycle = ap (λ (x : Bool). if x then arrivals.Delivered vl cycle
               else arrivals.Accepted vl cycle) end in
@@ -266,12 +273,12 @@ arrivals_are_taken brings channels v h device receiver link cause vl cycle is fi
         let t = arrives_at v h link d.entry.row.way d.entry in
         let at = split place_of (IsDue s) v.records (t ∷ 12 ∷ receiver.0 ∷ link.0 ∷ h.note.number ∷ []) is.run.founded in
         let found = found_before s {hs = v.records} t _ at h is.run.founded d.there
-        (later_than v h device link cause vl cycle is d) in
+        (later_than is d) in
         elim (is_taken_in cycle (last_taken at.front receiver t link h.note.number vl)) as
         (λ b. is_taken_in cycle (last_taken at.front receiver t link h.note.number vl) ≡ b → HasTaken v receiver vl cycle t) [
           | true ↦ λ again. repeated at.front at.rest at.whole again
           | false ↦ λ anew.
-              let judgement = taken_so brings channels v h device receiver link cause vl cycle is fit good fine d whole enters in_run up off at.front
+              let judgement = taken_so brings channels is fit good fine d whole enters in_run up off at.front
               (same_earlier t _ {hs = v.records} at) (last_taken at.front receiver t link h.note.number) anew in
               let kind : taken_by s.network receiver vl cycle ≡ arrivals.Delivered vl cycle = ap (λ (x : Bool). if x then arrivals.Delivered vl cycle
               else arrivals.Accepted vl cycle) end in

@@ -43,9 +43,9 @@ record CanDispatch (v : View) (place : ℕ) (entry : Entry) (cause cycle t : ℕ
   pub at_hand : (front : List Happening) → earlier t front ≡ earlier t v.records → HasAtHand v.scenario.network front (source_of entry) entry t cause cycle
 
 -- then there is one
-dispatched : BringsChannels → (v : View) (place : ℕ) (entry : Entry) (cause cycle t : ℕ) → IsView v → CanDispatch v place entry cause cycle t
-    → IsRowSent v entry.row.vl cycle entry
-dispatched channels v place entry cause cycle t is can =
+dispatched : BringsChannels → {v : View} {place : ℕ} {entry : Entry} {cause cycle t : ℕ} → IsView v
+    → CanDispatch v place entry cause cycle t → IsRowSent v entry.row.vl cycle entry
+dispatched channels {v} {place} {entry} {cause} {cycle} {t} is can =
     let s = v.scenario in
     let n = s.network in
     let device = source_of entry in
@@ -55,7 +55,8 @@ dispatched channels v place entry cause cycle t is can =
     let same = same_earlier t _ {hs = v.records} at in
     let body = notes.TtSent device link cause vl cycle in
     let sent = happening n at.front (next_note at.front t body) in
-    let reached = subst (λ (m : ℕ). Reaches s v.records device (pos (cycle * m + amount entry.row.offset)) t) (cycle_is v is) can.reached in
+    let reached = subst (λ (m : ℕ). Reaches s v.records device (pos (cycle * m + amount entry.row.offset)) t)
+    (cycle_is is) can.reached in
     let on_link : IsLinkOf n v.channel link = closed (λ (l : Link). IsSwitchOf n v.channel l.parent) (link_at n link) entry.link can.row.link can.whole in
     let caused : IsDispatchedOn s at.front device t link cause vl cycle = record {
       dispatches = record {
@@ -67,7 +68,7 @@ dispatched channels v place entry cause cycle t is can =
         leaves = refl;
         occurs = can.occurs;
         up = record {
-          synchronised = ap (λ (xs : List Happening). if is_turned_on_at s device t then Integrating else state_after s xs device) same
+          synchronised = ap (λ xs. if is_turned_on_at s device t then Integrating else state_after s xs device) same
               ∙ can.state;
           correct = channels.correct v device t can.good can.in_run;
         };
@@ -83,50 +84,57 @@ dispatched channels v place entry cause cycle t is can =
 
 -- ---- from the sender
 
--- the sender dispatches
-sender_sends : Brings → (v : View) (vl : VlId) (of_vl : VirtualLink) (cycle last : ℕ) → IsView v → IsSentIn v vl of_vl cycle last → (place : ℕ) (entry : Entry)
-    → IsEntry v.scenario.network place entry → entry.row.vl ≡ vl
-    → IsOnChannel v.scenario.network v.channel entry → source_of entry ≡ entry.vl.sender → IsRowSent v vl cycle entry
-sender_sends brings v vl of_vl cycle last is sent place entry row own on source =
-    let n = v.scenario.network in
-    let vls : entry.vl ≡ of_vl = same_some (slice_get n.vl vl.0) entry.vl of_vl (subst (λ (x : VlId). slice_get n.vl x.0 ≡ Some entry.vl) own row.vl) sent.there
-    in
-    let sender : of_vl.sender ≡ source_of entry = sym (source ∙ ap (λ (x : VirtualLink). x.sender) vls) in
-    let at = sent.rows place entry row own (sym sender) in
-    let can : CanDispatch v place entry 0 cycle at.0 = record {
-      row = row;
-      occurs = subst (λ (x : VirtualLink). OccursIn x cycle) (sym vls) sent.occurs;
-      in_run = at.1;
-      good = subst (IsGood v) sender sent.sender;
-      whole = on;
-      state = subst (λ (d : DeviceId). state_before v.scenario v.records d at.0 ≡ Synchronised) sender at.3;
-      reached = subst (λ (d : DeviceId). Reaches v.scenario v.records d (pos (cycle * v.sizes.cycle + amount entry.row.offset)) at.0) sender at.2;
-      at_hand = λ front same. inl (sym source, refl);
-    } in
-    subst (λ (x : VlId). IsRowSent v x cycle entry) own (dispatched brings.channels v place entry 0 cycle at.0 is can)
+module _ (brings : Brings) {v : View} {vl : VlId} {of_vl : VirtualLink} {cycle last : ℕ} (is : IsView v)
+    (sent : IsSentIn v vl of_vl cycle last) where
+  -- the sender dispatches
+  sender_sends : {place : ℕ} {entry : Entry} → IsEntry v.scenario.network place entry → entry.row.vl ≡ vl
+      → IsOnChannel v.scenario.network v.channel entry → source_of entry ≡ entry.vl.sender
+      → IsRowSent v vl cycle entry
+  sender_sends {place} {entry} row own on source =
+      let n = v.scenario.network in
+      let vls : entry.vl ≡ of_vl = same_some (slice_get n.vl vl.0) entry.vl of_vl
+      (subst (λ (x : VlId). slice_get n.vl x.0 ≡ Some entry.vl) own row.vl) sent.there
+      in
+      let sender : of_vl.sender ≡ source_of entry = sym (source ∙ ap (λ (x : VirtualLink). x.sender) vls) in
+      let at = sent.rows place entry row own (sym sender) in
+      let can : CanDispatch v place entry 0 cycle at.0 = record {
+        row = row;
+        occurs = subst (λ x. OccursIn x cycle) (sym vls) sent.occurs;
+        in_run = at.1;
+        good = subst (IsGood v) sender sent.sender;
+        whole = on;
+        state = subst (λ d. state_before v.scenario v.records d at.0 ≡ Synchronised) sender at.3;
+        reached = subst (λ d. Reaches v.scenario v.records d
+            (pos (cycle * v.sizes.cycle + amount entry.row.offset)) at.0) sender at.2;
+        at_hand = λ front same. inl (sym source, refl);
+      } in
+      subst (λ x. IsRowSent v x cycle entry) own (dispatched brings.channels is can)
 
--- ---- from switch to switch
+  -- ---- from switch to switch
 
--- the frame arrives within the run
-pub arrives_in_time : Brings → (v : View) (vl : VlId) (of_vl : VirtualLink) (cycle last : ℕ) → IsView v → IsSentIn v vl of_vl cycle last
-    → (h : Happening) (device : DeviceId) (link : LinkId) (cause : ℕ) → IsGood v device
-    → (d : IsRowDispatch v h device link cause vl cycle) → window_end v.scenario.network d.entry ≤ last → arrives_at v h link d.entry.row.way d.entry ≤ v.until
-arrives_in_time brings v vl of_vl cycle last is sent h device link cause good d ends =
-    let n = v.scenario.network in
-    let here = dispatches_are_in_spans brings.blocks v h device link cause vl cycle is good d in
-    let hull = same_hull v cycle here.span.block.before sent.before in
-    let least = ap (λ (w : Hull). w.least) hull in
-    let narrow = before_narrow v cycle here.span.block.before in
-    let range = in_range n d.place d.entry is.lawful.range d.row in
-    let at : link_at n link ≡ Some d.entry.link = subst (λ (x : LinkId). link_at n x ≡ Some d.entry.link) d.by d.row.link in
-    let delay = delay_lies v.scenario link d.entry.link d.entry.row.way (time_of h) is.lawful at range.link.wire.least range.link.jitter.least in
-    let times = rows_are_in_time v d.place d.entry is d.row in
-    let space = room v is in
-    omega (arith, ints, least, narrow, here.not_late, delay.1, times.tolerates, ends, sent.in_run, space.eight_errors)
+  -- the frame arrives within the run
+  pub arrives_in_time : {h : Happening} {device : DeviceId} {link : LinkId} {cause : ℕ} → IsGood v device
+      → (d : IsRowDispatch v h device link cause vl cycle) → window_end v.scenario.network d.entry ≤ last
+      → arrives_at v h link d.entry.row.way d.entry ≤ v.until
+  arrives_in_time {h} {device} {link} {cause} good d ends =
+      let n = v.scenario.network in
+      let here = dispatches_are_in_spans brings.blocks v h device link cause vl cycle is good d in
+      let hull = same_hull v cycle here.span.block.before sent.before in
+      let least = ap (λ (w : Hull). w.least) hull in
+      let narrow = before_narrow here.span.block.before in
+      let range = in_range n d.place d.entry is.lawful.range d.row in
+      let at : link_at n link ≡ Some d.entry.link =
+      subst (λ x. link_at n x ≡ Some d.entry.link) d.by d.row.link in
+      let delay = delay_lies link d.entry.link d.entry.row.way (time_of h) is.lawful at range.link.wire.least
+      range.link.jitter.least in
+      let times = rows_are_in_time v d.place d.entry is d.row in
+      let space = room is in
+      omega (arith, ints, least, narrow, here.not_late, delay.1, times.tolerates, ends, sent.in_run, space.eight_errors)
 
 -- a switch of the sound channel that stays so up to a time of the span
-firm_at : Brings → (v : View) (n t : ℕ) (span : IsInSpan v n t) (device : DeviceId) → IsView v → IsSoundSwitch v device → IsTimedAt v device t
-firm_at brings v n t span device is switch =
+firm_at : Brings → {v : View} {n t : ℕ} (span : IsInSpan v n t) (device : DeviceId) → IsView v
+    → IsSoundSwitch v device → IsTimedAt v device t
+firm_at brings {v} {n} {t} span device is switch =
     let before = span.block.before in
     let begin = brings.switches v n before device is switch in
     (synchronised_stay_so brings.blocks brings.not_on v n before.next t span device is (omega arith) span.block.from begin
@@ -141,11 +149,12 @@ record IsTakenBy (v : View) (device : DeviceId) (vl : VlId) (cycle : ℕ) : Type
   pub is : taking.note.body ≡ notes.Accepted device link from vl cycle
 
 -- so is the frame of each row into a switch of the sound channel
-taken_there : Brings → (v : View) (vl : VlId) (of_vl : VirtualLink) (cycle last : ℕ) → IsView v → FieldsFit v.scenario.network → HasGoodSources v vl
-    → IsSentIn v vl of_vl cycle last
-    → (k : ℕ) (entry : Entry) → IsEntry v.scenario.network k entry → entry.row.vl ≡ vl → window_end v.scenario.network entry ≤ last
-    → IsSwitchOf v.scenario.network v.channel (target_of entry) → IsRowSent v vl cycle entry → IsTakenBy v (target_of entry) vl cycle
-taken_there brings v vl of_vl cycle last is fit sources sent k entry row own ends switch went =
+taken_there : Brings → {v : View} {vl : VlId} {of_vl : VirtualLink} {cycle last : ℕ} → IsView v
+    → FieldsFit v.scenario.network → HasGoodSources v vl → IsSentIn v vl of_vl cycle last → {k : ℕ} {entry : Entry}
+    → IsEntry v.scenario.network k entry → entry.row.vl ≡ vl → window_end v.scenario.network entry ≤ last
+    → IsSwitchOf v.scenario.network v.channel (target_of entry) → IsRowSent v vl cycle entry
+    → IsTakenBy v (target_of entry) vl cycle
+taken_there brings {v} {vl} {of_vl} {cycle} {last} is fit sources sent {k} {entry} row own ends switch went =
     let n = v.scenario.network in
     let h = went.record_of in
     let device = source_of entry in
@@ -157,22 +166,21 @@ taken_there brings v vl of_vl cycle last is fit sources sent k entry row own end
     let begun = dispatches_begin brings.blocks brings.senders v h device link went.cause vl of_vl cycle is fit good sources sent.there d in
     let vls : d.entry.vl ≡ of_vl = same_some (slice_get n.vl vl.0) d.entry.vl of_vl
     (subst (λ (x : VlId). slice_get n.vl x.0 ≡ Some d.entry.vl) d.of_vl d.row.vl) sent.there in
-    let whole : h.octets ≡ tt_frame_by n d.entry.vl cycle = begun.whole ∙ ap (λ (x : VirtualLink). tt_frame_by n x cycle) (sym vls) in
-    let window : window_end n d.entry ≤ last = subst (λ (e : Entry). window_end n e ≤ last) (sym went.same) ends in
-    let in_time = arrives_in_time brings v vl of_vl cycle last is sent h device link went.cause good d window in
+    let whole : h.octets ≡ tt_frame_by n d.entry.vl cycle = begun.whole ∙ ap (λ x. tt_frame_by n x cycle) (sym vls) in
+    let window : window_end n d.entry ≤ last = subst (λ e. window_end n e ≤ last) (sym went.same) ends in
+    let in_time = arrives_in_time brings is sent good d window in
     let arrives = frames_arrive_in_spans brings.blocks v h device link went.cause vl cycle d.entry.row.way is good d in_time in
-    let timed = firm_at brings v cycle (arrives_at v h link d.entry.row.way d.entry) arrives.span receiver is switch in
-    let off = brings.not_on v receiver (arrives_at v h link d.entry.row.way d.entry) is
-    (has_time_at v receiver (arrives_at v h link d.entry.row.way d.entry) timed).timed in
+    let timed = firm_at brings arrives.span receiver is switch in
+    let off = brings.not_on v receiver (arrives_at v h link d.entry.row.way d.entry) is (has_time_at timed).timed in
     let taken = arrivals_are_taken brings.blocks brings.channels v h device receiver link went.cause vl cycle is fit good fine d whole (ap target_of went.same)
     in_time timed off in
-    let no_end = switch_no_end n v.channel receiver is.lawful.range switch in
+    let no_end = switch_no_end v.channel receiver is.lawful.range switch in
     record {
       taking = taken.taking;
       there = taken.there;
       link = taken.link;
       from = taken.cause;
-      is = switch_accepts v taken.taking receiver taken.link taken.cause vl cycle is taken.there no_end taken.says;
+      is = switch_accepts taken.taking receiver taken.link taken.cause vl cycle is taken.there no_end taken.says;
     }
 
 -- the last frame that a switch took before it dispatches a row in a cycle is one of the cycle
@@ -215,9 +223,10 @@ none_last p hs g e i hit = by (filter p hs) (in_kept p hs g i hit) e
     by (x ∷ xs) i e = (let some = last_some None x xs in let wrong = some.1 in cc)
 
 -- a switch that took a frame of the cycle has one at hand in the cycle's span
-at_hand_then : Brings → (v : View) (device : DeviceId) (vl : VlId) (cycle t : ℕ) → IsView v → FieldsFit v.scenario.network → IsGood v device
-    → HasGoodSources v vl → IsInSpan v cycle t → (g : IsTakenBy v device vl cycle) → time_of g.taking < t → IsAtHand v device vl cycle t
-at_hand_then brings v device vl cycle t is fit good sources span g early =
+at_hand_then : Brings → {v : View} {device : DeviceId} {vl : VlId} {cycle t : ℕ} → IsView v
+    → FieldsFit v.scenario.network → IsGood v device → HasGoodSources v vl → IsInSpan v cycle t
+    → (g : IsTakenBy v device vl cycle) → time_of g.taking < t → IsAtHand v device vl cycle t
+at_hand_then brings {v} {device} {vl} {cycle} {t} is fit good sources span g early =
     by (last_accepted v.records device vl t) refl
   where
     hit : is_accepted device vl g.taking.note.body ≡ true
@@ -233,7 +242,7 @@ at_hand_then brings v device vl cycle t is fit good sources span g early =
         let says = accepted_so device vl r.note.body test.1 in
         let there = from_earlier t v.records r test.0 in
         let order = no_later g.taking r (last_of (λ h. is_accepted device vl h.note.body) None (earlier t v.records) r g.taking
-        (in_places v.scenario [] (earlier t v.records) (earlier_founded v t is)) e among hit) in
+        (in_places v.scenario [] (earlier t v.records) (earlier_founded t is)) e among hit) in
         let one = takings_are_so v g.taking device g.link g.from vl cycle is g.there (inl g.is) in
         let two = takings_are_so v r device says.0 says.1 vl says.2 is there.0 (inl says.3) in
         let first = takings_come_by_rows brings.blocks brings.senders v g.taking device g.link g.from vl cycle is fit good one
@@ -257,11 +266,12 @@ at_hand_then brings v device vl cycle t is fit good sources span g early =
         }
 
 -- the frame was taken before the clock reaches the row's offset
-taken_before_offset : Brings → (v : View) (vl : VlId) (cycle : ℕ) (place : ℕ) (entry : Entry) → IsView v → FieldsFit v.scenario.network → HasGoodSources v vl
-    → IsEntry v.scenario.network place entry → entry.row.vl ≡ vl → source_of entry ≢ entry.vl.sender
-    → IsGood v (source_of entry) → (g : IsTakenBy v (source_of entry) vl cycle) → (r : ReachesInSpan v cycle (amount entry.row.offset) (source_of entry))
-    → time_of g.taking < r.at
-taken_before_offset brings v vl cycle place entry is fit sources row own other good g r =
+taken_before_offset : Brings → {v : View} {vl : VlId} {cycle place : ℕ} {entry : Entry} → IsView v
+    → FieldsFit v.scenario.network → HasGoodSources v vl → IsEntry v.scenario.network place entry → entry.row.vl ≡ vl
+    → source_of entry ≢ entry.vl.sender → IsGood v (source_of entry)
+    → (g : IsTakenBy v (source_of entry) vl cycle)
+    (r : ReachesInSpan v cycle (amount entry.row.offset) (source_of entry)) → time_of g.taking < r.at
+taken_before_offset brings {v} {vl} {cycle} {place} {entry} is fit sources row own other good g r =
     let n = v.scenario.network in
     let device = source_of entry in
     let taking = takings_are_so v g.taking device g.link g.from vl cycle is g.there (inl g.is) in
@@ -272,63 +282,65 @@ taken_before_offset brings v vl cycle place entry is fit sources row own other g
     let timed : IsTimedAt v device (time_of g.taking) = record { good = good; synchronised = taking.synchronised } in
     let shows = (comes.in_span.shows device timed).1 in
     let times = rows_are_in_time v taking.by_row.place taking.by_row.entry is taking.by_row.row in
-    let space = room v is in
+    let space = room is in
     elim (cases_lt (time_of g.taking) r.at) [
       | inl lt ↦ lt
       | inr ge ↦
-          let clock = one_clock brings.blocks v cycle r.at (time_of g.taking) r.in_span.span comes.in_span.span device is timed ge in
+          let clock = one_clock brings.blocks r.in_span.span comes.in_span.span is timed ge in
           let sharp = clocks_reach_sharply v device (pos (cycle * v.sizes.cycle + amount entry.row.offset)) r.at is r.reached in
           let up = (steady v is device).never_falls r.at (time_of g.taking) ge in
           absurd (omega (arith, ints, clock.adjustment, sharp.least, up, shows, times.tolerates, behind, space.eight_errors))
     ]
 
 -- by the offset
-sent_below : Brings → (bound : ℕ) (v : View) (vl : VlId) (of_vl : VirtualLink) (cycle last : ℕ) → IsView v → FieldsFit v.scenario.network → HasGoodSources v vl
-    → IsSentIn v vl of_vl cycle last
-    → (place : ℕ) (entry : Entry) → IsEntry v.scenario.network place entry → entry.row.vl ≡ vl → IsOnChannel v.scenario.network v.channel entry
-    → window_end v.scenario.network entry ≤ last → amount entry.row.offset < bound → IsRowSent v vl cycle entry
-sent_below brings zero v vl of_vl cycle last is fit sources sent place entry row own on ends below = absurd (omega (arith, below))
-sent_below brings (suc bound) v vl of_vl cycle last is fit sources sent place entry row own on ends below =
+sent_below : Brings → (bound : ℕ) {v : View} {vl : VlId} {of_vl : VirtualLink} {cycle last : ℕ} → IsView v
+    → FieldsFit v.scenario.network → HasGoodSources v vl → IsSentIn v vl of_vl cycle last
+    → (place : ℕ) (entry : Entry) → IsEntry v.scenario.network place entry → entry.row.vl ≡ vl
+    → IsOnChannel v.scenario.network v.channel entry → window_end v.scenario.network entry ≤ last
+    → amount entry.row.offset < bound → IsRowSent v vl cycle entry
+sent_below brings zero is fit sources sent place entry row own on ends below = absurd (omega (arith, below))
+sent_below brings (suc bound) {v} {vl} {of_vl} {cycle} {last} is fit sources sent place entry row own on ends below =
     let n = v.scenario.network in
     let device = source_of entry in
     elim (same_or_other device entry.vl.sender) [
-      | inl sender ↦ sender_sends brings v vl of_vl cycle last is sent place entry row own on sender
+      | inl sender ↦ sender_sends brings is sent row own on sender
       | inr other ↦ elim (is.lawful.rules Sources place entry row) [
         | inl sender ↦ absurd (other sender)
         | inr switch ↦
             let k = switch.1.0 in
             let enters = switch.1.2 in
             let entering = enters.entry in
-            let channel = switch_channel n device is.lawful.range switch.0 in
-            let no_end = switch_no_end n channel.0 device is.lawful.range channel.1 in
-            let firm = source_on n place entry v.channel is.lawful.range is.lawful.rules row no_end on in
+            let channel = switch_channel device is.lawful.range switch.0 in
+            let no_end = switch_no_end channel.0 device is.lawful.range channel.1 in
+            let firm = source_on v.channel is.lawful.range is.lawful.rules row no_end on in
             let there : IsSwitchOf n v.channel (target_of entering) = subst (IsSwitchOf n v.channel) (sym enters.target) firm in
-            let on_channel = target_on n k entering v.channel is.lawful.range is.lawful.rules enters.is there in
+            let on_channel = target_on v.channel is.lawful.range is.lawful.rules enters.is there in
             let entering_own : entering.row.vl ≡ vl = enters.same_vl ∙ own in
             let behind = (is.lawful.rules Forwarding place).from_switch k entering entry enters.is row (sym enters.same_vl) other enters.target in
             let times = rows_are_in_time v place entry is row in
             let entering_times = rows_are_in_time v k entering is enters.is in
-            let first = sent_below brings bound v vl of_vl cycle last is fit sources sent k entering enters.is entering_own on_channel
+            let first = sent_below brings bound is fit sources sent k entering enters.is entering_own on_channel
             (omega (arith, behind, times.tolerates, ends)) (omega (arith, behind, entering_times.tolerates, below)) in
             let taken : IsTakenBy v device vl cycle = subst (λ (d : DeviceId). IsTakenBy v d vl cycle) enters.target
-            (taken_there brings v vl of_vl cycle last is fit sources sent k entering enters.is entering_own (omega (arith, behind, times.tolerates, ends)) there
+            (taken_there brings is fit sources sent enters.is entering_own
+            (omega (arith, behind, times.tolerates, ends)) there
             first) in
             let good = sources place entry row own in
             let before = sent.before in
-            let narrow = before_narrow v cycle before in
-            let space = room v is in
+            let narrow = before_narrow before in
+            let space = room is in
             let timed = brings.switches v cycle before device is firm in
             let r = values_are_reached brings.blocks brings.not_on v cycle (amount entry.row.offset) before device is timed sent.occurs.begun
-            (offset_in_schedule v place entry is row)
+            (offset_in_schedule is row)
             (omega (arith, ints, narrow, times.tolerates, ends, sent.in_run, space.eight_errors)) in
-            let early = taken_before_offset brings v vl cycle place entry is fit sources row own other good taken r in
-            let hand = at_hand_then brings v device vl cycle r.at is fit good sources r.in_span.span taken early in
-            let off = brings.not_on v device r.at is (has_time_at v device r.at r.timed).timed in
+            let early = taken_before_offset brings is fit sources row own other good taken r in
+            let hand = at_hand_then brings is fit good sources r.in_span.span taken early in
+            let off = brings.not_on v device r.at is (has_time_at r.timed).timed in
             let vls : entry.vl ≡ of_vl = same_some (slice_get n.vl vl.0) entry.vl of_vl (subst (λ (x : VlId). slice_get n.vl x.0 ≡ Some entry.vl) own row.vl)
             sent.there in
             let can : CanDispatch v place entry hand.taken.note.number cycle r.at = record {
               row = row;
-              occurs = subst (λ (x : VirtualLink). OccursIn x cycle) (sym vls) sent.occurs;
+              occurs = subst (λ x. OccursIn x cycle) (sym vls) sent.occurs;
               in_run = r.in_span.span.block.in_run;
               good = good;
               whole = on;
@@ -340,7 +352,7 @@ sent_below brings (suc bound) v vl of_vl cycle last is fit sources sent place en
                   taken = hand.taken;
                   last =
                       ap (λ (xs : List Happening). last_or None (filter (λ h. is_accepted device entry.row.vl h.note.body) xs)) same
-                      ∙ ap (λ (x : VlId). last_accepted v.records device x r.at) own ∙ hand.last;
+                      ∙ ap (λ x. last_accepted v.records device x r.at) own ∙ hand.last;
                   number = refl;
                   link = hand.link;
                   from = hand.from;
@@ -348,10 +360,10 @@ sent_below brings (suc bound) v vl of_vl cycle last is fit sources sent place en
                 },
               );
             } in
-            subst (λ (x : VlId). IsRowSent v x cycle entry) own (dispatched brings.channels v place entry hand.taken.note.number cycle r.at is can)
+            subst (λ x. IsRowSent v x cycle entry) own (dispatched brings.channels is can)
       ]
     ]
 
 pub rows_are_sent : Brings → RowsAreSent
 rows_are_sent brings v vl of_vl cycle last is fit sources sent place entry row own on ends =
-    sent_below brings (amount entry.row.offset + 1) v vl of_vl cycle last is fit sources sent place entry row own on ends (omega arith)
+    sent_below brings (amount entry.row.offset + 1) is fit sources sent place entry row own on ends (omega arith)

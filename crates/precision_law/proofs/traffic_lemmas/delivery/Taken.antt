@@ -10,7 +10,7 @@ use Rattle.precision_law.proofs.traffic_lemmas.Words.{before_of, cause_of, clock
 use Rattle.precision_law.proofs.traffic_lemmas.Words.{founded_at, if◌then◌else◌, in_left, inl, inr, is_broken, is_relay, is_taken_in, is_turned_on_at}
 use Rattle.precision_law.proofs.traffic_lemmas.Words.{last_taken, launched, length, link_at, not, numbered, numbered_in, offset_in_cycle, option_map}
 use Rattle.precision_law.proofs.traffic_lemmas.Words.{option_map_or, pos, refl, same_some, shown_at, standpoint, state_after, state_before, subst, sym}
-use Rattle.precision_law.proofs.traffic_lemmas.{Words.{target_by, time_of, timed, true, way_to, window_of, ℕ, ℤ}, delivery.Faultless.{TakesIn, finds_none}}
+use Rattle.precision_law.proofs.traffic_lemmas.{Words.{target_by, time_of, timed, true, way_to, window_of, ℕ}, delivery.Faultless.{TakesIn, finds_none}}
 use Rattle.{precision_law.proofs.traffic_lemmas.ports.Ends.ends_differ, run_law.specs.scenario.{Devices.is_parent_of, Ways.{delay_at, is_cut, receiver_of}}}
 use Rattle.run_law.specs.control.{Arrivals.{control_arrival, frame_fault, frame_or_fault}, Wires.{Arrives, Launch, signal_of, time_on_port}}
 use Rattle.run_law.specs.declared.note.NoteBody.TheVariants as notes
@@ -59,17 +59,20 @@ never_passed true true frame point vl cycle t = no_take (arrivals.Passes frame U
 never_passed true false frame point vl cycle t = no_take (arrivals.PassesAndWaits frame Down point) vl cycle (λ x y e. cc) (λ x y e. cc) t
 never_passed false parent frame point vl cycle t = no_take (arrivals.Waits frame point) vl cycle (λ x y e. cc) (λ x y e. cc) t
 
--- nor is a control frame with a fault or none
-never_judged : (network : Network) (device : DeviceId) (link : LinkId) (at : Standpoint) (frame : Pcf) (fault : Option Reason) (vl : VlId) (cycle : ℕ)
-    → TakesIn (frame_or_fault network device link at frame fault) vl cycle → ⊥
-never_judged network device link at frame (Some reason) vl cycle t = no_take (arrivals.Dropped reason) vl cycle (λ x y e. cc) (λ x y e. cc) t
-never_judged network device link at frame None vl cycle t = never_passed (is_relay network device) (is_parent_of network device link) _ _ vl cycle t
+module _ (network : Network) (device : DeviceId) (link : LinkId) where
+  -- nor is a control frame with a fault or none
+  never_judged : (at : Standpoint) (frame : Pcf) (fault : Option Reason) (vl : VlId) (cycle : ℕ)
+      → TakesIn (frame_or_fault network device link at frame fault) vl cycle → ⊥
+  never_judged at frame (Some reason) vl cycle t =
+      no_take (arrivals.Dropped reason) vl cycle (λ x y e. cc) (λ x y e. cc) t
+  never_judged at frame None vl cycle t =
+      never_passed (is_relay network device) (is_parent_of network device link) _ _ vl cycle t
 
--- nor is any control frame
-pub never_control : (network : Network) (device : DeviceId) (link : LinkId) (at : Standpoint) (frame : Result Pcf PcfRefusal) (vl : VlId) (cycle : ℕ)
-    → TakesIn (control_arrival network device link at frame) vl cycle → ⊥
-never_control network device link at (Err refusal) vl cycle t = no_take (arrivals.Dropped _) vl cycle (λ x y e. cc) (λ x y e. cc) t
-never_control network device link at (Ok frame) vl cycle t = never_judged network device link at frame (frame_fault network device link at frame) vl cycle t
+  -- nor is any control frame
+  pub never_control : (at : Standpoint) (frame : Result Pcf PcfRefusal) (vl : VlId) (cycle : ℕ)
+      → TakesIn (control_arrival network device link at frame) vl cycle → ⊥
+  never_control at (Err refusal) vl cycle t = no_take (arrivals.Dropped _) vl cycle (λ x y e. cc) (λ x y e. cc) t
+  never_control at (Ok frame) vl cycle t = never_judged at frame (frame_fault network device link at frame) vl cycle t
 
 -- ---- octets
 
@@ -115,15 +118,17 @@ from_cause hs cause h e = ap (λ (o : Option Happening). option_map_or (λ x. x.
 -- ---- takings
 
 -- what the record of a taking shows, where the signal was these octets
-of_octets : (v : View) (h : Happening) (device : DeviceId) (link : LinkId) (cause : ℕ) (vl : VlId) (cycle : ℕ) → IsView v → IsIn h v.records
-    → (found : IsFoundedAt v.scenario v.records h) → cause_of h.note.body ≡ cause → h.octets ≡ octets_from found.front cause
-    → (putting : Happening) → numbered found.front cause ≡ Some putting → (octets : List ℕ) → Arrives v.scenario putting device link (time_of h) (timed octets)
-    → TakesIn (arrival_of v.scenario found.front device (time_of h) link cause (timed octets)) vl cycle → IsTaking v h device link cause vl cycle
-of_octets v h device link cause vl cycle is i found comes_of own putting there octets arrives takes =
+of_octets : {v : View} {h : Happening} {device : DeviceId} {link : LinkId} (cause : ℕ) (vl : VlId) (cycle : ℕ)
+    → IsView v → IsIn h v.records → (found : IsFoundedAt v.scenario v.records h) → cause_of h.note.body ≡ cause
+    → h.octets ≡ octets_from found.front cause → {putting : Happening} → numbered found.front cause ≡ Some putting
+    → (octets : List ℕ) → Arrives v.scenario putting device link (time_of h) (timed octets)
+    → TakesIn (arrival_of v.scenario found.front device (time_of h) link cause (timed octets)) vl cycle
+    → IsTaking v h device link cause vl cycle
+of_octets {v} {h} {device} {link} cause vl cycle is i found comes_of own {putting} there octets arrives takes =
     let s = v.scenario in
     let n = s.network in
     let t = time_of h in
-    let split = before_of v h is found in
+    let split = before_of is found in
     let at = standpoint s found.front device t in
     let finds = finds_none n device link at octets (last_taken found.front device t link cause) vl cycle takes in
     let in_all : IsIn putting v.records = subst (IsIn putting) (sym found.whole)
@@ -134,11 +139,12 @@ of_octets v h device link cause vl cycle is i found comes_of own putting there o
     let mine : h.octets ≡ putting.octets = own ∙ from_cause found.front cause putting there in
     let here : octets ≡ h.octets = same ∙ sym mine in
     let way = way_is n link arrives.way device is.lawful.rules arrives.receiver in
-    let shown : clock_of at ≡ shown_at v device t = ap (λ (a : Units). pos (s.reading device t) +ℤ a.0) (same_adjustment v device t found.front split) in
+    let shown : clock_of at ≡ shown_at v device t =
+    ap (λ (a : Units). pos (s.reading device t) +ℤ a.0) (same_adjustment device split) in
     let state : state_after s (earlier t found.front) device ≡ Synchronised = up_state (is_turned_on_at s device t)
     (state_after s (earlier t found.front) device) finds.sound.synchronised in
     let entry = finds.entry in
-    let number : numbered v.records cause ≡ Some putting = subst (λ (hs : List Happening). numbered hs cause ≡ Some putting) (sym found.whole)
+    let number : numbered v.records cause ≡ Some putting = subst (λ hs. numbered hs cause ≡ Some putting) (sym found.whole)
     (numbered_front found.front (h ∷ found.rest) cause putting there) in
     record {
       there = i;
@@ -157,24 +163,25 @@ of_octets v h device link cause vl cycle is i found comes_of own putting there o
         by = finds.enters.by;
         on_way = finds.enters.on_way ∙ way;
         of_vl = finds.of_vl;
-        id_is = finds.enters.id_is ∙ ap (λ (o : List ℕ). field 4 2 o) here;
+        id_is = finds.enters.id_is ∙ ap (λ o. field 4 2 o) here;
         enters =
-            ap (λ (w : Way). target_by w entry.link) (finds.enters.on_way ∙ way) ∙ target_is (link_at n link) arrives.way device entry.link
-            (subst (λ (l : LinkId). link_at n l ≡ Some entry.link) finds.enters.by finds.enters.row.link) arrives.receiver;
+            ap (λ w. target_by w entry.link) (finds.enters.on_way ∙ way) ∙ target_is (link_at n link) arrives.way device entry.link
+            (subst (λ l. link_at n l ≡ Some entry.link) finds.enters.by finds.enters.row.link) arrives.receiver;
       };
-      whole = ap (λ (o : List ℕ). length o) (sym here) ∙ finds.fits.whole;
-      occurs = subst (λ (c : ℕ). OccursIn entry.vl c) finds.in_cycle finds.fits.occurs;
+      whole = ap (λ o. length o) (sym here) ∙ finds.fits.whole;
+      occurs = subst (λ c. OccursIn entry.vl c) finds.in_cycle finds.fits.occurs;
       in_cycle = sym finds.in_cycle ∙ ap (cycle_at n) shown;
-      not_before = subst (λ (z : ℤ). (window_of n entry).from.0 ≤ℤ offset_in_cycle n z) shown finds.fits.not_before;
-      not_behind = subst (λ (z : ℤ). offset_in_cycle n z ≤ℤ (window_of n entry).to.0) shown finds.fits.not_behind;
-      synchronised = subst (λ (xs : List Happening). state_after s xs device ≡ Synchronised) (earlier_before v t found.front split) state;
+      not_before = subst (λ z. (window_of n entry).from.0 ≤ℤ offset_in_cycle n z) shown finds.fits.not_before;
+      not_behind = subst (λ z. offset_in_cycle n z ≤ℤ (window_of n entry).to.0) shown finds.fits.not_behind;
+      synchronised =
+          subst (λ xs. state_after s xs device ≡ Synchronised) (earlier_before split) state;
       correct = not_broken (not (is_off (state_before s found.front device t))) (is_broken s device t) finds.sound.takes_part;
       front = found.front;
       rest = found.rest;
       split = found.whole;
       anew =
-          ap (λ (x : VlId). is_taken_in cycle (last_taken found.front device t link cause x)) (sym finds.of_vl)
-          ∙ ap (λ (c : ℕ). is_taken_in c (last_taken found.front device t link cause entry.row.vl)) (sym finds.in_cycle) ∙ finds.fits.anew;
+          ap (λ x. is_taken_in cycle (last_taken found.front device t link cause x)) (sym finds.of_vl)
+          ∙ ap (λ c. is_taken_in c (last_taken found.front device t link cause entry.row.vl)) (sym finds.in_cycle) ∙ finds.fits.anew;
     }
   where
     not_broken : (a b : Bool) → (a && not b) ≡ true → b ≡ false
@@ -183,16 +190,17 @@ of_octets v h device link cause vl cycle is i found comes_of own putting there o
     not_broken false b e = absurd cc
 
 -- what it shows
-of_arrival : (v : View) (h : Happening) (device : DeviceId) (link : LinkId) (cause : ℕ) (vl : VlId) (cycle : ℕ) (a : Arrival) → IsView v → IsIn h v.records
-    → (found : IsFoundedAt v.scenario v.records h) → cause_of h.note.body ≡ cause → h.octets ≡ octets_from found.front cause
-    → TakesIn a vl cycle → ArrivesAs v.scenario found.front device (time_of h) link cause a → IsTaking v h device link cause vl cycle
-of_arrival v h device link cause vl cycle a is i found comes_of own takes comes =
-    by comes.signal comes.arrives (subst (λ (x : Arrival). TakesIn x vl cycle) comes.becomes takes)
+of_arrival : {v : View} {h : Happening} {device : DeviceId} {link : LinkId} {cause : ℕ} (vl : VlId) (cycle : ℕ)
+    {a : Arrival} → IsView v → IsIn h v.records → (found : IsFoundedAt v.scenario v.records h)
+    → cause_of h.note.body ≡ cause → h.octets ≡ octets_from found.front cause → TakesIn a vl cycle
+    → ArrivesAs v.scenario found.front device (time_of h) link cause a → IsTaking v h device link cause vl cycle
+of_arrival {v} {h} {device} {link} {cause} vl cycle is i found comes_of own takes comes =
+    by comes.signal comes.arrives (subst (λ x. TakesIn x vl cycle) comes.becomes takes)
   where
     by : (signal : Signal) → Arrives v.scenario comes.putting device link (time_of h) signal
         → TakesIn (arrival_of v.scenario found.front device (time_of h) link cause signal) vl cycle → IsTaking v h device link cause vl cycle
     by (control frame) arrives t = absurd (never_control v.scenario.network device link (standpoint v.scenario found.front device (time_of h)) frame vl cycle t)
-    by (timed octets) arrives t = of_octets v h device link cause vl cycle is i found comes_of own comes.putting comes.there octets arrives t
+    by (timed octets) arrives t = of_octets cause vl cycle is i found comes_of own comes.there octets arrives t
 
 pub takings_are_so : TakingsAreSo
 takings_are_so v h device link cause vl cycle is i says =
@@ -202,11 +210,11 @@ takings_are_so v h device link cause vl cycle is i says =
       | inl body ↦
           let caused : IsCaused v.scenario found.front h.note.time (notes.Accepted device link cause vl cycle) = subst
           (IsCaused v.scenario found.front h.note.time) body found.due.cause in
-          of_arrival v h device link cause vl cycle (arrivals.Accepted vl cycle) is i found (ap cause_of body)
+          of_arrival vl cycle is i found (ap cause_of body)
           (own ∙ ap (octets_by v.scenario.network found.front) body) (inl refl) caused
       | inr body ↦
           let caused : IsCaused v.scenario found.front h.note.time (notes.Delivered device link cause vl cycle) = subst
           (IsCaused v.scenario found.front h.note.time) body found.due.cause in
-          of_arrival v h device link cause vl cycle (arrivals.Delivered vl cycle) is i found (ap cause_of body)
+          of_arrival vl cycle is i found (ap cause_of body)
           (own ∙ ap (octets_by v.scenario.network found.front) body) (inr refl) caused
     ]

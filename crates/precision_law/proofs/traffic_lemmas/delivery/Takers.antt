@@ -42,50 +42,58 @@ taken_by_kind network device link at octets last vl cycle b e = by (octets_fault
     by (Some reason) e = absurd (no_drop reason vl cycle b e)
     by None e = by_entry (entry_entering network device link (field 4 2 octets)) e
 
--- a device to which a frame is delivered is an end system
-pub delivered_ends : (v : View) (h : Happening) (device : DeviceId) (link : LinkId) (cause : ℕ) (vl : VlId) (cycle : ℕ) → IsView v → IsIn h v.records
-    → h.note.body ≡ notes.Delivered device link cause vl cycle → is_end v.scenario.network device ≡ true
-delivered_ends v h device link cause vl cycle is i body =
-    let s = v.scenario in
-    let found = founded_at s v.records h is.run.founded i in
-    let caused : IsCaused s found.front h.note.time (notes.Delivered device link cause vl cycle) = subst (IsCaused s found.front h.note.time) body
-    found.due.cause in
-    by found.front caused.signal (sym caused.becomes)
-  where
-    by : (front : List Happening) (signal : Signal) → arrival_of v.scenario front device (amount h.note.time) link cause signal ≡ arrivals.Delivered vl cycle
-        → is_end v.scenario.network device ≡ true
-    by front (control frame) e =
-        absurd (never_control v.scenario.network device link (standpoint v.scenario front device (amount h.note.time)) frame vl cycle (inr e))
-    by front (timed octets) e =
-        taken_by_kind v.scenario.network device link (standpoint v.scenario front device (amount h.note.time)) octets
-        (last_taken front device (amount h.note.time) link cause) vl cycle true e
+module _ {v : View} (h : Happening) (device : DeviceId) (link : LinkId) (cause : ℕ) (vl : VlId) (cycle : ℕ)
+    (is : IsView v) (i : IsIn h v.records) where
+  -- a device to which a frame is delivered is an end system
+  pub delivered_ends : h.note.body ≡ notes.Delivered device link cause vl cycle
+      → is_end v.scenario.network device ≡ true
+  delivered_ends body =
+      let s = v.scenario in
+      let found = founded_at s v.records h is.run.founded i in
+      let caused : IsCaused s found.front h.note.time (notes.Delivered device link cause vl cycle) =
+      subst (IsCaused s found.front h.note.time) body
+      found.due.cause in
+      by found.front caused.signal (sym caused.becomes)
+    where
+      by : (front : List Happening) (signal : Signal) → arrival_of v.scenario front device (amount h.note.time) link
+          cause signal ≡ arrivals.Delivered vl cycle
+          → is_end v.scenario.network device ≡ true
+      by front (control frame) e =
+          absurd (never_control v.scenario.network device link
+          (standpoint v.scenario front device (amount h.note.time)) frame vl cycle (inr e))
+      by front (timed octets) e =
+          taken_by_kind v.scenario.network device link (standpoint v.scenario front device (amount h.note.time)) octets
+          (last_taken front device (amount h.note.time) link cause) vl cycle true e
 
--- and one that accepts is none
-pub accepted_switches : (v : View) (h : Happening) (device : DeviceId) (link : LinkId) (cause : ℕ) (vl : VlId) (cycle : ℕ) → IsView v → IsIn h v.records
-    → h.note.body ≡ notes.Accepted device link cause vl cycle → is_end v.scenario.network device ≡ false
-accepted_switches v h device link cause vl cycle is i body =
-    let s = v.scenario in
-    let found = founded_at s v.records h is.run.founded i in
-    let caused : IsCaused s found.front h.note.time (notes.Accepted device link cause vl cycle) = subst (IsCaused s found.front h.note.time) body
-    found.due.cause in
-    by found.front caused.signal (sym caused.becomes)
-  where
-    by : (front : List Happening) (signal : Signal) → arrival_of v.scenario front device (amount h.note.time) link cause signal ≡ arrivals.Accepted vl cycle
-        → is_end v.scenario.network device ≡ false
-    by front (control frame) e =
-        absurd (never_control v.scenario.network device link (standpoint v.scenario front device (amount h.note.time)) frame vl cycle (inl e))
-    by front (timed octets) e =
-        taken_by_kind v.scenario.network device link (standpoint v.scenario front device (amount h.note.time)) octets
-        (last_taken front device (amount h.note.time) link cause) vl cycle false e
+  -- and one that accepts is none
+  pub accepted_switches : h.note.body ≡ notes.Accepted device link cause vl cycle
+      → is_end v.scenario.network device ≡ false
+  accepted_switches body =
+      let s = v.scenario in
+      let found = founded_at s v.records h is.run.founded i in
+      let caused : IsCaused s found.front h.note.time (notes.Accepted device link cause vl cycle) =
+      subst (IsCaused s found.front h.note.time) body
+      found.due.cause in
+      by found.front caused.signal (sym caused.becomes)
+    where
+      by : (front : List Happening) (signal : Signal) → arrival_of v.scenario front device (amount h.note.time) link
+          cause signal ≡ arrivals.Accepted vl cycle
+          → is_end v.scenario.network device ≡ false
+      by front (control frame) e =
+          absurd (never_control v.scenario.network device link
+          (standpoint v.scenario front device (amount h.note.time)) frame vl cycle (inl e))
+      by front (timed octets) e =
+          taken_by_kind v.scenario.network device link (standpoint v.scenario front device (amount h.note.time)) octets
+          (last_taken front device (amount h.note.time) link cause) vl cycle false e
 
--- a switch accepts what it takes
-pub switch_accepts : (v : View) (h : Happening) (device : DeviceId) (link : LinkId) (cause : ℕ) (vl : VlId) (cycle : ℕ) → IsView v → IsIn h v.records
-    → is_end v.scenario.network device ≡ false → SaysTaken h.note.body device link cause vl cycle → h.note.body ≡ notes.Accepted device link cause vl cycle
-switch_accepts v h device link cause vl cycle is i switch (inl body) = body
-switch_accepts v h device link cause vl cycle is i switch (inr body) = absurd (both_ways _ switch (delivered_ends v h device link cause vl cycle is i body))
+  -- a switch accepts what it takes
+  pub switch_accepts : is_end v.scenario.network device ≡ false → SaysTaken h.note.body device link cause vl cycle
+      → h.note.body ≡ notes.Accepted device link cause vl cycle
+  switch_accepts switch (inl body) = body
+  switch_accepts switch (inr body) = absurd (both_ways _ switch (delivered_ends body))
 
--- an end system is delivered what it takes
-pub end_delivers : (v : View) (h : Happening) (device : DeviceId) (link : LinkId) (cause : ℕ) (vl : VlId) (cycle : ℕ) → IsView v → IsIn h v.records
-    → is_end v.scenario.network device ≡ true → SaysTaken h.note.body device link cause vl cycle → h.note.body ≡ notes.Delivered device link cause vl cycle
-end_delivers v h device link cause vl cycle is i end (inr body) = body
-end_delivers v h device link cause vl cycle is i end (inl body) = absurd (both_ways _ (accepted_switches v h device link cause vl cycle is i body) end)
+  -- an end system is delivered what it takes
+  pub end_delivers : is_end v.scenario.network device ≡ true → SaysTaken h.note.body device link cause vl cycle
+      → h.note.body ≡ notes.Delivered device link cause vl cycle
+  end_delivers end (inr body) = body
+  end_delivers end (inl body) = absurd (both_ways _ (accepted_switches body) end)

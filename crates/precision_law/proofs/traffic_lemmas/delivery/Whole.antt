@@ -40,7 +40,7 @@ octets_come_so v h device link cause vl cycle is d =
     let n = s.network in
     let t = time_of h in
     let found = founded_at s v.records h is.run.founded d.there in
-    let split = before_of v h is found in
+    let split = before_of is found in
     let own : h.octets ≡ (if cause == 0 then tt_frame n vl cycle else octets_from found.front cause) =
     ap (λ (x : Happening). x.octets) found.due.same ∙ ap (octets_by n found.front) d.is in
     elim d.at_hand [
@@ -60,7 +60,7 @@ octets_come_so v h device link cause vl cycle is d =
             there = there.0;
             number = ap (numbered v.records) has.number ∙ by_number s v.records taken is.run.founded there.0;
             earlier = there.1;
-            last = ap (λ (x : VlId). last_accepted v.records device x t) (sym d.of_vl) ∙ has.last;
+            last = ap (λ x. last_accepted v.records device x t) (sym d.of_vl) ∙ has.last;
             link = has.link;
             from = has.from;
             is = has.is ∙ ap (λ (x : VlId). notes.Accepted device has.link has.from x cycle) d.of_vl;
@@ -80,9 +80,9 @@ octets_come_so v h device link cause vl cycle is d =
 -- ---- lengths
 
 -- two rows of one virtual link have it
-pub same_vl : (network : Network) (place other : ℕ) (entry second : Entry) → IsEntry network place entry → IsEntry network other second
-    → entry.row.vl ≡ second.row.vl → entry.vl ≡ second.vl
-same_vl network place other entry second one two same =
+pub same_vl : {network : Network} {place other : ℕ} {entry second : Entry} → IsEntry network place entry
+    → IsEntry network other second → entry.row.vl ≡ second.row.vl → entry.vl ≡ second.vl
+same_vl {network} {entry} {second} one two same =
     same_some (slice_get network.vl entry.row.vl.0) entry.vl second.vl one.vl
     (subst (λ (x : VlId). slice_get network.vl x.0 ≡ Some second.vl) (sym same) two.vl)
 
@@ -91,10 +91,9 @@ dispatches_are_whole v h device link cause vl cycle is d =
     elim (octets_come_so v h device link cause vl cycle is d) [
       | inl made ↦
           let range = in_range v.scenario.network d.place d.entry is.lawful.range d.row in
-          ap (λ (o : List ℕ). length o) made.frame ∙ made_length v.scenario.network d.entry.vl cycle range.vl.length_least
+          ap (λ o. length o) made.frame ∙ made_length v.scenario.network d.entry.vl cycle range.vl.length_least
       | inr passed ↦
           let taking = takings_are_so v passed.taken device passed.link passed.from vl cycle is passed.there (inl passed.is) in
-          let vls = same_vl v.scenario.network taking.by_row.place d.place taking.by_row.entry d.entry taking.by_row.row d.row
-          (taking.by_row.of_vl ∙ sym d.of_vl) in
-          ap (λ (o : List ℕ). length o) passed.frame ∙ taking.whole ∙ ap (λ (x : VirtualLink). x.length) vls
+          let vls = same_vl taking.by_row.row d.row (taking.by_row.of_vl ∙ sym d.of_vl) in
+          ap (λ o. length o) passed.frame ∙ taking.whole ∙ ap (λ (x : VirtualLink). x.length) vls
     ]

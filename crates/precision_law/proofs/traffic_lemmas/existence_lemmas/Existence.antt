@@ -25,16 +25,17 @@ bounded s some t r ms = record {
       (let under = recent x i in let p = place_parts (time_of x) (rank x.note.body) t r (key (members_in x) x.note.body) under.0 under.1 in
       let both : (time_of x ≡ t) × (rank x.note.body ≡ r) = (p.0, p.1.0) in both) in
       let it = fits s t r ms more all y.note.time y.note.body (members_in y) some parts.0 parts.1.0 (ap members_in due.same) due.cause in
-      subst (λ (us : List ℕ). IsSized (size_of r) (bound s t ms) us) parts.1.1
-      (subst (λ (n : ℕ). IsSized (size_of n) (bound s t ms) (key (members_in y) y.note.body)) parts.1.0 it);
+      subst (λ us. IsSized (size_of r) (bound s t ms) us) parts.1.1
+      (subst (λ n. IsSized (size_of n) (bound s t ms) (key (members_in y) y.note.body)) parts.1.0 it);
 }
 
 -- ---- up to an earlier mark
 
 -- what of a run is before an earlier mark is the run up to it
-front_run : {N : Type 0} (place : N → List ℕ) (IsDue : List N → N → Type 0) (mark later : List ℕ) (ns : List N)
-    → ((p : List ℕ) → IsBefore p mark → IsBefore p later) → IsRun place IsDue later ns → (front : List N) × IsRun place IsDue mark front
-front_run {N} place IsDue mark later ns sooner run =
+front_run : {N : Type 0} {place : N → List ℕ} (IsDue : List N → N → Type 0) (mark : List ℕ) {later : List ℕ}
+    {ns : List N} → ((p : List ℕ) → IsBefore p mark → IsBefore p later) → IsRun place IsDue later ns
+    → (front : List N) × IsRun place IsDue mark front
+front_run {N} {place} IsDue mark {ns} sooner run =
     let at = split place IsDue ns mark run.founded in (
       at.front,
       record { founded = front_founded place IsDue at.front at.rest (subst (IsFounded place IsDue) at.whole run.founded); full = full at; within = at.before },
@@ -49,7 +50,7 @@ front_run {N} place IsDue mark later ns sooner run =
         ]) due (sooner (place x) here) in
         elim (in_parts found.0 at.front at.rest (subst (IsIn found.0) at.whole found.1)) [
           | inl l ↦ (found.0, l, found.2)
-          | inr r ↦ absurd (at.none found.0 r (subst (λ (p : List ℕ). IsBefore p mark) (sym found.2) here))
+          | inr r ↦ absurd (at.none found.0 r (subst (λ p. IsBefore p mark) (sym found.2) here))
         ]
 
 -- ---- the laws
@@ -60,16 +61,18 @@ run_to s t range =
     let some : 1 ≤ amount s.network.cycle = omega (arith, ints, least) in
     run_to_time place_of (IsDue s) (place_decided s some) 15 shaped (bounded s some) t
 
-noted : (s : Scenario) (mark : List ℕ) → (hs : List Happening) × IsRun place_of (IsDue s) mark hs → (ns : List Note) × IsScenarioRun s mark ns
-noted s mark there = (notes_of there.0, subst (IsRun place_of (IsDue s) mark) (sym (told_from s [] there.0 there.1.founded)) there.1)
+noted : (s : Scenario) {mark : List ℕ} → (hs : List Happening) × IsRun place_of (IsDue s) mark hs
+    → (ns : List Note) × IsScenarioRun s mark ns
+noted s {mark} there =
+    (notes_of there.0, subst (IsRun place_of (IsDue s) mark) (sym (told_from s [] there.0 there.1.founded)) there.1)
 
 pub runs_exist : RunsExist
-runs_exist s t range = noted s (t ∷ []) (run_to s t range)
+runs_exist s t range = noted s (run_to s t range)
 
 pub runs_exist_to_each_mark : RunsExistToEachMark
 runs_exist_to_each_mark s [] range =
     let there = run_to s 0 range in
-    noted s [] (front_run place_of (IsDue s) [] (0 ∷ []) there.0 (λ p b. absurd (never_before_none p b)) there.1)
+    noted s (front_run (IsDue s) [] (λ p b. absurd (never_before_none p b)) there.1)
 runs_exist_to_each_mark s (t ∷ more) range =
     let there = run_to s (t + 1) range in
-    noted s (t ∷ more) (front_run place_of (IsDue s) (t ∷ more) ((t + 1) ∷ []) there.0 (λ p b. before_next_time p t more b) there.1)
+    noted s (front_run (IsDue s) (t ∷ more) (λ p b. before_next_time p t more b) there.1)

@@ -81,12 +81,12 @@ module _ {N : Type 0} (place : N → List ℕ) (IsDue : List N → N → Type 0)
     where
       gap : (ps qs : List N) (y : N) → ns ≡ ps ++ qs → ((n : N) → IsIn n qs → IsBefore (place n) (place y) → ⊥) → IsDue ps y → IsBefore (place y) next
           → IsBefore (place y) m
-      gap ps [] y e rest due here = none y (subst (λ (t : List N). IsDue t y) (sym (e ∙ append-nil ps)) due) here
+      gap ps [] y e rest due here = none y (subst (λ t. IsDue t y) (sym (e ∙ append-nil ps)) due) here
       gap ps (q ∷ qs) y e rest due here =
           elim (before_or_not (place y) m) [
             | inl b ↦ b
             | inr not ↦ absurd (rest q (inl refl) (before_later (place q) (place y) m
-                (run.within q (subst (λ (t : List N). IsIn q t) (sym e) (in_right q ps (q ∷ qs) (inl refl)))) not))
+                (run.within q (subst (λ t. IsIn q t) (sym e) (in_right q ps (q ∷ qs) (inl refl)))) not))
           ]
 
   -- a record is due at the place
@@ -121,19 +121,19 @@ module _ {N : Type 0} (place : N → List ℕ) (IsDue : List N → N → Type 0)
             let kept = grows r.ms x r.kept (subst (IsUnder under) (sym has.2) here) in
             let run = grow IsDue x r.run (λ n i. subst (IsBefore (place n)) (sym has.2) (r.run.within n i)) has.1
             (record { gap = λ ps qs y e before rest due lt. subst (IsBefore (place y)) has.2 lt }) in
-            let there = subst (λ (q : List ℕ). IsRun place IsDue (behind q) ms) has.2 run in
+            let there = subst (λ q. IsRun place IsDue (behind q) ms) has.2 run in
             record {
               ms = ms;
               run =
                   move_on (behind p) next ms there
                   (λ q b. elim (either_way q p) [
                     | inl lt ↦ at.up q lt
-                    | inr (inl e) ↦ subst (λ (t : List ℕ). IsBefore t next) (sym e) first
+                    | inr (inl e) ↦ subst (λ t. IsBefore t next) (sym e) first
                     | inr (inr gt) ↦ absurd (nothing_between p q gt b)
                   ])
                   (λ y due lt. elim (at.down (place y) lt) [
                     | inl b ↦ chain (place y) p (behind p) b (before_behind p)
-                    | inr u ↦ subst (λ (t : List ℕ). IsBefore t (behind p)) (sym (only_place p bound ms y u.0 sized kept due u.1)) (before_behind p)
+                    | inr u ↦ subst (λ t. IsBefore t (behind p)) (sym (only_place p bound ms y u.0 sized kept due u.1)) (before_behind p)
                   ]);
               kept = kept;
             }
@@ -182,4 +182,4 @@ module _ {N : Type 0} (place : N → List ℕ) (IsDue : List N → N → Type 0)
         below y ms kept due (inl b) = before_under p bound (place y) b
         below y ms kept due (inr ([], e)) = absurd (sized ms y [] kept due e)
         below y ms kept due (inr (k ∷ ks, e)) =
-            subst (λ (t : List ℕ). IsBefore t (p ++ bound ∷ [])) (sym e) (under_before p k bound ks (sized ms y (k ∷ ks) kept due e).0)
+            subst (λ t. IsBefore t (p ++ bound ∷ [])) (sym e) (under_before p k bound ks (sized ms y (k ∷ ks) kept due e).0)

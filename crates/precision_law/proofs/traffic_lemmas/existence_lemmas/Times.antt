@@ -41,7 +41,7 @@ module _ {N : Type 0} (place : N → List ℕ) (IsDue : List N → N → Type 0)
         let b = bounded t r from.0 in
         let end = sweep place IsDue decide (t ∷ r ∷ []) (IsRecent t r from.0) grows b.size b.bound (t ∷ r ∷ []) (t ∷ suc r ∷ []) (next_of (t ∷ []) r)
         (under_before (t ∷ []) r (suc r) [] (omega arith)) (λ n q i. inside_next (t ∷ []) r n q i) ([], refl)
-        (λ ms y key kept due e. b.sized kept.0 y key kept.2 (subst (λ (l : List N). IsDue l y) kept.1 due) e)
+        (λ ms y key kept due e. b.sized kept.0 y key kept.2 (subst (λ l. IsDue l y) kept.1 due) e)
         (record { ms = from.0; run = from.1; kept = ([], sym (append-nil from.0), λ x i. absurd i) }) in
         (end.ms, end.run)
       where
@@ -62,22 +62,22 @@ module _ {N : Type 0} (place : N → List ℕ) (IsDue : List N → N → Type 0)
 
     -- nothing is due at a time before its ranks
     no_rank : (t : ℕ) (p : List ℕ) → IsShaped ranks p → IsBefore p (t ∷ zero ∷ []) → IsBefore p (t ∷ [])
-    no_rank t p at b = by (subst (λ (q : List ℕ). IsBefore q (t ∷ zero ∷ [])) at.is b)
+    no_rank t p at b = by (subst (λ q. IsBefore q (t ∷ zero ∷ [])) at.is b)
       where
         by : IsBefore (at.time ∷ at.rank ∷ at.key) (t ∷ zero ∷ []) → IsBefore p (t ∷ [])
-        by (inl lt) = subst (λ (q : List ℕ). IsBefore q (t ∷ [])) (sym at.is) (inl lt)
+        by (inl lt) = subst (λ q. IsBefore q (t ∷ [])) (sym at.is) (inl lt)
         by (inr (e, inl lt)) = absurd (omega (arith, lt))
         by (inr (e, inr h)) = absurd (never_before_none at.key h.1)
 
     -- nor behind them
     all_ranks : (t : ℕ) (p : List ℕ) → IsShaped ranks p → IsBefore p (suc t ∷ []) → IsBefore p (t ∷ ranks ∷ [])
-    all_ranks t p at b = by (subst (λ (q : List ℕ). IsBefore q (suc t ∷ [])) at.is b)
+    all_ranks t p at b = by (subst (λ q. IsBefore q (suc t ∷ [])) at.is b)
       where
         by : IsBefore (at.time ∷ at.rank ∷ at.key) (suc t ∷ []) → IsBefore p (t ∷ ranks ∷ [])
         by (inl lt) =
             elim (cases_order at.time t) [
-              | inl e ↦ subst (λ (q : List ℕ). IsBefore q (t ∷ ranks ∷ [])) (sym at.is) (inr (e, inl at.below))
-              | inr (inl less) ↦ subst (λ (q : List ℕ). IsBefore q (t ∷ ranks ∷ [])) (sym at.is) (inl less)
+              | inl e ↦ subst (λ q. IsBefore q (t ∷ ranks ∷ [])) (sym at.is) (inr (e, inl at.below))
+              | inr (inl less) ↦ subst (λ q. IsBefore q (t ∷ ranks ∷ [])) (sym at.is) (inl less)
               | inr (inr gt) ↦ absurd (omega (arith, lt, gt))
             ]
         by (inr h) = absurd h.1
@@ -104,7 +104,7 @@ module _ {N : Type 0} (place : N → List ℕ) (IsDue : List N → N → Type 0)
     at_start = ([], empty_run place IsDue (zero ∷ []) (λ y due b. none (place y) (shape y) b))
       where
         none : (p : List ℕ) → IsShaped ranks p → IsBefore p (zero ∷ []) → ⊥
-        none p at b = by (subst (λ (q : List ℕ). IsBefore q (zero ∷ [])) at.is b)
+        none p at b = by (subst (λ q. IsBefore q (zero ∷ [])) at.is b)
           where
             by : IsBefore (at.time ∷ at.rank ∷ at.key) (zero ∷ []) → ⊥
             by (inl lt) = omega (arith, lt)

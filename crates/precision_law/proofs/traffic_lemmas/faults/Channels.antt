@@ -10,9 +10,9 @@ use Rattle.std.proofs.Common.{arith, is_some}
 -- ---- switches
 
 -- a switch has a channel
-pub switch_channel : (network : Network) (device : DeviceId) → IsInRange network → IsSwitch network device → (channel : Channel)
-    × IsSwitchOf network channel device
-switch_channel network device range switch =
+pub switch_channel : {network : Network} (device : DeviceId) → IsInRange network → IsSwitch network device
+    → (channel : Channel) × IsSwitchOf network channel device
+switch_channel {network} device range switch =
     let d = opened (λ (x : Device). is_end_system x.role ≡ false) (device_at network device) switch in
     let known = in_all IsDeviceInRange network.device device.0 d.0 range.devices d.1 in
     by d.0.channel refl d.0 d.1 (known.switches ∙ ap not d.2)
@@ -26,9 +26,9 @@ switch_channel network device range switch =
         by_channel (Some channel) is some = (channel, closed (λ (y : Device). y.channel ≡ Some channel) (device_at network device) x at is)
 
 -- it is no end system
-pub switch_no_end : (network : Network) (channel : Channel) (device : DeviceId) → IsInRange network → IsSwitchOf network channel device
-    → is_end network device ≡ false
-switch_no_end network channel device range switch =
+pub switch_no_end : {network : Network} (channel : Channel) (device : DeviceId) → IsInRange network
+    → IsSwitchOf network channel device → is_end network device ≡ false
+switch_no_end {network} channel device range switch =
     let d = opened (λ (x : Device). x.channel ≡ Some channel) (device_at network device) switch in
     let known = in_all IsDeviceInRange network.device device.0 d.0 range.devices d.1 in
     let some : is_some d.0.channel ≡ true = ap is_some d.2 in
@@ -45,10 +45,11 @@ one_channel network a b device one two = grind (arith, opened, device_at, same_s
 -- ---- links
 
 -- both ends of a link that are switches are of the channel of the other
-pub ends_of_one : (network : Network) (place : ℕ) (entry : Entry) (channel : Channel) → IsInRange network → KeepsRules network → IsEntry network place entry
-    → is_end network entry.link.child ≡ false → (IsSwitchOf network channel entry.link.parent → IsSwitchOf network channel entry.link.child)
+pub ends_of_one : {network : Network} {place : ℕ} {entry : Entry} (channel : Channel) → IsInRange network
+    → KeepsRules network → IsEntry network place entry → is_end network entry.link.child ≡ false
+    → (IsSwitchOf network channel entry.link.parent → IsSwitchOf network channel entry.link.child)
     × (IsSwitchOf network channel entry.link.child → IsSwitchOf network channel entry.link.parent)
-ends_of_one network place entry channel range keeps row no_end =
+ends_of_one {network} {entry} channel range keeps row no_end =
     let joint = keeps Joints entry.row.link.0 entry.link row.link in
     let child : IsSwitchOf network joint.0 entry.link.child = elim joint.2 [
       | inl end ↦ absurd (both_ways _ no_end (end_test network entry.link.child end))
@@ -56,29 +57,31 @@ ends_of_one network place entry channel range keeps row no_end =
           let d = opened (λ (x : Device). (x.role ≡ Relay) × (x.channel ≡ Some joint.0)) (device_at network entry.link.child) relay in
           closed (λ (x : Device). x.channel ≡ Some joint.0) (device_at network entry.link.child) d.0 d.1 d.2.1
     ] in (
-      λ parent. subst (λ (c : Channel). IsSwitchOf network c entry.link.child) (one_channel network joint.0 channel entry.link.parent joint.1 parent) child,
-      λ own. subst (λ (c : Channel). IsSwitchOf network c entry.link.parent) (one_channel network joint.0 channel entry.link.child child own) joint.1,
+      λ parent. subst (λ c. IsSwitchOf network c entry.link.child) (one_channel network joint.0 channel entry.link.parent joint.1 parent) child,
+      λ own. subst (λ c. IsSwitchOf network c entry.link.parent) (one_channel network joint.0 channel entry.link.child child own) joint.1,
     )
 
--- a switch that a row of the channel leaves is one of the channel
-pub source_on : (network : Network) (place : ℕ) (entry : Entry) (channel : Channel) → IsInRange network → KeepsRules network → IsEntry network place entry
-    → is_end network (source_of entry) ≡ false → IsOnChannel network channel entry → IsSwitchOf network channel (source_of entry)
-source_on network place entry channel range keeps row no_end on = grind (arith, is_end, source_by, ends_of_one)
+module _ {network : Network} {place : ℕ} {entry : Entry} (channel : Channel) (range : IsInRange network)
+    (keeps : KeepsRules network) (row : IsEntry network place entry) where
+  -- a switch that a row of the channel leaves is one of the channel
+  pub source_on : is_end network (source_of entry) ≡ false → IsOnChannel network channel entry
+      → IsSwitchOf network channel (source_of entry)
+  source_on no_end on = grind (arith, is_end, source_by, ends_of_one)
 
--- and a row that enters a switch of the channel is one of it
-pub target_on : (network : Network) (place : ℕ) (entry : Entry) (channel : Channel) → IsInRange network → KeepsRules network → IsEntry network place entry
-    → IsSwitchOf network channel (target_of entry) → IsOnChannel network channel entry
-target_on network place entry channel range keeps row switch = grind (arith, target_by, ends_of_one, switch_no_end)
+  -- and a row that enters a switch of the channel is one of it
+  pub target_on : IsSwitchOf network channel (target_of entry) → IsOnChannel network channel entry
+  target_on switch = grind (arith, target_by, ends_of_one, switch_no_end)
 
 -- ---- sources
 
 -- the rows of a virtual link whose sender is good leave good devices
-pub good_sources : BringsChannels → (v : View) (vl : VlId) (of_vl : VirtualLink) → IsView v → slice_get v.scenario.network.vl vl.0 ≡ Some of_vl
-    → IsGood v of_vl.sender → HasGoodSources v vl
-good_sources channels v vl of_vl is there good place entry row own =
+pub good_sources : BringsChannels → {v : View} (vl : VlId) (of_vl : VirtualLink) → IsView v
+    → slice_get v.scenario.network.vl vl.0 ≡ Some of_vl → IsGood v of_vl.sender → HasGoodSources v vl
+good_sources channels {v} vl of_vl is there good place entry row own =
     let n = v.scenario.network in
     let same : entry.vl ≡ of_vl = same_some (slice_get n.vl vl.0) entry.vl of_vl (subst (λ (x : VlId). slice_get n.vl x.0 ≡ Some entry.vl) own row.vl) there in
     elim (is.lawful.rules Sources place entry row) [
       | inl sender ↦ subst (IsGood v) (sym (sender ∙ ap (λ (x : VirtualLink). x.sender) same)) good
-      | inr other ↦ (let switch = switch_channel n (source_of entry) is.lawful.range other.0 in channels.switches v switch.0 (source_of entry) is switch.1)
+      | inr other ↦ (let switch = switch_channel (source_of entry) is.lawful.range other.0 in channels.switches v
+          switch.0 (source_of entry) is switch.1)
     ]

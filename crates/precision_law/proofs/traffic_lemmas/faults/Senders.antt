@@ -56,7 +56,7 @@ senders_are_broken v h line link octets l is i body there =
     let at = parted e s.events in_events in
     let order = sorted_behind s [] s.events is.lawful.within in
     let time : amount e.time ≡ time_of h = ap amount (sym caused.at) in
-    let early = within_run v is h i in
+    let early = within_run is h i in
     true_from_ne_false (is_broken s l.child v.until) (λ fine.
     is.lawful.within at.0 at.1 e at.2 NotBroken (record {
       link = link;

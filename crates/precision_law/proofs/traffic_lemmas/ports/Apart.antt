@@ -40,12 +40,13 @@ control_then s h device link t (notes.Left sender by cause clock) same on = grin
 control_then s h device link t body same on = absurd on
 
 -- how long a frame of the schedule does
-row_time : (v : View) (h : Happening) (device : DeviceId) (link : LinkId) (cause : ℕ) (vl : VlId) (cycle : ℕ) → IsView v
-    → (d : IsRowDispatch v h device link cause vl cycle) → time_of_octets v.scenario.network link (length h.octets) ≡ port_time d.entry
-row_time v h device link cause vl cycle is d =
+row_time : {v : View} {h : Happening} {device : DeviceId} {link : LinkId} {cause : ℕ} {vl : VlId} {cycle : ℕ}
+    → IsView v → (d : IsRowDispatch v h device link cause vl cycle)
+    → time_of_octets v.scenario.network link (length h.octets) ≡ port_time d.entry
+row_time {v} {h} {device} {link} {cause} {vl} {cycle} is d =
     ap (λ (o : Option Link). option_map_or (λ l. (length h.octets + 24) * octet_time l.speed) o 0)
-    (subst (λ (x : LinkId). link_at v.scenario.network x ≡ Some d.entry.link) d.by d.row.link)
-    ∙ ap (λ (n : ℕ). (n + 24) * octet_time d.entry.link.speed) (dispatches_are_whole v h device link cause vl cycle is d)
+    (subst (λ x. link_at v.scenario.network x ≡ Some d.entry.link) d.by d.row.link)
+    ∙ ap (λ n. (n + 24) * octet_time d.entry.link.speed) (dispatches_are_whole v h device link cause vl cycle is d)
 
 -- ---- ports
 
@@ -59,20 +60,20 @@ ports_stay_apart brings channels away s mark ns until run h g device link t i j 
     let u = max (time_of h) (time_of g) in
     let in_run : u ≤ until = omega (arith, run.within h i, run.within g j) in
     let channel = channels.sound s u run.up.lawful in
-    let at = view_at s mark ns until u channel.0 run.up in_run channel.1 in
+    let at = view_at u channel.0 run.up in_run channel.1 in
     let v = view_of s hs u channel.0 at in
     let here : IsIn h v.records = at.cut.has h i (omega arith) in
     let there : IsIn g v.records = at.cut.has g j (omega arith) in
     let first = tt_then s h device link t h.note.body refl on in
     let d = dispatches_are_of_rows v h device link first.cause first.vl first.cycle at.is here first.is in
-    let size = row_time v h device link first.cause first.vl first.cycle at.is d in
+    let size = row_time at.is d in
     let later : View = record { scenario = s; until = t; records = at.cut.front; sizes = v.sizes; channel = channel.0 } in
     let good_at : u ≤ t → IsGood v device = λ le. channels.correct later device u correct le in
     elim other [
       | inl two ↦
           let second = tt_then s g device link t g.note.body refl two in
           let e = dispatches_are_of_rows v g device link second.cause second.vl second.cycle at.is there second.is in
-          let length_is = row_time v g device link second.cause second.vl second.cycle at.is e in
+          let length_is = row_time at.is e in
           elim (dispatches_stand_apart brings v h g device link first.cause second.cause first.vl second.vl first.cycle second.cycle at.is
           (good_at (omega (arith, first.from, second.from))) (not_same h g differ) d e) [
             | inl before ↦ omega (arith, before, size, first.to, second.from)

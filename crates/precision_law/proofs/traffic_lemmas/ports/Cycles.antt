@@ -13,23 +13,23 @@ pub same_hull : (v : View) (n : ℕ) (one two : Stands v n) → one.hull ≡ two
 same_hull v n one two = same_some (hull_of v n) one.hull two.hull one.is_hull two.is_hull
 
 -- and its span one beginning
-pub same_next : (v : View) (n : ℕ) (one two : Stands v n) → one.next ≡ two.next
-same_next v n one two = same_end v n one.next two.next one.is_over two.is_over
+pub same_next : {v : View} {n : ℕ} (one two : Stands v n) → one.next ≡ two.next
+same_next {v} {n} one two = same_end v n one.next two.next one.is_over two.is_over
 
 -- the hulls of later cycles are later by a cycle, but for an error
-pub hulls_grow : (v : View) (n m : ℕ) (a b : Hull) → IsView v → n < m → hull_of v n ≡ Some a → hull_of v m ≡ Some b
+pub hulls_grow : {v : View} (n m : ℕ) (a b : Hull) → IsView v → n < m → hull_of v n ≡ Some a → hull_of v m ≡ Some b
     → (a.least +ℤ pos v.sizes.cycle) ≤ℤ (b.least +ℤ pos v.sizes.reach)
-hulls_grow v n zero a b is lt one two = absurd (omega (arith, lt))
-hulls_grow v n (suc m) a b is lt one two =
-    let has = has_before v m b (within_run v is) two in
-    let space = room v is in
+hulls_grow n zero a b is lt one two = absurd (omega (arith, lt))
+hulls_grow {v} n (suc m) a b is lt one two =
+    let has = has_before v m b (within_run is) two in
+    let space = room is in
     elim (cases_lt n m) [
       | inl less ↦
-          let more = hulls_grow v n m a has.before is less one has.is_before in
+          let more = hulls_grow n m a has.before is less one has.is_before in
           omega (arith, ints, more, has.follows.least, space.many_errors)
       | inr ge ↦
           let same : n ≡ m = omega (arith, lt, ge) in
-          let equal : a ≡ has.before = same_some (hull_of v m) a has.before (subst (λ (k : ℕ). hull_of v k ≡ Some a) same one) has.is_before in
+          let equal : a ≡ has.before = same_some (hull_of v m) a has.before (subst (λ k. hull_of v k ≡ Some a) same one) has.is_before in
           let least : a.least ≡ has.before.least = ap (λ (h : Hull). h.least) equal in
           omega (arith, ints, least, has.follows.least)
     ]

@@ -12,8 +12,8 @@ use Rattle.run_law.specs.declared.note.NoteBody.TheVariants as notes
 -- ---- what the earlier records fix
 
 -- the length of a cycle
-pub cycle_is : (v : View) → IsView v → v.sizes.cycle ≡ amount v.scenario.network.cycle
-cycle_is v is = ap (λ (s : Sizes). s.cycle) is.sizes
+pub cycle_is : {v : View} → IsView v → v.sizes.cycle ≡ amount v.scenario.network.cycle
+cycle_is is = ap (λ (s : Sizes). s.cycle) is.sizes
 
 pub dispatches_are_of_rows : DispatchesAreOfRows
 dispatches_are_of_rows v h device link cause vl cycle is i body =
@@ -23,7 +23,7 @@ dispatches_are_of_rows v h device link cause vl cycle is i body =
     let caused : IsCaused s found.front h.note.time (notes.TtSent device link cause vl cycle) = subst (IsCaused s found.front h.note.time) body found.due.cause
     in
     let d = caused.dispatches in
-    let same = earlier_before v t found.front (before_of v h is found) in
+    let same = earlier_before (before_of is found) in
     let left : state_after s (earlier t found.front) device ≡ Synchronised = up_state (is_turned_on_at s device t)
     (state_after s (earlier t found.front) device) d.up.synchronised in
     record {
@@ -36,10 +36,11 @@ dispatches_are_of_rows v h device link cause vl cycle is i body =
       of_vl = d.of_vl;
       leaves = d.leaves;
       occurs = d.occurs;
-      synchronised = subst (λ (xs : List Happening). state_after s xs device ≡ Synchronised) same left;
+      synchronised = subst (λ xs. state_after s xs device ≡ Synchronised) same left;
       correct = d.up.correct;
       reached =
-          subst (λ (n : ℕ). Reaches s v.records device (pos (cycle * n + amount d.entry.row.offset)) t) (sym (cycle_is v is))
+          subst (λ (n : ℕ). Reaches s v.records device (pos (cycle * n + amount d.entry.row.offset)) t)
+          (sym (cycle_is is))
           (reaches_by v.records same d.reached);
       at_hand = elim d.at_hand [
         | inl own ↦ inl own
@@ -59,16 +60,16 @@ dispatches_are_of_rows v h device link cause vl cycle is i body =
     }
 
 -- a row's offset is in the schedule
-pub offset_in_schedule : (v : View) (place : ℕ) (entry : Entry) → IsView v → IsEntry v.scenario.network place entry
+pub offset_in_schedule : {v : View} {place : ℕ} {entry : Entry} → IsView v → IsEntry v.scenario.network place entry
     → IsInSchedule v.sizes (amount entry.row.offset)
-offset_in_schedule v place entry is row =
+offset_in_schedule {v} {place} {entry} is row =
     let times = rows_are_in_time v place entry is row in
     record { begins = omega (arith, times.begins); ends = omega (arith, times.ends, times.tolerates) }
 
 pub dispatches_are_in_spans : BringsBlocks → DispatchesAreInSpans
 dispatches_are_in_spans brings v h device link cause vl cycle is good d =
     values_are_reached_in_spans brings v cycle (amount d.entry.row.offset) (time_of h) device is (record { good = good; synchronised = d.synchronised })
-    (within_run v is h d.there) d.occurs.begun (offset_in_schedule v d.place d.entry is d.row) d.reached
+    (within_run is h d.there) d.occurs.begun (offset_in_schedule is d.row) d.reached
 
 -- ---- one clock in a span
 
@@ -77,13 +78,13 @@ pub record HasOneClock (v : View) (device : DeviceId) (t u : ℕ) : Type 0 where
   pub adjustment : adjustment_left v device t ≡ adjustment_left v device u
   pub since : changed_at v.records device t ≡ changed_at v.records device u
 
-pub one_clock : BringsBlocks → (v : View) (n t u : ℕ) (one : IsInSpan v n t) (two : IsInSpan v n u) (device : DeviceId) → IsView v → IsTimedAt v device u
-    → t ≤ u → HasOneClock v device t u
-one_clock brings v n t u one two device is timed le =
+pub one_clock : BringsBlocks → {v : View} {n t u : ℕ} (one : IsInSpan v n t) (two : IsInSpan v n u)
+    {device : DeviceId} → IsView v → IsTimedAt v device u → t ≤ u → HasOneClock v device t u
+one_clock brings {v} {n} {t} {u} one two {device} is timed le =
     let old = (synchronised_keep_time brings v n u two device is timed).old in
-    let next = same_next v n one.block.before two.block.before in
+    let next = same_next one.block.before two.block.before in
     let early : epoch_time (earlier u v.records) device <ℤ pos t = omega (arith, ints, old, next, one.block.from) in
     record {
-      adjustment = ap (λ (a : Units). a.0) (adjustment_stays v device t u is le early);
+      adjustment = ap (λ (a : Units). a.0) (adjustment_stays device t u is le early);
       since = ap (λ (o : Option Happening). option_map_or time_of o 0) (settings_stay v device t u is le early);
     }

@@ -29,6 +29,7 @@ one_way Down Up l differ same = absurd (differ (sym same))
 one_way Down Down l differ same = refl
 
 -- two rows of one link that leave one device go on one way
-pub same_way : (network : Network) (place other : ℕ) (entry second : Entry) → KeepsRules network → IsEntry network place entry → IsEntry network other second
-    → entry.row.link ≡ second.row.link → source_of entry ≡ source_of second → entry.row.way ≡ second.row.way
-same_way network place other entry second keeps one two link source = grind (arith, same_some, link_at, one_way, ends_differ, source_by)
+pub same_way : {network : Network} {place other : ℕ} {entry second : Entry} → KeepsRules network
+    → IsEntry network place entry → IsEntry network other second → entry.row.link ≡ second.row.link
+    → source_of entry ≡ source_of second → entry.row.way ≡ second.row.way
+same_way keeps one two link source = grind (arith, same_some, link_at, one_way, ends_differ, source_by)

@@ -92,13 +92,13 @@ keeps_stretch s ps time device (notes.Compressed other opened own cycle members 
 keeps_stretch s ps time device body e c old timed = timed
 
 -- in a stretch a device that is synchronised later was so before
-stretch_back : (v : View) (device : DeviceId) (q t : ℕ) → IsView v → q ≤ t
-    → ((h : Happening) → IsIn h v.records → q ≤ time_of h → time_of h < t → changes_state device h.note.body ≡ false) → state_left v device t ≡ Synchronised
-    → state_left v device q ≡ Synchronised
-stretch_back v device q t is le none timed =
-    let parts = earlier_parts q t v.records (in_order v is) le in
+stretch_back : {v : View} (device : DeviceId) (q t : ℕ) → IsView v → q ≤ t
+    → ((h : Happening) → IsIn h v.records → q ≤ time_of h → time_of h < t → changes_state device h.note.body ≡ false)
+    → state_left v device t ≡ Synchronised → state_left v device q ≡ Synchronised
+stretch_back {v} device q t is le none timed =
+    let parts = earlier_parts q t v.records (in_order is) le in
     let whole : state_after v.scenario (earlier q v.records ++ between q t v.records) device ≡ Synchronised = subst
-    (λ (hs : List Happening). state_after v.scenario hs device ≡ Synchronised) parts timed in
+    (λ hs. state_after v.scenario hs device ≡ Synchronised) parts timed in
     let apart = fold-append (λ (state : State) (h : Happening). state_with device state h.note.body) (state_at_start (start_of v.scenario.network device))
     (earlier q v.records) (between q t v.records) in
     kept_by_all device (between q t v.records) (λ h i.
@@ -137,52 +137,55 @@ gate_of network state adjustment point cycle timed none = grind (arith, none_fir
 
 -- ---- hearing
 
--- before its frame a synchronised device has joined by none of the same time
-none_joined : (v : View) (device : DeviceId) (h : Happening) → IsView v → (found : IsFoundedAt v.scenario v.records h)
-    → state_left v device (time_of h) ≡ Synchronised → is_turned_on_at v.scenario device (time_of h) ≡ false → (x : Happening) → IsIn x found.front
-    → time_of x ≡ time_of h → is_joined_by device x.note.body ≡ false
-none_joined v device h is found timed off x i same =
-    no_joining v device x is (subst (IsIn x) (sym found.whole) (in_left x found.front (h ∷ found.rest) i))
-    (subst (λ (t : ℕ). state_left v device t ≡ Synchronised) (sym same) timed) (subst (λ (t : ℕ). is_turned_on_at v.scenario device t ≡ false) (sym same) off)
+module _ {v : View} (device : DeviceId) {h : Happening} (is : IsView v) (found : IsFoundedAt v.scenario v.records h)
+    (timed : state_left v device (time_of h) ≡ Synchronised)
+    (off : is_turned_on_at v.scenario device (time_of h) ≡ false) where
+  -- before its frame a synchronised device has joined by none of the same time
+  none_joined : (x : Happening) → IsIn x found.front → time_of x ≡ time_of h → is_joined_by device x.note.body ≡ false
+  none_joined x i same =
+      no_joining device x is (subst (IsIn x) (sym found.whole) (in_left x found.front (h ∷ found.rest) i))
+      (subst (λ t. state_left v device t ≡ Synchronised) (sym same) timed)
+      (subst (λ t. is_turned_on_at v.scenario device t ≡ false) (sym same) off)
 
--- it hears it synchronised
-heard_state : (v : View) (device : DeviceId) (h : Happening) → IsView v → (found : IsFoundedAt v.scenario v.records h)
-    → state_left v device (time_of h) ≡ Synchronised → is_turned_on_at v.scenario device (time_of h) ≡ false
-    → state_at_hearing v.scenario found.front device (time_of h) ≡ Synchronised
-heard_state v device h is found timed off =
-    let s = v.scenario in
-    let t = time_of h in
-    let none : has_joined_at found.front device t ≡ false = none_any (λ (x : Happening). time_of x == t && is_joined_by device x.note.body) found.front (λ x i.
-    false_from_ne_true (time_of x == t && is_joined_by device x.note.body) (λ both.
-    let parts = both_parts (time_of x == t) (is_joined_by device x.note.body) both in
-    both_ways _ (none_joined v device h is found timed off x i (eqb-true (time_of x) t parts.0)) parts.1)) in
-    let same = earlier_before v t found.front (before_of v h is found) in
-    let left : state_after s (earlier t found.front) device ≡ Synchronised = ap (λ (xs : List Happening). state_after s xs device) same ∙ timed in
-    rw (none, off) left
-  where
-    both_parts : (x y : Bool) → (x && y) ≡ true → (x ≡ true) × (y ≡ true)
-    both_parts true y e = (refl, e)
-    both_parts false y e = absurd cc
+  -- it hears it synchronised
+  heard_state : state_at_hearing v.scenario found.front device (time_of h) ≡ Synchronised
+  heard_state =
+      let s = v.scenario in
+      let t = time_of h in
+      let none : has_joined_at found.front device t ≡ false =
+      none_any (λ (x : Happening). time_of x == t && is_joined_by device x.note.body) found.front (λ x i.
+      false_from_ne_true (time_of x == t && is_joined_by device x.note.body) (λ both.
+      let parts = both_parts (time_of x == t) (is_joined_by device x.note.body) both in
+      both_ways _ (none_joined x i (eqb-true (time_of x) t parts.0)) parts.1)) in
+      let same = earlier_before (before_of is found) in
+      let left : state_after s (earlier t found.front) device ≡ Synchronised =
+      ap (λ xs. state_after s xs device) same ∙ timed in
+      rw (none, off) left
+    where
+      both_parts : (x y : Bool) → (x && y) ≡ true → (x ≡ true) × (y ≡ true)
+      both_parts true y e = (refl, e)
+      both_parts false y e = absurd cc
 
--- and with the adjustment that the earlier records leave
-heard_adjustment : (v : View) (device : DeviceId) (h : Happening) → IsView v → (found : IsFoundedAt v.scenario v.records h)
-    → state_left v device (time_of h) ≡ Synchronised → is_turned_on_at v.scenario device (time_of h) ≡ false
-    → (adjustment_at_hearing v.scenario found.front device (time_of h)).0 ≡ adjustment_left v device (time_of h)
-heard_adjustment v device h is found timed off =
-    let s = v.scenario in
-    let t = time_of h in
-    let split = before_of v h is found in
-    let kept : filter (λ x. nat_lt (time_of x) t || is_joined_by device x.note.body) found.front ≡ earlier t found.front =
-    same_kept (λ x. nat_lt (time_of x) t || is_joined_by device x.note.body) (λ x. nat_lt (time_of x) t) found.front (λ x i.
-    elim (cases_lt (time_of x) t) [
-      | inl lt ↦ (let less = lt-ltb (time_of x) t lt in rw less refl)
-      | inr ge ↦
-          let most = split.only x i in
-          let none = none_joined v device h is found timed off x i (omega (arith, ge, most)) in
-          let more = le-ltb (time_of x) t ge in
-          rw (more, none) refl
-    ]) in
-    ap (λ (xs : List Happening). (adjustment_after s xs device).0) (kept ∙ earlier_before v t found.front split)
+  -- and with the adjustment that the earlier records leave
+  heard_adjustment : (adjustment_at_hearing v.scenario found.front device (time_of h)).0
+      ≡ adjustment_left v device (time_of h)
+  heard_adjustment =
+      let s = v.scenario in
+      let t = time_of h in
+      let split = before_of is found in
+      let kept : filter (λ x. nat_lt (time_of x) t || is_joined_by device x.note.body) found.front ≡ earlier t
+      found.front =
+      same_kept (λ x. nat_lt (time_of x) t || is_joined_by device x.note.body) (λ x. nat_lt (time_of x) t)
+      found.front (λ x i.
+      elim (cases_lt (time_of x) t) [
+        | inl lt ↦ (let less = lt-ltb (time_of x) t lt in rw less refl)
+        | inr ge ↦
+            let most = split.only x i in
+            let none = none_joined x i (omega (arith, ge, most)) in
+            let more = le-ltb (time_of x) t ge in
+            rw (more, none) refl
+      ]) in
+      ap (λ xs. (adjustment_after s xs device).0) (kept ∙ earlier_before split)
 
 -- ---- the opener of what is sent
 
@@ -198,11 +201,12 @@ pub record IsOpenedAt (v : View) (device : DeviceId) (t : ℕ) (emitted : ℤ) :
   pub gate : PassesGate v.scenario.network (point +ℤ adjustment_left v device q)
 
 -- of a record that is permanent while the device is synchronised
-opened_then : (v : View) (device : DeviceId) (r : Happening) (reading : ℤ) (emitted : ℤ) (t : ℕ)
-    → ((d : DeviceId) (u : ℕ) → state_left v d u ≡ Synchronised → is_turned_on_at v.scenario d u ≡ false) → IsView v → is_cm v.scenario.network device ≡ true
-    → IsIn r v.records → IsPermanentRecord device r reading → time_of r ≤ t → ((u : ℕ) → time_of r ≤ u → u ≤ t → state_left v device u ≡ Synchronised)
+opened_then : {v : View} {device : DeviceId} {r : Happening} {reading : ℤ} (emitted : ℤ) (t : ℕ)
+    → ((d : DeviceId) (u : ℕ) → state_left v d u ≡ Synchronised → is_turned_on_at v.scenario d u ≡ false) → IsView v
+    → is_cm v.scenario.network device ≡ true → IsIn r v.records → IsPermanentRecord device r reading → time_of r ≤ t
+    → ((u : ℕ) → time_of r ≤ u → u ≤ t → state_left v device u ≡ Synchronised)
     → emitted ≤ℤ (reading +ℤ pos (2 * v.sizes.precision + v.sizes.compression)) → IsOpenedAt v device t emitted
-opened_then v device r reading emitted t never is cm i record_is le stretch late =
+opened_then {v} {device} {r} emitted t never is cm i record_is le stretch late =
     let s = v.scenario in
     let n = s.network in
     let q = time_of r in
@@ -214,7 +218,8 @@ opened_then v device r reading emitted t never is cm i record_is le stretch late
     let off = never device q timed in
     let arrival_there : IsIn p.arrival v.records = subst (IsIn p.arrival) (sym found.whole)
     (in_left p.arrival found.front (r ∷ found.rest) (numbered_in found.front record_is.cause p.arrival p.there)) in
-    let sound = arrived_sound v p.arrival device record_is.link p.from p.clock is (founded_at s v.records p.arrival is.run.founded arrival_there) p.arrived in
+    let sound = arrived_sound device record_is.link p.from p.clock is
+    (founded_at s v.records p.arrival is.run.founded arrival_there) p.arrived in
     let dmax : n.dmax.0 ≡ pos (amount n.dmax) = not_negative n.dmax.0 (omega (arith, ints, is.lawful.range.dmax.least)) in
     let ripe_at = permanence_is_sharp v.sizes (s.reading device) (time_of p.arrival) record_is.point.0 q (steady v is device)
     (omega (arith, ints, p.at_point, sound.young, dmax)) p.reached in
@@ -223,15 +228,15 @@ opened_then v device r reading emitted t never is cm i record_is le stretch late
     p.there ∙ p.of_frame in
     let members : members_in r ≡ caused.frame.members.0 = ap (λ (o : Option Pcf). option_map_or (λ f. f.members.0) o 0) of_frame in
     let place : place_of r ≡ q ∷ 3 ∷ device.0 ∷ amount record_is.point ∷ caused.frame.members.0 ∷ record_is.link.0 ∷ record_is.cause ∷ [] =
-    ap (λ (b : NoteBody). q ∷ rank b ∷ key (members_in r) b) record_is.is
+    ap (λ b. q ∷ rank b ∷ key (members_in r) b) record_is.is
     ∙ ap (λ (m : ℕ). q ∷ 3 ∷ device.0 ∷ amount record_is.point ∷ m ∷ record_is.link.0 ∷ record_is.cause ∷ []) members in
     let judged = all_judge found.front q device record_is.link record_is.cause caused.frame record_is.point
     (λ h j. subst (IsBefore (place_of h)) place ((is.run.founded found.front found.rest r found.whole).0 h j)) in
     let becomes : IsJudgedBy s found.front device q caused.frame record_is.point (ripe_as record_is.verdict) =
-    subst (λ (hs : List Happening). IsJudgedBy s hs device q caused.frame record_is.point (ripe_as record_is.verdict)) judged caused.becomes in
+    subst (λ hs. IsJudgedBy s hs device q caused.frame record_is.point (ripe_as record_is.verdict)) judged caused.becomes in
     let collected = by_cm (is_cm n device) _ _ cm becomes in
-    let state = heard_state v device r is found timed off in
-    let adjustment = heard_adjustment v device r is found timed off in
+    let state = heard_state device is found timed off in
+    let adjustment = heard_adjustment device is found timed off in
     let none = no_fault n (points_of found.front device) (point_at record_is.point.0 (master_of caused.frame.members.0) caused.frame.cycle) _ record_is.verdict
     collected in
     let gate = gate_of n (state_at_hearing s found.front device q) (adjustment_at_hearing s found.front device q).0 record_is.point.0 caused.frame.cycle state
@@ -244,15 +249,17 @@ opened_then v device r reading emitted t never is cm i record_is le stretch late
       late = omega (arith, ints, late, record_is.reads);
       least = ripe_at.least;
       most = ripe_at.most;
-      gate = subst (λ (a : ℤ). PassesGate n (record_is.point.0 +ℤ a)) adjustment gate;
+      gate = subst (λ a. PassesGate n (record_is.point.0 +ℤ a)) adjustment gate;
     }
 
 -- behind the opener no record before the sending changes the state
-ends_none : (v : View) (device : DeviceId) (r g h : Happening) (front between_them rest : List Happening) {reading : ℤ} → IsView v → v.records ≡ front ++ r
-    ∷ (between_them ++ g ∷ rest) → IsPermanentRecord device r reading → time_of r ≤ time_of h → time_of h < time_of g → changes_state device h.note.body ≡ true
-    → ((x : Happening) → IsIn x between_them → ends_stretch device x.note.body ≡ false) → ((x : Happening) → IsIn x rest → time_of g ≤ time_of x)
-    → IsIn h v.records → ⊥
-ends_none v device r g h front between_them rest is whole record_is late early e none later i =
+ends_none : {v : View} {device : DeviceId} {r : Happening} (g h : Happening)
+    (front between_them rest : List Happening) {reading : ℤ} → IsView v
+    → v.records ≡ front ++ r ∷ (between_them ++ g ∷ rest) → IsPermanentRecord device r reading
+    → time_of r ≤ time_of h → time_of h < time_of g → changes_state device h.note.body ≡ true
+    → ((x : Happening) → IsIn x between_them → ends_stretch device x.note.body ≡ false)
+    → ((x : Happening) → IsIn x rest → time_of g ≤ time_of x) → IsIn h v.records → ⊥
+ends_none {device} {r} g h front between_them rest is whole record_is late early e none later i =
     let high = ending_rank device h.note.body e in
     let low : rank r.note.body ≡ 3 = ap rank record_is.is in
     elim (in_parts h front (r ∷ (between_them ++ g ∷ rest)) (subst (IsIn h) whole i)) [
@@ -269,10 +276,12 @@ ends_none v device r g h front between_them rest is whole record_is late early e
     ]
 
 -- what a synchronised compression master sends was opened so
-pub emission_opened : TimedAreNotTurnedOn → (v : View) (device : DeviceId) (g : Happening) (opened at : Units) (cycle : ℕ) (members : Members)
-    (verdict : Judgement) → IsView v → IsIn g v.records → g.note.body ≡ notes.Compressed device opened at cycle members verdict
-    → state_left v device (time_of g) ≡ Synchronised → IsOpenedAt v device (time_of g) at.0 × IsReach (v.scenario.reading device) (pos 0) at.0 (pos (time_of g))
-emission_opened never v device g opened at cycle members verdict is i body timed =
+pub emission_opened : TimedAreNotTurnedOn → {v : View} (device : DeviceId) (g : Happening) (opened at : Units)
+    (cycle : ℕ) (members : Members) (verdict : Judgement) → IsView v → IsIn g v.records
+    → g.note.body ≡ notes.Compressed device opened at cycle members verdict
+    → state_left v device (time_of g) ≡ Synchronised → IsOpenedAt v device (time_of g) at.0
+    × IsReach (v.scenario.reading device) (pos 0) at.0 (pos (time_of g))
+emission_opened never {v} device g opened at cycle members verdict is i body timed =
     let s = v.scenario in
     let n = s.network in
     let t = time_of g in
@@ -298,20 +307,20 @@ emission_opened never v device g opened at cycle members verdict is i body timed
     let r_front : IsIn r found.front = subst (IsIn r) (sym front_is)
     (in_right r behind.front (parts.0 ++ r ∷ parts.1) (in_right r parts.0 (r ∷ parts.1) (inl refl))) in
     let r_in : IsIn r v.records = subst (IsIn r) (sym found.whole) (in_left r found.front (g ∷ found.rest) r_front) in
-    let split = before_of v g is found in
+    let split = before_of is found in
     let r_early = split.only r r_front in
     let none : (h : Happening) → IsIn h v.records → time_of r ≤ time_of h → time_of h < t → changes_state device h.note.body ≡ false = λ h j late early.
     false_from_ne_true (changes_state device h.note.body) (λ e.
-    ends_none v device r g h (behind.front ++ parts.0) parts.1 found.rest is whole record_is late early e in_kept_rest
+    ends_none g h (behind.front ++ parts.0) parts.1 found.rest is whole record_is late early e in_kept_rest
     (λ x k. no_later g x
     (inr (behind_first place_of (IsDue s) found.front found.rest g x (subst (IsFounded place_of (IsDue s)) found.whole is.run.founded) k))) j) in
     let stretch : (u : ℕ) → time_of r ≤ u → u ≤ t → state_left v device u ≡ Synchronised = λ u from to.
-    stretch_back v device u t is to (λ h j late early. none h j (omega (arith, from, late)) early) timed in
+    stretch_back device u t is to (λ h j late early. none h j (omega (arith, from, late)) early) timed in
     let is_at : at.0 ≡ emission (observation_window n) (pos (amount n.calc)) caused.cluster = ap (λ (c : Compressed). c.at.0) caused.is in
     let precision : v.sizes.precision ≡ amount n.precision = ap (λ (x : Sizes). x.precision) is.sizes in
     let compression : v.sizes.compression ≡ compression_time n = ap (λ (x : Sizes). x.compression) is.sizes in
     let late : at.0 ≤ℤ (opener.opener.reading +ℤ pos (2 * v.sizes.precision + v.sizes.compression)) = omega
     (arith, ints, is_at, opener.opens, opener.middle, precision, compression) in (
-      opened_then v device r opener.opener.reading at.0 t (λ d u up. never v d u is (ap has_time up)) is caused.cm r_in record_is r_early stretch late,
+      opened_then at.0 t (λ d u up. never v d u is (ap has_time up)) is caused.cm r_in record_is r_early stretch late,
       caused.reached,
     )

@@ -2,7 +2,7 @@
 use Rattle.precision_law.proofs.{law.Together.{new_shows, old_shows, set_shows}, records.Points.point_timed, sizes.Instants.set_clocks_stay_at_correction}
 use Rattle.precision_law.proofs.traffic_lemmas.Words.{◌&&◌, ◌*◌, ◌+ℤ◌, ◌+◌, ◌-ℤ◌, ◌<ℤ◌, ◌<◌, ◌∙◌, ◌≡◌, ◌≤ℤ◌, ◌≤◌, Bool, BringsBlocks, ComesTo, Corrected}
 use Rattle.precision_law.proofs.traffic_lemmas.Words.{DeviceId, GivingsKeepAway, Happening, IsCaused, IsGood, IsIn, IsInBlock, IsInSpan, IsOldAt, IsTimedAt}
-use Rattle.precision_law.proofs.traffic_lemmas.Words.{IsView, Judgement, LinkId, List, None, NoteBody, Option, Sizes, Some, Stands, Synchronised}
+use Rattle.precision_law.proofs.traffic_lemmas.Words.{IsView, Judgement, LinkId, None, NoteBody, Option, Sizes, Some, Stands, Synchronised}
 use Rattle.precision_law.proofs.traffic_lemmas.Words.{TimedAreNotTurnedOn, Units, View, [], adjustment_after, adjustment_left, adjustment_stays, amount, ap}
 use Rattle.precision_law.proofs.traffic_lemmas.Words.{arith, before_narrow, before_of, begins_late, block_ends, both_ways, by_lt_z, cases_lt}
 use Rattle.precision_law.proofs.traffic_lemmas.Words.{changes_adjustment, clock_of, clocks_reach_sharply, earlier, earlier_before, epoch_time, false}
@@ -23,33 +23,33 @@ use Rattle.run_law.specs.declared.note.NoteBody.TheVariants as notes
 -- ---- gates
 
 -- a value that lies in a cycle far from its beginning passes no gate
-off_gate : (v : View) (cycle : ℕ) (value : ℤ) → IsView v → PassesGate v.scenario.network value
+off_gate : {v : View} (cycle : ℕ) (value : ℤ) → IsView v → PassesGate v.scenario.network value
     → (pos (cycle * v.sizes.cycle) +ℤ pos (v.sizes.dmax + 2 * v.sizes.precision)) <ℤ value
     → value <ℤ (pos (cycle * v.sizes.cycle + v.sizes.cycle + v.sizes.dmax) -ℤ pos (2 * v.sizes.precision)) → ⊥
-off_gate v cycle value is gate low high =
+off_gate {v} cycle value is gate low high =
     let n = v.scenario.network in
     let dmax : v.sizes.dmax ≡ amount n.dmax = ap (λ (x : Sizes). x.dmax) is.sizes in
     let precision : v.sizes.precision ≡ amount n.precision = ap (λ (x : Sizes). x.precision) is.sizes in
     let z : ℤ = (value -ℤ pos (amount n.dmax)) +ℤ pos (2 * amount n.precision) in
     let far = so_far z (cycle * v.sizes.cycle) v.sizes.cycle (omega (arith, ints, low, dmax, precision)) (omega (arith, ints, high, dmax, precision)) in
-    let is_far = so_far_in n v.sizes.cycle z cycle far.0 (cycle_whole v is) far.1 far.2 in
+    let is_far = so_far_in n v.sizes.cycle z cycle far.0 (cycle_whole is) far.1 far.2 in
     omega (arith, ints, gate, is_far.place_is, far.1, low, dmax, precision)
 
 -- ---- the device in the span
 
 -- it is synchronised, and its clock was set before the span
-timed_in_span : BringsBlocks → TimedAreNotTurnedOn → (v : View) (n t u : ℕ) (device : DeviceId) (one : IsInSpan v n t) (two : IsInSpan v n u) → IsView v
-    → IsTimedAt v device t → IsTimedAt v device u
-timed_in_span brings never v n t u device one two is timed =
+timed_in_span : BringsBlocks → TimedAreNotTurnedOn → {v : View} {n t u : ℕ} {device : DeviceId}
+    (one : IsInSpan v n t) (two : IsInSpan v n u) → IsView v → IsTimedAt v device t → IsTimedAt v device u
+timed_in_span brings never {v} {n} {t} {u} {device} one two is timed =
     let keep = synchronised_keep_time brings v n t one device is timed in
-    let same = same_next v n one.block.before two.block.before in
+    let same = same_next one.block.before two.block.before in
     elim (cases_lt t u) [
       | inl lt ↦
-          let old : IsOldAt v two.block.before.next device t = subst (λ (x : ℕ). epoch_time (earlier t v.records) device <ℤ pos x) same keep.old in
+          let old : IsOldAt v two.block.before.next device t = subst (λ x. epoch_time (earlier t v.records) device <ℤ pos x) same keep.old in
           (synchronised_stay_so brings never v n t u two device is (omega (arith, same, one.block.from)) (omega (arith, lt)) timed old).0
       | inr ge ↦
           let old : epoch_time (earlier t v.records) device <ℤ pos u = omega (arith, ints, keep.old, same, two.block.from) in
-          record { good = timed.good; synchronised = synchronised_stays v device u t is ge old timed.synchronised }
+          record { good = timed.good; synchronised = synchronised_stays device u t is ge old timed.synchronised }
     ]
 
 -- what it shows there
@@ -58,12 +58,13 @@ record ShowsThere (v : View) (n t : ℕ) (device : DeviceId) : Type 0 where
   pub most : (shown_at v device t +ℤ pos (2 * v.sizes.precision)) <ℤ pos (n * v.sizes.cycle + v.sizes.cycle)
 
 -- a synchronised device shows this
-shows_there : BringsBlocks → (v : View) (c t : ℕ) (device : DeviceId) (span : IsInSpan v (suc c) t) → IsView v → IsTimedAt v device t
-    → (pos t +ℤ pos (3 * v.sizes.precision)) <ℤ (span.block.before.hull.least +ℤ pos v.sizes.cycle) → ShowsThere v (suc c) t device
-shows_there brings v c t device span is timed early =
+shows_there : BringsBlocks → {v : View} (c : ℕ) {t : ℕ} {device : DeviceId} (span : IsInSpan v (suc c) t) → IsView v
+    → IsTimedAt v device t → (pos t +ℤ pos (3 * v.sizes.precision)) <ℤ
+    (span.block.before.hull.least +ℤ pos v.sizes.cycle) → ShowsThere v (suc c) t device
+shows_there brings {v} c {t} {device} span is timed early =
     let keep = synchronised_keep_time brings v (suc c) t span device is timed in
-    let late = begins_late v c span.block.before is in
-    let space = room v is in
+    let late = begins_late c span.block.before is in
+    let space = room is in
     record {
       least = omega (arith, ints, keep.shows.least, late, span.block.from, space.errors.reach_is);
       most = omega (arith, ints, keep.shows.most, early, space.errors.reach_is, space.errors.clock_is, space.eight_errors);
@@ -78,20 +79,21 @@ last_false true false c e f g = absurd cc
 last_false false b c e f g = absurd cc
 
 -- a relay that shows this passes no control frame
-relay_shut : TimedAreNotTurnedOn → (v : View) (n : ℕ) (g : Happening) (device : DeviceId) (by : LinkId) (cause clock : ℕ) → IsView v → IsIn g v.records
-    → g.note.body ≡ notes.Arrived device by cause clock → is_relay v.scenario.network device ≡ true → state_left v device (time_of g) ≡ Synchronised
+relay_shut : TimedAreNotTurnedOn → {v : View} {n : ℕ} (g : Happening) {device : DeviceId} (by : LinkId)
+    (cause clock : ℕ) → IsView v → IsIn g v.records → g.note.body ≡ notes.Arrived device by cause clock
+    → is_relay v.scenario.network device ≡ true → state_left v device (time_of g) ≡ Synchronised
     → ShowsThere v n (time_of g) device → ⊥
-relay_shut never v n g device by cause clock is i body relay timed shows =
+relay_shut never {v} {n} g {device} by cause clock is i body relay timed shows =
     let s = v.scenario in
     let t = time_of g in
     let found = founded_at s v.records g is.run.founded i in
-    let sound = arrived_sound v g device by cause clock is found body in
-    let same = earlier_before v t found.front (before_of v g is found) in
-    let left : state_after s (earlier t found.front) device ≡ Synchronised = ap (λ (xs : List Happening). state_after s xs device) same ∙ timed in
+    let sound = arrived_sound device by cause clock is found body in
+    let same = earlier_before (before_of is found) in
+    let left : state_after s (earlier t found.front) device ≡ Synchronised = ap (λ xs. state_after s xs device) same ∙ timed in
     let at = standpoint s found.front device t in
     let state : at.state ≡ Synchronised = state_is (is_turned_on_at s device t) (state_after s (earlier t found.front) device)
     (never v device t is (ap has_time timed)) left in
-    let shown : clock_of at ≡ shown_at v device t = ap (λ (xs : List Happening). pos (s.reading device t) +ℤ (adjustment_after s xs device).0) same in
+    let shown : clock_of at ≡ shown_at v device t = ap (λ xs. pos (s.reading device t) +ℤ (adjustment_after s xs device).0) same in
     let not_beyond = last_false (is_relay s.network device) (is_synchronised at.state)
     (int_lt (pos (amount s.network.correction + 2 * amount s.network.precision))
     (offset_in_cycle s.network (clock_of at +ℤ pos (2 * amount s.network.precision)))) relay (ap is_synchronised state) sound.unshut in
@@ -102,36 +104,39 @@ relay_shut never v n g device by cause clock is i body relay timed shows =
     let z : ℤ = clock_of at +ℤ pos (2 * amount s.network.precision) in
     let far = so_far z (n * v.sizes.cycle) v.sizes.cycle (omega (arith, ints, shown, shows.least, precision))
     (omega (arith, ints, shown, shows.most, precision)) in
-    let is_far = so_far_in s.network v.sizes.cycle z n far.0 (cycle_whole v is) far.1 far.2 in
+    let is_far = so_far_in s.network v.sizes.cycle z n far.0 (cycle_whole is) far.1 far.2 in
     omega (arith, ints, most, is_far.place_is, far.1, shown, shows.least, correction, precision)
 
 -- ---- compression masters
 
 -- the block of an earlier cycle ends before the span begins
-over_before : (v : View) (k n x : ℕ) (stands : Stands v n) → IsView v → suc k ≤ n → IsOverBefore v (suc k) x → x ≤ stands.next
-over_before v k zero x stands is le over = absurd (omega (arith, le))
-over_before v k (suc m) x stands is le over =
+over_before : {v : View} (k n x : ℕ) (stands : Stands v n) → IsView v → suc k ≤ n → IsOverBefore v (suc k) x
+    → x ≤ stands.next
+over_before k zero x stands is le over = absurd (omega (arith, le))
+over_before {v} k (suc m) x stands is le over =
     let last = stands.is_over in
     elim (cases_lt k m) [
       | inl lt ↦
-          let follow = hulls_follow v k m over.0 last.0 is lt (λ c le. stands.narrow c (omega (arith, le))) over.1 last.1 in
-          let proper = hull_proper v m last.0 is last.1 in
+          let follow =
+          hulls_follow k m over.0 last.0 is lt (λ c le. stands.narrow c (omega (arith, le))) over.1 last.1 in
+          let proper = hull_proper m last.0 is last.1 in
           omega (arith, ints, over.2, last.2, follow, proper)
       | inr ge ↦
           let same : k ≡ m = omega (arith, le, ge) in
-          omega (arith, same_end v (suc m) x stands.next (subst (λ (j : ℕ). IsOverBefore v (suc j) x) same over) last)
+          omega (arith, same_end v (suc m) x stands.next (subst (λ j. IsOverBefore v (suc j) x) same over) last)
     ]
 
 -- a setting before a time is not behind the last
-setting_bound : (v : View) (device : DeviceId) (q : ℕ) (h : Happening) → IsView v → IsIn h v.records → time_of h < q
+setting_bound : {v : View} (device : DeviceId) (q : ℕ) (h : Happening) → IsView v → IsIn h v.records → time_of h < q
     → changes_adjustment device h.note.body ≡ true → pos (time_of h) ≤ℤ epoch_time (earlier q v.records) device
-setting_bound v device q h is i lt sets = by (last_setting (earlier q v.records) device) refl
+setting_bound {v} device q h is i lt sets = by (last_setting (earlier q v.records) device) refl
   where
     by : (o : Option Happening) → last_setting (earlier q v.records) device ≡ o → pos (time_of h) ≤ℤ option_map_or (λ g. pos (time_of g)) o (negsuc 0)
     by None e = absurd (none_last (λ g. changes_adjustment device g.note.body) (earlier q v.records) h e (is_earlier q v.records h i lt) sets)
     by (Some r) e =
         let order = no_later h r (last_of (λ g. changes_adjustment device g.note.body) None (earlier q v.records) r h
-        (in_places v.scenario [] (earlier q v.records) (earlier_founded v q is)) e (is_earlier q v.records h i lt) sets) in
+        (in_places v.scenario [] (earlier q v.records) (earlier_founded q is)) e (is_earlier q v.records h i lt)
+        sets) in
         omega (arith, ints, order)
 
 -- the correction of a device that was old before it, at its point of the block
@@ -140,12 +145,14 @@ record IsPointReached (v : View) (j w : ℕ) (device : DeviceId) (q : ℕ) : Typ
   pub reads : pos (suc j * v.sizes.cycle + v.sizes.correction) ≤ℤ (pos (v.scenario.reading device w) +ℤ adjustment_left v device q)
 
 -- a synchronised device whose clock was set before the block has had its point when the block is over
-point_reached : BringsBlocks → (v : View) (j q : ℕ) (block : IsInBlock v j q) (device : DeviceId) → IsView v → IsGood v device
-    → state_left v device q ≡ Synchronised → IsOldAt v block.before.next device q → block.next ≤ v.until + 1 → state_left v device block.next ≡ Synchronised
+point_reached : BringsBlocks → {v : View} {j q : ℕ} (block : IsInBlock v j q) (device : DeviceId) → IsView v
+    → IsGood v device → state_left v device q ≡ Synchronised → IsOldAt v block.before.next device q
+    → block.next ≤ v.until + 1 → state_left v device block.next ≡ Synchronised
     → (w : ℕ) × (w < block.next) × IsPointReached v j w device q
-point_reached brings v j q block device is good timed old in_run after =
+point_reached brings {v} {j} {q} block device is good timed old in_run after =
     let over : BlockIsOver v j = record { before = block.before; next = block.next; is_over = block.is_over; in_run = in_run } in
-    let later : HasTimeAt v device block.next = has_time_at v device block.next (record { good = good; synchronised = after }) in
+    let later : HasTimeAt v device block.next =
+    has_time_at {v = v} {device = device} {t = block.next} (record { good = good; synchronised = after }) in
     by (last_setting (earlier block.next v.records) device) refl (brings.come v j over device is later)
   where
     by : (o : Option Happening) → last_setting (earlier block.next v.records) device ≡ o → pos block.before.next ≤ℤ option_map_or (λ h. pos (time_of h)) o
@@ -155,12 +162,12 @@ point_reached brings v j q block device is good timed old in_run after =
         let s = v.scenario in
         let at = setting_is v device block.next h e in
         let w = time_of h in
-        let set = last_is_correction v device block.next h is after e in
+        let set = last_is_correction device block.next h is after e in
         let found = founded_at s v.records h is.run.founded at.there in
-        let split = before_of v h is found in
+        let split = before_of is found in
         let cause : IsCaused s found.front h.note.time (notes.Corrected device set.cycle set.by set.adjustment) = subst (IsCaused s found.front h.note.time)
         set.is found.due.cause in
-        let has : HasTimeAt v device w = record { good = good; timed = point_timed v w device set.cycle (Corrected set.by) found.front split cause.corrected }
+        let has : HasTimeAt v device w = record { good = good; timed = point_timed split cause.corrected }
         in
         let comes : ComesTo v w device set.cycle (Corrected set.by) = record { front = found.front; split = split; point = cause.corrected } in
         let here : IsInBlock v j w = record {
@@ -169,48 +176,51 @@ point_reached brings v j q block device is good timed old in_run after =
           is_over = block.is_over;
           from = omega (arith, ints, new);
           to = at.early;
-          in_run = within_run v is h at.there;
+          in_run = within_run is h at.there;
         } in
         let so = brings.goes v j w here is in
         let was_old = so.old_alone device set.cycle (Corrected set.by) has comes (λ e. cc) in
         let point = so.points device set.cycle (Corrected set.by) has was_old comes in
         let not_before : q ≤ w = elim (cases_lt w q) [
-          | inl lt ↦ (let bound = setting_bound v device q h is at.there lt at.sets in absurd (omega (arith, ints, bound, old, new)))
+          | inl lt ↦ (let bound = setting_bound device q h is at.there lt at.sets in
+              absurd (omega (arith, ints, bound, old, new)))
           | inr ge ↦ ge
         ] in
         let early : epoch_time (earlier w v.records) device <ℤ pos q = omega (arith, ints, was_old, block.from) in
-        let same : adjustment_left v device q ≡ adjustment_left v device w = ap (λ (a : Units). a.0) (adjustment_stays v device q w is not_before early) in
-        let reached = reaches_by v.records (earlier_before v w found.front split)
+        let same : adjustment_left v device q ≡ adjustment_left v device w =
+        ap (λ (a : Units). a.0) (adjustment_stays device q w is not_before early) in
+        let reached = reaches_by v.records (earlier_before split)
         cause.corrected.reached in
         let sharp = clocks_reach_sharply v device (correction_value s.network set.cycle) w is reached in
-        let cycle : v.sizes.cycle ≡ amount s.network.cycle = cycle_is v is in
+        let cycle : v.sizes.cycle ≡ amount s.network.cycle = cycle_is is in
         let correction : v.sizes.correction ≡ amount s.network.correction = ap (λ (x : Sizes). x.correction) is.sizes in
         let value : set.cycle * amount s.network.cycle + amount s.network.correction ≡ suc j * v.sizes.cycle + v.sizes.correction =
-        ap (λ (c : ℕ). c * amount s.network.cycle + amount s.network.correction) point.of_cycle ∙ ap (λ (x : ℕ). suc j * x + amount s.network.correction)
-        (sym cycle) ∙ ap (λ (x : ℕ). suc j * v.sizes.cycle + x) (sym correction) in
+        ap (λ c. c * amount s.network.cycle + amount s.network.correction) point.of_cycle ∙ ap (λ x. suc j * x + amount s.network.correction)
+        (sym cycle) ∙ ap (λ x. suc j * v.sizes.cycle + x) (sym correction) in
         (w, at.early, record { not_before = not_before; reads = omega (arith, ints, sharp.least, same, value) })
 
 -- what an opener before the span leads to: the emission reading is below that of a correction point
-opener_far : BringsBlocks → (v : View) (j q : ℕ) (block : IsInBlock v j q) (device : DeviceId) (point : ℤ) → IsView v → IsTimedAt v device q
-    → point ≤ℤ pos (v.scenario.reading device q) → pos (v.scenario.reading device q) ≤ℤ (point +ℤ pos (2 * v.sizes.grain))
-    → PassesGate v.scenario.network (point +ℤ adjustment_left v device q)
-    → IsOldAt v block.before.next device q × ((point +ℤ adjustment_left v device q) ≤ℤ pos (suc j * v.sizes.cycle + v.sizes.dmax + 2 * v.sizes.precision))
-opener_far brings v j q block device point is timed least most gate =
-    let space = room v is in
-    let has = has_time_at v device q timed in
+opener_far : BringsBlocks → {v : View} {j q : ℕ} (block : IsInBlock v j q) {device : DeviceId} (point : ℤ) → IsView v
+    → IsTimedAt v device q → point ≤ℤ pos (v.scenario.reading device q)
+    → pos (v.scenario.reading device q) ≤ℤ (point +ℤ pos (2 * v.sizes.grain))
+    → PassesGate v.scenario.network (point +ℤ adjustment_left v device q) → IsOldAt v block.before.next device q
+    × ((point +ℤ adjustment_left v device q) ≤ℤ pos (suc j * v.sizes.cycle + v.sizes.dmax + 2 * v.sizes.precision))
+opener_far brings {v} {j} {q} block {device} point is timed least most gate =
+    let space = room is in
+    let has = has_time_at timed in
     let ends = block_ends v j block.next block.before.hull block.before.is_hull block.is_over in
-    let narrow = before_narrow v j block.before in
+    let narrow = before_narrow block.before in
     let one : suc j * v.sizes.cycle ≡ j * v.sizes.cycle + v.sizes.cycle = omega arith in
     let value = point +ℤ adjustment_left v device q in
     by_lt_z {P = IsOldAt v block.before.next device q
     × ((point +ℤ adjustment_left v device q) ≤ℤ pos (suc j * v.sizes.cycle + v.sizes.dmax + 2 * v.sizes.precision))}
     (epoch_time (earlier q v.records) device) (pos block.before.next)
     (λ old.
-    let shows = old_shows v j q q device block is (omega arith) has old in (
+    let shows = old_shows block is (omega arith) has old in (
       old,
       by_lt_z {P = (point +ℤ adjustment_left v device q) ≤ℤ pos (suc j * v.sizes.cycle + v.sizes.dmax + 2 * v.sizes.precision)}
           (pos (suc j * v.sizes.cycle + v.sizes.dmax + 2 * v.sizes.precision)) (point +ℤ adjustment_left v device q)
-          (λ far. absurd (off_gate v (suc j) value is gate (omega (arith, ints, far))
+          (λ far. absurd (off_gate (suc j) value is gate (omega (arith, ints, far))
           (omega (arith, ints, one, least, shows.most, ends, narrow, block.to, space.cycles, space.eight_errors, space.errors.reach_is))))
           (λ near. near),
     ))
@@ -223,26 +233,28 @@ opener_far brings v j q block device point is timed least most gate =
       to = omega (arith, less, block.to);
       in_run = omega (arith, less, block.in_run);
     }) is in
-    let set = new_shows v j q q device block each is (omega arith) has (last_setting (earlier q v.records) device) refl late in
-    let shows = set_shows v j q device (adjustment_left v device q) block is set in
-    let after = corrected_late v j q block device (last_setting (earlier q v.records) device) brings.goes is timed refl late in
+    let set = new_shows block each is (omega arith) has (last_setting (earlier q v.records) device) refl late in
+    let shows = set_shows block is set in
+    let after = corrected_late block (last_setting (earlier q v.records) device) brings.goes is timed refl late in
     let near = set_clocks_stay_at_correction v.sizes (shown_at v device q) (suc j) q block.before.hull set.hull space narrow
-    (follows_before v j block.before.hull set.hull is block.before.is_hull set.is_hull)
+    (follows_before j block.before.hull set.hull is block.before.is_hull set.is_hull)
     (omega (arith, ints, after)) (omega (arith, ints, ends, block.to)) shows in
-    absurd (off_gate v (suc j) value is gate
+    absurd (off_gate (suc j) value is gate
     (omega (arith, ints, most, near.least, space.corrections, space.compression_least, space.eight_errors, space.errors.reach_is))
     (omega (arith, ints, least, near.most, space.cycles, space.eight_errors, space.errors.reach_is, space.errors.clock_is))))
 
 -- a compression master sends nothing there
-cm_silent : BringsBlocks → TimedAreNotTurnedOn → (v : View) (c : ℕ) (g : Happening) (device : DeviceId) (opened at : Units) (cycle : ℕ) (members : Members)
-    (verdict : Judgement) (span : IsInSpan v (suc c) (time_of g)) → IsView v → IsIn g v.records → g.note.body ≡ notes.Compressed device opened at cycle members
-    verdict → IsTimedAt v device (time_of g) → (pos (time_of g) +ℤ pos (3 * v.sizes.precision)) <ℤ (span.block.before.hull.least +ℤ pos v.sizes.cycle) → ⊥
-cm_silent brings never v c g device opened at cycle members verdict span is i body timed early =
+cm_silent : BringsBlocks → TimedAreNotTurnedOn → {v : View} (c : ℕ) (g : Happening) {device : DeviceId}
+    (opened at : Units) (cycle : ℕ) (members : Members) (verdict : Judgement) (span : IsInSpan v (suc c) (time_of g))
+    → IsView v → IsIn g v.records → g.note.body ≡ notes.Compressed device opened at cycle members verdict
+    → IsTimedAt v device (time_of g) → (pos (time_of g) +ℤ pos (3 * v.sizes.precision)) <ℤ
+    (span.block.before.hull.least +ℤ pos v.sizes.cycle) → ⊥
+cm_silent brings never {v} c g {device} opened at cycle members verdict span is i body timed early =
     let t = time_of g in
-    let sent = emission_opened never v device g opened at cycle members verdict is i body timed.synchronised in
+    let sent = emission_opened never {v = v} device g opened at cycle members verdict is i body timed.synchronised in
     let o = sent.0 in
     let q = o.q in
-    let space = room v is in
+    let space = room is in
     let before = span.block.before in
     let timed_q : IsTimedAt v device q = record { good = timed.good; synchronised = o.stretch q (omega arith) o.before } in
     elim (cases_lt q before.next) [
@@ -258,8 +270,8 @@ cm_silent brings never v c g device opened at cycle members verdict span is i bo
             };
             early = omega (arith, ints, o.before, span.early);
           } in
-          let shows = shows_there brings v c q device span_q is timed_q (omega (arith, ints, early, o.before)) in
-          off_gate v (suc c) (o.point +ℤ adjustment_left v device q) is o.gate
+          let shows = shows_there brings c span_q is timed_q (omega (arith, ints, early, o.before)) in
+          off_gate (suc c) (o.point +ℤ adjustment_left v device q) is o.gate
           (omega (arith, ints, shows.least, o.most, space.corrections, space.compression_least))
           (omega (arith, ints, shows.most, o.least))
       | inl lt ↦
@@ -267,14 +279,15 @@ cm_silent brings never v c g device opened at cycle members verdict span is i bo
           let j = covered.0 in
           let block = covered.1 in
           let earlier_block : suc j ≤ suc c = elim (cases_lt c j) [
-            | inl more ↦ (let late = over_before v c j before.next block.before is (omega (arith, more))
+            | inl more ↦ (let late = over_before c j before.next block.before is (omega (arith, more))
                 before.is_over in absurd (omega (arith, late, block.from, lt)))
             | inr le ↦ omega (arith, le)
           ] in
-          let ends = over_before v j (suc c) block.next before is earlier_block block.is_over in
-          let far = opener_far brings v j q block device o.point is timed_q o.least o.most o.gate in
+          let ends = over_before j (suc c) block.next before is earlier_block block.is_over in
+          let far = opener_far brings block o.point is timed_q o.least o.most o.gate in
           let after = o.stretch block.next (omega (arith, block.to)) (omega (arith, ends, span.block.from)) in
-          let point = point_reached brings v j q block device is timed.good timed_q.synchronised far.0 (omega (arith, ends, span.block.from, span.block.in_run))
+          let point = point_reached brings block device is timed.good timed_q.synchronised far.0
+          (omega (arith, ends, span.block.from, span.block.in_run))
           after in
           let w = point.0 in
           let less = sent.1.not_before w (omega (arith, ints)) (omega (arith, ints, point.1, ends, span.block.from)) in
@@ -296,29 +309,33 @@ cm_silent brings never v c g device opened at cycle members verdict span is i bo
 -- ---- the law
 
 -- what a synchronised switch gives in the span
-no_giving : BringsBlocks → TimedAreNotTurnedOn → (v : View) (c : ℕ) (g : Happening) (device : DeviceId) (by : LinkId) (body : NoteBody)
-    (span : IsInSpan v (suc c) (time_of g)) → IsView v → IsIn g v.records → g.note.body ≡ body → is_end v.scenario.network device ≡ false
-    → Gives v.scenario.network body device by
-    → IsTimedAt v device (time_of g) → (pos (time_of g) +ℤ pos (3 * v.sizes.precision)) <ℤ (span.block.before.hull.least +ℤ pos v.sizes.cycle) → ⊥
-no_giving brings never v c g device by (notes.Sent master cycle) span is i same switch gives timed early =
+no_giving : BringsBlocks → TimedAreNotTurnedOn → {v : View} (c : ℕ) (g : Happening) {device : DeviceId} (by : LinkId)
+    (body : NoteBody) (span : IsInSpan v (suc c) (time_of g)) → IsView v → IsIn g v.records → g.note.body ≡ body
+    → is_end v.scenario.network device ≡ false → Gives v.scenario.network body device by
+    → IsTimedAt v device (time_of g) → (pos (time_of g) +ℤ pos (3 * v.sizes.precision)) <ℤ
+    (span.block.before.hull.least +ℤ pos v.sizes.cycle) → ⊥
+no_giving brings never {v} c g by (notes.Sent master cycle) span is i same switch gives timed early =
     let found = founded_at v.scenario v.records g is.run.founded i in
     let caused : IsCaused v.scenario found.front g.note.time (notes.Sent master cycle) = subst (IsCaused v.scenario found.front g.note.time) same
     found.due.cause in
     both_ways _ switch (ap (is_end v.scenario.network) gives.0 ∙ master_end v.scenario.network master caused.master)
-no_giving brings never v c g device by (notes.Compressed cm opened at cycle members verdict) span is i same switch gives timed early =
-    cm_silent brings never v c g device opened at cycle members verdict span is i
+no_giving brings never {v} c g {device} by (notes.Compressed cm opened at cycle members verdict) span is i same
+    switch gives timed early =
+    cm_silent brings never {v = v} c g {device = device} opened at cycle members verdict span is i
     (same ∙ ap (λ (d : DeviceId). notes.Compressed d opened at cycle members verdict) (sym gives.0)) timed early
-no_giving brings never v c g device by (notes.Arrived relay from cause clock) span is i same switch gives timed early =
-    relay_shut never v (suc c) g device from cause clock is i (same ∙ ap (λ (d : DeviceId). notes.Arrived d from cause clock) (sym gives.0)) gives.1.relay
-    timed.synchronised (shows_there brings v c (time_of g) device span is timed early)
-no_giving brings never v c g device by body span is i same switch gives timed early = gives
+no_giving brings never c g by (notes.Arrived relay from cause clock) span is i same switch gives timed early =
+    relay_shut never g from cause clock is i (same ∙ ap (λ (d : DeviceId). notes.Arrived d from cause clock)
+    (sym gives.0)) gives.1.relay
+    timed.synchronised (shows_there brings c span is timed early)
+no_giving brings never c g by body span is i same switch gives timed early = gives
 
 -- a time behind the span's beginning and well before the next cycle lies in the span
-span_at : (v : View) (c t : ℕ) (before : Stands v (suc c)) → IsView v → before.next ≤ t → t ≤ v.until
-    → (pos t +ℤ pos (3 * v.sizes.precision)) <ℤ (before.hull.least +ℤ pos v.sizes.cycle) → (span : IsInSpan v (suc c) t) × (span.block.before ≡ before)
-span_at v c t before is from in_run early =
-    let space = room v is in
-    let behind = hull_behind v c before is in
+span_at : {v : View} (c t : ℕ) (before : Stands v (suc c)) → IsView v → before.next ≤ t → t ≤ v.until
+    → (pos t +ℤ pos (3 * v.sizes.precision)) <ℤ (before.hull.least +ℤ pos v.sizes.cycle)
+    → (span : IsInSpan v (suc c) t) × (span.block.before ≡ before)
+span_at {v} c t before is from in_run early =
+    let space = room is in
+    let behind = hull_behind c before is in
     let end : ℤ = last_correction v.sizes before.hull +ℤ pos 1 in
     let next = unsigned_abs end in
     let next_is : end ≡ pos next = whole end (omega (arith, ints, behind.0, behind.1)) in (
@@ -342,9 +359,10 @@ givings_keep_away brings never v h g device link by cause vl (suc c) is good swi
     by_lt_z {P = (before.hull.least +ℤ pos v.sizes.cycle) ≤ℤ (pos (time_of g) +ℤ pos (3 * v.sizes.precision))} (pos (time_of g) +ℤ pos (3 * v.sizes.precision))
     (before.hull.least +ℤ pos v.sizes.cycle)
     (λ early.
-    let at = span_at v c (time_of g) before is from (within_run v is g gives.there) early in
+    let at = span_at c (time_of g) before is from (within_run is g gives.there) early in
     let here = dispatches_are_in_spans brings v h device link cause vl (suc c) is good d in
-    let timed = timed_in_span brings never v (suc c) (time_of h) (time_of g) device here.span at.0 is (record { good = good; synchronised = d.synchronised }) in
-    absurd (no_giving brings never v c g device by g.note.body at.0 is gives.there refl switch gives.gives timed
+    let timed = timed_in_span brings never {device = device} here.span at.0 is
+    (record { good = good; synchronised = d.synchronised }) in
+    absurd (no_giving brings never c g by g.note.body at.0 is gives.there refl switch gives.gives timed
     (subst (λ (x : Stands v (suc c)). (pos (time_of g) +ℤ pos (3 * v.sizes.precision)) <ℤ (x.hull.least +ℤ pos v.sizes.cycle)) (sym at.1) early)))
     (λ late. late)

@@ -22,9 +22,9 @@ between at kind time rest not (inl lt) = absurd (not (inl lt))
 between at kind time rest not (inr (same, inl lt)) = (same, lt)
 between at kind time rest not (inr (same, inr none)) = absurd none.1
 
-event_of : (s : Scenario) (hs : List Happening) (time : ℕ) (at : IsSplit place_of hs (time ∷ [])) → IsRun place_of (IsDue s) (time ∷ 2 ∷ []) hs
-    → (h : Happening) → IsIn h at.rest → IsEventOf time h.note
-event_of s hs time at run h i =
+event_of : (s : Scenario) {hs : List Happening} (time : ℕ) (at : IsSplit place_of hs (time ∷ []))
+    → IsRun place_of (IsDue s) (time ∷ 2 ∷ []) hs → (h : Happening) → IsIn h at.rest → IsEventOf time h.note
+event_of s {hs} time at run h i =
     let there : IsIn h hs = subst (IsIn h) (sym at.whole) (in_right h at.front at.rest i) in
     let parts = parted h hs there in
     let due = (run.founded parts.0 parts.1 h parts.2).1 in
@@ -35,12 +35,14 @@ event_of s hs time at run h i =
 -- ---- the front
 
 -- a run up to before a time goes well up to each earlier time
-pub goes_well_before : (s : Scenario) (ns : List Note) (time : ℕ) → IsLawful s → time ≤ 2 ^ 20 * amount s.network.cycle + 1 → IsScenarioRun s (time ∷ []) ns
-    → (until : ℕ) → until < time → GoesWell s (happenings s.network ns) until
-goes_well_before s ns time lawful short run until early =
+pub goes_well_before : {s : Scenario} (ns : List Note) (time : ℕ) → IsLawful s
+    → time ≤ 2 ^ 20 * amount s.network.cycle + 1 → IsScenarioRun s (time ∷ []) ns → (until : ℕ) → until < time
+    → GoesWell s (happenings s.network ns) until
+goes_well_before {s} ns time lawful short run until early =
     let next : time ≡ (time - 1) + 1 = omega (arith, early) in
-    let well = goes_well s ns (time - 1) lawful (omega (arith, short)) (subst (λ (n : ℕ). IsScenarioRun s (n ∷ []) ns) next run) in
-    well_earlier s (happenings s.network ns) until (time - 1) (omega (arith, early)) well
+    let well = goes_well ns (time - 1) lawful (omega (arith, short))
+    (subst (λ (n : ℕ). IsScenarioRun s (n ∷ []) ns) next run) in
+    well_earlier until (omega (arith, early)) well
 
 -- the records before the time, and those behind
 pub record IsParted (s : Scenario) (time : ℕ) (ns : List Note) : Type 0 where
@@ -54,11 +56,14 @@ pub part : (s : Scenario) (time : ℕ) (ns : List Note) → IsScenarioRun s (tim
 part s time ns run =
     let hs = happenings s.network ns in
     let at = split place_of (IsDue s) hs (time ∷ []) run.founded in
-    let cut = cut_run place_of (IsDue s) (time ∷ 2 ∷ []) (time ∷ []) hs at (λ q before. before_of_time q time (2 ∷ []) before) run in
+    let cut = cut_run {place = place_of} (IsDue
+    s) {mark = time ∷ 2 ∷ []} {p = time ∷ []} {ns = hs} at (λ q before. before_of_time q time (2 ∷ []) before)
+    run in
     record {
       front = notes_of at.front;
       rest = notes_of at.rest;
       parts = sym (same_notes s.network ns) ∙ ap notes_of at.whole ∙ map-append (λ (h : Happening). h.note) at.front at.rest;
       run = subst (IsRun place_of (IsDue s) (time ∷ [])) (sym (told s at.front cut.founded)) cut;
-      only_events = λ note i. let it = note_in at.rest note i in subst (IsEventOf time) (sym it.2) (event_of s hs time at run it.0 it.1);
+      only_events = λ note i. let it = note_in at.rest note i in subst (IsEventOf time) (sym it.2)
+          (event_of s {hs = hs} time at run it.0 it.1);
     }

@@ -5,32 +5,32 @@ use Rattle.{precision_law.proofs.law.Whole.{ends_come_in, time_kept}, run_law.{p
 use Rattle.{precision_law.proofs.traffic_lemmas.Safe.all_are_safe, run_law.specs.{law.Safety.{ClocksAgree, IsOwed, IsSafe}, runs.DueRecords.IsScenarioRun}}
 use Rattle.{precision_law.specs.{Progress.ComesIn, traffic.{Ports.IsRunTo, safety.Headline.{GoesWell, TimeStays}}}, std.proofs.Common.{◌*◌, ◌+◌, ◌^◌, ◌∷◌, ◌≤◌, List, [], arith, ℕ}}
 
-run_to : (s : Scenario) (ns : List Note) (until : ℕ) → IsLawful s → until ≤ 2 ^ 20 * amount s.network.cycle → IsScenarioRun s ((until + 1) ∷ []) ns
-    → IsRunTo s ((until + 1) ∷ []) ns until
-run_to s ns until lawful short run = grind (arith, soon)
+module _ {s : Scenario} (ns : List Note) (until : ℕ) (lawful : IsLawful s)
+    (short : until ≤ 2 ^ 20 * amount s.network.cycle) (run : IsScenarioRun s ((until + 1) ∷ []) ns) where
+  run_to : IsRunTo s ((until + 1) ∷ []) ns until
+  run_to = grind (arith, soon)
 
--- a lawful run goes well
-pub goes_well : (s : Scenario) (ns : List Note) (until : ℕ) → IsLawful s → until ≤ 2 ^ 20 * amount s.network.cycle → IsScenarioRun s ((until + 1) ∷ []) ns
-    → GoesWell s (happenings s.network ns) until
-goes_well s ns until lawful short run =
-    let it = run_to s ns until lawful short run in
-    record {
-      safe = all_are_safe s ((until + 1) ∷ []) ns until it;
-      time = time_kept s ((until + 1) ∷ []) ns until it.up;
-      comes = ends_come_in s ((until + 1) ∷ []) ns until it.up;
-    }
+  -- a lawful run goes well
+  pub goes_well : GoesWell s (happenings s.network ns) until
+  goes_well =
+      let it = run_to in
+      record {
+        safe = all_are_safe s ((until + 1) ∷ []) ns until it;
+        time = time_kept s ((until + 1) ∷ []) ns until it.up;
+        comes = ends_come_in s ((until + 1) ∷ []) ns until it.up;
+      }
 
 -- ---- an earlier time
 
-owed_later : (s : Scenario) (hs : List Happening) (u t : ℕ) (vl : VlId) (of_vl : VirtualLink) (cycle : ℕ) (device : DeviceId) → u ≤ t
-    → IsOwed s hs u vl of_vl cycle device → IsOwed s hs t vl of_vl cycle device
-owed_later s hs u t vl of_vl cycle device le o = grind arith
+owed_later : {s : Scenario} {hs : List Happening} {u : ℕ} (t : ℕ) {vl : VlId} {of_vl : VirtualLink} {cycle : ℕ}
+    {device : DeviceId} → u ≤ t → IsOwed s hs u vl of_vl cycle device → IsOwed s hs t vl of_vl cycle device
+owed_later t le o = grind arith
 
-agree_earlier : (s : Scenario) (hs : List Happening) (u t : ℕ) → u ≤ t → ClocksAgree s hs t → ClocksAgree s hs u
-agree_earlier s hs u t le agree = grind arith
+agree_earlier : {s : Scenario} {hs : List Happening} (u : ℕ) {t : ℕ} → u ≤ t → ClocksAgree s hs t → ClocksAgree s hs u
+agree_earlier u le agree = grind arith
 
-safe_earlier : (s : Scenario) (hs : List Happening) (u t : ℕ) → u ≤ t → IsSafe s hs t → IsSafe s hs u
-safe_earlier s hs u t le safe = grind (arith, agree_earlier, owed_later)
+safe_earlier : {s : Scenario} {hs : List Happening} (u : ℕ) {t : ℕ} → u ≤ t → IsSafe s hs t → IsSafe s hs u
+safe_earlier u le safe = grind (arith, agree_earlier, owed_later)
 
 stays_earlier : (s : Scenario) (hs : List Happening) (u t : ℕ) → u ≤ t → TimeStays s hs t → TimeStays s hs u
 stays_earlier s hs u t le stays h device state cause why there early is clique = stays h device state cause why there (omega (arith, early, le)) is clique
@@ -38,9 +38,9 @@ stays_earlier s hs u t le stays h device state cause why there early is clique =
 comes_earlier : (wait : ℕ) (s : Scenario) (hs : List Happening) (u t : ℕ) → u ≤ t → ComesIn wait s hs t → ComesIn wait s hs u
 comes_earlier wait s hs u t le comes device from x end on long early good = comes device from x end on long (omega (arith, early, le)) good
 
-pub well_earlier : (s : Scenario) (hs : List Happening) (u t : ℕ) → u ≤ t → GoesWell s hs t → GoesWell s hs u
-well_earlier s hs u t le well = record {
-  safe = safe_earlier s hs u t le well.safe;
+pub well_earlier : {s : Scenario} {hs : List Happening} (u : ℕ) {t : ℕ} → u ≤ t → GoesWell s hs t → GoesWell s hs u
+well_earlier {s} {hs} u {t} le well = record {
+  safe = safe_earlier u le well.safe;
   time = stays_earlier s hs u t le well.time;
   comes = comes_earlier (3 * amount s.network.cycle) s hs u t le well.comes;
 }

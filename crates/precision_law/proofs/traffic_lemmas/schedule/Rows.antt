@@ -34,10 +34,11 @@ rows_are_in_time v place entry is row =
 -- ---- rows of one link
 
 -- what an earlier row and a later one are to each other
-apart_in_order : (network : Network) (k place : ℕ) (earlier entry : Entry) (cycle : ℕ) → KeepsRules network → k < place → IsEntry network k earlier
-    → IsEntry network place entry → entry.row.link ≡ earlier.row.link → entry.row.way ≡ earlier.row.way → OccursIn entry.vl cycle → OccursIn earlier.vl cycle
+apart_in_order : {network : Network} {k place : ℕ} {earlier entry : Entry} {cycle : ℕ} → KeepsRules network
+    → k < place → IsEntry network k earlier → IsEntry network place entry → entry.row.link ≡ earlier.row.link
+    → entry.row.way ≡ earlier.row.way → OccursIn entry.vl cycle → OccursIn earlier.vl cycle
     → IsClearBefore network earlier entry ⊎ IsClearBefore network entry earlier
-apart_in_order network k place earlier entry cycle keeps lt one two link way here there =
+apart_in_order {k} {place} {earlier} {entry} {cycle} keeps lt one two link way here there =
     keeps Spacing place k earlier entry lt one two link way
     (occur_together entry.vl earlier.vl cycle (keeps Periods entry.row.vl.0 entry.vl two.vl).0 (keeps Periods earlier.row.vl.0 earlier.vl one.vl).0 here there)
 
@@ -45,9 +46,10 @@ pub rows_stand_apart : RowsStandApart
 rows_stand_apart network place other entry second cycle keeps one two link way here there = grind (arith, cases_lt, apart_in_order)
 
 -- one place has one row
-same_place : (network : Network) (place other : ℕ) (entry second : Entry) → place ≡ other → IsEntry network place entry → IsEntry network other second
-    → entry ≡ second
-same_place network place other entry second same one two = one_entry network place entry second one (subst (λ (k : ℕ). IsEntry network k second) (sym same) two)
+same_place : {network : Network} {place other : ℕ} {entry second : Entry} → place ≡ other
+    → IsEntry network place entry → IsEntry network other second → entry ≡ second
+same_place {network} {place} {entry} {second} same one two =
+    one_entry network place entry second one (subst (λ k. IsEntry network k second) (sym same) two)
 
 pub rows_go_once : RowsGoOnce
 rows_go_once network place other entry second keeps one two vl link =
@@ -57,6 +59,6 @@ rows_go_once network place other entry second keeps one two vl link =
         | inl lt ↦ absurd (keeps LinksOnce place other second.row entry.row lt two.row one.row vl link)
         | inr le ↦
             let same : place ≡ other = omega (arith, ge, le) in
-            (same, same_place network place other entry second same one two)
+            (same, same_place same one two)
       ]
     ]

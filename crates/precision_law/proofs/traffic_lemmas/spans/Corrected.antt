@@ -11,8 +11,8 @@ use Rattle.run_law.specs.declared.note.NoteBody.TheVariants as notes
 -- ---- the earlier records
 
 -- the records of earlier times are founded
-pub earlier_founded : (v : View) (t : ℕ) → IsView v → IsFounded place_of (IsDue v.scenario) (earlier t v.records)
-earlier_founded v t is =
+pub earlier_founded : {v : View} (t : ℕ) → IsView v → IsFounded place_of (IsDue v.scenario) (earlier t v.records)
+earlier_founded {v} t is =
     let at = split place_of (IsDue v.scenario) v.records (t ∷ []) is.run.founded in
     let none : earlier t at.rest ≡ [] = none_kept (λ h. nat_lt (time_of h) t) at.rest (λ h i. elim (cases_lt (time_of h) t) [
       | inl lt ↦ absurd (at.none h i (inl lt))
@@ -48,7 +48,7 @@ last_of p o (x ∷ xs) h g order e i hit =
       | true ↦ λ at is. elim i [
         | inl same ↦ elim (last_in (Some x) (filter p xs) h is) [
           | inl one ↦ (let here : x ≡ h = cc in inl (same ∙ here))
-          | inr more ↦ inr (subst (λ (y : Happening). IsBefore (place_of y) (place_of h)) (sym same) (order.0 h (in_filter p xs h more)))
+          | inr more ↦ inr (subst (λ y. IsBefore (place_of y) (place_of h)) (sym same) (order.0 h (in_filter p xs h more)))
         ]
         | inr more ↦ last_of p (Some x) xs h g order.1 is more hit
       ]
@@ -61,11 +61,12 @@ last_of p o (x ∷ xs) h g order e i hit =
 -- ---- the last setting of a synchronised device
 
 -- it is no joining
-not_joined : (v : View) (device : DeviceId) (t : ℕ) (h : Happening) → IsView v → state_left v device t ≡ Synchronised
+not_joined : {v : View} (device : DeviceId) (t : ℕ) (h : Happening) → IsView v → state_left v device t ≡ Synchronised
     → last_setting (earlier t v.records) device ≡ Some h → is_joined_by device h.note.body ≡ false
-not_joined v device t h is timed last =
+not_joined {v} device t h is timed last =
     false_from_ne_true (is_joined_by device h.note.body)
-    (λ joined. both_ways (is_synchronised (state_left v device t)) (joiner_waits v device t h is last joined) (ap is_synchronised timed))
+    (λ joined. both_ways (is_synchronised (state_left v device t)) (joiner_waits device t h is last joined)
+    (ap is_synchronised timed))
 
 -- it is a correction of the device's clock
 pub record IsCorrection (device : DeviceId) (body : NoteBody) : Type 0 where
@@ -81,6 +82,8 @@ is_correction_by device (notes.Corrected d cycle by adjustment) sets not =
     record { cycle = cycle; by = by; adjustment = adjustment; is = ap (λ (x : DeviceId). notes.Corrected x cycle by adjustment) same }
 is_correction_by device body sets not = absurd (both_ways _ not sets)
 
-pub last_is_correction : (v : View) (device : DeviceId) (t : ℕ) (h : Happening) → IsView v → state_left v device t ≡ Synchronised
-    → last_setting (earlier t v.records) device ≡ Some h → IsCorrection device h.note.body
-last_is_correction v device t h is timed last = is_correction_by device h.note.body (setting_is v device t h last).sets (not_joined v device t h is timed last)
+pub last_is_correction : {v : View} (device : DeviceId) (t : ℕ) (h : Happening) → IsView v
+    → state_left v device t ≡ Synchronised → last_setting (earlier t v.records) device ≡ Some h
+    → IsCorrection device h.note.body
+last_is_correction {v} device t h is timed last =
+    is_correction_by device h.note.body (setting_is v device t h last).sets (not_joined device t h is timed last)

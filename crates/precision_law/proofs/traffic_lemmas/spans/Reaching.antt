@@ -12,22 +12,24 @@ use Rattle.{std.proofs.Common.unsigned_abs, tte_units.proofs.general_lemmas.Opti
 -- ---- the beginning of a span
 
 -- it is soon behind the hull
-pub begins_soon : (v : View) (n : ℕ) (stands : Stands v (suc n)) → IsView v
+pub begins_soon : {v : View} (n : ℕ) (stands : Stands v (suc n)) → IsView v
     → pos stands.next ≤ℤ (stands.hull.least +ℤ pos (v.sizes.correction + v.sizes.spread + 3 * v.sizes.reach + 1))
-begins_soon v n stands is =
+begins_soon {v} n stands is =
     let over = stands.is_over in
     let there = stands.narrow n (omega arith) in
     let same : there.0 ≡ over.0 = one (hull_of v n) there.0 over.0 there.1 over.1 in
     let narrow : IsNarrow v.sizes over.0 = subst (IsNarrow v.sizes) same there.2 in
-    let order = instants_are_in_order v.sizes over.0 stands.hull (room v is) narrow (follows_before v n over.0 stands.hull is over.1 stands.is_hull) in
+    let order = instants_are_in_order v.sizes over.0 stands.hull (room is) narrow
+    (follows_before n over.0 stands.hull is over.1 stands.is_hull) in
     omega (arith, ints, over.2, order.last_not_late)
 
 -- a later cycle's hull lies behind time 0
-pub hull_behind : (v : View) (n : ℕ) (stands : Stands v (suc n)) → IsView v → (pos 0 <ℤ stands.hull.least) × (stands.hull.least ≤ℤ stands.hull.greatest)
-hull_behind v n stands is =
-    let grow = hulls_grow v 0 (suc n) (start_hull v.sizes) stands.hull is (omega arith) refl stands.is_hull in
-    let space = room v is in
-    let has = has_before v n stands.hull (within_run v is) stands.is_hull in
+pub hull_behind : {v : View} (n : ℕ) (stands : Stands v (suc n)) → IsView v
+    → (pos 0 <ℤ stands.hull.least) × (stands.hull.least ≤ℤ stands.hull.greatest)
+hull_behind {v} n stands is =
+    let grow = hulls_grow 0 (suc n) (start_hull v.sizes) stands.hull is (omega arith) refl stands.is_hull in
+    let space = room is in
+    let has = has_before v n stands.hull (within_run is) stands.is_hull in
     (omega (arith, ints, grow, space.many_errors, space.many_starts, space.errors.reach_is, space.errors.clock_is), has.follows.ordered)
 
 -- all that the records before a time have set was set before it
@@ -39,16 +41,17 @@ set_before v device t (Some h) e = (let at = setting_is v device t h e in omega 
 -- ---- reaching
 
 -- the same, where the last time of the value and the end of the span are numbers
-reached_by : BringsBlocks → TimedAreNotTurnedOn → (v : View) (c value t next : ℕ) (before : Stands v (suc c)) (device : DeviceId) → IsView v
-    → IsTimedAt v device before.next → 1 ≤ suc c → IsInSchedule v.sizes value → ((before.hull.greatest +ℤ pos value) +ℤ pos v.sizes.reach) ≤ℤ pos v.until
+reached_by : BringsBlocks → TimedAreNotTurnedOn → {v : View} (c : ℕ) {value : ℕ} (t next : ℕ)
+    (before : Stands v (suc c)) {device : DeviceId} → IsView v → IsTimedAt v device before.next → 1 ≤ suc c
+    → IsInSchedule v.sizes value → ((before.hull.greatest +ℤ pos value) +ℤ pos v.sizes.reach) ≤ℤ pos v.until
     → ((before.hull.greatest +ℤ pos value) +ℤ pos v.sizes.reach) ≡ pos t
     → (last_correction v.sizes before.hull +ℤ pos 1) ≡ pos next → ReachesInSpan v (suc c) value device
-reached_by brings never v c value t next before device is timed begun within in_run t_is next_is =
+reached_by brings never {v} c {value} t next before {device} is timed begun within in_run t_is next_is =
     let n = suc c in
-    let space = room v is in
-    let narrow = before_narrow v n before in
-    let soon = begins_soon v c before is in
-    let behind = hull_behind v c before is in
+    let space = room is in
+    let narrow = before_narrow before in
+    let soon = begins_soon c before is in
+    let behind = hull_behind c before is in
     let span_at : (x : ℕ) → before.next ≤ x → x ≤ t → IsInSpan v n x = λ x from to. record {
       block = record {
         before = before;
@@ -71,7 +74,7 @@ reached_by brings never v c value t next before device is timed begun within in_
     let there = stays t later (omega arith) in
     let at_end = synchronised_keep_time brings v n t final device is there.0 in
     let same : adjustment_left v device before.next ≡ adjustment_left v device t = ap (λ (a : Units). a.0)
-    (adjustment_stays v device before.next t is later there.1) in
+    (adjustment_stays device before.next t is later there.1) in
     let changed : changed_at v.records device t ≤ before.next = changed_before (last_setting (earlier t v.records) device) before.next there.1 in
     let lt : before.next < t = omega (arith, ints, soon, behind.1, t_is, within.begins, space.eight_errors) in
     let below : (pos (v.scenario.reading device before.next) +ℤ adjustment_left v device t) <ℤ pos (n * v.sizes.cycle + value) =
@@ -91,8 +94,8 @@ reached_by brings never v c value t next before device is timed begun within in_
 pub values_are_reached : BringsBlocks → TimedAreNotTurnedOn → ValuesAreReached
 values_are_reached brings never v zero value before device is timed begun within in_run = absurd (omega (arith, begun))
 values_are_reached brings never v (suc c) value before device is timed begun within in_run =
-    let behind = hull_behind v c before is in
+    let behind = hull_behind c before is in
     let last : ℤ = (before.hull.greatest +ℤ pos value) +ℤ pos v.sizes.reach in
     let end : ℤ = last_correction v.sizes before.hull +ℤ pos 1 in
-    reached_by brings never v c value (unsigned_abs last) (unsigned_abs end) before device is timed begun within in_run
+    reached_by brings never c (unsigned_abs last) (unsigned_abs end) before is timed begun within in_run
     (whole last (omega (arith, ints, behind.0, behind.1))) (whole end (omega (arith, ints, behind.0, behind.1)))

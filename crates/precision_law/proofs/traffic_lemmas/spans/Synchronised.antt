@@ -21,7 +21,8 @@ kept_if true state old never e = absurd (never refl e)
 kept_if false state old never e = e
 
 -- a device that is synchronised before t has been so since its clock was last set
-pub synchronised_stays : (v : View) (device : DeviceId) (u t : ℕ) → IsView v → u ≤ t → epoch_time (earlier t v.records) device <ℤ pos u
-    → state_left v device t ≡ Synchronised → state_left v device u ≡ Synchronised
-synchronised_stays v device u t is le early timed =
-    is_in (state_left v device u) (state_stays is_synchronised refl v device u t is le early (ap is_synchronised timed))
+pub synchronised_stays : {v : View} (device : DeviceId) (u t : ℕ) → IsView v → u ≤ t
+    → epoch_time (earlier t v.records) device <ℤ pos u → state_left v device t ≡ Synchronised
+    → state_left v device u ≡ Synchronised
+synchronised_stays {v} device u t is le early timed =
+    is_in (state_left v device u) (state_stays is_synchronised refl device u t is le early (ap is_synchronised timed))

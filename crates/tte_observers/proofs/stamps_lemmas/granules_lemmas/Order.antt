@@ -26,7 +26,7 @@ has_sizes {s} lawful =
     record {
       path = path;
       beta = is;
-      small = are_small path lawful.range (room_of n path lawful.rules
+      small = are_small path lawful.range (room_of lawful.rules
           (margins rules_give_trees n path lawful.range lawful.rules is));
     }
 

@@ -69,7 +69,8 @@ returns-clause-complete g c = λ network events notes under lt.
     (IsSafeFront K.fresh K.after_step K.reading network events (amount c.args.until) notes) c.next.result
     (before K.fresh K.after_step K.reading
     (keeps_clock_laws K.fresh K.after_step K.reading K.grain_of K.count (lawful g))
-    (begins_at_zero K.fresh K.after_step K.reading K.grain_of K.count (lawful g)) network events (amount c.args.until) notes admitted) whole
+    (begins_at_zero K.fresh K.after_step K.reading K.grain_of K.count (lawful g)) (amount c.args.until) notes
+    admitted) whole
 
 pub returns-clause-reached : goal.returns-clause-reached
 returns-clause-reached g c =

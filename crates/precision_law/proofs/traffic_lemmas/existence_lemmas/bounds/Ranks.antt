@@ -19,7 +19,7 @@ use Rattle.{run_law.specs.control.Leaving.{Departs, Departure, leaves}, tte_unit
 use Rattle.run_law.specs.{control.Losses.{IsDispatchedOn, IsDropped, IsLost}, records.Happenings.{Happening, earlier, frame_by, frame_from, numbered, time_of}}
 use Rattle.run_law.specs.{control.Permanence.{BecomesPermanent, ripe_as}, scenario.{Devices.{is_cm_role, start_of}, Scenarios.{Scenario, is_turned_on_at}}}
 use Rattle.std.proofs.Common.{◌*◌, ◌++◌, ◌+ℤ◌, ◌+◌, ◌<◌, ◌∙◌, ◌∷◌, ◌≡◌, ◌≤◌, ◌⊎◌, List, None, Option, Some, [], ap, append-nil, append_assoc, arith, filter}
-use Rattle.std.proofs.{Common.{inl, inr, le-ltb, length, nat_lt, option_and_then, pos, subst, sym, unsigned_abs, ℕ, ℤ}, lemmas.Option.slice_get_within}
+use Rattle.std.proofs.{Common.{inl, inr, le-ltb, length, nat_lt, option_and_then, pos, subst, sym, unsigned_abs, ℕ}, lemmas.Option.slice_get_within}
 use Rattle.{std.proofs.lemmas.List.Elements.{filter-append, filter_map-append}, sync_state.specs.Standing.{point_in as point_by_state, state_at_start}}
 use Rattle.tte_units.specs.Amount.{amount}
 use Rattle.precision_law.proofs.records.Behind as parts
@@ -87,18 +87,18 @@ module _ (s : Scenario) (t r : ℕ) (ms more : List Happening) (recent : (x : Ha
   cycle_below device cycle value some lt reaches =
       let adj = (adjustment_before s (ms ++ more) device t).0 in
       let product : cycle * 1 ≤ cycle * amount s.network.cycle = mul-le-mul_left cycle some in
-      let same : adj ≡ (adjustment_after s (earlier t ms) device).0 = ap (λ (hs : List Happening). (adjustment_after s hs device).0) earlier_kept in
+      let same : adj ≡ (adjustment_after s (earlier t ms) device).0 = ap (λ hs. (adjustment_after s hs device).0) earlier_kept in
       let within = in_sum (clock_at s ms t) (devices_below s.network) device.0 lt in
       let most = reach_most (cycle * amount s.network.cycle + value) (s.reading device t) adj reaches.reach.reached in
       let at = at_clock s ms t device.0 in
-      omega (arith, product, within, most, at, ap (λ (z : ℤ). unsigned_abs (pos (s.reading device t) +ℤ z)) same)
+      omega (arith, product, within, most, at, ap (λ z. unsigned_abs (pos (s.reading device t) +ℤ z)) same)
 
   sent : (device : DeviceId) (cycle : ℕ) → 1 ≤ amount s.network.cycle → Sends s (ms ++ more) device t cycle → IsSized 2 limit (device.0 ∷ cycle ∷ [])
   unfolding bound
   sent device cycle some c =
       let there = device_there s.network is_master device c.master in
       let value : cycle * amount s.network.cycle + 0 ≡ cycle * amount s.network.cycle = omega arith in
-      let reached = subst (λ (n : ℕ). Reaches s (ms ++ more) device (pos n) t) (sym value) c.reached in
+      let reached = subst (λ n. Reaches s (ms ++ more) device (pos n) t) (sym value) c.reached in
       (omega (arith, there), (cycle_below device cycle 0 some (omega (arith, there)) reached, tt))
 
   -- a device with a correction point is one of the network, or one that a record names
@@ -106,7 +106,7 @@ module _ (s : Scenario) (t r : ℕ) (ms more : List Happening) (recent : (x : Ha
       → point_by_state (standing_before s (ms ++ more) device t).state (standing_before s (ms ++ more) device t).number ≡ Some cycle → device.0 < limit
   unfolding bound IsTouched
   device_known device cycle next =
-      let same = ap (λ (hs : List Happening). state_after s hs device) earlier_kept in
+      let same = ap (λ hs. state_after s hs device) earlier_kept in
       let on = never_off (is_turned_on_at s device t) (state_after s (earlier t (ms ++ more)) device) _ cycle next in
       elim (touched device (earlier t ms) (state_at_start (start_of s.network device))) [
         | inl e ↦ (let there = begins s.network device (λ off. on (same ∙ e ∙ off)) in omega (arith, there))
@@ -221,7 +221,7 @@ module _ (s : Scenario) (t r : ℕ) (ms more : List Happening) (recent : (x : Ha
       by (parts.none all) =
           let p = λ (h : Happening). ends_stretch device h.note.body in
           let f = λ (h : Happening). point_by device h h.note.body in
-          inl (ap (filter_map f) (after_more p ms more all (parts_at_last p ms)) ∙ filter_map-append f (after_last p ms) more
+          inl (ap (filter_map f) (after_more more all (parts_at_last p ms)) ∙ filter_map-append f (after_last p ms) more
           ∙ ap (λ (ps : List Point). points_of ms device ++ ps) (made more (λ h i. i)) ∙ append-nil (points_of ms device))
       by (parts.some front rest last whole hit all) =
           let p = λ (h : Happening). ends_stretch device h.note.body in
@@ -241,9 +241,9 @@ module _ (s : Scenario) (t r : ℕ) (ms more : List Happening) (recent : (x : Ha
         omega (arith, there),
         elim (same_points at device) [
           | inr none ↦ absurd (no_cluster (observation_window s.network) c.clusters c.cluster
-              (subst (λ (ps : List Point). AreClusters (observation_window s.network) ps c.clusters) none c.are) c.there)
+              (subst (λ ps. AreClusters (observation_window s.network) ps c.clusters) none c.are) c.there)
           | inl same ↦
-              (let one = all.2 c.clusters (subst (λ (ps : List Point). AreClusters (observation_window s.network) ps c.clusters) same c.are) in
+              (let one = all.2 c.clusters (subst (λ ps. AreClusters (observation_window s.network) ps c.clusters) same c.are) in
               let heavy = in_total w all.0 c.cluster (subst (IsIn c.cluster) one (contained c.clusters c.cluster c.there)) in
               let within = in_sum (clusters_at s ms) (devices_below s.network) device.0 (omega (arith, there)) in
               omega (arith, heavy, within, ap sent_in c.is))
@@ -276,39 +276,40 @@ module _ (s : Scenario) (t r : ℕ) (ms more : List Happening) (recent : (x : Ha
       → IsCaused s (ms ++ more) time body → IsSized (size_of (rank body)) limit (key members body)
   fits time (notes.Event line what) members some at of shows c = (event time line what c, tt)
   fits time (notes.Arrived device link cause clock) members some at of shows c =
-      arrived device link cause clock (sym of) (subst (λ (u : ℕ). IsArrivedRecord s (ms ++ more) device u link cause clock) at c)
+      arrived device link cause clock (sym of) (subst (λ u. IsArrivedRecord s (ms ++ more) device u link cause clock) at c)
   fits time (notes.Permanent device link cause point verdict) members some at of shows c =
-      let there = subst (λ (u : ℕ). BecomesPermanent s (ms ++ more) device u link cause point (ripe_as verdict)) at c in
+      let there = subst (λ u. BecomesPermanent s (ms ++ more) device u link cause point (ripe_as verdict)) at c in
       let x = permanent device link cause point _ (λ e. omega (arith, e, of)) there in
-      (x.0, (x.1.0, (subst (λ (n : ℕ). n < limit) (sym shows) x.1.1.0, x.1.1.1)))
+      (x.0, (x.1.0, (subst (λ n. n < limit) (sym shows) x.1.1.0, x.1.1.1)))
   fits time (notes.Compressed device opened emitted cycle members_of verdict) members some at of shows c =
       compressed_sized device opened emitted cycle members_of verdict (sym of)
       (subst (λ (u : ℕ). Emits s (ms ++ more) device u (record { opened = opened; at = emitted; cycle = cycle; members = members_of }) verdict) at c)
-  fits time (notes.Sent device cycle) members some at of shows c = sent device cycle some (subst (λ (u : ℕ). Sends s (ms ++ more) device u cycle) at c)
+  fits time (notes.Sent device cycle) members some at of shows c = sent device cycle some (subst (λ u. Sends s (ms ++ more) device u cycle) at c)
   fits time (notes.Corrected device cycle by adjustment) members some at of shows c =
-      (device_known device cycle (subst (λ (u : ℕ). ComesToCorrection s (ms ++ more) device u cycle (Corrected by)) at c.corrected).next, tt)
+      (device_known device cycle (subst (λ u. ComesToCorrection s (ms ++ more) device u cycle (Corrected by)) at c.corrected).next, tt)
   fits time (notes.State device now cause why) members some at of shows c =
-      state device now cause why (sym of) (subst (λ (u : ℕ). ChangesState s (ms ++ more) device u now cause why) at c)
+      state device now cause why (sym of) (subst (λ u. ChangesState s (ms ++ more) device u now cause why) at c)
   fits time (notes.Left device link cause clock) members some at of shows c =
-      left device link cause _ (omega (arith, of)) (subst (λ (u : ℕ). Departs s (ms ++ more) device u link cause (leaves clock)) at c)
+      left device link cause _ (omega (arith, of)) (subst (λ u. Departs s (ms ++ more) device u link cause (leaves clock)) at c)
   fits time (notes.Lost device link cause) members some at of shows c =
-      lost device link cause (sym of) some (subst (λ (u : ℕ). IsLost s (ms ++ more) device u link cause) at c)
+      lost device link cause (sym of) some (subst (λ u. IsLost s (ms ++ more) device u link cause) at c)
   fits time (notes.TtSent device link cause vl cycle) members some at of shows c =
-      let x = dispatched device link cause vl cycle some (subst (λ (u : ℕ). IsDispatchedOn s (ms ++ more) device u link cause vl cycle) at c).dispatches in
+      let x = dispatched device link cause vl cycle some (subst (λ u. IsDispatchedOn s (ms ++ more) device u link cause vl cycle) at c).dispatches in
       (x.device_below, (x.link_below, (x.cause_below, (x.vl_below, (x.cycle_below, tt)))))
   fits time (notes.Accepted device link cause vl cycle) members some at of shows c =
       arrives device link cause _ (λ e. omega (arith, e, of)) (λ e. omega (arith, e, of)) (λ e. omega (arith, e, of))
-      (subst (λ (u : ℕ). ArrivesAs s (ms ++ more) device u link cause (arrivals.Accepted vl cycle)) at c)
+      (subst (λ u. ArrivesAs s (ms ++ more) device u link cause (arrivals.Accepted vl cycle)) at c)
   fits time (notes.Delivered device link cause vl cycle) members some at of shows c =
       arrives device link cause _ (λ e. omega (arith, e, of)) (λ e. omega (arith, e, of)) (λ e. omega (arith, e, of))
-      (subst (λ (u : ℕ). ArrivesAs s (ms ++ more) device u link cause (arrivals.Delivered vl cycle)) at c)
+      (subst (λ u. ArrivesAs s (ms ++ more) device u link cause (arrivals.Delivered vl cycle)) at c)
   fits time (notes.Dropped device link cause reason) members some at of shows c =
-      dropped device link cause reason (sym of) (subst (λ (u : ℕ). IsDropped s (ms ++ more) device u link cause reason) at c)
+      dropped device link cause reason (sym of) (subst (λ u. IsDropped s (ms ++ more) device u link cause reason) at c)
   fits time (notes.Clock device reading adjustment now) members some at of shows c = (clock time device reading adjustment now c, tt)
 
 -- the cycle of a frame that is dispatched is below the bound of the records
-pub cycle_of_dispatch : (s : Scenario) (t : ℕ) (hs : List Happening) (device : DeviceId) (link : LinkId) (cause : ℕ) (vl : VlId) (cycle : ℕ)
-    → 1 ≤ amount s.network.cycle → Dispatches s hs device t link cause vl cycle → cycle < bound s t hs
-cycle_of_dispatch s t hs device link cause vl cycle some d =
+pub cycle_of_dispatch : {s : Scenario} {t : ℕ} {hs : List Happening} {device : DeviceId} {link : LinkId} {cause : ℕ}
+    {vl : VlId} {cycle : ℕ} → 1 ≤ amount s.network.cycle → Dispatches s hs device t link cause vl cycle
+    → cycle < bound s t hs
+cycle_of_dispatch {s} {t} {hs} {device} {link} {cause} {vl} {cycle} some d =
     (dispatched s t 0 hs [] (λ x i. absurd i) device link cause vl cycle some
-    (subst (λ (gs : List Happening). Dispatches s gs device t link cause vl cycle) (sym (append-nil hs)) d)).cycle_below
+    (subst (λ gs. Dispatches s gs device t link cause vl cycle) (sym (append-nil hs)) d)).cycle_below

@@ -42,7 +42,7 @@ module _ (s : Scenario) (hs : List Happening) (device : DeviceId) (t : ℕ) (lin
   )
 
   put_by : (g : Happening) → numbered hs cause ≡ Some g → (h : HasArrival s hs device t link cause) → Arrives s g device link t h.1.signal
-  put_by g e h = subst (λ (x : Happening). Arrives s x device link t h.1.signal) (same_some (numbered hs cause) h.1.putting g h.1.there e) h.1.arrives
+  put_by g e h = subst (λ x. Arrives s x device link t h.1.signal) (same_some (numbered hs cause) h.1.putting g h.1.there e) h.1.arrives
 
   there_launch : (g : Happening) → numbered hs cause ≡ Some g → (l : Launch) → launched s g (time_of g) g.note.body ≡ Some l
       → HasArrival s hs device t link cause → GoesThere s g device t link l
@@ -78,23 +78,24 @@ HasArrived s hs t d l cause = (clock : ℕ) × IsArrivedRecord s hs (record { 0 
 abbrev IsTakenAs : Scenario → List Happening → ℕ → ℕ → ℕ → ℕ → Arrival → Type 0
 IsTakenAs s hs t d l cause is = ArrivesAs s hs (record { 0 = d }) t (record { 0 = l }) cause is
 
--- an arrival at which a frame is taken
-waits_or_passes : (s : Scenario) (hs : List Happening) (t d l cause : ℕ) → HasArrived s hs t d l cause
-    → HasArrival s hs (record { 0 = d }) t (record { 0 = l }) cause
-waits_or_passes s hs t d l cause h =
-    elim h.1.taken [
-      | inl a ↦ (arrivals.Waits h.1.frame h.1.point, a)
-      | inr (inl a) ↦ (arrivals.Passes h.1.frame h.1.way, a)
-      | inr (inr a) ↦ (arrivals.PassesAndWaits h.1.frame h.1.way h.1.point, a)
-    ]
+module _ (s : Scenario) (hs : List Happening) (t d l cause : ℕ) where
+  -- an arrival at which a frame is taken
+  waits_or_passes : HasArrived s hs t d l cause → HasArrival s hs (record { 0 = d }) t (record { 0 = l }) cause
+  waits_or_passes h =
+      elim h.1.taken [
+        | inl a ↦ (arrivals.Waits h.1.frame h.1.point, a)
+        | inr (inl a) ↦ (arrivals.Passes h.1.frame h.1.way, a)
+        | inr (inr a) ↦ (arrivals.PassesAndWaits h.1.frame h.1.way h.1.point, a)
+      ]
 
-arrived_by : (s : Scenario) (hs : List Happening) (t d l cause : ℕ) (is : Arrival) → IsTakenAs s hs t d l cause is → IsDecided (HasArrived s hs t d l cause)
-arrived_by s hs t d l cause (arrivals.Waits frame point) a = inl (frame.clock, record { frame = frame; point = point; way = Up; taken = inl a; shows = refl })
-arrived_by s hs t d l cause (arrivals.Passes frame way) a =
-    inl (frame.clock, record { frame = frame; point = units_of 0; way = way; taken = inr (inl a); shows = refl })
-arrived_by s hs t d l cause (arrivals.PassesAndWaits frame way point) a =
-    inl (frame.clock, record { frame = frame; point = point; way = way; taken = inr (inr a); shows = refl })
-arrived_by s hs t d l cause other a = grind (arith, same_arrival)
+  arrived_by : (is : Arrival) → IsTakenAs s hs t d l cause is → IsDecided (HasArrived s hs t d l cause)
+  arrived_by (arrivals.Waits frame point) a =
+      inl (frame.clock, record { frame = frame; point = point; way = Up; taken = inl a; shows = refl })
+  arrived_by (arrivals.Passes frame way) a =
+      inl (frame.clock, record { frame = frame; point = units_of 0; way = way; taken = inr (inl a); shows = refl })
+  arrived_by (arrivals.PassesAndWaits frame way point) a =
+      inl (frame.clock, record { frame = frame; point = point; way = way; taken = inr (inr a); shows = refl })
+  arrived_by other a = grind (arith, same_arrival)
 
 pub arrived_decided : (s : Scenario) (hs : List Happening) (t : ℕ) (ks : List ℕ) → IsDecided (HasCaused s hs t 2 ks)
 arrived_decided s hs t ks =
@@ -111,15 +112,17 @@ arrived_decided s hs t ks =
 abbrev HasAccepted : Scenario → List Happening → ℕ → ℕ → ℕ → ℕ → Type 0
 HasAccepted s hs t d l cause = (vl : VlId) × (cycle : ℕ) × IsTakenAs s hs t d l cause (arrivals.Accepted vl cycle)
 
-accepted_by : (s : Scenario) (hs : List Happening) (t d l cause : ℕ) (is : Arrival) → IsTakenAs s hs t d l cause is → IsDecided (HasAccepted s hs t d l cause)
-accepted_by s hs t d l cause (arrivals.Accepted vl cycle) a = inl (vl, cycle, a)
-accepted_by s hs t d l cause other a =
+accepted_by : {s : Scenario} {hs : List Happening} {t : ℕ} (d l : ℕ) {cause : ℕ} (is : Arrival)
+    → IsTakenAs s hs t d l cause is → IsDecided (HasAccepted s hs t d l cause)
+accepted_by d l (arrivals.Accepted vl cycle) a = inl (vl, cycle, a)
+accepted_by d l other a =
     inr (λ h. let one = same_arrival a h.2 in cc)
 
 pub accepted_decided : (s : Scenario) (hs : List Happening) (t : ℕ) (ks : List ℕ) → IsDecided (HasCaused s hs t 11 ks)
 accepted_decided s hs t ks =
     by_three s hs t 11 (HasAccepted s hs t) (λ d l cause h. caused s hs t (notes.Accepted (record { 0 = d }) (record { 0 = l }) cause h.0 h.1) h.2) says
-    (λ d l cause. decided_within (arrives s hs (record { 0 = d }) t (record { 0 = l }) cause) (λ any. accepted_by s hs t d l cause any.0 any.1)
+    (λ d l cause. decided_within (arrives s hs (record { 0 = d }) t (record { 0 = l }) cause)
+    (λ any. accepted_by d l any.0 any.1)
     (λ h. (arrivals.Accepted h.0 h.1, h.2))) ks
   where
     says : (body : NoteBody) → IsCaused s hs (units_of t) body → rank body ≡ 11 → OfThree (HasAccepted s hs t) (key (members_by s hs body) body)
@@ -131,15 +134,17 @@ accepted_decided s hs t ks =
 abbrev HasDelivered : Scenario → List Happening → ℕ → ℕ → ℕ → ℕ → Type 0
 HasDelivered s hs t d l cause = (vl : VlId) × (cycle : ℕ) × IsTakenAs s hs t d l cause (arrivals.Delivered vl cycle)
 
-delivered_by : (s : Scenario) (hs : List Happening) (t d l cause : ℕ) (is : Arrival) → IsTakenAs s hs t d l cause is → IsDecided (HasDelivered s hs t d l cause)
-delivered_by s hs t d l cause (arrivals.Delivered vl cycle) a = inl (vl, cycle, a)
-delivered_by s hs t d l cause other a =
+delivered_by : {s : Scenario} {hs : List Happening} {t : ℕ} (d l : ℕ) {cause : ℕ} (is : Arrival)
+    → IsTakenAs s hs t d l cause is → IsDecided (HasDelivered s hs t d l cause)
+delivered_by d l (arrivals.Delivered vl cycle) a = inl (vl, cycle, a)
+delivered_by d l other a =
     inr (λ h. let one = same_arrival a h.2 in cc)
 
 pub delivered_decided : (s : Scenario) (hs : List Happening) (t : ℕ) (ks : List ℕ) → IsDecided (HasCaused s hs t 12 ks)
 delivered_decided s hs t ks =
     by_three s hs t 12 (HasDelivered s hs t) (λ d l cause h. caused s hs t (notes.Delivered (record { 0 = d }) (record { 0 = l }) cause h.0 h.1) h.2) says
-    (λ d l cause. decided_within (arrives s hs (record { 0 = d }) t (record { 0 = l }) cause) (λ any. delivered_by s hs t d l cause any.0 any.1)
+    (λ d l cause. decided_within (arrives s hs (record { 0 = d }) t (record { 0 = l }) cause)
+    (λ any. delivered_by d l any.0 any.1)
     (λ h. (arrivals.Delivered h.0 h.1, h.2))) ks
   where
     says : (body : NoteBody) → IsCaused s hs (units_of t) body → rank body ≡ 12 → OfThree (HasDelivered s hs t) (key (members_by s hs body) body)

@@ -18,7 +18,7 @@ not_yet reading from v (suc n) =
       | inr fails ↦ inr (λ all. fails (λ x lt begun. all x (omega (arith, lt)) begun))
       | inl all ↦
           elim (at_most_int from (pos n)) [
-            | inr later ↦ inl (λ x lt begun. by x lt begun all (λ e. absurd (later (subst (λ (m : ℕ). from ≤ℤ pos m) e begun))))
+            | inr later ↦ inl (λ x lt begun. by x lt begun all (λ e. absurd (later (subst (λ m. from ≤ℤ pos m) e begun))))
             | inl begun ↦
                 elim (decided_less_int (pos (reading n)) v) [
                   | inl less ↦ inl (λ x lt b. by x lt b all (λ e. subst (λ (m : ℕ). pos (reading m) <ℤ v) (sym e) less))

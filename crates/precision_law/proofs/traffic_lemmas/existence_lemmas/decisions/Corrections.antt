@@ -47,7 +47,7 @@ module _ (s : Scenario) (hs : List Happening) (device : DeviceId) (t : ℕ) wher
   back cycle e h =
       let c = h.2 in
       let one = same_some (next_point (standing_before s hs device t)) h.0 cycle c.next e in
-      (subst (λ (n : ℕ). Reaches s hs device (correction_value s.network n) t) one c.reached, c.correct)
+      (subst (λ n. Reaches s hs device (correction_value s.network n) t) one c.reached, c.correct)
 
   pub point_decided : IsDecided (HasPoint s hs device t)
   point_decided =
@@ -60,23 +60,25 @@ module _ (s : Scenario) (hs : List Happening) (device : DeviceId) (t : ℕ) wher
   one_outcome n m v w a b =
       let heard = one_summary (heard_since s hs device t) b.summary a.summary b.heard a.heard in
       one_verdict (standing_before s hs device t) a.summary v w a.comes
-      (subst (λ (u : Summary). HasVerdict (standing_before s hs device t) u w) heard b.comes)
+      (subst (λ u. HasVerdict (standing_before s hs device t) u w) heard b.comes)
 
 -- ---- a correction
 
 abbrev HasCorrection : Scenario → List Happening → ℕ → ℕ → Type 0
 HasCorrection s hs t d = (cycle : ℕ) × (by : Units) × (adjustment : Units) × IsCorrectedRecord s hs (record { 0 = d }) t cycle by adjustment
 
-correction_by : (s : Scenario) (hs : List Happening) (t d cycle : ℕ) (verdict : Verdict) → ComesToCorrection s hs (record { 0 = d }) t cycle verdict
-    → IsDecided (HasCorrection s hs t d)
-correction_by s hs t d cycle (Corrected by) c =
+correction_by : {s : Scenario} {hs : List Happening} {t : ℕ} (d : ℕ) {cycle : ℕ} (verdict : Verdict)
+    → ComesToCorrection s hs (record { 0 = d }) t cycle verdict → IsDecided (HasCorrection s hs t d)
+correction_by {s} {hs} {t} d {cycle} (Corrected by) c =
     inl (cycle, by, record { 0 = (adjustment_before s hs (record { 0 = d }) t).0 +ℤ by.0 }, record { corrected = c; sum = refl })
-correction_by s hs t d cycle other c = inr (λ h. let one = one_outcome s hs (record { 0 = d }) t cycle h.0 _ (Corrected h.1) c h.3.corrected in cc)
+correction_by {s} {hs} {t} d {cycle} other c =
+    inr (λ h. let one = one_outcome s hs (record { 0 = d }) t cycle h.0 _ (Corrected h.1) c h.3.corrected in cc)
 
 pub corrected_decided : (s : Scenario) (hs : List Happening) (t : ℕ) (ks : List ℕ) → IsDecided (HasCaused s hs t 6 ks)
 corrected_decided s hs t ks =
     by_one s hs t 6 (HasCorrection s hs t) (λ d h. caused s hs t (notes.Corrected (record { 0 = d }) h.0 h.1 h.2) h.3) says
-    (λ d. decided_within (point_decided s hs (record { 0 = d }) t) (λ p. correction_by s hs t d p.0 p.1 p.2) (λ h. (h.0, Corrected h.1, h.3.corrected))) ks
+    (λ d. decided_within (point_decided s hs (record { 0 = d }) t) (λ p. correction_by d p.1 p.2)
+    (λ h. (h.0, Corrected h.1, h.3.corrected))) ks
   where
     says : (body : NoteBody) → IsCaused s hs (units_of t) body → rank body ≡ 6 → OfOne (HasCorrection s hs t) (key (members_by s hs body) body)
     says (notes.Corrected device cycle by adjustment) is ranked = (cycle, by, adjustment, is)

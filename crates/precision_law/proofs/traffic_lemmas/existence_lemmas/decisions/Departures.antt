@@ -12,11 +12,12 @@ use Rattle.run_law.specs.declared.note.NoteBody.TheVariants as notes
 
 -- ---- what gives a frame to a link
 
-child : (network : Network) (device : DeviceId) (link : LinkId) → IsDecided (IsChildOf network device link)
-child network device link = decided_some (link_at network link) (λ l. l.child ≡ device) (λ l. same_device l.child device)
+module _ (network : Network) (device : DeviceId) (link : LinkId) where
+  child : IsDecided (IsChildOf network device link)
+  child = decided_some (link_at network link) (λ l. l.child ≡ device) (λ l. same_device l.child device)
 
-parent : (network : Network) (device : DeviceId) (link : LinkId) → IsDecided (IsParentOf network device link)
-parent network device link = decided_some (link_at network link) (λ l. l.parent ≡ device) (λ l. same_device l.parent device)
+  parent : IsDecided (IsParentOf network device link)
+  parent = decided_some (link_at network link) (λ l. l.parent ≡ device) (λ l. same_device l.parent device)
 
 passes : (network : Network) (device : DeviceId) (by link : LinkId) → IsDecided (Passes network device by link)
 passes network device by link = grind (arith, decided_by, decided_and, decided_true, decided_or, parent, child)
@@ -58,7 +59,7 @@ module _ (s : Scenario) (hs : List Happening) (device : DeviceId) (t : ℕ) (lin
 
   back : (g : Happening) → numbered hs cause ≡ Some g → HasDeparture s hs device t link cause → LeavesThen s g device t link
   back g e h =
-      subst (λ (x : Happening). LeavesThen s x device t link) (same_some (numbered hs cause) h.1.giving g h.1.there e)
+      subst (λ x. LeavesThen s x device t link) (same_some (numbered hs cause) h.1.giving g h.1.there e)
       (h.1.gives, (h.1.held, h.1.correct))
 
   framed : (g : Happening) → numbered hs cause ≡ Some g → HasDeparture s hs device t link cause → (frame : Pcf) × (g.frame ≡ Some frame)
@@ -76,16 +77,17 @@ module _ (s : Scenario) (hs : List Happening) (device : DeviceId) (t : ℕ) (lin
 abbrev HasLeft : Scenario → List Happening → ℕ → ℕ → ℕ → ℕ → Type 0
 HasLeft s hs t d l cause = (clock : ℕ) × Departs s hs (record { 0 = d }) t (record { 0 = l }) cause (leaves clock)
 
-left_by : (s : Scenario) (hs : List Happening) (t d l cause : ℕ) (is : Departure) → Departs s hs (record { 0 = d }) t (record { 0 = l }) cause is
-    → IsDecided (HasLeft s hs t d l cause)
-left_by s hs t d l cause (leaves clock) a = inl (clock, a)
-left_by s hs t d l cause other a =
+left_by : {s : Scenario} {hs : List Happening} {t : ℕ} (d l : ℕ) {cause : ℕ} (is : Departure)
+    → Departs s hs (record { 0 = d }) t (record { 0 = l }) cause is → IsDecided (HasLeft s hs t d l cause)
+left_by d l (leaves clock) a = inl (clock, a)
+left_by {s} {hs} {t} d l {cause} other a =
     inr (λ h. let one = same_departure s hs t (record { 0 = d }) (record { 0 = l }) cause a h.1 in cc)
 
 pub left_decided : (s : Scenario) (hs : List Happening) (t : ℕ) (ks : List ℕ) → IsDecided (HasCaused s hs t 8 ks)
 left_decided s hs t ks =
     by_three s hs t 8 (HasLeft s hs t) (λ d l cause h. caused s hs t (notes.Left (record { 0 = d }) (record { 0 = l }) cause h.0) h.1) says
-    (λ d l cause. decided_within (departs s hs (record { 0 = d }) t (record { 0 = l }) cause) (λ any. left_by s hs t d l cause any.0 any.1)
+    (λ d l cause. decided_within (departs s hs (record { 0 = d }) t (record { 0 = l }) cause)
+    (λ any. left_by d l any.0 any.1)
     (λ h. (leaves h.0, h.1))) ks
   where
     says : (body : NoteBody) → IsCaused s hs (units_of t) body → rank body ≡ 8 → OfThree (HasLeft s hs t) (key (members_by s hs body) body)
@@ -94,22 +96,22 @@ left_decided s hs t ks =
 
 -- ---- a frame ends at its leaving
 
-pub old_decided : (s : Scenario) (hs : List Happening) (device : DeviceId) (t : ℕ) (link : LinkId) (cause : ℕ)
-    → IsDecided (Departs s hs device t link cause too_old)
-old_decided s hs device t link cause =
-    decided_within (departs s hs device t link cause) (λ any. by any.0 any.1) (λ d. (too_old, d))
-  where
-    by : (is : Departure) → Departs s hs device t link cause is → IsDecided (Departs s hs device t link cause too_old)
-    by too_old a = inl a
-    by (leaves clock) a = inr (λ d. let one = same_departure s hs t device link cause a d in cc)
-    by on_cut_way a = inr (λ d. let one = same_departure s hs t device link cause a d in cc)
+module _ (s : Scenario) (hs : List Happening) (device : DeviceId) (t : ℕ) (link : LinkId) (cause : ℕ) where
+  pub old_decided : IsDecided (Departs s hs device t link cause too_old)
+  old_decided =
+      decided_within (departs s hs device t link cause) (λ any. by any.0 any.1) (λ d. (too_old, d))
+    where
+      by : (is : Departure) → Departs s hs device t link cause is → IsDecided (Departs s hs device t link cause too_old)
+      by too_old a = inl a
+      by (leaves clock) a = inr (λ d. let one = same_departure s hs t device link cause a d in cc)
+      by on_cut_way a = inr (λ d. let one = same_departure s hs t device link cause a d in cc)
 
-pub cut_decided : (s : Scenario) (hs : List Happening) (device : DeviceId) (t : ℕ) (link : LinkId) (cause : ℕ)
-    → IsDecided (Departs s hs device t link cause on_cut_way)
-cut_decided s hs device t link cause =
-    decided_within (departs s hs device t link cause) (λ any. by any.0 any.1) (λ d. (on_cut_way, d))
-  where
-    by : (is : Departure) → Departs s hs device t link cause is → IsDecided (Departs s hs device t link cause on_cut_way)
-    by on_cut_way a = inl a
-    by (leaves clock) a = inr (λ d. let one = same_departure s hs t device link cause a d in cc)
-    by too_old a = inr (λ d. let one = same_departure s hs t device link cause a d in cc)
+  pub cut_decided : IsDecided (Departs s hs device t link cause on_cut_way)
+  cut_decided =
+      decided_within (departs s hs device t link cause) (λ any. by any.0 any.1) (λ d. (on_cut_way, d))
+    where
+      by : (is : Departure) → Departs s hs device t link cause is → IsDecided
+          (Departs s hs device t link cause on_cut_way)
+      by on_cut_way a = inl a
+      by (leaves clock) a = inr (λ d. let one = same_departure s hs t device link cause a d in cc)
+      by too_old a = inr (λ d. let one = same_departure s hs t device link cause a d in cc)

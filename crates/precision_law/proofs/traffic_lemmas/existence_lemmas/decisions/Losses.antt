@@ -72,7 +72,7 @@ module _ (s : Scenario) (hs : List Happening) (device : DeviceId) (t : ℕ) (lin
   dispatch_decided : 1 ≤ amount s.network.cycle → IsDecided HasDispatch
   dispatch_decided some =
       decided_by (λ (h : (v : ℕ) × (v < length s.network.vl) × IsDispatchedFor v). (record { 0 = h.0 }, h.2.0, h.2.2))
-      (λ h. (h.0.0, vl_within h.0 h.1 h.2, (h.1, cycle_of_dispatch s t hs device link cause h.0 h.1 some h.2, h.2)))
+      (λ h. (h.0.0, vl_within h.0 h.1 h.2, (h.1, cycle_of_dispatch some h.2, h.2)))
       (decided_below IsDispatchedFor dispatched_for (length s.network.vl))
 
   lost : 1 ≤ amount s.network.cycle → IsDecided (IsLost s hs device t link cause)
@@ -105,14 +105,15 @@ HasDrop s hs t d l cause = (reason : Reason) × IsDropped s hs (record { 0 = d }
 abbrev IsRefused : Scenario → List Happening → DeviceId → ℕ → LinkId → ℕ → Type 0
 IsRefused s hs device t link cause = (reason : Reason) × ArrivesAs s hs device t link cause (arrivals.Dropped reason)
 
-refused_by : (s : Scenario) (hs : List Happening) (device : DeviceId) (t : ℕ) (link : LinkId) (cause : ℕ) (is : Arrival)
-    → ArrivesAs s hs device t link cause is → IsDecided (IsRefused s hs device t link cause)
-refused_by s hs device t link cause (arrivals.Dropped reason) a = inl (reason, a)
-refused_by s hs device t link cause other a = inr (λ h. let one = same_arrival a h.1 in cc)
+module _ (s : Scenario) (hs : List Happening) (device : DeviceId) (t : ℕ) (link : LinkId) (cause : ℕ) where
+  refused_by : (is : Arrival) → ArrivesAs s hs device t link cause is → IsDecided (IsRefused s hs device t link cause)
+  refused_by (arrivals.Dropped reason) a = inl (reason, a)
+  refused_by other a = inr (λ h. let one = same_arrival a h.1 in cc)
 
-refused : (s : Scenario) (hs : List Happening) (device : DeviceId) (t : ℕ) (link : LinkId) (cause : ℕ) → IsDecided (IsRefused s hs device t link cause)
-refused s hs device t link cause =
-    decided_within (arrives s hs device t link cause) (λ any. refused_by s hs device t link cause any.0 any.1) (λ h. (arrivals.Dropped h.0, h.1))
+  refused : IsDecided (IsRefused s hs device t link cause)
+  refused =
+      decided_within (arrives s hs device t link cause) (λ any. refused_by any.0 any.1)
+      (λ h. (arrivals.Dropped h.0, h.1))
 
 -- a frame ends at its arrival, when it is permanent, or at its leaving
 abbrev IsEnded : Scenario → List Happening → ℕ → ℕ → ℕ → ℕ → Type 0

@@ -1,5 +1,5 @@
 -- Decisions: whether the record of a frame that is permanent is due, and what becomes of the frame.
-use Rattle.{drift_clock.specs.Reach.IsReach, std.proofs.Common.{◌∙◌, ◌∷◌, ◌≡◌, List, Some, [], ap, arith, false, inl, inr, pos, refl, subst, sym, true, ℕ, ℤ}}
+use Rattle.{drift_clock.specs.Reach.IsReach, std.proofs.Common.{◌∙◌, ◌∷◌, ◌≡◌, List, Some, [], ap, arith, false, inl, inr, pos, refl, subst, sym, true, ℕ}}
 use Rattle.{drift_clock.specs.transparent.Points.point_of, net_plan.specs.declared.ids.DeviceId.DeviceId, run_law.specs.control.Collections.points_of}
 use Rattle.{net_plan.specs.declared.ids.LinkId.LinkId, tte_units.specs.{Amount.{amount, units_of}, declared.{frames.pcf.Pcf.Pcf, units.Units.Units}}}
 use Rattle.precision_law.proofs.traffic_lemmas.existence_lemmas.decisions.{Clocks.reach_decided, Places.{HasCaused, OfFive, by_five, members_by}}
@@ -97,8 +97,8 @@ module _ (s : Scenario) (hs : List Happening) (device : DeviceId) (t : ℕ) (lin
       let clocks : p.clock ≡ a.clock = cc in
       let value : h.0.0 ≡ (point_from s g device a.clock).0 =
       p.at_point ∙ ap (λ (x : Happening). (point_from s x device p.clock).0) one ∙ ap (λ (c : ℕ). (point_from s g device c).0) clocks in
-      let from = subst (λ (x : Happening). IsReach (s.reading device) (pos (time_of x)) h.0.0 (pos t)) one p.reached in
-      (p.waits, (subst (λ (v : ℤ). IsReach (s.reading device) (pos (time_of g)) v (pos t)) value from, p.correct))
+      let from = subst (λ x. IsReach (s.reading device) (pos (time_of x)) h.0.0 (pos t)) one p.reached in
+      (p.waits, (subst (λ v. IsReach (s.reading device) (pos (time_of g)) v (pos t)) value from, p.correct))
 
   is_ready : (g : Happening) (clock : ℕ) → IsDecided (IsReady s g device t link clock)
   is_ready g clock =
@@ -179,13 +179,14 @@ permanent_decided s hs t ks =
 abbrev pub HasDropped : Scenario → List Happening → DeviceId → ℕ → LinkId → ℕ → Type 0
 HasDropped s hs device t link cause = (reason : Reason) × (point : Units) × BecomesPermanent s hs device t link cause point (ripe.Dropped reason)
 
-dropped_by : (s : Scenario) (hs : List Happening) (device : DeviceId) (t : ℕ) (link : LinkId) (cause : ℕ) (point : Units) (is : Ripe)
-    → BecomesPermanent s hs device t link cause point is → IsDecided (HasDropped s hs device t link cause)
-dropped_by s hs device t link cause point (ripe.Dropped reason) b = inl (reason, point, b)
-dropped_by s hs device t link cause point other b =
-    inr (λ h. let one = same_ripening s hs t device link cause b h.2 in cc)
+module _ (s : Scenario) (hs : List Happening) (device : DeviceId) (t : ℕ) (link : LinkId) (cause : ℕ) where
+  dropped_by : {point : Units} (is : Ripe) → BecomesPermanent s hs device t link cause point is
+      → IsDecided (HasDropped s hs device t link cause)
+  dropped_by {point} (ripe.Dropped reason) b = inl (reason, point, b)
+  dropped_by other b =
+      inr (λ h. let one = same_ripening s hs t device link cause b h.2 in cc)
 
-pub dropped_decided : (s : Scenario) (hs : List Happening) (device : DeviceId) (t : ℕ) (link : LinkId) (cause : ℕ)
-    → IsDecided (HasDropped s hs device t link cause)
-dropped_decided s hs device t link cause =
-    decided_within (outcome_decided s hs device t link cause) (λ r. dropped_by s hs device t link cause r.0 r.1 r.2) (λ h. (h.1, ripe.Dropped h.0, h.2))
+  pub dropped_decided : IsDecided (HasDropped s hs device t link cause)
+  dropped_decided =
+      decided_within (outcome_decided s hs device t link cause) (λ r. dropped_by r.1 r.2)
+      (λ h. (h.1, ripe.Dropped h.0, h.2))

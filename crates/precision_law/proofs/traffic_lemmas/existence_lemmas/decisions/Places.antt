@@ -2,7 +2,7 @@
 use Rattle.{precision_law.proofs.traffic_lemmas.existence_lemmas.{Sweep.HasDue, decisions.Values.decided_in}, run_law.specs.runs.DueRecords.{IsCaused, IsDue}}
 use Rattle.run_law.{proofs.scenario.Decisions.{IsDecided, decided_and, decided_by, decided_same}, specs.declared.note.{Note.Note, NoteBody.NoteBody}}
 use Rattle.run_law.specs.records.{Causes.IsOfThisTime, Happenings.{Happening, frame_by, happening, numbered, time_of}, Ranks.{key, members_in, place_of, rank}}
-use Rattle.{run_law.specs.scenario.Scenarios.Scenario, tte_units.{proofs.Amounts.units_are, specs.{Amount.units_of, declared.units.Units.Units}}}
+use Rattle.{run_law.specs.scenario.Scenarios.Scenario, tte_units.{proofs.Amounts.units_are, specs.Amount.units_of}}
 use Rattle.{std.proofs.Common.{◌+◌, ◌∙◌, ◌∷◌, ◌≡◌, List, Some, [], ap, arith, inr, length, refl, subst, sym, ℕ}, tte_units.proofs.general_lemmas.Options.one}
 use Rattle.std.{proofs.lemmas.Int.ints, specs.Option.option_map_or}
 
@@ -27,8 +27,9 @@ caused s hs t body is = (body, record { caused = is; ranked = refl; keyed = refl
 
 -- ---- from bodies to records, and back
 
-due_there : (s : Scenario) (hs : List Happening) (t r : ℕ) (ks : List ℕ) → HasCaused s hs t r ks → HasDue place_of (IsDue s) hs (t ∷ r ∷ ks)
-due_there s hs t r ks has =
+due_there : {s : Scenario} {hs : List Happening} {t r : ℕ} {ks : List ℕ} → HasCaused s hs t r ks
+    → HasDue place_of (IsDue s) hs (t ∷ r ∷ ks)
+due_there {s} {hs} {t} {r} has =
     let body = has.0 in
     let note : Note = record { number = length hs + 1; time = units_of t; body = body } in (
       happening s.network hs note,
@@ -46,16 +47,17 @@ caused_there s hs t r ks has =
     let shows : members_in x ≡ members_by s hs x.note.body = ap members_in has.1.same in (
       x.note.body,
       record {
-        caused = subst (λ (u : Units). IsCaused s hs u x.note.body) (units_are x.note.time t has.1.begun at.0) has.1.cause;
+        caused = subst (λ u. IsCaused s hs u x.note.body) (units_are x.note.time t has.1.begun at.0) has.1.cause;
         ranked = at.1.0;
-        keyed = ap (λ (n : ℕ). key n x.note.body) (sym shows) ∙ at.1.1;
+        keyed = ap (λ n. key n x.note.body) (sym shows) ∙ at.1.1;
       },
     )
 
 -- whether a record is due at a place, by what is caused there
 pub due_decided : (s : Scenario) (hs : List Happening) (t r : ℕ) (ks : List ℕ) → IsDecided (HasCaused s hs t r ks)
     → IsDecided (HasDue place_of (IsDue s) hs (t ∷ r ∷ ks))
-due_decided s hs t r ks is = decided_by (due_there s hs t r ks) (caused_there s hs t r ks) is
+due_decided s hs t r ks is =
+    decided_by (due_there {s = s} {hs = hs} {t = t} {r = r} {ks = ks}) (caused_there s hs t r ks) is
 
 -- ---- a rank, by what the keys of its records say
 
@@ -144,4 +146,4 @@ cause_decided hs t cause Q each =
     there g e h = (g, record { there = e; same_time = h.0 }, h.1)
 
     back : (g : Happening) → numbered hs cause ≡ Some g → (h : Happening) × IsOfThisTime hs t cause h × Q h → (time_of g ≡ t) × Q g
-    back g e h = subst (λ (x : Happening). (time_of x ≡ t) × Q x) (one (numbered hs cause) h.0 g h.1.there e) (h.1.same_time, h.2)
+    back g e h = subst (λ x. (time_of x ≡ t) × Q x) (one (numbered hs cause) h.0 g h.1.there e) (h.1.same_time, h.2)

@@ -15,9 +15,9 @@ device_in : (d : Device) → IsNameText d.name → is_some d.member ≡ is_maste
     → is_some d.channel ≡ not (is_end_system d.role) → d.start ≡ Some (units_of 0) → IsDeviceInRange d
 device_in d name masters member switches start = grind (arith, within)
 
-link_in : (text : List ℕ) (child parent : ℕ) → IsNameText text → nat_le (child + 1) 9 ≡ true → nat_le (parent + 1) 9 ≡ true
-    → IsLinkInRange worked (link_of text child parent)
-link_in text child parent name few_child few_parent = grind (arith, leb-true, within)
+link_in : {text : List ℕ} (child parent : ℕ) → IsNameText text → nat_le (child + 1) 9 ≡ true
+    → nat_le (parent + 1) 9 ≡ true → IsLinkInRange worked (link_of text child parent)
+link_in child parent name few_child few_parent = grind (arith, leb-true, within)
 
 row_in : (link : ℕ) (way : Way) (offset : ℕ) → nat_le (link + 1) 12 ≡ true → nat_le offset (2 ^ 40) ≡ true → IsRowInRange worked (row_of link way offset)
 row_in link way offset few low =
@@ -72,29 +72,29 @@ worked_in_range = record {
     ),
   );
   links = all_each (IsLinkInRange worked) worked.link (
-    link_in (codes "m1_a") 0 5 (name_of (codes "m1_a") refl refl refl) refl refl,
+    link_in 0 5 (name_of (codes "m1_a") refl refl refl) refl refl,
     (
-      link_in (codes "m2_a") 1 5 (name_of (codes "m2_a") refl refl refl) refl refl,
+      link_in 1 5 (name_of (codes "m2_a") refl refl refl) refl refl,
       (
-        link_in (codes "m3_a") 2 5 (name_of (codes "m3_a") refl refl refl) refl refl,
+        link_in 2 5 (name_of (codes "m3_a") refl refl refl) refl refl,
         (
-          link_in (codes "m4_a") 3 5 (name_of (codes "m4_a") refl refl refl) refl refl,
+          link_in 3 5 (name_of (codes "m4_a") refl refl refl) refl refl,
           (
-            link_in (codes "c1_a") 4 5 (name_of (codes "c1_a") refl refl refl) refl refl,
+            link_in 4 5 (name_of (codes "c1_a") refl refl refl) refl refl,
             (
-              link_in (codes "ra_ca") 5 6 (name_of (codes "ra_ca") refl refl refl) refl refl,
+              link_in 5 6 (name_of (codes "ra_ca") refl refl refl) refl refl,
               (
-                link_in (codes "m1_b") 0 7 (name_of (codes "m1_b") refl refl refl) refl refl,
+                link_in 0 7 (name_of (codes "m1_b") refl refl refl) refl refl,
                 (
-                  link_in (codes "m2_b") 1 7 (name_of (codes "m2_b") refl refl refl) refl refl,
+                  link_in 1 7 (name_of (codes "m2_b") refl refl refl) refl refl,
                   (
-                    link_in (codes "m3_b") 2 7 (name_of (codes "m3_b") refl refl refl) refl refl,
+                    link_in 2 7 (name_of (codes "m3_b") refl refl refl) refl refl,
                     (
-                      link_in (codes "m4_b") 3 7 (name_of (codes "m4_b") refl refl refl) refl refl,
+                      link_in 3 7 (name_of (codes "m4_b") refl refl refl) refl refl,
                       (
-                        link_in (codes "c1_b") 4 7 (name_of (codes "c1_b") refl refl refl) refl refl,
+                        link_in 4 7 (name_of (codes "c1_b") refl refl refl) refl refl,
                         (
-                          link_in (codes "rb_cb") 7 8 (name_of (codes "rb_cb") refl refl refl) refl refl,
+                          link_in 7 8 (name_of (codes "rb_cb") refl refl refl) refl refl,
                           tt,
                         ),
                       ),

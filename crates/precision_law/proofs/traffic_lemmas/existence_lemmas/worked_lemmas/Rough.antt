@@ -50,9 +50,9 @@ break_within NotBroken v = absurd (let bad : events.Break (record { 0 = 3 }) ≡
 break_within NotOff v = absurd (let bad : events.Break (record { 0 = 3 }) ≡ events.On v.device = v.what in cc)
 
 -- before the cut no channel is the faulty one
-none_faulty : (channel : Channel) → IsFaulty worked (the_break ∷ []) channel → ⊥
-none_faulty channel (inl off) = no_off_switch channel off
-none_faulty channel (inr it) = grind (arith, last_of_one)
+none_faulty : {channel : Channel} → IsFaulty worked (the_break ∷ []) channel → ⊥
+none_faulty {channel} (inl off) = no_off_switch channel off
+none_faulty (inr it) = grind (arith, last_of_one)
 
 cut_within : IsWithinHypothesis worked (the_break ∷ []) the_cut
 cut_within Order v = grind (arith, last_of_one, ints)
@@ -60,7 +60,7 @@ cut_within Late v = let late : pos (2 ^ 20 * 131072000000) <ℤ pos 200000000000
 cut_within Rate v = absurd (let bad : events.Cut (record { 0 = 11 }) Up ≡ events.Rate v.device v.rate = v.what in cc)
 cut_within Wire v = absurd (let bad : events.Cut (record { 0 = 11 }) Up ≡ events.Wire v.link v.way v.delay = v.what in cc)
 cut_within Hold v = absurd (let bad : events.Cut (record { 0 = 11 }) Up ≡ events.Hold v.link v.way v.delay = v.what in cc)
-cut_within OtherChannel v = none_faulty v.faulty v.is_faulty
+cut_within OtherChannel v = none_faulty v.is_faulty
 cut_within NotMaster v = absurd (let bad : events.Cut (record { 0 = 11 }) Up ≡ events.Break v.device = v.breaks in cc)
 cut_within SecondBreak v = absurd (let bad : events.Cut (record { 0 = 11 }) Up ≡ events.Break v.device = v.breaks in cc)
 cut_within TooFewMasters v = absurd (let bad : events.Cut (record { 0 = 11 }) Up ≡ events.Break v.device = v.breaks in cc)
@@ -105,4 +105,5 @@ pub rough_day_lawful : IsLawful rough_day
 rough_day_lawful =
     lawful fresh_segment stepped_segment segment_reading
     (keeps_clock_laws fresh_segment stepped_segment segment_reading (λ c. c.grain) segment_count exact_steps)
-    (begins_at_zero fresh_segment stepped_segment segment_reading (λ c. c.grain) segment_count exact_steps) worked rough_events rough_day_under
+    (begins_at_zero fresh_segment stepped_segment segment_reading (λ c. c.grain) segment_count exact_steps)
+    rough_day_under

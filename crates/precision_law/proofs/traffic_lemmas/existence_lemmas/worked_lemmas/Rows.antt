@@ -1,5 +1,5 @@
 -- The worked network keeps the rules of its schedule.
-use Rattle.{net_plan.specs.{Places.IsEndSystem, declared.ids.VlId.VlId}, schedule_tables.specs.Windows.window_end, std.proofs.lemmas.Option.same_Some}
+use Rattle.{net_plan.specs.Places.IsEndSystem, schedule_tables.specs.Windows.window_end, std.proofs.lemmas.Option.same_Some}
 use Rattle.{net_plan.specs.declared.{ids.DeviceId.DeviceId, tables.{Row.Row, VirtualLink.VirtualLink}}, tte_units.specs.declared.frames.channel.Channel.Channel}
 use Rattle.{net_plan.specs.declared.ids.LinkId.LinkId, schedule_tables.specs.declared.entry.Entry.Entry, std.proofs.lemmas.List.Sums.count_by-le-length}
 use Rattle.{net_plan.specs.declared.tables.{Link.Link, Way.TheVariants.{Down, Up}}, schedule_tables.specs.Entries.{IsEntry, IsOnChannel, source_of, target_of}}
@@ -65,14 +65,15 @@ is_entry : (entry : Entry) (row : Row) (link : Link) → entry.row ≡ row → s
     → record { row = row; vl = the_vl; link = link } ≡ entry
 is_entry entry row link e vl by vl_is link_is = grind (arith, same_Some, slice_get)
 
-entry_at : (place : ℕ) (entry : Entry) → IsEntry worked place entry → slice_get the_entries place ≡ Some entry
-entry_at place entry is = grind (arith, at_place, slice_get, is_entry)
+entry_at : {place : ℕ} {entry : Entry} → IsEntry worked place entry → slice_get the_entries place ≡ Some entry
+entry_at is = grind (arith, at_place, slice_get, is_entry)
 
-entry_case : (P : ℕ → Entry → Type 0) → AllAt P the_entries → (place : ℕ) (entry : Entry) → IsEntry worked place entry → P place entry
-entry_case P all place entry is = at_place P the_entries all place entry (entry_at place entry is)
+entry_case : (P : ℕ → Entry → Type 0) → AllAt P the_entries → {place : ℕ} {entry : Entry}
+    → IsEntry worked place entry → P place entry
+entry_case P all {place} {entry} is = at_place P the_entries all place entry (entry_at is)
 
-entry_row : (place : ℕ) (entry : Entry) → IsEntry worked place entry → entry.row.vl ≡ record { 0 = 0 }
-entry_row place entry is = entry_case (λ k e. e.row.vl ≡ record { 0 = 0 }) (refl, (refl, (refl, (refl, tt)))) place entry is
+entry_row : {place : ℕ} {entry : Entry} → IsEntry worked place entry → entry.row.vl ≡ record { 0 = 0 }
+entry_row is = entry_case (λ k e. e.row.vl ≡ record { 0 = 0 }) (refl, (refl, (refl, (refl, tt)))) is
 
 is_first : IsEntry worked 0 first
 is_first = record { row = refl; vl = refl; link = refl }
@@ -116,8 +117,8 @@ has_source place entry is = grind (arith, entry_case, is_first, is_second)
 abbrev targets : ℕ → ℕ
 targets n = if n == 0 then 5 else (if n == 1 then 7 else 4)
 
-target_is : (place : ℕ) (entry : Entry) → IsEntry worked place entry → (target_of entry).0 ≡ targets place
-target_is place entry is = entry_case (λ k e. (target_of e).0 ≡ targets k) (refl, (refl, (refl, (refl, tt)))) place entry is
+target_is : {place : ℕ} {entry : Entry} → IsEntry worked place entry → (target_of entry).0 ≡ targets place
+target_is is = entry_case (λ k e. (target_of e).0 ≡ targets k) (refl, (refl, (refl, (refl, tt)))) is
 
 not_seven : (k : ℕ) → k < 1 → 7 ≡ targets k → ⊥
 not_seven zero lt e = let bad : ◌≡◌ {A = ℕ} 7 5 = e in cc
@@ -132,19 +133,20 @@ also_b : (channel : Channel) → Some A ≡ Some channel → Some B ≡ Some cha
 also_b channel a b = a ∙ sym b
 
 -- the fourth row comes by channel b, and the one before it into the client by channel a
-no_both : (k : ℕ) (earlier : Entry) (channel : Channel) → IsEntry worked k earlier → IsOnChannel worked channel earlier
-    → IsOnChannel worked channel fourth → k < 3 → 4 ≡ (target_of earlier).0 → ⊥
-no_both k earlier channel is on_earlier on lt same = grind (arith, entry_case, also_b)
+no_both : {k : ℕ} {earlier : Entry} (channel : Channel) → IsEntry worked k earlier
+    → IsOnChannel worked channel earlier → IsOnChannel worked channel fourth → k < 3 → 4 ≡ (target_of earlier).0 → ⊥
+no_both channel is on_earlier on lt same = grind (arith, entry_case, also_b)
 
 -- an entry whose target is a switch is one of the first two, and its target is another than that of the other
-switch_target : (k place : ℕ) (earlier entry : Entry) → k < place → IsEntry worked k earlier → IsEntry worked place entry → IsSwitch worked (target_of entry)
-    → target_of entry ≢ target_of earlier
-switch_target k place earlier entry lt is_earlier is switch = grind (arith, entry_case, target_is, not_seven)
+switch_target : {k place : ℕ} {earlier entry : Entry} → k < place → IsEntry worked k earlier
+    → IsEntry worked place entry → IsSwitch worked (target_of entry) → target_of entry ≢ target_of earlier
+switch_target lt is_earlier is switch = grind (arith, entry_case, target_is, not_seven)
 
 -- the rows into the client come by different channels
-client_rows : (k place : ℕ) (earlier entry : Entry) (channel : Channel) → k < place → IsEntry worked k earlier → IsEntry worked place entry
-    → IsEndSystem worked (target_of entry) → IsOnChannel worked channel earlier → IsOnChannel worked channel entry → target_of entry ≢ target_of earlier
-client_rows k place earlier entry channel lt is_earlier is ends on_earlier on = grind (arith, entry_case, target_is, not_four, no_both)
+client_rows : {k place : ℕ} {earlier entry : Entry} (channel : Channel) → k < place → IsEntry worked k earlier
+    → IsEntry worked place entry → IsEndSystem worked (target_of entry) → IsOnChannel worked channel earlier
+    → IsOnChannel worked channel entry → target_of entry ≢ target_of earlier
+client_rows channel lt is_earlier is ends on_earlier on = grind (arith, entry_case, target_is, not_four, no_both)
 
 pub enters_anew : (place : ℕ) → EntersAnew worked place
 enters_anew place = grind (arith, entry_case, switch_target, client_rows)
@@ -163,9 +165,9 @@ not_end : (n : ℕ) (device : DeviceId) → record { 0 = n } ≡ device → IsEn
 not_end n device same ends never = never (subst (IsEndSystem worked) (sym same) ends)
 
 -- an end system that a row enters is the client
-end_entered : (place : ℕ) (entry : Entry) (device : DeviceId) → IsEntry worked place entry → target_of entry ≡ device → IsEndSystem worked device
-    → device ≡ record { 0 = 4 }
-end_entered place entry device is target ends = grind (arith, entry_case, not_end)
+end_entered : {place : ℕ} {entry : Entry} (device : DeviceId) → IsEntry worked place entry → target_of entry ≡ device
+    → IsEndSystem worked device → device ≡ record { 0 = 4 }
+end_entered device is target ends = grind (arith, entry_case, not_end)
 
 pub both_channels : (place : ℕ) → GoesByBothChannels worked place
 both_channels place = record {
@@ -174,21 +176,23 @@ both_channels place = record {
       (λ n v. (channel : Channel) × (device : DeviceId) × IsEndSystem worked device × EntersOn worked (record { 0 = n }) channel device)
       (A, record { 0 = 4 }, refl, client_entered A) place vl at;
   same = λ device channel other ends it.
-      let is = end_entered it.place it.entry device it.is it.target ends in
-      let vl = sym (entry_row it.place it.entry it.is) ∙ it.same_vl in
-      subst (λ (v : VlId). EntersOn worked v other device) vl
+      let is = end_entered device it.is it.target ends in
+      let vl = sym (entry_row it.is) ∙ it.same_vl in
+      subst (λ v. EntersOn worked v other device) vl
       (subst (λ (d : DeviceId). EntersOn worked (record { 0 = 0 }) other d) (sym is) (client_entered other));
 }
 
 -- ---- in time, and few
 
 -- the window of a row into a switch ends before the rows that leave it
-early_window : (k : ℕ) (entering : Entry) → IsEntry worked k entering → (n : ℕ) → (target_of entering).0 ≡ n → 5 ≤ n → window_end worked entering < 28180480000
-early_window k entering is n same high = grind (arith, entry_case, leb-true)
+early_window : {k : ℕ} {entering : Entry} → IsEntry worked k entering → (n : ℕ) → (target_of entering).0 ≡ n → 5 ≤ n
+    → window_end worked entering < 28180480000
+early_window is n same high = grind (arith, entry_case, leb-true)
 
-window_before : (k place : ℕ) (entering entry : Entry) → IsEntry worked k entering → IsEntry worked place entry → source_of entry ≢ entry.vl.sender
-    → target_of entering ≡ source_of entry → window_end worked entering < amount entry.row.offset
-window_before k place entering entry is_entering is other same = grind (arith, entry_case, early_window, leb-true)
+window_before : {k place : ℕ} {entering entry : Entry} → IsEntry worked k entering → IsEntry worked place entry
+    → source_of entry ≢ entry.vl.sender → target_of entering ≡ source_of entry
+    → window_end worked entering < amount entry.row.offset
+window_before is_entering is other same = grind (arith, entry_case, early_window, leb-true)
 
 pub comes_in_time : (place : ℕ) → ComesInTime worked place
 comes_in_time place = grind (arith, entry_case, leb-true, window_before)

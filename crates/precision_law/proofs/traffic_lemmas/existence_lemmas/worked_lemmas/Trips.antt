@@ -63,17 +63,19 @@ low_jitter link = grind (arith, each_at_most, jitter_low)
 low_delay : (link : LinkId) → delay_of worked link ≤ 1344798720
 low_delay link = grind (arith, each_at_most, delay_low)
 
-pub delays_at_most : (c : Channel) (device : DeviceId) (links : List LinkId) → IsPath worked c device links → delay_on worked links ≤ 2 * 1344798720
-delays_at_most c device links path = sum_at_most (delay_of worked) 1344798720 low_delay links (at_most_two c device links path)
+module _ (c : Channel) (device : DeviceId) (links : List LinkId) (path : IsPath worked c device links) where
+  pub delays_at_most : delay_on worked links ≤ 2 * 1344798720
+  delays_at_most = sum_at_most (delay_of worked) 1344798720 low_delay links (at_most_two c device links path)
 
-jitters_at_most : (c : Channel) (device : DeviceId) (links : List LinkId) → IsPath worked c device links → jitter_on worked links ≤ 2 * 1310720
-jitters_at_most c device links path = sum_at_most (jitter_of worked) 1310720 low_jitter links (at_most_two c device links path)
+  jitters_at_most : jitter_on worked links ≤ 2 * 1310720
+  jitters_at_most = sum_at_most (jitter_of worked) 1310720 low_jitter links (at_most_two c device links path)
 
 -- ---- beta
 
-greatest_at_most : (measure : List LinkId → ℕ) (b m : ℕ) → ((c : Channel) (device : DeviceId) (links : List LinkId) → IsPath worked c device links
-    → measure links ≤ b) → IsGreatest (IsOfPath worked measure) m → m ≤ b
-greatest_at_most measure b m low g = grind arith
+greatest_at_most : (measure : List LinkId → ℕ) (b : ℕ) {m : ℕ}
+    → ((c : Channel) (device : DeviceId) (links : List LinkId) → IsPath worked c device links → measure links ≤ b)
+    → IsGreatest (IsOfPath worked measure) m → m ≤ b
+greatest_at_most measure b low g = grind arith
 
 -- beta is at most that of two links with the greatest jitter
 pub low_beta : (beta : ℕ) → IsBeta worked (pos beta) → beta ≤ 3276832
