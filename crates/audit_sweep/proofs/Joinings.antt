@@ -9,4 +9,5 @@ pub joins_integrating : (s : Scenario) (hs : List Happening) (device : DeviceId)
     → is_joined_by device h.note.body ≡ true → state_before s hs device (time_of h) ≡ states.Integrating
 joins_integrating s hs device h founded i e =
     let d : IsDueIn place_of (IsDue s) hs h = due_in place_of (IsDue s) hs h founded i in
-    sym (state_by s d.before hs device (time_of h) (earlier_in (IsDue s) hs h d)) ∙ joins_looking s d.before h.note.time device h.note.body e d.due.cause
+    sym (state_by s d.before hs device (time_of h) (earlier_in (IsDue s) d)) ∙ joins_looking s d.before h.note.time
+    device h.note.body e d.due.cause

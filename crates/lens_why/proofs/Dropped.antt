@@ -444,7 +444,7 @@ module _ (network : Network) (octets : List ℕ) (ns : List Note) (end : Units) 
       let p = parted_there of number h there in
       let f = split place_of (IsDue own) all (place_of h) of.run.founded in
       ap (λ es. shown_by own device (time_of h) es)
-      (ap (earlier (time_of h)) (sym p.are ∙ before_is_front all (place_of h) f)
+      (ap (earlier (time_of h)) (sym p.are ∙ before_is_front f)
       ∙ same_earlier (time_of h) (rank h.note.body ∷ key (members_in h) h.note.body) f)
 
   -- a frame that came beside its window is one of a row

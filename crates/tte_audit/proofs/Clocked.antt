@@ -100,7 +100,7 @@ clocked {network} ns named right =
     let least = range.grain.least in
     let some : 1 ≤ amount network.grain = omega (arith, ints, least) in
     let from_zero = begun_in network ns right in
-    let events = events_from network (events_of ns) range (within network ns right) (all_begun (events_of ns) from_zero) in
+    let events = events_from (events_of ns) range (within network ns right) (all_begun (events_of ns) from_zero) in
     record {
       range = range;
       begun = from_zero;

@@ -94,13 +94,13 @@ module _ (network : Network) (octets : List ℕ) where
       (subst (λ ns. IsUnfoundedAt place_of (IsDue (scenario_of network ns)) (behind_time h.1)
       (happenings network ns) n) same.lists h.3) in
       none_unsound place_of (IsDue (scenario_of network a.notes)) (behind_time a.time) (happenings network a.notes) n
-      (sound_of_run place_of (IsDue (scenario_of network a.notes)) (behind_time a.time) (happenings network a.notes)
+      (sound_of_run place_of (IsDue (scenario_of network a.notes))
       (audit_run a.notes a.time named a.events.right a.run)) found
   not_both (refusals.Lacking t) named of a h =
       let same = same_of named h.2 a.events in
       let lack = subst (λ e. IsFirstLackOf network a.notes e t) same.times
       (subst (λ ns. IsFirstLackOf network ns h.1 t) same.lists h.4) in
-      full_of_run place_of (IsDue (scenario_of network a.notes)) (behind_time a.time) (happenings network a.notes)
+      full_of_run place_of (IsDue (scenario_of network a.notes))
       (audit_run a.notes a.time named a.events.right a.run) lack.lack.missing lack.lack.lacking lack.lack.within
   not_both refusals.OutOfMemory named of a h = of
 

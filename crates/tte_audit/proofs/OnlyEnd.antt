@@ -32,7 +32,7 @@ pub ends_soon : {network : Network} (ns : List Note) (end : Units) → IsInRange
     → EndWith (events_of ns) end → amount end ≤ 2 ^ 60
 ends_soon {network} ns end range right ends =
     let may = may_there network ns ends.0 [] (end_at end) right ends.1 in
-    soon network ends.0 (end_at end) range may.1.within may.1.begun
+    soon ends.0 (end_at end) range may.1.within may.1.begun
 
 contains_last : (front : List Event) (event : Event) → Contains (front ++ event ∷ []) event
 contains_last [] event = in_head event []

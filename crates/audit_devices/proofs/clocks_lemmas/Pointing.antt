@@ -40,7 +40,7 @@ point_comes {s} {hs} {device} {t} {c} cycle heard found verdict p hears comes =
     record { next = p.next; reached = p.reached; correct = p.correct; summary = heard; heard = hears c p.next; comes = comes } in (
       λ same. subst (λ n. ComesToPoint s hs device t n verdict) same.0
           (subst (λ v. ComesToPoint s hs device t c v) same.1 made),
-      λ q. (some_same c cycle (next_point (standing_at s hs device t)) p.next q.next, same_verdict s hs t device c cycle found verdict made q),
+      λ q. (some_same c cycle (next_point (standing_at s hs device t)) p.next q.next, same_verdict made q),
     )
 
 -- what comes to a point has one

@@ -12,11 +12,12 @@ part-same xs more from count within =
     ap (take count) (drop-append-le from xs more (omega (arith, within)))
     ∙ take-append-le count (drop from xs) more (rw (length-drop from xs) (omega (arith, within)))
 
-pub counted-grown : (xs more : List ℤ) (k : KeptCluster) → IsCounted xs k → IsCounted (xs ++ more) k
-counted-grown xs more k is = record { some = is.some; within = rw (length-append xs more) (omega (arith, is.within)) }
+pub counted-grown : {xs : List ℤ} (more : List ℤ) {k : KeptCluster} → IsCounted xs k → IsCounted (xs ++ more) k
+counted-grown {xs} more is = record { some = is.some; within = rw (length-append xs more) (omega (arith, is.within)) }
 
-pub cluster-same : (xs more : List ℤ) (k : KeptCluster) → IsCounted xs k → cluster_kept (xs ++ more) k ≡ cluster_kept xs k
-cluster-same xs more k is =
+pub cluster-same : {xs : List ℤ} (more : List ℤ) {k : KeptCluster} → IsCounted xs k
+    → cluster_kept (xs ++ more) k ≡ cluster_kept xs k
+cluster-same {xs} more {k} is =
     ap (λ (points : List ℤ). record { opened = k.opened; end = k.end; cycle = k.cycle; points = points; members = k.members })
     (part-same xs more k.from k.count is.within)
 
@@ -24,7 +25,7 @@ pub clusters-same : (xs more : List ℤ) (ks : List KeptCluster) → AllByRecurs
     → map (cluster_kept (xs ++ more)) ks ≡ map (cluster_kept xs) ks
 clusters-same xs more [] all = refl
 clusters-same xs more (k ∷ ks) all =
-    ap (λ (c : Cluster). c ∷ map (cluster_kept (xs ++ more)) ks) (cluster-same xs more k all.0)
+    ap (λ (c : Cluster). c ∷ map (cluster_kept (xs ++ more)) ks) (cluster-same more all.0)
     ∙ ap (λ (cs : List Cluster). cluster_kept xs k ∷ cs) (clusters-same xs more ks all.1)
 
 all-take : {X : Type 0} (P : X → Type 0) (n : ℕ) (xs : List X) → AllByRecursion P xs → AllByRecursion P (take n xs)
@@ -40,48 +41,51 @@ all-drop P (suc n) [] all = tt
 all-drop P (suc n) (x ∷ xs) all = all-drop P n xs all.1
 
 -- each cluster of a gathering has its points in the history
-pub kept-counted : (h : History) (row : Row) → All (IsCounted h.counted) h.closed → HasRow h row → AllByRecursion (IsCounted h.counted) (kept_in h (Some row))
-kept-counted h row all has =
+pub kept-counted : {h : History} {row : Row} → All (IsCounted h.counted) h.closed → HasRow h row
+    → AllByRecursion (IsCounted h.counted) (kept_in h (Some row))
+kept-counted {h} {row} all has =
     all-push (IsCounted h.counted) (take row.count (drop row.from h.closed)) row.last
     (all-take (IsCounted h.counted) row.count (drop row.from h.closed)
     (all-drop (IsCounted h.counted) row.from h.closed (recursion_from_All (IsCounted h.counted) h.closed all))) has.last
 
 pub all-kept : (h : History) (r : Option Row) → All (IsCounted h.counted) h.closed → IfSome r (HasRow h) → AllByRecursion (IsCounted h.counted) (kept_in h r)
 all-kept h None all held = tt
-all-kept h (Some row) all held = kept-counted h row all held
+all-kept h (Some row) all held = kept-counted all held
 
-pub kept-same : (old new : History) (row : Row) → Grows old new → HasRow old row → kept_in new (Some row) ≡ kept_in old (Some row)
-kept-same old new row grows has =
-    ap (λ (ks : List KeptCluster). take row.count (drop row.from ks) ++ row.last ∷ []) grows.closed
-    ∙ ap (λ (ks : List KeptCluster). ks ++ row.last ∷ []) (part-same old.closed grows.later row.from row.count has.closed)
+module _ {old new : History} {row : Row} (grows : Grows old new) (has : HasRow old row) where
+  pub kept-same : kept_in new (Some row) ≡ kept_in old (Some row)
+  kept-same =
+      ap (λ (ks : List KeptCluster). take row.count (drop row.from ks) ++ row.last ∷ []) grows.closed
+      ∙ ap (λ (ks : List KeptCluster). ks ++ row.last ∷ [])
+      (part-same old.closed grows.later row.from row.count has.closed)
 
-pub has-grown : (old new : History) (row : Row) → Grows old new → HasRow old row → HasRow new row
-has-grown old new row grows has = grind (arith, length-append, counted-grown)
+  pub has-grown : HasRow new row
+  has-grown = grind (arith, length-append, counted-grown)
 
 -- the clusters of a gathering stay
-pub clusters-grown : (old new : History) (g : Gathering) → Grows old new → All (IsCounted old.counted) old.closed → IsHeld old g
-    → (clusters_in new g ≡ clusters_in old g) × IsHeld new g
-clusters-grown old new g grows all held = by_row g.row held
+pub clusters-grown : {old new : History} (g : Gathering) → Grows old new → All (IsCounted old.counted) old.closed
+    → IsHeld old g → (clusters_in new g ≡ clusters_in old g) × IsHeld new g
+clusters-grown {old} {new} g grows all held = by_row g.row held
   where
     by_row : (r : Option Row) → IfSome r (HasRow old) → (map (cluster_kept new.counted) (kept_in new r) ≡ map (cluster_kept old.counted) (kept_in old r))
         × IfSome r (HasRow new)
     by_row None held = (refl, tt)
     by_row (Some row) held = (
-      ap (λ (ks : List KeptCluster). map (cluster_kept new.counted) ks) (kept-same old new row grows held)
-          ∙ ap (λ (xs : List ℤ). map (cluster_kept xs) (kept_in old (Some row))) grows.counted
-          ∙ clusters-same old.counted grows.later_points (kept_in old (Some row)) (kept-counted old row all held),
-      has-grown old new row grows held,
+      ap (λ (ks : List KeptCluster). map (cluster_kept new.counted) ks) (kept-same grows held)
+          ∙ ap (λ xs. map (cluster_kept xs) (kept_in old (Some row))) grows.counted
+          ∙ clusters-same old.counted grows.later_points (kept_in old (Some row)) (kept-counted all held),
+      has-grown grows held,
     )
 
 pub gathers-grown : (old new : History) → Grows old new → All (IsCounted old.counted) old.closed → (g : Gathering) (points : List Point)
     → Gathers old g points → Gathers new g points
 gathers-grown old new grows all g points is =
-    let same = clusters-grown old new g grows all is.held in
+    let same = clusters-grown g grows all is.held in
     record {
       held = same.1;
-      are = subst (λ (ow : ℤ). AreClusters ow points (clusters_in new g)) (sym grows.ow)
+      are = subst (λ ow. AreClusters ow points (clusters_in new g)) (sym grows.ow)
           (subst (AreClusters old.ow points) (sym same.0) is.are);
     }
 
-pub has-ends : (h : History) (row : Row) → EndsWith h row → HasRow h row
-has-ends h row ends = grind arith
+pub has-ends : {h : History} {row : Row} → EndsWith h row → HasRow h row
+has-ends ends = grind arith

@@ -14,39 +14,46 @@ last_or-map : {X Y : Type 0} (f : X → Y) (o : Option Y) (xs : List X) (x : X) 
 last_or-map f o [] x = refl
 last_or-map f o (y ∷ ys) x = last_or-map f (Some (f y)) ys x
 
--- the role of a point up to the end of the last cluster, and of one beyond it
-pub role-within : (counted : List ℤ) (front : List KeptCluster) (last : KeptCluster) (p : Point) → p.reading ≤ℤ last.end
-    → role (map (cluster_kept counted) (front ++ last ∷ [])) p ≡ role_in (Some (cluster_kept counted last)) p
-role-within counted front last p within =
-    ap (λ o. role_in o p) (open_at-in (map (cluster_kept counted) (front ++ last ∷ [])) (cluster_kept counted last) p.reading
-    (last_or-map (cluster_kept counted) None front last) within)
+module _ (counted : List ℤ) (front : List KeptCluster) (last : KeptCluster) (p : Point) where
+  -- the role of a point up to the end of the last cluster, and of one beyond it
+  pub role-within : p.reading ≤ℤ last.end → role (map (cluster_kept counted) (front ++ last ∷ [])) p
+      ≡ role_in (Some (cluster_kept counted last)) p
+  role-within within =
+      ap (λ o. role_in o p) (open_at-in (map (cluster_kept counted) (front ++ last ∷ [])) (cluster_kept counted last)
+      p.reading
+      (last_or-map (cluster_kept counted) None front last) within)
 
-pub role-beyond : (counted : List ℤ) (front : List KeptCluster) (last : KeptCluster) (p : Point) → last.end <ℤ p.reading
-    → role (map (cluster_kept counted) (front ++ last ∷ [])) p ≡ Opened
-role-beyond counted front last p past =
-    ap (λ o. role_in o p) (open_at-beyond (map (cluster_kept counted) (front ++ last ∷ [])) (cluster_kept counted last) p.reading
-    (last_or-map (cluster_kept counted) None front last) past)
+  pub role-beyond : last.end <ℤ p.reading → role (map (cluster_kept counted) (front ++ last ∷ [])) p ≡ Opened
+  role-beyond past =
+      ap (λ o. role_in o p) (open_at-beyond (map (cluster_kept counted) (front ++ last ∷ []))
+      (cluster_kept counted last) p.reading
+      (last_or-map (cluster_kept counted) None front last) past)
 
--- so many points it has
-pub length-points : (counted : List ℤ) (k : KeptCluster) → IsCounted counted k → length (points_kept counted k) ≡ k.count
-length-points counted k is = length-take-le k.count (drop k.from counted) (rw (length-drop k.from counted) (omega (arith, is.within)))
+module _ (counted : List ℤ) (k : KeptCluster) where
+  -- so many points it has
+  pub length-points : IsCounted counted k → length (points_kept counted k) ≡ k.count
+  length-points is =
+      length-take-le k.count (drop k.from counted) (rw (length-drop k.from counted) (omega (arith, is.within)))
 
--- a point of it by its place in the history
-pub get_or-points : (counted : List ℤ) (k : KeptCluster) (i : ℕ) → i < k.count → get_or (points_kept counted k) i (pos 0) ≡ get_or counted (k.from + i) (pos 0)
-get_or-points counted k i inside = get_or-take k.count (drop k.from counted) i (pos 0) inside ∙ get_or-drop k.from counted i (pos 0)
+  -- a point of it by its place in the history
+  pub get_or-points : (i : ℕ) → i < k.count → get_or (points_kept counted k) i (pos 0)
+      ≡ get_or counted (k.from + i) (pos 0)
+  get_or-points i inside =
+      get_or-take k.count (drop k.from counted) i (pos 0) inside ∙ get_or-drop k.from counted i (pos 0)
 
--- how far it is above the first
-pub offset-points : (counted : List ℤ) (k : KeptCluster) (i : ℕ) → IsCounted counted k → i < k.count
-    → offset_at (points_kept counted k) i ≡ get_or counted (k.from + i) (pos 0) -ℤ get_or counted (k.from + 0) (pos 0)
-offset-points counted k i is inside = rw (← get_or-points counted k i inside, ← get_or-points counted k 0 is.some) refl
+  -- how far it is above the first
+  pub offset-points : (i : ℕ) → IsCounted counted k → i < k.count
+      → offset_at (points_kept counted k) i ≡ get_or counted (k.from + i) (pos 0) -ℤ get_or counted (k.from + 0)
+      (pos 0)
+  offset-points i is inside = rw (← get_or-points i inside, ← get_or-points 0 is.some) refl
 
-pub length-last : (counted : List ℤ) (k : KeptCluster) → IsCounted counted k → length (points_kept counted k) ≡ (k.count - 1) + 1
-length-last counted k is = length-points counted k is ∙ omega (arith, is.some)
+  pub length-last : IsCounted counted k → length (points_kept counted k) ≡ (k.count - 1) + 1
+  length-last is = length-points is ∙ omega (arith, is.some)
 
 -- what is emitted, by its parts
 pub emitted-is : (ow calc : ℤ) (c : Cluster) (opened at : ℤ) → opened ≡ c.opened → at ≡ emission ow calc c
     → emitted_by opened at c.cycle c.members ≡ emitted ow calc c
-emitted-is ow calc c opened at start is = ap (λ (o : ℤ). emitted_by o at c.cycle c.members) start ∙ ap (λ (a : ℤ). emitted_by c.opened a c.cycle c.members) is
+emitted-is ow calc c opened at start is = ap (λ o. emitted_by o at c.cycle c.members) start ∙ ap (λ a. emitted_by c.opened a c.cycle c.members) is
 
 -- the emission at a place
 pub emission-at : (h : History) (ks : List KeptCluster) (place : ℕ) (k : KeptCluster) → slice_get ks place ≡ Some k

@@ -12,16 +12,17 @@ same_at ks i j k d e at there =
     cc
 
 -- so many clusters a row has
-pub length-kept : (h : History) (row : Row) → HasRow h row → length (kept_in h (Some row)) ≡ row.count + 1
-length-kept h row has =
+pub length-kept : {h : History} {row : Row} → HasRow h row → length (kept_in h (Some row)) ≡ row.count + 1
+length-kept {h} {row} has =
     length-append (take row.count (drop row.from h.closed)) (row.last ∷ [])
-    ∙ ap (λ (n : ℕ). n + 1) (length-take-le row.count (drop row.from h.closed) (rw (length-drop row.from h.closed) (omega (arith, has.closed))))
+    ∙ ap (λ n. n + 1) (length-take-le row.count (drop row.from h.closed) (rw (length-drop row.from h.closed) (omega (arith, has.closed))))
 
 -- a gathering's clusters rise
-pub gathered-rising : (h : History) (g : Gathering) (row : Row) → pos 0 ≤ℤ h.ow → IsGathered h g → g.row ≡ Some row → IsRising (kept_in h (Some row))
-gathered-rising h g row some is e =
+pub gathered-rising : {h : History} {g : Gathering} (row : Row) → pos 0 ≤ℤ h.ow → IsGathered h g → g.row ≡ Some row
+    → IsRising (kept_in h (Some row))
+gathered-rising {h} row some is e =
     rising h.counted (kept_in h (Some row)) (spaced h.ow is.0 (map (cluster_kept h.counted) (kept_in h (Some row))) some
-    (subst (λ (r : Option Row). AreClusters h.ow is.0 (map (cluster_kept h.counted) (kept_in h r))) e is.1.are))
+    (subst (λ r. AreClusters h.ow is.0 (map (cluster_kept h.counted) (kept_in h r))) e is.1.are))
 
 -- the emissions of clusters, none of which opened there
 pub none-opened : (h : History) (ks : List KeptCluster) (opened : ℤ) (result : Option Emitted)
@@ -30,16 +31,17 @@ pub none-opened : (h : History) (ks : List KeptCluster) (opened : ℤ) (result :
 none-opened h ks opened result none = all-emissions h (λ e. e.opened ≡ opened → result ≡ Some e) ks (λ i k at same. absurd (none i k at same))
 
 -- where the place is behind all
-pub none-behind : (ks : List KeptCluster) (opened : ℤ) (place : ℕ) → IsPlaceFor ks opened place → length ks ≤ place → (i : ℕ) (k : KeptCluster)
-    → slice_get ks i ≡ Some k → k.opened ≡ opened → ⊥
-none-behind ks opened place is past i k at same =
+pub none-behind : {ks : List KeptCluster} {opened : ℤ} {place : ℕ} → IsPlaceFor ks opened place → length ks ≤ place
+    → (i : ℕ) (k : KeptCluster) → slice_get ks i ≡ Some k → k.opened ≡ opened → ⊥
+none-behind {ks} is past i k at same =
     let before = is.before i k (omega (arith, past, got_within ks i k at)) at in
     omega (arith, ints, before, same)
 
 -- where another opens at the place
-pub none-beside : (ks : List KeptCluster) (opened : ℤ) (place : ℕ) (d : KeptCluster) → IsRising ks → IsPlaceFor ks opened place → slice_get ks place ≡ Some d
-    → (d.opened ≡ opened → ⊥) → (i : ℕ) (k : KeptCluster) → slice_get ks i ≡ Some k → k.opened ≡ opened → ⊥
-none-beside ks opened place d up is there other i k at same =
+pub none-beside : {ks : List KeptCluster} {opened : ℤ} {place : ℕ} (d : KeptCluster) → IsRising ks
+    → IsPlaceFor ks opened place → slice_get ks place ≡ Some d → (d.opened ≡ opened → ⊥) → (i : ℕ) (k : KeptCluster)
+    → slice_get ks i ≡ Some k → k.opened ≡ opened → ⊥
+none-beside {ks} {opened} {place} d up is there other i k at same =
     elim (cases_lt i place) [
       | inl less ↦ let before = is.before i k less at in omega (arith, ints, before, same)
       | inr more ↦
@@ -53,17 +55,18 @@ none-beside ks opened place d up is there other i k at same =
     ]
 
 -- where it does open there, it is the only one
-pub only-there : (h : History) (ks : List KeptCluster) (opened : ℤ) (place : ℕ) (d : KeptCluster) → IsRising ks → IsPlaceFor ks opened place
-    → slice_get ks place ≡ Some d → d.opened ≡ opened → All (λ e. e.opened ≡ opened → Some (emitted h.ow h.calc (cluster_kept h.counted d)) ≡ Some e)
+pub only-there : (h : History) {ks : List KeptCluster} {opened : ℤ} {place : ℕ} (d : KeptCluster) → IsRising ks
+    → IsPlaceFor ks opened place → slice_get ks place ≡ Some d → d.opened ≡ opened
+    → All (λ e. e.opened ≡ opened → Some (emitted h.ow h.calc (cluster_kept h.counted d)) ≡ Some e)
     (map (emitted h.ow h.calc) (map (cluster_kept h.counted) ks))
-only-there h ks opened place d up is there opens =
+only-there h {ks} {opened} {place} d up is there opens =
     all-emissions h (λ e. e.opened ≡ opened → Some (emitted h.ow h.calc (cluster_kept h.counted d)) ≡ Some e) ks each
   where
     each : (i : ℕ) (k : KeptCluster) → slice_get ks i ≡ Some k → k.opened ≡ opened
         → Some (emitted h.ow h.calc (cluster_kept h.counted d)) ≡ Some (emitted h.ow h.calc (cluster_kept h.counted k))
     each i k at same =
         elim (cases_eq i place) [
-          | inl e ↦ ap (λ (x : KeptCluster). Some (emitted h.ow h.calc (cluster_kept h.counted x))) (sym (same_at ks i place k d e at there))
+          | inl e ↦ ap (λ x. Some (emitted h.ow h.calc (cluster_kept h.counted x))) (sym (same_at ks i place k d e at there))
           | inr apart ↦
               elim (cases_lt i place) [
                 | inl less ↦ let before = is.before i k less at in absurd (omega (arith, ints, before, same))
@@ -73,20 +76,23 @@ only-there h ks opened place d up is there opens =
               ]
         ]
 
--- a step of the search: those up to one that opens before the reading do so too
-pub before-step : (ks : List KeptCluster) (opened : ℤ) (m : ℕ) (d : KeptCluster) → IsRising ks → slice_get ks m ≡ Some d → d.opened <ℤ opened → (k : ℕ)
-    (c : KeptCluster) → k < m + 1 → slice_get ks k ≡ Some c → c.opened <ℤ opened
-before-step ks opened m d up there less k c inside at =
-    elim (cases_eq k m) [
-      | inl e ↦ subst (λ (x : KeptCluster). x.opened <ℤ opened) (sym (same_at ks k m c d e at there)) less
-      | inr apart ↦ let above = up k m c d (omega (arith, inside, apart)) at there in omega (arith, ints, above, less)
-    ]
+module _ (ks : List KeptCluster) (opened : ℤ) (m : ℕ) (d : KeptCluster) (up : IsRising ks)
+    (there : slice_get ks m ≡ Some d) where
+  -- a step of the search: those up to one that opens before the reading do so too
+  pub before-step : d.opened <ℤ opened → (k : ℕ) (c : KeptCluster) → k < m + 1 → slice_get ks k ≡ Some c
+      → c.opened <ℤ opened
+  before-step less k c inside at =
+      elim (cases_eq k m) [
+        | inl e ↦ subst (λ (x : KeptCluster). x.opened <ℤ opened) (sym (same_at ks k m c d e at there)) less
+        | inr apart ↦ let above = up k m c d (omega (arith, inside, apart)) at there in omega (arith, ints, above, less)
+      ]
 
--- and those from one on that does not do so neither
-pub others-step : (ks : List KeptCluster) (opened : ℤ) (m : ℕ) (d : KeptCluster) → IsRising ks → slice_get ks m ≡ Some d → opened ≤ℤ d.opened → (k : ℕ)
-    (c : KeptCluster) → m ≤ k → slice_get ks k ≡ Some c → opened ≤ℤ c.opened
-others-step ks opened m d up there least k c inside at =
-    elim (cases_eq k m) [
-      | inl e ↦ subst (λ (x : KeptCluster). opened ≤ℤ x.opened) (sym (same_at ks k m c d e at there)) least
-      | inr apart ↦ let above = up m k d c (omega (arith, inside, apart)) there at in omega (arith, ints, above, least)
-    ]
+  -- and those from one on that does not do so neither
+  pub others-step : opened ≤ℤ d.opened → (k : ℕ) (c : KeptCluster) → m ≤ k → slice_get ks k ≡ Some c
+      → opened ≤ℤ c.opened
+  others-step least k c inside at =
+      elim (cases_eq k m) [
+        | inl e ↦ subst (λ (x : KeptCluster). opened ≤ℤ x.opened) (sym (same_at ks k m c d e at there)) least
+        | inr apart ↦ let above = up m k d c (omega (arith, inside, apart)) there at in
+            omega (arith, ints, above, least)
+      ]

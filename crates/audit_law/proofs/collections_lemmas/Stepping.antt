@@ -51,9 +51,10 @@ pub are-opened : (ow : ℤ) (ps : List Point) (cs : List Cluster) (p : Point) �
 are-opened ow ps cs p some are past is =
     AreClusters-opened ow ps cs p some are (ended ow ps cs p.reading some are past (role_in-opened (open_at cs p.reading) p (sym is)))
 
-within : (ow : ℤ) (ps : List Point) (front : List Cluster) (c d : Cluster) (p : Point) → pos 0 ≤ℤ ow → AreClusters ow ps (front ++ c ∷ [])
-    → AreBefore ps p.reading → p.reading ≤ℤ c.end → c.end ≤ℤ d.end → Takes ow c d p → AreClusters ow (ps ++ p ∷ []) (front ++ d ∷ [])
-within ow ps front c d p some are past here longer takes =
+within : {ow : ℤ} (ps : List Point) (front : List Cluster) {c d : Cluster} {p : Point} → pos 0 ≤ℤ ow
+    → AreClusters ow ps (front ++ c ∷ []) → AreBefore ps p.reading → p.reading ≤ℤ c.end → c.end ≤ℤ d.end
+    → Takes ow c d p → AreClusters ow (ps ++ p ∷ []) (front ++ d ∷ [])
+within {ow} ps front {c} {d} {p} some are past here longer takes =
     let front_is = before ow ps front c p.reading some are past in
     AreClusters-within ow ps front c d p some are front_is.0 front_is.1 here longer takes
 
@@ -73,8 +74,9 @@ are-joined ow ps front c p some are past is =
     let same : j.c ≡ c = cc in
     let most = at-last (λ (k : Cluster). k.end ≤ℤ (k.opened +ℤ (pos 2 *ℤ ow))) front c (ends-most ow ps cs some are) in
     let cycle : p.cycle ≡ c.cycle = subst (λ (k : Cluster). p.cycle ≡ k.cycle) same j.same in
-    let new : has_point_of c p.master ≡ false = subst (λ (k : Cluster). has_point_of k p.master ≡ false) same j.new in
-    within ow ps front c (joined ow c p.reading p.master) p some are past (subst (λ (k : Cluster). p.reading ≤ℤ k.end) same at.1)
+    let new : has_point_of c p.master ≡ false = subst (λ k. has_point_of k p.master ≡ false) same j.new in
+    within {ow = ow} ps front {c = c} {d = joined ow c p.reading p.master} {p = p} some are past
+    (subst (λ (k : Cluster). p.reading ≤ℤ k.end) same at.1)
     (longer-joined ow c p.reading most)
     (record { other = λ other. absurd (other cycle); repeat = λ _ old. absurd (true_is_false (sym old ∙ new)); joins = λ _ _. refl })
 
@@ -86,7 +88,7 @@ are-ignored ow ps cs p some are past is =
     let split = last_split cs i.c at.0 in
     let takes : Takes ow i.c i.c p = record { other = λ _. refl; repeat = λ _ _. refl; joins = λ same new. absurd (neither i.c same new i.why) } in
     subst (AreClusters ow (ps ++ p ∷ [])) (sym split.1)
-    (within ow ps split.0 i.c i.c p some (subst (AreClusters ow ps) split.1 are) past at.1 (omega (arith, ints)) takes)
+    (within ps split.0 some (subst (AreClusters ow ps) split.1 are) past at.1 (omega (arith, ints)) takes)
   where
     neither : (c : Cluster) → p.cycle ≡ c.cycle → has_point_of c p.master ≡ false → (p.cycle ≢ c.cycle) ⊎ (has_point_of c p.master ≡ true) → ⊥
     neither c same new (inl other) = other same
@@ -97,12 +99,13 @@ all-front : {X : Type 0} (P : X → Type 0) (xs : List X) (x : X) → AllByRecur
 all-front P [] x all = tt
 all-front P (y ∷ ys) x all = (all.0, all-front P ys x all.1)
 
-map-grown : (old new : History) (ks : List KeptCluster) → Grows old new → AllByRecursion (IsCounted old.counted) ks
+map-grown : {old new : History} (ks : List KeptCluster) → Grows old new → AllByRecursion (IsCounted old.counted) ks
     → map (cluster_kept new.counted) ks ≡ map (cluster_kept old.counted) ks
-map-grown old new ks grows all = ap (λ (xs : List ℤ). map (cluster_kept xs) ks) grows.counted ∙ clusters-same old.counted grows.later_points ks all
+map-grown {old} ks grows all =
+    ap (λ xs. map (cluster_kept xs) ks) grows.counted ∙ clusters-same old.counted grows.later_points ks all
 
-held-by : (h : History) (g : Gathering) (row : Row) → g.row ≡ Some row → EndsWith h row → IsHeld h g
-held-by h g row is ends = subst (λ (r : Option Row). IfSome r (HasRow h)) (sym is) (has-ends h row ends)
+held-by : {h : History} (g : Gathering) {row : Row} → g.row ≡ Some row → EndsWith h row → IsHeld h g
+held-by {h} g is ends = subst (λ (r : Option Row). IfSome r (HasRow h)) (sym is) (has-ends ends)
 
 -- a gathering with a point that opens a cluster
 pub gathers-opened : (old new : History) (g r : Gathering) (p : Point) → pos 0 ≤ℤ old.ow → All (IsCounted old.counted) old.closed → Grows old new
@@ -111,23 +114,24 @@ pub gathers-opened : (old new : History) (g r : Gathering) (p : Point) → pos 0
 gathers-opened old new g r p some all grows opens is points gathers past =
     let before_is = recursion_from_All (λ (q : Point). q.reading ≤ℤ p.reading) points past in
     let are = are-opened old.ow points (clusters_in old g) p some gathers.are before_is is in
-    let front = map-grown old new (kept_in old g.row) grows (all-kept old g.row all gathers.held) in
+    let front = map-grown (kept_in old g.row) grows (all-kept old g.row all gathers.held) in
     let same : clusters_in new r ≡ clusters_in old g ++ opening old.ow p ∷ [] =
-    ap (λ (x : Option Row). map (cluster_kept new.counted) (kept_in new x)) opens.is ∙ ap (map (cluster_kept new.counted)) opens.kept
+    ap (λ x. map (cluster_kept new.counted) (kept_in new x)) opens.is ∙ ap (map (cluster_kept new.counted)) opens.kept
     ∙ map-append (cluster_kept new.counted) (kept_in old g.row) (opens.row.last ∷ [])
     ∙ ap (λ (cs : List Cluster). cs ++ cluster_kept new.counted opens.row.last ∷ []) front
     ∙ ap (λ (c : Cluster). clusters_in old g ++ c ∷ []) opens.cluster in
     record {
-      held = held-by new r opens.row opens.is opens.ends;
-      are = subst (λ (ow : ℤ). AreClusters ow (points ++ p ∷ []) (clusters_in new r)) (sym grows.ow)
+      held = held-by r opens.is opens.ends;
+      are = subst (λ ow. AreClusters ow (points ++ p ∷ []) (clusters_in new r)) (sym grows.ow)
           (subst (AreClusters old.ow (points ++ p ∷ [])) (sym same) are);
     }
 
 -- one with a point that joins the last cluster
-pub gathers-joined : (old new : History) (g r : Gathering) (was : Row) (p : Point) → pos 0 ≤ℤ old.ow → All (IsCounted old.counted) old.closed → Grows old new
-    → g.row ≡ Some was → Joins old new was p.reading p.master r → Joined ≡ role (clusters_in old g) p → (points : List Point) → Gathers old g points
-    → All (λ q. q.reading ≤ℤ p.reading) points → Gathers new r (points ++ p ∷ [])
-gathers-joined old new g r was p some all grows row joins is points gathers past =
+pub gathers-joined : {old new : History} {g r : Gathering} {was : Row} (p : Point) → pos 0 ≤ℤ old.ow
+    → All (IsCounted old.counted) old.closed → Grows old new → g.row ≡ Some was
+    → Joins old new was p.reading p.master r → Joined ≡ role (clusters_in old g) p → {points : List Point}
+    → Gathers old g points → All (λ q. q.reading ≤ℤ p.reading) points → Gathers new r (points ++ p ∷ [])
+gathers-joined {old} {new} {g} {r} {was} p some all grows row joins is {points} gathers past =
     let before_is = recursion_from_All (λ (q : Point). q.reading ≤ℤ p.reading) points past in
     let front = map (cluster_kept old.counted) joins.front in
     let c = cluster_kept old.counted was.last in
@@ -135,18 +139,18 @@ gathers-joined old new g r was p some all grows row joins is points gathers past
     let were : clusters_in old g ≡ front ++ c ∷ [] =
     ap (map (cluster_kept old.counted)) kept ∙ map-append (cluster_kept old.counted) joins.front (was.last ∷ []) in
     let are = are-joined old.ow points front c p some (subst (AreClusters old.ow points) were gathers.are) before_is
-    (is ∙ ap (λ (cs : List Cluster). role cs p) were) in
+    (is ∙ ap (λ cs. role cs p) were) in
     let counted : AllByRecursion (IsCounted old.counted) (joins.front ++ was.last ∷ []) =
     subst (AllByRecursion (IsCounted old.counted)) kept (all-kept old g.row all gathers.held) in
-    let front_is = map-grown old new joins.front grows (all-front (IsCounted old.counted) joins.front was.last counted) in
+    let front_is = map-grown joins.front grows (all-front (IsCounted old.counted) joins.front was.last counted) in
     let same : clusters_in new r ≡ front ++ joined old.ow c p.reading p.master ∷ [] =
-    ap (λ (x : Option Row). map (cluster_kept new.counted) (kept_in new x)) joins.is ∙ ap (map (cluster_kept new.counted)) joins.are
+    ap (λ x. map (cluster_kept new.counted) (kept_in new x)) joins.is ∙ ap (map (cluster_kept new.counted)) joins.are
     ∙ map-append (cluster_kept new.counted) joins.front (joins.row.last ∷ [])
     ∙ ap (λ (cs : List Cluster). cs ++ cluster_kept new.counted joins.row.last ∷ []) front_is
     ∙ ap (λ (d : Cluster). front ++ d ∷ []) joins.cluster in
     record {
-      held = held-by new r joins.row joins.is joins.ends;
-      are = subst (λ (ow : ℤ). AreClusters ow (points ++ p ∷ []) (clusters_in new r)) (sym grows.ow)
+      held = held-by r joins.is joins.ends;
+      are = subst (λ ow. AreClusters ow (points ++ p ∷ []) (clusters_in new r)) (sym grows.ow)
           (subst (AreClusters old.ow (points ++ p ∷ [])) (sym same) are);
     }
 
@@ -161,10 +165,11 @@ gathers-joins old new g r p some all grows joins is points gathers past =
     opened_not e = cc
 
     by_row : (x : Option Row) → g.row ≡ x → Gathers new r (points ++ p ∷ [])
-    by_row None e = absurd (opened_not (is ∙ ap (λ (y : Option Row). role (map (cluster_kept old.counted) (kept_in old y)) p) e))
+    by_row None e = absurd (opened_not (is ∙ ap (λ y. role (map (cluster_kept old.counted) (kept_in old y)) p) e))
     by_row (Some was) e =
-        gathers-joined old new g r was p some all grows e
-        (subst (λ (y : Option Row). IfSome y (λ (w : Row). Joins old new w p.reading p.master r)) e joins) is points gathers past
+        gathers-joined p some all grows e
+        (subst (λ (y : Option Row). IfSome y (λ (w : Row). Joins old new w p.reading p.master r)) e joins) is gathers
+        past
 
 -- one with a point that does not count
 pub gathers-ignored : (h : History) (g : Gathering) (p : Point) → pos 0 ≤ℤ h.ow → (role (clusters_in h g) p ≡ Repeat) ⊎ (role (clusters_in h g) p ≡ OtherCycle)

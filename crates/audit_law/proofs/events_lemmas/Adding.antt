@@ -16,19 +16,23 @@ use Rattle.net_plan.specs.declared.event.What.TheVariants as events
 
 -- ---- what the event does not concern
 
-pub no_devices : (network : Network) (all : List Event) (event : Event) (what : What) (devices : List DeviceHistory) → event.what ≡ what
-    → ((d : DeviceId) → step_by d (amount event.time) what ≡ None) → ((d : DeviceId) → breaks_at d.0 what ≡ false)
-    → ((d : DeviceId) → turns_on d what ≡ false) → AreDevicesTold network all devices → AreDevicesTold network (all ++ event ∷ []) devices
-no_devices network all event what devices is steps breaks turns told d x at =
-    device_stays network all event d x (ap (step_by d (amount event.time)) is ∙ steps d) (ap (breaks_at d.0) is ∙ breaks d)
-    (ap (turns_on d) is ∙ turns d) (told d x at)
+module _ (network : Network) (all : List Event) (event : Event) (what : What) where
+  pub no_devices : (devices : List DeviceHistory) → event.what ≡ what
+      → ((d : DeviceId) → step_by d (amount event.time) what ≡ None) → ((d : DeviceId) → breaks_at d.0 what ≡ false)
+      → ((d : DeviceId) → turns_on d what ≡ false) → AreDevicesTold network all devices
+      → AreDevicesTold network (all ++ event ∷ []) devices
+  no_devices devices is steps breaks turns told d x at =
+      device_stays network all event d (ap (step_by d (amount event.time)) is ∙ steps d)
+      (ap (breaks_at d.0) is ∙ breaks d)
+      (ap (turns_on d) is ∙ turns d) (told d x at)
 
-pub no_ways : (network : Network) (all : List Event) (event : Event) (what : What) (ways : List WayHistory) → event.what ≡ what
-    → ((l : LinkId) (w : Way) → wire_set l w what ≡ None) → ((l : LinkId) (w : Way) → hold_set l w what ≡ None)
-    → ((l : LinkId) (w : Way) → cut_set l w what ≡ None) → AreWaysTold network all ways → AreWaysTold network (all ++ event ∷ []) ways
-no_ways network all event what ways is wires holds cuts told l w x at =
-    way_stays network all event l w x (ap (wire_set l w) is ∙ wires l w) (ap (hold_set l w) is ∙ holds l w) (ap (cut_set l w) is ∙ cuts l w)
-    (told l w x at)
+  pub no_ways : (ways : List WayHistory) → event.what ≡ what → ((l : LinkId) (w : Way) → wire_set l w what ≡ None)
+      → ((l : LinkId) (w : Way) → hold_set l w what ≡ None) → ((l : LinkId) (w : Way) → cut_set l w what ≡ None)
+      → AreWaysTold network all ways → AreWaysTold network (all ++ event ∷ []) ways
+  no_ways ways is wires holds cuts told l w x at =
+      way_stays event (ap (wire_set l w) is ∙ wires l w) (ap (hold_set l w) is ∙ holds l w)
+      (ap (cut_set l w) is ∙ cuts l w)
+      (told l w x at)
 
 -- ---- a setting of a way
 
@@ -49,14 +53,15 @@ delay_set network all event link way delay place ways told new are here at what 
     let new_way : WayHistory = record { delay = new; hold = told.hold; cut = told.cut } in
     let h = are link way told (subst (λ p. slice_get ways p ≡ Some told) here at) in
     subst (λ p. AreWaysTold network (all ++ event ∷ []) (slice_set ways p new_way)) (sym here)
-    (ways_set network all (all ++ event ∷ []) link way ways new_way are
+    (ways_set {network = network} all {behind = all ++ event ∷ []} {link = link} {way = way} ways {new = new_way} are
     (record {
-      delay = set_more (wire_set link way) (wire_of network link) all event (amount delay) told.delay new
+      delay = set_more (wire_set link way) (wire_of network link) all event (amount delay) new
           (ap (wire_set link way) what ∙ set_so (is_way_of link way link way) (amount delay) (own_way link way)) first more h.delay;
-      hold = set_stays (hold_set link way) 0 all event told.hold (ap (hold_set link way) what) h.hold;
-      cut = set_stays (cut_set link way) false all event told.cut (ap (cut_set link way) what) h.cut;
+      hold = set_stays (hold_set link way) 0 all event (ap (hold_set link way) what) h.hold;
+      cut = set_stays (cut_set link way) false all event (ap (cut_set link way) what) h.cut;
     })
-    (λ l w x other h. way_stays network all event l w x (ap (wire_set l w) what ∙ set_or_none (is_way_of l w link way) (amount delay) other)
+    (λ l w x other h. way_stays event (ap (wire_set l w) what ∙ set_or_none (is_way_of l w link way) (amount delay)
+    other)
     (ap (hold_set l w) what) (ap (cut_set l w) what) h))
 
 pub hold_set_to : (network : Network) (all : List Event) (event : Event) (link : LinkId) (way : Way) (hold : Units) (place : ℕ)
@@ -68,14 +73,14 @@ hold_set_to network all event link way hold place ways told new are here at what
     let new_way : WayHistory = record { delay = told.delay; hold = new; cut = told.cut } in
     let h = are link way told (subst (λ p. slice_get ways p ≡ Some told) here at) in
     subst (λ p. AreWaysTold network (all ++ event ∷ []) (slice_set ways p new_way)) (sym here)
-    (ways_set network all (all ++ event ∷ []) link way ways new_way are
+    (ways_set {network = network} all {behind = all ++ event ∷ []} {link = link} {way = way} ways {new = new_way} are
     (record {
-      delay = set_stays (wire_set link way) (wire_of network link) all event told.delay (ap (wire_set link way) what) h.delay;
-      hold = set_more (hold_set link way) 0 all event (amount hold) told.hold new
+      delay = set_stays (wire_set link way) (wire_of network link) all event (ap (wire_set link way) what) h.delay;
+      hold = set_more (hold_set link way) 0 all event (amount hold) new
           (ap (hold_set link way) what ∙ set_so (is_way_of link way link way) (amount hold) (own_way link way)) first more h.hold;
-      cut = set_stays (cut_set link way) false all event told.cut (ap (cut_set link way) what) h.cut;
+      cut = set_stays (cut_set link way) false all event (ap (cut_set link way) what) h.cut;
     })
-    (λ l w x other h. way_stays network all event l w x (ap (wire_set l w) what)
+    (λ l w x other h. way_stays event (ap (wire_set l w) what)
     (ap (hold_set l w) what ∙ set_or_none (is_way_of l w link way) (amount hold) other) (ap (cut_set l w) what) h))
 
 -- the event of a cut, or of a heal
@@ -119,20 +124,24 @@ cut_set_to network all event link way cut place ways told new are here at what f
     let new_way : WayHistory = record { delay = told.delay; hold = told.hold; cut = new } in
     let h = are link way told (subst (λ p. slice_get ways p ≡ Some told) here at) in
     subst (λ p. AreWaysTold network (all ++ event ∷ []) (slice_set ways p new_way)) (sym here)
-    (ways_set network all (all ++ event ∷ []) link way ways new_way are
+    (ways_set {network = network} all {behind = all ++ event ∷ []} {link = link} {way = way} ways {new = new_way} are
     (record {
-      delay = set_stays (wire_set link way) (wire_of network link) all event told.delay (ap (wire_set link way) what ∙ no_wire cut link link way way) h.delay;
-      hold = set_stays (hold_set link way) 0 all event told.hold (ap (hold_set link way) what ∙ no_hold cut link link way way) h.hold;
-      cut = set_more (cut_set link way) false all event cut told.cut new (ap (cut_set link way) what ∙ cut_own cut link way) first more h.cut;
+      delay = set_stays (wire_set link way) (wire_of network link) all event
+          (ap (wire_set link way) what ∙ no_wire cut link link way way) h.delay;
+      hold = set_stays (hold_set link way) 0 all event (ap (hold_set link way) what ∙ no_hold cut link link way way)
+          h.hold;
+      cut = set_more (cut_set link way) false all event cut new (ap (cut_set link way) what ∙ cut_own cut link way)
+          first more h.cut;
     })
-    (λ l w x other h. way_stays network all event l w x (ap (wire_set l w) what ∙ no_wire cut link l way w)
+    (λ l w x other h. way_stays event (ap (wire_set l w) what ∙ no_wire cut link l way w)
     (ap (hold_set l w) what ∙ no_hold cut link l way w) (ap (cut_set l w) what ∙ cut_other cut link l way w other) h))
 
 -- ---- no setting
 
-same_set : {V : Type 0} (setting : What → Option V) (initial : V) (all : List Event) (old new : Settings V) → new.initial ≡ old.initial
-    → new.changes.items ≡ old.changes.items → IsSetBy setting initial all old → IsSetBy setting initial all new
-same_set setting initial all old new first same h = record { first = first ∙ h.first; changes = same ∙ h.changes }
+same_set : {V : Type 0} {setting : What → Option V} {initial : V} {all : List Event} {old : Settings V}
+    (new : Settings V) → new.initial ≡ old.initial → new.changes.items ≡ old.changes.items
+    → IsSetBy setting initial all old → IsSetBy setting initial all new
+same_set new first same h = record { first = first ∙ h.first; changes = same ∙ h.changes }
 
 -- the ways with one that says what it said
 pub same_way : (network : Network) (all : List Event) (link : LinkId) (way : Way) (place : ℕ) (ways : List WayHistory) (told new : WayHistory)
@@ -143,11 +152,11 @@ pub same_way : (network : Network) (all : List Event) (link : LinkId) (way : Way
 same_way network all link way place ways told new are here at a b c d e f =
     let h = are link way told (subst (λ p. slice_get ways p ≡ Some told) here at) in
     subst (λ p. AreWaysTold network all (slice_set ways p new)) (sym here)
-    (ways_set network all all link way ways new are
+    (ways_set {network = network} all {behind = all} {link = link} {way = way} ways {new = new} are
     (record {
-      delay = same_set (wire_set link way) (wire_of network link) all told.delay new.delay a b h.delay;
-      hold = same_set (hold_set link way) 0 all told.hold new.hold c d h.hold;
-      cut = same_set (cut_set link way) false all told.cut new.cut e f h.cut;
+      delay = same_set new.delay a b h.delay;
+      hold = same_set new.hold c d h.hold;
+      cut = same_set new.cut e f h.cut;
     })
     (λ l w x other h. h))
 
@@ -168,21 +177,21 @@ rate_set network all event device rate devices told new are at what past first m
     let step : RateStep = record { at = time; rate = rate.0 } in
     let before = told.clock.changes.items in
     let clock_is : value_at told.clock.initial before time ≡ value_after stepped_segment fresh steps =
-    ap (λ c. value_at c before time) h.fresh ∙ ap (λ (l : List (Change Segment)). value_at fresh l time) h.clock
+    ap (λ c. value_at c before time) h.fresh ∙ ap (λ l. value_at fresh l time) h.clock
     ∙ value_last time fresh steps (subst (λ (l : List (Change Segment)). All (λ c. c.from ≤ time) l) h.clock past) in
-    devices_set network all (all ++ event ∷ []) device devices new_device are
+    devices_set {network = network} all {behind = all ++ event ∷ []} {device = device} devices {new = new_device} are
     (record {
       fresh = first ∙ h.fresh;
       clock = more
           ∙ ap (λ (l : List (Change Segment)). l ++ change_to time (stepped_segment (value_at told.clock.initial before time) time rate.0) ∷ []) h.clock
-          ∙ ap (λ (c : Segment). clocks_after fresh steps ++ change_to time (stepped_segment c time rate.0) ∷ []) clock_is
+          ∙ ap (λ c. clocks_after fresh steps ++ change_to time (stepped_segment c time rate.0) ∷ []) clock_is
           ∙ sym (clocks_more fresh steps step)
           ∙ ap (clocks_after fresh) (sym (steps_more all event device (Some step)
           (ap (step_by device time) what ∙ set_so (device.0 == device.0) step (eq-eqb device.0 device.0 refl))));
       broken = λ t. broken_stays network all event device t (ap (breaks_at device.0) what) ∙ h.broken t;
       turned_on = λ t. turned_stays network all event device t (ap (turns_on device) what) ∙ h.turned_on t;
     })
-    (λ d x other h. device_stays network all event d x
+    (λ d x other h. device_stays network all event d
     (ap (step_by d time) what ∙ set_or_none (d.0 == device.0) (let s : RateStep = record { at = time; rate = rate.0 } in s) (unequal d.0 device.0 other))
     (ap (breaks_at d.0) what) (ap (turns_on d) what) h)
 
@@ -193,54 +202,59 @@ pub same_device : (network : Network) (all : List Event) (device : DeviceId) (de
     → AreDevicesTold network all (slice_set devices device.0 (record { clock = new; broken = told.broken; turned_on = told.turned_on }))
 same_device network all device devices told new are at first same =
     let h = are device told at in
-    devices_set network all all device devices (record { clock = new; broken = told.broken; turned_on = told.turned_on }) are
+    devices_set {network = network} all {behind = all} {device = device} devices {new = record { clock = new; broken = told.broken; turned_on = told.turned_on }} are
     (record { fresh = first ∙ h.fresh; clock = same ∙ h.clock; broken = h.broken; turned_on = h.turned_on })
     (λ d x other h. h)
 
 -- ---- a break, and a turning on
 
-pub break_set : (network : Network) (all : List Event) (event : Event) (device : DeviceId) (time : ℕ) (devices : List DeviceHistory)
-    (told : DeviceHistory) → AreDevicesTold network all devices → slice_get devices device.0 ≡ Some told
-    → event.what ≡ events.Break device → amount event.time ≡ time → IsWithinHypothesis network all event → AreDevicesTold network (all ++ event ∷ [])
-    (slice_set devices device.0 (record { clock = told.clock; broken = Some time; turned_on = told.turned_on }))
-break_set network all event device time devices told are at what when within =
-    let h = are device told at in
-    devices_set network all (all ++ event ∷ []) device devices
-    (record { clock = told.clock; broken = Some time; turned_on = told.turned_on }) are
-    (record {
-      fresh = h.fresh;
-      clock = h.clock ∙ clock_stays all event device (fresh_segment (amount network.grain)) (ap (step_by device (amount event.time)) what);
-      broken = λ t. broken_first network all event device t within what ∙ ap (λ n. nat_le n t) when;
-      turned_on = λ t. turned_stays network all event device t (ap (turns_on device) what) ∙ h.turned_on t;
-    })
-    (λ d x other h. device_stays network all event d x (ap (step_by d (amount event.time)) what)
-    (ap (breaks_at d.0) what ∙ unequal device.0 d.0 (λ e. other (sym e))) (ap (turns_on d) what) h)
+module _ (network : Network) (all : List Event) (event : Event) (device : DeviceId) (time : ℕ)
+    (devices : List DeviceHistory) (told : DeviceHistory) (are : AreDevicesTold network all devices)
+    (at : slice_get devices device.0 ≡ Some told) where
+  pub break_set : event.what ≡ events.Break device → amount event.time ≡ time → IsWithinHypothesis network all event
+      → AreDevicesTold network (all ++ event ∷ [])
+      (slice_set devices device.0 (record { clock = told.clock; broken = Some time; turned_on = told.turned_on }))
+  break_set what when within =
+      let h = are device told at in
+      devices_set {network = network} all {behind = all ++ event ∷ []} {device = device} devices
+      {new = record { clock = told.clock; broken = Some time; turned_on = told.turned_on }} are
+      (record {
+        fresh = h.fresh;
+        clock = h.clock ∙ clock_stays all event device (fresh_segment (amount network.grain))
+            (ap (step_by device (amount event.time)) what);
+        broken = λ t. broken_first network all event device t within what ∙ ap (λ n. nat_le n t) when;
+        turned_on = λ t. turned_stays network all event device t (ap (turns_on device) what) ∙ h.turned_on t;
+      })
+      (λ d x other h. device_stays network all event d (ap (step_by d (amount event.time)) what)
+      (ap (breaks_at d.0) what ∙ unequal device.0 d.0 (λ e. other (sym e))) (ap (turns_on d) what) h)
 
-pub turn_set : (network : Network) (all : List Event) (event : Event) (device : DeviceId) (time : ℕ) (devices : List DeviceHistory)
-    (told : DeviceHistory) → AreDevicesTold network all devices → slice_get devices device.0 ≡ Some told
-    → event.what ≡ events.On device → amount event.time ≡ time → IsWithinHypothesis network all event → AreDevicesTold network (all ++ event ∷ [])
-    (slice_set devices device.0 (record { clock = told.clock; broken = told.broken; turned_on = Some time }))
-turn_set network all event device time devices told are at what when within =
-    let h = are device told at in
-    devices_set network all (all ++ event ∷ []) device devices
-    (record { clock = told.clock; broken = told.broken; turned_on = Some time }) are
-    (record {
-      fresh = h.fresh;
-      clock = h.clock ∙ clock_stays all event device (fresh_segment (amount network.grain)) (ap (step_by device (amount event.time)) what);
-      broken = λ t. broken_stays network all event device t (ap (breaks_at device.0) what) ∙ h.broken t;
-      turned_on = λ t. turned_first network all event device t within what ∙ ap (λ n. n == t) when;
-    })
-    (λ d x other h. device_stays network all event d x (ap (step_by d (amount event.time)) what) (ap (breaks_at d.0) what)
-    (ap (turns_on d) what ∙ unequal d.0 device.0 other) h)
+  pub turn_set : event.what ≡ events.On device → amount event.time ≡ time → IsWithinHypothesis network all event
+      → AreDevicesTold network (all ++ event ∷ [])
+      (slice_set devices device.0 (record { clock = told.clock; broken = told.broken; turned_on = Some time }))
+  turn_set what when within =
+      let h = are device told at in
+      devices_set {network = network} all {behind = all ++ event ∷ []} {device = device} devices
+      {new = record { clock = told.clock; broken = told.broken; turned_on = Some time }} are
+      (record {
+        fresh = h.fresh;
+        clock = h.clock ∙ clock_stays all event device (fresh_segment (amount network.grain))
+            (ap (step_by device (amount event.time)) what);
+        broken = λ t. broken_stays network all event device t (ap (breaks_at device.0) what) ∙ h.broken t;
+        turned_on = λ t. turned_first network all event device t within what ∙ ap (λ n. n == t) when;
+      })
+      (λ d x other h. device_stays network all event d (ap (step_by d (amount event.time)) what)
+      (ap (breaks_at d.0) what)
+      (ap (turns_on d) what ∙ unequal d.0 device.0 other) h)
 
 -- ---- what concerns no way and no device
 
-pub nothing_set : (network : Network) (all : List Event) (event : Event) (what : What) (history : EventHistory) → Remembers network all history
-    → MayBefall network all event → pos 0 ≤ℤ event.time.0 → event.what ≡ what
+pub nothing_set : {network : Network} {all : List Event} {event : Event} (what : What) {history : EventHistory}
+    → Remembers network all history → MayBefall network all event → pos 0 ≤ℤ event.time.0 → event.what ≡ what
     → ((l : LinkId) (w : Way) → wire_set l w what ≡ None) → ((l : LinkId) (w : Way) → hold_set l w what ≡ None)
-    → ((l : LinkId) (w : Way) → cut_set l w what ≡ None) → ((d : DeviceId) → step_by d (amount event.time) what ≡ None)
-    → ((d : DeviceId) → breaks_at d.0 what ≡ false) → ((d : DeviceId) → turns_on d what ≡ false) → Remembers network (all ++ event ∷ []) history
-nothing_set network all event what history h may begun is wires holds cuts steps breaks turns =
-    remembers_more network all event history history h may begun refl
+    → ((l : LinkId) (w : Way) → cut_set l w what ≡ None)
+    → ((d : DeviceId) → step_by d (amount event.time) what ≡ None) → ((d : DeviceId) → breaks_at d.0 what ≡ false)
+    → ((d : DeviceId) → turns_on d what ≡ false) → Remembers network (all ++ event ∷ []) history
+nothing_set {network} {all} {event} what {history} h may begun is wires holds cuts steps breaks turns =
+    remembers_more history h may begun refl
     (no_ways network all event what history.ways.items is wires holds cuts h.ways) refl
     (no_devices network all event what history.devices.items is steps breaks turns h.devices)

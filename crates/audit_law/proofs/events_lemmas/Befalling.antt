@@ -9,9 +9,9 @@ use Rattle.run_law.specs.declared.outside.Outside.TheVariants as outside
 
 -- ---- one event
 
-pub soon : (network : Network) (before : List Event) (event : Event) → IsInRange network → IsWithinHypothesis network before event
-    → pos 0 ≤ℤ event.time.0 → amount event.time ≤ 2 ^ 60
-soon network before event range within begun = elim (cases_lt (2 ^ 60) (amount event.time)) [
+pub soon : {network : Network} (before : List Event) (event : Event) → IsInRange network
+    → IsWithinHypothesis network before event → pos 0 ≤ℤ event.time.0 → amount event.time ≤ 2 ^ 60
+soon {network} before event range within begun = elim (cases_lt (2 ^ 60) (amount event.time)) [
   | inl late ↦
       let low = range.cycle.least in
       let high = range.cycle.most in
@@ -34,27 +34,30 @@ begun_in (x ∷ front) e rest begun = begun_in front e rest (λ k d lt. begun (s
 begun_at : (all front : List Event) (e : Event) (rest : List Event) → all ≡ front ++ e ∷ rest → HaveBegun all → pos 0 ≤ℤ e.time.0
 begun_at all front e rest same begun = begun_in front e rest (subst HaveBegun same begun)
 
-in_order_behind : (network : Network) (all front rest : List Event) (last : Event) → IsInRange network → all ≡ (front ++ last ∷ []) ++ rest
-    → AreWithinHypothesis network all → HaveBegun all → AreEventsFrom network.rho (amount last.time) rest
-in_order_behind network all front [] last range same within begun = tt
-in_order_behind network all front (e ∷ rest) last range same within begun =
+in_order_behind : {network : Network} (all front rest : List Event) (last : Event) → IsInRange network
+    → all ≡ (front ++ last ∷ []) ++ rest → AreWithinHypothesis network all → HaveBegun all
+    → AreEventsFrom network.rho (amount last.time) rest
+in_order_behind all front [] last range same within begun = tt
+in_order_behind {network} all front (e ∷ rest) last range same within begun =
     let here = within (front ++ last ∷ []) rest e same in
     let at_last = begun_at all front last (e ∷ rest) (same ∙ append_assoc front (last ∷ []) (e ∷ rest)) begun in
     let at_e = begun_at all (front ++ last ∷ []) e rest same begun in (
       in_turn network front last e here at_last at_e,
-      soon network (front ++ last ∷ []) e range here at_e,
+      soon (front ++ last ∷ []) e range here at_e,
       slow_event network (front ++ last ∷ []) e here,
-      in_order_behind network all (front ++ last ∷ []) rest e range (same ∙ sym (append_assoc (front ++ last ∷ []) (e ∷ []) rest)) within begun,
+      in_order_behind all (front ++ last ∷ []) rest e range
+          (same ∙ sym (append_assoc (front ++ last ∷ []) (e ∷ []) rest)) within begun,
     )
 
-pub events_from : (network : Network) (all : List Event) → IsInRange network → AreWithinHypothesis network all → HaveBegun all → AreEventsFrom network.rho 0 all
-events_from network [] range within begun = tt
-events_from network (e ∷ es) range within begun =
+pub events_from : {network : Network} (all : List Event) → IsInRange network → AreWithinHypothesis network all
+    → HaveBegun all → AreEventsFrom network.rho 0 all
+events_from [] range within begun = tt
+events_from {network} (e ∷ es) range within begun =
     let here = within [] es e refl in (
       omega arith,
-      soon network [] e range here (begun_in [] e es begun),
+      soon [] e range here (begun_in [] e es begun),
       slow_event network [] e here,
-      in_order_behind network (e ∷ es) [] es e range refl within begun,
+      in_order_behind (e ∷ es) [] es e range refl within begun,
     )
 
 -- ---- their steps

@@ -52,21 +52,22 @@ places_same link other Down Down e = (omega (arith, e), refl)
 pub own_way : (link : LinkId) (way : Way) → is_way_of link way link way ≡ true
 own_way link way = rw (eq-eqb link.0 link.0 refl) (way_itself way)
 
-pub ways_set : (network : Network) (before behind : List Event) (link : LinkId) (way : Way) (ways : List WayHistory) (new : WayHistory)
-    → AreWaysTold network before ways → TellsWay network behind link way new
-    → ((l : LinkId) (w : Way) (told : WayHistory) → is_way_of l w link way ≡ false → TellsWay network before l w told → TellsWay network behind l w told)
+pub ways_set : {network : Network} (before : List Event) {behind : List Event} {link : LinkId} {way : Way}
+    (ways : List WayHistory) {new : WayHistory} → AreWaysTold network before ways
+    → TellsWay network behind link way new → ((l : LinkId) (w : Way) (told : WayHistory)
+    → is_way_of l w link way ≡ false → TellsWay network before l w told → TellsWay network behind l w told)
     → AreWaysTold network behind (slice_set ways (way_place link way) new)
-ways_set network before behind link way ways new told here stays l w x at =
+ways_set {network} before {behind} {link} {way} ways {new} told here stays l w x at =
     elim (cases_Bool (is_way_of l w link way)) [
       | inl hit ↦
           let parts = and_parts (l.0 == link.0) (is_way w way) hit in
           let one : l ≡ link = same_link l link (eqb-true l.0 link.0 parts.0) in
           let turned : w ≡ way = way_same w way parts.1 in
           let at_own : slice_get (slice_set ways (way_place link way) new) (way_place link way) ≡ Some x =
-          subst (λ (v : Way). slice_get (slice_set ways (way_place link way) new) (way_place link v) ≡ Some x) turned
-          (subst (λ (k : LinkId). slice_get (slice_set ways (way_place link way) new) (way_place k w) ≡ Some x) one at) in
-          subst (λ (k : LinkId). TellsWay network behind k w x) (sym one)
-          (subst (λ (v : Way). TellsWay network behind link v x) (sym turned)
+          subst (λ v. slice_get (slice_set ways (way_place link way) new) (way_place link v) ≡ Some x) turned
+          (subst (λ k. slice_get (slice_set ways (way_place link way) new) (way_place k w) ≡ Some x) one at) in
+          subst (λ k. TellsWay network behind k w x) (sym one)
+          (subst (λ v. TellsWay network behind link v x) (sym turned)
           (subst (TellsWay network behind link way) (set_same ways (way_place link way) new x at_own) here))
       | inr miss ↦
           let differ : way_place link way ≡ way_place l w → ⊥ = λ e.
@@ -76,13 +77,14 @@ ways_set network before behind link way ways new told here stays l w x at =
     ]
 
 -- a way that the event does not set
-pub way_stays : (network : Network) (all : List Event) (event : Event) (link : LinkId) (way : Way) (told : WayHistory)
-    → wire_set link way event.what ≡ None → hold_set link way event.what ≡ None → cut_set link way event.what ≡ None
-    → TellsWay network all link way told → TellsWay network (all ++ event ∷ []) link way told
-way_stays network all event link way told no_wire no_hold no_cut h = record {
-  delay = set_stays (wire_set link way) (wire_of network link) all event told.delay no_wire h.delay;
-  hold = set_stays (hold_set link way) 0 all event told.hold no_hold h.hold;
-  cut = set_stays (cut_set link way) false all event told.cut no_cut h.cut;
+pub way_stays : {network : Network} {all : List Event} (event : Event) {link : LinkId} {way : Way}
+    {told : WayHistory} → wire_set link way event.what ≡ None → hold_set link way event.what ≡ None
+    → cut_set link way event.what ≡ None → TellsWay network all link way told
+    → TellsWay network (all ++ event ∷ []) link way told
+way_stays {network} {all} event {link} {way} no_wire no_hold no_cut h = record {
+  delay = set_stays (wire_set link way) (wire_of network link) all event no_wire h.delay;
+  hold = set_stays (hold_set link way) 0 all event no_hold h.hold;
+  cut = set_stays (cut_set link way) false all event no_cut h.cut;
 }
 
 -- ---- the devices
@@ -90,16 +92,17 @@ way_stays network all event link way told no_wire no_hold no_cut h = record {
 abbrev pub AreDevicesTold : Network → List Event → List DeviceHistory → Type 0
 AreDevicesTold network all devices = (device : DeviceId) (told : DeviceHistory) → slice_get devices device.0 ≡ Some told → TellsDevice network all device told
 
-pub devices_set : (network : Network) (before behind : List Event) (device : DeviceId) (devices : List DeviceHistory) (new : DeviceHistory)
-    → AreDevicesTold network before devices → TellsDevice network behind device new
-    → ((d : DeviceId) (told : DeviceHistory) → (d.0 ≡ device.0 → ⊥) → TellsDevice network before d told → TellsDevice network behind d told)
+pub devices_set : {network : Network} (before : List Event) {behind : List Event} {device : DeviceId}
+    (devices : List DeviceHistory) {new : DeviceHistory} → AreDevicesTold network before devices
+    → TellsDevice network behind device new → ((d : DeviceId) (told : DeviceHistory) → (d.0 ≡ device.0 → ⊥)
+    → TellsDevice network before d told → TellsDevice network behind d told)
     → AreDevicesTold network behind (slice_set devices device.0 new)
-devices_set network before behind device devices new told here stays d x at =
+devices_set {network} before {behind} {device} devices {new} told here stays d x at =
     elim (cases_Bool (d.0 == device.0)) [
       | inl hit ↦
           let one : d ≡ device = same_device d device (eqb-true d.0 device.0 hit) in
           let at_own = subst (λ (k : DeviceId). slice_get (slice_set devices device.0 new) k.0 ≡ Some x) one at in
-          subst (λ (k : DeviceId). TellsDevice network behind k x) (sym one)
+          subst (λ k. TellsDevice network behind k x) (sym one)
           (subst (TellsDevice network behind device) (set_same devices device.0 new x at_own) here)
       | inr miss ↦
           let differ : d.0 ≡ device.0 → ⊥ = λ e. false≢true (sym miss ∙ eq-eqb d.0 device.0 e) in
@@ -120,43 +123,49 @@ append_none {X} (x ∷ xs) = ap (λ (l : List X). x ∷ l) (append_none xs)
 none_of : (a b : Bool) → b ≡ false → (a || b) ≡ a
 none_of a b miss = ap (λ x. a || x) miss ∙ or_none a
 
--- whether one more event breaks the device by then
-broken_more : (network : Network) (all : List Event) (event : Event) (device : DeviceId) (t : ℕ)
-    → is_broken (scenario_under network (all ++ event ∷ [])) device t
-    ≡ (is_broken (scenario_under network all) device t || (nat_le (amount event.time) t && breaks_at device.0 event.what))
-broken_more network all event device t = grind (arith, nat_le, filter-append, list_any-append, or_none)
+module _ (network : Network) (all : List Event) (event : Event) (device : DeviceId) (t : ℕ) where
+  -- whether one more event breaks the device by then
+  broken_more : is_broken (scenario_under network (all ++ event ∷ [])) device t ≡
+      (is_broken (scenario_under network all) device t || (nat_le (amount event.time) t && breaks_at device.0
+      event.what))
+  broken_more = grind (arith, nat_le, filter-append, list_any-append, or_none)
 
--- whether one more event turns the device on then
-turned_more : (network : Network) (all : List Event) (event : Event) (device : DeviceId) (t : ℕ)
-    → is_turned_on_at (scenario_under network (all ++ event ∷ [])) device t
-    ≡ (is_turned_on_at (scenario_under network all) device t || (turns_on device event.what && amount event.time == t))
-turned_more network all event device t =
-    let b = λ (e : Event). turns_on device e.what && amount e.time == t in
-    list_any-append b all (event ∷ []) ∙ ap (λ x. list_any b all || x) (or_none (b event))
+  -- whether one more event turns the device on then
+  turned_more : is_turned_on_at (scenario_under network (all ++ event ∷ [])) device t ≡
+      (is_turned_on_at (scenario_under network all) device t || (turns_on device event.what && amount event.time ==
+      t))
+  turned_more =
+      let b = λ (e : Event). turns_on device e.what && amount e.time == t in
+      list_any-append b all (event ∷ []) ∙ ap (λ x. list_any b all || x) (or_none (b event))
 
 pub clock_stays : (all : List Event) (event : Event) (device : DeviceId) (clock : Segment) → step_by device (amount event.time) event.what ≡ None
     → clocks_after clock (rate_steps all device) ≡ clocks_after clock (rate_steps (all ++ event ∷ []) device)
 clock_stays all event device clock none = ap (clocks_after clock) (append_none (rate_steps all device) ∙ sym (steps_more all event device None none))
 
-pub broken_stays : (network : Network) (all : List Event) (event : Event) (device : DeviceId) (t : ℕ) → breaks_at device.0 event.what ≡ false
-    → is_broken (scenario_under network (all ++ event ∷ [])) device t ≡ is_broken (scenario_under network all) device t
-broken_stays network all event device t none =
-    broken_more network all event device t ∙ none_of _ _ (and_right (nat_le (amount event.time) t) (breaks_at device.0 event.what) none)
+module _ (network : Network) (all : List Event) (event : Event) (device : DeviceId) where
+  pub broken_stays : (t : ℕ) → breaks_at device.0 event.what ≡ false
+      → is_broken (scenario_under network (all ++ event ∷ [])) device t
+      ≡ is_broken (scenario_under network all) device t
+  broken_stays t none =
+      broken_more network all event device t ∙ none_of _ _
+      (and_right (nat_le (amount event.time) t) (breaks_at device.0 event.what) none)
 
-pub turned_stays : (network : Network) (all : List Event) (event : Event) (device : DeviceId) (t : ℕ) → turns_on device event.what ≡ false
-    → is_turned_on_at (scenario_under network (all ++ event ∷ [])) device t ≡ is_turned_on_at (scenario_under network all) device t
-turned_stays network all event device t none = turned_more network all event device t ∙ none_of _ _ (ap (λ b. b && amount event.time == t) none)
+  pub turned_stays : (t : ℕ) → turns_on device event.what ≡ false
+      → is_turned_on_at (scenario_under network (all ++ event ∷ [])) device t
+      ≡ is_turned_on_at (scenario_under network all) device t
+  turned_stays t none =
+      turned_more network all event device t ∙ none_of _ _ (ap (λ b. b && amount event.time == t) none)
 
--- a device that the event does not concern
-pub device_stays : (network : Network) (all : List Event) (event : Event) (device : DeviceId) (told : DeviceHistory)
-    → step_by device (amount event.time) event.what ≡ None → breaks_at device.0 event.what ≡ false → turns_on device event.what ≡ false
-    → TellsDevice network all device told → TellsDevice network (all ++ event ∷ []) device told
-device_stays network all event device told no_step no_break no_turn h = record {
-  fresh = h.fresh;
-  clock = h.clock ∙ clock_stays all event device (fresh_segment (amount network.grain)) no_step;
-  broken = λ t. broken_stays network all event device t no_break ∙ h.broken t;
-  turned_on = λ t. turned_stays network all event device t no_turn ∙ h.turned_on t;
-}
+  -- a device that the event does not concern
+  pub device_stays : {told : DeviceHistory} → step_by device (amount event.time) event.what ≡ None
+      → breaks_at device.0 event.what ≡ false → turns_on device event.what ≡ false
+      → TellsDevice network all device told → TellsDevice network (all ++ event ∷ []) device told
+  device_stays no_step no_break no_turn h = record {
+    fresh = h.fresh;
+    clock = h.clock ∙ clock_stays all event device (fresh_segment (amount network.grain)) no_step;
+    broken = λ t. broken_stays t no_break ∙ h.broken t;
+    turned_on = λ t. turned_stays t no_turn ∙ h.turned_on t;
+  }
 
 -- ---- a break, and a turning on, is the first
 
@@ -179,33 +188,37 @@ none_filtered b p (e ∷ es) none =
     or_parts true y miss = absurd (false≢true (sym miss))
     or_parts false y miss = (refl, miss)
 
--- a break within the hypothesis is the first of the device
-pub broken_first : (network : Network) (all : List Event) (event : Event) (device : DeviceId) (t : ℕ) → IsWithinHypothesis network all event
-    → event.what ≡ events.Break device → is_broken (scenario_under network (all ++ event ∷ [])) device t ≡ nat_le (amount event.time) t
-broken_first network all event device t within what =
-    let none = none_filtered (λ e. breaks_at device.0 e.what) (λ e. nat_le (amount e.time) t) all
-    (none_any (Breaks device) (λ e. breaks_at device.0 e.what) (λ e hit. broken_by device e.what hit) all
-    (λ known. within outside.SecondBreak (record { device = device; broken = device; breaks = what; is_broken = known }))) in
-    let here : breaks_at device.0 event.what ≡ true = ap (breaks_at device.0) what ∙ eq-eqb device.0 device.0 refl in
-    broken_more network all event device t
-    ∙ ap (λ x. x || (nat_le (amount event.time) t && breaks_at device.0 event.what)) none
-    ∙ ap (λ x. nat_le (amount event.time) t && x) here ∙ and_true (nat_le (amount event.time) t)
-  where
-    and_true : (b : Bool) → (b && true) ≡ b
-    and_true true = refl
-    and_true false = refl
+module _ (network : Network) (all : List Event) (event : Event) (device : DeviceId) (t : ℕ)
+    (within : IsWithinHypothesis network all event) where
+  -- a break within the hypothesis is the first of the device
+  pub broken_first : event.what ≡ events.Break device → is_broken
+      (scenario_under network (all ++ event ∷ [])) device t ≡ nat_le (amount event.time) t
+  broken_first what =
+      let none = none_filtered (λ e. breaks_at device.0 e.what) (λ e. nat_le (amount e.time) t) all
+      (none_any (Breaks device) (λ e. breaks_at device.0 e.what) (λ e hit. broken_by device e.what hit) all
+      (λ known. within outside.SecondBreak
+      (record { device = device; broken = device; breaks = what; is_broken = known }))) in
+      let here : breaks_at device.0 event.what ≡ true = ap (breaks_at device.0) what ∙ eq-eqb device.0 device.0 refl in
+      broken_more network all event device t
+      ∙ ap (λ x. x || (nat_le (amount event.time) t && breaks_at device.0 event.what)) none
+      ∙ ap (λ x. nat_le (amount event.time) t && x) here ∙ and_true (nat_le (amount event.time) t)
+    where
+      and_true : (b : Bool) → (b && true) ≡ b
+      and_true true = refl
+      and_true false = refl
 
--- and so is its turning on
-pub turned_first : (network : Network) (all : List Event) (event : Event) (device : DeviceId) (t : ℕ) → IsWithinHypothesis network all event
-    → event.what ≡ events.On device → is_turned_on_at (scenario_under network (all ++ event ∷ [])) device t ≡ (amount event.time == t)
-turned_first network all event device t within what =
-    let none = none_any (TurnsOn device) (λ e. turns_on device e.what && amount e.time == t)
-    (λ e hit. on_by device e.what (let parts = and_parts (turns_on device e.what) (amount e.time == t) hit in parts.0)) all
-    (λ known. within outside.NotOff (record { device = device; what = what; known = inr (inl known) })) in
-    let here : turns_on device event.what ≡ true = ap (turns_on device) what ∙ eq-eqb device.0 device.0 refl in
-    turned_more network all event device t
-    ∙ ap (λ x. x || (turns_on device event.what && amount event.time == t)) none
-    ∙ ap (λ x. x && amount event.time == t) here
+  -- and so is its turning on
+  pub turned_first : event.what ≡ events.On device → is_turned_on_at
+      (scenario_under network (all ++ event ∷ [])) device t ≡ (amount event.time == t)
+  turned_first what =
+      let none = none_any (TurnsOn device) (λ e. turns_on device e.what && amount e.time == t)
+      (λ e hit. on_by device e.what (let parts = and_parts (turns_on device e.what) (amount e.time == t) hit in
+      parts.0)) all
+      (λ known. within outside.NotOff (record { device = device; what = what; known = inr (inl known) })) in
+      let here : turns_on device event.what ≡ true = ap (turns_on device) what ∙ eq-eqb device.0 device.0 refl in
+      turned_more network all event device t
+      ∙ ap (λ x. x || (turns_on device event.what && amount event.time == t)) none
+      ∙ ap (λ x. x && amount event.time == t) here
 
 -- ---- the events
 
@@ -213,15 +226,16 @@ pub begun_more : (all : List Event) (event : Event) → HaveBegun all → pos 0 
 begun_more all event begun here = All-push (λ e. pos 0 ≤ℤ e.time.0) all event begun here
 
 -- what a history needs in order to remember one event more
-pub remembers_more : (network : Network) (all : List Event) (event : Event) (old new : EventHistory) → Remembers network all old
-    → MayBefall network all event → pos 0 ≤ℤ event.time.0
+pub remembers_more : {network : Network} {all : List Event} {event : Event} {old : EventHistory} (new : EventHistory)
+    → Remembers network all old → MayBefall network all event → pos 0 ≤ℤ event.time.0
     → length new.ways.items ≡ length old.ways.items → AreWaysTold network (all ++ event ∷ []) new.ways.items
-    → length new.devices.items ≡ length old.devices.items → AreDevicesTold network (all ++ event ∷ []) new.devices.items
-    → Remembers network (all ++ event ∷ []) new
-remembers_more network all event old new h may begun many_ways ways many_devices devices = grind (arith, all_within, begun_more)
+    → length new.devices.items ≡ length old.devices.items
+    → AreDevicesTold network (all ++ event ∷ []) new.devices.items → Remembers network (all ++ event ∷ []) new
+remembers_more new h may begun many_ways ways many_devices devices = grind (arith, all_within, begun_more)
 
 -- or to remember the same
-pub remembers_same : (network : Network) (all : List Event) (old new : EventHistory) → Remembers network all old
-    → length new.ways.items ≡ length old.ways.items → AreWaysTold network all new.ways.items
-    → length new.devices.items ≡ length old.devices.items → AreDevicesTold network all new.devices.items → Remembers network all new
-remembers_same network all old new h many_ways ways many_devices devices = grind arith
+pub remembers_same : {network : Network} {all : List Event} {old : EventHistory} (new : EventHistory)
+    → Remembers network all old → length new.ways.items ≡ length old.ways.items
+    → AreWaysTold network all new.ways.items → length new.devices.items ≡ length old.devices.items
+    → AreDevicesTold network all new.devices.items → Remembers network all new
+remembers_same new h many_ways ways many_devices devices = grind arith

@@ -43,15 +43,17 @@ changes_sorted rho least setting (e ∷ es) h i j d le lt =
 -- ---- a setting
 
 -- what is looked up in the changes is what the events set last
-pub looked_up : {V : Type 0} (network : Network) (all : List Event) (history : EventHistory) (setting : What → Option V) (initial : V)
-    (settings : Settings V) (time : ℕ) (result : V) → Remembers network all history → IsSetBy setting initial all settings
-    → (IsNonDecreasingBy (λ c. c.from) settings.changes.items → result ≡ value_at settings.initial settings.changes.items time)
+pub looked_up : {V : Type 0} {network : Network} {all : List Event} {history : EventHistory}
+    {setting : What → Option V} {initial : V} {settings : Settings V} (time : ℕ) (result : V)
+    → Remembers network all history → IsSetBy setting initial all settings
+    → (IsNonDecreasingBy (λ c. c.from) settings.changes.items
+    → result ≡ value_at settings.initial settings.changes.items time)
     → result ≡ last_set (scenario_under network all) setting initial time
-looked_up {V} network all history setting initial settings time result h told found =
-    let order = changes_sorted network.rho 0 setting all (events_from network all h.range h.within h.begun) in
+looked_up {V} {network} {all} {setting} {initial} {settings} time result h told found =
+    let order = changes_sorted network.rho 0 setting all (events_from all h.range h.within h.begun) in
     found (subst (λ (l : List (Change V)). IsNonDecreasingBy (λ c. c.from) l) (sym told.changes) order)
     ∙ ap (λ v. value_at v settings.changes.items time) told.first
-    ∙ ap (λ (l : List (Change V)). value_at initial l time) told.changes
+    ∙ ap (λ l. value_at initial l time) told.changes
     ∙ sym (last_is setting initial time all)
 
 -- ---- places
@@ -66,26 +68,26 @@ cut_has network false link way h = h
 
 -- ---- the clocks
 
-pub steps_of : (network : Network) (all : List Event) (history : EventHistory) (device : DeviceId) → Remembers network all history
-    → StepsFrom network.rho 0 (rate_steps all device)
-steps_of network all history device h = steps_from network.rho 0 all device (events_from network all h.range h.within h.begun)
+module _ (network : Network) (all : List Event) (history : EventHistory) (device : DeviceId) where
+  pub steps_of : Remembers network all history → StepsFrom network.rho 0 (rate_steps all device)
+  steps_of h = steps_from network.rho 0 all device (events_from all h.range h.within h.begun)
 
--- the clocks of a device that is told
-pub told_clocks : (network : Network) (all : List Event) (history : EventHistory) (device : DeviceId) (told : DeviceHistory)
-    → Remembers network all history → TellsDevice network all device told → AreClocks told.clock.initial told.clock.changes.items
-told_clocks network all history device told h tells =
-    subst (λ (c : Segment). AreClocks c told.clock.changes.items) (sym tells.fresh)
-    (subst (λ (l : List (Change Segment)). AreClocks (fresh_segment (amount network.grain)) l) (sym tells.clock)
-    (are_clocks network.rho 0 (fresh_segment (amount network.grain)) (rate_steps all device) refl (steps_of network all history device h)))
+  -- the clocks of a device that is told
+  pub told_clocks : {told : DeviceHistory} → Remembers network all history → TellsDevice network all device told
+      → AreClocks told.clock.initial told.clock.changes.items
+  told_clocks {told} h tells =
+      subst (λ c. AreClocks c told.clock.changes.items) (sym tells.fresh)
+      (subst (λ l. AreClocks (fresh_segment (amount network.grain)) l) (sym tells.clock)
+      (are_clocks network.rho 0 (fresh_segment (amount network.grain)) (rate_steps all device) refl (steps_of h)))
 
--- they read what the clock of the scenario reads
-pub told_reads : (network : Network) (all : List Event) (history : EventHistory) (device : DeviceId) (told : DeviceHistory) (time : ℕ)
-    → Remembers network all history → TellsDevice network all device told
-    → clocks_reading told.clock.initial told.clock.changes.items time ≡ clock_reading network all device time
-told_reads network all history device told time h tells =
-    ap (λ (c : Segment). clocks_reading c told.clock.changes.items time) tells.fresh
-    ∙ ap (λ (l : List (Change Segment)). clocks_reading (fresh_segment (amount network.grain)) l time) tells.clock
-    ∙ clock_reads network.rho 0 time (fresh_segment (amount network.grain)) (rate_steps all device) (steps_of network all history device h)
+  -- they read what the clock of the scenario reads
+  pub told_reads : {told : DeviceHistory} (time : ℕ) → Remembers network all history
+      → TellsDevice network all device told → clocks_reading told.clock.initial told.clock.changes.items time
+      ≡ clock_reading network all device time
+  told_reads {told} time h tells =
+      ap (λ c. clocks_reading c told.clock.changes.items time) tells.fresh
+      ∙ ap (λ l. clocks_reading (fresh_segment (amount network.grain)) l time) tells.clock
+      ∙ clock_reads network.rho 0 time (fresh_segment (amount network.grain)) (rate_steps all device) (steps_of h)
 
 -- ---- a device that is ready for a step
 
@@ -94,17 +96,19 @@ pub ready_at : (devices : List DeviceHistory) (place time : ℕ) (told : DeviceH
 ready_at devices place time told within is all = subst (IsReadyFor time) (sym is) (all place told within)
 
 -- before an event that may befall the network, each device is ready for a step at its time
-pub devices_ready : (network : Network) (all : List Event) (history : EventHistory) (event : Event) → Remembers network all history
-    → MayBefall network all event → pos 0 ≤ℤ event.time.0 → All (IsReadyFor (amount event.time)) history.devices.items
-devices_ready network all history event h may begun k d lt =
+pub devices_ready : {network : Network} {all : List Event} {history : EventHistory} {event : Event}
+    → Remembers network all history → MayBefall network all event → pos 0 ≤ℤ event.time.0
+    → All (IsReadyFor (amount event.time)) history.devices.items
+devices_ready {network} {all} {history} {event} h may begun k d lt =
     let items = history.devices.items in
     let device : DeviceId = record { 0 = k } in
     let told = slice_index_or items k d in
     let tells = h.devices device told (slice_get-get_or items k d lt) in
     let fresh = fresh_segment (amount network.grain) in
-    let from = events_from network (all ++ event ∷ []) h.range (all_within network all event h.within may.within) (begun_more all event h.begun begun) in
+    let from = events_from (all ++ event ∷ []) h.range (all_within network all event h.within may.within)
+    (begun_more all event h.begun begun) in
     record {
-      clocks = told_clocks network all history device told h tells;
+      clocks = told_clocks network all history device h tells;
       later = subst (λ (l : List (Change Segment)). All (λ c. c.from ≤ amount event.time) l) (sym tells.clock)
           (clocks_up_to (amount event.time) fresh (rate_steps all device) (steps_up_to network.rho 0 all event device from));
     }

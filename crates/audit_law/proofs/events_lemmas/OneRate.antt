@@ -8,16 +8,17 @@ use Rattle.run_law.specs.declared.outside.Outside.TheVariants as outside
 rate_of : (d e : DeviceId) (r s : Ppb) → events.Rate d r ≡ events.Rate e s → r ≡ s
 rate_of d e r s same = cc
 
-pub rate_within : (network : Network) (event : Event) (device : DeviceId) (rate : Ppb) → event.time.0 ≡ pos 0 → event.what ≡ events.Rate device rate
-    → unsigned_abs rate.0 ≤ network.rho → IsWithinHypothesis network [] event
-rate_within network event device rate begins is slow outside.Order v = none_before v.front [] v.last v.order
-rate_within network event device rate begins is slow outside.Late v = omega (arith, ints, v, begins)
-rate_within network event device rate begins is slow outside.Rate v = grind (arith, rate_of, unsigned_abs)
-rate_within network event device rate begins is slow outside.Wire v = let what = v.what in absurd cc
-rate_within network event device rate begins is slow outside.Hold v = let what = v.what in absurd cc
-rate_within network event device rate begins is slow outside.Channel v = let what = v.what in absurd cc
-rate_within network event device rate begins is slow outside.NotMaster v = let what = v.breaks in absurd cc
-rate_within network event device rate begins is slow outside.SecondBreak v = let what = v.breaks in absurd cc
-rate_within network event device rate begins is slow outside.TooFewMasters v = let what = v.breaks in absurd cc
-rate_within network event device rate begins is slow outside.NotBroken v = let what = v.what in absurd cc
-rate_within network event device rate begins is slow outside.NotOff v = let what = v.what in absurd cc
+module _ (network : Network) (event : Event) (device : DeviceId) (rate : Ppb) (begins : event.time.0 ≡ pos 0)
+    (is : event.what ≡ events.Rate device rate) (slow : unsigned_abs rate.0 ≤ network.rho) where
+  pub rate_within : IsWithinHypothesis network [] event
+  rate_within outside.Order v = none_before v.front [] v.last v.order
+  rate_within outside.Late v = omega (arith, ints, v, begins)
+  rate_within outside.Rate v = grind (arith, rate_of, unsigned_abs)
+  rate_within outside.Wire v = let what = v.what in absurd cc
+  rate_within outside.Hold v = let what = v.what in absurd cc
+  rate_within outside.Channel v = let what = v.what in absurd cc
+  rate_within outside.NotMaster v = let what = v.breaks in absurd cc
+  rate_within outside.SecondBreak v = let what = v.breaks in absurd cc
+  rate_within outside.TooFewMasters v = let what = v.breaks in absurd cc
+  rate_within outside.NotBroken v = let what = v.what in absurd cc
+  rate_within outside.NotOff v = let what = v.what in absurd cc

@@ -24,7 +24,7 @@ value_split v (c ∷ cs) from t le order = elim (cases_lt from c.from) [
   | inl lt ↦
       let late = behind_late c cs from order lt in
       ap (λ w. value_at w (c ∷ cs) t) (sym (value_before v (c ∷ cs) from late))
-      ∙ ap (λ (l : List (Change Segment)). value_at (value_at v (c ∷ cs) from) l t) (all_later (c ∷ cs) from late)
+      ∙ ap (λ l. value_at (value_at v (c ∷ cs) from) l t) (all_later (c ∷ cs) from late)
   | inr ge ↦
       let now = le-leb c.from from ge in
       let then_too = le-leb c.from t (omega (arith, ge, le)) in
@@ -59,8 +59,9 @@ left_behind v (c ∷ cs) from order each on = elim (cases_lt from c.from) [
       (left_behind c.value cs from (tail_order c cs order) (λ k d lt. each (suc k) d (omega (arith, lt))) on.1))
 ]
 
-left_tail : (clock : Segment) (start : ℕ) (c : Change Segment) (cs : List (Change Segment)) → IsLeft clock start (c ∷ cs) → IsLeft c.value c.from cs
-left_tail clock start c cs left = record {
+left_tail : {clock : Segment} {start : ℕ} (c : Change Segment) (cs : List (Change Segment))
+    → IsLeft clock start (c ∷ cs) → IsLeft c.value c.from cs
+left_tail c cs left = record {
   order = tail_order c cs left.order;
   each = λ k d lt. left.each (suc k) d (omega (arith, lt));
   after = λ k d lt. left.order 0 (suc k) d (omega arith) (omega (arith, lt));
@@ -68,9 +69,9 @@ left_tail clock start c cs left = record {
 }
 
 -- the clock stays until the next change
-steady : (clock : Segment) (c : Change Segment) (cs : List (Change Segment)) (start x : ℕ) → IsLeft clock start (c ∷ cs) → x < c.from
-    → value_at clock (c ∷ cs) x ≡ clock
-steady clock c cs start x left lt = value_before clock (c ∷ cs) x (behind_late c cs x left.order lt)
+steady : {clock : Segment} (c : Change Segment) (cs : List (Change Segment)) {start : ℕ} (x : ℕ)
+    → IsLeft clock start (c ∷ cs) → x < c.from → value_at clock (c ∷ cs) x ≡ clock
+steady {clock} c cs x left lt = value_before clock (c ∷ cs) x (behind_late c cs x left.order lt)
 
 -- ---- readings never fall
 
@@ -89,11 +90,12 @@ reads_more : (clock : Segment) (start : ℕ) (later : List (Change Segment)) (t 
     → segment_reading clock start ≤ clocks_reading clock later t
 reads_more clock start [] t left le = reads_on clock start t le
 reads_more clock start (c ∷ cs) t left le = elim (cases_lt t c.from) [
-  | inl lt ↦ subst (λ v. segment_reading clock start ≤ segment_reading v t) (sym (steady clock c cs start t left lt)) (reads_on clock start t le)
+  | inl lt ↦ subst (λ v. segment_reading clock start ≤ segment_reading v t) (sym (steady c cs t left lt))
+      (reads_on clock start t le)
   | inr ge ↦
       let first = reads_on clock start c.from (left.after 0 c (omega arith)) in
       let same = left.go_on.0 in
-      let rest = reads_more c.value c.from cs t (left_tail clock start c cs left) ge in
+      let rest = reads_more c.value c.from cs t (left_tail c cs left) ge in
       subst (λ b. segment_reading clock start ≤ segment_reading (value_at (if b then c.value else clock) cs t) t) (sym (le-leb c.from t ge))
       (omega (arith, first, same, rest))
 ]
@@ -108,16 +110,17 @@ reads_above clock start (c ∷ cs) left zero d lt =
 reads_above clock start (c ∷ cs) left (suc k) d lt =
     let first = reads_on clock start c.from (left.after 0 c (omega arith)) in
     let same = left.go_on.0 in
-    let rest = reads_above c.value c.from cs (left_tail clock start c cs left) k d (omega (arith, lt)) in
+    let rest = reads_above c.value c.from cs (left_tail c cs left) k d (omega (arith, lt)) in
     omega (arith, first, same, rest)
 
 pub rising : (clock : Segment) (start : ℕ) (later : List (Change Segment)) → IsLeft clock start later → IsNonDecreasingBy reading_then later
 rising clock start [] left i j d le lt = absurd (omega (arith, lt))
 rising clock start (c ∷ cs) left zero zero d le lt = omega arith
-rising clock start (c ∷ cs) left zero (suc j) d le lt = reads_above c.value c.from cs (left_tail clock start c cs left) j d (omega (arith, lt))
+rising clock start (c ∷ cs) left zero (suc j) d le lt =
+    reads_above c.value c.from cs (left_tail c cs left) j d (omega (arith, lt))
 rising clock start (c ∷ cs) left (suc i) zero d le lt = absurd (omega (arith, le))
 rising clock start (c ∷ cs) left (suc i) (suc j) d le lt =
-    rising c.value c.from cs (left_tail clock start c cs left) i j d (omega (arith, le)) (omega (arith, lt))
+    rising c.value c.from cs (left_tail c cs left) i j d (omega (arith, le)) (omega (arith, lt))
 
 -- ---- the search by halves
 
@@ -136,42 +139,43 @@ halves_begin goal changes = record {
   reached = λ k d low high. absurd (omega (arith, low, high));
 }
 
-pub halves_up : (goal : ℤ) (changes : List (Change Segment)) (low high middle : ℕ) (c d : Change Segment) → IsNonDecreasingBy reading_then changes
-    → IsHalved goal changes low high → middle < high → c ≡ slice_index_or changes middle d → IsShortOf goal c → IsHalved goal changes (middle + 1) high
-halves_up goal changes low high middle c d order h below is less =
-    let bound = h.bound in
-    let inside : middle < length changes = omega (arith, below, bound) in
-    record {
-      within = omega (arith, below);
-      bound = bound;
-      short = λ k e from upto.
-          let here : c ≡ slice_index_or changes middle e = is ∙ get_or_default changes middle d e inside in
-          let last = subst (IsShortOf goal) here less in
-          let up = order k middle e (omega (arith, upto)) inside in
-          omega (arith, ints, last, up);
-      reached = h.reached;
-    }
+module _ {goal : ℤ} {changes : List (Change Segment)} {low high : ℕ} (middle : ℕ) (c d : Change Segment)
+    (order : IsNonDecreasingBy reading_then changes) (h : IsHalved goal changes low high) where
+  pub halves_up : middle < high → c ≡ slice_index_or changes middle d → IsShortOf goal c
+      → IsHalved goal changes (middle + 1) high
+  halves_up below is less =
+      let bound = h.bound in
+      let inside : middle < length changes = omega (arith, below, bound) in
+      record {
+        within = omega (arith, below);
+        bound = bound;
+        short = λ k e from upto.
+            let here : c ≡ slice_index_or changes middle e = is ∙ get_or_default changes middle d e inside in
+            let last = subst (IsShortOf goal) here less in
+            let up = order k middle e (omega (arith, upto)) inside in
+            omega (arith, ints, last, up);
+        reached = h.reached;
+      }
 
-pub halves_down : (goal : ℤ) (changes : List (Change Segment)) (low high middle : ℕ) (c d : Change Segment) → IsNonDecreasingBy reading_then changes
-    → IsHalved goal changes low high → low ≤ middle → middle < high → c ≡ slice_index_or changes middle d → HasReached goal c
-    → IsHalved goal changes low middle
-halves_down goal changes low high middle c d order h above below is more =
-    let bound = h.bound in
-    let inside : middle < length changes = omega (arith, below, bound) in
-    record {
-      within = above;
-      bound = omega (arith, inside);
-      short = h.short;
-      reached = λ k e from upto.
-          let here : c ≡ slice_index_or changes middle e = is ∙ get_or_default changes middle d e inside in
-          let first = subst (HasReached goal) here more in
-          let up = order middle k e from upto in
-          omega (arith, ints, first, up);
-    }
+  pub halves_down : low ≤ middle → middle < high → c ≡ slice_index_or changes middle d → HasReached goal c
+      → IsHalved goal changes low middle
+  halves_down above below is more =
+      let bound = h.bound in
+      let inside : middle < length changes = omega (arith, below, bound) in
+      record {
+        within = above;
+        bound = omega (arith, inside);
+        short = h.short;
+        reached = λ k e from upto.
+            let here : c ≡ slice_index_or changes middle e = is ∙ get_or_default changes middle d e inside in
+            let first = subst (HasReached goal) here more in
+            let up = order middle k e from upto in
+            omega (arith, ints, first, up);
+      }
 
-pub halves_end : (goal : ℤ) (changes : List (Change Segment)) (low high : ℕ) → IsHalved goal changes low high → high ≤ low
-    → IsPartitionPoint (IsShortOf goal) (HasReached goal) changes low
-halves_end goal changes low high h done =
+pub halves_end : {goal : ℤ} {changes : List (Change Segment)} {low high : ℕ} → IsHalved goal changes low high
+    → high ≤ low → IsPartitionPoint (IsShortOf goal) (HasReached goal) changes low
+halves_end h done =
     let within = h.within in
     (h.short, λ k d from upto. h.reached k d (omega (arith, from, done)) upto)
 
@@ -209,17 +213,18 @@ reached_later r s from later goal until (Some time) le before same found =
     )
 
 -- a goal that the next change has reached is first reached as the clock goes on up to it
-reached_first : (clock : Segment) (start : ℕ) (c : Change Segment) (cs : List (Change Segment)) (goal : ℤ) (until : ℕ) (result : Option ℕ)
-    → IsLeft clock start (c ∷ cs) → HasReached goal c → IsFirstReach (segment_reading clock) start goal until result
+reached_first : {clock : Segment} {start : ℕ} (c : Change Segment) (cs : List (Change Segment)) (goal : ℤ)
+    (until : ℕ) (result : Option ℕ) → IsLeft clock start (c ∷ cs) → HasReached goal c
+    → IsFirstReach (segment_reading clock) start goal until result
     → IsFirstReach (clocks_reading clock (c ∷ cs)) start goal until result
-reached_first clock start c cs goal until None left more none = λ x after upto. elim (cases_lt x c.from) [
-  | inl lt ↦ subst (λ v. pos (segment_reading v x) <ℤ goal) (sym (steady clock c cs start x left lt)) (none x after upto)
+reached_first c cs goal until None left more none = λ x after upto. elim (cases_lt x c.from) [
+  | inl lt ↦ subst (λ v. pos (segment_reading v x) <ℤ goal) (sym (steady c cs x left lt)) (none x after upto)
   | inr ge ↦
       let less = none c.from (left.after 0 c (omega arith)) (omega (arith, ge, upto)) in
       let same = left.go_on.0 in
       absurd (omega (arith, ints, less, same, more))
 ]
-reached_first clock start c cs goal until (Some time) left more found =
+reached_first {clock} {start} c cs goal until (Some time) left more found =
     let same = left.go_on.0 in
     let sooner : start ≤ c.from = left.after 0 c (omega arith) in
     let upto : time ≤ c.from = elim (cases_lt c.from time) [
@@ -231,14 +236,14 @@ reached_first clock start c cs goal until (Some time) left more found =
       record {
         from_on = found.0.from_on;
         reached = elim (cases_lt time c.from) [
-          | inl lt ↦ subst (λ v. goal ≤ℤ pos (segment_reading v time)) (sym (steady clock c cs start time left lt)) found.0.reached
+          | inl lt ↦ subst (λ v. goal ≤ℤ pos (segment_reading v time)) (sym (steady c cs time left lt)) found.0.reached
           | inr ge ↦
-              let up = reads_more c.value c.from cs time (left_tail clock start c cs left) ge in
+              let up = reads_more c.value c.from cs time (left_tail c cs left) ge in
               subst (λ b. goal ≤ℤ pos (segment_reading (value_at (if b then c.value else clock) cs time) time)) (sym (le-leb c.from time ge))
               (omega (arith, ints, more, up))
         ];
         not_before = λ x from_x lt.
-            subst (λ v. pos (segment_reading v x) <ℤ goal) (sym (steady clock c cs start x left (omega (arith, ints, lt, upto))))
+            subst (λ v. pos (segment_reading v x) <ℤ goal) (sym (steady c cs x left (omega (arith, ints, lt, upto))))
             (found.0.not_before x from_x lt);
       },
       found.1,
@@ -253,17 +258,18 @@ set_last_at first c later (suc k) bound some is =
     is ∙ ap (λ n. slice_index_or later n c) place ∙ get_or_default later k c first (omega (arith, bound))
 
 -- a goal that is not reached before the next change is first reached behind it
-reached_behind : (clock : Segment) (start : ℕ) (c : Change Segment) (cs : List (Change Segment)) (goal : ℤ) (until : ℕ) (result : Option ℕ)
-    → IsLeft clock start (c ∷ cs) → IsShortOf goal c → IsFirstReach (clocks_reading c.value cs) c.from goal until result
+reached_behind : {clock : Segment} {start : ℕ} (c : Change Segment) (cs : List (Change Segment)) (goal : ℤ)
+    (until : ℕ) (result : Option ℕ) → IsLeft clock start (c ∷ cs) → IsShortOf goal c
+    → IsFirstReach (clocks_reading c.value cs) c.from goal until result
     → IsFirstReach (clocks_reading clock (c ∷ cs)) start goal until result
-reached_behind clock start c cs goal until result left less found =
+reached_behind {clock} {start} c cs goal until result left less found =
     let reading = clocks_reading clock (c ∷ cs) in
     let sooner : start ≤ c.from = left.after 0 c (omega arith) in
     let before : (x : ℕ) → start ≤ x → x < c.from → pos (reading x) <ℤ goal =
     λ x after lt.
     let up = reads_on clock x c.from (omega (arith, lt)) in
     let same = left.go_on.0 in
-    subst (λ v. pos (segment_reading v x) <ℤ goal) (sym (steady clock c cs start x left lt)) (omega (arith, ints, up, same, less))
+    subst (λ v. pos (segment_reading v x) <ℤ goal) (sym (steady c cs x left lt)) (omega (arith, ints, up, same, less))
     in
     let behind : (x : ℕ) → c.from ≤ x → clocks_reading c.value cs x ≡ reading x =
     λ x ge. ap (λ b. segment_reading (value_at (if b then c.value else clock) cs x) x) (sym (le-leb c.from x ge)) in
@@ -276,43 +282,44 @@ pub reached_set_last : (first : Change Segment) (later : List (Change Segment)) 
 reached_set_last first [] goal zero until result left bound part found = found
 reached_set_last first [] goal (suc k) until result left bound part found = absurd (omega (arith, bound))
 reached_set_last first (c ∷ cs) goal zero until result left bound part found =
-    reached_first first.value first.from c cs goal until result left (part.1 0 c (omega arith) (omega arith)) found
+    reached_first c cs goal until result left (part.1 0 c (omega arith) (omega arith)) found
 reached_set_last first (c ∷ cs) goal (suc k) until result left bound part found =
-    reached_behind first.value first.from c cs goal until result left (part.0 0 c (omega arith) (omega arith))
-    (reached_set_last c cs goal k until result (left_tail first.value first.from c cs left) (omega (arith, bound)) (
+    reached_behind c cs goal until result left (part.0 0 c (omega arith) (omega arith))
+    (reached_set_last c cs goal k until result (left_tail c cs left) (omega (arith, bound)) (
       λ i e low high. part.0 (suc i) e (omega arith) (omega (arith, high)),
       λ i e low high. part.1 (suc i) e (omega (arith, low)) (omega (arith, high)),
     )
     (subst (λ x. IsFirstReach (segment_reading x.value) x.from goal until result) (set_last_behind first c cs k (omega (arith, bound))) found))
 
--- what is left of the clocks from a time on
-pub left_of : (initial : Segment) (changes : List (Change Segment)) (from : ℕ) → AreClocks initial changes
-    → IsLeft (value_at initial changes from) from (later_than from changes)
-left_of initial changes from are = left_behind initial changes from are.in_order are.each are.go_on
+module _ (initial : Segment) (changes : List (Change Segment)) (from : ℕ) where
+  -- what is left of the clocks from a time on
+  pub left_of : AreClocks initial changes → IsLeft (value_at initial changes from) from (later_than from changes)
+  left_of are = left_behind initial changes from are.in_order are.each are.go_on
 
--- the first reach is that of the clock which the changes that read less set last
-pub first_of_last : (initial : Segment) (changes : List (Change Segment)) (from : ℕ) (goal : ℤ) (count : ℕ) → AreClocks initial changes
-    → count ≤ length (later_than from changes) → IsPartitionPoint (IsShortOf goal) (HasReached goal) (later_than from changes) count
-    → (last : Change Segment) → last ≡ set_last (change_to from (value_at initial changes from)) (later_than from changes) count
-    → (until : ℕ) (result : Option ℕ) → IsFirstReach (segment_reading last.value) last.from goal until result
-    → IsFirstReach (clocks_reading initial changes) from goal until result
-first_of_last initial changes from goal count are bound part last is until result found =
-    let first = change_to from (value_at initial changes from) in
-    let later = later_than from changes in
-    reached_later (clocks_reading first.value later) (clocks_reading initial changes) from from goal until result (omega arith)
-    (λ x after before. absurd (omega (arith, after, before)))
-    (λ x after. ap (λ v. segment_reading v x) (sym (value_split initial changes from x after are.in_order)))
-    (reached_set_last first later goal count until result (left_of initial changes from are) bound part
-    (subst (λ x. IsFirstReach (segment_reading x.value) x.from goal until result) is found))
+  -- the first reach is that of the clock which the changes that read less set last
+  pub first_of_last : (goal : ℤ) (count : ℕ) → AreClocks initial changes → count ≤ length (later_than from changes)
+      → IsPartitionPoint (IsShortOf goal) (HasReached goal) (later_than from changes) count → (last : Change Segment)
+      → last ≡ set_last (change_to from (value_at initial changes from)) (later_than from changes) count
+      → (until : ℕ) (result : Option ℕ) → IsFirstReach (segment_reading last.value) last.from goal until result
+      → IsFirstReach (clocks_reading initial changes) from goal until result
+  first_of_last goal count are bound part last is until result found =
+      let first = change_to from (value_at initial changes from) in
+      let later = later_than from changes in
+      reached_later (clocks_reading first.value later) (clocks_reading initial changes) from from goal until result
+      (omega arith)
+      (λ x after before. absurd (omega (arith, after, before)))
+      (λ x after. ap (λ v. segment_reading v x) (sym (value_split initial changes from x after are.in_order)))
+      (reached_set_last first later goal count until result (left_of are) bound part
+      (subst (λ x. IsFirstReach (segment_reading x.value) x.from goal until result) is found))
 
--- it can be read
-pub last_readable : (initial : Segment) (changes : List (Change Segment)) (from : ℕ) (count : ℕ) → AreClocks initial changes → from ≤ 2 ^ 60
-    → count ≤ length (later_than from changes)
-    → IsReadable (set_last (change_to from (value_at initial changes from)) (later_than from changes) count)
-last_readable initial changes from zero are limit bound =
-    record { stepped = value_ready initial changes from (let b = are.begins in omega (arith, b)) are.each; limit = limit }
-last_readable initial changes from (suc k) are limit bound =
-    (left_of initial changes from are).each k (change_to from (value_at initial changes from)) (omega (arith, bound))
+  -- it can be read
+  pub last_readable : (count : ℕ) → AreClocks initial changes → from ≤ 2 ^ 60
+      → count ≤ length (later_than from changes) → IsReadable
+      (set_last (change_to from (value_at initial changes from)) (later_than from changes) count)
+  last_readable zero are limit bound =
+      record { stepped = value_ready initial changes from (let b = are.begins in omega (arith, b)) are.each; limit = limit }
+  last_readable (suc k) are limit bound =
+      (left_of are).each k (change_to from (value_at initial changes from)) (omega (arith, bound))
 
 -- ---- what was sought
 

@@ -33,7 +33,7 @@ reads_on laws begins network all device range within begun =
     let some : 1 ≤ grain = omega (arith, ints, low) in
     let fine : grain ≤ 2 ^ 20 = omega (arith, ints, high) in
     let keeps = laws network.rho grain steps range.rho some
-    (steps_history network.rho 0 steps (steps_from network.rho 0 all device (events_from network all range within begun))) in
+    (steps_history network.rho 0 steps (steps_from network.rho 0 all device (events_from all range within begun))) in
     record {
       begins = begins grain steps;
       never_falls = keeps.never_falls;

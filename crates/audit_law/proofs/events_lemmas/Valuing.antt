@@ -81,31 +81,33 @@ one_change : {V : Type 0} (t time : ℕ) (v : V) (m : Option V) (cs : List (Chan
 one_change t time v (Some w) cs = refl
 one_change t time v None cs = grind (arith, nat_le)
 
--- the last value set, where `o` was set before
-last_from : {V : Type 0} (setting : What → Option V) (initial : V) (t : ℕ) (events : List Event) (o : Option V)
-    → unwrap_or (last_or o (filter_map (λ e. setting e.what) (filter (λ e. nat_le (amount e.time) t) events))) initial
-    ≡ value_at (unwrap_or o initial) (changes_by setting events) t
-last_from setting initial t [] o = refl
-last_from {V} setting initial t (e ∷ es) o =
-    let rest = filter (λ e. nat_le (amount e.time) t) es in
-    (elim (nat_le (amount e.time) t) as
-    (λ b. unwrap_or (last_or o (filter_map (λ e. setting e.what) (if b then e ∷ rest else rest))) initial
-    ≡ value_at (if b then unwrap_or (setting e.what) (unwrap_or o initial) else unwrap_or o initial) (changes_by setting es) t) [
-      | true ↦ elim (setting e.what) as
-          (λ m. unwrap_or (last_or o (cons_option m (filter_map (λ e. setting e.what) rest))) initial
-          ≡ value_at (unwrap_or m (unwrap_or o initial)) (changes_by setting es) t) [
-            | Some w ↦ last_from setting initial t es (Some w)
-            | None ↦ last_from setting initial t es o
-          ]
-      | false ↦ last_from setting initial t es o
-    ])
-    ∙ sym (one_change t (amount e.time) (unwrap_or o initial) (setting e.what) (changes_by setting es))
+module _ {V : Type 0} (setting : What → Option V) (initial : V) (t : ℕ) where
+  -- the last value set, where `o` was set before
+  last_from : (events : List Event) (o : Option V) → unwrap_or
+      (last_or o (filter_map (λ e. setting e.what) (filter (λ e. nat_le (amount e.time) t) events))) initial
+      ≡ value_at (unwrap_or o initial) (changes_by setting events) t
+  last_from [] o = refl
+  last_from (e ∷ es) o =
+      let rest = filter (λ e. nat_le (amount e.time) t) es in
+      (elim (nat_le (amount e.time) t) as
+      (λ b. unwrap_or (last_or o (filter_map (λ e. setting e.what) (if b then e ∷ rest else rest))) initial
+      ≡ value_at (if b then unwrap_or (setting e.what) (unwrap_or o initial) else unwrap_or o initial)
+      (changes_by setting es) t) [
+        | true ↦ elim (setting e.what) as
+            (λ m. unwrap_or (last_or o (cons_option m (filter_map (λ e. setting e.what) rest))) initial
+            ≡ value_at (unwrap_or m (unwrap_or o initial)) (changes_by setting es) t) [
+              | Some w ↦ last_from es (Some w)
+              | None ↦ last_from es o
+            ]
+        | false ↦ last_from es o
+      ])
+      ∙ sym (one_change t (amount e.time) (unwrap_or o initial) (setting e.what) (changes_by setting es))
 
--- the last value that the events set is that of their changes
-pub last_is : {V : Type 0} (setting : What → Option V) (initial : V) (t : ℕ) (events : List Event)
-    → unwrap_or (last_or None (filter_map (λ e. setting e.what) (filter (λ e. nat_le (amount e.time) t) events))) initial
-    ≡ value_at initial (changes_by setting events) t
-last_is setting initial t events = last_from setting initial t events None
+  -- the last value that the events set is that of their changes
+  pub last_is : (events : List Event) → unwrap_or
+      (last_or None (filter_map (λ e. setting e.what) (filter (λ e. nat_le (amount e.time) t) events))) initial
+      ≡ value_at initial (changes_by setting events) t
+  last_is events = last_from events None
 
 -- ---- one event more
 
@@ -115,20 +117,21 @@ set_by {V} setting events event m is =
     filter_map-append (λ e. option_map (change_to (amount e.time)) (setting e.what)) events (event ∷ [])
     ∙ ap (λ (o : Option V). changes_by setting events ++ cons_option (option_map (change_to (amount event.time)) o) []) is
 
--- an event that sets the value
-pub set_more : {V : Type 0} (setting : What → Option V) (initial : V) (events : List Event) (event : Event) (v : V) (old new : Settings V)
-    → setting event.what ≡ Some v → new.initial ≡ old.initial
-    → new.changes.items ≡ old.changes.items ++ change_to (amount event.time) v ∷ [] → IsSetBy setting initial events old
-    → IsSetBy setting initial (events ++ event ∷ []) new
-set_more {V} setting initial events event v old new is first more h = record {
-  first = first ∙ h.first;
-  changes = more ∙ ap (λ (l : List (Change V)). l ++ change_to (amount event.time) v ∷ []) h.changes ∙ sym (set_by setting events event (Some v) is);
-}
+module _ {V : Type 0} (setting : What → Option V) (initial : V) (events : List Event) (event : Event) where
+  -- an event that sets the value
+  pub set_more : (v : V) {old : Settings V} (new : Settings V) → setting event.what ≡ Some v
+      → new.initial ≡ old.initial → new.changes.items ≡ old.changes.items ++ change_to (amount event.time) v ∷ []
+      → IsSetBy setting initial events old → IsSetBy setting initial (events ++ event ∷ []) new
+  set_more v new is first more h = record {
+    first = first ∙ h.first;
+    changes = more ∙ ap (λ (l : List (Change V)). l ++ change_to (amount event.time) v ∷ []) h.changes ∙ sym
+        (set_by setting events event (Some v) is);
+  }
 
--- an event that does not
-pub set_stays : {V : Type 0} (setting : What → Option V) (initial : V) (events : List Event) (event : Event) (settings : Settings V)
-    → setting event.what ≡ None → IsSetBy setting initial events settings → IsSetBy setting initial (events ++ event ∷ []) settings
-set_stays setting initial events event settings is h = record {
-  first = h.first;
-  changes = h.changes ∙ sym (set_by setting events event None is ∙ append_none (changes_by setting events));
-}
+  -- an event that does not
+  pub set_stays : {settings : Settings V} → setting event.what ≡ None → IsSetBy setting initial events settings
+      → IsSetBy setting initial (events ++ event ∷ []) settings
+  set_stays is h = record {
+    first = h.first;
+    changes = h.changes ∙ sym (set_by setting events event None is ∙ append_none (changes_by setting events));
+  }

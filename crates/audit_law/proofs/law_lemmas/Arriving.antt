@@ -24,18 +24,22 @@ pub same_standpoint : (s : Scenario) (device : DeviceId) (t : ℕ) (ps hs : List
     → standpoint s ps device t ≡ standpoint s hs device t
 same_standpoint s device t ps hs same = grind (arith, not, is_turned_on_at, state_after, is_broken, adjustment_after)
 
--- a time-triggered frame is judged by the last cycle of its own virtual link alone
-by_entry : (network : Network) (device : DeviceId) (at : Standpoint) (size : ℕ) (last other : VlId → Option ℕ) (entry : Option Entry)
-    → ((vl : VlId) → last vl ≡ other vl) → entry_arrival network device at size last entry ≡ entry_arrival network device at size other entry
-by_entry network device at size last other None same = refl
-by_entry network device at size last other (Some entry) same =
-    ap (λ (o : Option ℕ). taken_or_fault network device at entry (row_fault network at entry size o)) (same entry.row.vl)
+module _ (network : Network) (device : DeviceId) where
+  -- a time-triggered frame is judged by the last cycle of its own virtual link alone
+  by_entry : (at : Standpoint) (size : ℕ) (last other : VlId → Option ℕ) (entry : Option Entry)
+      → ((vl : VlId) → last vl ≡ other vl) → entry_arrival network device at size last entry
+      ≡ entry_arrival network device at size other entry
+  by_entry at size last other None same = refl
+  by_entry at size last other (Some entry) same =
+      ap (λ o. taken_or_fault network device at entry (row_fault network at entry size o))
+      (same entry.row.vl)
 
-pub by_octets : (network : Network) (device : DeviceId) (link : LinkId) (at : Standpoint) (octets : List ℕ) (last other : VlId → Option ℕ)
-    (fault : Option Reason)
-    → ((vl : VlId) → last vl ≡ other vl) → octets_or_fault network device link at octets last fault ≡ octets_or_fault network device link at octets other fault
-by_octets network device link at octets last other (Some reason) same = refl
-by_octets network device link at octets last other None same = by_entry network device at (length octets) last other _ same
+  pub by_octets : (link : LinkId) (at : Standpoint) (octets : List ℕ) (last other : VlId → Option ℕ)
+      (fault : Option Reason) → ((vl : VlId) → last vl ≡ other vl)
+      → octets_or_fault network device link at octets last fault
+      ≡ octets_or_fault network device link at octets other fault
+  by_octets link at octets last other (Some reason) same = refl
+  by_octets link at octets last other None same = by_entry at (length octets) last other _ same
 
 -- ---- what was taken before
 
@@ -88,25 +92,28 @@ abbrev IsOutcome : Network → DeviceId → Signal → Arrival → Type 0
 IsOutcome network device (control frame) a = IsControlOutcome a
 IsOutcome network device (timed octets) a = IsTimedOutcome network device a
 
-taken_so : (network : Network) (device : DeviceId) (vl : VlId) (cycle : ℕ) (end : Bool) → is_end network device ≡ end
-    → IsTimedOutcome network device (if end then arrivals.Delivered vl cycle else arrivals.Accepted vl cycle)
-taken_so network device vl cycle true is = is
-taken_so network device vl cycle false is = is
+module _ (network : Network) (device : DeviceId) where
+  taken_so : (vl : VlId) (cycle : ℕ) (end : Bool) → is_end network device ≡ end
+      → IsTimedOutcome network device (if end then arrivals.Delivered vl cycle else arrivals.Accepted vl cycle)
+  taken_so vl cycle true is = is
+  taken_so vl cycle false is = is
 
-taken_or_dropped : (network : Network) (device : DeviceId) (at : Standpoint) (entry : Entry) (fault : Option Reason)
-    → IsTimedOutcome network device (taken_or_fault network device at entry fault)
-taken_or_dropped network device at entry (Some reason) = tt
-taken_or_dropped network device at entry None = taken_so network device entry.row.vl (cycle_at network (clock_of at)) (is_end network device) refl
+  taken_or_dropped : (at : Standpoint) (entry : Entry) (fault : Option Reason)
+      → IsTimedOutcome network device (taken_or_fault network device at entry fault)
+  taken_or_dropped at entry (Some reason) = tt
+  taken_or_dropped at entry None = taken_so entry.row.vl (cycle_at network (clock_of at)) (is_end network device) refl
 
-entry_outcome : (network : Network) (device : DeviceId) (at : Standpoint) (size : ℕ) (last : VlId → Option ℕ) (entry : Option Entry)
-    → IsTimedOutcome network device (entry_arrival network device at size last entry)
-entry_outcome network device at size last None = tt
-entry_outcome network device at size last (Some entry) = taken_or_dropped network device at entry (row_fault network at entry size (last entry.row.vl))
+  entry_outcome : (at : Standpoint) (size : ℕ) (last : VlId → Option ℕ) (entry : Option Entry)
+      → IsTimedOutcome network device (entry_arrival network device at size last entry)
+  entry_outcome at size last None = tt
+  entry_outcome at size last (Some entry) =
+      taken_or_dropped at entry (row_fault network at entry size (last entry.row.vl))
 
-octets_outcome : (network : Network) (device : DeviceId) (link : LinkId) (at : Standpoint) (octets : List ℕ) (last : VlId → Option ℕ) (fault : Option Reason)
-    → IsTimedOutcome network device (octets_or_fault network device link at octets last fault)
-octets_outcome network device link at octets last (Some reason) = tt
-octets_outcome network device link at octets last None = entry_outcome network device at (length octets) last _
+  octets_outcome : (link : LinkId) (at : Standpoint) (octets : List ℕ) (last : VlId → Option ℕ)
+      (fault : Option Reason) → IsTimedOutcome network device
+      (octets_or_fault network device link at octets last fault)
+  octets_outcome link at octets last (Some reason) = tt
+  octets_outcome link at octets last None = entry_outcome at (length octets) last _
 
 passed_outcome : (relay parent : Bool) (frame : Pcf) (point : Units)
     → IsControlOutcome (if relay then (if parent then arrivals.Passes frame Up else arrivals.PassesAndWaits frame Down point) else arrivals.Waits frame point)
@@ -142,53 +149,59 @@ end_of_delivery s gs time body device link cause vl cycle caused is =
     delivered_at_end s.network device here.signal vl cycle
     (subst (IsOutcome s.network device here.signal) (sym here.becomes) (outcome s gs device (amount time) link cause here.signal))
 
--- the rank of what may become of a time-triggered frame is behind all takings, or all of switches
-timed_rank : (network : Network) (device : DeviceId) (link : LinkId) (cause : ℕ) (a : Arrival) → IsTimedOutcome network device a
-    → 11 ≤ rank (arrival_record device link cause a)
-timed_rank network device link cause (arrivals.Dropped reason) h = omega arith
-timed_rank network device link cause (arrivals.Accepted vl cycle) h = omega arith
-timed_rank network device link cause (arrivals.Delivered vl cycle) h = omega arith
-timed_rank network device link cause other h = absurd h
+module _ (network : Network) (device : DeviceId) (link : LinkId) (cause : ℕ) where
+  -- the rank of what may become of a time-triggered frame is behind all takings, or all of switches
+  timed_rank : (a : Arrival) → IsTimedOutcome network device a → 11 ≤ rank (arrival_record device link cause a)
+  timed_rank (arrivals.Dropped reason) h = omega arith
+  timed_rank (arrivals.Accepted vl cycle) h = omega arith
+  timed_rank (arrivals.Delivered vl cycle) h = omega arith
+  timed_rank other h = absurd h
 
-end_rank : (network : Network) (device : DeviceId) (link : LinkId) (cause : ℕ) (a : Arrival) → IsTimedOutcome network device a → is_end network device ≡ true
-    → 12 ≤ rank (arrival_record device link cause a)
-end_rank network device link cause (arrivals.Dropped reason) h end = omega arith
-end_rank network device link cause (arrivals.Accepted vl cycle) h end = absurd (both_ways (is_end network device) h end)
-end_rank network device link cause (arrivals.Delivered vl cycle) h end = omega arith
-end_rank network device link cause other h end = absurd h
+  end_rank : (a : Arrival) → IsTimedOutcome network device a → is_end network device ≡ true
+      → 12 ≤ rank (arrival_record device link cause a)
+  end_rank (arrivals.Dropped reason) h end = omega arith
+  end_rank (arrivals.Accepted vl cycle) h end = absurd (both_ways (is_end network device) h end)
+  end_rank (arrivals.Delivered vl cycle) h end = omega arith
+  end_rank other h end = absurd h
 
 -- ---- by a front as by the list
 
--- where a founded list parts at an arrival of a time-triggered frame, the front has all that was taken before it
-same_taken : (s : Scenario) (hs : List Happening) (t : ℕ) (device : DeviceId) (link : LinkId) (cause : ℕ) (a : Arrival) (vl : VlId)
-    → IsFounded place_of (IsDue s) hs → (at : IsSplit place_of hs (arrival_place t (rank (arrival_record device link cause a)) device link cause))
-    → IsTimedOutcome s.network device a → last_taken at.front device t link cause vl ≡ last_taken hs device t link cause vl
-same_taken s hs t device link cause a vl founded at may =
-    let test : Happening → Bool = λ h. is_taken_before device vl t link cause (time_of h) h.note.body in
-    let none : filter test at.rest ≡ [] = none_kept test at.rest (λ h i.
-    not_taken t (members_in h) (rank (arrival_record device link cause a)) (time_of h) device vl link cause h.note.body
-    (timed_rank s.network device link cause a may) (at.none h i)
-    (λ other by from of_vl cycle is ids.
-    let there = founded_at s hs h founded (subst (IsIn h) (sym at.whole) (in_right h at.front at.rest i)) in
-    let end = end_of_delivery s there.front h.note.time h.note.body other by from of_vl cycle there.due.cause is in
-    end_rank s.network device link cause a may
-    (subst (λ (d : DeviceId). is_end s.network d ≡ true) (sym (same_device device other ids)) end))) in
-    let kept : filter test at.front ≡ filter test hs = grind (arith, append-nil, filter, test, none, filter-append) in
-    ap (λ (gs : List Happening). option_and_then (λ (h : Happening). taken_cycle h.note.body) (last_or None gs)) kept
+module _ (s : Scenario) (hs : List Happening) (t : ℕ) (device : DeviceId) (link : LinkId) (cause : ℕ)
+    (a : Arrival) where
+  -- where a founded list parts at an arrival of a time-triggered frame, the front has all that was taken before it
+  same_taken : (vl : VlId) → IsFounded place_of (IsDue s) hs
+      → (at : IsSplit place_of hs (arrival_place t (rank (arrival_record device link cause a)) device link cause))
+      → IsTimedOutcome s.network device a → last_taken at.front device t link cause vl
+      ≡ last_taken hs device t link cause vl
+  same_taken vl founded at may =
+      let test : Happening → Bool = λ h. is_taken_before device vl t link cause (time_of h) h.note.body in
+      let none : filter test at.rest ≡ [] = none_kept test at.rest (λ h i.
+      not_taken t (members_in h) (rank (arrival_record device link cause a)) (time_of h) device vl link cause
+      h.note.body
+      (timed_rank s.network device link cause a may) (at.none h i)
+      (λ other by from of_vl cycle is ids.
+      let there = founded_at s hs h founded (subst (IsIn h) (sym at.whole) (in_right h at.front at.rest i)) in
+      let end = end_of_delivery s there.front h.note.time h.note.body other by from of_vl cycle there.due.cause is in
+      end_rank s.network device link cause a may
+      (subst (λ d. is_end s.network d ≡ true) (sym (same_device device other ids)) end))) in
+      let kept : filter test at.front ≡ filter test hs = grind (arith, append-nil, filter, test, none, filter-append) in
+      ap (λ (gs : List Happening). option_and_then (λ (h : Happening). taken_cycle h.note.body) (last_or None gs)) kept
 
--- so an arrival is judged by the front as by the list
-same_outcome : (s : Scenario) (hs : List Happening) (t : ℕ) (device : DeviceId) (link : LinkId) (cause : ℕ) (a : Arrival) (signal : Signal)
-    → IsFounded place_of (IsDue s) hs → (at : IsSplit place_of hs (arrival_place t (rank (arrival_record device link cause a)) device link cause))
-    → IsOutcome s.network device signal a → arrival_of s at.front device t link cause signal ≡ arrival_of s hs device t link cause signal
-same_outcome s hs t device link cause a (control frame) founded at may =
-    ap (λ (p : Standpoint). control_arrival s.network device link p frame)
-    (same_standpoint s device t at.front hs (same_earlier t _ {hs = hs} at))
-same_outcome s hs t device link cause a (timed octets) founded at may =
-    let here = standpoint s hs device t in
-    ap (λ (p : Standpoint). timed_arrival s.network device link p octets (last_taken at.front device t link cause))
-    (same_standpoint s device t at.front hs (same_earlier t _ {hs = hs} at))
-    ∙ by_octets s.network device link here octets (last_taken at.front device t link cause) (last_taken hs device t link cause)
-    (octets_fault s.network here octets) (λ vl. same_taken s hs t device link cause a vl founded at may)
+  -- so an arrival is judged by the front as by the list
+  same_outcome : (signal : Signal) → IsFounded place_of (IsDue s) hs
+      → (at : IsSplit place_of hs (arrival_place t (rank (arrival_record device link cause a)) device link cause))
+      → IsOutcome s.network device signal a → arrival_of s at.front device t link cause signal
+      ≡ arrival_of s hs device t link cause signal
+  same_outcome (control frame) founded at may =
+      ap (λ p. control_arrival s.network device link p frame)
+      (same_standpoint s device t at.front hs (same_earlier t _ {hs = hs} at))
+  same_outcome (timed octets) founded at may =
+      let here = standpoint s hs device t in
+      ap (λ p. timed_arrival s.network device link p octets (last_taken at.front device t link cause))
+      (same_standpoint s device t at.front hs (same_earlier t _ {hs = hs} at))
+      ∙ by_octets s.network device link here octets (last_taken at.front device t link cause)
+      (last_taken hs device t link cause)
+      (octets_fault s.network here octets) (λ vl. same_taken vl founded at may)
 
 -- the place of the record of an arrival
 record_place : (t m : ℕ) (device : DeviceId) (link : LinkId) (cause : ℕ) (a : Arrival)
@@ -198,57 +211,62 @@ record_place t m device link cause other = refl
 
 -- ---- what is owed is due
 
--- an arrival of the list is one given a front of it that has the record that put the frame
-arrives_in_front : (s : Scenario) (hs : List Happening) (t : ℕ) (device : DeviceId) (link : LinkId) (cause : ℕ) (a : Arrival)
-    → IsFounded place_of (IsDue s) hs → (at : IsSplit place_of hs (arrival_place t (rank (arrival_record device link cause a)) device link cause))
-    → (h : ArrivesAs s hs device t link cause a) → IsBefore (place_of h.putting) (arrival_place t (rank (arrival_record device link cause a)) device link cause)
-    → ArrivesAs s at.front device t link cause a
-arrives_in_front s hs t device link cause a founded at h sooner = record {
-  putting = h.putting;
-  there = found_before s hs _ founded at cause h.putting h.there sooner;
-  signal = h.signal;
-  arrives = h.arrives;
-  becomes =
-      h.becomes
-      ∙ sym (same_outcome s hs t device link cause a h.signal founded at
-      (subst (IsOutcome s.network device h.signal) (sym h.becomes) (outcome s hs device t link cause h.signal)));
-}
+module _ (s : Scenario) (hs : List Happening) (t : ℕ) (device : DeviceId) (link : LinkId) (cause : ℕ) (a : Arrival)
+    (founded : IsFounded place_of (IsDue s) hs) where
+  -- an arrival of the list is one given a front of it that has the record that put the frame
+  arrives_in_front :
+      (at : IsSplit place_of hs (arrival_place t (rank (arrival_record device link cause a)) device link cause))
+      (h : ArrivesAs s hs device t link cause a) → IsBefore (place_of h.putting)
+      (arrival_place t (rank (arrival_record device link cause a)) device link cause)
+      → ArrivesAs s at.front device t link cause a
+  arrives_in_front at h sooner = record {
+    putting = h.putting;
+    there = found_before s hs _ founded at cause h.putting h.there sooner;
+    signal = h.signal;
+    arrives = h.arrives;
+    becomes =
+        h.becomes
+        ∙ sym (same_outcome s hs t device link cause a h.signal founded at
+        (subst (IsOutcome s.network device h.signal) (sym h.becomes) (outcome s hs device t link cause h.signal)));
+  }
 
--- an arrival given a front is one of the list
-arrives_in_whole : (s : Scenario) (hs : List Happening) (t : ℕ) (device : DeviceId) (link : LinkId) (cause : ℕ) (a : Arrival)
-    → IsFounded place_of (IsDue s) hs → (at : IsSplit place_of hs (arrival_place t (rank (arrival_record device link cause a)) device link cause))
-    → ArrivesAs s at.front device t link cause a → ArrivesAs s hs device t link cause a
-arrives_in_whole s hs t device link cause a founded at h = record {
-  putting = h.putting;
-  there = in_whole hs at.front at.rest cause h.putting at.whole h.there;
-  signal = h.signal;
-  arrives = h.arrives;
-  becomes =
-      h.becomes
-      ∙ same_outcome s hs t device link cause a h.signal founded at
-      (subst (IsOutcome s.network device h.signal) (sym h.becomes) (outcome s at.front device t link cause h.signal));
-}
+  -- an arrival given a front is one of the list
+  arrives_in_whole :
+      (at : IsSplit place_of hs (arrival_place t (rank (arrival_record device link cause a)) device link cause))
+      → ArrivesAs s at.front device t link cause a → ArrivesAs s hs device t link cause a
+  arrives_in_whole at h = record {
+    putting = h.putting;
+    there = in_whole hs at.front at.rest cause h.putting at.whole h.there;
+    signal = h.signal;
+    arrives = h.arrives;
+    becomes =
+        h.becomes
+        ∙ same_outcome s hs t device link cause a h.signal founded at
+        (subst (IsOutcome s.network device h.signal) (sym h.becomes) (outcome s at.front device t link cause h.signal));
+  }
 
 -- what arrives so causes the record of it
-causes_record : (s : Scenario) (gs : List Happening) (t : ℕ) (device : DeviceId) (link : LinkId) (cause : ℕ) (a : Arrival)
-    → ArrivesAs s gs device t link cause a → IsCaused s gs (units_of t) (arrival_record device link cause a)
-causes_record s gs t device link cause (arrivals.Dropped reason) h = inl h
-causes_record s gs t device link cause (arrivals.Accepted vl cycle) h = h
-causes_record s gs t device link cause (arrivals.Delivered vl cycle) h = h
-causes_record s gs t device link cause (arrivals.Waits frame point) h =
+causes_record : {s : Scenario} {gs : List Happening} {t : ℕ} {device : DeviceId} {link : LinkId} {cause : ℕ}
+    (a : Arrival) → ArrivesAs s gs device t link cause a
+    → IsCaused s gs (units_of t) (arrival_record device link cause a)
+causes_record (arrivals.Dropped reason) h = inl h
+causes_record (arrivals.Accepted vl cycle) h = h
+causes_record (arrivals.Delivered vl cycle) h = h
+causes_record (arrivals.Waits frame point) h =
     record { frame = frame; point = point; way = Up; taken = inl h; shows = refl }
-causes_record s gs t device link cause (arrivals.Passes frame way) h =
+causes_record (arrivals.Passes frame way) h =
     record { frame = frame; point = units_of 0; way = way; taken = inr (inl h); shows = refl }
-causes_record s gs t device link cause (arrivals.PassesAndWaits frame way point) h =
+causes_record (arrivals.PassesAndWaits frame way point) h =
     record { frame = frame; point = point; way = way; taken = inr (inr h); shows = refl }
 
 tells : (device : DeviceId) (link : LinkId) (cause : ℕ) (a : Arrival) → TellsArrival cause (arrival_record device link cause a)
 tells device link cause (arrivals.Dropped reason) = refl
 tells device link cause other = refl
 
-some_arrival : (s : Scenario) (hs : List Happening) (until cause : ℕ) → IsFounded place_of (IsDue s) hs → (o : OwesArrival s hs until cause)
-    → PaidAt s hs until (IsDueByArrival s) o.time (λ x. TellsArrival cause x.note.body)
-some_arrival s hs until cause founded o =
+some_arrival : {s : Scenario} {hs : List Happening} {until cause : ℕ} → IsFounded place_of (IsDue s) hs
+    → (o : OwesArrival s hs until cause) → PaidAt s hs until (IsDueByArrival s) o.time
+    (λ x. TellsArrival cause x.note.body)
+some_arrival {s} {hs} {until} {cause} founded o =
     let body = arrival_record o.device o.link cause o.is in
     let p = arrival_place o.time (rank body) o.device o.link cause in
     let at = split place_of (IsDue s) hs p founded in
@@ -257,7 +275,7 @@ some_arrival s hs until cause founded o =
     let x = next_of s at.front o.time body in
     let place : place_of x ≡ p = record_place o.time (members_in x) o.device o.link cause o.is in
     let due : IsDueByArrival s at.front x = record {
-      due = next_is_due s at.front o.time body (causes_record s at.front o.time o.device o.link cause o.is arrives);
+      due = next_is_due s at.front o.time body (causes_record o.is arrives);
       device = o.device;
       link = o.link;
       cause = cause;
@@ -266,7 +284,7 @@ some_arrival s hs until cause founded o =
       says = refl;
     } in (
       x,
-      due_there (IsDueByArrival s) hs p at x place due,
+      due_there (IsDueByArrival s) {hs = hs} {p = p} at x place due,
       within o.time until (rank body ∷ key (members_in x) body) o.timely,
       tells o.device o.link cause o.is,
       refl,
@@ -275,52 +293,54 @@ some_arrival s hs until cause founded o =
 -- ---- what is due was owed
 
 -- the place of what is due by an arrival
-due_place : (s : Scenario) (before : List Happening) (x : Happening) → (h : IsDueByArrival s before x)
-    → place_of x ≡ arrival_place (time_of x) (rank (arrival_record h.device h.link h.cause h.is)) h.device h.link h.cause
-due_place s before x h =
-    ap (λ (b : NoteBody). place_at (time_of x) (members_in x) b) h.says ∙ record_place (time_of x) (members_in x) h.device h.link h.cause h.is
+due_place : {s : Scenario} {before : List Happening} {x : Happening} (h : IsDueByArrival s before x) → place_of x
+    ≡ arrival_place (time_of x) (rank (arrival_record h.device h.link h.cause h.is)) h.device h.link h.cause
+due_place {x} h =
+    ap (λ b. place_at (time_of x) (members_in x) b) h.says ∙ record_place (time_of x) (members_in x) h.device h.link h.cause h.is
 
 -- where the list parts at it
-due_split : (s : Scenario) (hs : List Happening) (x : Happening) → (h : IsDueIn place_of (IsDueByArrival s) hs x)
-    → (at : IsSplit place_of hs (arrival_place (time_of x) (rank (arrival_record h.due.device h.due.link h.due.cause h.due.is))
-    h.due.device h.due.link h.due.cause))
-    × (at.front ≡ h.before)
-due_split s hs x h =
-    subst (λ (p : List ℕ). (at : IsSplit place_of hs p) × (at.front ≡ h.before)) (due_place s h.before x h.due) (split_at (IsDueByArrival s) hs x h, refl)
+due_split : (s : Scenario) {hs : List Happening} {x : Happening} (h : IsDueIn place_of (IsDueByArrival s) hs x) →
+    (at : IsSplit place_of hs (arrival_place (time_of x) (rank (arrival_record h.due.device h.due.link h.due.cause
+    h.due.is)) h.due.device h.due.link h.due.cause)) × (at.front ≡ h.before)
+due_split s {hs} {x} h =
+    subst (λ p. (at : IsSplit place_of hs p) × (at.front ≡ h.before)) (due_place h.due)
+    (split_at (IsDueByArrival s) hs x h, refl)
 
 -- it arrives by the list
-due_arrives : (s : Scenario) (hs : List Happening) (x : Happening) → IsFounded place_of (IsDue s) hs → (h : IsDueIn place_of (IsDueByArrival s) hs x)
-    → ArrivesAs s hs h.due.device (time_of x) h.due.link h.due.cause h.due.is
-due_arrives s hs x founded h =
-    let at = due_split s hs x h in
+due_arrives : (s : Scenario) {hs : List Happening} {x : Happening} → IsFounded place_of (IsDue s) hs
+    → (h : IsDueIn place_of (IsDueByArrival s) hs x) → ArrivesAs s hs h.due.device
+    (time_of x) h.due.link h.due.cause h.due.is
+due_arrives s {hs} {x} founded h =
+    let at = due_split s h in
     arrives_in_whole s hs (time_of x) h.due.device h.due.link h.due.cause h.due.is founded at.0
-    (subst (λ (gs : List Happening). ArrivesAs s gs h.due.device (time_of x) h.due.link h.due.cause h.due.is) (sym at.1) h.due.arrives)
+    (subst (λ gs. ArrivesAs s gs h.due.device (time_of x) h.due.link h.due.cause h.due.is) (sym at.1) h.due.arrives)
 
-tells_its : (s : Scenario) (before : List Happening) (x : Happening) → (h : IsDueByArrival s before x) → TellsArrival h.cause x.note.body
-tells_its s before x h = subst (TellsArrival h.cause) (sym h.says) (tells h.device h.link h.cause h.is)
+tells_its : {s : Scenario} {before : List Happening} {x : Happening} (h : IsDueByArrival s before x)
+    → TellsArrival h.cause x.note.body
+tells_its h = subst (TellsArrival h.cause) (sym h.says) (tells h.device h.link h.cause h.is)
 
-arrival_owed : (s : Scenario) (hs : List Happening) (until : ℕ) (x : Happening) → IsFounded place_of (IsDue s) hs
+arrival_owed : (s : Scenario) {hs : List Happening} (until : ℕ) {x : Happening} → IsFounded place_of (IsDue s) hs
     → IsDueIn place_of (IsDueByArrival s) hs x → IsBefore (place_of x) ((until + 1) ∷ [])
     → (cause : ℕ) × (o : OwesArrival s hs until cause) × TellsArrival cause x.note.body × (time_of x ≡ o.time)
-arrival_owed s hs until x founded h here =
+arrival_owed s {hs} until {x} founded h here =
     let d = h.due in
-    let arrives = due_arrives s hs x founded h in
+    let arrives = due_arrives s founded h in
     let one : d.arrives.putting ≡ arrives.putting = same_some (numbered hs d.cause) d.arrives.putting arrives.putting
     (in_whole hs h.before h.behind d.cause d.arrives.putting h.parts d.arrives.there) arrives.there in
     let first : IsBefore (place_of d.arrives.putting) (place_of x) = h.all_before d.arrives.putting
     (numbered_in h.before d.cause d.arrives.putting d.arrives.there) in
-    let place = due_place s h.before x d ∙ sym (record_place (time_of x) 0 d.device d.link d.cause d.is) in
+    let place = due_place d ∙ sym (record_place (time_of x) 0 d.device d.link d.cause d.is) in
     let owed : OwesArrival s hs until d.cause = record {
       device = d.device;
       link = d.link;
       time = time_of x;
       is = d.is;
       arrives = arrives;
-      behind = subst (λ (h : Happening). IsBefore (place_of h) (place_at (time_of x) 0 (arrival_record d.device d.link d.cause d.is))) one
+      behind = subst (λ h. IsBefore (place_of h) (place_at (time_of x) 0 (arrival_record d.device d.link d.cause d.is))) one
           (subst (IsBefore (place_of d.arrives.putting)) place first);
       timely = timely (time_of x) until (rank x.note.body ∷ key (members_in x) x.note.body) here;
     } in
-    (d.cause, owed, tells_its s h.before x d, refl)
+    (d.cause, owed, tells_its d, refl)
 
 -- ---- what pays for one is at one place
 
@@ -344,11 +364,11 @@ gives_none network (notes.Event line what) other by p g = g
 gives_none network body other by p g = absurd p
 
 -- a record that is due and tells of an arrival is due by it, where its cause puts a frame on a wire
-by_arrival : (s : Scenario) (before : List Happening) (x : Happening) (cause : ℕ) → IsDue s before x
-    → ((g : Happening) → numbered before cause ≡ Some g → IsPutting g.note.body)
-    → (body : NoteBody) → x.note.body ≡ body → IsCaused s before x.note.time body → TellsArrival cause body
+by_arrival : {s : Scenario} {before : List Happening} {x : Happening} (cause : ℕ) → IsDue s before x
+    → ((g : Happening) → numbered before cause ≡ Some g → IsPutting g.note.body) → (body : NoteBody)
+    → x.note.body ≡ body → IsCaused s before x.note.time body → TellsArrival cause body
     → (h : IsDueByArrival s before x) × (h.cause ≡ cause)
-by_arrival s before x cause due put (notes.Arrived device link from clock) is c e =
+by_arrival {s} {before} {x} cause due put (notes.Arrived device link from clock) is c e =
     let shown : x.note.body ≡ notes.Arrived device link from c.frame.clock = is ∙ ap (λ (k : ℕ). notes.Arrived device link from k) c.shows in
     let of : (a : Arrival) → ArrivesAs s before device (time_of x) link from a → x.note.body ≡ arrival_record device link from a
     → (h : IsDueByArrival s before x) × (h.cause ≡ cause) = λ a h says.
@@ -358,26 +378,26 @@ by_arrival s before x cause due put (notes.Arrived device link from clock) is c 
       | inr (inl p) ↦ of (arrivals.Passes c.frame c.way) p shown
       | inr (inr b) ↦ of (arrivals.PassesAndWaits c.frame c.way c.point) b shown
     ]
-by_arrival s before x cause due put (notes.Accepted device link from vl cycle) is c e =
+by_arrival cause due put (notes.Accepted device link from vl cycle) is c e =
     (record { due = due; device = device; link = link; cause = from; is = arrivals.Accepted vl cycle; arrives = c; says = is }, e)
-by_arrival s before x cause due put (notes.Delivered device link from vl cycle) is c e =
+by_arrival cause due put (notes.Delivered device link from vl cycle) is c e =
     (record { due = due; device = device; link = link; cause = from; is = arrivals.Delivered vl cycle; arrives = c; says = is }, e)
-by_arrival s before x cause due put (notes.Dropped device link from reason) is c e =
+by_arrival {s} {before} cause due put (notes.Dropped device link from reason) is c e =
     elim c [
       | inl a ↦ (record { due = due; device = device; link = link; cause = from; is = arrivals.Dropped reason; arrives = a; says = is }, e)
       | inr (inl r) ↦
           let p = r.1.permanent in
-          absurd (subst IsPutting p.arrived (put p.arrival (subst (λ (n : ℕ). numbered before n ≡ Some p.arrival) e p.there)))
+          absurd (subst IsPutting p.arrived (put p.arrival (subst (λ n. numbered before n ≡ Some p.arrival) e p.there)))
       | inr (inr l) ↦
           let g = l.0.giving in
-          absurd (gives_none s.network g.note.body device link (put g (subst (λ (n : ℕ). numbered before n ≡ Some g) e l.0.there)) l.0.gives)
+          absurd (gives_none s.network g.note.body device link (put g (subst (λ n. numbered before n ≡ Some g) e l.0.there)) l.0.gives)
     ]
-by_arrival s before x cause due put other is c e = absurd e
+by_arrival cause due put other is c e = absurd e
 
 -- one record's frame comes to one device, by one link, at one time
-same_coming : (s : Scenario) (h : Happening) (d e : DeviceId) (l m : LinkId) (t u : ℕ) (v w : Signal) → Arrives s h d l t v → Arrives s h e m u w
-    → (d ≡ e) × (l ≡ m) × (t ≡ u)
-same_coming s h d e l m t u v w a b =
+same_coming : {s : Scenario} {h : Happening} {d e : DeviceId} {l m : LinkId} {t u : ℕ} {v w : Signal}
+    → Arrives s h d l t v → Arrives s h e m u w → (d ≡ e) × (l ≡ m) × (t ≡ u)
+same_coming {s} {h} {d} {e} {l} {m} {v} {w} a b =
     let one : (let x : Launch = record { link = l; way = a.way; signal = v } in x)
     ≡ record { link = m; way = b.way; signal = w } =
     same_some (launched s h (time_of h) h.note.body) (record { link = l; way = a.way; signal = v }) (record { link = m; way = b.way; signal = w })
@@ -386,20 +406,20 @@ same_coming s h d e l m t u v w a b =
     let ways : a.way ≡ b.way = ap (λ (x : Launch). x.way) one in
     let signals : v ≡ w = ap (λ (x : Launch). x.signal) one in
     let devices = same_some (receiver_of s.network l a.way) d e a.receiver
-    (ap (λ (k : LinkId). receiver_of s.network k a.way) links ∙ ap (receiver_of s.network m) ways ∙ b.receiver) in
+    (ap (λ k. receiver_of s.network k a.way) links ∙ ap (receiver_of s.network m) ways ∙ b.receiver) in
     let at : LinkId → Way → Signal → ℕ = λ k y g. time_of h + time_on_port s.network k g + delay_at s k y (time_of h) in
     (devices, links, a.at ∙ ap (λ (k : LinkId). at k a.way v) links ∙ ap (λ (y : Way). at m y v) ways ∙ ap (at m b.way) signals ∙ sym b.at)
 
 -- where two arrivals of one record stand
-same_place : (s : Scenario) (hs : List Happening) (t u : ℕ) (d e : DeviceId) (l m : LinkId) (c f : ℕ) (a b : Arrival) → c ≡ f
-    → ArrivesAs s hs d t l c a → ArrivesAs s hs e u m f b
+same_place : {s : Scenario} {hs : List Happening} {t u : ℕ} {d e : DeviceId} {l m : LinkId} {c f : ℕ} {a b : Arrival}
+    → c ≡ f → ArrivesAs s hs d t l c a → ArrivesAs s hs e u m f b
     → arrival_place t (rank (arrival_record d l c a)) d l c ≡ arrival_place u (rank (arrival_record e m f b)) e m f
-same_place s hs t u d e l m c f a b causes x y =
+same_place {s} {hs} {t} {u} {d} {e} {l} {m} {c} {a} {b} causes x y =
     let one : y.putting ≡ x.putting = same_some (numbered hs c) y.putting x.putting (ap (numbered hs) causes ∙ y.there) x.there in
-    let there = subst (λ (h : Happening). Arrives s h e m u y.signal) one y.arrives in
-    let same = same_coming s x.putting d e l m t u x.signal y.signal x.arrives there in
-    let moved = subst (λ (k : DeviceId). ArrivesAs s hs k t l c b) (sym same.0) (subst (λ (k : LinkId). ArrivesAs s hs e t k c b) (sym same.1)
-    (subst (λ (n : ℕ). ArrivesAs s hs e n m c b) (sym same.2) (subst (λ (n : ℕ). ArrivesAs s hs e u m n b) (sym causes) y))) in
+    let there = subst (λ h. Arrives s h e m u y.signal) one y.arrives in
+    let same = same_coming x.arrives there in
+    let moved = subst (λ k. ArrivesAs s hs k t l c b) (sym same.0) (subst (λ k. ArrivesAs s hs e t k c b) (sym same.1)
+    (subst (λ n. ArrivesAs s hs e n m c b) (sym same.2) (subst (λ n. ArrivesAs s hs e u m n b) (sym causes) y))) in
     let outcomes : a ≡ b = same_arrival x moved in
     let at : ℕ → DeviceId → LinkId → ℕ → Arrival → List ℕ = λ n k i g o. arrival_place n (rank (arrival_record k i g o)) k i g in
     ap (λ (o : Arrival). at t d l c o) outcomes
@@ -409,28 +429,27 @@ same_place s hs t u d e l m c f a b causes x y =
     ∙ ap (λ (g : ℕ). at u e m g b) causes
 
 -- what is due and tells of an arrival that is owed is due by it in the list
-due_so : (s : Scenario) (hs : List Happening) (until cause : ℕ) (x : Happening) → OwesArrival s hs until cause → IsDueIn place_of (IsDue s) hs x
-    → TellsArrival cause x.note.body → (h : IsDueIn place_of (IsDueByArrival s) hs x) × (h.due.cause ≡ cause)
-due_so s hs until cause x o h tells =
+due_so : {s : Scenario} {hs : List Happening} {until cause : ℕ} {x : Happening} → OwesArrival s hs until cause
+    → IsDueIn place_of (IsDue s) hs x → TellsArrival cause x.note.body
+    → (h : IsDueIn place_of (IsDueByArrival s) hs x) × (h.due.cause ≡ cause)
+due_so {s} {hs} {cause} {x} o h tells =
     let put : (g : Happening) → numbered h.before cause ≡ Some g → IsPutting g.note.body = λ g there.
     let one : o.arrives.putting ≡ g = same_some (numbered hs cause) o.arrives.putting g o.arrives.there (in_whole hs h.before h.behind cause g h.parts there) in
     let p = o.arrives.putting in
     subst (λ (k : Happening). IsPutting k.note.body) one (puts s p (time_of p) p.note.body _ o.arrives.arrives.put) in
-    let by = by_arrival s h.before x cause h.due put x.note.body refl h.due.cause tells in
+    let by = by_arrival cause h.due put x.note.body refl h.due.cause tells in
     (record { before = h.before; behind = h.behind; parts = h.parts; all_before = h.all_before; none_before = h.none_before; due = by.0 }, by.1)
 
 pub arrival_law : ArrivalLaw
 arrival_law s hs until founded = record {
-  each = λ x h here. arrival_owed s hs until x founded h here;
-  some = λ cause o. some_arrival s hs until cause founded o;
+  each = λ x h here. arrival_owed s until founded h here;
+  some = λ cause o. some_arrival founded o;
   one = λ cause x y o a b p q.
-      let first = due_so s hs until cause x o a p in
-      let second = due_so s hs until cause y o b q in
-      let here = due_arrives s hs x founded first.0 in
-      let there = due_arrives s hs y founded second.0 in
+      let first = due_so o a p in
+      let second = due_so o b q in
+      let here = due_arrives s founded first.0 in
+      let there = due_arrives s founded second.0 in
       let i = first.0.due in
       let j = second.0.due in
-      due_place s first.0.before x i
-      ∙ same_place s hs (time_of x) (time_of y) i.device j.device i.link j.link i.cause j.cause i.is j.is (first.1 ∙ sym second.1) here there
-      ∙ sym (due_place s second.0.before y j);
+      due_place i ∙ same_place (first.1 ∙ sym second.1) here there ∙ sym (due_place j);
 }

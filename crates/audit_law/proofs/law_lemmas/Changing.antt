@@ -51,9 +51,9 @@ bringing_of s hs device t state cause whys.AsyncClique b c = absurd b
 
 -- ---- by a front as by the list
 
-of_this_time : (hs : List Happening) (t cause : ℕ) (h : Happening) (gs : List Happening) → IsOfThisTime gs t cause h → numbered hs cause ≡ Some h
-    → IsOfThisTime hs t cause h
-of_this_time hs t cause h gs is there = record { there = there; same_time = is.same_time }
+of_this_time : (hs : List Happening) {t cause : ℕ} {h : Happening} {gs : List Happening} → IsOfThisTime gs t cause h
+    → numbered hs cause ≡ Some h → IsOfThisTime hs t cause h
+of_this_time hs is there = record { there = there; same_time = is.same_time }
 
 -- a change is one by other records that have what brings it, and the same earlier ones
 pub moved : (s : Scenario) (gs hs : List Happening) (device : DeviceId) (t : ℕ) (state : State) (cause : ℕ) (why : Why) → IsBrought why
@@ -61,18 +61,19 @@ pub moved : (s : Scenario) (gs hs : List Happening) (device : DeviceId) (t : ℕ
     → ChangesState s gs device t state cause why → ChangesState s hs device t state cause why
 moved s gs hs device t state cause whys.On b same there c =
     let low : rank c.2.1.note.body ≡ 1 = ap rank c.2.3 in
-    (c.0, c.1, (c.2.0, c.2.1, of_this_time hs t cause c.2.1 gs c.2.2 (there c.2.1 c.2.2 (omega (arith, low))), c.2.3))
+    (c.0, c.1, (c.2.0, c.2.1, of_this_time hs c.2.2 (there c.2.1 c.2.2 (omega (arith, low))), c.2.3))
 moved s gs hs device t state cause whys.Frame b same there c =
-    (c.0, (c.1.0, of_this_time hs t cause c.1.0 gs c.1.1 (there c.1.0 c.1.1 (joins_before device c.1.0.note.body c.1.2)), c.1.2))
+    (c.0, (c.1.0, of_this_time hs c.1.1 (there c.1.0 c.1.1 (joins_before device c.1.0.note.body c.1.2)), c.1.2))
 moved s gs hs device t state cause whys.Correction b same there c = grind (arith, rank, is_turned_on_at, state_after, of_this_time)
 moved s gs hs device t state cause whys.SyncClique b same there c = absurd b
 moved s gs hs device t state cause whys.AsyncClique b same there c = absurd b
 
 -- ---- the law
 
-some_change : (s : Scenario) (hs : List Happening) (until cause : ℕ) → IsFounded place_of (IsDue s) hs → (o : OwesChange s hs until cause)
-    → PaidAt s hs until (IsDueByChange s) o.time (λ x. TellsChange cause x.note.body)
-some_change s hs until cause founded o =
+some_change : {s : Scenario} {hs : List Happening} {until cause : ℕ} → IsFounded place_of (IsDue s) hs
+    → (o : OwesChange s hs until cause) → PaidAt s hs until (IsDueByChange s) o.time
+    (λ x. TellsChange cause x.note.body)
+some_change {s} {hs} {until} {cause} founded o =
     let body = notes.State o.device o.state cause o.why in
     let p = place_at o.time 0 body in
     let at = split place_of (IsDue s) hs p founded in
@@ -91,11 +92,12 @@ some_change s hs until cause founded o =
       changes = changes;
       says = refl;
     } in
-    (x, due_there (IsDueByChange s) hs p at x refl due, within o.time until (7 ∷ o.device.0 ∷ cause ∷ []) o.timely, refl, refl)
+    (x, due_there (IsDueByChange s) {hs = hs} {p = p} at x refl due, within o.time until (7 ∷ o.device.0 ∷ cause ∷ []) o.timely, refl, refl)
 
-change_owed : (s : Scenario) (hs : List Happening) (until : ℕ) (x : Happening) → IsDueIn place_of (IsDueByChange s) hs x
-    → IsBefore (place_of x) ((until + 1) ∷ []) → (cause : ℕ) × (o : OwesChange s hs until cause) × TellsChange cause x.note.body × (time_of x ≡ o.time)
-change_owed s hs until x h here =
+change_owed : (s : Scenario) {hs : List Happening} (until : ℕ) {x : Happening}
+    → IsDueIn place_of (IsDueByChange s) hs x → IsBefore (place_of x) ((until + 1) ∷ [])
+    → (cause : ℕ) × (o : OwesChange s hs until cause) × TellsChange cause x.note.body × (time_of x ≡ o.time)
+change_owed s {hs} until {x} h here =
     let d = h.due in
     let owed : OwesChange s hs until d.cause = record {
       device = d.device;
@@ -103,7 +105,8 @@ change_owed s hs until x h here =
       state = d.state;
       why = d.why;
       brought = d.brought;
-      changes = moved s h.before hs d.device (time_of x) d.state d.cause d.why d.brought (earlier_in (IsDueByChange s) hs x h)
+      changes = moved s h.before hs d.device (time_of x) d.state d.cause d.why d.brought
+          (earlier_in (IsDueByChange s) h)
           (λ g is low. in_whole hs h.before h.behind d.cause g h.parts is.there) d.changes;
       timely = timely (time_of x) until (rank x.note.body ∷ key (members_in x) x.note.body) here;
     } in
@@ -125,10 +128,11 @@ brought_by_cause s gs device t state cause whys.Correction some c = tt
 brought_by_cause s gs device t state cause whys.SyncClique some c = absurd (some c.1)
 brought_by_cause s gs device t state cause whys.AsyncClique some c = absurd (some c.1)
 
-told : (s : Scenario) (hs : List Happening) (cause : ℕ) (x : Happening) → (h : IsDueIn place_of (IsDue s) hs x) → (cause ≡ 0 → ⊥)
-    → (body : NoteBody) → x.note.body ≡ body → IsCaused s h.before x.note.time body → TellsChange cause body → IsTold hs cause x
-told s hs cause x h some (notes.State device state from why) is c e =
-    let changes = subst (λ (n : ℕ). ChangesState s h.before device (time_of x) state n why) e c in
+told : (s : Scenario) {hs : List Happening} (cause : ℕ) {x : Happening} (h : IsDueIn place_of (IsDue s) hs x)
+    → (cause ≡ 0 → ⊥) → (body : NoteBody) → x.note.body ≡ body → IsCaused s h.before x.note.time body
+    → TellsChange cause body → IsTold hs cause x
+told s {hs} cause {x} h some (notes.State device state from why) is c e =
+    let changes = subst (λ n. ChangesState s h.before device (time_of x) state n why) e c in
     let brought = brought_by_cause s h.before device (time_of x) state cause why some changes in
     let by = bringing_of s h.before device (time_of x) state cause why brought changes in
     record {
@@ -138,23 +142,25 @@ told s hs cause x h some (notes.State device state from why) is c e =
       says = is ∙ ap (λ (n : ℕ). notes.State device state n why) e;
       is = record {
         bringing = by.bringing;
-        is = of_this_time hs (time_of x) cause by.bringing h.before by.is (in_whole hs h.before h.behind cause by.bringing h.parts by.is.there);
+        is = of_this_time hs by.is (in_whole hs h.before h.behind cause by.bringing h.parts by.is.there);
         to = by.to;
         lower = by.lower;
       };
     }
-told s hs cause x h some other is c e = absurd e
+told s cause h some other is c e = absurd e
 
 -- two such records have one place
-same_place : (hs : List Happening) (cause : ℕ) (x y : Happening) → IsTold hs cause x → IsTold hs cause y → place_of x ≡ place_of y
-same_place hs cause x y a b = grind (arith, same_some, numbered, time_of, place_at, members_in)
+same_place : {hs : List Happening} {cause : ℕ} {x y : Happening} → IsTold hs cause x → IsTold hs cause y
+    → place_of x ≡ place_of y
+same_place a b = grind (arith, same_some, numbered, time_of, place_at, members_in)
 
 pub change_law : ChangeLaw
 change_law s hs until founded = record {
-  each = λ x h here. change_owed s hs until x h here;
-  some = λ cause o. some_change s hs until cause founded o;
+  each = λ x h here. change_owed s until h here;
+  some = λ cause o. some_change founded o;
   one = λ cause x y o a b p q.
       let by = bringing_of s hs o.device o.time o.state cause o.why o.brought o.changes in
       let some = from_one hs cause by.bringing by.is.there in
-      same_place hs cause x y (told s hs cause x a some x.note.body refl a.due.cause p) (told s hs cause y b some y.note.body refl b.due.cause q);
+      same_place (told s cause a some x.note.body refl a.due.cause p)
+      (told s cause b some y.note.body refl b.due.cause q);
 }

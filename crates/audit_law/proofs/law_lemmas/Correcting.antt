@@ -3,7 +3,7 @@ use Rattle.audit_law.proofs.law_lemmas.{Determined.same_verdict, Words.{standing
 use Rattle.{audit_law.proofs.law_lemmas.Owing.{PaidAt, due_there, next_is_due, next_of, split_at, timely, within}, run_law.proofs.law.FirstPlaces.in_filter}
 use Rattle.audit_law.proofs.law_lemmas.Words.{◌&&◌, ◌++◌, ◌+ℤ◌, ◌+◌, ◌-ℤ◌, ◌-◌, ◌<◌, ◌==◌, ◌∙◌, ◌∷◌, ◌≡◌, ◌≤◌, AsyncClique, Bool, ComesToPoint, Corrected}
 use Rattle.audit_law.proofs.law_lemmas.Words.{DeviceId, Happening, HasVerdict, Integrating, IsBefore, IsCaused, IsDue, IsDueIn, IsFounded, IsIn, IsSplit, List}
-use Rattle.audit_law.proofs.law_lemmas.Words.{Network, None, NoteBody, Option, Scenario, Some, Standing, State, Summarizes, SyncClique, Units, Verdict, []}
+use Rattle.audit_law.proofs.law_lemmas.Words.{Network, None, NoteBody, Option, Scenario, Some, State, Summarizes, SyncClique, Units, Verdict, []}
 use Rattle.audit_law.proofs.law_lemmas.Words.{adjustment_after, adjustment_before, after_last, ap, append-nil, arith, cases_lt, changes_adjustment}
 use Rattle.audit_law.proofs.law_lemmas.Words.{correction_value, earlier, filter, filter-append, heard_since_point, if◌then◌else◌, inl, inr, int_div_euclid}
 use Rattle.audit_law.proofs.law_lemmas.Words.{int_le, int_lt, integration_cycle, is_turned_on_at, key, last_or, le-ltb, members_in, nat_le, nat_lt, natural}
@@ -32,17 +32,18 @@ standing_by : (s : Scenario) (gs hs : List Happening) (device : DeviceId) (t : �
 standing_by s gs hs device t same = grind (arith, plan_of, is_turned_on_at, state_after, adjustment_after, recorded_cycle, integration_cycle)
 
 -- a correction point is one by other records that have the same earlier ones, and tell the same to be heard
-pub comes_by : (s : Scenario) (gs hs : List Happening) (device : DeviceId) (t cycle : ℕ) (v : Verdict) → earlier t gs ≡ earlier t hs
-    → heard_since_point s gs device t ≡ heard_since_point s hs device t → ComesToPoint s gs device t cycle v → ComesToPoint s hs device t cycle v
-comes_by s gs hs device t cycle v same heard h =
+pub comes_by : {s : Scenario} {gs : List Happening} (hs : List Happening) {device : DeviceId} {t cycle : ℕ}
+    {v : Verdict} → earlier t gs ≡ earlier t hs → heard_since_point s gs device t ≡ heard_since_point s hs device t
+    → ComesToPoint s gs device t cycle v → ComesToPoint s hs device t cycle v
+comes_by {s} {gs} hs {device} {t} {cycle} {v} same heard h =
     let standing = standing_by s gs hs device t same in
     record {
-      next = subst (λ (st : Standing). next_point st ≡ Some cycle) standing h.next;
+      next = subst (λ st. next_point st ≡ Some cycle) standing h.next;
       reached = reaches_by hs same h.reached;
       correct = h.correct;
       summary = h.summary;
-      heard = subst (λ (ls : List Hearing). Summarizes h.summary ls) heard h.heard;
-      comes = subst (λ (st : Standing). HasVerdict st h.summary v) standing h.comes;
+      heard = subst (λ ls. Summarizes h.summary ls) heard h.heard;
+      comes = subst (λ st. HasVerdict st h.summary v) standing h.comes;
     }
 
 -- ---- what is heard up to a time
@@ -64,8 +65,9 @@ pub time_before : (u r t q : ℕ) (ks ls : List ℕ) → IsBefore (u ∷ r ∷ k
 time_before u r t q ks ls (inl lt) = omega (arith, lt)
 time_before u r t q ks ls (inr b) = omega (arith, b.0)
 
-pub late_part : (hs : List Happening) (t r : ℕ) (more : List ℕ) → 6 ≤ r → (at : IsSplit place_of hs (t ∷ r ∷ more)) → HasLate hs t at.front
-late_part hs t r more high at =
+pub late_part : {hs : List Happening} (t r : ℕ) (more : List ℕ) → 6 ≤ r → (at : IsSplit place_of hs (t ∷ r ∷ more))
+    → HasLate hs t at.front
+late_part t r more high at =
     let test : Happening → Bool = λ h. nat_le (time_of h) t in
     let kept = all_kept test at.front (λ h i.
     le-leb (time_of h) t (time_before (time_of h) (rank h.note.body) t r (key (members_in h) h.note.body) more (at.before h i))) in
@@ -82,13 +84,14 @@ late_part hs t r more high at =
     }
 
 -- the records of earlier times are all in the front
-pub late_earlier : (hs : List Happening) (t : ℕ) (front : List Happening) → HasLate hs t front → earlier t (up_to t hs) ≡ earlier t front
-late_earlier hs t front l = grind (arith, nat_lt, time_of, filter, none_kept, le-ltb, filter-append, append-nil)
+pub late_earlier : {hs : List Happening} {t : ℕ} {front : List Happening} → HasLate hs t front
+    → earlier t (up_to t hs) ≡ earlier t front
+late_earlier l = grind (arith, nat_lt, time_of, filter, none_kept, le-ltb, filter-append, append-nil)
 
 -- the front tells all that is heard up to the time
-pub late_heard : (s : Scenario) (hs : List Happening) (device : DeviceId) (t : ℕ) (front : List Happening) → HasLate hs t front
-    → heard_since_point s (up_to t hs) device t ≡ heard_since_point s front device t
-late_heard s hs device t front l =
+pub late_heard : (s : Scenario) {hs : List Happening} (device : DeviceId) {t : ℕ} {front : List Happening}
+    → HasLate hs t front → heard_since_point s (up_to t hs) device t ≡ heard_since_point s front device t
+late_heard s {hs} device {t} {front} l =
     let set : Happening → Bool = λ h. nat_lt (time_of h) t && changes_adjustment device h.note.body in
     let f : Happening → Option Hearing = λ h. hearing_by s.network device h h.note.body in
     let kept : List Happening → Happening → Bool = λ es h. come_by s device t es == come_by s device (time_of h) es in
@@ -97,9 +100,9 @@ late_heard s hs device t front l =
     (λ h i. ap (λ (b : Bool). b && changes_adjustment device h.note.body) (le-ltb (time_of h) t (l.not_earlier h i))) in
     let quiet = makes_none f (filter (kept es) l.late)
     (λ h i. high_quiet s.network device h h.note.body (l.not_lower h (in_filter (kept es) l.late h i))) in
-    ap (λ (gs : List Happening). filter_map f (filter (kept gs) (after_last set (up_to t hs)))) (late_earlier hs t front l)
+    ap (λ (gs : List Happening). filter_map f (filter (kept gs) (after_last set (up_to t hs)))) (late_earlier l)
     ∙ ap (λ (gs : List Happening). filter_map f (filter (kept es) (after_last set gs))) l.whole
-    ∙ ap (λ (gs : List Happening). filter_map f (filter (kept es) gs)) since
+    ∙ ap (λ gs. filter_map f (filter (kept es) gs)) since
     ∙ ap (filter_map f) (filter-append (kept es) (after_last set front) l.late)
     ∙ filter_map-append f (filter (kept es) (after_last set front)) (filter (kept es) l.late)
     ∙ ap (λ (ts : List Hearing). filter_map f (filter (kept es) (after_last set front)) ++ ts) quiet
@@ -146,53 +149,53 @@ is_of_point : (device : DeviceId) (cycle : ℕ) (adjustment : Units) (v : Verdic
 is_of_point device cycle adjustment (Corrected by) = refl
 is_of_point device cycle adjustment other = refl
 
-shows_record : (s : Scenario) (gs : List Happening) (device : DeviceId) (t cycle : ℕ) (v : Verdict) → (v ≡ Cleared → ⊥)
-    → ShowsVerdict s gs device t cycle v (point_record device cycle (adjusted s gs device t v) v)
-shows_record s gs device t cycle (Corrected by) more = record { adjustment = adjusted s gs device t (Corrected by); says = refl; sum = refl }
-shows_record s gs device t cycle SyncClique more = refl
-shows_record s gs device t cycle AsyncClique more = refl
-shows_record s gs device t cycle Cleared more = absurd (more refl)
+module _ (s : Scenario) (gs : List Happening) (device : DeviceId) (t cycle : ℕ) where
+  shows_record : (v : Verdict) → (v ≡ Cleared → ⊥) → ShowsVerdict s gs device t cycle v
+      (point_record device cycle (adjusted s gs device t v) v)
+  shows_record (Corrected by) more =
+      record { adjustment = adjusted s gs device t (Corrected by); says = refl; sum = refl }
+  shows_record SyncClique more = refl
+  shows_record AsyncClique more = refl
+  shows_record Cleared more = absurd (more refl)
 
-causes_record : (s : Scenario) (gs : List Happening) (device : DeviceId) (t cycle : ℕ) (v : Verdict) → (v ≡ Cleared → ⊥)
-    → ComesToPoint s gs device t cycle v → IsCaused s gs (units_of t) (point_record device cycle (adjusted s gs device t v) v)
-causes_record s gs device t cycle (Corrected by) more h = record { corrected = h; sum = refl }
-causes_record s gs device t cycle SyncClique more h = (refl, refl, (cycle, h))
-causes_record s gs device t cycle AsyncClique more h = (refl, refl, (cycle, h))
-causes_record s gs device t cycle Cleared more h = absurd (more refl)
+  causes_record : (v : Verdict) → (v ≡ Cleared → ⊥) → ComesToPoint s gs device t cycle v
+      → IsCaused s gs (units_of t) (point_record device cycle (adjusted s gs device t v) v)
+  causes_record (Corrected by) more h = record { corrected = h; sum = refl }
+  causes_record SyncClique more h = (refl, refl, (cycle, h))
+  causes_record AsyncClique more h = (refl, refl, (cycle, h))
+  causes_record Cleared more h = absurd (more refl)
 
--- what a record shows of a verdict
-shown_place : (s : Scenario) (gs : List Happening) (device : DeviceId) (t cycle m : ℕ) (v : Verdict) (body : NoteBody)
-    → ShowsVerdict s gs device t cycle v body → place_at t m body ≡ point_place t device v
-shown_place s gs device t cycle m (Corrected by) body h = ap (λ (b : NoteBody). place_at t m b) h.says
-shown_place s gs device t cycle m SyncClique body h = ap (λ (b : NoteBody). place_at t m b) h
-shown_place s gs device t cycle m AsyncClique body h = ap (λ (b : NoteBody). place_at t m b) h
-shown_place s gs device t cycle m Cleared body h = absurd h
+  -- what a record shows of a verdict
+  shown_place : (m : ℕ) (v : Verdict) (body : NoteBody) → ShowsVerdict s gs device t cycle v body
+      → place_at t m body ≡ point_place t device v
+  shown_place m (Corrected by) body h = ap (λ b. place_at t m b) h.says
+  shown_place m SyncClique body h = ap (λ b. place_at t m b) h
+  shown_place m AsyncClique body h = ap (λ b. place_at t m b) h
+  shown_place m Cleared body h = absurd h
 
-shown_device : (s : Scenario) (gs : List Happening) (device : DeviceId) (t cycle : ℕ) (v : Verdict) (body : NoteBody)
-    → ShowsVerdict s gs device t cycle v body → IsPointOf device body
-shown_device s gs device t cycle (Corrected by) body h = subst (IsPointOf device) (sym h.says) refl
-shown_device s gs device t cycle SyncClique body h = subst (IsPointOf device) (sym h) refl
-shown_device s gs device t cycle AsyncClique body h = subst (IsPointOf device) (sym h) refl
-shown_device s gs device t cycle Cleared body h = absurd h
+  shown_device : (v : Verdict) (body : NoteBody) → ShowsVerdict s gs device t cycle v body → IsPointOf device body
+  shown_device (Corrected by) body h = subst (IsPointOf device) (sym h.says) refl
+  shown_device SyncClique body h = subst (IsPointOf device) (sym h) refl
+  shown_device AsyncClique body h = subst (IsPointOf device) (sym h) refl
+  shown_device Cleared body h = absurd h
 
-shown_more : (s : Scenario) (gs : List Happening) (device : DeviceId) (t cycle : ℕ) (v : Verdict) (body : NoteBody)
-    → ShowsVerdict s gs device t cycle v body → v ≡ Cleared → ⊥
-shown_more s gs device t cycle (Corrected by) body h e = cc
-shown_more s gs device t cycle SyncClique body h e = cc
-shown_more s gs device t cycle AsyncClique body h e = cc
-shown_more s gs device t cycle Cleared body h e = h
+  shown_more : (v : Verdict) (body : NoteBody) → ShowsVerdict s gs device t cycle v body → v ≡ Cleared → ⊥
+  shown_more (Corrected by) body h e = cc
+  shown_more SyncClique body h e = cc
+  shown_more AsyncClique body h e = cc
+  shown_more Cleared body h e = h
 
 -- ---- the law
 
-some_point : (s : Scenario) (hs : List Happening) (until : ℕ) (device : DeviceId) (time : ℕ) → IsFounded place_of (IsDue s) hs
-    → OwesPoint s hs until device time → PaidAt s hs until (IsDueByPoint s) time (λ x. TellsPoint device time x)
-some_point s hs until device time founded o =
+some_point : {s : Scenario} {hs : List Happening} {until : ℕ} {device : DeviceId} {time : ℕ}
+    → IsFounded place_of (IsDue s) hs → OwesPoint s hs until device time
+    → PaidAt s hs until (IsDueByPoint s) time (λ x. TellsPoint device time x)
+some_point {s} {hs} {until} {device} {time} founded o =
     let v = o.verdict in
     let p = point_place time device v in
     let at = split place_of (IsDue s) hs p founded in
-    let late = late_part hs time (point_rank v) (point_key device v) (high_rank v) at in
-    let comes = comes_by s (up_to time hs) at.front device time o.cycle v (late_earlier hs time at.front late)
-    (late_heard s hs device time at.front late) o.comes in
+    let late = late_part {hs = hs} time (point_rank v) (point_key device v) (high_rank v) at in
+    let comes = comes_by at.front (late_earlier late) (late_heard s device late) o.comes in
     let adjustment = adjusted s at.front device time v in
     let body = point_record device o.cycle adjustment v in
     let x = next_of s at.front time body in
@@ -205,30 +208,34 @@ some_point s hs until device time founded o =
       shows = shows_record s at.front device time o.cycle v o.more;
     } in (
       x,
-      due_there (IsDueByPoint s) hs p at x (record_place time (members_in x) device o.cycle adjustment v) due,
+      due_there (IsDueByPoint s) {hs = hs} {p = p} at x
+          (record_place time (members_in x) device o.cycle adjustment v) due,
       within time until (rank body ∷ key (members_in x) body) o.timely,
       record { at = refl; of_point = is_of_point device o.cycle adjustment v },
       refl,
     )
 
 -- the place of what is due by a correction point
-due_place : (s : Scenario) (before : List Happening) (x : Happening) → (h : IsDueByPoint s before x) → place_of x ≡ point_place (time_of x) h.device h.verdict
-due_place s before x h = shown_place s before h.device (time_of x) h.cycle (members_in x) h.verdict x.note.body h.shows
+due_place : {s : Scenario} {before : List Happening} {x : Happening} (h : IsDueByPoint s before x)
+    → place_of x ≡ point_place (time_of x) h.device h.verdict
+due_place {s} {before} {x} h =
+    shown_place s before h.device (time_of x) h.cycle (members_in x) h.verdict x.note.body h.shows
 
 -- the point comes by the records up to its time
-due_comes : (s : Scenario) (hs : List Happening) (x : Happening) → (h : IsDueIn place_of (IsDue s) hs x) → (d : IsDueByPoint s h.before x)
-    → ComesToPoint s (up_to (time_of x) hs) d.device (time_of x) d.cycle d.verdict
-due_comes s hs x h d =
+due_comes : {s : Scenario} {hs : List Happening} {x : Happening} (h : IsDueIn place_of (IsDue s) hs x)
+    (d : IsDueByPoint s h.before x) → ComesToPoint s (up_to (time_of x) hs) d.device (time_of x) d.cycle d.verdict
+due_comes {s} {hs} {x} h d =
     let t = time_of x in
-    let at = subst (λ (p : List ℕ). (at : IsSplit place_of hs p) × (at.front ≡ h.before)) (due_place s h.before x d) (split_at (IsDue s) hs x h, refl) in
-    let late = late_part hs t (point_rank d.verdict) (point_key d.device d.verdict) (high_rank d.verdict) at.0 in
-    let here = subst (λ (gs : List Happening). ComesToPoint s gs d.device t d.cycle d.verdict) (sym at.1) d.comes in
-    comes_by s at.0.front (up_to t hs) d.device t d.cycle d.verdict (sym (late_earlier hs t at.0.front late))
-    (sym (late_heard s hs d.device t at.0.front late)) here
+    let at = subst (λ p. (at : IsSplit place_of hs p) × (at.front ≡ h.before)) (due_place d)
+    (split_at (IsDue s) hs x h, refl) in
+    let late = late_part t (point_rank d.verdict) (point_key d.device d.verdict) (high_rank d.verdict) at.0 in
+    let here = subst (λ gs. ComesToPoint s gs d.device t d.cycle d.verdict) (sym at.1) d.comes in
+    comes_by (up_to t hs) (sym (late_earlier late)) (sym (late_heard s d.device late)) here
 
-point_owed : (s : Scenario) (hs : List Happening) (until : ℕ) (x : Happening) → IsDueIn place_of (IsDueByPoint s) hs x
-    → IsBefore (place_of x) ((until + 1) ∷ []) → (at : DeviceId × ℕ) × OwesPoint s hs until at.0 at.1 × TellsPoint at.0 at.1 x × (time_of x ≡ at.1)
-point_owed s hs until x h here =
+point_owed : (s : Scenario) {hs : List Happening} (until : ℕ) {x : Happening}
+    → IsDueIn place_of (IsDueByPoint s) hs x → IsBefore (place_of x) ((until + 1) ∷ [])
+    → (at : DeviceId × ℕ) × OwesPoint s hs until at.0 at.1 × TellsPoint at.0 at.1 x × (time_of x ≡ at.1)
+point_owed s {hs} until {x} h here =
     let d = h.due in
     let part : IsDueIn place_of (IsDue s) hs x = record {
       before = h.before;
@@ -241,7 +248,7 @@ point_owed s hs until x h here =
     let owed : OwesPoint s hs until d.device (time_of x) = record {
       cycle = d.cycle;
       verdict = d.verdict;
-      comes = due_comes s hs x part d;
+      comes = due_comes part d;
       more = shown_more s h.before d.device (time_of x) d.cycle d.verdict x.note.body d.shows;
       timely = timely (time_of x) until (rank x.note.body ∷ key (members_in x) x.note.body) here;
     } in (
@@ -252,9 +259,10 @@ point_owed s hs until x h here =
     )
 
 -- a record that is due and tells of a device's correction point is due by it
-pub by_point : (s : Scenario) (before : List Happening) (x : Happening) (device : DeviceId) → IsDue s before x → (body : NoteBody) → x.note.body ≡ body
-    → IsCaused s before x.note.time body → IsPointOf device body → (d : IsDueByPoint s before x) × (d.device ≡ device)
-by_point s before x device due (notes.Corrected other cycle by adjustment) is c e = (
+pub by_point : {s : Scenario} {before : List Happening} {x : Happening} (device : DeviceId) → IsDue s before x
+    → (body : NoteBody) → x.note.body ≡ body → IsCaused s before x.note.time body → IsPointOf device body
+    → (d : IsDueByPoint s before x) × (d.device ≡ device)
+by_point device due (notes.Corrected other cycle by adjustment) is c e = (
   record {
     due = due;
     device = other;
@@ -265,7 +273,7 @@ by_point s before x device due (notes.Corrected other cycle by adjustment) is c 
   },
   e,
 )
-by_point s before x device due (notes.State other state cause whys.SyncClique) is c e = (
+by_point device due (notes.State other state cause whys.SyncClique) is c e = (
   record {
     due = due;
     device = other;
@@ -278,7 +286,7 @@ by_point s before x device due (notes.State other state cause whys.SyncClique) i
   },
   e,
 )
-by_point s before x device due (notes.State other state cause whys.AsyncClique) is c e = (
+by_point device due (notes.State other state cause whys.AsyncClique) is c e = (
   record {
     due = due;
     device = other;
@@ -291,28 +299,27 @@ by_point s before x device due (notes.State other state cause whys.AsyncClique) 
   },
   e,
 )
-by_point s before x device due other is c e = absurd e
+by_point device due other is c e = absurd e
 
-same_place : (s : Scenario) (hs : List Happening) (t u : ℕ) (device other : DeviceId) (cycle number : ℕ) (v w : Verdict) → t ≡ u → device ≡ other
-    → ComesToPoint s (up_to t hs) device t cycle v → ComesToPoint s (up_to u hs) other u number w → point_place t device v ≡ point_place u other w
-same_place s hs t u device other cycle number v w times devices a b =
-    let there = subst (λ (d : DeviceId). ComesToPoint s (up_to t hs) d t number w) (sym devices)
-    (subst (λ (n : ℕ). ComesToPoint s (up_to n hs) other n number w) (sym times) b) in
-    ap (λ (x : Verdict). point_place t device x) (same_verdict s (up_to t hs) t device cycle number v w a there)
-    ∙ ap (λ (n : ℕ). point_place n device w) times
-    ∙ ap (λ (d : DeviceId). point_place u d w) devices
+same_place : {s : Scenario} (hs : List Happening) {t u : ℕ} {device other : DeviceId} {cycle number : ℕ}
+    {v w : Verdict} → t ≡ u → device ≡ other → ComesToPoint s (up_to t hs) device t cycle v
+    → ComesToPoint s (up_to u hs) other u number w → point_place t device v ≡ point_place u other w
+same_place {s} hs {t} {u} {device} {other} {number} {w} times devices a b =
+    let there = subst (λ d. ComesToPoint s (up_to t hs) d t number w) (sym devices)
+    (subst (λ n. ComesToPoint s (up_to n hs) other n number w) (sym times) b) in
+    ap (λ x. point_place t device x) (same_verdict a there)
+    ∙ ap (λ n. point_place n device w) times
+    ∙ ap (λ d. point_place u d w) devices
 
 pub point_law : PointLaw
 point_law s hs until founded = record {
-  each = λ x h here. point_owed s hs until x h here;
-  some = λ at o. some_point s hs until at.0 at.1 founded o;
+  each = λ x h here. point_owed s until h here;
+  some = λ at o. some_point founded o;
   one = λ at x y o a b p q.
-      let first = by_point s a.before x at.0 a.due x.note.body refl a.due.cause p.of_point in
-      let second = by_point s b.before y at.0 b.due y.note.body refl b.due.cause q.of_point in
+      let first = by_point at.0 a.due x.note.body refl a.due.cause p.of_point in
+      let second = by_point at.0 b.due y.note.body refl b.due.cause q.of_point in
       let i = first.0 in
       let j = second.0 in
-      due_place s a.before x i
-      ∙ same_place s hs (time_of x) (time_of y) i.device j.device i.cycle j.cycle i.verdict j.verdict (p.at ∙ sym q.at) (first.1 ∙ sym second.1)
-      (due_comes s hs x a i) (due_comes s hs y b j)
-      ∙ sym (due_place s b.before y j);
+      due_place i ∙ same_place hs (p.at ∙ sym q.at) (first.1 ∙ sym second.1) (due_comes a i) (due_comes b j)
+      ∙ sym (due_place j);
 }

@@ -90,9 +90,9 @@ cut_at IsDue hs t founded =
     }
 
 -- the front of a run, up to an earlier time, is the run up to then
-pub run_before : (IsDue : Due) (hs : List Happening) (u t : ℕ) → t ≤ u → IsRun place_of IsDue (u ∷ []) hs → (cut : IsCutAt hs t)
-    → IsRun place_of IsDue (t ∷ []) cut.front
-run_before IsDue hs u t le run cut =
+pub run_before : (IsDue : Due) {hs : List Happening} (u : ℕ) {t : ℕ} → t ≤ u → IsRun place_of IsDue (u ∷ []) hs
+    → (cut : IsCutAt hs t) → IsRun place_of IsDue (t ∷ []) cut.front
+run_before IsDue u {t} le run cut =
     let here = subst (IsRun place_of IsDue (u ∷ [])) cut.whole run in
     record {
       founded = front_founded place_of IsDue cut.front cut.rest here.founded;
@@ -117,15 +117,17 @@ run_before IsDue hs u t le run cut =
 -- ---- a run by other causes
 
 -- a run is one by other causes that are the same where its records part
-pub run_by : (IsDue IsCaused : Due) (mark : List ℕ) (hs : List Happening)
-    → ((ps qs : List Happening) (y : Happening) → hs ≡ ps ++ qs → AllBefore place_of ps (place_of y) → NoneBefore place_of qs (place_of y)
-    → IsBefore (place_of y) mark → (IsDue ps y → IsCaused ps y) × (IsCaused ps y → IsDue ps y)) → IsRun place_of IsDue mark hs → IsRun place_of IsCaused mark hs
-run_by IsDue IsCaused mark hs same run = record {
+pub run_by : (IsDue IsCaused : Due) {mark : List ℕ} {hs : List Happening}
+    → ((ps qs : List Happening) (y : Happening) → hs ≡ ps ++ qs → AllBefore place_of ps (place_of y)
+    → NoneBefore place_of qs (place_of y) → IsBefore (place_of y) mark
+    → (IsDue ps y → IsCaused ps y) × (IsCaused ps y → IsDue ps y)) → IsRun place_of IsDue mark hs
+    → IsRun place_of IsCaused mark hs
+run_by IsDue IsCaused same run = record {
   founded = λ ps qs x e.
       let due = run.founded ps qs x e in
       let order = subst (IsFounded place_of IsDue) e run.founded in
       let none : NoneBefore place_of (x ∷ qs) (place_of x) = λ n i b. elim i [
-        | inl is ↦ never_self (place_of x) (subst (λ (h : Happening). IsBefore (place_of h) (place_of x)) is b)
+        | inl is ↦ never_self (place_of x) (subst (λ h. IsBefore (place_of h) (place_of x)) is b)
         | inr later ↦ never_self (place_of x) (chain (place_of x) (place_of n) (place_of x) (behind_first place_of IsDue ps qs x n order later) b)
       ] in
       let here = run.within x (subst (IsIn x) (sym e) (in_right x ps (x ∷ qs) (inl refl))) in

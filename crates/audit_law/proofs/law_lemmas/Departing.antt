@@ -23,11 +23,12 @@ given_before network (notes.Arrived relay by from clock) device link cause on_cu
 given_before network (notes.Arrived relay by from clock) device link cause too_old g = omega arith
 given_before network other device link cause d g = absurd g
 
-caused : (s : Scenario) (before : List Happening) (t : ℕ) (device : DeviceId) (link : LinkId) (cause : ℕ) (d : Departure)
-    → Departs s before device t link cause d → IsCaused s before (units_of t) (leaving_record device link cause d)
-caused s before t device link cause (leaves clock) h = h
-caused s before t device link cause on_cut_way h = inl h
-caused s before t device link cause too_old h = inr (inr (h, refl))
+caused : {s : Scenario} {before : List Happening} {t : ℕ} {device : DeviceId} {link : LinkId} {cause : ℕ}
+    (d : Departure) → Departs s before device t link cause d
+    → IsCaused s before (units_of t) (leaving_record device link cause d)
+caused (leaves clock) h = h
+caused on_cut_way h = inl h
+caused too_old h = inr (inr (h, refl))
 
 tells : (device : DeviceId) (link : LinkId) (cause : ℕ) (d : Departure) → TellsDeparture cause link (leaving_record device link cause d)
 tells device link cause (leaves clock) = (refl, refl)
@@ -44,10 +45,11 @@ record_place t m device link cause (leaves clock) = refl
 record_place t m device link cause on_cut_way = refl
 record_place t m device link cause too_old = refl
 
-some_departure : (s : Scenario) (hs : List Happening) (until cause : ℕ) (link : LinkId) → IsFounded place_of (IsDue s) hs
-    → (o : OwesDeparture s hs until cause link)
-    → PaidAt s hs until (IsDueByLeaving s) (leaves_at s o.device link o.giving) (λ x. TellsDeparture cause link x.note.body)
-some_departure s hs until cause link founded o =
+some_departure : {s : Scenario} {hs : List Happening} {until cause : ℕ} {link : LinkId}
+    → IsFounded place_of (IsDue s) hs → (o : OwesDeparture s hs until cause link)
+    → PaidAt s hs until (IsDueByLeaving s) (leaves_at s o.device link o.giving)
+    (λ x. TellsDeparture cause link x.note.body)
+some_departure {s} {hs} {until} {cause} {link} founded o =
     let t = leaves_at s o.device link o.giving in
     let d = departure s o.device link o.frame (time_of o.giving) t in
     let body = leaving_record o.device link cause d in
@@ -68,7 +70,7 @@ some_departure s hs until cause link founded o =
     } in
     let x = next_of s at.front t body in
     let due : IsDueByLeaving s at.front x = record {
-      due = next_is_due s at.front t body (caused s at.front t o.device link cause d departs);
+      due = next_is_due s at.front t body (caused d departs);
       device = o.device;
       link = link;
       cause = cause;
@@ -77,7 +79,7 @@ some_departure s hs until cause link founded o =
       says = refl;
     } in (
       x,
-      due_there (IsDueByLeaving s) hs p at x (record_place t (members_in x) o.device link cause d) due,
+      due_there (IsDueByLeaving s) {hs = hs} {p = p} at x (record_place t (members_in x) o.device link cause d) due,
       within t until (rank body ∷ key (members_in x) body) o.timely,
       tells o.device link cause d,
       refl,
@@ -86,15 +88,16 @@ some_departure s hs until cause link founded o =
 -- ---- what leaves was owed
 
 -- a frame that departs, given a front of the list, departs by the list
-pub departs_in_whole : (s : Scenario) (hs before rest : List Happening) (t : ℕ) (device : DeviceId) (link : LinkId) (cause : ℕ) (d : Departure)
-    → hs ≡ before ++ rest → Departs s before device t link cause d → Departs s hs device t link cause d
-departs_in_whole s hs before rest t device link cause d e h = grind (arith, in_whole)
+pub departs_in_whole : {s : Scenario} (hs : List Happening) {before : List Happening} (rest : List Happening) {t : ℕ}
+    {device : DeviceId} {link : LinkId} {cause : ℕ} {d : Departure} → hs ≡ before ++ rest
+    → Departs s before device t link cause d → Departs s hs device t link cause d
+departs_in_whole hs rest e h = grind (arith, in_whole)
 
-departure_owed : (s : Scenario) (hs : List Happening) (until : ℕ) (x : Happening) → IsDueIn place_of (IsDueByLeaving s) hs x
-    → IsBefore (place_of x) ((until + 1) ∷ [])
-    → (given : ℕ × LinkId) × (o : OwesDeparture s hs until given.0 given.1) × TellsDeparture given.0 given.1 x.note.body
-    × (time_of x ≡ leaves_at s o.device given.1 o.giving)
-departure_owed s hs until x h here =
+departure_owed : (s : Scenario) {hs : List Happening} (until : ℕ) {x : Happening}
+    → IsDueIn place_of (IsDueByLeaving s) hs x → IsBefore (place_of x) ((until + 1) ∷ [])
+    → (given : ℕ × LinkId) × (o : OwesDeparture s hs until given.0 given.1)
+    × TellsDeparture given.0 given.1 x.note.body × (time_of x ≡ leaves_at s o.device given.1 o.giving)
+departure_owed s {hs} until {x} h here =
     let d = h.due.departs in
     let owed : OwesDeparture s hs until h.due.cause h.due.link = record {
       giving = d.giving;
@@ -103,8 +106,8 @@ departure_owed s hs until x h here =
       gives = d.gives;
       frame = d.frame;
       of_frame = d.of_frame;
-      correct = subst (λ (u : ℕ). is_broken s h.due.device u ≡ false) d.held d.correct;
-      timely = subst (λ (u : ℕ). u ≤ until) d.held (timely (time_of x) until (rank x.note.body ∷ key (members_in x) x.note.body) here);
+      correct = subst (λ u. is_broken s h.due.device u ≡ false) d.held d.correct;
+      timely = subst (λ u. u ≤ until) d.held (timely (time_of x) until (rank x.note.body ∷ key (members_in x) x.note.body) here);
     } in
     let told = subst (TellsDeparture h.due.cause h.due.link) (sym h.due.says) (tells h.due.device h.due.link h.due.cause h.due.is) in
     ((h.due.cause, h.due.link), owed, told, d.held)
@@ -135,42 +138,44 @@ accepted_gives_none : (body : NoteBody) (device : DeviceId) (link : LinkId) (fro
 accepted_gives_none body device link from vl cycle is g = subst IsGiving is g
 
 -- what is taken from a switch's last frame is of a record of a taking
-from_accepted : (s : Scenario) (before : List Happening) (device : DeviceId) (vl : VlId) (t cause cycle : ℕ) → IsFounded place_of (IsDue s) before
-    → ((g : Happening) → numbered before cause ≡ Some g → IsGiving g.note.body) → HasAccepted before device vl t cause cycle → ⊥
-from_accepted s before device vl t cause cycle founded giving has =
+from_accepted : (s : Scenario) {before : List Happening} {device : DeviceId} {vl : VlId} {t cause cycle : ℕ}
+    → IsFounded place_of (IsDue s) before → ((g : Happening) → numbered before cause ≡ Some g → IsGiving g.note.body)
+    → HasAccepted before device vl t cause cycle → ⊥
+from_accepted s {device} {vl} {cycle} founded giving has =
     accepted_gives_none has.taken.note.body device has.link has.from vl cycle has.is
-    (giving has.taken (taken_there s before device vl t cause cycle founded has))
+    (giving has.taken (taken_there s founded has))
 
 -- a record that is due and tells of a leaving is due by it, where its cause gives a frame to a link
-by_leaving : (s : Scenario) (before : List Happening) (x : Happening) (cause : ℕ) (link : LinkId) → IsDue s before x → IsFounded place_of (IsDue s) before
-    → (cause ≡ 0 → ⊥) → ((g : Happening) → numbered before cause ≡ Some g → IsGiving g.note.body)
-    → (body : NoteBody) → x.note.body ≡ body → IsCaused s before x.note.time body → TellsDeparture cause link body
+by_leaving : {s : Scenario} {before : List Happening} {x : Happening} (cause : ℕ) (link : LinkId) → IsDue s before x
+    → IsFounded place_of (IsDue s) before → (cause ≡ 0 → ⊥)
+    → ((g : Happening) → numbered before cause ≡ Some g → IsGiving g.note.body) → (body : NoteBody)
+    → x.note.body ≡ body → IsCaused s before x.note.time body → TellsDeparture cause link body
     → (h : IsDueByLeaving s before x) × (h.cause ≡ cause) × (h.link ≡ link)
-by_leaving s before x cause link due founded some gives (notes.Left device by from clock) is c e =
+by_leaving cause link due founded some gives (notes.Left device by from clock) is c e =
     (record { due = due; device = device; link = by; cause = from; is = leaves clock; departs = c; says = is }, e.1, e.0)
-by_leaving s before x cause link due founded some gives (notes.Lost device by from) is c e =
+by_leaving {s} {before} cause link due founded some gives (notes.Lost device by from) is c e =
     let all : (g : Happening) → numbered before from ≡ Some g → IsGiving g.note.body = λ g here.
-    gives g (subst (λ (n : ℕ). numbered before n ≡ Some g) e.1 here) in
+    gives g (subst (λ n. numbered before n ≡ Some g) e.1 here) in
     elim c [
       | inl d ↦ (record { due = due; device = device; link = by; cause = from; is = on_cut_way; departs = d; says = is }, e.1, e.0)
       | inr (inl row) ↦
           elim row.2.at_hand [
             | inl own ↦ absurd (some (sym e.1 ∙ own.1))
-            | inr taken ↦ absurd (from_accepted s before device _ _ from _ founded all taken.1)
+            | inr taken ↦ absurd (from_accepted s founded all taken.1)
           ]
       | inr (inr send) ↦ absurd (subst IsGiving send.sends (all send.event send.is.there))
     ]
-by_leaving s before x cause link due founded some gives (notes.Dropped device by from reason) is c e =
+by_leaving {s} {before} {x} cause link due founded some gives (notes.Dropped device by from reason) is c e =
     let all : (g : Happening) → numbered before from ≡ Some g → IsGiving g.note.body = λ g here.
-    gives g (subst (λ (n : ℕ). numbered before n ≡ Some g) e.1 here) in
+    gives g (subst (λ n. numbered before n ≡ Some g) e.1 here) in
     elim c [
       | inl a ↦ absurd (puts_none s a.putting (time_of a.putting) a.putting.note.body _ (all a.putting a.there) a.arrives.put)
-      | inr (inl r) ↦ absurd (not_old s before _ device by from r.0 reason r.1 e.2)
+      | inr (inl r) ↦ absurd (not_old reason r.1 e.2)
       | inr (inr l) ↦
           let old : x.note.body ≡ notes.Dropped device by from Old = is ∙ ap (λ (r : Reason). notes.Dropped device by from r) l.1 in
           (record { due = due; device = device; link = by; cause = from; is = too_old; departs = l.0; says = old }, e.1, e.0)
     ]
-by_leaving s before x cause link due founded some gives other is c e = absurd e
+by_leaving cause link due founded some gives other is c e = absurd e
 
 -- a record gives its frame for one device
 pub one_giver : (network : Network) (body : NoteBody) (device other : DeviceId) (link : LinkId) → Gives network body device link → Gives network body other link
@@ -181,61 +186,59 @@ one_giver network (notes.Arrived relay by from clock) device other link a b = a.
 one_giver network body device other link a b = absurd a
 
 -- where two leavings of one frame by one link stand
-pub same_place : (s : Scenario) (hs : List Happening) (t u : ℕ) (device other : DeviceId) (link by : LinkId) (cause from : ℕ) (d e : Departure)
-    → cause ≡ from → link ≡ by
-    → Departs s hs device t link cause d → Departs s hs other u by from e → leaving_place t device link cause d ≡ leaving_place u other by from e
-same_place s hs t u device other link by cause from d e causes links a b =
-    let there = subst (λ (k : LinkId). Departs s hs other u k cause e) (sym links) (subst (λ (n : ℕ). Departs s hs other u by n e) (sym causes) b) in
+pub same_place : {s : Scenario} {hs : List Happening} {t u : ℕ} {device other : DeviceId} {link by : LinkId}
+    {cause from : ℕ} {d e : Departure} → cause ≡ from → link ≡ by → Departs s hs device t link cause d
+    → Departs s hs other u by from e → leaving_place t device link cause d ≡ leaving_place u other by from e
+same_place {s} {hs} {t} {u} {device} {other} {link} {by} {cause} {d} {e} causes links a b =
+    let there = subst (λ k. Departs s hs other u k cause e) (sym links) (subst (λ n. Departs s hs other u by n e) (sym causes) b) in
     let one : there.giving ≡ a.giving = same_some (numbered hs cause) there.giving a.giving there.there a.there in
     let devices : device ≡ other = one_giver s.network a.giving.note.body device other link a.gives
     (subst (λ (h : Happening). Gives s.network h.note.body other link) one there.gives) in
     let times : t ≡ u = a.held
-    ∙ ap (λ (x : DeviceId). leaves_at s x link a.giving) devices
-    ∙ ap (λ (h : Happening). leaves_at s other link h) (sym one)
+    ∙ ap (λ x. leaves_at s x link a.giving) devices
+    ∙ ap (λ h. leaves_at s other link h) (sym one)
     ∙ sym there.held in
-    let moved = subst (λ (k : DeviceId). Departs s hs k t link cause e) (sym devices)
-    (subst (λ (n : ℕ). Departs s hs other n link cause e) (sym times) there) in
+    let moved = subst (λ k. Departs s hs k t link cause e) (sym devices)
+    (subst (λ n. Departs s hs other n link cause e) (sym times) there) in
     let outcomes : d ≡ e = same_departure s hs t device link cause a moved in
-    ap (λ (o : Departure). leaving_place t device link cause o) outcomes
-    ∙ ap (λ (n : ℕ). leaving_place n device link cause e) times
-    ∙ ap (λ (k : DeviceId). leaving_place u k link cause e) devices
-    ∙ ap (λ (k : LinkId). leaving_place u other k cause e) links
-    ∙ ap (λ (n : ℕ). leaving_place u other by n e) causes
+    ap (λ o. leaving_place t device link cause o) outcomes
+    ∙ ap (λ n. leaving_place n device link cause e) times
+    ∙ ap (λ k. leaving_place u k link cause e) devices
+    ∙ ap (λ k. leaving_place u other k cause e) links
+    ∙ ap (λ n. leaving_place u other by n e) causes
 
 -- the place of what is due by a leaving
-due_place : (s : Scenario) (before : List Happening) (x : Happening) → (h : IsDueByLeaving s before x)
+due_place : {s : Scenario} {before : List Happening} {x : Happening} (h : IsDueByLeaving s before x)
     → place_of x ≡ leaving_place (time_of x) h.device h.link h.cause h.is
-due_place s before x h =
-    ap (λ (b : NoteBody). place_at (time_of x) (members_in x) b) h.says ∙ record_place (time_of x) (members_in x) h.device h.link h.cause h.is
+due_place {x} h =
+    ap (λ b. place_at (time_of x) (members_in x) b) h.says ∙ record_place (time_of x) (members_in x) h.device h.link h.cause h.is
 
 -- what is due and tells of a leaving that is owed is due by it in the list
-due_so : (s : Scenario) (hs : List Happening) (until cause : ℕ) (link : LinkId) (x : Happening) → IsFounded place_of (IsDue s) hs
-    → OwesDeparture s hs until cause link → (h : IsDueIn place_of (IsDue s) hs x) → TellsDeparture cause link x.note.body
-    → (d : IsDueByLeaving s h.before x) × (d.cause ≡ cause) × (d.link ≡ link)
-due_so s hs until cause link x founded o h tells =
+due_so : {s : Scenario} {hs : List Happening} {until cause : ℕ} {link : LinkId} {x : Happening}
+    → IsFounded place_of (IsDue s) hs → OwesDeparture s hs until cause link → (h : IsDueIn place_of (IsDue s) hs x)
+    → TellsDeparture cause link x.note.body → (d : IsDueByLeaving s h.before x) × (d.cause ≡ cause) × (d.link ≡ link)
+due_so {s} {hs} {cause} {link} {x} founded o h tells =
     let front = front_of s hs (place_of x) founded (split_at (IsDue s) hs x h) in
     let gives = gives_so s.network o.giving.note.body o.device link o.gives in
     let all : (g : Happening) → numbered h.before cause ≡ Some g → IsGiving g.note.body = λ g there.
     subst (λ (k : Happening). IsGiving k.note.body)
     (same_some (numbered hs cause) o.giving g o.there (in_whole hs h.before h.behind cause g h.parts there)) gives in
-    by_leaving s h.before x cause link h.due front (from_one hs cause o.giving o.there) all x.note.body refl h.due.cause tells
+    by_leaving cause link h.due front (from_one hs cause o.giving o.there) all x.note.body refl h.due.cause tells
 
 -- it departs by the list
-due_departs : (s : Scenario) (hs : List Happening) (x : Happening) → (h : IsDueIn place_of (IsDue s) hs x) → (d : IsDueByLeaving s h.before x)
-    → Departs s hs d.device (time_of x) d.link d.cause d.is
-due_departs s hs x h d = departs_in_whole s hs h.before h.behind (time_of x) d.device d.link d.cause d.is h.parts d.departs
+due_departs : {s : Scenario} {hs : List Happening} {x : Happening} (h : IsDueIn place_of (IsDue s) hs x)
+    (d : IsDueByLeaving s h.before x) → Departs s hs d.device (time_of x) d.link d.cause d.is
+due_departs {hs} h d = departs_in_whole hs h.behind h.parts d.departs
 
 pub departure_law : DepartureLaw
 departure_law s hs until founded = record {
-  each = λ x h here. departure_owed s hs until x h here;
-  some = λ given o. some_departure s hs until given.0 given.1 founded o;
+  each = λ x h here. departure_owed s until h here;
+  some = λ given o. some_departure founded o;
   one = λ given x y o a b p q.
-      let first = due_so s hs until given.0 given.1 x founded o a p in
-      let second = due_so s hs until given.0 given.1 y founded o b q in
+      let first = due_so founded o a p in
+      let second = due_so founded o b q in
       let i = first.0 in
       let j = second.0 in
-      due_place s a.before x i
-      ∙ same_place s hs (time_of x) (time_of y) i.device j.device i.link j.link i.cause j.cause i.is j.is (first.1 ∙ sym second.1)
-      (first.2 ∙ sym second.2) (due_departs s hs x a i) (due_departs s hs y b j)
-      ∙ sym (due_place s b.before y j);
+      due_place i ∙ same_place (first.1 ∙ sym second.1) (first.2 ∙ sym second.2) (due_departs a i) (due_departs b j)
+      ∙ sym (due_place j);
 }

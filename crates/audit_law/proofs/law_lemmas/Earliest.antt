@@ -23,7 +23,7 @@ OfKind {O} debt_of o = (x : O) × (debt_of x ≡ o)
 
 of_kind : {O : Type 0} (s : Scenario) (hs : List Happening) (until : ℕ) (debt_of : O → Debt) (first : Option ℕ) → TellsFirst s hs until debt_of first
     → FirstIn s hs until (OfKind debt_of) first
-of_kind s hs until debt_of None h = λ o of owed. subst (λ (d : Debt). IsOwed s hs until d → IsPaid hs (Pays s) d) of.1 (h of.0) owed
+of_kind s hs until debt_of None h = λ o of owed. subst (λ d. IsOwed s hs until d → IsPaid hs (Pays s) d) of.1 (h of.0) owed
 of_kind s hs until debt_of (Some t) h = record {
   debt = debt_of h.debt;
   of = (h.debt, refl);
@@ -31,7 +31,7 @@ of_kind s hs until debt_of (Some t) h = record {
   unpaid = h.unpaid;
   at = h.at;
   first = λ other of is not.
-      subst (λ (d : Debt). (owed : IsOwed s hs until d) → (IsPaid hs (Pays s) d → ⊥) → t ≤ falls_due s hs until d owed) of.1 (h.first of.0) is not;
+      subst (λ d. (owed : IsOwed s hs until d) → (IsPaid hs (Pays s) d → ⊥) → t ≤ falls_due s hs until d owed) of.1 (h.first of.0) is not;
 }
 
 join : (s : Scenario) (hs : List Happening) (until : ℕ) (P Q : Debt → Type 0) (a b : Option ℕ) → FirstIn s hs until P a → FirstIn s hs until Q b

@@ -17,18 +17,21 @@ all_kept (h ∷ hs) p all =
     ∙ ap (λ (gs : List Happening). h ∷ gs) (all_kept hs p (λ g i. all g (inr i)))
 
 -- where a list parts at a place, its front is the records before that
-pub before_is_front : (hs : List Happening) (p : List ℕ) → (at : IsSplit place_of hs p) → before_place hs p ≡ at.front
-before_is_front hs p at = grind (arith, is_before, place_of, filter, none_kept, false_from_ne_true, is_there, filter-append, append-nil, all_kept)
+pub before_is_front : {hs : List Happening} {p : List ℕ} (at : IsSplit place_of hs p) → before_place hs p ≡ at.front
+before_is_front at =
+    grind (arith, is_before, place_of, filter, none_kept, false_from_ne_true, is_there, filter-append, append-nil, all_kept)
 
 -- ---- the law
 
-some_emission : (s : Scenario) (hs : List Happening) (until : ℕ) (device : DeviceId) (sent : Compressed) → IsFounded place_of (IsDue s) hs
-    → (o : OwesEmission s hs until device sent) → PaidAt s hs until (IsDueByEmission s) o.time (λ x. TellsEmission device sent x.note.body)
-some_emission s hs until device sent founded o =
+some_emission : {s : Scenario} {hs : List Happening} {until : ℕ} {device : DeviceId} {sent : Compressed}
+    → IsFounded place_of (IsDue s) hs → (o : OwesEmission s hs until device sent)
+    → PaidAt s hs until (IsDueByEmission s) o.time (λ x. TellsEmission device sent x.note.body)
+some_emission {s} {hs} {until} {device} {sent} founded o =
     let body = emission_record device sent o.verdict in
     let p = emission_place o.time device sent in
     let at = split place_of (IsDue s) hs p founded in
-    let emits = subst (λ (gs : List Happening). Emits s gs device o.time sent o.verdict) (before_is_front hs p at) o.emits in
+    let emits = subst (λ gs. Emits s gs device o.time sent o.verdict)
+    (before_is_front {hs = hs} {p = p} at) o.emits in
     let x = next_of s at.front o.time body in
     let due : IsDueByEmission s at.front x = record {
       due = next_is_due s at.front o.time body emits;
@@ -39,24 +42,25 @@ some_emission s hs until device sent founded o =
       says = refl;
     } in
     let here = within o.time until (rank body ∷ key (members_in x) body) o.timely in
-    (x, due_there (IsDueByEmission s) hs p at x refl due, here, (refl, refl, refl, refl, refl), refl)
+    (x, due_there (IsDueByEmission s) {hs = hs} {p = p} at x refl due, here, (refl, refl, refl, refl, refl), refl)
 
 -- the place of what is due by an emission
-due_place : (s : Scenario) (before : List Happening) (x : Happening) → (h : IsDueByEmission s before x)
+due_place : {s : Scenario} {before : List Happening} {x : Happening} (h : IsDueByEmission s before x)
     → place_of x ≡ emission_place (time_of x) h.device h.sent
-due_place s before x h = ap (λ (b : NoteBody). place_at (time_of x) (members_in x) b) h.says
+due_place {x} h = ap (λ b. place_at (time_of x) (members_in x) b) h.says
 
-emission_owed : (s : Scenario) (hs : List Happening) (until : ℕ) (x : Happening) → IsDueIn place_of (IsDueByEmission s) hs x
-    → IsBefore (place_of x) ((until + 1) ∷ [])
-    → (given : DeviceId × Compressed) × (o : OwesEmission s hs until given.0 given.1) × TellsEmission given.0 given.1 x.note.body × (time_of x ≡ o.time)
-emission_owed s hs until x h here =
+emission_owed : (s : Scenario) {hs : List Happening} (until : ℕ) {x : Happening}
+    → IsDueIn place_of (IsDueByEmission s) hs x → IsBefore (place_of x) ((until + 1) ∷ [])
+    → (given : DeviceId × Compressed) × (o : OwesEmission s hs until given.0 given.1)
+    × TellsEmission given.0 given.1 x.note.body × (time_of x ≡ o.time)
+emission_owed s {hs} until {x} h here =
     let d = h.due in
     let front : before_place hs (emission_place (time_of x) d.device d.sent) ≡ h.before =
-    ap (before_place hs) (sym (due_place s h.before x d)) ∙ before_is_front hs (place_of x) (split_at (IsDueByEmission s) hs x h) in
+    ap (before_place hs) (sym (due_place d)) ∙ before_is_front (split_at (IsDueByEmission s) hs x h) in
     let owed : OwesEmission s hs until d.device d.sent = record {
       time = time_of x;
       verdict = d.verdict;
-      emits = subst (λ (gs : List Happening). Emits s gs d.device (time_of x) d.sent d.verdict) (sym front) d.emits;
+      emits = subst (λ gs. Emits s gs d.device (time_of x) d.sent d.verdict) (sym front) d.emits;
       timely = timely (time_of x) until (rank x.note.body ∷ key (members_in x) x.note.body) here;
     } in
     ((d.device, d.sent), owed, subst (TellsEmission d.device d.sent) (sym d.says) (refl, refl, refl, refl, refl), refl)
@@ -73,11 +77,11 @@ emitted s before device sent x other is c e = absurd e
 
 pub emission_law : EmissionLaw
 emission_law s hs until founded = record {
-  each = λ x h here. emission_owed s hs until x h here;
-  some = λ given o. some_emission s hs until given.0 given.1 founded o;
+  each = λ x h here. emission_owed s until h here;
+  some = λ given o. some_emission founded o;
   one = λ given x y o a b p q.
       let first = emitted s a.before given.0 given.1 x x.note.body refl a.due.cause p in
       let second = emitted s b.before given.0 given.1 y y.note.body refl b.due.cause q in
       let times = one_reach (s.reading given.0) (pos 0) given.1.at.0 (time_of x) (time_of y) first.reached second.reached in
-      first.place ∙ ap (λ (t : ℕ). emission_place t given.0 given.1) times ∙ sym second.place;
+      first.place ∙ ap (λ t. emission_place t given.0 given.1) times ∙ sym second.place;
 }

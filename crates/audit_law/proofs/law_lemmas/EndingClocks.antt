@@ -6,9 +6,10 @@ use Rattle.audit_law.specs.law.{DebtLaws.ClockLaw, EndClocks.{IsClockOf, IsDueBy
 use Rattle.run_law.specs.runs.DueRecords.{EndsAt, IsClockRecord}
 use Rattle.run_law.specs.declared.note.NoteBody.TheVariants as notes
 
-some_clock : (s : Scenario) (hs : List Happening) (until : ℕ) (device : DeviceId) (time : ℕ) → IsFounded place_of (IsDue s) hs → OwesClock s until device time
+some_clock : {s : Scenario} (hs : List Happening) {until : ℕ} {device : DeviceId} {time : ℕ}
+    → IsFounded place_of (IsDue s) hs → OwesClock s until device time
     → PaidAt s hs until (IsDueByEnd s) time (λ x. TellsClock device time x)
-some_clock s hs until device time founded o =
+some_clock {s} hs {until} {device} {time} founded o =
     let p = time ∷ 14 ∷ device.0 ∷ [] in
     let at = split place_of (IsDue s) hs p founded in
     let shown = units_of (s.reading device time) in
@@ -27,11 +28,12 @@ some_clock s hs until device time founded o =
       clock = clock;
       says = refl;
     } in
-    (x, due_there (IsDueByEnd s) hs p at x refl due, within time until (14 ∷ device.0 ∷ []) o.timely, (refl, refl), refl)
+    (x, due_there (IsDueByEnd s) {hs = hs} {p = p} at x refl due, within time until (14 ∷ device.0 ∷ []) o.timely, (refl, refl), refl)
 
-clock_owed : (s : Scenario) (hs : List Happening) (until : ℕ) (x : Happening) → IsDueIn place_of (IsDueByEnd s) hs x
-    → IsBefore (place_of x) ((until + 1) ∷ []) → (at : DeviceId × ℕ) × OwesClock s until at.0 at.1 × TellsClock at.0 at.1 x × (time_of x ≡ at.1)
-clock_owed s hs until x h here =
+clock_owed : (s : Scenario) {hs : List Happening} (until : ℕ) {x : Happening} → IsDueIn place_of (IsDueByEnd s) hs x
+    → IsBefore (place_of x) ((until + 1) ∷ []) → (at : DeviceId × ℕ) × OwesClock s until at.0 at.1
+    × TellsClock at.0 at.1 x × (time_of x ≡ at.1)
+clock_owed s until {x} h here =
     let d = h.due in
     let owed : OwesClock s until d.device (time_of x) = record {
       is = d.clock.is;
@@ -47,8 +49,8 @@ place_of_clock t m device other e = absurd e
 
 pub clock_law : ClockLaw
 clock_law s hs until founded = record {
-  each = λ x h here. clock_owed s hs until x h here;
-  some = λ at o. some_clock s hs until at.0 at.1 founded o;
+  each = λ x h here. clock_owed s until h here;
+  some = λ at o. some_clock hs founded o;
   one = λ at x y o a b p q.
       place_of_clock (time_of x) (members_in x) at.0 x.note.body p.1
       ∙ ap (λ (t : ℕ). t ∷ 14 ∷ at.0.0 ∷ []) (p.0 ∙ sym q.0)

@@ -2,8 +2,9 @@
 use Rattle.audit_law.proofs.law_lemmas.Words.{◌∙◌, ◌∷◌, ◌≡◌, Happening, List, Scenario, arith, cases_lt, inl, inr, key, members_in, rank, sym, time_of, ℕ}
 use Rattle.audit_law.{proofs.law_lemmas.{AllOwed.debt_law, Owing.{timely, within}}, specs.law.DebtLaws.{IsFirstDebt, IsFirstLack, LackLaw, ShowsInDebts}}
 
-lack_to_debt : (s : Scenario) (hs : List Happening) (until time : ℕ) → ShowsInDebts s hs until → IsFirstLack s hs until time → IsFirstDebt s hs until time
-lack_to_debt s hs until time shows lack =
+lack_to_debt : {s : Scenario} {hs : List Happening} {until time : ℕ} → ShowsInDebts s hs until
+    → IsFirstLack s hs until time → IsFirstDebt s hs until time
+lack_to_debt shows lack =
     let there = shows.lacking lack.missing lack.lacking lack.within in
     record {
       debt = there.0;
@@ -16,8 +17,9 @@ lack_to_debt s hs until time shows lack =
           omega (arith, late, x.4);
     }
 
-debt_to_lack : (s : Scenario) (hs : List Happening) (until time : ℕ) → ShowsInDebts s hs until → IsFirstDebt s hs until time → IsFirstLack s hs until time
-debt_to_lack s hs until time shows debt =
+debt_to_lack : {s : Scenario} {hs : List Happening} {until time : ℕ} → ShowsInDebts s hs until
+    → IsFirstDebt s hs until time → IsFirstLack s hs until time
+debt_to_lack {until} {time} shows debt =
     let x = shows.unpaid debt.debt debt.owed debt.unpaid in
     let place : Happening → List ℕ = λ h. rank h.note.body ∷ key (members_in h) h.note.body in
     let at : time ≡ time_of x.0 = debt.at ∙ sym x.4 in
@@ -39,4 +41,4 @@ debt_to_lack s hs until time shows debt =
 pub lack_law : LackLaw
 lack_law s hs until time sound =
     let shows = debt_law s hs until sound in
-    (lack_to_debt s hs until time shows, debt_to_lack s hs until time shows)
+    (lack_to_debt {time = time} shows, debt_to_lack {time = time} shows)

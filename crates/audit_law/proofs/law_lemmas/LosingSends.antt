@@ -8,13 +8,14 @@ use Rattle.{audit_law.specs.law.LostSends.{IsDueBySend, OwesLoss, TellsLoss}, ne
 use Rattle.run_law.specs.declared.note.NoteBody.TheVariants as notes
 
 -- a loss is one by other records that have its event
-pub moved : (s : Scenario) (gs hs : List Happening) (device : DeviceId) (t : ℕ) (link : LinkId) (cause : ℕ) → (h : IsSendLost s gs device t link cause)
-    → numbered hs cause ≡ Some h.event → IsSendLost s hs device t link cause
-moved s gs hs device t link cause h there = grind arith
+pub moved : {s : Scenario} {gs : List Happening} (hs : List Happening) {device : DeviceId} {t : ℕ} {link : LinkId}
+    {cause : ℕ} (h : IsSendLost s gs device t link cause) → numbered hs cause ≡ Some h.event
+    → IsSendLost s hs device t link cause
+moved hs h there = grind arith
 
-some_loss : (s : Scenario) (hs : List Happening) (until cause : ℕ) → IsFounded place_of (IsDue s) hs → (o : OwesLoss s hs until cause)
-    → PaidAt s hs until (IsDueBySend s) o.time (λ x. TellsLoss cause x.note.body)
-some_loss s hs until cause founded o =
+some_loss : {s : Scenario} {hs : List Happening} {until cause : ℕ} → IsFounded place_of (IsDue s) hs
+    → (o : OwesLoss s hs until cause) → PaidAt s hs until (IsDueBySend s) o.time (λ x. TellsLoss cause x.note.body)
+some_loss {s} {hs} {until} {cause} founded o =
     let body = notes.Lost o.device o.link cause in
     let p = place_at o.time 0 body in
     let at = split place_of (IsDue s) hs p founded in
@@ -22,7 +23,7 @@ some_loss s hs until cause founded o =
     let low : rank event.note.body ≡ 1 = ap rank o.lost.sends in
     let sooner : IsBefore (place_of event) p = ahead (time_of event) o.time (rank event.note.body) 9 (key (members_in event) event.note.body)
     (o.device.0 ∷ o.link.0 ∷ cause ∷ []) (omega (arith, o.lost.is.same_time)) (omega (arith, low)) in
-    let lost = moved s hs at.front o.device o.time o.link cause o.lost (found_before s hs p founded at cause event o.lost.is.there sooner) in
+    let lost = moved at.front o.lost (found_before s hs p founded at cause event o.lost.is.there sooner) in
     let x = next_of s at.front o.time body in
     let due : IsDueBySend s at.front x = record {
       due = next_is_due s at.front o.time body (inr (inr lost));
@@ -32,17 +33,18 @@ some_loss s hs until cause founded o =
       lost = lost;
       says = refl;
     } in
-    (x, due_there (IsDueBySend s) hs p at x refl due, within o.time until (9 ∷ o.device.0 ∷ o.link.0 ∷ cause ∷ []) o.timely, refl, refl)
+    (x, due_there (IsDueBySend s) {hs = hs} {p = p} at x refl due, within o.time until (9 ∷ o.device.0 ∷ o.link.0 ∷ cause ∷ []) o.timely, refl, refl)
 
-loss_owed : (s : Scenario) (hs : List Happening) (until : ℕ) (x : Happening) → IsDueIn place_of (IsDueBySend s) hs x
-    → IsBefore (place_of x) ((until + 1) ∷ []) → (cause : ℕ) × (o : OwesLoss s hs until cause) × TellsLoss cause x.note.body × (time_of x ≡ o.time)
-loss_owed s hs until x h here =
+loss_owed : (s : Scenario) {hs : List Happening} (until : ℕ) {x : Happening} → IsDueIn place_of (IsDueBySend s) hs x
+    → IsBefore (place_of x) ((until + 1) ∷ []) → (cause : ℕ) × (o : OwesLoss s hs until cause)
+    × TellsLoss cause x.note.body × (time_of x ≡ o.time)
+loss_owed s {hs} until {x} h here =
     let d = h.due in
     let owed : OwesLoss s hs until d.cause = record {
       device = d.device;
       link = d.link;
       time = time_of x;
-      lost = moved s h.before hs d.device (time_of x) d.link d.cause d.lost (in_whole hs h.before h.behind d.cause d.lost.event h.parts d.lost.is.there);
+      lost = moved hs d.lost (in_whole hs h.before h.behind d.cause d.lost.event h.parts d.lost.is.there);
       timely = timely (time_of x) until (rank x.note.body ∷ key (members_in x) x.note.body) here;
     } in
     (d.cause, owed, subst (TellsLoss d.cause) (sym d.says) refl, refl)
@@ -57,55 +59,58 @@ gives_none network (notes.Event line what) device link e g = g
 gives_none network other device link e g = absurd e
 
 -- what is due and tells of the loss of what came from an event is due by it
-by_send : (s : Scenario) (before : List Happening) (x : Happening) (cause : ℕ) → IsDue s before x → IsFounded place_of (IsDue s) before → (cause ≡ 0 → ⊥)
-    → ((g : Happening) → numbered before cause ≡ Some g → IsSending g.note.body)
-    → (body : NoteBody) → x.note.body ≡ body → IsCaused s before x.note.time body → TellsLoss cause body → (h : IsDueBySend s before x) × (h.cause ≡ cause)
-by_send s before x cause due founded some sends (notes.Lost device link from) is c e =
+by_send : {s : Scenario} {before : List Happening} {x : Happening} (cause : ℕ) → IsDue s before x
+    → IsFounded place_of (IsDue s) before → (cause ≡ 0 → ⊥)
+    → ((g : Happening) → numbered before cause ≡ Some g → IsSending g.note.body) → (body : NoteBody)
+    → x.note.body ≡ body → IsCaused s before x.note.time body → TellsLoss cause body
+    → (h : IsDueBySend s before x) × (h.cause ≡ cause)
+by_send {s} {before} cause due founded some sends (notes.Lost device link from) is c e =
     let all : (g : Happening) → numbered before from ≡ Some g → IsSending g.note.body = λ g here.
-    sends g (subst (λ (n : ℕ). numbered before n ≡ Some g) e here) in
+    sends g (subst (λ n. numbered before n ≡ Some g) e here) in
     elim c [
       | inl d ↦ absurd (gives_none s.network d.giving.note.body device link (all d.giving d.there) d.gives)
       | inr (inl row) ↦
           elim row.2.at_hand [
             | inl own ↦ absurd (some (sym e ∙ own.1))
-            | inr taken ↦ absurd (subst IsSending taken.1.is (all taken.1.taken (taken_there s before device _ _ from _ founded taken.1)))
+            | inr taken ↦ absurd (subst IsSending taken.1.is (all taken.1.taken (taken_there s founded taken.1)))
           ]
       | inr (inr lost) ↦ (record { due = due; device = device; link = link; cause = from; lost = lost; says = is }, e)
     ]
-by_send s before x cause due founded some sends other is c e = absurd e
+by_send cause due founded some sends other is c e = absurd e
 
 -- two losses of one event are at one place
-same_place : (s : Scenario) (hs : List Happening) (t u : ℕ) (device other : DeviceId) (link by : LinkId) (cause from : ℕ) → cause ≡ from
-    → IsSendLost s hs device t link cause → IsSendLost s hs other u by from
+same_place : {s : Scenario} {hs : List Happening} {t u : ℕ} {device other : DeviceId} {link by : LinkId}
+    {cause from : ℕ} → cause ≡ from → IsSendLost s hs device t link cause → IsSendLost s hs other u by from
     → place_at t 0 (notes.Lost device link cause) ≡ place_at u 0 (notes.Lost other by from)
-same_place s hs t u device other link by cause from causes a b = grind (arith, same_some, numbered, slice_get, time_of, place_at)
+same_place causes a b = grind (arith, same_some, numbered, slice_get, time_of, place_at)
 
-due_so : (s : Scenario) (hs : List Happening) (until cause : ℕ) (x : Happening) → IsFounded place_of (IsDue s) hs → OwesLoss s hs until cause
-    → (h : IsDueIn place_of (IsDue s) hs x) → TellsLoss cause x.note.body → (d : IsDueBySend s h.before x) × (d.cause ≡ cause)
-due_so s hs until cause x founded o h tells =
+due_so : {s : Scenario} {hs : List Happening} {until cause : ℕ} {x : Happening} → IsFounded place_of (IsDue s) hs
+    → OwesLoss s hs until cause → (h : IsDueIn place_of (IsDue s) hs x) → TellsLoss cause x.note.body
+    → (d : IsDueBySend s h.before x) × (d.cause ≡ cause)
+due_so {s} {hs} {cause} {x} founded o h tells =
     let event = o.lost.event in
     let sends : (g : Happening) → numbered h.before cause ≡ Some g → IsSending g.note.body = λ g there.
     let one : event ≡ g = same_some (numbered hs cause) event g o.lost.is.there (in_whole hs h.before h.behind cause g h.parts there) in
     subst (λ (k : Happening). IsSending k.note.body) one (subst IsSending (sym o.lost.sends) tt) in
-    by_send s h.before x cause h.due (front_of s hs (place_of x) founded (split_at (IsDue s) hs x h)) (from_one hs cause event o.lost.is.there) sends
+    by_send cause h.due (front_of s hs (place_of x) founded (split_at (IsDue s) hs x h))
+    (from_one hs cause event o.lost.is.there) sends
     x.note.body refl h.due.cause tells
 
-due_lost : (s : Scenario) (hs : List Happening) (x : Happening) (h : IsDueIn place_of (IsDue s) hs x) (d : IsDueBySend s h.before x)
-    → IsSendLost s hs d.device (time_of x) d.link d.cause
-due_lost s hs x h d =
-    moved s h.before hs d.device (time_of x) d.link d.cause d.lost (in_whole hs h.before h.behind d.cause d.lost.event h.parts d.lost.is.there)
+due_lost : {s : Scenario} {hs : List Happening} {x : Happening} (h : IsDueIn place_of (IsDue s) hs x)
+    (d : IsDueBySend s h.before x) → IsSendLost s hs d.device (time_of x) d.link d.cause
+due_lost {hs} h d =
+    moved hs d.lost (in_whole hs h.before h.behind d.cause d.lost.event h.parts d.lost.is.there)
 
 pub loss_law : LossLaw
 loss_law s hs until founded = record {
-  each = λ x h here. loss_owed s hs until x h here;
-  some = λ cause o. some_loss s hs until cause founded o;
+  each = λ x h here. loss_owed s until h here;
+  some = λ cause o. some_loss founded o;
   one = λ cause x y o a b p q.
-      let first = due_so s hs until cause x founded o a p in
-      let second = due_so s hs until cause y founded o b q in
+      let first = due_so founded o a p in
+      let second = due_so founded o b q in
       let i = first.0 in
       let j = second.0 in
-      ap (λ (c : NoteBody). place_at (time_of x) (members_in x) c) i.says
-      ∙ same_place s hs (time_of x) (time_of y) i.device j.device i.link j.link i.cause j.cause (first.1 ∙ sym second.1)
-      (due_lost s hs x a i) (due_lost s hs y b j)
-      ∙ sym (ap (λ (c : NoteBody). place_at (time_of y) (members_in y) c) j.says);
+      ap (λ c. place_at (time_of x) (members_in x) c) i.says ∙ same_place (first.1 ∙ sym second.1)
+      (due_lost a i) (due_lost b j)
+      ∙ sym (ap (λ c. place_at (time_of y) (members_in y) c) j.says);
 }

@@ -11,23 +11,26 @@ pub record IsFoundedAt (s : Scenario) (hs : List Happening) (h : Happening) : Ty
   pub due : IsDue s front h
   pub founded : IsFounded place_of (IsDue s) front
 
--- each record of a founded list is due given those before it
-pub founded_at : (s : Scenario) (hs : List Happening) (h : Happening) → IsFounded place_of (IsDue s) hs → IsIn h hs → IsFoundedAt s hs h
-founded_at s hs h founded i =
-    let at = parted h hs i in
-    record {
-      front = at.0;
-      rest = at.1;
-      whole = at.2;
-      due = (founded at.0 at.1 h at.2).1;
-      founded = front_founded place_of (IsDue s) at.0 (h ∷ at.1) (subst (IsFounded place_of (IsDue s)) at.2 founded);
-    }
+module _ (s : Scenario) (hs : List Happening) (h : Happening) (founded : IsFounded place_of (IsDue s) hs)
+    (i : IsIn h hs) where
+  -- each record of a founded list is due given those before it
+  pub founded_at : IsFoundedAt s hs h
+  founded_at =
+      let at = parted h hs i in
+      record {
+        front = at.0;
+        rest = at.1;
+        whole = at.2;
+        due = (founded at.0 at.1 h at.2).1;
+        founded = front_founded place_of (IsDue s) at.0 (h ∷ at.1) (subst (IsFounded place_of (IsDue s)) at.2 founded);
+      }
 
--- a record of a founded list is found by its number
-pub by_number : (s : Scenario) (hs : List Happening) (h : Happening) → IsFounded place_of (IsDue s) hs → IsIn h hs → numbered hs h.note.number ≡ Some h
-by_number s hs h founded i =
-    let at = founded_at s hs h founded i in
-    subst (λ (t : List Happening). numbered t h.note.number ≡ Some h) (sym at.whole) (numbered_next at.front at.rest h h.note.number at.due.number)
+  -- a record of a founded list is found by its number
+  pub by_number : numbered hs h.note.number ≡ Some h
+  by_number =
+      let at = founded_at in
+      subst (λ t. numbered t h.note.number ≡ Some h) (sym at.whole)
+      (numbered_next at.front at.rest h h.note.number at.due.number)
 
 -- what a founded list has by a number has that number
 pub number_is : (s : Scenario) (hs : List Happening) (n : ℕ) (h : Happening) → IsFounded place_of (IsDue s) hs → numbered hs n ≡ Some h → h.note.number ≡ n

@@ -12,27 +12,28 @@ abbrev pub split_at : (IsDueSo : List Happening → Happening → Type 0) (hs : 
 split_at IsDueSo hs x h = record { front = h.before; rest = h.behind; whole = h.parts; before = h.all_before; none = h.none_before }
 
 -- what is due in a list finds there all records of earlier times
-pub earlier_in : (IsDueSo : List Happening → Happening → Type 0) (hs : List Happening) (x : Happening) → (h : IsDueIn place_of IsDueSo hs x)
-    → earlier (time_of x) h.before ≡ earlier (time_of x) hs
-earlier_in IsDueSo hs x h =
+pub earlier_in : (IsDueSo : List Happening → Happening → Type 0) {hs : List Happening} {x : Happening}
+    (h : IsDueIn place_of IsDueSo hs x) → earlier (time_of x) h.before ≡ earlier (time_of x) hs
+earlier_in IsDueSo {hs} {x} h =
     same_earlier (time_of x) (rank x.note.body ∷ key (members_in x) x.note.body) (split_at IsDueSo hs x h)
 
 -- what a front has by a number, the list has by it
 pub in_whole : (hs before rest : List Happening) (n : ℕ) (h : Happening) → hs ≡ before ++ rest → numbered before n ≡ Some h → numbered hs n ≡ Some h
-in_whole hs before rest n h e there = subst (λ (gs : List Happening). numbered gs n ≡ Some h) (sym e) (numbered_front before rest n h there)
+in_whole hs before rest n h e there = subst (λ gs. numbered gs n ≡ Some h) (sym e) (numbered_front before rest n h there)
 
--- the front of a founded list is founded
-pub front_of : (s : Scenario) (hs : List Happening) (p : List ℕ) → IsFounded place_of (IsDue s) hs → (at : IsSplit place_of hs p)
-    → IsFounded place_of (IsDue s) at.front
-front_of s hs p founded at = front_founded place_of (IsDue s) at.front at.rest (subst (IsFounded place_of (IsDue s)) at.whole founded)
+module _ (s : Scenario) (hs : List Happening) (p : List ℕ) (founded : IsFounded place_of (IsDue s) hs) where
+  -- the front of a founded list is founded
+  pub front_of : (at : IsSplit place_of hs p) → IsFounded place_of (IsDue s) at.front
+  front_of at =
+      front_founded place_of (IsDue s) at.front at.rest (subst (IsFounded place_of (IsDue s)) at.whole founded)
 
--- a record before the place is found by its number in the front
-pub found_before : (s : Scenario) (hs : List Happening) (p : List ℕ) → IsFounded place_of (IsDue s) hs → (at : IsSplit place_of hs p) → (n : ℕ) (h : Happening)
-    → numbered hs n ≡ Some h → IsBefore (place_of h) p → numbered at.front n ≡ Some h
-found_before s hs p founded at n h there sooner =
-    let i = in_front_of {place = place_of} {ns = hs} {p = p} at h (numbered_in hs n h there) sooner in
-    let number = number_is s hs n h founded there in
-    subst (λ (m : ℕ). numbered at.front m ≡ Some h) number (by_number s at.front h (front_of s hs p founded at) i)
+  -- a record before the place is found by its number in the front
+  pub found_before : (at : IsSplit place_of hs p) (n : ℕ) (h : Happening) → numbered hs n ≡ Some h
+      → IsBefore (place_of h) p → numbered at.front n ≡ Some h
+  found_before at n h there sooner =
+      let i = in_front_of {place = place_of} {ns = hs} {p = p} at h (numbered_in hs n h there) sooner in
+      let number = number_is s hs n h founded there in
+      subst (λ m. numbered at.front m ≡ Some h) number (by_number s at.front h (front_of at) i)
 
 -- the record that comes next behind these, with this body at this time
 abbrev pub next_of : Scenario → List Happening → ℕ → NoteBody → Happening
@@ -43,9 +44,9 @@ pub next_is_due : (s : Scenario) (ps : List Happening) (t : ℕ) (body : NoteBod
 next_is_due s ps t body cause = record { number = refl; same = refl; begun = omega (arith, ints); cause = cause }
 
 -- where a list parts at the place of a record, and the record is due so there, it is due so in the list
-pub due_there : (IsDueSo : List Happening → Happening → Type 0) (hs : List Happening) (p : List ℕ) (at : IsSplit place_of hs p) (x : Happening)
-    → place_of x ≡ p → IsDueSo at.front x → IsDueIn place_of IsDueSo hs x
-due_there IsDueSo hs p at x place due = grind (arith, place_of)
+pub due_there : (IsDueSo : List Happening → Happening → Type 0) {hs : List Happening} {p : List ℕ}
+    (at : IsSplit place_of hs p) (x : Happening) → place_of x ≡ p → IsDueSo at.front x → IsDueIn place_of IsDueSo hs x
+due_there IsDueSo at x place due = grind (arith, place_of)
 
 -- what is of a time up to another is before the end of that
 pub within : (t until : ℕ) (ks : List ℕ) → t ≤ until → IsBefore (t ∷ ks) ((until + 1) ∷ [])
@@ -62,11 +63,12 @@ from_one hs zero g there e = cc
 from_one hs (suc n) g there e = cc
 
 -- what a switch took last is found by its number
-pub taken_there : (s : Scenario) (before : List Happening) (device : DeviceId) (vl : VlId) (t cause cycle : ℕ) → IsFounded place_of (IsDue s) before
-    → (has : HasAccepted before device vl t cause cycle) → numbered before cause ≡ Some has.taken
-taken_there s before device vl t cause cycle founded has =
+pub taken_there : (s : Scenario) {before : List Happening} {device : DeviceId} {vl : VlId} {t cause cycle : ℕ}
+    → IsFounded place_of (IsDue s) before → (has : HasAccepted before device vl t cause cycle)
+    → numbered before cause ≡ Some has.taken
+taken_there s {before} founded has =
     let found = by_number s before has.taken founded (accepted_in has) in
-    subst (λ (n : ℕ). numbered before n ≡ Some has.taken) (sym has.number) found
+    subst (λ n. numbered before n ≡ Some has.taken) (sym has.number) found
 
 -- a time from 0 on is of its amount
 pub of_amount : (t : Units) → pos 0 ≤ℤ t.0 → t ≡ units_of (amount t)

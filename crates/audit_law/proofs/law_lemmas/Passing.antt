@@ -86,14 +86,17 @@ stood s device u state adjustment number integrated changed = record {
   integrated = integrated;
 }
 
-pub stands_same : (s : Scenario) (device : DeviceId) (u : ℕ) (hs gs : List Happening) → LeavesSame s device (earlier u hs) gs
-    → is_turned_on_at s device u ≡ false → standing_at s hs device u ≡ standing_of s device u gs
-stands_same s device u hs gs same off = grind (arith, earlier, state_after, adjustment_after, recorded_cycle, integration_cycle)
+pub stands_same : {s : Scenario} {device : DeviceId} (u : ℕ) (hs : List Happening) {gs : List Happening}
+    → LeavesSame s device (earlier u hs) gs → is_turned_on_at s device u ≡ false
+    → standing_at s hs device u ≡ standing_of s device u gs
+stands_same u hs same off = grind (arith, earlier, state_after, adjustment_after, recorded_cycle, integration_cycle)
 
-reaches_same : (s : Scenario) (device : DeviceId) (u : ℕ) (v : ℤ) (hs gs : List Happening) → LeavesSame s device (earlier u hs) gs
+reaches_same : {s : Scenario} {device : DeviceId} (u : ℕ) (v : ℤ) (hs : List Happening) {gs : List Happening}
+    → LeavesSame s device (earlier u hs) gs
     → (pos (s.reading device (last_changed gs device)) +ℤ (adjustment_after s gs device).0) <ℤ v
-    → IsReach (s.reading device) (pos (last_changed gs device)) (v -ℤ (adjustment_after s gs device).0) (pos u) → Reaches s hs device v u
-reaches_same s device u v hs gs same below reach = grind (arith, adjustment_after, earlier)
+    → IsReach (s.reading device) (pos (last_changed gs device)) (v -ℤ (adjustment_after s gs device).0) (pos u)
+    → Reaches s hs device v u
+reaches_same u v hs same below reach = grind (arith, adjustment_after, earlier)
 
 -- ---- verdicts
 
@@ -131,7 +134,7 @@ module _ (s : Scenario) (clocked : IsClocked s) (gs : List Happening) (device : 
   says x i late =
       let at = founded_at s gs x run.founded i in
       by at.front (λ h cause there same. quiet h (subst (IsIn h) (sym at.whole) (in_left h at.front (x ∷ at.rest) (numbered_in at.front cause h there)))
-      (subst (λ (n : ℕ). changed < n) (sym same) late)) x.note.body at.due.cause
+      (subst (λ n. changed < n) (sym same) late)) x.note.body at.due.cause
     where
       by : (front : List Happening)
           → ((h : Happening) (cause : ℕ) → numbered front cause ≡ Some h → time_of h ≡ time_of x → changes_adjustment device h.note.body ≡ false)
@@ -139,7 +142,7 @@ module _ (s : Scenario) (clocked : IsClocked s) (gs : List Happening) (device : 
       by front calm_there (notes.State other state cause why) c = λ ids.
           let devices : other ≡ device = ap (λ (n : ℕ). let d : DeviceId = record { 0 = n } in d) (sym ids) in
           leaves s front device (time_of x) state cause why (λ h there same. calm_there h cause there same)
-          (subst (λ (d : DeviceId). ChangesState s front d (time_of x) state cause why) devices c)
+          (subst (λ d. ChangesState s front d (time_of x) state cause why) devices c)
       by front calm_there body c = tt
 
   calm_later : (x : Happening) → IsIn x gs → changed < time_of x → IsCalm device x.note.body
@@ -185,30 +188,30 @@ module _ (s : Scenario) (clocked : IsClocked s) (gs : List Happening) (device : 
         | inr left ↦ absurd (subst IsTimed (ap (fold leave start) cut.whole ∙ fold_parts leave start cut.front cut.rest ∙ left) timed)
       ] in
       record {
-        state = ap (λ (es : List Happening). state_after s es device) cut.same ∙ state;
-        adjustment = ap (λ (es : List Happening). adjustment_after s es device) cut.same
-            ∙ sym (ap (λ (es : List Happening). adjustment_after s es device) cut.whole
+        state = ap (λ es. state_after s es device) cut.same ∙ state;
+        adjustment = ap (λ es. adjustment_after s es device) cut.same
+            ∙ sym (ap (λ es. adjustment_after s es device) cut.whole
             ∙ stays _ (adjustment_after s [] device) cut.front cut.rest (λ b h i. adjustment_kept s device (cycle_in h) b h.note.body (still h i)));
-        number = ap (λ (es : List Happening). recorded_cycle es device) cut.same
-            ∙ sym (ap (λ (es : List Happening). recorded_cycle es device) cut.whole
+        number = ap (λ es. recorded_cycle es device) cut.same
+            ∙ sym (ap (λ es. recorded_cycle es device) cut.whole
             ∙ stays _ 1 cut.front cut.rest (λ b h i. cycle_stays device b h h.note.body (still h i)));
-        integrated = ap (λ (es : List Happening). integration_cycle es device) cut.same
-            ∙ sym (ap (λ (es : List Happening). integration_cycle es device) cut.whole
+        integrated = ap (λ es. integration_cycle es device) cut.same
+            ∙ sym (ap (λ es. integration_cycle es device) cut.whole
             ∙ stays _ None cut.front cut.rest
             (λ b h i. ap (λ (t : Bool). if t then Some (cycle_in h) else b) (not_joined device h.note.body (still h i))));
-        changed = ap (λ (es : List Happening). last_changed es device) cut.same
-            ∙ sym (ap (λ (es : List Happening). last_changed es device) cut.whole
+        changed = ap (λ es. last_changed es device) cut.same
+            ∙ sym (ap (λ es. last_changed es device) cut.whole
             ∙ ap (λ (es : List Happening). option_map_or time_of (last_or None es) 0) (filter-append set cut.front cut.rest
             ∙ ap (λ (es : List Happening). filter set cut.front ++ es) (none_kept set cut.rest still)
             ∙ append-nil (filter set cut.front)));
       }
 
   same_up_to : (u : ℕ) → changed < u → LeavesSame s device (earlier u (up_to u gs)) gs
-  same_up_to u late = subst (λ (es : List Happening). LeavesSame s device es gs) (sym (earlier_of_up u gs)) (same_before u late)
+  same_up_to u late = subst (λ es. LeavesSame s device es gs) (sym (earlier_of_up u gs)) (same_before u late)
 
   -- what is owed is paid
   paid : (o : Debt) → IsOwed s gs until o → IsPaid gs (Pays s) o
-  paid o owed = (debt_law s gs until (sound_of_run place_of (IsDue s) ((until + 1) ∷ []) gs run)).run.0 run o owed
+  paid o owed = (debt_law s gs until (sound_of_run place_of (IsDue s) run)).run.0 run o owed
 
   -- the device is not turned on later
   not_turned_on : (u : ℕ) → changed < u → u ≤ until → is_turned_on_at s device u ≡ false
@@ -232,31 +235,31 @@ module _ (s : Scenario) (clocked : IsClocked s) (gs : List Happening) (device : 
           → x.note.body ≡ notes.Event line (On device) → (t : ℕ) (other : DeviceId) (state : State) (why : Why) → ChangesState s front other t state cause why
           → (other ≡ device) × (t ≡ time_of x) × (state ≡ Integrating)
       brings front rest cause line x y whole there is t other state whys.On c =
-          let here = same_some (numbered gs cause) c.2.1 x (subst (λ (hs : List Happening). numbered hs cause ≡ Some c.2.1) (sym whole)
+          let here = same_some (numbered gs cause) c.2.1 x (subst (λ hs. numbered hs cause ≡ Some c.2.1) (sym whole)
           (numbered_front front rest cause c.2.1 c.2.2.there)) there in
           let bodies : notes.Event c.2.0 (On other) ≡ notes.Event line (On device) = sym c.2.3 ∙ ap (λ (h : Happening). h.note.body) here ∙ is in
           let devices : other ≡ device = cc in
           (devices, sym c.2.2.same_time ∙ ap time_of here, c.0)
       brings front rest cause line x y whole there is t other state whys.Frame c =
-          let here = same_some (numbered gs cause) c.1.0 x (subst (λ (hs : List Happening). numbered hs cause ≡ Some c.1.0) (sym whole)
+          let here = same_some (numbered gs cause) c.1.0 x (subst (λ hs. numbered hs cause ≡ Some c.1.0) (sym whole)
           (numbered_front front rest cause c.1.0 c.1.1.there)) there in
           let joins : false ≡ true = sym (ap (λ (h : Happening). is_joined_by other h.note.body) here ∙ ap (is_joined_by other) is) ∙ c.1.2 in
           absurd cc
       brings front rest cause line x y whole there is t other state whys.Correction c =
-          let here = same_some (numbered gs cause) c.2.3 x (subst (λ (hs : List Happening). numbered hs cause ≡ Some c.2.3) (sym whole)
+          let here = same_some (numbered gs cause) c.2.3 x (subst (λ hs. numbered hs cause ≡ Some c.2.3) (sym whole)
           (numbered_front front rest cause c.2.3 c.2.4.there)) there in
           let bodies : notes.Corrected other c.2.0 c.2.1 c.2.2 ≡ notes.Event line (On device) = sym c.2.5 ∙ ap (λ (h : Happening). h.note.body) here ∙ is in
           absurd cc
       brings front rest cause line x y whole there is t other state whys.SyncClique c =
-          let none : numbered gs 0 ≡ Some x = subst (λ (n : ℕ). numbered gs n ≡ Some x) c.1 there in absurd cc
+          let none : numbered gs 0 ≡ Some x = subst (λ n. numbered gs n ≡ Some x) c.1 there in absurd cc
       brings front rest cause line x y whole there is t other state whys.AsyncClique c =
-          let none : numbered gs 0 ≡ Some x = subst (λ (n : ℕ). numbered gs n ≡ Some x) c.1 there in absurd cc
+          let none : numbered gs 0 ≡ Some x = subst (λ n. numbered gs n ≡ Some x) c.1 there in absurd cc
 
       said : (cause line : ℕ) (x y : Happening) → numbered gs cause ≡ Some x → time_of x ≡ u → x.note.body ≡ notes.Event line (On device) → IsIn y gs
           → (body : NoteBody) → y.note.body ≡ body → TellsChange cause body → ⊥
       said cause line x y there at is i (notes.State other state from why) of pays =
           let by = founded_at s gs y run.founded i in
-          let c = subst (λ (n : ℕ). ChangesState s by.front other (time_of y) state n why) pays (subst (IsCaused s by.front y.note.time) of by.due.cause) in
+          let c = subst (λ n. ChangesState s by.front other (time_of y) state n why) pays (subst (IsCaused s by.front y.note.time) of by.due.cause) in
           let b = brings by.front (y ∷ by.rest) cause line x y by.whole there is (time_of y) other state why c in
           never_left y i (omega (arith, late, b.1, at)) (λ old. ap (state_with device old) of ∙ set_state device other state old from why b.0 b.2)
       said cause line x y there at is i body of pays = absurd pays
@@ -315,7 +318,7 @@ module _ (s : Scenario) (clocked : IsClocked s) (gs : List Happening) (device : 
       same = same_up_to u late
 
       stands : standing_at s (up_to u gs) device u ≡ st
-      stands = stands_same s device u (up_to u gs) gs same (not_turned_on u late le)
+      stands = stands_same u (up_to u gs) same (not_turned_on u late le)
 
       summary : (m : Summary) × Summarizes m (heard_since_point s (up_to u gs) device u)
       summary = summary_of (heard_since_point s (up_to u gs) device u)
@@ -324,12 +327,12 @@ module _ (s : Scenario) (clocked : IsClocked s) (gs : List Happening) (device : 
       wrong v has more =
           let point : next_point st ≡ Some m = timed_point (state_after s gs device) st.number timed ∙ ap (λ (n : ℕ). Some n) number in
           let comes : ComesToPoint s (up_to u gs) device u m v = record {
-            next = subst (λ (x : Standing). next_point x ≡ Some m) (sym stands) point;
-            reached = reaches_same s device u (correction_value s.network m) (up_to u gs) gs same below reach;
+            next = subst (λ x. next_point x ≡ Some m) (sym stands) point;
+            reached = reaches_same u (correction_value s.network m) (up_to u gs) same below reach;
             correct = correct_before s device u (until + 1) (omega (arith, le)) correct;
             summary = summary.0;
             heard = summary.1;
-            comes = subst (λ (x : Standing). HasVerdict x summary.0 v) (sym stands) has;
+            comes = subst (λ x. HasVerdict x summary.0 v) (sym stands) has;
           } in
           let owed : OwesPoint s gs until device u = record { cycle = m; verdict = v; comes = comes; more = more; timely = le } in
           let told = paid (debts.point device u) owed in
@@ -362,7 +365,7 @@ module _ (s : Scenario) (clocked : IsClocked s) (gs : List Happening) (device : 
       let range = clocked.range in
       let grain = range.grain.most in
       let fine : amount s.network.grain ≤ 1048576 = small s.network.grain.0 range.grain.least range.grain.most in
-      let short = short_step s.network.rho (amount s.network.grain) reading u range.rho fine (clocked.clocks device) in
+      let short = short_step u range.rho fine (clocked.clocks device) in
       let long = long_cycle in
       omega (arith, ints, short, long)
     where
@@ -398,7 +401,7 @@ module _ (s : Scenario) (clocked : IsClocked s) (gs : List Happening) (device : 
       let on = and_from (int_lt (shown changed) first) (int_le first (shown (by - 1))) (int_lt-from (shown changed) first below)
       (int_le-from first (shown (by - 1)) reached) in
       let none = none_more (shown (by - 1) -ℤ first) s.network.cycle.0 (omega (arith, ints, reached)) (omega (arith, ints, short)) in
-      ap (λ (b : Bool). if b then further by else 0) on ∙ ap (λ (n : ℕ). n + 1) none
+      ap (λ (b : Bool). if b then further by else 0) on ∙ ap (λ n. n + 1) none
 
   came_since : first ≤ℤ shown until → shown changed <ℤ first → changed ≤ until
   came_since reached below = elim (cases_lt until changed) [
@@ -451,7 +454,7 @@ module _ (s : Scenario) (clocked : IsClocked s) (gs : List Happening) (device : 
       at_first : shown f.time <ℤ (first +ℤ s.network.cycle.0)
       at_first =
           let same : (f.time - 1) + 1 ≡ f.time = (let l = f.late in omega (arith, l)) in
-          let on = subst (λ (u : ℕ). shown u <ℤ (shown (f.time - 1) +ℤ s.network.cycle.0)) same (goes_on (f.time - 1)) in
+          let on = subst (λ u. shown u <ℤ (shown (f.time - 1) +ℤ s.network.cycle.0)) same (goes_on (f.time - 1)) in
           let low = f.not_before (f.time - 1) (let l = f.late in omega (arith, l)) (let l = f.late in omega (arith, l)) in
           omega (arith, ints, on, low)
 
@@ -498,10 +501,11 @@ module _ (s : Scenario) (clocked : IsClocked s) (gs : List Happening) (device : 
   ]
 
 -- before the first time no clock has come to a point
-pub none_at_start : (s : Scenario) (clocked : IsClocked s) (gs : List Happening) (device : DeviceId) (by : ℕ) → by ≤ 0
-    → (first : ℤ) → (int_lt (pos (s.reading device (last_changed gs device)) +ℤ (adjustment_after s gs device).0) first
-    && int_le first (pos (s.reading device (by - 1)) +ℤ (adjustment_after s gs device).0)) ≡ false
-none_at_start s clocked gs device by le first =
+pub none_at_start : {s : Scenario} (clocked : IsClocked s) (gs : List Happening) (device : DeviceId) (by : ℕ)
+    → by ≤ 0 → (first : ℤ) →
+    (int_lt (pos (s.reading device (last_changed gs device)) +ℤ (adjustment_after s gs device).0) first && int_le
+    first (pos (s.reading device (by - 1)) +ℤ (adjustment_after s gs device).0)) ≡ false
+none_at_start {s} clocked gs device by le first =
     let changed = last_changed gs device in
     let low = pos (s.reading device changed) +ℤ (adjustment_after s gs device).0 in
     let high = pos (s.reading device (by - 1)) +ℤ (adjustment_after s gs device).0 in

@@ -51,15 +51,15 @@ outcome_reason network device state adjustment points frame point reason h =
     (λ c. collected network points _ (point_fault network state adjustment point frame.cycle) reason
     (λ r e. fault_reason network state adjustment point frame.cycle r e) c) h
 
-pub gate_or_cycle : (s : Scenario) (hs : List Happening) (t : ℕ) (device : DeviceId) (link : LinkId) (cause : ℕ) (point : Units) (reason : Reason)
-    → BecomesPermanent s hs device t link cause point (ripe.Dropped reason) → IsGateOrCycle reason
-gate_or_cycle s hs t device link cause point reason h = outcome_reason s.network device _ _ _ h.frame point.0 reason h.becomes
+module _ {s : Scenario} {hs : List Happening} {t : ℕ} {device : DeviceId} {link : LinkId} {cause : ℕ} {point : Units}
+    (reason : Reason) (h : BecomesPermanent s hs device t link cause point (ripe.Dropped reason)) where
+  pub gate_or_cycle : IsGateOrCycle reason
+  gate_or_cycle = outcome_reason s.network device _ _ _ h.frame point.0 reason h.becomes
 
--- so not as one that is too old
-pub not_old : (s : Scenario) (hs : List Happening) (t : ℕ) (device : DeviceId) (link : LinkId) (cause : ℕ) (point : Units) (reason : Reason)
-    → BecomesPermanent s hs device t link cause point (ripe.Dropped reason) → reason ≡ Old → ⊥
-not_old s hs t device link cause point reason h old =
-    elim (gate_or_cycle s hs t device link cause point reason h) [
-      | inl gate ↦ let e : Gate ≡ Old = sym gate ∙ old in cc
-      | inr cycle ↦ let e : Cycle ≡ Old = sym cycle ∙ old in cc
-    ]
+  -- so not as one that is too old
+  pub not_old : reason ≡ Old → ⊥
+  not_old old =
+      elim (gate_or_cycle) [
+        | inl gate ↦ let e : Gate ≡ Old = sym gate ∙ old in cc
+        | inr cycle ↦ let e : Cycle ≡ Old = sym cycle ∙ old in cc
+      ]

@@ -47,25 +47,26 @@ arrived_before device link cause point other = omega arith
 abbrev members_by : Option Pcf → ℕ
 members_by o = option_map_or (λ frame. frame.members.0) o 0
 
-framed : (network : Network) (ps : List Happening) (t : ℕ) (device : DeviceId) (link : LinkId) (cause : ℕ) (frame : Pcf) (point : Units) (is : Ripe)
-    → frame_from ps cause ≡ Some frame
-    → place_at t (members_by (frame_by network ps (permanence_record device link cause point is))) (permanence_record device link cause point is)
-    ≡ record_place t device link cause frame point is
-framed network ps t device link cause frame point ripe.Opened e =
-    ap (λ (o : Option Pcf). place_at t (members_by o) (permanence_record device link cause point ripe.Opened)) e
-framed network ps t device link cause frame point ripe.Joined e =
-    ap (λ (o : Option Pcf). place_at t (members_by o) (permanence_record device link cause point ripe.Joined)) e
-framed network ps t device link cause frame point ripe.Repeat e =
-    ap (λ (o : Option Pcf). place_at t (members_by o) (permanence_record device link cause point ripe.Repeat)) e
-framed network ps t device link cause frame point ripe.Within e =
-    ap (λ (o : Option Pcf). place_at t (members_by o) (permanence_record device link cause point ripe.Within)) e
-framed network ps t device link cause frame point ripe.Outside e =
-    ap (λ (o : Option Pcf). place_at t (members_by o) (permanence_record device link cause point ripe.Outside)) e
-framed network ps t device link cause frame point ripe.Integrates e =
-    ap (λ (o : Option Pcf). place_at t (members_by o) (permanence_record device link cause point ripe.Integrates)) e
-framed network ps t device link cause frame point ripe.Ignored e =
-    ap (λ (o : Option Pcf). place_at t (members_by o) (permanence_record device link cause point ripe.Ignored)) e
-framed network ps t device link cause frame point (ripe.Dropped reason) e = refl
+module _ (network : Network) (ps : List Happening) (t : ℕ) (device : DeviceId) (link : LinkId) (cause : ℕ)
+    (frame : Pcf) (point : Units) where
+  framed : (is : Ripe) → frame_from ps cause ≡ Some frame
+      → place_at t (members_by (frame_by network ps (permanence_record device link cause point is)))
+      (permanence_record device link cause point is) ≡ record_place t device link cause frame point is
+  framed ripe.Opened e =
+      ap (λ o. place_at t (members_by o) (permanence_record device link cause point ripe.Opened)) e
+  framed ripe.Joined e =
+      ap (λ o. place_at t (members_by o) (permanence_record device link cause point ripe.Joined)) e
+  framed ripe.Repeat e =
+      ap (λ o. place_at t (members_by o) (permanence_record device link cause point ripe.Repeat)) e
+  framed ripe.Within e =
+      ap (λ o. place_at t (members_by o) (permanence_record device link cause point ripe.Within)) e
+  framed ripe.Outside e =
+      ap (λ o. place_at t (members_by o) (permanence_record device link cause point ripe.Outside)) e
+  framed ripe.Integrates e =
+      ap (λ o. place_at t (members_by o) (permanence_record device link cause point ripe.Integrates)) e
+  framed ripe.Ignored e =
+      ap (λ o. place_at t (members_by o) (permanence_record device link cause point ripe.Ignored)) e
+  framed (ripe.Dropped reason) e = refl
 
 frame_there : (ps : List Happening) (cause : ℕ) (h : Happening) (frame : Pcf) → numbered ps cause ≡ Some h → h.frame ≡ Some frame
     → frame_from ps cause ≡ Some frame
@@ -74,10 +75,11 @@ frame_there ps cause h frame there of_frame = ap (λ (o : Option Happening). opt
 -- ---- by a front as by the list
 
 -- where the list parts at the record, the front has all that a permanence is judged by
-same_judged : (hs : List Happening) (t : ℕ) (device : DeviceId) (link : LinkId) (cause : ℕ) (frame : Pcf) (point : Units) (is : Ripe)
-    → (at : IsSplit place_of hs (record_place t device link cause frame point is))
-    → before_permanence at.front device t link cause frame point ≡ before_permanence hs device t link cause frame point
-same_judged hs t device link cause frame point is at =
+same_judged : {hs : List Happening} (t : ℕ) (device : DeviceId) (link : LinkId) (cause : ℕ) (frame : Pcf)
+    (point : Units) (is : Ripe) (at : IsSplit place_of hs (record_place t device link cause frame point is))
+    → before_permanence at.front device t link cause frame point
+    ≡ before_permanence hs device t link cause frame point
+same_judged t device link cause frame point is at =
     let test : Happening → Bool = λ h. is_before (place_of h) (permanent_place t device link cause frame point) in
     let none : filter test at.rest ≡ [] = none_kept test at.rest (λ h i. false_from_ne_true (test h) (λ e.
     at.none h i (behind_permanence (place_of h) t device link cause frame point is
@@ -88,37 +90,41 @@ same_judged hs t device link cause frame point is at =
     ∙ ap (filter test) (sym at.whole)
 
 -- a permanence is one by other records that have the arrival
-pub permanent_by : (s : Scenario) (gs hs : List Happening) (device : DeviceId) (t : ℕ) (link : LinkId) (cause : ℕ) (frame : Pcf) (point : Units)
-    → (h : IsPermanent s gs device t link cause frame point) → numbered hs cause ≡ Some h.arrival → IsPermanent s hs device t link cause frame point
-permanent_by s gs hs device t link cause frame point h there = grind arith
+pub permanent_by : {s : Scenario} {gs : List Happening} (hs : List Happening) {device : DeviceId} {t : ℕ}
+    {link : LinkId} {cause : ℕ} {frame : Pcf} {point : Units} (h : IsPermanent s gs device t link cause frame point)
+    → numbered hs cause ≡ Some h.arrival → IsPermanent s hs device t link cause frame point
+permanent_by hs h there = grind arith
 
 -- ---- what is owed is due
 
-causes_record : (s : Scenario) (gs : List Happening) (t : ℕ) (device : DeviceId) (link : LinkId) (cause : ℕ) (point : Units) (is : Ripe)
-    → BecomesPermanent s gs device t link cause point is → IsCaused s gs (units_of t) (permanence_record device link cause point is)
-causes_record s gs t device link cause point ripe.Opened h = h
-causes_record s gs t device link cause point ripe.Joined h = h
-causes_record s gs t device link cause point ripe.Repeat h = h
-causes_record s gs t device link cause point ripe.Within h = h
-causes_record s gs t device link cause point ripe.Outside h = h
-causes_record s gs t device link cause point ripe.Integrates h = h
-causes_record s gs t device link cause point ripe.Ignored h = h
-causes_record s gs t device link cause point (ripe.Dropped reason) h = inr (inl (point, h))
+module _ (s : Scenario) (gs : List Happening) (t : ℕ) (device : DeviceId) (link : LinkId) (cause : ℕ)
+    (point : Units) where
+  causes_record : (is : Ripe) → BecomesPermanent s gs device t link cause point is
+      → IsCaused s gs (units_of t) (permanence_record device link cause point is)
+  causes_record ripe.Opened h = h
+  causes_record ripe.Joined h = h
+  causes_record ripe.Repeat h = h
+  causes_record ripe.Within h = h
+  causes_record ripe.Outside h = h
+  causes_record ripe.Integrates h = h
+  causes_record ripe.Ignored h = h
+  causes_record (ripe.Dropped reason) h = inr (inl (point, h))
 
-tells : (s : Scenario) (gs : List Happening) (t : ℕ) (device : DeviceId) (link : LinkId) (cause : ℕ) (point : Units) (is : Ripe)
-    → BecomesPermanent s gs device t link cause point is → TellsPermanence cause (permanence_record device link cause point is)
-tells s gs t device link cause point ripe.Opened h = refl
-tells s gs t device link cause point ripe.Joined h = refl
-tells s gs t device link cause point ripe.Repeat h = refl
-tells s gs t device link cause point ripe.Within h = refl
-tells s gs t device link cause point ripe.Outside h = refl
-tells s gs t device link cause point ripe.Integrates h = refl
-tells s gs t device link cause point ripe.Ignored h = refl
-tells s gs t device link cause point (ripe.Dropped reason) h = (refl, not_old s gs t device link cause point reason h)
+  tells : (is : Ripe) → BecomesPermanent s gs device t link cause point is
+      → TellsPermanence cause (permanence_record device link cause point is)
+  tells ripe.Opened h = refl
+  tells ripe.Joined h = refl
+  tells ripe.Repeat h = refl
+  tells ripe.Within h = refl
+  tells ripe.Outside h = refl
+  tells ripe.Integrates h = refl
+  tells ripe.Ignored h = refl
+  tells (ripe.Dropped reason) h = (refl, not_old reason h)
 
-some_permanence : (s : Scenario) (hs : List Happening) (until cause : ℕ) → IsFounded place_of (IsDue s) hs → (o : OwesPermanence s hs until cause)
-    → PaidAt s hs until (IsDueByPermanence s) o.time (λ x. TellsPermanence cause x.note.body)
-some_permanence s hs until cause founded o =
+some_permanence : {s : Scenario} {hs : List Happening} {until cause : ℕ} → IsFounded place_of (IsDue s) hs
+    → (o : OwesPermanence s hs until cause) → PaidAt s hs until (IsDueByPermanence s) o.time
+    (λ x. TellsPermanence cause x.note.body)
+some_permanence {s} {hs} {until} {cause} founded o =
     let judged = before_permanence hs o.device o.time o.link cause o.frame o.point in
     let found = some_outcome s.network o.device (state_at_hearing s judged o.device o.time) (adjustment_at_hearing s judged o.device o.time).0
     (points_of judged o.device) o.frame o.point.0 in
@@ -135,9 +141,9 @@ some_permanence s hs until cause founded o =
     let there = found_before s hs p founded at cause arrival o.permanent.there sooner in
     let becomes : BecomesPermanent s at.front o.device o.time o.link cause o.point is = record {
       frame = o.frame;
-      permanent = permanent_by s hs at.front o.device o.time o.link cause o.frame o.point o.permanent there;
-      becomes = subst (λ (gs : List Happening). IsJudgedBy s gs o.device o.time o.frame o.point is)
-          (sym (same_judged hs o.time o.device o.link cause o.frame o.point is at)) found.1;
+      permanent = permanent_by at.front o.permanent there;
+      becomes = subst (λ gs. IsJudgedBy s gs o.device o.time o.frame o.point is)
+          (sym (same_judged {hs = hs} o.time o.device o.link cause o.frame o.point is at)) found.1;
     } in
     let x = next_of s at.front o.time body in
     let place = framed s.network at.front o.time o.device o.link cause o.frame o.point is
@@ -153,7 +159,7 @@ some_permanence s hs until cause founded o =
       says = refl;
     } in (
       x,
-      due_there (IsDueByPermanence s) hs p at x place due,
+      due_there (IsDueByPermanence s) {hs = hs} {p = p} at x place due,
       within o.time until (rank body ∷ key (members_in x) body) o.timely,
       tells s at.front o.time o.device o.link cause o.point is becomes,
       refl,
@@ -161,9 +167,10 @@ some_permanence s hs until cause founded o =
 
 -- ---- what is due was owed
 
-permanence_owed : (s : Scenario) (hs : List Happening) (until : ℕ) (x : Happening) → IsDueIn place_of (IsDueByPermanence s) hs x
-    → IsBefore (place_of x) ((until + 1) ∷ []) → (cause : ℕ) × (o : OwesPermanence s hs until cause) × TellsPermanence cause x.note.body × (time_of x ≡ o.time)
-permanence_owed s hs until x h here =
+permanence_owed : (s : Scenario) {hs : List Happening} (until : ℕ) {x : Happening}
+    → IsDueIn place_of (IsDueByPermanence s) hs x → IsBefore (place_of x) ((until + 1) ∷ [])
+    → (cause : ℕ) × (o : OwesPermanence s hs until cause) × TellsPermanence cause x.note.body × (time_of x ≡ o.time)
+permanence_owed s {hs} until {x} h here =
     let d = h.due in
     let permanent = d.becomes.permanent in
     let owed : OwesPermanence s hs until d.cause = record {
@@ -172,7 +179,7 @@ permanence_owed s hs until x h here =
       time = time_of x;
       frame = d.becomes.frame;
       point = d.point;
-      permanent = permanent_by s h.before hs d.device (time_of x) d.link d.cause d.becomes.frame d.point permanent
+      permanent = permanent_by hs permanent
           (in_whole hs h.before h.behind d.cause permanent.arrival h.parts permanent.there);
       timely = timely (time_of x) until (rank x.note.body ∷ key (members_in x) x.note.body) here;
     } in
@@ -181,26 +188,28 @@ permanence_owed s hs until x h here =
 -- ---- what pays for one is at one place
 
 -- the place of what is due by a permanence
-due_place : (s : Scenario) (before : List Happening) (x : Happening) → (h : IsDueByPermanence s before x)
+due_place : {s : Scenario} {before : List Happening} {x : Happening} (h : IsDueByPermanence s before x)
     → place_of x ≡ record_place (time_of x) h.device h.link h.cause h.becomes.frame h.point h.is
-due_place s before x h = grind (arith, place_at, time_of, members_in, framed, frame_there)
+due_place h = grind (arith, place_at, time_of, members_in, framed, frame_there)
 
 -- what becomes of the frame, by the list
-due_becomes : (s : Scenario) (hs : List Happening) (x : Happening) → (h : IsDueIn place_of (IsDue s) hs x) → (d : IsDueByPermanence s h.before x)
+due_becomes : {s : Scenario} {hs : List Happening} {x : Happening} (h : IsDueIn place_of (IsDue s) hs x)
+    (d : IsDueByPermanence s h.before x)
     → (b : BecomesPermanent s hs d.device (time_of x) d.link d.cause d.point d.is) × (b.frame ≡ d.becomes.frame)
-due_becomes s hs x h d =
+due_becomes {s} {hs} {x} h d =
     let permanent = d.becomes.permanent in
     let frame = d.becomes.frame in
-    let at = subst (λ (p : List ℕ). (at : IsSplit place_of hs p) × (at.front ≡ h.before)) (due_place s h.before x d) (split_at (IsDue s) hs x h, refl) in
+    let at = subst (λ p. (at : IsSplit place_of hs p) × (at.front ≡ h.before)) (due_place d)
+    (split_at (IsDue s) hs x h, refl) in
     let same : before_permanence h.before d.device (time_of x) d.link d.cause frame d.point
     ≡ before_permanence hs d.device (time_of x) d.link d.cause frame d.point =
-    ap (λ (gs : List Happening). before_permanence gs d.device (time_of x) d.link d.cause frame d.point) (sym at.1)
-    ∙ same_judged hs (time_of x) d.device d.link d.cause frame d.point d.is at.0 in
+    ap (λ gs. before_permanence gs d.device (time_of x) d.link d.cause frame d.point) (sym at.1)
+    ∙ same_judged (time_of x) d.device d.link d.cause frame d.point d.is at.0 in
     let becomes : BecomesPermanent s hs d.device (time_of x) d.link d.cause d.point d.is = record {
       frame = frame;
-      permanent = permanent_by s h.before hs d.device (time_of x) d.link d.cause frame d.point permanent
+      permanent = permanent_by hs permanent
           (in_whole hs h.before h.behind d.cause permanent.arrival h.parts permanent.there);
-      becomes = subst (λ (gs : List Happening). IsJudgedBy s gs d.device (time_of x) frame d.point d.is) same d.becomes.becomes;
+      becomes = subst (λ gs. IsJudgedBy s gs d.device (time_of x) frame d.point d.is) same d.becomes.becomes;
     } in
     (becomes, refl)
 
@@ -224,50 +233,53 @@ record IsOnePermanence (t u : ℕ) (device other : DeviceId) (link by : LinkId) 
   pub points : p ≡ q
   pub times : t ≡ u
 
-one_permanence : (s : Scenario) (hs : List Happening) (t u : ℕ) (device other : DeviceId) (link by : LinkId) (cause : ℕ) (f g : Pcf) (p q : Units)
-    → IsPermanent s hs device t link cause f p → IsPermanent s hs other u by cause g q → IsOnePermanence t u device other link by f g p q
-one_permanence s hs t u device other link by cause f g p q a b =
-    let one : a.arrival ≡ b.arrival = same_some (numbered hs cause) a.arrival b.arrival a.there b.there in
-    let bodies : notes.Arrived device link a.from a.clock ≡ notes.Arrived other by b.from b.clock = sym a.arrived
-    ∙ ap (λ (h : Happening). h.note.body) one
-    ∙ b.arrived in
-    let devices : device ≡ other = ap (λ (c : NoteBody). arrived_device c device) bodies in
-    let clocks : a.clock ≡ b.clock = ap arrived_clock bodies in
-    let first = a.at_point in
-    let second = b.at_point in
-    let values : p.0 ≡ q.0 = cc in
-    let points : p ≡ q = ap (λ (n : ℤ). let v : Units = record { 0 = n } in v) values in
-    let reached : IsReach (s.reading device) (pos (time_of a.arrival)) p.0 (pos u) =
-    subst (λ (d : DeviceId). IsReach (s.reading d) (pos (time_of a.arrival)) p.0 (pos u)) (sym devices)
-    (subst (λ (n : ℤ). IsReach (s.reading other) (pos (time_of a.arrival)) n (pos u)) (sym values)
-    (subst (λ (h : Happening). IsReach (s.reading other) (pos (time_of h)) q.0 (pos u)) (sym one) b.reached)) in
-    record {
-      devices = devices;
-      links = ap (λ (c : NoteBody). arrived_link c link) bodies;
-      frames = same_some a.arrival.frame f g a.of_frame (ap (λ (h : Happening). h.frame) one ∙ b.of_frame);
-      points = points;
-      times = one_reach (s.reading device) (pos (time_of a.arrival)) p.0 t u a.reached reached;
-    }
+module _ (s : Scenario) (hs : List Happening) (t u : ℕ) (device other : DeviceId) (link by : LinkId) (cause : ℕ) where
+  one_permanence : {f g : Pcf} {p q : Units} → IsPermanent s hs device t link cause f p
+      → IsPermanent s hs other u by cause g q → IsOnePermanence t u device other link by f g p q
+  one_permanence {f} {g} {p} {q} a b =
+      let one : a.arrival ≡ b.arrival = same_some (numbered hs cause) a.arrival b.arrival a.there b.there in
+      let bodies : notes.Arrived device link a.from a.clock ≡ notes.Arrived other by b.from b.clock = sym a.arrived
+      ∙ ap (λ (h : Happening). h.note.body) one
+      ∙ b.arrived in
+      let devices : device ≡ other = ap (λ c. arrived_device c device) bodies in
+      let clocks : a.clock ≡ b.clock = ap arrived_clock bodies in
+      let first = a.at_point in
+      let second = b.at_point in
+      let values : p.0 ≡ q.0 = cc in
+      let points : p ≡ q = ap (λ (n : ℤ). let v : Units = record { 0 = n } in v) values in
+      let reached : IsReach (s.reading device) (pos (time_of a.arrival)) p.0 (pos u) =
+      subst (λ (d : DeviceId). IsReach (s.reading d) (pos (time_of a.arrival)) p.0 (pos u)) (sym devices)
+      (subst (λ n. IsReach (s.reading other) (pos (time_of a.arrival)) n (pos u)) (sym values)
+      (subst (λ h. IsReach (s.reading other) (pos (time_of h)) q.0 (pos u)) (sym one) b.reached)) in
+      record {
+        devices = devices;
+        links = ap (λ c. arrived_link c link) bodies;
+        frames = same_some a.arrival.frame f g a.of_frame (ap (λ (h : Happening). h.frame) one ∙ b.of_frame);
+        points = points;
+        times = one_reach (s.reading device) (pos (time_of a.arrival)) p.0 t u a.reached reached;
+      }
 
--- what became of the frames is one
-same_place : (s : Scenario) (hs : List Happening) (t u : ℕ) (device other : DeviceId) (link by : LinkId) (cause from : ℕ) (p q : Units) (a b : Ripe)
-    → cause ≡ from → (x : BecomesPermanent s hs device t link cause p a) → (y : BecomesPermanent s hs other u by from q b)
-    → record_place t device link cause x.frame p a ≡ record_place u other by from y.frame q b
-same_place s hs t u device other link by cause from p q a b causes x y =
-    let there : IsPermanent s hs other u by cause y.frame q = subst (λ (n : ℕ). IsPermanent s hs other u by n y.frame q) (sym causes) y.permanent in
-    let same = one_permanence s hs t u device other link by cause x.frame y.frame p q x.permanent there in
-    let moved : BecomesPermanent s hs device t link cause q b = subst (λ (d : DeviceId). BecomesPermanent s hs d t link cause q b) (sym same.devices)
-    (subst (λ (n : ℕ). BecomesPermanent s hs other n link cause q b) (sym same.times)
-    (subst (λ (l : LinkId). BecomesPermanent s hs other u l cause q b) (sym same.links)
-    (subst (λ (n : ℕ). BecomesPermanent s hs other u by n q b) (sym causes) y))) in
-    let outcomes : a ≡ b = same_ripening s hs t device link cause x moved in
-    ap (λ (r : Ripe). record_place t device link cause x.frame p r) outcomes
-    ∙ ap (λ (v : Units). record_place t device link cause x.frame v b) same.points
-    ∙ ap (λ (f : Pcf). record_place t device link cause f q b) same.frames
-    ∙ ap (λ (n : ℕ). record_place n device link cause y.frame q b) same.times
-    ∙ ap (λ (d : DeviceId). record_place u d link cause y.frame q b) same.devices
-    ∙ ap (λ (l : LinkId). record_place u other l cause y.frame q b) same.links
-    ∙ ap (λ (n : ℕ). record_place u other by n y.frame q b) causes
+  -- what became of the frames is one
+  same_place : {from : ℕ} {p q : Units} {a b : Ripe} → cause ≡ from
+      → (x : BecomesPermanent s hs device t link cause p a) (y : BecomesPermanent s hs other u by from q b)
+      → record_place t device link cause x.frame p a ≡ record_place u other by from y.frame q b
+  same_place {p} {q} {a} {b} causes x y =
+      let there : IsPermanent s hs other u by cause y.frame q =
+      subst (λ n. IsPermanent s hs other u by n y.frame q) (sym causes) y.permanent in
+      let same = one_permanence x.permanent there in
+      let moved : BecomesPermanent s hs device t link cause q b =
+      subst (λ d. BecomesPermanent s hs d t link cause q b) (sym same.devices)
+      (subst (λ n. BecomesPermanent s hs other n link cause q b) (sym same.times)
+      (subst (λ l. BecomesPermanent s hs other u l cause q b) (sym same.links)
+      (subst (λ n. BecomesPermanent s hs other u by n q b) (sym causes) y))) in
+      let outcomes : a ≡ b = same_ripening s hs t device link cause x moved in
+      ap (λ r. record_place t device link cause x.frame p r) outcomes
+      ∙ ap (λ v. record_place t device link cause x.frame v b) same.points
+      ∙ ap (λ f. record_place t device link cause f q b) same.frames
+      ∙ ap (λ n. record_place n device link cause y.frame q b) same.times
+      ∙ ap (λ d. record_place u d link cause y.frame q b) same.devices
+      ∙ ap (λ l. record_place u other l cause y.frame q b) same.links
+      ∙ ap (λ n. record_place u other by n y.frame q b) causes
 
 pub recorded : (device : DeviceId) (link : LinkId) (cause : ℕ) (point : Units) (v : Judgement)
     → permanence_record device link cause point (ripe_as v) ≡ notes.Permanent device link cause point v
@@ -284,11 +296,11 @@ puts_none (notes.Arrived device link from clock) i p = p
 puts_none other i p = absurd i
 
 -- a record that is due and tells of a permanence is due by it, where its cause is an arrival
-by_permanence : (s : Scenario) (before : List Happening) (x : Happening) (cause : ℕ) → IsDue s before x
-    → ((g : Happening) → numbered before cause ≡ Some g → IsArrived g.note.body)
-    → (body : NoteBody) → x.note.body ≡ body → IsCaused s before x.note.time body → TellsPermanence cause body
+by_permanence : {s : Scenario} {before : List Happening} {x : Happening} (cause : ℕ) → IsDue s before x
+    → ((g : Happening) → numbered before cause ≡ Some g → IsArrived g.note.body) → (body : NoteBody)
+    → x.note.body ≡ body → IsCaused s before x.note.time body → TellsPermanence cause body
     → (h : IsDueByPermanence s before x) × (h.cause ≡ cause)
-by_permanence s before x cause due arrived (notes.Permanent device link from point verdict) is c e = (
+by_permanence cause due arrived (notes.Permanent device link from point verdict) is c e = (
   record {
     due = due;
     device = device;
@@ -301,11 +313,11 @@ by_permanence s before x cause due arrived (notes.Permanent device link from poi
   },
   e,
 )
-by_permanence s before x cause due arrived (notes.Dropped device link from reason) is c e =
+by_permanence {s} {before} cause due arrived (notes.Dropped device link from reason) is c e =
     elim c [
       | inl a ↦
           let p = a.putting in
-          let here = arrived p (subst (λ (n : ℕ). numbered before n ≡ Some p) e.0 a.there) in
+          let here = arrived p (subst (λ n. numbered before n ≡ Some p) e.0 a.there) in
           absurd (puts_none p.note.body here (puts s p (time_of p) p.note.body _ a.arrives.put))
       | inr (inl r) ↦ (
         record { due = due; device = device; link = link; cause = from; point = r.0; is = ripe.Dropped reason; becomes = r.1; says = is },
@@ -313,32 +325,32 @@ by_permanence s before x cause due arrived (notes.Dropped device link from reaso
       )
       | inr (inr l) ↦ absurd (e.1 l.1)
     ]
-by_permanence s before x cause due arrived other is c e = absurd e
+by_permanence cause due arrived other is c e = absurd e
 
-due_so : (s : Scenario) (hs : List Happening) (until cause : ℕ) (x : Happening) → OwesPermanence s hs until cause → (h : IsDueIn place_of (IsDue s) hs x)
-    → TellsPermanence cause x.note.body → (d : IsDueByPermanence s h.before x) × (d.cause ≡ cause)
-due_so s hs until cause x o h told =
+due_so : {s : Scenario} {hs : List Happening} {until cause : ℕ} {x : Happening} → OwesPermanence s hs until cause
+    → (h : IsDueIn place_of (IsDue s) hs x) → TellsPermanence cause x.note.body
+    → (d : IsDueByPermanence s h.before x) × (d.cause ≡ cause)
+due_so {hs} {cause} {x} o h told =
     let arrival = o.permanent.arrival in
     let arrived : (g : Happening) → numbered h.before cause ≡ Some g → IsArrived g.note.body = λ g there.
     let one : arrival ≡ g = same_some (numbered hs cause) arrival g o.permanent.there (in_whole hs h.before h.behind cause g h.parts there) in
     subst (λ (k : Happening). IsArrived k.note.body) one (subst IsArrived (sym o.permanent.arrived) tt) in
-    by_permanence s h.before x cause h.due arrived x.note.body refl h.due.cause told
+    by_permanence cause h.due arrived x.note.body refl h.due.cause told
 
 pub permanence_law : PermanenceLaw
 permanence_law s hs until founded = record {
-  each = λ x h here. permanence_owed s hs until x h here;
-  some = λ cause o. some_permanence s hs until cause founded o;
+  each = λ x h here. permanence_owed s until h here;
+  some = λ cause o. some_permanence founded o;
   one = λ cause x y o a b p q.
-      let first = due_so s hs until cause x o a p in
-      let second = due_so s hs until cause y o b q in
+      let first = due_so o a p in
+      let second = due_so o b q in
       let i = first.0 in
       let j = second.0 in
-      let here = due_becomes s hs x a i in
-      let there = due_becomes s hs y b j in
-      due_place s a.before x i
-      ∙ ap (λ (f : Pcf). record_place (time_of x) i.device i.link i.cause f i.point i.is) (sym here.1)
-      ∙ same_place s hs (time_of x) (time_of y) i.device j.device i.link j.link i.cause j.cause i.point j.point i.is j.is
+      let here = due_becomes a i in
+      let there = due_becomes b j in
+      due_place i
+      ∙ ap (λ f. record_place (time_of x) i.device i.link i.cause f i.point i.is) (sym here.1)
+      ∙ same_place s hs (time_of x) (time_of y) i.device j.device i.link j.link i.cause
       (first.1 ∙ sym second.1) here.0 there.0
-      ∙ ap (λ (f : Pcf). record_place (time_of y) j.device j.link j.cause f j.point j.is) there.1
-      ∙ sym (due_place s b.before y j);
+      ∙ ap (λ f. record_place (time_of y) j.device j.link j.cause f j.point j.is) there.1 ∙ sym (due_place j);
 }

@@ -17,23 +17,25 @@ use Rattle.run_law.specs.runs.DueRecords as runs
 -- ---- how many points have come
 
 -- a run counts the one at which a joiner has cleared, and no other
-counted : (s : Scenario) (clocked : IsClocked s) (t : ℕ) (gs : List Happening) (device : DeviceId) → IsRun place_of (IsDue s) (t ∷ []) gs
-    → IsTimed (state_after s gs device) → is_broken s device t ≡ false → (by : ℕ) → by ≤ t
-    → come_of s device (correction_value s.network (recorded_cycle gs device)) (adjustment_after s gs device) (last_changed gs device) by
-    ≡ (if is_integration_cycle gs device
-    && (int_lt (pos (s.reading device (last_changed gs device)) +ℤ (adjustment_after s gs device).0) (correction_value s.network (recorded_cycle gs device))
-    && int_le (correction_value s.network (recorded_cycle gs device)) (pos (s.reading device (by - 1)) +ℤ (adjustment_after s gs device).0)) then 1 else 0)
-counted s clocked zero gs device run timed correct by le =
+counted : {s : Scenario} (clocked : IsClocked s) (t : ℕ) {gs : List Happening} (device : DeviceId)
+    → IsRun place_of (IsDue s) (t ∷ []) gs → IsTimed (state_after s gs device) → is_broken s device t ≡ false
+    → (by : ℕ) → by ≤ t → come_of s device (correction_value s.network (recorded_cycle gs device))
+    (adjustment_after s gs device) (last_changed gs device) by ≡
+    (if is_integration_cycle gs device && (int_lt (pos (s.reading device (last_changed gs device)) +ℤ
+    (adjustment_after s gs device).0) (correction_value s.network (recorded_cycle gs device)) && int_le
+    (correction_value s.network (recorded_cycle gs device)) (pos (s.reading device (by - 1)) +ℤ (adjustment_after s
+    gs device).0)) then 1 else 0)
+counted {s} clocked zero {gs} device run timed correct by le =
     let first = correction_value s.network (recorded_cycle gs device) in
     let shown : ℕ → ℤ = λ u. pos (s.reading device u) +ℤ (adjustment_after s gs device).0 in
     let come : Bool = int_lt (shown (last_changed gs device)) first && int_le first (shown (by - 1)) in
-    let none : come ≡ false = none_at_start s clocked gs device by le first in
+    let none : come ≡ false = none_at_start clocked gs device by le first in
     ap (λ (b : Bool). if b then natural (int_div_euclid (shown (by - 1) -ℤ first) s.network.cycle.0) + 1 else 0) none
     ∙ sym (ap (λ (b : Bool). if b then 1 else 0) (and_right (is_integration_cycle gs device) come none))
-counted s clocked (suc until) gs device run timed correct by le =
+counted {s} clocked (suc until) {gs} device run timed correct by le =
     let same : suc until ≡ until + 1 = omega arith in
     counts s clocked gs device until (subst (λ (t : ℕ). IsRun place_of (IsDue s) (t ∷ []) gs) same run) timed
-    (subst (λ (t : ℕ). is_broken s device t ≡ false) same correct) by (omega (arith, le))
+    (subst (λ t. is_broken s device t ≡ false) same correct) by (omega (arith, le))
 
 -- ---- states
 
@@ -64,7 +66,7 @@ module _ (s : Scenario) (clocked : IsClocked s) (ps : List Happening) (t : ℕ) 
     (up_to_now : (h : Happening) → IsIn h ps → time_of h ≤ t) where
   module _ (device : DeviceId) (timed : IsTimed (state_after s (earlier t ps) device)) (correct : is_broken s device t ≡ false) where
     count : (by : ℕ) → by ≤ t → points_come s ps device t by ≡ (if has_cleared s ps device t by then 1 else 0)
-    count by le = counted s clocked t (earlier t ps) device run timed correct by le
+    count by le = counted clocked t device run timed correct by le
 
     same_standing : standing_at s ps device t ≡ standing_before s ps device t
     same_standing =
@@ -75,7 +77,7 @@ module _ (s : Scenario) (clocked : IsClocked s) (ps : List Happening) (t : ℕ) 
           adjustment = adjustment_before s ps device t;
           number = k;
           integrated = integration_cycle (earlier t ps) device;
-        } in st) (ap (λ (k : ℕ). n + k) (count t (omega arith)) ∙ number_by (has_cleared s ps device t t) n)
+        } in st) (ap (λ k. n + k) (count t (omega arith)) ∙ number_by (has_cleared s ps device t t) n)
 
     -- what has been cleared stays so
     cleared_up : (by : ℕ) → by ≤ t → has_cleared s ps device t by ≡ true → has_cleared s ps device t t ≡ true
@@ -111,12 +113,12 @@ module _ (s : Scenario) (clocked : IsClocked s) (ps : List Happening) (t : ℕ) 
       let timed = timed_before device (standing_at s ps device t).number cycle c.next in
       let standing = same_standing device timed c.correct in
       record {
-        next = subst (λ (st : Standing). next_point st ≡ Some cycle) standing c.next;
+        next = subst (λ st. next_point st ≡ Some cycle) standing c.next;
         reached = c.reached;
         correct = c.correct;
         summary = c.summary;
         heard = subst (Summarizes c.summary) (same_heard device timed c.correct) c.heard;
-        comes = subst (λ (st : Standing). HasVerdict st c.summary v) standing c.comes;
+        comes = subst (λ st. HasVerdict st c.summary v) standing c.comes;
       }
 
   comes_in_audit : (device : DeviceId) (cycle : ℕ) (v : Verdict) → ComesToCorrection s ps device t cycle v → ComesToPoint s ps device t cycle v
@@ -124,45 +126,48 @@ module _ (s : Scenario) (clocked : IsClocked s) (ps : List Happening) (t : ℕ) 
       let timed = timed_before device (standing_before s ps device t).number cycle c.next in
       let standing = sym (same_standing device timed c.correct) in
       record {
-        next = subst (λ (st : Standing). next_point st ≡ Some cycle) standing c.next;
+        next = subst (λ st. next_point st ≡ Some cycle) standing c.next;
         reached = c.reached;
         correct = c.correct;
         summary = c.summary;
         heard = subst (Summarizes c.summary) (sym (same_heard device timed c.correct)) c.heard;
-        comes = subst (λ (st : Standing). HasVerdict st c.summary v) standing c.comes;
+        comes = subst (λ st. HasVerdict st c.summary v) standing c.comes;
       }
 
 -- ---- what is due
 
--- what is caused in an audit is in a run
-to_run : (s : Scenario) (clocked : IsClocked s) (ps : List Happening) (time : Units) → IsRun place_of (IsDue s) (amount time ∷ []) (earlier (amount time) ps)
-    → ((h : Happening) → IsIn h ps → time_of h ≤ amount time) → (body : NoteBody) → IsCaused s ps time body → runs.IsCaused s ps time body
-to_run s clocked ps time run up (notes.Corrected device cycle by adjustment) c =
-    record { corrected = comes_in_run s clocked ps (amount time) run up device cycle _ c.corrected; sum = c.sum }
-to_run s clocked ps time run up (notes.State device state cause whys.SyncClique) c =
-    (c.0, c.1, (c.2.0, comes_in_run s clocked ps (amount time) run up device c.2.0 _ c.2.1))
-to_run s clocked ps time run up (notes.State device state cause whys.AsyncClique) c =
-    (c.0, c.1, (c.2.0, comes_in_run s clocked ps (amount time) run up device c.2.0 _ c.2.1))
-to_run s clocked ps time run up (notes.State device state cause whys.On) c = c
-to_run s clocked ps time run up (notes.State device state cause whys.Frame) c = c
-to_run s clocked ps time run up (notes.State device state cause whys.Correction) c = c
-to_run s clocked ps time run up body c = caused_in_run s ps time body tt c
+module _ {s : Scenario} (clocked : IsClocked s) (ps : List Happening) (time : Units)
+    (run : IsRun place_of (IsDue s) (amount time ∷ []) (earlier (amount time) ps))
+    (up : ((h : Happening) → IsIn h ps → time_of h ≤ amount time)) where
+  -- what is caused in an audit is in a run
+  to_run : (body : NoteBody) → IsCaused s ps time body → runs.IsCaused s ps time body
+  to_run (notes.Corrected device cycle by adjustment) c =
+      record { corrected = comes_in_run s clocked ps (amount time) run up device cycle _ c.corrected; sum = c.sum }
+  to_run (notes.State device state cause whys.SyncClique) c =
+      (c.0, c.1, (c.2.0, comes_in_run s clocked ps (amount time) run up device c.2.0 _ c.2.1))
+  to_run (notes.State device state cause whys.AsyncClique) c =
+      (c.0, c.1, (c.2.0, comes_in_run s clocked ps (amount time) run up device c.2.0 _ c.2.1))
+  to_run (notes.State device state cause whys.On) c = c
+  to_run (notes.State device state cause whys.Frame) c = c
+  to_run (notes.State device state cause whys.Correction) c = c
+  to_run body c = caused_in_run s ps time body tt c
 
--- and what is in a run, is in an audit
-to_audit : (s : Scenario) (clocked : IsClocked s) (ps : List Happening) (time : Units) → IsRun place_of (IsDue s) (amount time ∷ []) (earlier (amount time) ps)
-    → ((h : Happening) → IsIn h ps → time_of h ≤ amount time) → (body : NoteBody) → runs.IsCaused s ps time body → IsCaused s ps time body
-to_audit s clocked ps time run up (notes.Corrected device cycle by adjustment) c =
-    record { corrected = comes_in_audit s clocked ps (amount time) run up device cycle _ c.corrected; sum = c.sum }
-to_audit s clocked ps time run up (notes.State device state cause whys.SyncClique) c =
-    (c.0, c.1, (c.2.0, comes_in_audit s clocked ps (amount time) run up device c.2.0 _ c.2.1))
-to_audit s clocked ps time run up (notes.State device state cause whys.AsyncClique) c =
-    (c.0, c.1, (c.2.0, comes_in_audit s clocked ps (amount time) run up device c.2.0 _ c.2.1))
-to_audit s clocked ps time run up (notes.State device state cause whys.On) c = c
-to_audit s clocked ps time run up (notes.State device state cause whys.Frame) c = c
-to_audit s clocked ps time run up (notes.State device state cause whys.Correction) c = c
-to_audit s clocked ps time run up body c = caused_in_audit s ps time body tt c
+  -- and what is in a run, is in an audit
+  to_audit : (body : NoteBody) → runs.IsCaused s ps time body → IsCaused s ps time body
+  to_audit (notes.Corrected device cycle by adjustment) c =
+      record { corrected = comes_in_audit s clocked ps (amount time) run up device cycle _ c.corrected; sum = c.sum }
+  to_audit (notes.State device state cause whys.SyncClique) c =
+      (c.0, c.1, (c.2.0, comes_in_audit s clocked ps (amount time) run up device c.2.0 _ c.2.1))
+  to_audit (notes.State device state cause whys.AsyncClique) c =
+      (c.0, c.1, (c.2.0, comes_in_audit s clocked ps (amount time) run up device c.2.0 _ c.2.1))
+  to_audit (notes.State device state cause whys.On) c = c
+  to_audit (notes.State device state cause whys.Frame) c = c
+  to_audit (notes.State device state cause whys.Correction) c = c
+  to_audit body c = caused_in_audit s ps time body tt c
 
 -- behind a run, what is due in one is due in the other
-pub same_due : (s : Scenario) (clocked : IsClocked s) (ps : List Happening) (x : Happening) → IsRun place_of (IsDue s) (time_of x ∷ []) (earlier (time_of x) ps)
-    → ((h : Happening) → IsIn h ps → time_of h ≤ time_of x) → (IsDue s ps x → runs.IsDue s ps x) × (runs.IsDue s ps x → IsDue s ps x)
-same_due s clocked ps x run up = grind (arith, to_run, to_audit)
+pub same_due : {s : Scenario} (clocked : IsClocked s) (ps : List Happening) (x : Happening)
+    → IsRun place_of (IsDue s) (time_of x ∷ []) (earlier (time_of x) ps)
+    → ((h : Happening) → IsIn h ps → time_of h ≤ time_of x)
+    → (IsDue s ps x → runs.IsDue s ps x) × (runs.IsDue s ps x → IsDue s ps x)
+same_due clocked ps x run up = grind (arith, to_run, to_audit)

@@ -11,34 +11,40 @@ earlier_part : (hs ps qs : List Happening) (y : Happening) → hs ≡ ps ++ qs �
 earlier_part hs ps qs y whole none = grind (arith, time_of, nat_lt, earlier, none_kept, cases_lt, le-ltb, filter-append, append-nil)
 
 -- what is earlier in a run is the run up to then
-earlier_run : (IsDueSo : List Happening → Happening → Type 0) (hs ps qs : List Happening) (u : ℕ) (y : Happening) → IsRun place_of IsDueSo (u ∷ []) hs
-    → time_of y ≤ u → hs ≡ ps ++ qs → NoneBefore place_of qs (place_of y) → IsRun place_of IsDueSo (time_of y ∷ []) (earlier (time_of y) ps)
-earlier_run IsDueSo hs ps qs u y run le whole none =
+earlier_run : (IsDueSo : List Happening → Happening → Type 0) {hs : List Happening} (ps qs : List Happening) (u : ℕ)
+    (y : Happening) → IsRun place_of IsDueSo (u ∷ []) hs → time_of y ≤ u → hs ≡ ps ++ qs
+    → NoneBefore place_of qs (place_of y) → IsRun place_of IsDueSo (time_of y ∷ []) (earlier (time_of y) ps)
+earlier_run IsDueSo {hs} ps qs u y run le whole none =
     let cut = cut_at IsDueSo hs (time_of y) run.founded in
-    subst (IsRun place_of IsDueSo (time_of y ∷ [])) (sym cut.same ∙ earlier_part hs ps qs y whole none) (run_before IsDueSo hs u (time_of y) le run cut)
+    subst (IsRun place_of IsDueSo (time_of y ∷ [])) (sym cut.same ∙ earlier_part hs ps qs y whole none)
+    (run_before IsDueSo u le run cut)
 
 up_to_now : (ps : List Happening) (y : Happening) → AllBefore place_of ps (place_of y) → (h : Happening) → IsIn h ps → time_of h ≤ time_of y
 up_to_now ps y before h i = in_time h y (before h i)
 
 -- a run of an audit is a run
-in_run : (s : Scenario) (clocked : IsClocked s) (hs : List Happening) (u : ℕ) → IsRun place_of (IsDue s) (u ∷ []) hs → IsRun place_of (runs.IsDue s) (u ∷ []) hs
-in_run s clocked hs u run =
-    run_by (IsDue s) (runs.IsDue s) (u ∷ []) hs (λ ps qs y whole before none here.
+in_run : {s : Scenario} (clocked : IsClocked s) {hs : List Happening} (u : ℕ) → IsRun place_of (IsDue s) (u ∷ []) hs
+    → IsRun place_of (runs.IsDue s) (u ∷ []) hs
+in_run {s} clocked {hs} u run =
+    run_by (IsDue s) (runs.IsDue s) {mark = u ∷ []} {hs = hs} (λ ps qs y whole before none here.
     let lt = soon y u here in
-    same_due s clocked ps y (earlier_run (IsDue s) hs ps qs u y run (omega (arith, lt)) whole none) (up_to_now ps y before)) run
+    same_due clocked ps y (earlier_run (IsDue s) ps qs u y run (omega (arith, lt)) whole none)
+    (up_to_now ps y before)) run
 
 -- and a run is one of an audit: up to each time, since it is so up to each earlier one
-in_audit : (s : Scenario) (clocked : IsClocked s) (most u : ℕ) → u ≤ most → (hs : List Happening) → IsRun place_of (runs.IsDue s) (u ∷ []) hs
-    → IsRun place_of (IsDue s) (u ∷ []) hs
-in_audit s clocked zero u le hs run =
-    run_by (runs.IsDue s) (IsDue s) (u ∷ []) hs (λ ps qs y whole before none here. let lt = soon y u here in absurd (omega (arith, lt, le))) run
-in_audit s clocked (suc most) u le hs run =
-    run_by (runs.IsDue s) (IsDue s) (u ∷ []) hs (λ ps qs y whole before none here.
+in_audit : {s : Scenario} (clocked : IsClocked s) (most u : ℕ) → u ≤ most → (hs : List Happening)
+    → IsRun place_of (runs.IsDue s) (u ∷ []) hs → IsRun place_of (IsDue s) (u ∷ []) hs
+in_audit {s} clocked zero u le hs run =
+    run_by (runs.IsDue s) (IsDue s) {mark = u ∷ []} {hs = hs} (λ ps qs y whole before none here. let lt = soon y u
+    here in absurd (omega (arith, lt, le))) run
+in_audit {s} clocked (suc most) u le hs run =
+    run_by (runs.IsDue s) (IsDue s) {mark = u ∷ []} {hs = hs} (λ ps qs y whole before none here.
     let lt = soon y u here in
-    let front = in_audit s clocked most (time_of y) (omega (arith, lt, le)) (earlier (time_of y) ps)
-    (earlier_run (runs.IsDue s) hs ps qs u y run (omega (arith, lt)) whole none) in
-    let same = same_due s clocked ps y front (up_to_now ps y before) in
+    let front = in_audit clocked most (time_of y) (omega (arith, lt, le)) (earlier (time_of y) ps)
+    (earlier_run (runs.IsDue s) ps qs u y run (omega (arith, lt)) whole none) in
+    let same = same_due clocked ps y front (up_to_now ps y before) in
     (same.1, same.0)) run
 
 pub same_runs : SameRuns
-same_runs s hs until clocked = (λ run. in_audit s clocked (until + 1) (until + 1) (omega arith) hs run, λ run. in_run s clocked hs (until + 1) run)
+same_runs s hs until clocked =
+    (λ run. in_audit clocked (until + 1) (until + 1) (omega arith) hs run, λ run. in_run clocked (until + 1) run)

@@ -6,7 +6,7 @@ use Rattle.audit_law.proofs.law_lemmas.Words.{IsOwed, LinkId, List, None, NoteBo
 use Rattle.audit_law.proofs.law_lemmas.Words.{false_from_ne_true, filter, filter-append, front_founded, heard_since_point, in_parts, inl, inr, ints}
 use Rattle.audit_law.proofs.law_lemmas.Words.{is_before, is_there, key, last_or, le-ltb, nat_le, nat_lt, none_kept, numbered, numbered_front, numbered_in}
 use Rattle.audit_law.specs.law.{DebtLaws.SettledLaw, Emitted.before_place}
-use Rattle.run_law.specs.{control.{Arrivals.control_arrival, Wires.{Signal, control, timed}}, device.Standpoints.{Standpoint, standpoint}}
+use Rattle.run_law.specs.{control.{Arrivals.control_arrival, Wires.{Signal, control, timed}}, device.Standpoints.standpoint}
 use Rattle.{run_law.specs.timed.Receptions.{arrival_of, is_taken_before, last_taken, taken_cycle}, std.proofs.lemmas.Bool.{and_left, lt-leb, ne_eqb, or_from}}
 use Rattle.run_law.specs.declared.note.NoteBody.TheVariants as notes
 use Rattle.audit_law.specs.law.Owed as debts
@@ -49,65 +49,67 @@ front_tells gs rest until late = record {
       (λ h i. not_taken t (time_of h) device vl link cause h.note.body (let l = late h i in omega (arith, l, le))));
 }
 
--- a record up to the time is in the front
-in_front : (s : Scenario) (gs rest : List Happening) (until : ℕ) → IsFounded place_of (IsDue s) (gs ++ rest)
-    → ((h : Happening) → IsIn h rest → until < time_of h) → (n : ℕ) (h : Happening) → time_of h ≤ until → numbered (gs ++ rest) n ≡ Some h
-    → numbered gs n ≡ Some h
-in_front s gs rest until founded late n h le there =
-    let number = number_is s (gs ++ rest) n h founded there in
-    elim (in_parts h gs rest (numbered_in (gs ++ rest) n h there)) [
-      | inl i ↦ subst (λ (m : ℕ). numbered gs m ≡ Some h) number (by_number s gs h (front_founded place_of (IsDue s) gs rest founded) i)
-      | inr i ↦ let l = late h i in absurd (omega (arith, l, le))
-    ]
+module _ (s : Scenario) (gs rest : List Happening) (until : ℕ) (founded : IsFounded place_of (IsDue s) (gs ++ rest))
+    (late : ((h : Happening) → IsIn h rest → until < time_of h)) where
+  -- a record up to the time is in the front
+  in_front : (n : ℕ) (h : Happening) → time_of h ≤ until → numbered (gs ++ rest) n ≡ Some h → numbered gs n ≡ Some h
+  in_front n h le there =
+      let number = number_is s (gs ++ rest) n h founded there in
+      elim (in_parts h gs rest (numbered_in (gs ++ rest) n h there)) [
+        | inl i ↦ subst (λ m. numbered gs m ≡ Some h) number
+            (by_number s gs h (front_founded place_of (IsDue s) gs rest founded) i)
+        | inr i ↦ let l = late h i in absurd (omega (arith, l, le))
+      ]
 
-tells_front : (s : Scenario) (gs rest : List Happening) (until : ℕ) → IsFounded place_of (IsDue s) (gs ++ rest)
-    → ((h : Happening) → IsIn h rest → until < time_of h) → TellsSame (gs ++ rest) gs until
-tells_front s gs rest until founded late =
-    let same = front_tells gs rest until late in
-    record {
-      numbers = in_front s gs rest until founded late;
-      earliers = λ t le. sym (same.earliers t le);
-      ups = λ t le. sym (same.ups t le);
-      befores = λ t ks le. sym (same.befores t ks le);
-      takens = λ device vl t link cause le. sym (same.takens device vl t link cause le);
-    }
+  tells_front : TellsSame (gs ++ rest) gs until
+  tells_front =
+      let same = front_tells gs rest until late in
+      record {
+        numbers = in_front;
+        earliers = λ t le. sym (same.earliers t le);
+        ups = λ t le. sym (same.ups t le);
+        befores = λ t ks le. sym (same.befores t ks le);
+        takens = λ device vl t link cause le. sym (same.takens device vl t link cause le);
+      }
 
 -- ---- debts
 
-same_outcome : (s : Scenario) (gs hs : List Happening) (until : ℕ) (device : DeviceId) (t : ℕ) (link : LinkId) (cause : ℕ) (signal : Signal)
-    → TellsSame gs hs until → t ≤ until → arrival_of s gs device t link cause signal ≡ arrival_of s hs device t link cause signal
-same_outcome s gs hs until device t link cause (control frame) same le =
-    ap (λ (p : Standpoint). control_arrival s.network device link p frame) (same_standpoint s device t gs hs (same.earliers t le))
-same_outcome s gs hs until device t link cause (timed octets) same le = grind (arith, same_standpoint, by_octets)
+same_outcome : (s : Scenario) {gs hs : List Happening} {until : ℕ} (device : DeviceId) (t : ℕ) (link : LinkId)
+    (cause : ℕ) (signal : Signal) → TellsSame gs hs until → t ≤ until
+    → arrival_of s gs device t link cause signal ≡ arrival_of s hs device t link cause signal
+same_outcome s {gs} {hs} device t link cause (control frame) same le =
+    ap (λ p. control_arrival s.network device link p frame) (same_standpoint s device t gs hs (same.earliers t le))
+same_outcome s device t link cause (timed octets) same le = grind (arith, same_standpoint, by_octets)
 
 -- what comes to a time from an earlier one is not earlier
 sum_within : (t a b c until : ℕ) → t ≡ a + b + c → t ≤ until → a ≤ until
 sum_within t a b c until is le = omega (arith, is, le)
 
 -- what one of two such lists owes, the other does
-owed_by : (s : Scenario) (gs hs : List Happening) (until : ℕ) → TellsSame gs hs until → (o : Debt) → IsOwed s gs until o → IsOwed s hs until o
-owed_by s gs hs until same (debts.event line) o = o
-owed_by s gs hs until same (debts.arrival cause) o =
+owed_by : (s : Scenario) {gs hs : List Happening} {until : ℕ} → TellsSame gs hs until → (o : Debt)
+    → IsOwed s gs until o → IsOwed s hs until o
+owed_by s same (debts.event line) o = o
+owed_by s {hs} {until} same (debts.arrival cause) o =
     let a = o.arrives in
     let arrives : ArrivesAs s hs o.device o.time o.link cause o.is = record {
       putting = a.putting;
       there = same.numbers cause a.putting (sum_within o.time (time_of a.putting) _ _ until a.arrives.at o.timely) a.there;
       signal = a.signal;
       arrives = a.arrives;
-      becomes = a.becomes ∙ same_outcome s gs hs until o.device o.time o.link cause a.signal same o.timely;
+      becomes = a.becomes ∙ same_outcome s o.device o.time o.link cause a.signal same o.timely;
     } in
     record { device = o.device; link = o.link; time = o.time; is = o.is; arrives = arrives; behind = o.behind; timely = o.timely }
-owed_by s gs hs until same (debts.permanence cause) o = grind (arith, permanent_by, ints)
-owed_by s gs hs until same (debts.emission device sent) o = grind (arith, rank, key)
-owed_by s gs hs until same (debts.sending given) o =
-    record { sends = sends_by s gs hs given.device given.time given.cycle (same.earliers given.time o.timely) o.sends; timely = o.timely }
-owed_by s gs hs until same (debts.point device time) o = grind (arith, comes_by, up_to, earlier, heard_since_point)
-owed_by s gs hs until same (debts.change cause) o = grind arith
-owed_by s gs hs until same (debts.departure cause link) o = grind arith
-owed_by s gs hs until same (debts.dispatch given) o = grind (arith, dispatches_by)
-owed_by s gs hs until same (debts.loss cause) o = grind arith
-owed_by s gs hs until same (debts.clock device time) o = o
+owed_by s same (debts.permanence cause) o = grind (arith, permanent_by, ints)
+owed_by s same (debts.emission device sent) o = grind (arith, rank, key)
+owed_by s {gs} {hs} same (debts.sending given) o =
+    record { sends = sends_by s gs hs given.device given.time (same.earliers given.time o.timely) o.sends; timely = o.timely }
+owed_by s same (debts.point device time) o = grind (arith, comes_by, up_to, earlier, heard_since_point)
+owed_by s same (debts.change cause) o = grind arith
+owed_by s same (debts.departure cause link) o = grind arith
+owed_by s same (debts.dispatch given) o = grind (arith, dispatches_by)
+owed_by s same (debts.loss cause) o = grind arith
+owed_by s same (debts.clock device time) o = o
 
 pub settled_law : SettledLaw
 settled_law s gs rest until founded late o =
-    (owed_by s gs (gs ++ rest) until (front_tells gs rest until late) o, owed_by s (gs ++ rest) gs until (tells_front s gs rest until founded late) o)
+    (owed_by s (front_tells gs rest until late) o, owed_by s (tells_front s gs rest until founded late) o)

@@ -6,81 +6,85 @@ use Rattle.{run_law.specs.runs.Runs.IsNextOf, std.proofs.Common.{◌↔◌, appe
 
 -- ---- sound lists
 
-pub founded_of_sound : {N : Type 0} (place : N → List ℕ) (IsDue : List N → N → Type 0) (mark : List ℕ) (ns : List N) → AreSound place IsDue mark ns
-    → IsFounded place IsDue ns
-founded_of_sound place IsDue mark ns sound ps qs x e = let h = sound ps qs x e in (h.behind_all, h.due)
+module _ {N : Type 0} (place : N → List ℕ) where
+  pub founded_of_sound : (IsDue : List N → N → Type 0) (mark : List ℕ) (ns : List N) → AreSound place IsDue mark ns
+      → IsFounded place IsDue ns
+  founded_of_sound IsDue mark ns sound ps qs x e = let h = sound ps qs x e in (h.behind_all, h.due)
 
-pub within_of_sound : {N : Type 0} (place : N → List ℕ) (IsDue : List N → N → Type 0) (mark : List ℕ) (ns : List N) → AreSound place IsDue mark ns
-    → AllBefore place ns mark
-within_of_sound place IsDue mark ns sound n i = let at = parted n ns i in (sound at.0 at.1 n at.2).within
+  pub within_of_sound : (IsDue : List N → N → Type 0) (mark : List ℕ) (ns : List N) → AreSound place IsDue mark ns
+      → AllBefore place ns mark
+  within_of_sound IsDue mark ns sound n i = let at = parted n ns i in (sound at.0 at.1 n at.2).within
 
-pub sound_of_run : {N : Type 0} (place : N → List ℕ) (IsDue : List N → N → Type 0) (mark : List ℕ) (ns : List N) → IsRun place IsDue mark ns
-    → AreSound place IsDue mark ns
-sound_of_run place IsDue mark ns run ps qs x e =
-    let h = run.founded ps qs x e in
-    record { behind_all = h.0; due = h.1; within = run.within x (subst (λ (t : List _). IsIn x t) (sym e) (in_right x ps (x ∷ qs) (inl refl))) }
+  pub sound_of_run : (IsDue : List N → N → Type 0) {mark : List ℕ} {ns : List N} → IsRun place IsDue mark ns
+      → AreSound place IsDue mark ns
+  sound_of_run IsDue run ps qs x e =
+      let h = run.founded ps qs x e in
+      record { behind_all = h.0; due = h.1; within = run.within x (subst (λ t. IsIn x t) (sym e) (in_right x ps (x ∷ qs) (inl refl))) }
 
--- ---- what a list lacks
+  -- ---- what a list lacks
 
-pub full_of_run : {N : Type 0} (place : N → List ℕ) (IsDue : List N → N → Type 0) (mark : List ℕ) (ns : List N) → IsRun place IsDue mark ns
-    → LacksNothing place IsDue mark ns
-full_of_run place IsDue mark ns run x lack here =
-    let there = run.full lack.before lack.behind x lack.parts lack.all_before lack.none_before lack.due here in
-    lack.absent there.0 there.1 there.2
+  pub full_of_run : (IsDue : List N → N → Type 0) {mark : List ℕ} {ns : List N} → IsRun place IsDue mark ns
+      → LacksNothing place IsDue mark ns
+  full_of_run IsDue run x lack here =
+      let there = run.full lack.before lack.behind x lack.parts lack.all_before lack.none_before lack.due here in
+      lack.absent there.0 there.1 there.2
 
--- is a record of the list at the place?
-pub at_place : {N : Type 0} (place : N → List ℕ) (ns : List N) (p : List ℕ) → ((m : N) × IsIn m ns × (place m ≡ p)) ⊎ ((m : N) → IsIn m ns → place m ≡ p → ⊥)
-at_place place [] p = inr (λ m i e. absurd i)
-at_place {N} place (n ∷ ns) p =
-    elim (at_place place ns p) [
-      | inl found ↦ inl (found.0, inr found.1, found.2)
-      | inr none ↦
-          let head : place n ≡ p → ⊥ → ((m : N) × IsIn m (n ∷ ns) × (place m ≡ p)) ⊎ ((m : N) → IsIn m (n ∷ ns) → place m ≡ p → ⊥) = λ e f. absurd f in
-          elim (either_way (place n) p) [
-            | inr (inl e) ↦ inl (n, inl refl, e)
-            | inl lt ↦ inr (λ m i e. elim i [
-              | inl same ↦ never_self p (subst (λ (q : List ℕ). IsBefore q p)
-                  (ap place (sym same) ∙ e) lt)
-              | inr later ↦ none m later e
-            ])
-            | inr (inr gt) ↦ inr (λ m i e. elim i [
-              | inl same ↦ never_self p (subst (λ (q : List ℕ). IsBefore p q)
-                  (ap place (sym same) ∙ e) gt)
-              | inr later ↦ none m later e
-            ])
-          ]
-    ]
+  -- is a record of the list at the place?
+  pub at_place : (ns : List N) (p : List ℕ) → ((m : N) × IsIn m ns × (place m ≡ p))
+      ⊎ ((m : N) → IsIn m ns → place m ≡ p → ⊥)
+  at_place [] p = inr (λ m i e. absurd i)
+  at_place (n ∷ ns) p =
+      elim (at_place ns p) [
+        | inl found ↦ inl (found.0, inr found.1, found.2)
+        | inr none ↦
+            let head : place n ≡ p → ⊥ → ((m : N) × IsIn m (n ∷ ns) × (place m ≡ p))
+            ⊎ ((m : N) → IsIn m (n ∷ ns) → place m ≡ p → ⊥) = λ e f. absurd f in
+            elim (either_way (place n) p) [
+              | inr (inl e) ↦ inl (n, inl refl, e)
+              | inl lt ↦ inr (λ m i e. elim i [
+                | inl same ↦ never_self p (subst (λ q. IsBefore q p)
+                    (ap place (sym same) ∙ e) lt)
+                | inr later ↦ none m later e
+              ])
+              | inr (inr gt) ↦ inr (λ m i e. elim i [
+                | inl same ↦ never_self p (subst (λ q. IsBefore p q)
+                    (ap place (sym same) ∙ e) gt)
+                | inr later ↦ none m later e
+              ])
+            ]
+      ]
 
-run_of_sound : {N : Type 0} (place : N → List ℕ) (IsDue : List N → N → Type 0) (mark : List ℕ) (ns : List N) → AreSound place IsDue mark ns
-    → LacksNothing place IsDue mark ns → IsRun place IsDue mark ns
-run_of_sound place IsDue mark ns sound nothing = record {
-  founded = founded_of_sound place IsDue mark ns sound;
-  full = λ ps qs x e before none due here.
-      elim (at_place place ns (place x)) [
-        | inl there ↦ there
-        | inr absent ↦ absurd (nothing x (record {
-          before = ps;
-          behind = qs;
-          parts = e;
-          all_before = before;
-          none_before = none;
-          due = due;
-          absent = absent;
-        }) here)
-      ];
-  within = within_of_sound place IsDue mark ns sound;
-}
+  run_of_sound : (IsDue : List N → N → Type 0) (mark : List ℕ) (ns : List N) → AreSound place IsDue mark ns
+      → LacksNothing place IsDue mark ns → IsRun place IsDue mark ns
+  run_of_sound IsDue mark ns sound nothing = record {
+    founded = founded_of_sound IsDue mark ns sound;
+    full = λ ps qs x e before none due here.
+        elim (at_place ns (place x)) [
+          | inl there ↦ there
+          | inr absent ↦ absurd (nothing x (record {
+            before = ps;
+            behind = qs;
+            parts = e;
+            all_before = before;
+            none_before = none;
+            due = due;
+            absent = absent;
+          }) here)
+        ];
+    within = within_of_sound IsDue mark ns sound;
+  }
 
-pub run_exactly : {N : Type 0} (place : N → List ℕ) (IsDue : List N → N → Type 0) (mark : List ℕ) (ns : List N)
-    → IsRun place IsDue mark ns ↔ (AreSound place IsDue mark ns × LacksNothing place IsDue mark ns)
-run_exactly place IsDue mark ns =
-    (λ run. (sound_of_run place IsDue mark ns run, full_of_run place IsDue mark ns run), λ h. run_of_sound place IsDue mark ns h.0 h.1)
+  pub run_exactly : (IsDue : List N → N → Type 0) (mark : List ℕ) (ns : List N)
+      → IsRun place IsDue mark ns ↔ (AreSound place IsDue mark ns × LacksNothing place IsDue mark ns)
+  run_exactly IsDue mark ns =
+      (λ run. (sound_of_run IsDue run, full_of_run IsDue run), λ h. run_of_sound IsDue mark ns h.0 h.1)
 
--- ---- the first unsound record
+  -- ---- the first unsound record
 
-pub none_unsound : {N : Type 0} (place : N → List ℕ) (IsDue : List N → N → Type 0) (mark : List ℕ) (ns : List N) (n : ℕ) → AreSound place IsDue mark ns
-    → IsUnfoundedAt place IsDue mark ns n → ⊥
-none_unsound place IsDue mark ns n sound found = found.unsound (sound found.before found.behind found.record_there found.parts)
+  pub none_unsound : (IsDue : List N → N → Type 0) (mark : List ℕ) (ns : List N) (n : ℕ)
+      → AreSound place IsDue mark ns → IsUnfoundedAt place IsDue mark ns n → ⊥
+  none_unsound IsDue mark ns n sound found =
+      found.unsound (sound found.before found.behind found.record_there found.parts)
 
 -- of two such parts of one list, the shorter front is a front of the other, unless they are one
 pub record IsAhead {N : Type 0} (x : N) (longer shorter : List N) : Type 0 where
@@ -112,13 +116,13 @@ one_unsound place IsDue mark ns n m a b =
 -- ---- gaps
 
 -- what a front of a founded list has not reached is behind it
-gap_of_lack : {N : Type 0} (place : N → List ℕ) (IsDue : List N → N → Type 0) (ns : List N) (x : N) → (h : IsLacking place IsDue ns x)
-    → IsGap place IsDue h.before h.behind x
-gap_of_lack place IsDue ns x h = grind (arith, either_way, in_right)
+gap_of_lack : {N : Type 0} {place : N → List ℕ} (IsDue : List N → N → Type 0) {ns : List N} {x : N}
+    (h : IsLacking place IsDue ns x) → IsGap place IsDue h.before h.behind x
+gap_of_lack IsDue h = grind (arith, either_way, in_right)
 
-lack_of_gap : {N : Type 0} (place : N → List ℕ) (IsDue : List N → N → Type 0) (ns before rest : List N) (x : N) → ns ≡ before ++ rest
-    → IsGap place IsDue before rest x → IsLacking place IsDue ns x
-lack_of_gap place IsDue ns before rest x parts gap = record {
+lack_of_gap : {N : Type 0} {place : N → List ℕ} (IsDue : List N → N → Type 0) (ns : List N) {before rest : List N}
+    {x : N} → ns ≡ before ++ rest → IsGap place IsDue before rest x → IsLacking place IsDue ns x
+lack_of_gap {place} IsDue ns {before} {rest} {x} parts gap = record {
   before = before;
   behind = rest;
   parts = parts;
@@ -126,9 +130,9 @@ lack_of_gap place IsDue ns before rest x parts gap = record {
   none_before = λ m i sooner. never_self (place x) (chain (place x) (place m) (place x) (gap.first m i) sooner);
   due = gap.due;
   absent = λ m i same.
-      elim (in_parts m before rest (subst (λ (t : List _). IsIn m t) parts i)) [
-        | inl l ↦ never_self (place x) (subst (λ (p : List ℕ). IsBefore p (place x)) same (gap.all_before m l))
-        | inr r ↦ never_self (place x) (subst (λ (p : List ℕ). IsBefore (place x) p) same (gap.first m r))
+      elim (in_parts m before rest (subst (λ t. IsIn m t) parts i)) [
+        | inl l ↦ never_self (place x) (subst (λ p. IsBefore p (place x)) same (gap.all_before m l))
+        | inr r ↦ never_self (place x) (subst (λ p. IsBefore (place x) p) same (gap.first m r))
       ];
 }
 
@@ -141,15 +145,15 @@ pub record HasGapIn {N : Type 0} (place : N → List ℕ) (IsDue : List N → N 
 pub lacks_in_gaps : {N : Type 0} (place : N → List ℕ) (IsDue : List N → N → Type 0) (ns : List N) (x : N)
     → IsLacking place IsDue ns x ↔ HasGapIn place IsDue ns x
 lacks_in_gaps place IsDue ns x = (
-  λ h. record { before = h.before; rest = h.behind; parts = h.parts; gap = gap_of_lack place IsDue ns x h },
-  λ g. lack_of_gap place IsDue ns g.before g.rest x g.parts g.gap,
+  λ h. record { before = h.before; rest = h.behind; parts = h.parts; gap = gap_of_lack IsDue h },
+  λ g. lack_of_gap IsDue ns g.parts g.gap,
 )
 
 -- ---- the next record of a run
 
-next_of_grown : {N : Type 0} (place : N → List ℕ) (IsDue : List N → N → Type 0) (mark : List ℕ) (ns : List N) (x : N) → IsRun place IsDue mark ns
-    → IsRun place IsDue (behind (place x)) (ns ++ x ∷ []) → IsNextOf place IsDue mark ns x
-next_of_grown {N} place IsDue mark ns x run grown =
+next_of_grown : {N : Type 0} {place : N → List ℕ} (IsDue : List N → N → Type 0) {mark : List ℕ} {ns : List N} (x : N)
+    → IsRun place IsDue mark ns → IsRun place IsDue (behind (place x)) (ns ++ x ∷ []) → IsNextOf place IsDue mark ns x
+next_of_grown {N} {place} IsDue {mark} {ns} x run grown =
     let here = grown.founded ns [] x refl in
     record {
       behind_all = here.0;
@@ -165,14 +169,15 @@ next_of_grown {N} place IsDue mark ns x run grown =
             ] in
             let there = grown.full ps (qs ++ x ∷ []) y parts before not_x due (chain (place y) (place x) (behind (place x)) sooner (before_behind (place x))) in
             elim (in_parts there.0 ns (x ∷ []) there.1) [
-              | inl l ↦ subst (λ (p : List ℕ). IsBefore p mark) there.2 (run.within there.0 l)
-              | inr (inl same) ↦ absurd (never_self (place x) (subst (λ (p : List ℕ). IsBefore p (place x)) (sym there.2 ∙ ap place same) sooner))
+              | inl l ↦ subst (λ p. IsBefore p mark) there.2 (run.within there.0 l)
+              | inr (inl same) ↦ absurd (never_self (place x) (subst (λ p. IsBefore p (place x)) (sym there.2 ∙ ap place same) sooner))
               | inr (inr none_left) ↦ absurd none_left
             ];
       };
     }
 
-pub next_exactly : {N : Type 0} (place : N → List ℕ) (IsDue : List N → N → Type 0) (mark : List ℕ) (ns : List N) (x : N) → IsRun place IsDue mark ns
-    → IsRun place IsDue (behind (place x)) (ns ++ x ∷ []) ↔ IsNextOf place IsDue mark ns x
-next_exactly place IsDue mark ns x run =
-    (λ grown. next_of_grown place IsDue mark ns x run grown, λ next. grow IsDue x run next.behind_all next.due next.first)
+pub next_exactly : {N : Type 0} {place : N → List ℕ} (IsDue : List N → N → Type 0) {mark : List ℕ} {ns : List N}
+    (x : N) → IsRun place IsDue mark ns → IsRun place IsDue (behind (place x)) (ns ++ x ∷ [])
+    ↔ IsNextOf place IsDue mark ns x
+next_exactly IsDue x run =
+    (λ grown. next_of_grown IsDue x run grown, λ next. grow IsDue x run next.behind_all next.due next.first)

@@ -32,9 +32,9 @@ step rho grain real seen one slow fine measured =
     omega (arith, m, slow, fine)
 
 -- in one unit of time a clock goes on by less than a cycle
-pub short_step : (rho grain : ℕ) (reading : ℕ → ℕ) (u : ℕ) → rho ≤ 1000000 → grain ≤ 1048576 → KeepsClockLaws rho grain reading
-    → reading (u + 1) < reading u + 2 ^ 32
-short_step rho grain reading u slow fine keeps =
+pub short_step : {rho grain : ℕ} {reading : ℕ → ℕ} (u : ℕ) → rho ≤ 1000000 → grain ≤ 1048576
+    → KeepsClockLaws rho grain reading → reading (u + 1) < reading u + 2 ^ 32
+short_step {rho} {grain} {reading} u slow fine keeps =
     let one : (u + 1) - u ≡ 1 = omega arith in
     let seen = step rho grain ((u + 1) - u) (reading (u + 1) - reading u) one slow fine (keeps.drifts u (u + 1) (omega arith)) in
     omega (arith, seen)

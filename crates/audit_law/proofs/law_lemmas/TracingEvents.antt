@@ -18,7 +18,7 @@ some_event s hs until line founded o =
     let x = next_of s at.front time body in
     let due : IsDueByEvent s at.front x =
     record { due = next_is_due s at.front time body befalls; line = line; what = o.event.what; befalls = befalls; says = refl } in
-    (x, due_there (IsDueByEvent s) hs p at x refl due, within time until (1 ∷ line ∷ []) o.timely, refl, refl)
+    (x, due_there (IsDueByEvent s) {hs = hs} {p = p} at x refl due, within time until (1 ∷ line ∷ []) o.timely, refl, refl)
 
 event_owed : (s : Scenario) (hs : List Happening) (until : ℕ) (x : Happening) → IsDueIn place_of (IsDueByEvent s) hs x
     → IsBefore (place_of x) ((until + 1) ∷ []) → (line : ℕ) × (o : OwesEvent s until line) × TellsEvent line x.note.body × (time_of x ≡ amount o.event.time)
@@ -32,7 +32,7 @@ event_owed s hs until x h here =
       event = b.event;
       is = b.is;
       begun = subst (λ (u : Units). pos 0 ≤ℤ u.0) b.at d.due.begun;
-      timely = subst (λ (u : Units). amount u ≤ until) b.at le;
+      timely = subst (λ u. amount u ≤ until) b.at le;
     } in
     (d.line, owed, subst (TellsEvent d.line) (sym d.says) refl, ap amount b.at)
 

@@ -51,8 +51,8 @@ module _ (s : Scenario) (hs : List Happening) (until cause : ℕ) (link : LinkId
       let so = tells_so by.device link by.link cause by.cause by.is (subst (TellsDeparture cause link) by.says tells) in
       ap (λ b. place_at (time_of x) (members_in x) b) by.says
       ∙ record_place (time_of x) (members_in x) by.device by.link by.cause by.is
-      ∙ same_place s hs (time_of x) t by.device device by.link link by.cause cause by.is d so.1 so.0
-      (departs_in_whole s hs here.before here.behind (time_of x) by.device by.link by.cause by.is here.parts
+      ∙ same_place so.1 so.0
+      (departs_in_whole hs here.behind here.parts
       by.departs) departs)
 
   -- a leaving falls due at one time

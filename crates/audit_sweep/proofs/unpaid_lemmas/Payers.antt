@@ -12,7 +12,8 @@ pub one_time : {O : Type 0} (s : Scenario) {hs : List Happening} (until : ℕ)
 one_time s {hs} until IsDueSo IsOwed {falls} Pays part debts o a b =
     let x = debts.some o a in
     let y = debts.some o b in
-    let same = debts.one o x.0 y.0 a (due_by_part place_of (IsDue s) IsDueSo hs x.0 part x.1) (due_by_part place_of (IsDue s) IsDueSo hs y.0 part y.1) x.3
+    let same = debts.one o x.0 y.0 a (due_by_part place_of (IsDue s) IsDueSo part x.1)
+    (due_by_part place_of (IsDue s) IsDueSo part y.1) x.3
     y.3 in
     let first : time_of x.0 ≡ falls o a = x.4 in
     let second : time_of y.0 ≡ falls o b = y.4 in
@@ -27,9 +28,9 @@ pub payer_due : {O : Type 0} (s : Scenario) {hs : List Happening} (until : ℕ)
 payer_due s {hs} until IsDueSo IsOwed Pays part debts founded o owed m i pays =
     let x = debts.some o owed in
     let here = due_in place_of (IsDue s) hs m founded i in
-    let there = due_by_part place_of (IsDue s) IsDueSo hs x.0 part x.1 in
+    let there = due_by_part place_of (IsDue s) IsDueSo part x.1 in
     let same = debts.one o m x.0 owed here there pays x.3 in
-    let one = one_due place_of (IsDue s) hs m x.0 (due_is_determined s) here there same in
+    let one = one_due place_of (IsDue s) (due_is_determined s) here there same in
     subst (λ t. IsDueIn place_of IsDueSo hs t) (sym one) x.1
 
 -- a record of a founded list shows its frame by those before it
@@ -48,11 +49,12 @@ pub paid_at_place : {O : Type 0} (s : Scenario) {hs : List Happening} (until : �
     → IsPaid hs Pays o ↔ HasRecordAt hs p
 paid_at_place s {hs} until IsDueSo IsOwed Pays p part debts founded o owed places =
     let x = debts.some o owed in
-    let there = due_by_part place_of (IsDue s) IsDueSo hs x.0 part x.1 in
+    let there = due_by_part place_of (IsDue s) IsDueSo part x.1 in
     let at = places x.0 x.1 x.3 in (
       λ paid. (paid.0, paid.1, debts.one o paid.0 x.0 owed (due_in place_of (IsDue s) hs paid.0 founded paid.1) there paid.2 x.3 ∙ at),
       λ has.
-          let one = one_due place_of (IsDue s) hs has.0 x.0 (due_is_determined s) (due_in place_of (IsDue s) hs has.0 founded has.1) there
+          let one = one_due place_of (IsDue s) (due_is_determined s)
+          (due_in place_of (IsDue s) hs has.0 founded has.1) there
           (has.2 ∙ sym at) in
           (has.0, has.1, subst (λ t. Pays t o) (sym one) x.3),
     )

@@ -31,18 +31,17 @@ pub by_front : (s : Scenario) {hs : List Happening} (device : DeviceId) (t cycle
     (at : IsSplit place_of hs (t ∷ 6 ∷ [])) → ComesToPoint s at.front device t cycle v
     ↔ ComesToPoint s (up_to t hs) device t cycle v
 by_front s {hs} device t cycle v at =
-    let late = late_part hs t 6 [] (omega arith) at in
-    let same = late_earlier hs t at.front late in
-    let heard = late_heard s hs device t at.front late in (
-      λ c. comes_by s at.front (up_to t hs) device t cycle v (sym same) (sym heard) c,
-      λ c. comes_by s (up_to t hs) at.front device t cycle v same heard c,
+    let late = late_part {hs = hs} t 6 [] (omega arith) at in
+    let same = late_earlier late in
+    let heard = late_heard s device late in (
+      λ c. comes_by (up_to t hs) (sym same) (sym heard) c,
+      λ c. comes_by at.front same heard c,
     )
 
 pub earlier_up_to : {hs : List Happening} (t : ℕ) (at : IsSplit place_of hs (t ∷ 6 ∷ []))
     → earlier t (up_to t hs) ≡ earlier t hs
 earlier_up_to {hs} t at =
-    let late = late_part hs t 6 [] (omega arith) at in late_earlier hs t at.front late ∙ same_earlier t
-    (6 ∷ []) {hs = hs} at
+    let late = late_part {hs = hs} t 6 [] (omega arith) at in late_earlier late ∙ same_earlier t (6 ∷ []) {hs = hs} at
 
 low_rank : (u r t : ℕ) (ks : List ℕ) → IsBefore (u ∷ r ∷ ks) (t ∷ 6 ∷ []) → u ≡ t → r < 6
 low_rank u r t ks (inl lt) same = absurd (omega (arith, lt, same))

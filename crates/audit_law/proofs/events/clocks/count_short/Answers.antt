@@ -9,7 +9,7 @@ halves-preserved-then-is_short c =
     let middle = low + (high - low) / 2 in
     let more = c.halves-test.true in
     let change = c.index-changes-middle.result in
-    halves_up c.args.goal.0 c.args.changes.now low high middle change change c.requires.rising c.halves.invariant (omega (arith, more))
+    halves_up middle change change c.requires.rising c.halves.invariant (omega (arith, more))
     c.index-changes-middle.is (c.is_short.ensures.short c.if-is_short.true)
 
 pub halves-preserved : goal.halves-preserved
@@ -19,5 +19,5 @@ halves-preserved c =
     let middle = low + (high - low) / 2 in
     let more = c.halves-test.true in
     let change = c.index-changes-middle.result in
-    halves_down c.args.goal.0 c.args.changes.now low high middle change change c.requires.rising c.halves.invariant (omega arith) (omega (arith, more))
+    halves_down middle change change c.requires.rising c.halves.invariant (omega arith) (omega (arith, more))
     c.index-changes-middle.is (c.is_short.ensures.reached c.if-is_short.false)

@@ -50,7 +50,7 @@ returns-else-count-eq0-clause-readable c =
     let first = change_to from (value_at s.initial s.changes.items from) in
     let rest = c.after-later.ensures clocks.in_order in
     let count = c.count_short-count.result in
-    let bound = subst (λ (l : List (Change Segment)). count ≤ length l) rest c.count_short-count.ensures.bound in
+    let bound = subst (λ l. count ≤ length l) rest c.count_short-count.ensures.bound in
     let change = c.index-later-count.result in
     subst IsReadable
     (sym (set_last_at first change (later_than from s.changes.items) count bound c.if-count-eq0.false
@@ -67,7 +67,7 @@ returns-else-count-eq0-clause-same c =
     let first = change_to from (value_at s.initial s.changes.items from) in
     let rest = c.after-later.ensures clocks.in_order in
     let count = c.count_short-count.result in
-    let bound = subst (λ (l : List (Change Segment)). count ≤ length l) rest c.count_short-count.ensures.bound in
+    let bound = subst (λ l. count ≤ length l) rest c.count_short-count.ensures.bound in
     let change = c.index-later-count.result in
     first_of_last s.initial s.changes.items from goal count clocks bound
     (subst (λ (l : List (Change Segment)). IsPartitionPoint (IsShortOf goal) (HasReached goal) l count) rest c.count_short-count.ensures.part) change

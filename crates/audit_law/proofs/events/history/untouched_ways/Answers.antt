@@ -14,12 +14,12 @@ loop-link-preserved c =
     let front : take (n + 1) links ≡ take n links ++ link ∷ [] =
     take_more links n link c.loop-link-test.true ∙ ap (λ (l : Link). take n links ++ l ∷ []) (sym c.link-item.is) in
     let ways = c.in_ok-push-2.ensures.items ∙ ap (λ (l : List WayHistory). l ++ c.untouched_way-in-loop-link.result ∷ []) c.in_ok-push.ensures.items in
-    subst (λ (l : List Link). AreWaysOf l c.push-in-loop-link.new.self.items) (sym front)
+    subst (λ l. AreWaysOf l c.push-in-loop-link.new.self.items) (sym front)
     (subst (AreWaysOf (take n links ++ link ∷ [])) (sym ways)
-    (two_more (take n links) c.loop-link.ways.items link c.untouched_way.result c.untouched_way-in-loop-link.result c.loop-link.invariant
+    (two_more (take n links) c.loop-link.ways.items link c.loop-link.invariant
     c.untouched_way.ensures c.untouched_way-in-loop-link.ensures))
 
 pub returns : goal.returns
 returns c =
-    subst (λ (l : List Link). AreWaysOf l c.loop-link.ways.items)
+    subst (λ l. AreWaysOf l c.loop-link.ways.items)
     (take_all c.as_slice-link-items.result.now c.loop-link.link-index c.loop-link-test.false ∙ c.as_slice-link-items.ensures) c.loop-link.invariant

@@ -55,7 +55,7 @@ returns-clause-joined c =
       cluster =
           joined-by h.counted c.push.new.self.items k h.ow c.args.reading c.args.master _ _ _ _ push latest.counted (to_z-of_z w64 k.opened fit)
           (to_z-of_z w128 c.end_with.result wide ∙ (c.end_with.ensures h.counted
-          ∙ (ap (λ (w : ℤ). joined_end w (cluster_kept h.counted k) (to_z w64 (of_z w64 c.args.reading))) window
+          ∙ (ap (λ w. joined_end w (cluster_kept h.counted k) (to_z w64 (of_z w64 c.args.reading))) window
           ∙ ap (joined_end h.ow (cluster_kept h.counted k)) (to_z-of_z w64 c.args.reading fits))))
           (ap (bit_or k.members) (shift c.args.master c.requires.master))
           (omega (arith, len, more, latest.counted));

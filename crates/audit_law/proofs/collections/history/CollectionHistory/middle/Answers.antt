@@ -10,8 +10,8 @@ returns-then-last-lt2-clause-value c =
     let is : mean_of c.offset.result c.offset-then-last-lt2.result ≡ middle_of (relative (points_kept counted k)) =
     rw (c.offset.ensures.value, c.offset-then-last-lt2.ensures.value)
     (middle_of-ends (points_kept counted k) (k.count - 1) (length-last counted k c.requires) c.if-last-lt2.true) in
-    to_z-of_z w128 c.mean.result (fits_small c.mean.result c.mean.ensures.small) ∙ (c.mean.ensures.value
-    ∙ (mean_wide c.offset.result c.offset-then-last-lt2.result c.offset.ensures.small c.offset-then-last-lt2.ensures.small ∙ is))
+    to_z-of_z w128 c.mean.result (fits_small c.mean.ensures.small) ∙ (c.mean.ensures.value
+    ∙ (mean_wide c.offset.ensures.small c.offset-then-last-lt2.ensures.small ∙ is))
 
 pub returns-else-last-lt2-clause-value : goal.returns-else-last-lt2-clause-value
 returns-else-last-lt2-clause-value c =
@@ -20,6 +20,7 @@ returns-else-last-lt2-clause-value c =
     let is : mean_of c.offset-else-last-lt2.result c.offset-else-last-lt2-2.result ≡ middle_of (relative (points_kept counted k)) =
     rw (c.offset-else-last-lt2.ensures.value, c.offset-else-last-lt2-2.ensures.value)
     (middle_of-inner (points_kept counted k) (k.count - 1) (length-last counted k c.requires) c.if-last-lt2.false) in
-    to_z-of_z w128 c.mean-else-last-lt2.result (fits_small c.mean-else-last-lt2.result c.mean-else-last-lt2.ensures.small) ∙ (c.mean-else-last-lt2.ensures.value
-    ∙ (mean_wide c.offset-else-last-lt2.result c.offset-else-last-lt2-2.result c.offset-else-last-lt2.ensures.small c.offset-else-last-lt2-2.ensures.small
+    to_z-of_z w128 c.mean-else-last-lt2.result (fits_small c.mean-else-last-lt2.ensures.small)
+    ∙ (c.mean-else-last-lt2.ensures.value
+    ∙ (mean_wide c.offset-else-last-lt2.ensures.small c.offset-else-last-lt2-2.ensures.small
     ∙ is))

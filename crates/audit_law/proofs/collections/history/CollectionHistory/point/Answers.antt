@@ -35,7 +35,7 @@ returns-in_ok-next-in-Opened-clause-gathers c =
     let has = sound c.args.self.now _ c.self.view_is c.self.invariant in
     let is : Opened ≡ role (clusters_in c.args.self.now c.args.gathering.now) p = search rules in
     let fits : FitsSigned w64 c.args.reading = search rules in
-    let opens = subst (λ (x : ℤ). Opens c.args.self.now c.open.new.self c.args.gathering.now (point_at x c.args.master c.args.cycle)
+    let opens = subst (λ x. Opens c.args.self.now c.open.new.self c.args.gathering.now (point_at x c.args.master c.args.cycle)
     c.in_ok-next-in-Opened.next)
     (to_z-of_z w64 c.args.reading fits) c.in_ok-next-in-Opened.ensures.opened in
     gathers-opened c.args.self.now c.open.new.self c.args.gathering.now c.in_ok-next-in-Opened.next p has.0 has.1 c.open.ensures.grown opens is
@@ -56,7 +56,7 @@ returns-in-Repeat-clause-gathers c =
     let has = sound c.args.self.now _ c.self.view_is c.self.invariant in
     let fits : FitsSigned w64 c.args.reading = search rules in
     let taken : c.role-taken.result ≡ role (clusters_in c.args.self.now c.args.gathering.now) p = c.role-taken.ensures
-    ∙ ap (λ (x : ℤ). role (clusters_in c.args.self.now c.args.gathering.now) (point_at x c.args.master c.args.cycle)) (to_z-of_z w64 c.args.reading fits) in
+    ∙ ap (λ x. role (clusters_in c.args.self.now c.args.gathering.now) (point_at x c.args.master c.args.cycle)) (to_z-of_z w64 c.args.reading fits) in
     let is : (role (clusters_in c.args.self.now c.args.gathering.now) p ≡ Repeat) ⊎ (role (clusters_in c.args.self.now c.args.gathering.now) p ≡ OtherCycle) =
     elim c.in-Repeat.is [ inl e ↦ inl (sym taken ∙ e) | inr e ↦ inr (sym taken ∙ e) ] in
     gathers-ignored c.args.self.now c.args.gathering.now p has.0 is

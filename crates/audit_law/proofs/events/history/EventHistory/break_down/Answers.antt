@@ -10,7 +10,7 @@ returns-in-Some c = λ network all event h may what when begun.
     let told = c.in-Some.told.now in
     let item = c.in-Some.ensures.item in
     let at : slice_get devices c.args.device.0 ≡ Some told = slice_get_read devices (length devices) c.args.device.0 told refl item.3.0 item.1 in
-    remembers_more network all event old _ h may begun refl
+    remembers_more _ h may begun refl
     (no_ways network all event (events.Break c.args.device) old.ways.items what (λ l w. refl) (λ l w. refl) (λ l w. refl) h.ways)
     (set_length devices c.args.device.0 _)
     (break_set network all event c.args.device c.args.time devices told h.devices at what when may.within)

@@ -1,5 +1,5 @@
-use Rattle.{audit_law.proofs.events_lemmas.Looking.looked_up, std.proofs.{Common.{◌≡◌, Some, false, length, refl, subst}, lemmas.Option.slice_get_read}}
-use Rattle.{run_law.specs.scenario.Ways.cut_set, std.specs.Prelude.slice_get}
+use Rattle.{audit_law.proofs.events_lemmas.Looking.looked_up, std.proofs.{Common.{◌≡◌, Some, length, refl, subst}, lemmas.Option.slice_get_read}}
+use Rattle.std.specs.Prelude.{slice_get}
 use Rattle.audit_law.proofs.events.history.EventHistory.is_cut.Goals as goal
 
 pub returns-in-Some : goal.returns-in-Some
@@ -11,4 +11,4 @@ returns-in-Some c = λ network all h has.
     let at : slice_get history.ways.items place ≡ Some told = subst (λ xs. slice_get xs place ≡ Some told) c.deref.ensures.value
     (slice_get_read c.deref.result.now (length c.deref.result.now) place told refl found.3.0 found.1) in
     let tells = h.ways c.args.link c.args.way told (subst (λ p. slice_get history.ways.items p ≡ Some told) c.way_place.ensures at) in
-    looked_up network all history (cut_set c.args.link c.args.way) false told.cut c.args.time c.at.result h tells.cut c.at.ensures
+    looked_up c.args.time c.at.result h tells.cut c.at.ensures

@@ -13,7 +13,7 @@ set_rate-requires-clause-slow c =
 pub set_rate-requires-clause-limit : goal.set_rate-requires-clause-limit
 set_rate-requires-clause-limit c =
     let at = c.requires.within in
-    let early = soon at.0 at.1 c.args.event.now at.2.range at.3.within c.requires.begun in
+    let early = soon at.1 c.args.event.now at.2.range at.3.within c.requires.begun in
     let same = c.amount-time.ensures.value in
     subst (λ n. n ≤ 2 ^ 60) (sym same) early
 
@@ -21,7 +21,7 @@ pub set_rate-requires-clause-ready : goal.set_rate-requires-clause-ready
 set_rate-requires-clause-ready c =
     let at = c.requires.within in
     subst (λ t. All (IsReadyFor t) c.args.self.now.devices.items) (sym c.amount-time.ensures.value)
-    (devices_ready at.0 at.1 c.args.self.now c.args.event.now at.2 at.3 c.requires.begun)
+    (devices_ready at.2 at.3 c.requires.begun)
 
 pub returns-in-Rate : goal.returns-in-Rate
 returns-in-Rate c = c.set_rate.ensures c.args.event.now c.in-Rate.is (sym c.amount-time.ensures.value) c.requires.begun
@@ -51,10 +51,10 @@ returns-in-Break c = λ network all h may.
 
 pub returns-in-Send : goal.returns-in-Send
 returns-in-Send c = λ network all h may.
-    nothing_set network all c.args.event.now _ c.args.self.now h may c.requires.begun c.in-Send.is (λ l w. refl) (λ l w. refl) (λ l w. refl) (λ d. refl)
+    nothing_set _ h may c.requires.begun c.in-Send.is (λ l w. refl) (λ l w. refl) (λ l w. refl) (λ d. refl)
     (λ d. refl) (λ d. refl)
 
 pub returns-in-End : goal.returns-in-End
 returns-in-End c = λ network all h may.
-    nothing_set network all c.args.event.now _ c.args.self.now h may c.requires.begun c.in-End.is (λ l w. refl) (λ l w. refl) (λ l w. refl) (λ d. refl)
+    nothing_set _ h may c.requires.begun c.in-End.is (λ l w. refl) (λ l w. refl) (λ l w. refl) (λ d. refl)
     (λ d. refl) (λ d. refl)

@@ -20,7 +20,7 @@ reach-requires-clause-clocks c =
     let at : slice_get history.devices.items place ≡ Some told = subst (λ xs. slice_get xs place ≡ Some told) c.deref.ensures.value
     (slice_get_read c.deref.result.now (length c.deref.result.now) place told refl found.3.0 found.1) in
     let some = c.requires.some in
-    told_clocks some.0 some.1 history c.args.device told some.2 (some.2.devices c.args.device told at)
+    told_clocks some.0 some.1 history c.args.device some.2 (some.2.devices c.args.device told at)
 
 pub returns-in-Some : goal.returns-in-Some
 returns-in-Some c = λ network all h has.
@@ -32,6 +32,6 @@ returns-in-Some c = λ network all h has.
     (slice_get_read c.deref.result.now (length c.deref.result.now) place told refl found.3.0 found.1) in
     reach_of_value (clocks_reading told.clock.initial told.clock.changes.items) (clock_reading network all c.args.device) c.args.from c.args.value
     c.goal_of.result.0 c.args.until c.reach.result
-    (λ x. told_reads network all history c.args.device told x h (h.devices c.args.device told at))
+    (λ x. told_reads network all history c.args.device x h (h.devices c.args.device told at))
     (subst (λ v. IsSought v c.goal_of.result.0) (to_z-of_z w128 c.args.value (search rules)) c.goal_of.ensures.same)
     c.reach.ensures

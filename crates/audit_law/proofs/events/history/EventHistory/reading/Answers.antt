@@ -11,7 +11,7 @@ reading-requires-clause-clocks c =
     let at : slice_get history.devices.items place ≡ Some told = subst (λ xs. slice_get xs place ≡ Some told) c.deref.ensures.value
     (slice_get_read c.deref.result.now (length c.deref.result.now) place told refl found.3.0 found.1) in
     let some = c.requires.some in
-    told_clocks some.0 some.1 history c.args.device told some.2 (some.2.devices c.args.device told at)
+    told_clocks some.0 some.1 history c.args.device some.2 (some.2.devices c.args.device told at)
 
 pub returns-in-Some : goal.returns-in-Some
 returns-in-Some c = λ network all h has.
@@ -21,4 +21,4 @@ returns-in-Some c = λ network all h has.
     let found = c.in-Some.ensures.lookup in
     let at : slice_get history.devices.items place ≡ Some told = subst (λ xs. slice_get xs place ≡ Some told) c.deref.ensures.value
     (slice_get_read c.deref.result.now (length c.deref.result.now) place told refl found.3.0 found.1) in
-    c.reading.ensures ∙ told_reads network all history c.args.device told c.args.time h (h.devices c.args.device told at)
+    c.reading.ensures ∙ told_reads network all history c.args.device c.args.time h (h.devices c.args.device told at)

@@ -13,13 +13,13 @@ returns-in-Some c = λ event what time begun network all h may.
     let item = c.in-Some.ensures.item in
     let at : slice_get ways place ≡ Some told = slice_get_read ways (length ways) place told refl item.3.0 item.1 in
     match_map c.set.result _ _ _ _
-    (λ x more. remembers_more network all event old _ h may begun (set_length ways place _)
+    (λ x more. remembers_more _ h may begun (set_length ways place _)
     (cut_set_to network all event c.args.link c.args.way c.args.cut place ways told c.set.new.self h.ways c.way_place.ensures at what
     c.set.ensures.initial (more ∙ ap (λ ch. told.cut.changes.items ++ ch ∷ []) (ap (λ t. change_to t c.args.cut) (sym time)))) refl
     (no_devices network all event (cut_event c.args.cut c.args.link c.args.way) old.devices.items what (λ d.
     cut_no_step c.args.cut c.args.link c.args.way d (amount event.time)) (λ d. cut_no_break c.args.cut c.args.link c.args.way d)
     (λ d. cut_no_turn c.args.cut c.args.link c.args.way d) h.devices))
-    (λ x same. remembers_same network all old _ h (set_length ways place _)
+    (λ x same. remembers_same _ h (set_length ways place _)
     (same_way network all c.args.link c.args.way place ways told _ h.ways c.way_place.ensures at refl refl refl refl c.set.ensures.initial same) refl h.devices)
     c.set.ensures.changes
 

@@ -13,11 +13,11 @@ returns-in-Some c = λ event set what value time begun network all h may.
     let item = c.in-Some.ensures.item in
     let at : slice_get ways place ≡ Some told = slice_get_read ways (length ways) place told refl item.3.0 item.1 in
     match_map c.set.result _ _ _ _
-    (λ x more. remembers_more network all event old _ h may begun (set_length ways place _)
+    (λ x more. remembers_more _ h may begun (set_length ways place _)
     (delay_set network all event c.args.link c.args.way set place ways told c.set.new.self h.ways c.way_place.ensures at what
     c.set.ensures.initial (more ∙ ap (λ ch. told.delay.changes.items ++ ch ∷ []) (ap (λ t. change_to t c.args.delay) (sym time)
     ∙ ap (change_to (amount event.time)) (sym value)))) refl
     (no_devices network all event (events.Wire c.args.link c.args.way set) old.devices.items what (λ d. refl) (λ d. refl) (λ d. refl) h.devices))
-    (λ x same. remembers_same network all old _ h (set_length ways place _)
+    (λ x same. remembers_same _ h (set_length ways place _)
     (same_way network all c.args.link c.args.way place ways told _ h.ways c.way_place.ensures at c.set.ensures.initial same refl refl refl refl) refl h.devices)
     c.set.ensures.changes

@@ -30,15 +30,15 @@ returns-in-Some c = λ event what time begun network all h may.
     let value = c.at-clock.ensures ready.clocks.in_order in
     let at_time : ℕ → Segment = λ t. stepped_segment (value_at told.clock.initial before t) t c.args.rate.0 in
     let stepped : c.rate.new.self ≡ at_time c.args.time = c.rate.ensures
-    ∙ ap (λ (k : Segment). stepped_segment k (unsigned_abs c.from_amount.result.0) c.args.rate.0) value
+    ∙ ap (λ k. stepped_segment k (unsigned_abs c.from_amount.result.0) c.args.rate.0) value
     ∙ ap (λ n. stepped_segment (value_at told.clock.initial before c.args.time) (unsigned_abs n) c.args.rate.0) c.from_amount.ensures.whole in
     match_map c.set.result _ _ _ _
-    (λ x more. remembers_more network all event old _ h may begun refl
+    (λ x more. remembers_more _ h may begun refl
     (no_ways network all event (events.Rate device c.args.rate) old.ways.items what (λ l w. refl) (λ l w. refl) (λ l w. refl) h.ways)
     (set_length devices device.0 _)
     (rate_set network all event device c.args.rate devices told c.set.new.self h.devices at what
     (subst (λ t. All (λ ch. ch.from ≤ t) before) (sym time) ready.later) c.set.ensures.initial
-    (more ∙ ap (λ (k : Segment). before ++ change_to c.args.time k ∷ []) stepped ∙ ap (λ t. before ++ change_to t (at_time t) ∷ []) (sym time))))
-    (λ x same. remembers_same network all old _ h refl h.ways (set_length devices device.0 _)
+    (more ∙ ap (λ k. before ++ change_to c.args.time k ∷ []) stepped ∙ ap (λ t. before ++ change_to t (at_time t) ∷ []) (sym time))))
+    (λ x same. remembers_same _ h refl h.ways (set_length devices device.0 _)
     (same_device network all device devices told c.set.new.self h.devices at c.set.ensures.initial same))
     c.set.ensures.changes
