@@ -39,21 +39,23 @@ alike network which link id way same =
     gated true false v w h = refl
     gated false false v w h = refl
 
-row_found : (network : Network) (entrances : Entrances) (way : Way) (e : Entrance) (o : Option EnteringRow) → AreEntrances network entrances
-    → (way ≡ Up → o ≡ get entrance_cmp entrances.up e) → (way ≡ Down → o ≡ get entrance_cmp entrances.down e)
-    → o ≡ option_map (entering_by network) (first_entering network (On way) network.row e)
-row_found network entrances Up e o are up down = up refl ∙ are.up e
-row_found network entrances Down e o are up down = down refl ∙ are.down e
+module _ (network : Network) (entrances : Entrances) where
+  row_found : (way : Way) (e : Entrance) (o : Option EnteringRow) → AreEntrances network entrances
+      → (way ≡ Up → o ≡ get entrance_cmp entrances.up e) → (way ≡ Down → o ≡ get entrance_cmp entrances.down e)
+      → o ≡ option_map (entering_by network) (first_entering network (On way) network.row e)
+  row_found Up e o are up down = up refl ∙ are.up e
+  row_found Down e o are up down = down refl ∙ are.down e
 
--- what was looked up is kept of the row by which the frame enters
-pub found_is : (network : Network) (entrances : Entrances) (device : DeviceId) (link : LinkId) (id : ℕ) (way : Way) (o : Option EnteringRow)
-    → AreEntrances network entrances → way ≡ way_to network device link → (way ≡ Up → o ≡ get entrance_cmp entrances.up (record { link = link; id = id }))
-    → (way ≡ Down → o ≡ get entrance_cmp entrances.down (record { link = link; id = id }))
-    → o ≡ option_map (entering_by network) (entry_entering network device link id)
-found_is network entrances device link id way o are is up down =
-    row_found network entrances way (record { link = link; id = id }) o are up down
-    ∙ ap (option_map (entering_by network)) (alike network (On way) link id way (λ row e. refl))
-    ∙ ap (λ (w : Way). option_map (entering_by network) (entering_on network link id w)) is
+  -- what was looked up is kept of the row by which the frame enters
+  pub found_is : (device : DeviceId) (link : LinkId) (id : ℕ) (way : Way) (o : Option EnteringRow)
+      → AreEntrances network entrances → way ≡ way_to network device link
+      → (way ≡ Up → o ≡ get entrance_cmp entrances.up (record { link = link; id = id }))
+      → (way ≡ Down → o ≡ get entrance_cmp entrances.down (record { link = link; id = id }))
+      → o ≡ option_map (entering_by network) (entry_entering network device link id)
+  found_is device link id way o are is up down =
+      row_found way (record { link = link; id = id }) o are up down
+      ∙ ap (option_map (entering_by network)) (alike network (On way) link id way (λ row e. refl))
+      ∙ ap (λ w. option_map (entering_by network) (entering_on network link id w)) is
 
 -- a row comes to the device by a link of its own on the way on which it receives
 comes_same : (parent : Bool) (l : Link) (device : DeviceId) (way : Way) → (l.parent.0 == device.0) ≡ parent → (parent ≡ false → (l.child.0 == device.0) ≡ true)
@@ -75,7 +77,7 @@ entered_at network device link id is =
     alike network (Into device) link id (way_to network device link) (λ row e.
     let same : link ≡ row.link = same_link link row.link (eqb-true link.0 row.link.0 e) in
     ap (λ (o : Option Link). option_map_or (λ x. comes_by row.way x device) o false)
-    (subst (λ (k : LinkId). link_at network k ≡ Some l.0) same l.1)
+    (subst (λ k. link_at network k ≡ Some l.0) same l.1)
     ∙ comes_same (is_parent_of network device link) l.0 device row.way
     (sym (ap (λ (o : Option Link). option_map_or (λ x. x.parent.0 == device.0) o false) l.1))
     (λ none. l.2 (sym (ap (λ (o : Option Link). option_map_or (λ x. x.parent.0 == device.0) o false) l.1) ∙ none)))
@@ -102,41 +104,44 @@ has_vl : (network : Network) (o : Option Row) (entry : Entry) → option_and_the
 has_vl network None entry e = absurd cc
 has_vl network (Some row) entry e = (row.vl.0, vl_by row (slice_get network.vl row.vl.0) (slice_get network.link row.link.0) entry e)
 
--- the row that is kept has a period
-pub has_period : (network : Network) (device : DeviceId) (link : LinkId) (id : ℕ) (row : EnteringRow) → IsInRange network
-    → option_map (entering_by network) (entry_entering network device link id) ≡ Some row → HasPeriod row
-has_period network device link id row range e =
-    let m = some_mapped network (entry_entering network device link id) row e in
-    let v = has_vl network _ m.0 m.1 in
-    subst HasPeriod (sym m.2) (in_all (IsVlInRange network) network.vl v.0 m.0.vl range.vls v.1).period_least
+module _ (network : Network) (device : DeviceId) (link : LinkId) where
+  -- the row that is kept has a period
+  pub has_period : (id : ℕ) (row : EnteringRow) → IsInRange network
+      → option_map (entering_by network) (entry_entering network device link id) ≡ Some row → HasPeriod row
+  has_period id row range e =
+      let m = some_mapped network (entry_entering network device link id) row e in
+      let v = has_vl network _ m.0 m.1 in
+      subst HasPeriod (sym m.2) (in_all (IsVlInRange network) network.vl v.0 m.0.vl range.vls v.1).period_least
 
--- ---- what becomes of the frame
+  -- ---- what becomes of the frame
 
-pub by_entry : (network : Network) (device : DeviceId) (link : LinkId) (at : Standpoint) (octets : List ℕ) (heading : Heading) (o : Option Entry)
-    (last : VlId → Option ℕ) → heading_of octets ≡ heading → heading_fault at.takes_part at.state network.marker heading ≡ None
-    → entry_entering network device link heading.id ≡ o
-    → timed_arrival network device link at octets last ≡ entry_arrival network device at (length octets) last o
-by_entry network device link at octets heading o last is none there = grind (arith, length)
+  pub by_entry : (at : Standpoint) (octets : List ℕ) (heading : Heading) (o : Option Entry) (last : VlId → Option ℕ)
+      → heading_of octets ≡ heading → heading_fault at.takes_part at.state network.marker heading ≡ None
+      → entry_entering network device link heading.id ≡ o
+      → timed_arrival network device link at octets last ≡ entry_arrival network device at (length octets) last o
+  by_entry at octets heading o last is none there = grind (arith, length)
 
--- a frame that enters by a row is judged by it
-pub entered : (network : Network) (device : DeviceId) (link : LinkId) (at : Standpoint) (octets : List ℕ) (heading : Heading) (row : EnteringRow)
-    → heading_of octets ≡ heading → heading_fault at.takes_part at.state network.marker heading ≡ None
-    → option_map (entering_by network) (entry_entering network device link heading.id) ≡ Some row → (entry : Entry) × (row ≡ entering_by network entry)
-    × ((last : VlId → Option ℕ) → timed_arrival network device link at octets last
-    ≡ taken_or_fault network device at entry (row_fault network at entry (length octets) (last row.vl)))
-entered network device link at octets heading row is none e =
-    let m = some_mapped network (entry_entering network device link heading.id) row e in (
-      m.0,
-      m.2,
-      λ last. by_entry network device link at octets heading (Some m.0) last is none m.1
-          ∙ ap (λ (r : EnteringRow). taken_or_fault network device at m.0 (row_fault network at m.0 (length octets) (last r.vl))) (sym m.2),
-    )
+  -- a frame that enters by a row is judged by it
+  pub entered : (at : Standpoint) (octets : List ℕ) (heading : Heading) (row : EnteringRow)
+      → heading_of octets ≡ heading → heading_fault at.takes_part at.state network.marker heading ≡ None
+      → option_map (entering_by network) (entry_entering network device link heading.id) ≡ Some row
+      → (entry : Entry) × (row ≡ entering_by network entry)
+      × ((last : VlId → Option ℕ) → timed_arrival network device link at octets last
+      ≡ taken_or_fault network device at entry (row_fault network at entry (length octets) (last row.vl)))
+  entered at octets heading row is none e =
+      let m = some_mapped network (entry_entering network device link heading.id) row e in (
+        m.0,
+        m.2,
+        λ last. by_entry at octets heading (Some m.0) last is none m.1
+            ∙ ap (λ (r : EnteringRow). taken_or_fault network device at m.0
+            (row_fault network at m.0 (length octets) (last r.vl))) (sym m.2),
+      )
 
--- a frame that enters by no row is unknown
-pub unknown : (network : Network) (device : DeviceId) (link : LinkId) (at : Standpoint) (octets : List ℕ) (heading : Heading)
-    → heading_of octets ≡ heading → heading_fault at.takes_part at.state network.marker heading ≡ None
-    → option_map (entering_by network) (entry_entering network device link heading.id) ≡ None
-    → (last : VlId → Option ℕ) → timed_arrival network device link at octets last ≡ arrivals.Dropped reasons.Unknown
-unknown network device link at octets heading is none e last =
-    by_entry network device link at octets heading None last is none
-    (none_mapped network (entry_entering network device link heading.id) e)
+  -- a frame that enters by no row is unknown
+  pub unknown : (at : Standpoint) (octets : List ℕ) (heading : Heading) → heading_of octets ≡ heading
+      → heading_fault at.takes_part at.state network.marker heading ≡ None
+      → option_map (entering_by network) (entry_entering network device link heading.id) ≡ None
+      → (last : VlId → Option ℕ) → timed_arrival network device link at octets last ≡ arrivals.Dropped reasons.Unknown
+  unknown at octets heading is none e last =
+      by_entry at octets heading None last is none
+      (none_mapped network (entry_entering network device link heading.id) e)

@@ -19,12 +19,12 @@ earlier_kind : (network : Network) (task other : Task) → order_of_kind (kind_o
 earlier_kind network task other lt =
     let a = order_from network other in
     let b = order_from network task in
-    subst (λ (p : List ℕ). IsBefore p (order_of network task)) (sym a.1)
-    (subst (λ (p : List ℕ). IsBefore (order_of_kind (kind_of other) ∷ a.0) p) (sym b.1) (inl lt))
+    subst (λ p. IsBefore p (order_of network task)) (sym a.1)
+    (subst (λ p. IsBefore (order_of_kind (kind_of other) ∷ a.0) p) (sym b.1) (inl lt))
 
-pub first_kind_of : (network : Network) (device : DeviceId) (node : Node) (reading : ℤ) (task : Task) → IsFirstTask network device node reading task
-    → IsFirstKind network device node reading (kind_of task)
-first_kind_of network device node reading task is = record {
+pub first_kind_of : {network : Network} {device : DeviceId} {node : Node} {reading : ℤ} {task : Task}
+    → IsFirstTask network device node reading task → IsFirstKind network device node reading (kind_of task)
+first_kind_of {network} {task} is = record {
   task = task;
   pending = is.pending;
   due = is.due;

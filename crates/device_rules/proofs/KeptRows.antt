@@ -24,9 +24,9 @@ entrance_is : (network : Network) (which : Which) (place : ℕ) (entry : Entry) 
     → enters network which e entry.row ≡ true → (e ≡ entrance_of entry) × (is_of network which entry.row ≡ true)
 entrance_is network which place entry e is t = grind (arith, and_parts, same_link, eqb-true, id_by)
 
-enters_own : (network : Network) (which : Which) (place : ℕ) (entry : Entry) → IsEntry network place entry → is_of network which entry.row ≡ true
-    → enters network which (entrance_of entry) entry.row ≡ true
-enters_own network which place entry is comes =
+enters_own : {network : Network} (which : Which) {place : ℕ} {entry : Entry} → IsEntry network place entry
+    → is_of network which entry.row ≡ true → enters network which (entrance_of entry) entry.row ≡ true
+enters_own {network} which {entry} is comes =
     rw comes (rw (eqb_same entry.row.link.0) (id_by (slice_get network.vl entry.row.vl.0) entry.vl entry.vl.id is.vl ∙ eqb_same entry.vl.id))
 
 same_entrance : (a b : Entrance) → is_eq (entrance_cmp a b) ≡ true → a ≡ b
@@ -43,58 +43,64 @@ no_kept : (network : Network) (o : Option Entry) → IsSome o → option_map (en
 no_kept network None some e = absurd cc
 no_kept network (Some x) some e = cc
 
--- where no row is kept for an entrance, none was found
-none_found : (network : Network) (which : Which) (rows : List Row) (e : Entrance) → HaveEntries network rows
-    → option_map (entering_by network) (first_entering network which rows e) ≡ None → find (enters network which e) rows ≡ None
-none_found network which rows e have none = ⊎_elim
-    (λ (s : (y : Row) × (find (enters network which e) rows ≡ Some y)).
-    let some = find_of (λ row. IsSome (entry_of network row)) (enters network which e) rows s.0 have s.1 in
-    absurd (no_kept network (entry_of network s.0) some
-    (subst (λ (o : Option Row). option_map (entering_by network) (option_and_then (entry_of network) o) ≡ None) s.1 none)))
-    (λ (n : find (enters network which e) rows ≡ None). n)
-    (some_or_none (find (enters network which e) rows))
+module _ (network : Network) (which : Which) (rows : List Row) where
+  -- where no row is kept for an entrance, none was found
+  none_found : (e : Entrance) → HaveEntries network rows
+      → option_map (entering_by network) (first_entering network which rows e) ≡ None
+      → find (enters network which e) rows ≡ None
+  none_found e have none = ⊎_elim
+      (λ (s : (y : Row) × (find (enters network which e) rows ≡ Some y)).
+      let some = find_of (λ row. IsSome (entry_of network row)) (enters network which e) rows s.0 have s.1 in
+      absurd (no_kept network (entry_of network s.0) some
+      (subst (λ (o : Option Row). option_map (entering_by network) (option_and_then (entry_of network) o) ≡ None) s.1
+      none)))
+      (λ (n : find (enters network which e) rows ≡ None). n)
+      (some_or_none (find (enters network which e) rows))
 
--- ---- one row more
+  -- ---- one row more
 
--- a row that is not kept: it is none of these, or an earlier one stands for its entrance
-pub row_skipped : (network : Network) (which : Which) (rows : List Row) (place : ℕ) (entry : Entry) (kept : BTreeMap Entrance EnteringRow)
-    → IsEntry network place entry → HaveEntries network rows → AreRows network which rows kept
-    → (is_of network which entry.row ≡ true → IsSome (get entrance_cmp kept (entrance_of entry))) → AreRows network which (rows ++ entry.row ∷ [])
-    kept
-row_skipped network which rows place entry kept is have are stands e =
-    are e ∙ ap (λ (o : Option Row). option_map (entering_by network) (option_and_then (entry_of network) o))
-    (sym (find_skips (enters network which e) rows entry.row (λ t none.
-    let own = entrance_is network which place entry e is t in
-    let absent : get entrance_cmp kept e ≡ None = are e ∙ ap (λ (o : Option Row). option_map (entering_by network) (option_and_then (entry_of network) o)) none
-    in
-    no_entry (get entrance_cmp kept e) (subst (λ (x : Entrance). IsSome (get entrance_cmp kept x)) (sym own.0) (stands own.1)) absent)))
+  -- a row that is not kept: it is none of these, or an earlier one stands for its entrance
+  pub row_skipped : {place : ℕ} {entry : Entry} (kept : BTreeMap Entrance EnteringRow) → IsEntry network place entry
+      → HaveEntries network rows → AreRows network which rows kept
+      → (is_of network which entry.row ≡ true → IsSome (get entrance_cmp kept (entrance_of entry)))
+      → AreRows network which (rows ++ entry.row ∷ []) kept
+  row_skipped {place} {entry} kept is have are stands e =
+      are e ∙ ap (λ (o : Option Row). option_map (entering_by network) (option_and_then (entry_of network) o))
+      (sym (find_skips (enters network which e) rows entry.row (λ t none.
+      let own = entrance_is network which place entry e is t in
+      let absent : get entrance_cmp kept e ≡ None =
+      are e ∙ ap (λ (o : Option Row). option_map (entering_by network) (option_and_then (entry_of network) o)) none
+      in
+      no_entry (get entrance_cmp kept e) (subst (λ (x : Entrance). IsSome (get entrance_cmp kept x)) (sym own.0)
+      (stands own.1)) absent)))
 
--- a row that is kept, the first for its entrance
-pub row_kept : (network : Network) (which : Which) (rows : List Row) (place : ℕ) (entry : Entry) (old new : BTreeMap Entrance EnteringRow)
-    → IsEntry network place entry → HaveEntries network rows → AreRows network which rows old
-    → is_of network which entry.row ≡ true → get entrance_cmp old (entrance_of entry) ≡ None → Updates entrance_cmp old new (entrance_of entry)
-    (Some (entering_by network entry)) → AreRows network which (rows ++ entry.row ∷ []) new
-row_kept network which rows place entry old new is have are comes absent up e = ⊎_elim
-    (λ (y : is_eq (entrance_cmp (entrance_of entry) e) ≡ true).
-    let same = same_entrance (entrance_of entry) e y in
-    up.0 e ∙ ap (λ (b : Bool). cond b (Some (entering_by network entry)) (get entrance_cmp old e)) y
-    ∙ subst (λ (x : Entrance). Some (entering_by network entry) ≡ option_map (entering_by network) (first_entering network which (rows ++ entry.row ∷ []) x))
-    same
-    (sym (ap (λ (o : Option Row). option_map (entering_by network) (option_and_then (entry_of network) o))
-    (find_new (enters network which (entrance_of entry)) rows entry.row (enters_own network which place entry is comes)
-    (none_found network which rows (entrance_of entry) have (sym (are (entrance_of entry)) ∙ absent)))
-    ∙ ap (option_map (entering_by network)) (entry_at is))))
-    (λ (n : is_eq (entrance_cmp (entrance_of entry) e) ≡ false).
-    up.0 e ∙ ap (λ (b : Bool). cond b (Some (entering_by network entry)) (get entrance_cmp old e)) n
-    ∙ are e ∙ ap (λ (o : Option Row). option_map (entering_by network) (option_and_then (entry_of network) o))
-    (sym (find_skips (enters network which e) rows entry.row (λ t none.
-    let own = entrance_is network which place entry e is t in
-    false≢true (sym n ∙ subst (λ (x : Entrance). is_eq (entrance_cmp x e) ≡ true) own.0 (cmp_itself e))))))
-    (cases_Bool (is_eq (entrance_cmp (entrance_of entry) e)))
+  -- a row that is kept, the first for its entrance
+  pub row_kept : {place : ℕ} {entry : Entry} (old new : BTreeMap Entrance EnteringRow) → IsEntry network place entry
+      → HaveEntries network rows → AreRows network which rows old → is_of network which entry.row ≡ true
+      → get entrance_cmp old (entrance_of entry) ≡ None → Updates entrance_cmp old new (entrance_of entry)
+      (Some (entering_by network entry)) → AreRows network which (rows ++ entry.row ∷ []) new
+  row_kept {place} {entry} old new is have are comes absent up e = ⊎_elim
+      (λ (y : is_eq (entrance_cmp (entrance_of entry) e) ≡ true).
+      let same = same_entrance (entrance_of entry) e y in
+      up.0 e ∙ ap (λ (b : Bool). cond b (Some (entering_by network entry)) (get entrance_cmp old e)) y
+      ∙ subst (λ x. Some (entering_by network entry) ≡ option_map (entering_by network)
+      (first_entering network which (rows ++ entry.row ∷ []) x))
+      same
+      (sym (ap (λ (o : Option Row). option_map (entering_by network) (option_and_then (entry_of network) o))
+      (find_new (enters network which (entrance_of entry)) rows entry.row (enters_own which is comes)
+      (none_found (entrance_of entry) have (sym (are (entrance_of entry)) ∙ absent)))
+      ∙ ap (option_map (entering_by network)) (entry_at is))))
+      (λ (n : is_eq (entrance_cmp (entrance_of entry) e) ≡ false).
+      up.0 e ∙ ap (λ (b : Bool). cond b (Some (entering_by network entry)) (get entrance_cmp old e)) n
+      ∙ are e ∙ ap (λ (o : Option Row). option_map (entering_by network) (option_and_then (entry_of network) o))
+      (sym (find_skips (enters network which e) rows entry.row (λ t none.
+      let own = entrance_is network which place entry e is t in
+      false≢true (sym n ∙ subst (λ x. is_eq (entrance_cmp x e) ≡ true) own.0 (cmp_itself e))))))
+      (cases_Bool (is_eq (entrance_cmp (entrance_of entry) e)))
 
 -- ---- rows in range
 
 -- each front of the rows has entries
-pub have_entries : (network : Network) (n : ℕ) → IsInRange network → HaveEntries network (take n network.row)
-have_entries network n range =
+pub have_entries : {network : Network} (n : ℕ) → IsInRange network → HaveEntries network (take n network.row)
+have_entries {network} n range =
     All-take (λ row. IsSome (entry_of network row)) n network.row (λ i d lt. has_entry (range.rows i d lt))

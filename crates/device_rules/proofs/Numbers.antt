@@ -7,9 +7,10 @@ by_parts : (n r e : ℕ) (z : ℤ) → z ≡ pos r → ((pos n *ℤ z) +ℤ pos 
 by_parts n r e z h = rw h refl
 
 -- when the frame of a cycle is expected, as a natural number
-pub expected_is : (network : Network) (device : DeviceId) (n : ℕ) → IsInRange network
+pub expected_is : {network : Network} (device : DeviceId) (n : ℕ) → IsInRange network
     → expected_at (plan_of network device) n ≡ pos (n * amount network.cycle + expected_by network device)
-expected_is network device n range = by_parts n (amount network.cycle) (expected_by network device) network.cycle.0 (its_amount _ _ network.cycle range.cycle)
+expected_is {network} device n range = by_parts n (amount network.cycle) (expected_by network device) network.cycle.0
+    (its_amount _ _ network.cycle range.cycle)
 
-pub fits_far : (z : ℤ) → IsFar z → FitsSigned w128 z
-fits_far z far = let least = far.least in let most = far.most in grind (arith, ints, least, most)
+pub fits_far : {z : ℤ} → IsFar z → FitsSigned w128 z
+fits_far far = let least = far.least in let most = far.most in grind (arith, ints, least, most)

@@ -20,24 +20,26 @@ regrouped false b c = refl
 abbrev other_end : Network → DeviceId → Members → Bool
 other_end network device members = is_end network device && are_others (member_of network device) members
 
-other_by : (network : Network) (device : DeviceId) (link : LinkId) (members : Members) (l : Link) → link_at network link ≡ Some l
-    → is_of_other_member network device link members ≡ ((l.parent.0 == device.0) && other_end network l.child members)
-other_by network device link members l e = rw e (regrouped (l.parent.0 == device.0) (is_end network l.child) (are_others (member_of network l.child) members))
+module _ (network : Network) (device : DeviceId) (link : LinkId) (members : Members) where
+  other_by : (l : Link) → link_at network link ≡ Some l → is_of_other_member network device link members ≡
+      ((l.parent.0 == device.0) && other_end network l.child members)
+  other_by l e = rw e (regrouped (l.parent.0 == device.0) (is_end network l.child)
+      (are_others (member_of network l.child) members))
 
--- the device is the link's parent
-pub other_below : (network : Network) (device : DeviceId) (link : LinkId) (members : Members) (l : Link) (is : Bool) → link_at network link ≡ Some l
-    → l.parent.0 ≡ device.0 → is ≡ other_end network l.child members → is ≡ is_of_other_member network device link members
-other_below network device link members l is e h at =
-    at ∙ sym (other_by network device link members l e ∙ ap (λ (b : Bool). b && other_end network l.child members) (equal l.parent.0 device.0 h))
+  -- the device is the link's parent
+  pub other_below : (l : Link) (is : Bool) → link_at network link ≡ Some l → l.parent.0 ≡ device.0
+      → is ≡ other_end network l.child members → is ≡ is_of_other_member network device link members
+  other_below l is e h at =
+      at ∙ sym (other_by l e ∙ ap (λ (b : Bool). b && other_end network l.child members) (equal l.parent.0 device.0 h))
 
--- it is not
-pub none_below : (network : Network) (device : DeviceId) (link : LinkId) (members : Members) (l : Link) → link_at network link ≡ Some l
-    → (l.parent.0 ≡ device.0 → ⊥) → (l.parent.0 == device.0) ≡ is_of_other_member network device link members
-none_below network device link members l e h =
-    unequal l.parent.0 device.0 h
-    ∙ sym (other_by network device link members l e ∙ ap (λ (b : Bool). b && other_end network l.child members) (unequal l.parent.0 device.0 h))
+  -- it is not
+  pub none_below : (l : Link) → link_at network link ≡ Some l → (l.parent.0 ≡ device.0 → ⊥)
+      → (l.parent.0 == device.0) ≡ is_of_other_member network device link members
+  none_below l e h =
+      unequal l.parent.0 device.0 h
+      ∙ sym (other_by l e ∙ ap (λ (b : Bool). b && other_end network l.child members) (unequal l.parent.0 device.0 h))
 
--- there is no such link
-pub no_link : (network : Network) (device : DeviceId) (link : LinkId) (members : Members) (xs : List Link) → xs ≡ network.link
-    → length xs ≤ link.0 → false ≡ is_of_other_member network device link members
-no_link network device link members xs e past = rw (slice_get_past network.link link.0 (rw (sym e) past)) refl
+  -- there is no such link
+  pub no_link : (xs : List Link) → xs ≡ network.link → length xs ≤ link.0
+      → false ≡ is_of_other_member network device link members
+  no_link xs e past = rw (slice_get_past network.link link.0 (rw (sym e) past)) refl

@@ -22,37 +22,39 @@ use Rattle.run_law.specs.declared.steps.Arrival.TheVariants as arrivals
 abbrev IsFine : ℕ → EnteringRow → Type 0
 IsFine count row = (1 ≤ row.period) × (row.vl.0 < count)
 
-entry_fine : (network : Network) (row : Row) → IsInRange network → IsRowInRange network row → IfSome (option_map (entering_by network) (entry_of network row))
-    (IsFine (length network.vl))
-entry_fine network row range r =
+entry_fine : {network : Network} {row : Row} → IsInRange network → IsRowInRange network row
+    → IfSome (option_map (entering_by network) (entry_of network row)) (IsFine (length network.vl))
+entry_fine {network} {row} range r =
     let vl = some_at network.vl row.vl.0 r.vl in
     let link = some_at network.link row.link.0 r.link in
     let fine = in_all (IsVlInRange network) network.vl row.vl.0 vl.0 range.vls vl.1 in
     rw vl.1 (rw link.1 (fine.period_least, r.vl))
 
-found_fine : (network : Network) (o : Option Row) → IsInRange network → ((row : Row) → o ≡ Some row → IsRowInRange network row)
+found_fine : {network : Network} (o : Option Row) → IsInRange network
+    → ((row : Row) → o ≡ Some row → IsRowInRange network row)
     → IfSome (option_map (entering_by network) (option_and_then (entry_of network) o)) (IsFine (length network.vl))
-found_fine network None range each = tt
-found_fine network (Some row) range each = entry_fine network row range (each row refl)
+found_fine None range each = tt
+found_fine (Some row) range each = entry_fine range (each row refl)
 
--- each row that frames enter by can be judged
-pub is_whole : (network : Network) (device : DeviceId) (intake : Intake) (taken : List TakenFrame) → IsInRange network
-    → HasTaken network device intake taken → IsWhole intake
-is_whole network device intake taken range has link id =
-    let entrance = made link id in
-    subst (λ (o : Option EnteringRow). IfSome o (IsFine (length intake.taken.items))) (sym (has.rows entrance))
-    (subst (λ (n : ℕ). IfSome (option_map (entering_by network) (first_entering network (Into device) network.row entrance)) (IsFine n)) (sym has.count)
-    (found_fine network (find (enters network (Into device) entrance) network.row) range
-    (λ row e. find_of (IsRowInRange network) (enters network (Into device) entrance) network.row row range.rows e)))
+module _ (network : Network) (device : DeviceId) (intake : Intake) (taken : List TakenFrame) where
+  -- each row that frames enter by can be judged
+  pub is_whole : IsInRange network → HasTaken network device intake taken → IsWhole intake
+  is_whole range has link id =
+      let entrance = made link id in
+      subst (λ (o : Option EnteringRow). IfSome o (IsFine (length intake.taken.items))) (sym (has.rows entrance))
+      (subst (λ n. IfSome (option_map (entering_by network)
+      (first_entering network (Into device) network.row entrance)) (IsFine n)) (sym has.count)
+      (found_fine (find (enters network (Into device) entrance) network.row) range
+      (λ row e. find_of (IsRowInRange network) (enters network (Into device) entrance) network.row row range.rows e)))
 
--- ---- how a frame is judged
+  -- ---- how a frame is judged
 
--- the row that was looked up is that by which the frame enters
-pub found_at : (network : Network) (device : DeviceId) (intake : Intake) (taken : List TakenFrame) (link : LinkId) (id : ℕ) (o : Option EnteringRow)
-    → HasTaken network device intake taken → IsLinkAt network device link → o ≡ get entrance_cmp intake.rows (made link id)
-    → option_map (entering_by network) (entry_entering network device link id) ≡ o
-found_at network device intake taken link id o has at is =
-    sym (is ∙ has.rows (made link id) ∙ ap (option_map (entering_by network)) (entered_at network device link id at))
+  -- the row that was looked up is that by which the frame enters
+  pub found_at : (link : LinkId) (id : ℕ) (o : Option EnteringRow) → HasTaken network device intake taken
+      → IsLinkAt network device link → o ≡ get entrance_cmp intake.rows (made link id)
+      → option_map (entering_by network) (entry_entering network device link id) ≡ o
+  found_at link id o has at is =
+      sym (is ∙ has.rows (made link id) ∙ ap (option_map (entering_by network)) (entered_at network device link id at))
 
 -- there is none
 pub none_there : (network : Network) (device : DeviceId) (link : LinkId) (heading : Heading) (at : Standpoint) (taken : List TakenFrame)
@@ -64,7 +66,7 @@ none_there network device link heading at taken none =
 -- the cycle of the device's local value, and its place in it
 pub cycle_same : (network : Network) (at : Standpoint) (local length : Units) → length ≡ network.cycle → local.0 ≡ clock_of at
     → cycle_of local.0 length.0 ≡ cycle_at network (clock_of at)
-cycle_same network at local length l c = ap (λ (u : Units). cycle_of local.0 u.0) l ∙ ap (λ (z : ℤ). cycle_of z network.cycle.0) c
+cycle_same network at local length l c = ap (λ (u : Units). cycle_of local.0 u.0) l ∙ ap (λ z. cycle_of z network.cycle.0) c
 
 pub place_same : (network : Network) (at : Standpoint) (local length : Units) → length ≡ network.cycle → local.0 ≡ clock_of at
     → int_rem_euclid local.0 length.0 ≡ offset_in_cycle network (clock_of at)
@@ -90,31 +92,35 @@ judged network device link heading at taken row cycle place last fault found cyc
     let m = some_mapped network (entry_entering network device link heading.id) row found in
     let entry = m.0 in
     let same : fault ≡ row_fault network at entry heading.length (last_by taken entry.row.vl) = is ∙ ap (fault_of row heading.length cycle place) last_is
-    ∙ ap (λ (n : ℕ). fault_of row heading.length n place (last_by taken row.vl)) cycle_is
-    ∙ ap (λ (z : ℤ). fault_of row heading.length (cycle_at network (clock_of at)) z (last_by taken row.vl)) place_is
+    ∙ ap (λ n. fault_of row heading.length n place (last_by taken row.vl)) cycle_is
+    ∙ ap (λ z. fault_of row heading.length (cycle_at network (clock_of at)) z (last_by taken row.vl)) place_is
     ∙ ap (λ (r : EnteringRow). fault_of r heading.length (cycle_at network (clock_of at)) (offset_in_cycle network (clock_of at)) (last_by taken r.vl)) m.2 in
     ap (entry_arrival network device at heading.length (last_by taken)) m.1
     ∙ ap (taken_or_fault network device at entry) (sym same)
     ∙ by_fault network device at entry fault
     ∙ ap (λ (r : EnteringRow). arrival_by network device r.vl (cycle_at network (clock_of at)) fault) (sym m.2)
-    ∙ ap (λ (n : ℕ). arrival_by network device row.vl n fault) (sym cycle_is)
+    ∙ ap (λ n. arrival_by network device row.vl n fault) (sym cycle_is)
 
 -- ---- octets by their heading
 
--- octets without a fault of their heading are judged by the row by which they enter
-pub heard_by : (network : Network) (device : DeviceId) (link : LinkId) (at : Standpoint) (octets : List ℕ) (heading : Heading) (taken : List TakenFrame)
-    → heading ≡ heading_of octets → heading_fault at.takes_part at.state network.marker heading ≡ None
-    → timed_arrival network device link at octets (last_by taken) ≡ row_arrival network device link heading at taken
-heard_by network device link at octets heading taken is none =
-    by_entry network device link at octets heading (entry_entering network device link heading.id) (last_by taken) (sym is) none refl
-    ∙ ap (λ (h : Heading). entry_arrival network device at h.length (last_by taken) (entry_entering network device link heading.id)) (sym is)
+module _ (network : Network) (device : DeviceId) (link : LinkId) (at : Standpoint) (octets : List ℕ)
+    (heading : Heading) (taken : List TakenFrame) where
+  -- octets without a fault of their heading are judged by the row by which they enter
+  pub heard_by : heading ≡ heading_of octets → heading_fault at.takes_part at.state network.marker heading ≡ None
+      → timed_arrival network device link at octets (last_by taken) ≡ row_arrival network device link heading at taken
+  heard_by is none =
+      by_entry network device link at octets heading (entry_entering network device link heading.id) (last_by taken)
+      (sym is) none refl
+      ∙ ap (λ (h : Heading). entry_arrival network device at h.length (last_by taken)
+      (entry_entering network device link heading.id)) (sym is)
 
--- and others are dropped
-pub dropped_by : (network : Network) (device : DeviceId) (link : LinkId) (at : Standpoint) (octets : List ℕ) (heading : Heading) (taken : List TakenFrame)
-    (reason : Reason) → heading ≡ heading_of octets → heading_fault at.takes_part at.state network.marker heading ≡ Some reason
-    → timed_arrival network device link at octets (last_by taken) ≡ arrivals.Dropped reason
-dropped_by network device link at octets heading taken reason is some =
-    ap (octets_or_fault network device link at octets (last_by taken)) (ap (heading_fault at.takes_part at.state network.marker) (sym is) ∙ some)
+  -- and others are dropped
+  pub dropped_by : (reason : Reason) → heading ≡ heading_of octets
+      → heading_fault at.takes_part at.state network.marker heading ≡ Some reason
+      → timed_arrival network device link at octets (last_by taken) ≡ arrivals.Dropped reason
+  dropped_by reason is some =
+      ap (octets_or_fault network device link at octets (last_by taken))
+      (ap (heading_fault at.takes_part at.state network.marker) (sym is) ∙ some)
 
 -- ---- what was taken
 
@@ -132,15 +138,16 @@ not_same : (a b : ℕ) → (a == b) ≡ false → b ≡ a → ⊥
 not_same a b e h = grind (arith, e, h)
 
 -- one frame more
-pub has_taken : (network : Network) (device : DeviceId) (old new : Intake) (taken : List TakenFrame) (vl : VlId) (cycle : ℕ) (t : TakenFrame)
-    → HasTaken network device old taken → Takes old vl cycle new → t.vl ≡ vl → t.cycle ≡ cycle → HasTaken network device new (taken ++ t ∷ [])
-has_taken network device old new taken vl cycle t has takes vl_is cycle_is =
+pub has_taken : {network : Network} {device : DeviceId} {old new : Intake} {taken : List TakenFrame} {vl : VlId}
+    {cycle : ℕ} (t : TakenFrame) → HasTaken network device old taken → Takes old vl cycle new → t.vl ≡ vl
+    → t.cycle ≡ cycle → HasTaken network device new (taken ++ t ∷ [])
+has_taken {old} {new} {taken} t has takes vl_is cycle_is =
     let kept : Takes old t.vl t.cycle new = rw (vl_is, cycle_is) takes in
     record {
       rows = λ entrance. ap (λ rows. get entrance_cmp rows entrance) kept.rows ∙ has.rows entrance;
       count = kept.count ∙ has.count;
       last = λ v. ⊎_elim
-          (λ (y : (t.vl.0 == v.0) ≡ true). subst (λ (x : VlId). last_in new.taken.items x ≡ Some t.cycle) (same_vl t.vl v (eqb-true t.vl.0 v.0 y)) kept.taken
+          (λ (y : (t.vl.0 == v.0) ≡ true). subst (λ x. last_in new.taken.items x ≡ Some t.cycle) (same_vl t.vl v (eqb-true t.vl.0 v.0 y)) kept.taken
           ∙ sym (by_pushed taken t v true y))
           (λ (n : (t.vl.0 == v.0) ≡ false). kept.others v (not_same t.vl.0 v.0 n) ∙ has.last v ∙ sym (by_pushed taken t v false n))
           (cases_Bool (t.vl.0 == v.0));
@@ -158,9 +165,9 @@ none_at (x ∷ xs) (suc n) all = none_at xs n (All-tail (λ o. o ≡ None) x xs 
 -- none was taken at first
 pub none_last : (xs : List (Option ℕ)) (vls : List VirtualLink) → xs ≡ map (λ vl. None) vls → (vl : VlId) → last_in xs vl ≡ None
 none_last xs vls none vl =
-    ap (λ (ys : List (Option ℕ)). last_in ys vl) none
+    ap (λ ys. last_in ys vl) none
     ∙ none_at (map (λ vl. None) vls) vl.0 (All-map (λ (o : Option ℕ). o ≡ None) (λ (x : VirtualLink). None) vls (λ i d lt. refl))
 
 -- there is one for each virtual link
 pub none_count : (xs : List (Option ℕ)) (vls : List VirtualLink) → xs ≡ map (λ vl. None) vls → length xs ≡ length vls
-none_count xs vls none = ap (λ (ys : List (Option ℕ)). length ys) none ∙ length-map vls _
+none_count xs vls none = ap (λ ys. length ys) none ∙ length-map vls _

@@ -60,11 +60,11 @@ some_qualifies s heard by e = ⊎_elim
 -- the correction by whole numbers is that by the deviations of the channels
 pub corrects : (s : Standing) (heard : Summary) (by a b : Option ℤ) → in_units by ≡ correction_of (in_units a) (in_units b)
     → in_units a ≡ deviation_on s heard A → in_units b ≡ deviation_on s heard B → in_units by ≡ correction_of (deviation_on s heard A) (deviation_on s heard B)
-corrects s heard by a b e ea eb = e ∙ ap (λ (o : Option Units). correction_of o (in_units b)) ea ∙ ap (correction_of (deviation_on s heard A)) eb
+corrects s heard by a b e ea eb = e ∙ ap (λ o. correction_of o (in_units b)) ea ∙ ap (correction_of (deviation_on s heard A)) eb
 
 -- what a best frame shows that qualifies
 pub shown : (s : Standing) (heard : Summary) (channel : Channel) (frame : HeardFrame) → best_on channel heard ≡ Some frame
     → Qualifies s.plan.threshold (best_on channel heard) → Some (deviation_by s frame) ≡ deviation_on s heard channel
 shown s heard channel frame is =
-    subst (λ (best : Option HeardFrame). Qualifies s.plan.threshold best → Some (deviation_by s frame) ≡ shown_by s best) (sym is)
+    subst (λ best. Qualifies s.plan.threshold best → Some (deviation_by s frame) ≡ shown_by s best) (sym is)
     (λ enough. ap (λ (b : Bool). if b then Some (deviation_by s frame) else None) (sym (le-leb s.plan.threshold (count_of frame.members) enough)))

@@ -110,12 +110,12 @@ kind_by (acts.Dispatch row cycle) = Dispatch
 
 act_kind : (network : Network) (device : DeviceId) (node : Node) (moment : Moment) (act : Act) (new : Node) → IsActOf network device node moment act new
     → IsFirstKind network device node moment.reading.0 (kind_by act)
-act_kind network device node moment (acts.Send frame) new is = first_kind_of network device node moment.reading.0 (doing (sending is.0)) is.1
-act_kind network device node moment (acts.Emit sent heard) new is = first_kind_of network device node moment.reading.0 (emitting sent) is.0
+act_kind network device node moment (acts.Send frame) new is = first_kind_of is.1
+act_kind network device node moment (acts.Emit sent heard) new is = first_kind_of is.0
 act_kind network device node moment (acts.Correct cycle verdict) new is =
-    first_kind_of network device node moment.reading.0 (doing (correcting cycle)) is.0
+    first_kind_of is.0
 act_kind network device node moment (acts.Dispatch row cycle) new is =
-    first_kind_of network device node moment.reading.0 (doing (dispatching row cycle)) is.0
+    first_kind_of is.0
 
 place_by : (now : ℕ) (device : DeviceId) (act : Act) → place_of_act now device act ≡ part_place (part_of (kind_by act)) now device
 place_by now device (acts.Send frame) = refl

@@ -13,11 +13,11 @@ module _ (network : Network) (device : DeviceId) (own : Own) (node : Node) (agen
     (sound : node.broken ≡ false) (a : IsAgenda network device node.standing node.changed node.done agenda) where
   pub sends_first : (next : Appointment) → IsFirstDue agenda reading (Some (dues.Sending next)) → IsFirstKind network device node reading Sending
   sends_first next due =
-      first_kind_of network device node reading (doing (sending next.cycle)) (first_is_sending network device own node reading next is sound a due)
+      first_kind_of (first_is_sending network device own node reading next is sound a due)
 
   pub corrects_first : (next : Appointment) → IsFirstDue agenda reading (Some (dues.Correction next)) → IsFirstKind network device node reading Correction
   corrects_first next due =
-      first_kind_of network device node reading (doing (correcting next.cycle))
+      first_kind_of
       (first_is_correction network device own node agenda reading next is sound a due)
 
   -- where neither a sending nor a correction is due, all that is due are dispatches

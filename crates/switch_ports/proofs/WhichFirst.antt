@@ -30,7 +30,7 @@ module _ (s : Switch) (network : Network) (device : DeviceId) (node : Node) (rea
   corrects_first o none reached =
       let due = some_due s.corrects_at reading reached in
       let next = its_next s network device node due.0 st due.1 in
-      first_kind_of network device node reading (doing (correcting next.0))
+      first_kind_of
       (first_correction s network device node next.0 due.0 st none due.1 (ap next_point st.standing ∙ next.1) due.2)
 
   dispatch_kind : (task : Task) → IsDispatch s network node task → kind_of task ≡ Dispatches

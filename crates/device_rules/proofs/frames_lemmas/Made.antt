@@ -14,9 +14,9 @@ head_length : (network : Network) (vl : VirtualLink) (cycle : ℕ) → length (h
 head_length network vl cycle = grind (arith, length-append)
 
 -- the first octets of a longer frame are the frame
-pub front_made : (network : Network) (vl : VirtualLink) (cycle : ℕ) → IsVlInRange network vl
+pub front_made : {network : Network} {vl : VirtualLink} (cycle : ℕ) → IsVlInRange network vl
     → take vl.length (padded 1514 (head_of network vl cycle)) ≡ tt_frame_by network vl cycle
-front_made network vl cycle range =
+front_made {network} {vl} cycle range =
     let head = head_of network vl cycle in
     let long = head_length network vl cycle in
     let least = range.length_least in
@@ -26,12 +26,12 @@ front_made network vl cycle range =
     ∙ take-append-add head (replicate (1514 - length head) 0) (vl.length - length head)
     ∙ ap (λ (l : List ℕ). head ++ l) (take-replicate (vl.length - length head) (1514 - length head) 0 (omega (arith, most)))
 
-pub made_found : (network : Network) (vl : VlId) (cycle : ℕ) (found : VirtualLink) (octets head : List ℕ)
+pub made_found : {network : Network} (vl : VlId) (cycle : ℕ) (found : VirtualLink) (octets head : List ℕ)
     → slice_get network.vl vl.0 ≡ Some found → IsInRange network → head ≡ head_of network found cycle
     → octets ≡ padded 1514 head → take found.length octets ≡ made_frame network vl cycle
-made_found network vl cycle found octets head there range is padded_so =
+made_found {network} vl cycle found octets head there range is padded_so =
     ap (take found.length) (padded_so ∙ ap (padded 1514) is)
-    ∙ front_made network found cycle (in_all (IsVlInRange network) network.vl vl.0 found range.vls there)
+    ∙ front_made cycle (in_all (IsVlInRange network) network.vl vl.0 found range.vls there)
     ∙ sym (ap (λ (o : Option VirtualLink). option_map_or (λ v. tt_frame_by network v cycle) o (replicate 60 0)) there)
 
 -- behind the head stand zeros
@@ -39,7 +39,7 @@ pub zeros_behind : (octets head : List ℕ) → length head ≡ 18 → octets �
 zeros_behind octets head long padded_so =
     ap (drop 18) padded_so ∙ ap (λ (n : ℕ). drop n (padded 1514 head)) (sym long)
     ∙ drop-append_seam head (replicate (1514 - length head) 0)
-    ∙ ap (λ (n : ℕ). replicate (1514 - n) 0) long
+    ∙ ap (λ n. replicate (1514 - n) 0) long
 
 pub made_none : (network : Network) (vl : VlId) (cycle : ℕ) (octets : List ℕ) → slice_get network.vl vl.0 ≡ None
     → octets ≡ padded 1514 [] → take 60 octets ≡ made_frame network vl cycle

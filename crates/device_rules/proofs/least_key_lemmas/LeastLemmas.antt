@@ -5,53 +5,58 @@ use Rattle.std.{proofs.lemmas.{Bool.{cases_eq, cases_lt}, List.Elements.Contains
 
 -- ---- the least of all
 
--- no node is less than the root
-below_root : (nodes : List ℕ) (places : ℕ) → IsTree nodes places → (fuel i : ℕ) → i ≤ fuel → 1 ≤ i → i < 2 * places → node_at nodes 1 ≤ node_at nodes i
-below_root nodes places t zero i few some inside = absurd (omega arith)
-below_root nodes places t (suc fuel) i few some inside = elim (cases_eq i 1) [
-  | inl e ↦ subst (λ (n : ℕ). node_at nodes 1 ≤ node_at nodes n) (sym e) (omega arith)
-  | inr more ↦
-      let up = below_root nodes places t fuel (i / 2) (omega arith) (omega (arith, more)) (omega arith) in
-      let here = t.lesser (i / 2) (omega (arith, more)) (omega arith) in
-      elim (cases_eq i (2 * (i / 2))) [
-        | inl even ↦ subst (λ (n : ℕ). node_at nodes 1 ≤ node_at nodes n) (sym even) (let left = here.0 in omega (arith, up, left))
-        | inr odd ↦
-            let at : i ≡ 2 * (i / 2) + 1 = omega (arith, odd) in
-            subst (λ (n : ℕ). node_at nodes 1 ≤ node_at nodes n) (sym at) (let right = here.1 in omega (arith, up, right))
-      ]
-]
-
--- a node has the key of a place
-is_key : (nodes : List ℕ) (places : ℕ) → IsTree nodes places → (fuel i : ℕ) → 2 * places ≤ fuel + i → 1 ≤ i → i < 2 * places
-    → (k : ℕ) × (k < places) × (node_at nodes i ≡ node_at nodes (places + k))
-is_key nodes places t zero i few some inside = absurd (omega arith)
-is_key nodes places t (suc fuel) i few some inside = elim (cases_lt i places) [
-  | inr leaf ↦ (i - places, omega (arith, leaf), ap (λ (n : ℕ). node_at nodes n) (omega (arith, leaf)))
-  | inl inner ↦ elim (t.lesser i some inner).2 [
-    | inl left ↦
-        let below = is_key nodes places t fuel (2 * i) (omega arith) (omega arith) (omega (arith, inner)) in
-        (below.0, below.1, left ∙ below.2)
-    | inr right ↦
-        let below = is_key nodes places t fuel (2 * i + 1) (omega arith) (omega arith) (omega (arith, inner)) in
-        (below.0, below.1, right ∙ below.2)
+module _ (nodes : List ℕ) (places : ℕ) where
+  -- no node is less than the root
+  below_root : IsTree nodes places → (fuel i : ℕ) → i ≤ fuel → 1 ≤ i → i < 2 * places
+      → node_at nodes 1 ≤ node_at nodes i
+  below_root t zero i few some inside = absurd (omega arith)
+  below_root t (suc fuel) i few some inside = elim (cases_eq i 1) [
+    | inl e ↦ subst (λ n. node_at nodes 1 ≤ node_at nodes n) (sym e) (omega arith)
+    | inr more ↦
+        let up = below_root t fuel (i / 2) (omega arith) (omega (arith, more)) (omega arith) in
+        let here = t.lesser (i / 2) (omega (arith, more)) (omega arith) in
+        elim (cases_eq i (2 * (i / 2))) [
+          | inl even ↦ subst (λ n. node_at nodes 1 ≤ node_at nodes n) (sym even)
+              (let left = here.0 in omega (arith, up, left))
+          | inr odd ↦
+              let at : i ≡ 2 * (i / 2) + 1 = omega (arith, odd) in
+              subst (λ n. node_at nodes 1 ≤ node_at nodes n) (sym at)
+              (let right = here.1 in omega (arith, up, right))
+        ]
   ]
-]
 
-pub length_keys : (nodes : List ℕ) (places : ℕ) → IsTree nodes places → length (drop places nodes) ≡ places
-length_keys nodes places t = let whole = t.whole in omega (arith, length-drop places nodes, whole)
+  -- a node has the key of a place
+  is_key : IsTree nodes places → (fuel i : ℕ) → 2 * places ≤ fuel + i → 1 ≤ i → i < 2 * places
+      → (k : ℕ) × (k < places) × (node_at nodes i ≡ node_at nodes (places + k))
+  is_key t zero i few some inside = absurd (omega arith)
+  is_key t (suc fuel) i few some inside = elim (cases_lt i places) [
+    | inr leaf ↦ (i - places, omega (arith, leaf), ap (λ n. node_at nodes n) (omega (arith, leaf)))
+    | inl inner ↦ elim (t.lesser i some inner).2 [
+      | inl left ↦
+          let below = is_key t fuel (2 * i) (omega arith) (omega arith) (omega (arith, inner)) in
+          (below.0, below.1, left ∙ below.2)
+      | inr right ↦
+          let below = is_key t fuel (2 * i + 1) (omega arith) (omega arith) (omega (arith, inner)) in
+          (below.0, below.1, right ∙ below.2)
+    ]
+  ]
 
-pub root_is_least : (nodes : List ℕ) (places k d : ℕ) → IsTree nodes places → k < length (drop places nodes) → node_at nodes 1 ≤ get_or (drop places nodes) k d
-root_is_least nodes places k d t lt =
-    let few : k < places = omega (arith, lt, length_keys nodes places t) in
-    let whole = t.whole in
-    let least = below_root nodes places t (places + k) (places + k) (omega arith) (omega (arith, few)) (omega (arith, few)) in
-    omega (arith, least, get_or-drop places nodes k d, get_or_default nodes (places + k) 0 d (omega (arith, whole, few)))
+  pub length_keys : IsTree nodes places → length (drop places nodes) ≡ places
+  length_keys t = let whole = t.whole in omega (arith, length-drop places nodes, whole)
 
-pub root_is_key : (nodes : List ℕ) (places : ℕ) → IsTree nodes places → 1 ≤ places → Contains (drop places nodes) (node_at nodes 1)
-root_is_key nodes places t some =
-    let at = is_key nodes places t (2 * places) 1 (omega arith) (omega arith) (omega (arith, some)) in
-    subst (Contains (drop places nodes)) (get_or-drop places nodes at.0 0 ∙ sym at.2)
-    (Contains-get_or (drop places nodes) at.0 0 (let few = at.1 in omega (arith, few, length_keys nodes places t)))
+  pub root_is_least : (k d : ℕ) → IsTree nodes places → k < length (drop places nodes)
+      → node_at nodes 1 ≤ get_or (drop places nodes) k d
+  root_is_least k d t lt =
+      let few : k < places = omega (arith, lt, length_keys t) in
+      let whole = t.whole in
+      let least = below_root t (places + k) (places + k) (omega arith) (omega (arith, few)) (omega (arith, few)) in
+      omega (arith, least, get_or-drop places nodes k d, get_or_default nodes (places + k) 0 d (omega (arith, whole, few)))
+
+  pub root_is_key : IsTree nodes places → 1 ≤ places → Contains (drop places nodes) (node_at nodes 1)
+  root_is_key t some =
+      let at = is_key t (2 * places) 1 (omega arith) (omega arith) (omega (arith, some)) in
+      subst (Contains (drop places nodes)) (get_or-drop places nodes at.0 0 ∙ sym at.2)
+      (Contains-get_or (drop places nodes) at.0 0 (let few = at.1 in omega (arith, few, length_keys t)))
 
 -- ---- a key is set
 

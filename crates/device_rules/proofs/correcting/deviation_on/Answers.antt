@@ -17,7 +17,7 @@ returns c =
     (to_z-of_z w128 p.adjustment (search rules)) in
     record {
       value =
-          ap (λ (z : ℤ). Some (unit z)) (same ∙ is)
+          ap (λ z. Some (unit z)) (same ∙ is)
           ∙ shown (standing_of n c.args.device p) c.args.heard.now c.args.channel c.in_ok-frame.frame (sym c.best.ensures.value ∙ c.in_ok-frame.was)
           (c.qualified.ensures.0 c.if-not-qualified.false);
       far = subst IsFar (sym same) c.deviation.ensures.far;

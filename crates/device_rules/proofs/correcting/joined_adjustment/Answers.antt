@@ -6,5 +6,5 @@ overflow_sub-result c =
     let low = c.expected_at.ensures.low in
     let high = c.expected_at.ensures.high in
     let far : IsFar c.expected_at.result = record { least = omega (arith, ints, low); most = omega (arith, ints, high) } in
-    let e = to_z-of_z w128 c.expected_at.result (fits_far c.expected_at.result far) in
-    fits_far _ (record { least = omega (arith, ints, e, low); most = omega (arith, ints, e, high) })
+    let e = to_z-of_z w128 c.expected_at.result (fits_far far) in
+    fits_far (record { least = omega (arith, ints, e, low); most = omega (arith, ints, e, high) })

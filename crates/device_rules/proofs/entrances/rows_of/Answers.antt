@@ -1,20 +1,21 @@
-use Rattle.{device_rules.{proofs.KeptRows.have_entries, specs.Entering.AreRows}, net_plan.specs.declared.tables.Row.Row}
-use Rattle.{std.proofs.Common.{List, ap, arith, length, subst, sym, take}, tte_units.proofs.general_lemmas.Lists.{take_all, take_more}}
+use Rattle.device_rules.{proofs.KeptRows.have_entries, specs.Entering.AreRows}
+use Rattle.{std.proofs.Common.{ap, arith, length, subst, sym, take}, tte_units.proofs.general_lemmas.Lists.{take_all, take_more}}
 use Rattle.device_rules.proofs.entrances.rows_of.Goals as goal
 
 pub loop-place-preserved : goal.loop-place-preserved
 loop-place-preserved c =
     let network = c.args.network.now in
     let is = c.entry_of-entry.ensures.is in
-    subst (λ (rows : List Row). AreRows network c.args.which rows c.add_row.new.rows)
+    subst (λ rows. AreRows network c.args.which rows c.add_row.new.rows)
     (sym (take_more network.row c.loop-place.place _ c.entry_of-entry.result.row (omega arith) is.row))
-    (c.in_ok-add_row.ensures (take c.loop-place.place network.row) c.loop-place.place is (have_entries network c.loop-place.place c.requires)
+    (c.in_ok-add_row.ensures (take c.loop-place.place network.row) c.loop-place.place is
+    (have_entries c.loop-place.place c.requires)
     c.loop-place.invariant)
 
 pub returns : goal.returns
 returns c =
     let network = c.args.network.now in
-    subst (λ (rows : List Row). AreRows network c.args.which rows c.loop-place.rows)
+    subst (λ rows. AreRows network c.args.which rows c.loop-place.rows)
     (take_all network.row c.loop-place.place
-    (let h = c.loop-place-test.false in let e = ap (λ (rows : List Row). length rows) c.as_slice-place-end.ensures in omega (arith, h, e)))
+    (let h = c.loop-place-test.false in let e = ap (λ rows. length rows) c.as_slice-place-end.ensures in omega (arith, h, e)))
     c.loop-place.invariant

@@ -26,24 +26,25 @@ pub trace_grows : (network : Network) (old : TraceView) (pool new : List ℕ) (k
 trace_grows network old pool new ks is all (more, e) = grind (arith, views_grow)
 
 -- the records of a trace, for the network that it has
-own_records : (network own : Network) (old : TraceView) (ts : List Traced) (notes : List Note) → the_trace own ts ≡ old → Keeps network notes old
-    → ts ≡ map traced (happenings own notes)
-own_records network own old ts notes is keeps =
+own_records : {network : Network} (own : Network) {old : TraceView} (ts : List Traced) {notes : List Note}
+    → the_trace own ts ≡ old → Keeps network notes old → ts ≡ map traced (happenings own notes)
+own_records {network} own ts {notes} is keeps =
     let same : own ≡ network = ap (λ (t : TraceView). t.network) is ∙ keeps.network_is in
-    ap (λ (t : TraceView). t.records) is ∙ keeps.records_are ∙ ap (λ (n : Network). map traced (happenings n notes)) (sym same)
+    ap (λ (t : TraceView). t.records) is ∙ keeps.records_are ∙ ap (λ n. map traced (happenings n notes)) (sym same)
 
 -- a trace with one more record keeps it too
-pub trace_more : (network own : Network) (old : TraceView) (pool new : List ℕ) (ks : List Kept) (k : Kept) (notes : List Note) (note : Note)
-    → the_trace own (views_of own pool ks) ≡ old → All (IsHeld pool) ks → Grows pool new
-    → ((hs : List Happening) → views_of own pool ks ≡ map traced hs → view_of own new k ≡ traced_by own hs note.body)
-    → Keeps network notes old → Keeps network (notes ++ note ∷ []) (the_trace own (views_of own new (ks ++ k ∷ [])))
-trace_more network own old pool new ks k notes note is all grows one keeps = grind (arith, own_records, trace_grows, one_more_kept)
+pub trace_more : {network : Network} (own : Network) {old : TraceView} (pool new : List ℕ) (ks : List Kept)
+    (k : Kept) {notes : List Note} (note : Note) → the_trace own (views_of own pool ks) ≡ old → All (IsHeld pool) ks
+    → Grows pool new → ((hs : List Happening) → views_of own pool ks ≡ map traced hs
+    → view_of own new k ≡ traced_by own hs note.body) → Keeps network notes old
+    → Keeps network (notes ++ note ∷ []) (the_trace own (views_of own new (ks ++ k ∷ [])))
+trace_more own pool new ks k note is all grows one keeps = grind (arith, own_records, trace_grows, one_more_kept)
 
 -- what a trace shows of a number are the octets of its record
-pub trace_shows : (network own : Network) (old : TraceView) (pool : List ℕ) (ks : List Kept) (notes : List Note) (number : ℕ)
-    → the_trace own (views_of own pool ks) ≡ old → Keeps network notes old
+pub trace_shows : {network : Network} (own : Network) {old : TraceView} (pool : List ℕ) (ks : List Kept)
+    {notes : List Note} (number : ℕ) → the_trace own (views_of own pool ks) ≡ old → Keeps network notes old
     → option_and_then (kept_shown own pool) (at_number ks number) ≡ octets_of network notes number
-trace_shows network own old pool ks notes number is keeps =
+trace_shows {network} own pool ks {notes} number is keeps =
     shown_at own pool ks (happenings network notes) number (ap (λ (t : TraceView). t.records) is ∙ keeps.records_are)
 
 -- a failed push leaves the list

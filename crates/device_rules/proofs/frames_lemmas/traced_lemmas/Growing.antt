@@ -9,30 +9,31 @@ use Rattle.device_rules.specs.declared.frames.traced.kept.Kept.TheVariants as ke
 pub grows_same : (xs : List ℕ) → Grows xs xs
 grows_same xs = ([], sym (append-nil xs))
 
-piece_grows : (pool more : List ℕ) (piece : Piece) → IsPieceOf pool piece → piece_in (pool ++ more) piece ≡ piece_in pool piece
-piece_grows pool more piece h = grind (arith, take, drop-append-le, take-append-le, drop, length-drop)
+module _ (pool more : List ℕ) where
+  piece_grows : {piece : Piece} → IsPieceOf pool piece → piece_in (pool ++ more) piece ≡ piece_in pool piece
+  piece_grows h = grind (arith, take, drop-append-le, take-append-le, drop, length-drop)
 
-pub piece_stays : (pool more : List ℕ) (piece : Piece) → IsPieceOf pool piece → IsPieceOf (pool ++ more) piece
-piece_stays pool more piece h =
-    let there = h.there in
-    record { there = omega (arith, there, length-append pool more); most = h.most }
+  pub piece_stays : {piece : Piece} → IsPieceOf pool piece → IsPieceOf (pool ++ more) piece
+  piece_stays h =
+      let there = h.there in
+      record { there = omega (arith, there, length-append pool more); most = h.most }
 
-held_grows : (pool more : List ℕ) (k : Kept) → IsHeld pool k → IsHeld (pool ++ more) k
-held_grows pool more (kept.Send piece) h = piece_stays pool more piece h
-held_grows pool more (kept.Came piece) h = piece_stays pool more piece h
-held_grows pool more other h = tt
+  held_grows : (k : Kept) → IsHeld pool k → IsHeld (pool ++ more) k
+  held_grows (kept.Send piece) h = piece_stays h
+  held_grows (kept.Came piece) h = piece_stays h
+  held_grows other h = tt
 
 abbrev the_send : List ℕ → Traced
 the_send o = record { frame = frame_in (decoded o); octets = o; shown = Some o }
 
 view_grows : (network : Network) (pool more : List ℕ) (k : Kept) → IsHeld pool k → view_of network (pool ++ more) k ≡ view_of network pool k
-view_grows network pool more (kept.Send piece) h = ap the_send (piece_grows pool more piece h)
-view_grows network pool more (kept.Came piece) h = ap came (piece_grows pool more piece h)
+view_grows network pool more (kept.Send piece) h = ap the_send (piece_grows pool more h)
+view_grows network pool more (kept.Came piece) h = ap came (piece_grows pool more h)
 view_grows network pool more other h = refl
 
 -- all are held where more octets stand
 pub all_grow : (pool new : List ℕ) (ks : List Kept) → Grows pool new → All (IsHeld pool) ks → All (IsHeld new) ks
-all_grow pool new ks (more, e) h = subst (λ (xs : List ℕ). All (IsHeld xs) ks) (sym e) (λ i x lt. held_grows pool more _ (h i x lt))
+all_grow pool new ks (more, e) h = subst (λ xs. All (IsHeld xs) ks) (sym e) (λ i x lt. held_grows pool more _ (h i x lt))
 
 -- and all are seen as they were
 pub views_grow : (network : Network) (pool more : List ℕ) (ks : List Kept) → All (IsHeld pool) ks

@@ -24,23 +24,23 @@ seen_at : (f : Kept → Traced) (ks : List Kept) (hs : List Happening) (n : ℕ)
 seen_at f ks hs zero e = refl
 seen_at f ks hs (suc n) e = sym (slice_get-map f ks n) ∙ ap (λ (ts : List Traced). slice_get ts n) e ∙ slice_get-map traced hs n
 
-pub frame_at : (network : Network) (pool : List ℕ) (ks : List Kept) (hs : List Happening) (n : ℕ) → views_of network pool ks ≡ map traced hs
-    → option_and_then (kept_frame pool) (at_number ks n) ≡ frame_from hs n
-frame_at network pool ks hs n e =
-    sym (then_map (λ (t : Traced). t.frame) (view_of network pool) (at_number ks n))
-    ∙ ap (λ (o : Option Traced). option_and_then (λ t. t.frame) o) (seen_at (view_of network pool) ks hs n e)
-    ∙ then_map (λ (t : Traced). t.frame) traced (numbered hs n)
+module _ (network : Network) (pool : List ℕ) (ks : List Kept) (hs : List Happening) (n : ℕ)
+    (e : views_of network pool ks ≡ map traced hs) where
+  pub frame_at : option_and_then (kept_frame pool) (at_number ks n) ≡ frame_from hs n
+  frame_at =
+      sym (then_map (λ (t : Traced). t.frame) (view_of network pool) (at_number ks n))
+      ∙ ap (λ (o : Option Traced). option_and_then (λ t. t.frame) o) (seen_at (view_of network pool) ks hs n e)
+      ∙ then_map (λ (t : Traced). t.frame) traced (numbered hs n)
 
-pub octets_at : (network : Network) (pool : List ℕ) (ks : List Kept) (hs : List Happening) (n : ℕ) → views_of network pool ks ≡ map traced hs
-    → option_map_or (kept_octets network pool) (at_number ks n) [] ≡ octets_from hs n
-octets_at network pool ks hs n e =
-    sym (or_map (λ (t : Traced). t.octets) (view_of network pool) (at_number ks n) [])
-    ∙ ap (λ (o : Option Traced). option_map_or (λ t. t.octets) o []) (seen_at (view_of network pool) ks hs n e)
-    ∙ or_map (λ (t : Traced). t.octets) traced (numbered hs n) []
+  pub octets_at : option_map_or (kept_octets network pool) (at_number ks n) [] ≡ octets_from hs n
+  octets_at =
+      sym (or_map (λ (t : Traced). t.octets) (view_of network pool) (at_number ks n) [])
+      ∙ ap (λ (o : Option Traced). option_map_or (λ t. t.octets) o []) (seen_at (view_of network pool) ks hs n e)
+      ∙ or_map (λ (t : Traced). t.octets) traced (numbered hs n) []
 
-pub shown_at : (network : Network) (pool : List ℕ) (ks : List Kept) (hs : List Happening) (n : ℕ) → views_of network pool ks ≡ map traced hs
-    → option_and_then (kept_shown network pool) (at_number ks n) ≡ option_and_then record_octets (numbered hs n)
-shown_at network pool ks hs n e =
-    sym (then_map (λ (t : Traced). t.shown) (view_of network pool) (at_number ks n))
-    ∙ ap (λ (o : Option Traced). option_and_then (λ t. t.shown) o) (seen_at (view_of network pool) ks hs n e)
-    ∙ then_map (λ (t : Traced). t.shown) traced (numbered hs n)
+  pub shown_at : option_and_then (kept_shown network pool) (at_number ks n)
+      ≡ option_and_then record_octets (numbered hs n)
+  shown_at =
+      sym (then_map (λ (t : Traced). t.shown) (view_of network pool) (at_number ks n))
+      ∙ ap (λ (o : Option Traced). option_and_then (λ t. t.shown) o) (seen_at (view_of network pool) ks hs n e)
+      ∙ then_map (λ (t : Traced). t.shown) traced (numbered hs n)

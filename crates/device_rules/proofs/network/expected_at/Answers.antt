@@ -3,7 +3,7 @@ use Rattle.device_rules.proofs.network.expected_at.Goals as goal
 
 pub returns-clause-value : goal.returns-clause-value
 returns-clause-value c =
-    let e = expected_is c.args.network.now c.args.device c.args.cycle c.requires in
+    let e = expected_is c.args.device c.args.cycle c.requires in
     let a = c.begun.ensures.value in
     let b = c.expected_by.ensures.value in
     omega (arith, ints, e, a, b)

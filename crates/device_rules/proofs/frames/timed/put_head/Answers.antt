@@ -6,4 +6,4 @@ returns c =
     let copied : c.copy_from_slice.new.self ≡ c.args.head.now = search rules in
     let long : length c.args.head.now ≡ 18 = search rules in
     ap (λ (ys : List ℕ). ys ++ drop 18 c.args.octets.now) copied ∙ ap (λ (ys : List ℕ). c.args.head.now ++ ys) c.requires
-    ∙ ap (λ (n : ℕ). c.args.head.now ++ replicate (1514 - n) 0) (sym long)
+    ∙ ap (λ n. c.args.head.now ++ replicate (1514 - n) 0) (sym long)

@@ -18,12 +18,12 @@ returns-in-Some c =
     let there : slice_get c.args.network.now.vl c.args.vl.0 ≡ Some c.in-Some.found.now =
     subst (λ (xs : List VirtualLink). slice_get xs c.args.vl.0 ≡ Some c.in-Some.found.now) c.as_slice.ensures
     (found_at c.as_slice.result.now c.args.vl.0 c.in-Some.found.now found.3.0 found.3.1) in
-    made_found c.args.network.now c.args.vl c.args.cycle c.in-Some.found.now c.put_head.new.octets c.write_head.new.head
+    made_found c.args.vl c.args.cycle c.in-Some.found.now c.put_head.new.octets c.write_head.new.head
     there c.requires c.write_head.ensures c.put_head.ensures
 
 pub returns-in-None : goal.returns-in-None
 returns-in-None c =
-    let past : length c.args.network.now.vl ≤ c.args.vl.0 = subst (λ (xs : List VirtualLink). length xs ≤ c.args.vl.0) c.as_slice.ensures
+    let past : length c.args.network.now.vl ≤ c.args.vl.0 = subst (λ xs. length xs ≤ c.args.vl.0) c.as_slice.ensures
     c.in-None.ensures.lookup.3 in
     made_none c.args.network.now c.args.vl c.args.cycle c.fill.new.octets (slice_get_past c.args.network.now.vl c.args.vl.0 past)
     c.fill.ensures
