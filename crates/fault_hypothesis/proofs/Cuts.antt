@@ -66,11 +66,12 @@ same_cut (b ∷ before) (c ∷ other) cut first behind rest l m e none bare on_l
     on_l on_m
 
 -- at most one channel is faulty
-pub one_faulty : (network : Network) (events : List Event) (c d : Channel) → KeepsRules network → IsFaulty network events c → IsFaulty network events d → c ≡ d
-one_faulty network events c d rules (inl off) (inl other) = (rules Masters 5).one_faulty refl c d off other
-one_faulty network events c d rules (inl off) (inr first) = absurd (first.0 c off)
-one_faulty network events c d rules (inr first) (inl off) = absurd (first.0 d off)
-one_faulty network events c d rules (inr first) (inr other) =
+pub one_faulty : {network : Network} (events : List Event) {c d : Channel} → KeepsRules network
+    → IsFaulty network events c → IsFaulty network events d → c ≡ d
+one_faulty events {c} {d} rules (inl off) (inl other) = (rules Masters 5).one_faulty refl c d off other
+one_faulty events {c} rules (inl off) (inr first) = absurd (first.0 c off)
+one_faulty events {d} rules (inr first) (inl off) = absurd (first.0 d off)
+one_faulty {network} events {c} {d} rules (inr first) (inr other) =
     let a = first.1 in
     let b = other.1 in
     let cut = same_cut a.before b.before a.cut b.cut a.behind b.behind a.cuts.0 b.cuts.0 (sym a.order ∙ b.order) a.none_before b.none_before a.cuts.1 b.cuts.1
@@ -80,88 +81,90 @@ one_faulty network events c d rules (inr first) (inr other) =
     let same : a.cuts.0 ≡ b.cuts.0 = cc in
     one_channel network b.cuts.0 c d (subst (IsLinkOf network c) same a.cuts.2) b.cuts.2
 
--- a faulty channel stays so
-pub stays_faulty : (network : Network) (admitted : List Event) (event : Event) (c : Channel) → IsFaulty network admitted c
-    → IsFaulty network (admitted ++ event ∷ []) c
-stays_faulty network admitted event c (inl off) = inl off
-stays_faulty network admitted event c (inr first) =
-    let f = first.1 in
-    inr (
-      first.0,
-      record {
-        before = f.before;
-        cut = f.cut;
-        behind = f.behind ++ event ∷ [];
-        order = ap (λ (t : List Event). t ++ event ∷ []) f.order ∙ append_assoc f.before (f.cut ∷ f.behind) (event ∷ []);
-        none_before = f.none_before;
-        cuts = f.cuts;
-      },
-    )
+module _ (network : Network) (admitted : List Event) (event : Event) (c : Channel) where
+  -- a faulty channel stays so
+  pub stays_faulty : IsFaulty network admitted c → IsFaulty network (admitted ++ event ∷ []) c
+  stays_faulty (inl off) = inl off
+  stays_faulty (inr first) =
+      let f = first.1 in
+      inr (
+        first.0,
+        record {
+          before = f.before;
+          cut = f.cut;
+          behind = f.behind ++ event ∷ [];
+          order = ap (λ (t : List Event). t ++ event ∷ []) f.order ∙ append_assoc f.before (f.cut ∷ f.behind)
+              (event ∷ []);
+          none_before = f.none_before;
+          cuts = f.cuts;
+        },
+      )
 
--- a channel that is faulty behind one more event was so, or that event is the first cut
-pub was_faulty : (network : Network) (admitted : List Event) (event : Event) (c : Channel) → IsFaulty network (admitted ++ event ∷ []) c
-    → IsFaulty network admitted c ⊎ CutsOn network c event
-was_faulty network admitted event c (inl off) = inl (inl off)
-was_faulty network admitted event c (inr first) =
-    let f = first.1 in
-    elim (stands_where admitted event f.before f.cut f.behind f.order) [
-      | inl s ↦ inl (inr (first.0, record { before = f.before; cut = f.cut; behind = s.rest; order = s.whole; none_before = f.none_before; cuts = f.cuts }))
-      | inr s ↦ inr (subst (CutsOn network c) s.same f.cuts)
-    ]
+  -- a channel that is faulty behind one more event was so, or that event is the first cut
+  pub was_faulty : IsFaulty network (admitted ++ event ∷ []) c → IsFaulty network admitted c ⊎ CutsOn network c event
+  was_faulty (inl off) = inl (inl off)
+  was_faulty (inr first) =
+      let f = first.1 in
+      elim (stands_where admitted event f.before f.cut f.behind f.order) [
+        | inl s ↦ inl (inr (first.0, record { before = f.before; cut = f.cut; behind = s.rest; order = s.whole; none_before = f.none_before; cuts = f.cuts }))
+        | inr s ↦ inr (subst (CutsOn network c) s.same f.cuts)
+      ]
 
 -- what a watch knows of the faulty channel
 abbrev pub KnowsFaulty : Network → List Event → Option Channel → Type 0
 KnowsFaulty network events faulty = (c : Channel) → (faulty ≡ Some c) ↔ IsFaulty network events c
 
--- a faulty channel stays the one
-pub faulty_stays : (network : Network) (admitted : List Event) (event : Event) (faulty : Option Channel) → KeepsRules network → is_some faulty ≡ true
-    → KnowsFaulty network admitted faulty → KnowsFaulty network (admitted ++ event ∷ []) faulty
-faulty_stays network admitted event None rules some known = absurd cc
-faulty_stays network admitted event (Some f) rules some known = λ c.
-    let now = stays_faulty network admitted event f ((known f).0 refl) in (
-      λ e. let same : f ≡ c = cc in subst (IsFaulty network (admitted ++ event ∷ [])) same now,
-      λ h. ap (λ (t : Channel). Some t) (one_faulty network (admitted ++ event ∷ []) f c rules now h),
-    )
+module _ (network : Network) (admitted : List Event) (event : Event) where
+  -- a faulty channel stays the one
+  pub faulty_stays : (faulty : Option Channel) → KeepsRules network → is_some faulty ≡ true
+      → KnowsFaulty network admitted faulty → KnowsFaulty network (admitted ++ event ∷ []) faulty
+  faulty_stays None rules some known = absurd cc
+  faulty_stays (Some f) rules some known = λ c.
+      let now = stays_faulty network admitted event f ((known f).0 refl) in (
+        λ e. let same : f ≡ c = cc in subst (IsFaulty network (admitted ++ event ∷ [])) same now,
+        λ h. ap (λ (t : Channel). Some t) (one_faulty (admitted ++ event ∷ []) rules now h),
+      )
 
--- where the event cuts nothing, the faulty channel is as it was
-pub faulty_uncut : (network : Network) (admitted : List Event) (event : Event) (faulty : Option Channel) → ((link : LinkId) → Cuts link event → ⊥)
-    → KnowsFaulty network admitted faulty → KnowsFaulty network (admitted ++ event ∷ []) faulty
-faulty_uncut network admitted event faulty uncut known = λ c. (
-  λ e. stays_faulty network admitted event c ((known c).0 e),
-  λ h. elim (was_faulty network admitted event c h) [
-    | inl was ↦ (known c).1 was
-    | inr cut ↦ absurd (uncut cut.0 cut.1)
-  ],
-)
+  -- where the event cuts nothing, the faulty channel is as it was
+  pub faulty_uncut : (faulty : Option Channel) → ((link : LinkId) → Cuts link event → ⊥)
+      → KnowsFaulty network admitted faulty → KnowsFaulty network (admitted ++ event ∷ []) faulty
+  faulty_uncut faulty uncut known = λ c. (
+    λ e. stays_faulty network admitted event c ((known c).0 e),
+    λ h. elim (was_faulty network admitted event c h) [
+      | inl was ↦ (known c).1 was
+      | inr cut ↦ absurd (uncut cut.0 cut.1)
+    ],
+  )
 
--- the first cut makes its channel the faulty one
-pub faulty_cut : (network : Network) (admitted : List Event) (event : Event) (link : LinkId) (way : Way) (faulty found : Option Channel) → KeepsRules network
-    → AreOfNetwork network admitted → event.what ≡ events.Cut link way → ((c : Channel) → (found ≡ Some c) ↔ IsLinkOf network c link) → is_some faulty ≡ false
-    → KnowsFaulty network admitted faulty → KnowsFaulty network (admitted ++ event ∷ []) found
-faulty_cut network admitted event link way (Some f) found rules of_network what on unknown known = absurd cc
-faulty_cut network admitted event link way None found rules of_network what on unknown known =
-    let none : (c : Channel) → IsFaulty network admitted c → ⊥ = λ c h. let e = (known c).1 h in absurd cc in
-    let unoff : (c : Channel) → HasOffSwitch network c → ⊥ = λ c h. none c (inl h) in
-    λ c. (
-      λ e. inr (
-        unoff,
-        record {
-          before = admitted;
-          cut = event;
-          behind = [];
-          order = refl;
-          none_before = λ l a. let f = first_cut network admitted l rules of_network a in none f.0 (inr (unoff, f.1));
-          cuts = (link, (way, what), (on c).0 e);
-        },
-      ),
-      λ h. elim (was_faulty network admitted event c h) [
-        | inl was ↦ absurd (none c was)
-        | inr cut ↦
-            let cuts_it = cut.1.1 in
-            let same : cut.0 ≡ link = cc in
-            (on c).1 (subst (IsLinkOf network c) same cut.2)
-      ],
-    )
+  -- the first cut makes its channel the faulty one
+  pub faulty_cut : (link : LinkId) (way : Way) (faulty found : Option Channel) → KeepsRules network
+      → AreOfNetwork network admitted → event.what ≡ events.Cut link way
+      → ((c : Channel) → (found ≡ Some c) ↔ IsLinkOf network c link) → is_some faulty ≡ false
+      → KnowsFaulty network admitted faulty → KnowsFaulty network (admitted ++ event ∷ []) found
+  faulty_cut link way (Some f) found rules of_network what on unknown known = absurd cc
+  faulty_cut link way None found rules of_network what on unknown known =
+      let none : (c : Channel) → IsFaulty network admitted c → ⊥ = λ c h. let e = (known c).1 h in absurd cc in
+      let unoff : (c : Channel) → HasOffSwitch network c → ⊥ = λ c h. none c (inl h) in
+      λ c. (
+        λ e. inr (
+          unoff,
+          record {
+            before = admitted;
+            cut = event;
+            behind = [];
+            order = refl;
+            none_before = λ l a. let f = first_cut network admitted l rules of_network a in none f.0 (inr (unoff, f.1));
+            cuts = (link, (way, what), (on c).0 e);
+          },
+        ),
+        λ h. elim (was_faulty network admitted event c h) [
+          | inl was ↦ absurd (none c was)
+          | inr cut ↦
+              let cuts_it = cut.1.1 in
+              let same : cut.0 ≡ link = cc in
+              (on c).1 (subst (IsLinkOf network c) same cut.2)
+        ],
+      )
 
 -- before any event the faulty channel is the one with a switch that begins off
 pub faulty_begins : (network : Network) (found : Option Channel) → KeepsRules network → MatchOption found ((c : Channel) → HasOffSwitch network c → ⊥)
@@ -172,5 +175,5 @@ faulty_begins network None rules none = λ c. (
 )
 faulty_begins network (Some f) rules off = λ c. (
   λ e. let same : f ≡ c = cc in inl (subst (HasOffSwitch network) same off),
-  λ h. ap (λ (t : Channel). Some t) (one_faulty network [] f c rules (inl off) h),
+  λ h. ap (λ (t : Channel). Some t) (one_faulty [] {c = f} rules (inl off) h),
 )

@@ -42,7 +42,7 @@ same_count p q same [] = refl
 same_count p q same (x ∷ xs) =
     sum_by-cons (λ x. cond (p x) 1 0) x xs
     ∙ ap (λ (b : Bool). cond b 1 0 + count_by p xs) (same x)
-    ∙ ap (λ (n : ℕ). cond (q x) 1 0 + n) (same_count p q same xs)
+    ∙ ap (λ n. cond (q x) 1 0 + n) (same_count p q same xs)
     ∙ sym (sum_by-cons (λ x. cond (q x) 1 0) x xs)
 
 -- the masters that a break leaves are those that are neither broken nor the device

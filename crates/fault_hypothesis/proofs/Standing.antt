@@ -3,8 +3,9 @@ use Rattle.{net_plan.specs.{Places.link_at, Ranges.{IsInRange, IsLinkInRange}, d
 use Rattle.{net_plan.specs.declared.{ids.LinkId.LinkId, tables.Link.Link}, std.{proofs.Common.{◌≡◌, None, Option, Some}, specs.Prelude.IsSomeAnd}}
 
 -- each link of a network in range is in range
-pub link_in_range : (network : Network) (link : LinkId) (found : Link) → IsInRange network → link_at network link ≡ Some found → IsLinkInRange network found
-link_in_range network link found range at = in_all (IsLinkInRange network) network.link link.0 found range.links at
+pub link_in_range : {network : Network} (link : LinkId) (found : Link) → IsInRange network
+    → link_at network link ≡ Some found → IsLinkInRange network found
+link_in_range {network} link found range at = in_all (IsLinkInRange network) network.link link.0 found range.links at
 
 -- a value of which two facts hold
 pub some_both : {X : Type 0} (o : Option X) (P Q : X → Type 0) → IsSomeAnd o P → IsSomeAnd o Q → (x : X) × P x × Q x

@@ -9,42 +9,45 @@ use Rattle.net_plan.specs.declared.event.What.TheVariants as kinds
 -- what is chosen is drawn where the words choose its kind
 pub drawn_by : (network : Network) (before : List Event) (time : Units) (draw : Draw) (choice : Choice) (what : What) → choice ≡ choice_of draw.kind
     → IsChosen network before time draw choice what → IsDrawn network before time draw what
-drawn_by network before time draw choice what chosen is = subst (λ (k : Choice). IsChosen network before time draw k what) chosen is
+drawn_by network before time draw choice what chosen is = subst (λ k. IsChosen network before time draw k what) chosen is
 
--- the wire delay of a link
-pub wire_drawn : (network : Network) (before : List Event) (time : Units) (draw : Draw) (link : LinkId) (way : Way) (delay : Units) (found : Link)
-    → link ≡ link_of network draw → link_at network link ≡ Some found → way ≡ way_of draw → delay ≡ wire_of found draw
-    → IsChosen network before time draw Wire (kinds.Wire link way delay)
-wire_drawn network before time draw link way delay found link_is at way_is delay_is =
-    let there : link_at network (link_of network draw) ≡ Some found = ap (link_at network) (sym link_is) ∙ at in
-    let same : kinds.Wire link way delay ≡ kinds.Wire (link_of network draw) (way_of draw) (wire_of found draw) = cc in
-    subst
-    (λ (o : Option Link). IsSomeAnd o (λ l. kinds.Wire link way delay ≡ kinds.Wire (link_of network draw) (way_of draw) (wire_of l draw)))
-    (sym there) same
+module _ (network : Network) (before : List Event) (time : Units) (draw : Draw) (link : LinkId) (way : Way)
+    (delay : Units) (found : Link) (link_is : link ≡ link_of network draw) (at : link_at network link ≡ Some found)
+    (way_is : way ≡ way_of draw) where
+  -- the wire delay of a link
+  pub wire_drawn : delay ≡ wire_of found draw → IsChosen network before time draw Wire (kinds.Wire link way delay)
+  wire_drawn delay_is =
+      let there : link_at network (link_of network draw) ≡ Some found = ap (link_at network) (sym link_is) ∙ at in
+      let same : kinds.Wire link way delay ≡ kinds.Wire (link_of network draw) (way_of draw) (wire_of found draw) =
+      cc in
+      subst
+      (λ (o : Option Link). IsSomeAnd o (λ l. kinds.Wire link way delay ≡ kinds.Wire (link_of network draw)
+      (way_of draw) (wire_of l draw)))
+      (sym there) same
 
--- the hold of a link
-pub hold_drawn : (network : Network) (before : List Event) (time : Units) (draw : Draw) (link : LinkId) (way : Way) (delay : Units) (found : Link)
-    → link ≡ link_of network draw → link_at network link ≡ Some found → way ≡ way_of draw → delay ≡ hold_of found draw
-    → IsChosen network before time draw Hold (kinds.Hold link way delay)
-hold_drawn network before time draw link way delay found link_is at way_is delay_is =
-    let there : link_at network (link_of network draw) ≡ Some found = ap (link_at network) (sym link_is) ∙ at in
-    let same : kinds.Hold link way delay ≡ kinds.Hold (link_of network draw) (way_of draw) (hold_of found draw) = cc in
-    subst
-    (λ (o : Option Link). IsSomeAnd o (λ l. kinds.Hold link way delay ≡ kinds.Hold (link_of network draw) (way_of draw) (hold_of l draw)))
-    (sym there) same
+  -- the hold of a link
+  pub hold_drawn : delay ≡ hold_of found draw → IsChosen network before time draw Hold (kinds.Hold link way delay)
+  hold_drawn delay_is =
+      let there : link_at network (link_of network draw) ≡ Some found = ap (link_at network) (sym link_is) ∙ at in
+      let same : kinds.Hold link way delay ≡ kinds.Hold (link_of network draw) (way_of draw) (hold_of found draw) =
+      cc in
+      subst
+      (λ (o : Option Link). IsSomeAnd o (λ l. kinds.Hold link way delay ≡ kinds.Hold (link_of network draw)
+      (way_of draw) (hold_of l draw)))
+      (sym there) same
 
 -- the kinds that no link's own numbers bound
 pub rate_drawn : (network : Network) (before : List Event) (time : Units) (draw : Draw) (device : DeviceId) (rate : Ppb)
     → device ≡ device_of network draw → rate ≡ rate_of network draw → IsChosen network before time draw Rate (kinds.Rate device rate)
 rate_drawn network before time draw device rate device_is rate_is = cc
 
-pub cut_drawn : (network : Network) (before : List Event) (time : Units) (draw : Draw) (link : LinkId) (way : Way)
-    → link ≡ link_of network draw → way ≡ way_of draw → IsChosen network before time draw Cut (kinds.Cut link way)
-cut_drawn network before time draw link way link_is way_is = cc
+module _ (network : Network) (before : List Event) (time : Units) (draw : Draw) (link : LinkId) (way : Way)
+    (link_is : link ≡ link_of network draw) (way_is : way ≡ way_of draw) where
+  pub cut_drawn : IsChosen network before time draw Cut (kinds.Cut link way)
+  cut_drawn = cc
 
-pub heal_drawn : (network : Network) (before : List Event) (time : Units) (draw : Draw) (link : LinkId) (way : Way)
-    → link ≡ link_of network draw → way ≡ way_of draw → IsChosen network before time draw Heal (kinds.Heal link way)
-heal_drawn network before time draw link way link_is way_is = cc
+  pub heal_drawn : IsChosen network before time draw Heal (kinds.Heal link way)
+  heal_drawn = cc
 
 -- where a value is there and has one property, it has each that follows
 pub match_some : {X : Type 0} (o : Option X) (P Q : X → Type 0) → ((x : X) → P x → Q x) → MatchOption o ⊥ P → MatchOption o ⊥ Q

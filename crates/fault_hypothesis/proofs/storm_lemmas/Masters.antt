@@ -12,67 +12,69 @@ IsLastBelow network (Some master) place =
     (master.0 < place) × IsMaster network master
     × ((later : DeviceId) → master.0 < later.0 → later.0 < place → IsMaster network later → ⊥)
 
--- a master at the place is the last one below the next
-pub next_master : (network : Network) (place : ℕ) (found : Device) → slice_get network.device place ≡ Some found → is_master found.role ≡ true
-    → IsLastBelow network (Some (record { 0 = place })) (place + 1)
-next_master network place found at master = (omega arith, rw at master, λ later above below is. omega (arith, above, below))
+module _ (network : Network) (place : ℕ) (found : Device) where
+  -- a master at the place is the last one below the next
+  pub next_master : slice_get network.device place ≡ Some found → is_master found.role ≡ true
+      → IsLastBelow network (Some (record { 0 = place })) (place + 1)
+  next_master at master = (omega arith, rw at master, λ later above below is. omega (arith, above, below))
 
--- a master at the place has a master's role
-not_here : (network : Network) (place : ℕ) (found : Device) (device : DeviceId) → slice_get network.device place ≡ Some found → device.0 ≡ place
-    → IsMaster network device → is_master found.role ≡ true
-not_here network place found device at same is =
-    let there : device_at network device ≡ Some found = ap (slice_get network.device) same ∙ at in
-    subst (λ (o : Option Device). IsSomeAnd o (λ d. is_master d.role ≡ true)) there is
+  -- a master at the place has a master's role
+  not_here : (device : DeviceId) → slice_get network.device place ≡ Some found → device.0 ≡ place
+      → IsMaster network device → is_master found.role ≡ true
+  not_here device at same is =
+      let there : device_at network device ≡ Some found = ap (slice_get network.device) same ∙ at in
+      subst (λ (o : Option Device). IsSomeAnd o (λ d. is_master d.role ≡ true)) there is
 
--- where no master stands at the place, the last one below it is that below the next
-pub next_other : (network : Network) (place : ℕ) (found : Device) (last : Option DeviceId) → slice_get network.device place ≡ Some found
-    → (is_master found.role ≡ true → ⊥) → IsLastBelow network last place → IsLastBelow network last (place + 1)
-next_other network place found None at other below = λ device within is.
-    elim (cases_order device.0 place) [
-      | inl same ↦ other (not_here network place found device at same is)
-      | inr (inl less) ↦ below device less is
+  -- where no master stands at the place, the last one below it is that below the next
+  pub next_other : (last : Option DeviceId) → slice_get network.device place ≡ Some found
+      → (is_master found.role ≡ true → ⊥) → IsLastBelow network last place → IsLastBelow network last (place + 1)
+  next_other None at other below = λ device within is.
+      elim (cases_order device.0 place) [
+        | inl same ↦ other (not_here device at same is)
+        | inr (inl less) ↦ below device less is
+        | inr (inr more) ↦ omega (arith, more, within)
+      ]
+  next_other (Some master) at other below = (
+    omega (arith, below.0),
+    below.1,
+    λ later above within is. elim (cases_order later.0 place) [
+      | inl same ↦ other (not_here later at same is)
+      | inr (inl less) ↦ below.2 later above less is
       | inr (inr more) ↦ omega (arith, more, within)
-    ]
-next_other network place found (Some master) at other below = (
-  omega (arith, below.0),
-  below.1,
-  λ later above within is. elim (cases_order later.0 place) [
-    | inl same ↦ other (not_here network place found later at same is)
-    | inr (inl less) ↦ below.2 later above less is
-    | inr (inr more) ↦ omega (arith, more, within)
-  ],
-)
+    ],
+  )
 
 some_found : (o : Option Device) → IsSomeAnd o (λ d. is_master d.role ≡ true) → (d : Device) × (o ≡ Some d) × (is_master d.role ≡ true)
 some_found None is = absurd is
 some_found (Some d) is = (d, refl, is)
 
--- a master stands below the end of the list
-pub master_within : (network : Network) (device : DeviceId) → IsMaster network device → device.0 < length network.device
-master_within network device is =
-    let found = some_found (device_at network device) is in
-    slice_get_within network.device device.0 found.0 found.1
+module _ (network : Network) where
+  -- a master stands below the end of the list
+  pub master_within : (device : DeviceId) → IsMaster network device → device.0 < length network.device
+  master_within device is =
+      let found = some_found (device_at network device) is in
+      slice_get_within network.device device.0 found.0 found.1
 
--- the device of a master
-pub master_found : (network : Network) (device : DeviceId) → IsMaster network device
-    → (d : Device) × (device_at network device ≡ Some d) × (is_master d.role ≡ true)
-master_found network device is = some_found (device_at network device) is
+  -- the device of a master
+  pub master_found : (device : DeviceId) → IsMaster network device
+      → (d : Device) × (device_at network device ≡ Some d) × (is_master d.role ≡ true)
+  master_found device is = some_found (device_at network device) is
 
--- the last one below the end is the last
-pub last_of_all : (network : Network) (last : Option DeviceId) → IsLastBelow network last (length network.device)
-    → MatchOption last ((device : DeviceId) → IsMaster network device → ⊥) (IsLastMaster network)
-last_of_all network None below = λ device is. below device (master_within network device is) is
-last_of_all network (Some master) below =
-    record { master = below.1; last = λ later above is. below.2 later above (master_within network later is) is }
+  -- the last one below the end is the last
+  pub last_of_all : (last : Option DeviceId) → IsLastBelow network last (length network.device)
+      → MatchOption last ((device : DeviceId) → IsMaster network device → ⊥) (IsLastMaster network)
+  last_of_all None below = λ device is. below device (master_within device is) is
+  last_of_all (Some master) below =
+      record { master = below.1; last = λ later above is. below.2 later above (master_within later is) is }
 
-pub master_is_end : (network : Network) (device : DeviceId) → IsMaster network device → IsEndSystem network device
-master_is_end network device is =
-    let found = master_found network device is in
-    rw found.1 (master_ends found.0.role found.2)
+  pub master_is_end : (device : DeviceId) → IsMaster network device → IsEndSystem network device
+  master_is_end device is =
+      let found = master_found device is in
+      rw found.1 (master_ends found.0.role found.2)
 
--- a master of a network that keeps the rules has an uplink on each channel
-pub master_uplink : (network : Network) (device : DeviceId) (channel : Channel) → KeepsRules network → IsMaster network device
-    → (link : LinkId) × IsUplink network channel device link
-master_uplink network device channel rules is =
-    let one = (rules Connections device.0).ends (master_is_end network device is) channel in
-    (one.0, one.1)
+  -- a master of a network that keeps the rules has an uplink on each channel
+  pub master_uplink : (device : DeviceId) (channel : Channel) → KeepsRules network → IsMaster network device
+      → (link : LinkId) × IsUplink network channel device link
+  master_uplink device channel rules is =
+      let one = (rules Connections device.0).ends (master_is_end device is) channel in
+      (one.0, one.1)

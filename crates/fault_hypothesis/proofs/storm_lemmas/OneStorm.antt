@@ -1,11 +1,11 @@
 -- There is one storm of a seed.
 use Rattle.fault_hypothesis.{proofs.storm_lemmas.Masters.master_is_end, specs.storm.Choosing.{channel_of, choice_of, hold_of, link_of, way_of, wire_of}}
 use Rattle.fault_hypothesis.{proofs.storm_lemmas.SameOctets.same_octets, specs.declared.storm.draw.Choice.TheVariants.{Cut, Heal, Hold, On, Rate, Strike, Wire}}
-use Rattle.fault_hypothesis.{proofs.storm_lemmas.Storms.storms_within, specs.storm.Events.{AreStormEvents, IsChosen, IsEventOf, IsStormEvent, time_of}}
+use Rattle.fault_hypothesis.{proofs.storm_lemmas.Storms.storms_within, specs.storm.Events.{AreStormEvents, IsChosen, IsEventOf, IsStormEvent}}
 use Rattle.fault_hypothesis.{proofs.storm_lemmas.Within.{any_split, broken_is_master}, specs.storm.Striking.{IsLastMaster, SendsForged, Strikes, forged}}
 use Rattle.{fault_hypothesis.specs.declared.storm.draw.{Choice.Choice, Draw.Draw}, net_plan.specs.declared.{ids.DeviceId.DeviceId, network.Network.Network}}
 use Rattle.{fault_hypothesis.specs.storm.Laws.StormIsOne, net_plan.specs.declared.tables.Device.Device, run_law.specs.scenario.Faults.{Breaks, IsBroken}}
-use Rattle.{fault_hypothesis.specs.storm.Words.draw_at, run_law.proofs.scenario.Devices.within_front, tte_units.specs.declared.frames.pcf.Pcf.Pcf}
+use Rattle.run_law.proofs.scenario.Devices.{within_front}
 use Rattle.{net_plan.specs.{Places.link_at, declared.{event.{Event.Event, What.What}, tables.Link.Link}}, tte_units.specs.declared.units.Units.Units}
 use Rattle.{pcf_codec.specs.Spelling.Spells, schedule_tables.specs.Rules.KeepsRules, std.{proofs.lemmas.Bool.cases_order, specs.{List.Any, Prelude.IsSomeAnd}}}
 use Rattle.{run_law.specs.declared.outside.Outside.TheVariants.SecondBreak, schedule_tables.specs.declared.rule.Rule.TheVariants.Connections}
@@ -50,8 +50,8 @@ abbrev id_of : ℕ → DeviceId
 id_of n = record { 0 = n }
 
 -- a network has one last master
-one_last : (network : Network) (a b : DeviceId) → IsLastMaster network a → IsLastMaster network b → a ≡ b
-one_last network a b last other =
+one_last : {network : Network} {a b : DeviceId} → IsLastMaster network a → IsLastMaster network b → a ≡ b
+one_last {a} {b} last other =
     elim (cases_order a.0 b.0) [
       | inl same ↦ let ids : id_of a.0 ≡ id_of b.0 = ap id_of same in ids
       | inr (inl less) ↦ absurd (last.last b less other.master)
@@ -59,9 +59,10 @@ one_last network a b last other =
     ]
 
 -- a broken master has one forged send
-one_send : (network : Network) (before : List Event) (device : DeviceId) (time : Units) (draw : Draw) (w v : What) → KeepsRules network
-    → AreWithinHypothesis network before → IsBroken before device → SendsForged network device time draw w → SendsForged network device time draw v → w ≡ v
-one_send network before device time draw w v rules within broken a b =
+one_send : {network : Network} (before : List Event) {device : DeviceId} {time : Units} {draw : Draw} {w v : What}
+    → KeepsRules network → AreWithinHypothesis network before → IsBroken before device
+    → SendsForged network device time draw w → SendsForged network device time draw v → w ≡ v
+one_send {network} before {device} {time} {draw} rules within broken a b =
     let a_at = a.at in
     let b_at = b.at in
     let masters : a.master ≡ b.master = cc in
@@ -73,24 +74,25 @@ one_send network before device time draw w v rules within broken a b =
     let one = (rules Connections device.0).ends end (channel_of draw) in
     let links = one.2 a.link a.uplink ∙ sym (one.2 b.link b.uplink) in
     let frames : forged network b.master b.member time draw ≡ forged network a.master a.member time draw =
-    ap (λ (d : Device). forged network d b.member time draw) (sym masters) ∙ ap (λ (m : ℕ). forged network a.master m time draw) (sym members)
+    ap (λ d. forged network d b.member time draw) (sym masters) ∙ ap (λ m. forged network a.master m time draw) (sym members)
     in
-    let octets = same_octets a.octets b.octets (forged network a.master a.member time draw) a.spells (subst (λ (p : Pcf). Spells b.octets p) frames b.spells)
+    let octets = same_octets a.spells (subst (λ p. Spells b.octets p) frames b.spells)
     a.bytes b.bytes a.padding b.padding
     in
     let same : kinds.Send a.link a.octets ≡ kinds.Send b.link b.octets = cc in
     a.sends ∙ same ∙ sym b.sends
 
 -- a strike is one
-one_strike : (network : Network) (before : List Event) (time : Units) (draw : Draw) (w v : What) → KeepsRules network → AreWithinHypothesis network before
-    → Strikes network before time draw w → Strikes network before time draw v → w ≡ v
-one_strike network before time draw w v rules within (inl a) (inl b) =
-    a.breaks ∙ ap (λ (d : DeviceId). kinds.Break d) (one_last network a.master b.master a.last b.last) ∙ sym b.breaks
-one_strike network before time draw w v rules within (inl a) (inr b) = absurd (a.none b.0 b.1)
-one_strike network before time draw w v rules within (inr a) (inl b) = absurd (b.none a.0 a.1)
-one_strike network before time draw w v rules within (inr a) (inr b) =
+one_strike : {network : Network} {before : List Event} {time : Units} {draw : Draw} {w v : What} → KeepsRules network
+    → AreWithinHypothesis network before → Strikes network before time draw w → Strikes network before time draw v
+    → w ≡ v
+one_strike rules within (inl a) (inl b) =
+    a.breaks ∙ ap (λ (d : DeviceId). kinds.Break d) (one_last a.last b.last) ∙ sym b.breaks
+one_strike rules within (inl a) (inr b) = absurd (a.none b.0 b.1)
+one_strike rules within (inr a) (inl b) = absurd (b.none a.0 a.1)
+one_strike {network} {before} {time} {draw} {v} rules within (inr a) (inr b) =
     let same = one_broken network before within b.0 a.0 b.1 a.1 in
-    one_send network before a.0 time draw w v rules within a.1 a.2 (subst (λ (d : DeviceId). SendsForged network d time draw v) same b.2)
+    one_send before rules within a.1 a.2 (subst (λ d. SendsForged network d time draw v) same b.2)
 
 one_of_some : {X : Type 0} (o : Option X) (f : X → What) (w v : What) → IsSomeAnd o (λ x. w ≡ f x) → IsSomeAnd o (λ x. v ≡ f x) → w ≡ v
 one_of_some None f w v a b = absurd a
@@ -107,52 +109,58 @@ one_chosen network before time draw Hold w v rules within a b =
 one_chosen network before time draw Cut w v rules within a b = a ∙ sym b
 one_chosen network before time draw Heal w v rules within a b = a ∙ sym b
 one_chosen network before time draw On w v rules within a b = a ∙ sym b
-one_chosen network before time draw Strike w v rules within a b = one_strike network before time draw w v rules within a b
+one_chosen network before time draw Strike w v rules within a b = one_strike rules within a b
 
 abbrev at_time : Units → What → Event
 at_time time what = record { time = time; what = what }
 
 -- a step has one event
-one_event : (network : Network) (before : List Event) (time : Units) (draw : Draw) (a b : Event) → KeepsRules network → AreWithinHypothesis network before
-    → IsEventOf network before time draw a → IsEventOf network before time draw b → a ≡ b
-one_event network before time draw a b rules within is other =
+one_event : {network : Network} {before : List Event} {time : Units} {draw : Draw} {a b : Event} → KeepsRules network
+    → AreWithinHypothesis network before → IsEventOf network before time draw a
+    → IsEventOf network before time draw b → a ≡ b
+one_event {network} {before} {time} {draw} rules within is other =
     let same = one_chosen network before time draw (choice_of draw.kind) is.drawn other.drawn rules within is.is_drawn other.is_drawn in
     elim is.becomes [
       | inl good ↦ elim other.becomes [
         | inl fine ↦ good.1 ∙ ap (at_time time) same ∙ sym fine.1
-        | inr bad ↦ absurd (bad.0 (subst (λ (w : What). IsWithinHypothesis network before (at_time time w)) same good.0))
+        | inr bad ↦ absurd (bad.0 (subst (λ w. IsWithinHypothesis network before (at_time time w)) same good.0))
       ]
       | inr bad ↦ elim other.becomes [
-        | inl fine ↦ absurd (bad.0 (subst (λ (w : What). IsWithinHypothesis network before (at_time time w)) (sym same) fine.0))
+        | inl fine ↦ absurd (bad.0 (subst (λ w. IsWithinHypothesis network before (at_time time w)) (sym same) fine.0))
         | inr worse ↦ bad.1 ∙ sym worse.1
       ]
     ]
 
--- the event of a number is one
-pub one_storm_event : (network : Network) (seed cycles : ℕ) (before : List Event) (n : ℕ) (a b : Event) → KeepsRules network
-    → AreWithinHypothesis network before → IsStormEvent network seed cycles before n a → IsStormEvent network seed cycles before n b → a ≡ b
-one_storm_event network seed cycles before n a b rules within (inl x) (inl y) =
-    one_event network before (time_of network n) (draw_at seed n) a b rules within x.1 y.1
-one_storm_event network seed cycles before n a b rules within (inl x) (inr y) = absurd (omega (arith, x.0, y.0))
-one_storm_event network seed cycles before n a b rules within (inr x) (inl y) = absurd (omega (arith, x.0, y.0))
-one_storm_event network seed cycles before n a b rules within (inr x) (inr y) = x.1 ∙ sym y.1
+module _ (network : Network) (seed cycles : ℕ) where
+  -- the event of a number is one
+  pub one_storm_event : {before : List Event} (n : ℕ) {a b : Event} → KeepsRules network
+      → AreWithinHypothesis network before → IsStormEvent network seed cycles before n a
+      → IsStormEvent network seed cycles before n b → a ≡ b
+  one_storm_event n rules within (inl x) (inl y) =
+      one_event rules within x.1 y.1
+  one_storm_event n rules within (inl x) (inr y) = absurd (omega (arith, x.0, y.0))
+  one_storm_event n rules within (inr x) (inl y) = absurd (omega (arith, x.0, y.0))
+  one_storm_event n rules within (inr x) (inr y) = x.1 ∙ sym y.1
 
--- behind the same events, as many events of a storm are the same
-same_rest : (network : Network) (seed cycles : ℕ) (front rest other : List Event) → KeepsRules network → AreWithinHypothesis network (front ++ rest)
-    → AreStormEvents network seed cycles (front ++ rest) → AreStormEvents network seed cycles (front ++ other) → length rest ≡ length other → rest ≡ other
-same_rest network seed cycles front [] [] rules within a b size = refl
-same_rest network seed cycles front [] (y ∷ other) rules within a b size = absurd (omega (arith, size))
-same_rest network seed cycles front (x ∷ rest) [] rules within a b size = absurd (omega (arith, size))
-same_rest network seed cycles front (x ∷ rest) (y ∷ other) rules within a b size =
-    let heads = one_storm_event network seed cycles front (length front) x y rules (within_front network front (x ∷ rest) within) (a front rest x refl)
-    (b front other y refl)
-    in
-    let moved = sym (append_assoc front (x ∷ []) rest) in
-    let shifted = ap (λ (e : Event). front ++ e ∷ other) (sym heads) ∙ sym (append_assoc front (x ∷ []) other) in
-    let tails = same_rest network seed cycles (front ++ x ∷ []) rest other rules (subst (AreWithinHypothesis network) moved within)
-    (subst (AreStormEvents network seed cycles) moved a) (subst (AreStormEvents network seed cycles) shifted b) (omega (arith, size))
-    in
-    ap (λ (e : Event). e ∷ rest) heads ∙ ap (λ (l : List Event). y ∷ l) tails
+  -- behind the same events, as many events of a storm are the same
+  same_rest : (front rest other : List Event) → KeepsRules network → AreWithinHypothesis network (front ++ rest)
+      → AreStormEvents network seed cycles (front ++ rest) → AreStormEvents network seed cycles (front ++ other)
+      → length rest ≡ length other → rest ≡ other
+  same_rest front [] [] rules within a b size = refl
+  same_rest front [] (y ∷ other) rules within a b size = absurd (omega (arith, size))
+  same_rest front (x ∷ rest) [] rules within a b size = absurd (omega (arith, size))
+  same_rest front (x ∷ rest) (y ∷ other) rules within a b size =
+      let heads = one_storm_event (length front) rules (within_front network front (x ∷ rest) within)
+      (a front rest x refl)
+      (b front other y refl)
+      in
+      let moved = sym (append_assoc front (x ∷ []) rest) in
+      let shifted = ap (λ (e : Event). front ++ e ∷ other) (sym heads) ∙ sym (append_assoc front (x ∷ []) other) in
+      let tails = same_rest (front ++ x ∷ []) rest other rules (subst (AreWithinHypothesis network) moved within)
+      (subst (AreStormEvents network seed cycles) moved a) (subst (AreStormEvents network seed cycles) shifted b)
+      (omega (arith, size))
+      in
+      ap (λ (e : Event). e ∷ rest) heads ∙ ap (λ (l : List Event). y ∷ l) tails
 
 pub one_storm : StormIsOne
 one_storm network seed cycles storm other rules few a b =

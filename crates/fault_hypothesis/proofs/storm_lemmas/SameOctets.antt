@@ -5,7 +5,7 @@ use Rattle.std.{proofs.Common.{◌*◌, ◌+◌, ◌-◌, ◌<◌, ◌^◌, ◌�
 use Rattle.{std.proofs.lemmas.{Bool.{cases_lt, cases_order}, List.{ext_get_or, get_or-drop}}, tte_units.proofs.general_lemmas.Naturals.same_heads}
 
 same_tails : (x y p r s : ℕ) → x ≡ y → x * p + r ≡ y * p + s → r ≡ s
-same_tails x y p r s heads same = let tops = ap (λ (b : ℕ). b * p) heads in omega (arith, same, tops)
+same_tails x y p r s heads same = let tops = ap (λ b. b * p) heads in omega (arith, same, tops)
 
 -- bytes that spell one number are equal
 same_bytes : (n i : ℕ) (xs ys : List ℕ) → IsBytes xs → IsBytes ys → big_from i n xs ≡ big_from i n ys → (k : ℕ) → i ≤ k → k < i + n
@@ -23,7 +23,7 @@ same_bytes (suc n) i xs ys small other same k low high =
     ]
 
 bytes_drop : (place : ℕ) (xs : List ℕ) → IsBytes xs → IsBytes (drop place xs)
-bytes_drop place xs small i = subst (λ (v : ℕ). v < 256) (sym (get_or-drop place xs i 0)) (small (place + i))
+bytes_drop place xs small i = subst (λ v. v < 256) (sym (get_or-drop place xs i 0)) (small (place + i))
 
 -- the octets of equal fields are equal
 same_field : (place n : ℕ) (xs ys : List ℕ) → IsBytes xs → IsBytes ys → field place n xs ≡ field place n ys → (k : ℕ) → place ≤ k → k < place + n
@@ -36,9 +36,9 @@ same_field place n xs ys small other same k low high =
     rw back (sym (get_or-drop place xs (k - place) 0) ∙ moved ∙ get_or-drop place ys (k - place) 0)
 
 -- two spellings with zeros in the padding are one
-pub same_octets : (xs ys : List ℕ) (p : Pcf) → Spells xs p → Spells ys p → IsBytes xs → IsBytes ys → ((i : ℕ) → IsPadding i → slice_index xs i ≡ 0)
-    → ((i : ℕ) → IsPadding i → slice_index ys i ≡ 0) → xs ≡ ys
-same_octets xs ys p x y small other zeros none =
+pub same_octets : {xs ys : List ℕ} {p : Pcf} → Spells xs p → Spells ys p → IsBytes xs → IsBytes ys
+    → ((i : ℕ) → IsPadding i → slice_index xs i ≡ 0) → ((i : ℕ) → IsPadding i → slice_index ys i ≡ 0) → xs ≡ ys
+same_octets {xs} {ys} x y small other zeros none =
     ext_get_or 0 xs ys (x.size ∙ sym y.size)
     (λ i within.
     elim (cases_lt i 14) [

@@ -36,53 +36,57 @@ broken_is_master network before within device broken =
     (λ no. within at.0 at.2 at.1 at.3 NotMaster (record { device = device; breaks = at.4; no_master = no }))
 
 -- what a watch knows of the broken device
-pub knows_broken : (network : Network) (watch : Watch) (before : List Event) (broken : Option DeviceId) → Watches network watch before
-    → ((device : DeviceId) → (broken ≡ Some device) ↔ IsBroken before device) → KnowsBroken network before broken
-knows_broken network watch before broken w known =
+pub knows_broken : {network : Network} {watch : Watch} {before : List Event} (broken : Option DeviceId)
+    → Watches network watch before → ((device : DeviceId) → (broken ≡ Some device) ↔ IsBroken before device)
+    → KnowsBroken network before broken
+knows_broken {network} {before} broken w known =
     record { known = known; masters = broken_is_master network before w.within }
 
 -- an event at a time that is not before those of the others does not come too early
-in_order : (before : List Event) (event : Event) → AreNoLater before event.time → ComesTooEarly before event → ⊥
-in_order before event no_later v = omega (arith, ints, v.later, no_later v.front v.last v.order)
+in_order : {before : List Event} {event : Event} → AreNoLater before event.time → ComesTooEarly before event → ⊥
+in_order no_later v = omega (arith, ints, v.later, no_later v.front v.last v.order)
 
--- the end is within the hypothesis
-pub end_within : (network : Network) (before : List Event) (event : Event) → event.what ≡ kinds.End → AreNoLater before event.time
-    → event.time.0 ≤ℤ pos (2 ^ 20 * amount network.cycle) → IsWithinHypothesis network before event
-end_within network before event what no_later in_run Order v = in_order before event no_later v
-end_within network before event what no_later in_run Late v = omega (arith, ints, v, in_run)
-end_within network before event what no_later in_run Rate v = let is = v.what in absurd cc
-end_within network before event what no_later in_run Wire v = let is = v.what in absurd cc
-end_within network before event what no_later in_run Hold v = let is = v.what in absurd cc
-end_within network before event what no_later in_run OtherChannel v = let is = v.what in absurd cc
-end_within network before event what no_later in_run NotMaster v = let is = v.breaks in absurd cc
-end_within network before event what no_later in_run SecondBreak v = let is = v.breaks in absurd cc
-end_within network before event what no_later in_run TooFewMasters v = let is = v.breaks in absurd cc
-end_within network before event what no_later in_run NotBroken v = let is = v.what in absurd cc
-end_within network before event what no_later in_run NotOff v = let is = v.what in absurd cc
+module _ (network : Network) (before : List Event) (event : Event) (what : event.what ≡ kinds.End)
+    (no_later : AreNoLater before event.time) (in_run : event.time.0 ≤ℤ pos (2 ^ 20 * amount network.cycle)) where
+  -- the end is within the hypothesis
+  pub end_within : IsWithinHypothesis network before event
+  end_within Order v = in_order no_later v
+  end_within Late v = omega (arith, ints, v, in_run)
+  end_within Rate v = let is = v.what in absurd cc
+  end_within Wire v = let is = v.what in absurd cc
+  end_within Hold v = let is = v.what in absurd cc
+  end_within OtherChannel v = let is = v.what in absurd cc
+  end_within NotMaster v = let is = v.breaks in absurd cc
+  end_within SecondBreak v = let is = v.breaks in absurd cc
+  end_within TooFewMasters v = let is = v.breaks in absurd cc
+  end_within NotBroken v = let is = v.what in absurd cc
+  end_within NotOff v = let is = v.what in absurd cc
 
--- what stands for a refused event is within the hypothesis
-pub substitute_within : (network : Network) (before : List Event) (event : Event) → event.what ≡ substitute → AreNoLater before event.time
-    → event.time.0 ≤ℤ pos (2 ^ 20 * amount network.cycle) → IsWithinHypothesis network before event
-substitute_within network before event what no_later in_run Order v = in_order before event no_later v
-substitute_within network before event what no_later in_run Late v = omega (arith, ints, v, in_run)
-substitute_within network before event what no_later in_run Rate v =
-    let is = v.what in
-    let still : v.rate ≡ record { 0 = pos 0 } = cc in
-    let none : unsigned_abs v.rate.0 ≡ 0 = ap (λ (r : Ppb). unsigned_abs r.0) still in
-    omega (arith, v.fast, none)
-substitute_within network before event what no_later in_run Wire v = let is = v.what in absurd cc
-substitute_within network before event what no_later in_run Hold v = let is = v.what in absurd cc
-substitute_within network before event what no_later in_run OtherChannel v = let is = v.what in absurd cc
-substitute_within network before event what no_later in_run NotMaster v = let is = v.breaks in absurd cc
-substitute_within network before event what no_later in_run SecondBreak v = let is = v.breaks in absurd cc
-substitute_within network before event what no_later in_run TooFewMasters v = let is = v.breaks in absurd cc
-substitute_within network before event what no_later in_run NotBroken v = let is = v.what in absurd cc
-substitute_within network before event what no_later in_run NotOff v = let is = v.what in absurd cc
+module _ (network : Network) (before : List Event) (event : Event) (what : event.what ≡ substitute)
+    (no_later : AreNoLater before event.time) (in_run : event.time.0 ≤ℤ pos (2 ^ 20 * amount network.cycle)) where
+  -- what stands for a refused event is within the hypothesis
+  pub substitute_within : IsWithinHypothesis network before event
+  substitute_within Order v = in_order no_later v
+  substitute_within Late v = omega (arith, ints, v, in_run)
+  substitute_within Rate v =
+      let is = v.what in
+      let still : v.rate ≡ record { 0 = pos 0 } = cc in
+      let none : unsigned_abs v.rate.0 ≡ 0 = ap (λ (r : Ppb). unsigned_abs r.0) still in
+      omega (arith, v.fast, none)
+  substitute_within Wire v = let is = v.what in absurd cc
+  substitute_within Hold v = let is = v.what in absurd cc
+  substitute_within OtherChannel v = let is = v.what in absurd cc
+  substitute_within NotMaster v = let is = v.breaks in absurd cc
+  substitute_within SecondBreak v = let is = v.breaks in absurd cc
+  substitute_within TooFewMasters v = let is = v.breaks in absurd cc
+  substitute_within NotBroken v = let is = v.what in absurd cc
+  substitute_within NotOff v = let is = v.what in absurd cc
 
 -- the event of a step is within the hypothesis
-pub step_within : (network : Network) (before : List Event) (time : Units) (draw : Draw) (event : Event) → IsEventOf network before time draw event
-    → AreNoLater before time → time.0 ≤ℤ pos (2 ^ 20 * amount network.cycle) → IsWithinHypothesis network before event
-step_within network before time draw event of_step no_later in_run =
+pub step_within : {network : Network} {before : List Event} {time : Units} {draw : Draw} {event : Event}
+    → IsEventOf network before time draw event → AreNoLater before time
+    → time.0 ≤ℤ pos (2 ^ 20 * amount network.cycle) → IsWithinHypothesis network before event
+step_within {network} {before} {time} of_step no_later in_run =
     elim of_step.becomes [
       | inl is ↦ subst (IsWithinHypothesis network before) (sym is.1) is.0
       | inr is ↦

@@ -39,7 +39,7 @@ pub none_ended : (network : Network) (seed cycles : ℕ) (events : List Event) �
     → HaveEnded events → ⊥
 none_ended network seed cycles events each few (k, e, lt, at, is) =
     let p = parted events e (k, lt, at) in
-    let last = end_is_behind network seed cycles p.0 (length p.0) e (each p.0 p.1 e p.2) is in
+    let last = end_is_behind seed cycles (length p.0) (each p.0 p.1 e p.2) is in
     let long = ap (λ l. length l) p.2 in
     let longer = length-append p.0 (e ∷ p.1) in
     omega (arith, last, few, long, longer)
@@ -79,7 +79,7 @@ module _ (network : Network) (seed cycles : ℕ) (events : List Event) (it : Sto
   pub gives_one : (new : StormEvents) → new.accepted.now ≡ it.accepted.now → Watches network new.watch (events ++ event ∷ [])
       → new.storm ≡ record it.storm { given = it.storm.given + 1 } → IsStormTo network seed cycles (events ++ event ∷ []) new
   gives_one new over watches storm =
-      let more = one_more network it.storm.seed it.storm.cycles events it.storm.given event own.each (sym given.given_is) (d.is events given.watches) in
+      let more = one_more network it.storm.seed it.storm.cycles events it.storm.given own.each (sym given.given_is) (d.is events given.watches) in
       record {
         over = over ∙ given.over;
         least = given.least;

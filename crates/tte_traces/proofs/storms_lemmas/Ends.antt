@@ -10,4 +10,4 @@ storm_ends network seed cycles events time each ends =
     let end : Event = record { time = time; what = End } in
     let p = parted events end ends in
     let is = each p.0 p.1 end p.2 in
-    storm_time network seed cycles p.0 _ end is ∙ ap (time_of network) (end_is_behind network seed cycles p.0 _ end is refl)
+    storm_time network seed cycles p.0 _ end is ∙ ap (time_of network) (end_is_behind seed cycles _ is refl)

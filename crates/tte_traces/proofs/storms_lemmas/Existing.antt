@@ -270,7 +270,7 @@ more_steps {network} seed {cycles} (suc n) front stormy each within =
     let ready = ready_at (length front) stormy (omega (arith, within)) in
     let next = step front seed (length front) ready keeps in
     let one : AreStormEvents network seed cycles (front ++ next.0 ∷ []) =
-    more_events network seed cycles front next.0 each (inl (omega (arith, within), next.1)) in
+    more_events network seed cycles front {event = next.0} each (inl (omega (arith, within), next.1)) in
     let size = length-append front (next.0 ∷ []) in
     let rest = more_steps seed n (front ++ next.0 ∷ []) stormy one (omega (arith, within, size)) in
     let count = rest.1 in (
@@ -294,7 +294,7 @@ module _ {network : Network} (seed : ℕ) {cycles : ℕ} (front : List Event) (s
       let moved = append_assoc front steps.0 (end ∷ []) in
       let is : IsStorm network seed cycles (all ++ end ∷ []) = record {
         whole = omega (arith, size, length-append all (end ∷ []));
-        each = more_events network seed cycles all end steps.2 (inr (size, refl));
+        each = more_events network seed cycles all {event = end} steps.2 (inr (size, refl));
       } in (
         steps.0 ++ end ∷ [],
         subst (IsStorm network seed cycles) moved is,

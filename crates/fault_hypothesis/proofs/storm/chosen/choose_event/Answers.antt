@@ -5,7 +5,7 @@ use Rattle.fault_hypothesis.proofs.storm.chosen.choose_event.Goals as goal
 
 pub returns-in-Ok-clause-value : goal.returns-in-Ok-clause-value
 returns-in-Ok-clause-value c = λ before w.
-    let knows = knows_broken c.args.network.now c.args.watch.now before c.broken.result w (c.broken.ensures c.args.network.now before w) in
+    let knows = knows_broken c.broken.result w (c.broken.ensures c.args.network.now before w) in
     let drawn = c.draw_in.ensures.value before knows in
     record {
       drawn = c.draw_in.new.what;
@@ -15,7 +15,7 @@ returns-in-Ok-clause-value c = λ before w.
 
 pub returns-clause-value : goal.returns-clause-value
 returns-clause-value c = λ before w.
-    let knows = knows_broken c.args.network.now c.args.watch.now before c.broken.result w (c.broken.ensures c.args.network.now before w) in
+    let knows = knows_broken c.broken.result w (c.broken.ensures c.args.network.now before w) in
     let drawn = c.draw_in.ensures.value before knows in
     record {
       drawn = c.draw_in.new.what;

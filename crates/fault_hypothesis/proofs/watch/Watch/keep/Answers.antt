@@ -1,7 +1,7 @@
 use Rattle.fault_hypothesis.proofs.{Cuts.{faulty_cut, faulty_stays, faulty_uncut}, Keeping.{all_of_network, broken_breaks, broken_stays, on_stays, on_turns}}
 use Rattle.{net_plan.specs.Belonging.IsOfNetwork, run_law.specs.scenario.Faults.IsLinkOf}
 use Rattle.{net_plan.specs.declared.{event.What.What, ids.{DeviceId.DeviceId, LinkId.LinkId}, tables.Way.Way}, run_law.proofs.scenario.Devices.all_within}
-use Rattle.{net_plan.specs.declared.network.Network.Network, std.proofs.Common.{◌↔◌, ◌∙◌, ◌≡◌, Some, ap, arith, length, length-set, refl, subst, sym, true}}
+use Rattle.std.proofs.Common.{◌↔◌, ◌∙◌, ◌≡◌, Some, ap, arith, length, length-set, refl, subst, sym, true}
 use Rattle.{schedule_tables.specs.{Rules.KeepsRules, declared.rule.Rule.TheVariants.Limits}, tte_units.specs.declared.frames.channel.Channel.Channel}
 use Rattle.net_plan.specs.declared.event.What.TheVariants as kinds
 use Rattle.fault_hypothesis.proofs.watch.Watch.keep.Goals as goal
@@ -20,7 +20,7 @@ on_breaks_not w on d is also = cc
 pub returns-then-is_none : goal.returns-then-is_none
 returns-then-is_none c = λ network admitted w of_network within.
     let rules = subst KeepsRules w.over c.network-network.ensures.rules in
-    let on = subst (λ (n : Network). (channel : Channel) → (c.channel_of-self.result ≡ Some channel) ↔ IsLinkOf n channel c.in-Cut.link)
+    let on = subst (λ n. (channel : Channel) → (c.channel_of-self.result ≡ Some channel) ↔ IsLinkOf n channel c.in-Cut.link)
     (c.network-network.ensures.value ∙ w.over) c.channel_of-self.ensures in
     record {
       over = w.over;

@@ -1,8 +1,8 @@
-use Rattle.{fault_hypothesis.proofs.Judging.sends_by, net_plan.specs.{Places.link_at, declared.network.Network.Network}, std.proofs.Common.{◌∙◌, ap, sym}}
+use Rattle.{fault_hypothesis.proofs.Judging.sends_by, net_plan.specs.Places.link_at, std.proofs.Common.{◌∙◌, ap, sym}}
 use Rattle.fault_hypothesis.proofs.watch.Watch.sends_unbroken.Goals as goal
 
 pub returns-in-Some : goal.returns-in-Some
 returns-in-Some c = λ network admitted w.
-    let at = ap (λ (n : Network). link_at n c.in-Send.link) (sym (c.network.ensures.value ∙ w.over)) ∙ sym c.in-Some.ensures in
+    let at = ap (λ n. link_at n c.in-Send.link) (sym (c.network.ensures.value ∙ w.over)) ∙ sym c.in-Some.ensures in
     sends_by network admitted c.args.event.now c.in-Send.link c.in-Send.field-1 c.in-Some.found.now c.in-Send.is at c.is_broken.result
     (c.is_broken.ensures network admitted w)

@@ -2,23 +2,23 @@ use Rattle.fault_hypothesis.proofs.{storm.storm.Storm.next_event.Goals.{else-sel
 use Rattle.{fault_hypothesis.specs.{Watching.Watches, storm.Events.{AreNoLater, time_of}}, run_law.specs.scenario.Hypothesis.IsWithinHypothesis}
 use Rattle.fault_hypothesis.specs.{declared.storm.draw.Draw.Draw, storm.{Events.IsEventOf, Progress.Progress, Words.{draw_at, draw_from}}}
 use Rattle.net_plan.specs.declared.{event.{Event.Event, What.TheVariants.End}, network.Network.Network}
-use Rattle.{std.proofs.Common.{◌∙◌, ◌≡◌, List, ap, arith, inl, inr, refl, subst, sym, ℕ}, tte_units.specs.declared.units.Units.Units}
+use Rattle.{std.proofs.Common.{◌∙◌, ◌≡◌, List, ap, arith, inl, inr, refl, subst, sym}, tte_units.specs.declared.units.Units.Units}
 use Rattle.fault_hypothesis.proofs.storm.storm.Storm.next_event.Goals as goal
 
 -- an event of a step, said of equal values
 is_of : (m n : Network) (es : List Event) (t u : Units) (d f : Draw) (x y : Event) → m ≡ n → t ≡ u → d ≡ f → y ≡ x → IsEventOf m es t d x → IsEventOf n es u f y
 is_of m n es t u d f x y over at draw is h =
-    subst (λ (k : Network). IsEventOf k es u f y) over
-    (subst (λ (k : Units). IsEventOf m es k f y) at (subst (λ (k : Draw). IsEventOf m es t k y) draw (subst (IsEventOf m es t d) (sym is) h)))
+    subst (λ k. IsEventOf k es u f y) over
+    (subst (λ k. IsEventOf m es k f y) at (subst (λ k. IsEventOf m es t k y) draw (subst (IsEventOf m es t d) (sym is) h)))
 
 pub returns-clause-event : goal.returns-clause-event
 returns-clause-event c = λ admitted w yes.
     let over = c.network-network.ensures.value in
     let few = c.if-self-steps.false in
     let at : c.step_time-time.result ≡ time_of c.args.accepted.now c.args.self.now.given = c.step_time-time.ensures.value
-    ∙ ap (λ (n : Network). time_of n c.self.inside.given) over
+    ∙ ap (λ n. time_of n c.self.inside.given) over
     ∙ ap (λ (s : Progress). time_of c.args.accepted.now s.given) c.self.view_is in
-    let known = subst (λ (n : Network). Watches n c.args.watch.now admitted) (sym over) w in
+    let known = subst (λ n. Watches n c.args.watch.now admitted) (sym over) w in
     elim c.if-self-steps-2.branch [
       | then-self-steps-2 b ↦
           inr (
@@ -40,18 +40,18 @@ returns-clause-within c = λ admitted w yes no_later.
     let same : c.args.self.now.given ≡ c.self.inside.given = sym (ap (λ (s : Progress). s.given) c.self.view_is) in
     let at : time_of c.args.accepted.now c.args.self.now.given ≡ c.step_time-time.result = sym
     (c.step_time-time.ensures.value
-    ∙ ap (λ (n : Network). time_of n c.self.inside.given) over
-    ∙ ap (λ (k : ℕ). time_of c.args.accepted.now k) (sym same))
+    ∙ ap (λ n. time_of n c.self.inside.given) over
+    ∙ ap (λ k. time_of c.args.accepted.now k) (sym same))
     in
     let later = subst (AreNoLater admitted) at no_later in
-    subst (λ (n : Network). IsWithinHypothesis n admitted c.if-self-steps-2.event) over
+    subst (λ n. IsWithinHypothesis n admitted c.if-self-steps-2.event) over
     (elim c.if-self-steps-2.branch [
       | then-self-steps-2 b ↦
           subst (IsWithinHypothesis c.network-network.result.now admitted) (sym b.event-is)
           (end_within c.network-network.result.now admitted _ refl later c.step_time-time.ensures.in_run)
       | else-self-steps-2 b ↦
           subst (IsWithinHypothesis c.network-network.result.now admitted) (sym b.event-is)
-          (step_within c.network-network.result.now admitted c.step_time-time.result b.draw.result b.choose_event.new.event
-          (b.choose_event.ensures.value admitted (subst (λ (n : Network). Watches n c.args.watch.now admitted) (sym over) w)) later
+          (step_within
+          (b.choose_event.ensures.value admitted (subst (λ n. Watches n c.args.watch.now admitted) (sym over) w)) later
           c.step_time-time.ensures.in_run)
     ])
