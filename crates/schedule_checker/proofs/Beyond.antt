@@ -77,18 +77,21 @@ both_channels n h k = record {
 }
 
 -- the ends of a link in range are there
-source_there : (n : Network) (k : ℕ) (way : Way) (link : Link) → length n.device ≤ k → IsLinkInRange n link → (source_by way link).0 ≡ k → ⊥
-source_there n k Up link past ends e = omega (arith, past, ends.child, e)
-source_there n k Down link past ends e = omega (arith, past, ends.parent, e)
+source_there : {n : Network} (k : ℕ) (way : Way) {link : Link} → length n.device ≤ k → IsLinkInRange n link
+    → (source_by way link).0 ≡ k → ⊥
+source_there k Up past ends e = omega (arith, past, ends.child, e)
+source_there k Down past ends e = omega (arith, past, ends.parent, e)
 
 -- no row leaves a device that is not there
-unleft : (n : Network) → IsInRange n → (k : ℕ) → length n.device ≤ k → (row : Row) → IsRowInRange n row → leaves n (record { 0 = k }) row ≡ false
-unleft n range k past row is =
+unleft : {n : Network} → IsInRange n → (k : ℕ) → length n.device ≤ k → {row : Row} → IsRowInRange n row
+    → leaves n (record { 0 = k }) row ≡ false
+unleft {n} range k past {row} is =
     let at = slice_get_cases n.link row.link.0 in
     ⊎_elim
     (λ (c : (l : Link) × (row.link.0 < length n.link) × (slice_get n.link row.link.0 ≡ Some l) × (get_or n.link row.link.0 l ≡ l)).
     let ends : IsLinkInRange n c.0 = subst (IsLinkInRange n) c.3 (range.links row.link.0 c.0 c.1) in
-    let r : leaves n (record { 0 = k }) row ≡ false = rw c.2 (ne_eqb (source_by row.way c.0).0 k (λ e. source_there n k row.way c.0 past ends e)) in r)
+    let r : leaves n (record { 0 = k }) row ≡ false =
+    rw c.2 (ne_eqb (source_by row.way c.0).0 k (λ e. source_there k row.way past ends e)) in r)
     (λ (c : (length n.link ≤ row.link.0) × (slice_get n.link row.link.0 ≡ None)). absurd (omega (arith, c.0, is.link)))
     at.1
 
@@ -101,37 +104,43 @@ none_counted p (x ∷ xs) h =
     let here : one (p x) ≡ 0 = ap one first in
     omega (arith, sum_by-cons (λ y. one (p y)) x xs, here, none_counted p xs (All-tail (λ y. p y ≡ false) x xs h))
 
-rows_of_device : (n : Network) → IsInRange n → IsKeptWhereJudged RowsOfDevice n → IsKept RowsOfDevice n
-rows_of_device n range h k =
+rows_of_device : {n : Network} → IsInRange n → IsKeptWhereJudged RowsOfDevice n → IsKept RowsOfDevice n
+rows_of_device {n} range h k =
     ⊎_elim (λ (l : k < length n.device). h k l)
     (λ (g : length n.device ≤ k).
     let none : count_by (leaves n (record { 0 = k })) n.row ≡ 0 = none_counted (leaves n (record { 0 = k })) n.row
-    (λ i d below. unleft n range k g (get_or n.row i d) (range.rows i d below)) in
+    (λ i d below. unleft range k g (range.rows i d below)) in
     let r : HasFewRows n k = omega (arith, none) in r)
     (cases_lt k (length n.device))
 
-pub kept_beyond : (rule : Rule) (n : Network) → IsInRange n → IsKeptWhereJudged rule n → IsKept rule n
-kept_beyond Limits n range h = limits n h
-kept_beyond DevicesDiffer n range h = λ k j earlier device below was at. h k (slice_get_within n.device k device at) j earlier device below was at
-kept_beyond LinksDiffer n range h = λ k j earlier link below was at. h k (slice_get_within n.link k link at) j earlier link below was at
-kept_beyond CompressionMasters n range h = cms n h
-kept_beyond Joints n range h = λ k link at. h k (slice_get_within n.link k link at) link at
-kept_beyond Connections n range h = connections n h
-kept_beyond Masters n range h = masters n h
-kept_beyond Delays n range h = λ k beta c links is member. h k (within _ n.device k member) beta c links is member
-kept_beyond Settling n range h = λ k. h 0 (omega arith)
-kept_beyond Precision n range h = λ k. h 0 (omega arith)
-kept_beyond Correction n range h = λ k. h 0 (omega arith)
-kept_beyond ScheduleStart n range h = λ k. h 0 (omega arith)
-kept_beyond WindowEnds n range h = λ k entry is. h k (slice_get_within n.row k entry.row is.row) entry is
-kept_beyond VlNamesDiffer n range h = λ k j earlier vl below was at. h k (slice_get_within n.vl k vl at) j earlier vl below was at
-kept_beyond VlIdsDiffer n range h = λ k j earlier vl below was at. h k (slice_get_within n.vl k vl at) j earlier vl below was at
-kept_beyond Periods n range h = λ k vl at. h k (slice_get_within n.vl k vl at) vl at
-kept_beyond Senders n range h = λ k vl at. h k (slice_get_within n.vl k vl at) vl at
-kept_beyond LinksOnce n range h = λ k j earlier row below was at. h k (slice_get_within n.row k row at) j earlier row below was at
-kept_beyond Sources n range h = λ k entry is. h k (slice_get_within n.row k entry.row is.row) entry is
-kept_beyond Targets n range h = targets n h
-kept_beyond Spacing n range h = λ k j earlier entry below was is. h k (slice_get_within n.row k entry.row is.row) j earlier entry below was is
-kept_beyond BothChannels n range h = both_channels n h
-kept_beyond Forwarding n range h = forwarding n h
-kept_beyond RowsOfDevice n range h = rows_of_device n range h
+pub kept_beyond : (rule : Rule) {n : Network} → IsInRange n → IsKeptWhereJudged rule n → IsKept rule n
+kept_beyond Limits {n} range h = limits n h
+kept_beyond DevicesDiffer {n} range h =
+    λ k j earlier device below was at. h k (slice_get_within n.device k device at) j earlier device below was at
+kept_beyond LinksDiffer {n} range h =
+    λ k j earlier link below was at. h k (slice_get_within n.link k link at) j earlier link below was at
+kept_beyond CompressionMasters {n} range h = cms n h
+kept_beyond Joints {n} range h = λ k link at. h k (slice_get_within n.link k link at) link at
+kept_beyond Connections {n} range h = connections n h
+kept_beyond Masters {n} range h = masters n h
+kept_beyond Delays {n} range h = λ k beta c links is member. h k (within _ n.device k member) beta c links is member
+kept_beyond Settling range h = λ k. h 0 (omega arith)
+kept_beyond Precision range h = λ k. h 0 (omega arith)
+kept_beyond Correction range h = λ k. h 0 (omega arith)
+kept_beyond ScheduleStart range h = λ k. h 0 (omega arith)
+kept_beyond WindowEnds {n} range h = λ k entry is. h k (slice_get_within n.row k entry.row is.row) entry is
+kept_beyond VlNamesDiffer {n} range h =
+    λ k j earlier vl below was at. h k (slice_get_within n.vl k vl at) j earlier vl below was at
+kept_beyond VlIdsDiffer {n} range h =
+    λ k j earlier vl below was at. h k (slice_get_within n.vl k vl at) j earlier vl below was at
+kept_beyond Periods {n} range h = λ k vl at. h k (slice_get_within n.vl k vl at) vl at
+kept_beyond Senders {n} range h = λ k vl at. h k (slice_get_within n.vl k vl at) vl at
+kept_beyond LinksOnce {n} range h =
+    λ k j earlier row below was at. h k (slice_get_within n.row k row at) j earlier row below was at
+kept_beyond Sources {n} range h = λ k entry is. h k (slice_get_within n.row k entry.row is.row) entry is
+kept_beyond Targets {n} range h = targets n h
+kept_beyond Spacing {n} range h =
+    λ k j earlier entry below was is. h k (slice_get_within n.row k entry.row is.row) j earlier entry below was is
+kept_beyond BothChannels {n} range h = both_channels n h
+kept_beyond Forwarding {n} range h = forwarding n h
+kept_beyond RowsOfDevice range h = rows_of_device range h

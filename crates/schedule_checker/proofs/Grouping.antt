@@ -23,7 +23,7 @@ still true xs n k c = Contains-append_left xs (n ∷ []) k c
 still false xs n k c = c
 
 new : (b : Bool) (xs : List ℕ) (n : ℕ) → b ≡ true → Contains (grown b xs n) n
-new b xs n e = subst (λ (b : Bool). Contains (grown b xs n) n) (sym e) (Contains-append_right xs (n ∷ []) n (0, omega arith, refl))
+new b xs n e = subst (λ b. Contains (grown b xs n) n) (sym e) (Contains-append_right xs (n ∷ []) n (0, omega arith, refl))
 
 -- ---- rows in groups
 

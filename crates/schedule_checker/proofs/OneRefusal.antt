@@ -49,34 +49,36 @@ abbrev told_of : ℕ → ℕ → RuleBroken
 told_of number index = record { number = number; index = index }
 
 -- no rule is broken before the first
-no_earlier : (n : Network) (r s : Rule) (i j : ℕ) → IsFirstBroken n r i → IsFirstBroken n s j → number_of r < number_of s → ⊥
-no_earlier n r s i j a b below = a.broken (b.rules r below i)
+no_earlier : {n : Network} {r s : Rule} {i j : ℕ} → IsFirstBroken n r i → IsFirstBroken n s j
+    → number_of r < number_of s → ⊥
+no_earlier {r} {i} a b below = a.broken (b.rules r below i)
 
-no_sooner : (n : Network) (r s : Rule) (i j : ℕ) → r ≡ s → IsFirstBroken n r i → IsFirstBroken n s j → i < j → ⊥
-no_sooner n r s i j e a b below = a.broken (subst (λ (x : Rule). IsKeptAt x n i) (sym e) (b.places i below))
+no_sooner : {n : Network} {r s : Rule} {i j : ℕ} → r ≡ s → IsFirstBroken n r i → IsFirstBroken n s j → i < j → ⊥
+no_sooner {n} {i} e a b below = a.broken (subst (λ x. IsKeptAt x n i) (sym e) (b.places i below))
 
-same_number : (n : Network) (r s : Rule) (i j : ℕ) → IsFirstBroken n r i → IsFirstBroken n s j → number_of r ≡ number_of s
-same_number n r s i j a b =
+same_number : {n : Network} {r s : Rule} {i j : ℕ} → IsFirstBroken n r i → IsFirstBroken n s j
+    → number_of r ≡ number_of s
+same_number {r} {s} a b =
     ⊎_elim
-    (λ (l : number_of r < number_of s). let z : number_of r ≡ number_of s = absurd (no_earlier n r s i j a b l) in z)
+    (λ (l : number_of r < number_of s). let z : number_of r ≡ number_of s = absurd (no_earlier a b l) in z)
     (λ (g : number_of s ≤ number_of r). ⊎_elim
-    (λ (l : number_of s < number_of r). let z : number_of r ≡ number_of s = absurd (no_earlier n s r j i b a l) in z)
+    (λ (l : number_of s < number_of r). let z : number_of r ≡ number_of s = absurd (no_earlier b a l) in z)
     (λ (h : number_of r ≤ number_of s). let z : number_of r ≡ number_of s = omega (arith, g, h) in z)
     (cases_lt (number_of s) (number_of r)))
     (cases_lt (number_of r) (number_of s))
 
-same_place : (n : Network) (r s : Rule) (i j : ℕ) → r ≡ s → IsFirstBroken n r i → IsFirstBroken n s j → i ≡ j
-same_place n r s i j e a b =
+same_place : {n : Network} {r s : Rule} {i j : ℕ} → r ≡ s → IsFirstBroken n r i → IsFirstBroken n s j → i ≡ j
+same_place {i} {j} e a b =
     ⊎_elim
-    (λ (l : i < j). let z : i ≡ j = absurd (no_sooner n r s i j e a b l) in z)
+    (λ (l : i < j). let z : i ≡ j = absurd (no_sooner e a b l) in z)
     (λ (g : j ≤ i). ⊎_elim
-    (λ (l : j < i). let z : i ≡ j = absurd (no_sooner n s r j i (sym e) b a l) in z)
+    (λ (l : j < i). let z : i ≡ j = absurd (no_sooner (sym e) b a l) in z)
     (λ (h : i ≤ j). let z : i ≡ j = omega (arith, g, h) in z)
     (cases_lt j i))
     (cases_lt i j)
 
 pub refusal_is_one : RefusalIsOne
 refusal_is_one n t u a b =
-    let numbers = same_number n a.rule b.rule t.index u.index a.first b.first in
-    let places = same_place n a.rule b.rule t.index u.index (same_rule a.rule b.rule numbers) a.first b.first in
+    let numbers = same_number a.first b.first in
+    let places = same_place (same_rule a.rule b.rule numbers) a.first b.first in
     ap (λ m. told_of m t.index) (a.number ∙ numbers ∙ sym b.number) ∙ ap (λ i. told_of u.number i) places

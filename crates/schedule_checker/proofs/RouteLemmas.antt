@@ -12,9 +12,9 @@ use Rattle.schedule_tables.specs.Schedule
 
 -- ---- a virtual link goes once by a link
 
-pub goes_once : (n : Network) (es : List Entry) (place : ℕ) (e : Entry) (r : Bool) → AreEntries n es → EntryIsOne → IsEntry n place e
-    → Decides r (All (GoesElsewhere e) (take place es)) → Decides r (GoesOnceByLink n place)
-goes_once n es place e r are one at =
+pub goes_once : {n : Network} {es : List Entry} {place : ℕ} {e : Entry} (r : Bool) → AreEntries n es → EntryIsOne
+    → IsEntry n place e → Decides r (All (GoesElsewhere e) (take place es)) → Decides r (GoesOnceByLink n place)
+goes_once {n} {es} {place} {e} r are one at =
     Decides-like r
     (λ all k earlier here below was is.
     let found = entry_at n es are k earlier was in
@@ -26,19 +26,19 @@ goes_once n es place e r are one at =
 
 -- ---- rows of a virtual link on a channel
 
-pub leaves_on : (n : Network) (es : List Entry) (vl : VlId) (channel : Channel) (device : DeviceId) (r : Bool) → AreEntries n es → EntryIsOne
-    → Decides r (Holds (IsLeaving n vl channel device) es) → Decides r (LeavesOn n vl channel device)
-leaves_on n es vl channel device r are one =
-    Decides-like r
-    (λ some. record { place = some.0; entry = some.1; is = are.each some.0 some.1 some.2; same_vl = some.3.0; on_channel = some.3.2; source = some.3.1 })
-    (λ l. (l.place, l.entry, stands_at n es are one l.place l.entry l.is, (l.same_vl, l.source, l.on_channel)))
+module _ {n : Network} {es : List Entry} (vl : VlId) (channel : Channel) (device : DeviceId) (r : Bool)
+    (are : AreEntries n es) (one : EntryIsOne) where
+  pub leaves_on : Decides r (Holds (IsLeaving n vl channel device) es) → Decides r (LeavesOn n vl channel device)
+  leaves_on =
+      Decides-like r
+      (λ some. record { place = some.0; entry = some.1; is = are.each some.0 some.1 some.2; same_vl = some.3.0; on_channel = some.3.2; source = some.3.1 })
+      (λ l. (l.place, l.entry, stands_at are one l.is, (l.same_vl, l.source, l.on_channel)))
 
-pub enters_on : (n : Network) (es : List Entry) (vl : VlId) (channel : Channel) (device : DeviceId) (r : Bool) → AreEntries n es → EntryIsOne
-    → Decides r (Holds (IsEntering n vl channel device) es) → Decides r (EntersOn n vl channel device)
-enters_on n es vl channel device r are one =
-    Decides-like r
-    (λ some. record { place = some.0; entry = some.1; is = are.each some.0 some.1 some.2; same_vl = some.3.0; on_channel = some.3.2; target = some.3.1 })
-    (λ l. (l.place, l.entry, stands_at n es are one l.place l.entry l.is, (l.same_vl, l.target, l.on_channel)))
+  pub enters_on : Decides r (Holds (IsEntering n vl channel device) es) → Decides r (EntersOn n vl channel device)
+  enters_on =
+      Decides-like r
+      (λ some. record { place = some.0; entry = some.1; is = are.each some.0 some.1 some.2; same_vl = some.3.0; on_channel = some.3.2; target = some.3.1 })
+      (λ l. (l.place, l.entry, stands_at are one l.is, (l.same_vl, l.target, l.on_channel)))
 
 on_some : (n : Network) (e : Entry) → IsOnChannel n A e ⊎ IsOnChannel n B e → (channel : Channel) × IsOnChannel n channel e
 on_some n e h =
@@ -49,9 +49,9 @@ on_either : (n : Network) (e : Entry) (channel : Channel) → IsOnChannel n chan
 on_either n e A h = inl h
 on_either n e B h = inr h
 
-pub enters_end_system : (n : Network) (es : List Entry) (vl : VlId) (r : Bool) → AreEntries n es → EntryIsOne → Decides r (Holds (IsEnteringEnd n vl) es)
-    → Decides r (EntersEndSystem n vl)
-enters_end_system n es vl r are one =
+pub enters_end_system : {n : Network} {es : List Entry} (vl : VlId) (r : Bool) → AreEntries n es → EntryIsOne
+    → Decides r (Holds (IsEnteringEnd n vl) es) → Decides r (EntersEndSystem n vl)
+enters_end_system {n} vl r are one =
     Decides-like r
     (λ some. let on = on_some n some.1
     some.3.2 in (
@@ -70,46 +70,48 @@ enters_end_system n es vl r are one =
     (λ h. let l : EntersOn n vl h.0 h.1 = h.3 in (
       l.place,
       l.entry,
-      stands_at n es are one l.place l.entry l.is,
-      (l.same_vl, subst (λ (d : DeviceId). IsEndSystem n d) (sym l.target) h.2, on_either n l.entry h.0 l.on_channel),
+      stands_at are one l.is,
+      (l.same_vl, subst (λ d. IsEndSystem n d) (sym l.target) h.2, on_either n l.entry h.0 l.on_channel),
     ))
 
 -- ---- the same end systems on both channels
 
-pub enters_all_alike : (n : Network) (es : List Entry) (vl : VlId) (r : Bool) → AreEntries n es → EntryIsOne → Decides r (Each (TargetIsAlike n vl) es)
-    → Decides r (EntersAllAlike n vl)
-enters_all_alike n es vl r are one =
+pub enters_all_alike : {n : Network} {es : List Entry} (vl : VlId) (r : Bool) → AreEntries n es → EntryIsOne
+    → Decides r (Each (TargetIsAlike n vl) es) → Decides r (EntersAllAlike n vl)
+enters_all_alike {n} vl r are one =
     Decides-like r
     (λ each d. record {
       alike = λ channel other end enters.
-          (subst (λ (x : DeviceId). EntersAlike n vl x) enters.target
-          (each enters.place enters.entry (stands_at n es are one enters.place enters.entry enters.is)
+          (subst (λ x. EntersAlike n vl x) enters.target
+          (each enters.place enters.entry (stands_at are one enters.is)
           enters.same_vl)).alike channel other end enters;
     })
     (λ all k e at same. all (target_of e))
 
 -- an end system is entered alike where it is entered on the one channel exactly if on the other
-over : (n : Network) (vl : VlId) (device : DeviceId) (a b : Bool) → Decides a (EntersOn n vl A device) → Decides b (EntersOn n vl B device) → a ≡ b
-    → (channel other : Channel) → EntersOn n vl channel device → EntersOn n vl other device
-over n vl device a b on_a on_b same A A h = h
-over n vl device a b on_a on_b same A B h = on_b.0 (sym same ∙ on_a.1 h)
-over n vl device a b on_a on_b same B A h = on_a.0 (same ∙ on_b.1 h)
-over n vl device a b on_a on_b same B B h = h
+over : {n : Network} {vl : VlId} {device : DeviceId} (a b : Bool) → Decides a (EntersOn n vl A device)
+    → Decides b (EntersOn n vl B device) → a ≡ b → (channel other : Channel) → EntersOn n vl channel device
+    → EntersOn n vl other device
+over a b on_a on_b same A A h = h
+over a b on_a on_b same A B h = on_b.0 (sym same ∙ on_a.1 h)
+over a b on_a on_b same B A h = on_a.0 (same ∙ on_b.1 h)
+over a b on_a on_b same B B h = h
 
 pub alike : (n : Network) (vl : VlId) (device : DeviceId) (a b : Bool) → Decides a (EntersOn n vl A device) → Decides b (EntersOn n vl B device) → a ≡ b
     → EntersAlike n vl device
-alike n vl device a b on_a on_b same = record { alike = λ channel other end h. over n vl device a b on_a on_b same channel other h }
+alike n vl device a b on_a on_b same = record { alike = λ channel other end h. over a b on_a on_b same channel other h }
 
-pub alike_back : (n : Network) (vl : VlId) (device : DeviceId) (a b : Bool) → Decides a (EntersOn n vl A device) → Decides b (EntersOn n vl B device)
-    → IsEndSystem n device → EntersAlike n vl device → a ≡ b
-alike_back n vl device true true on_a on_b end h = refl
-alike_back n vl device true false on_a on_b end h = sym (on_b.1 (h.alike A B end (on_a.0 refl)))
-alike_back n vl device false true on_a on_b end h = on_a.1 (h.alike B A end (on_b.0 refl))
-alike_back n vl device false false on_a on_b end h = refl
+pub alike_back : {n : Network} {vl : VlId} {device : DeviceId} (a b : Bool) → Decides a (EntersOn n vl A device)
+    → Decides b (EntersOn n vl B device) → IsEndSystem n device → EntersAlike n vl device → a ≡ b
+alike_back true true on_a on_b end h = refl
+alike_back true false on_a on_b end h = sym (on_b.1 (h.alike A B end (on_a.0 refl)))
+alike_back false true on_a on_b end h = on_a.1 (h.alike B A end (on_b.0 refl))
+alike_back false false on_a on_b end h = refl
 
-pub both_channels : (n : Network) (place : ℕ) (vl : VirtualLink) → slice_get n.vl place ≡ Some vl → LeavesOnBoth n (record { 0 = place }) vl.sender
-    → EntersEndSystem n (record { 0 = place }) → EntersAllAlike n (record { 0 = place }) → GoesByBothChannels n place
-both_channels n place vl at leaves enters alike = record {
+pub both_channels : {n : Network} (place : ℕ) (vl : VirtualLink) → slice_get n.vl place ≡ Some vl
+    → LeavesOnBoth n (record { 0 = place }) vl.sender → EntersEndSystem n (record { 0 = place })
+    → EntersAllAlike n (record { 0 = place }) → GoesByBothChannels n place
+both_channels {n} place vl at leaves enters alike = record {
   leaves =
       λ here channel is. let same : vl ≡ here = cc in subst (λ (x : VirtualLink). LeavesOn n (record { 0 = place }) channel x.sender) same (leaves channel);
   enters = λ here is. enters;
@@ -133,35 +135,35 @@ entered_elsewhere es place e r =
 abbrev pub IsFed : Network → List Entry → ℕ → Entry → Type 0
 IsFed n es place e = (source_of e ≡ e.vl.sender) ⊎ (IsSwitch n (source_of e) × IsEnteredElsewhere es place e)
 
-entered : (n : Network) (es : List Entry) (place : ℕ) (e : Entry) → AreEntries n es → IsEnteredElsewhere es place e → (k : ℕ) × (k ≢ place)
-    × Schedule.Enters n k e.row.vl (source_of e)
-entered n es place e are h = (h.at, h.elsewhere, record { entry = h.other; is = are.each h.at h.other h.there; same_vl = h.same_vl; target = h.target })
+module _ {n : Network} {es : List Entry} (place : ℕ) (e : Entry) (are : AreEntries n es) where
+  entered : IsEnteredElsewhere es place e → (k : ℕ) × (k ≢ place) × Schedule.Enters n k e.row.vl (source_of e)
+  entered h = (h.at, h.elsewhere, record { entry = h.other; is = are.each h.at h.other h.there; same_vl = h.same_vl; target = h.target })
 
-entered_back : (n : Network) (es : List Entry) (place : ℕ) (e : Entry) → AreEntries n es → EntryIsOne → (k : ℕ) × (k ≢ place)
-    × Schedule.Enters n k e.row.vl (source_of e) → IsEnteredElsewhere es place e
-entered_back n es place e are one h =
-    let x : Schedule.Enters n h.0 e.row.vl (source_of e) = h.2 in record {
-      at = h.0;
-      other = x.entry;
-      there = stands_at n es are one h.0 x.entry x.is;
-      elsewhere = h.1;
-      same_vl = x.same_vl;
-      target = x.target;
-    }
+  entered_back : EntryIsOne → (k : ℕ) × (k ≢ place) × Schedule.Enters n k e.row.vl (source_of e)
+      → IsEnteredElsewhere es place e
+  entered_back one h =
+      let x : Schedule.Enters n h.0 e.row.vl (source_of e) = h.2 in record {
+        at = h.0;
+        other = x.entry;
+        there = stands_at are one x.is;
+        elsewhere = h.1;
+        same_vl = x.same_vl;
+        target = x.target;
+      }
 
-pub has_source : (n : Network) (es : List Entry) (place : ℕ) (e : Entry) → AreEntries n es → EntryIsOne → IsEntry n place e → IsFed n es place e
-    → HasSource n place
-has_source n es place e are one at fed here is =
-    subst (λ (x : Entry). (source_of x ≡ x.vl.sender) ⊎ (IsSwitch n (source_of x) × ((k : ℕ) × (k ≢ place) × Schedule.Enters n k x.row.vl (source_of x))))
-    (one n place e here at is)
-    (⊎_elim (λ (s : source_of e ≡ e.vl.sender). inl s)
-    (λ (s : IsSwitch n (source_of e) × IsEnteredElsewhere es place e). inr (s.0, entered n es place e are s.1)) fed)
+  pub has_source : EntryIsOne → IsEntry n place e → IsFed n es place e → HasSource n place
+  has_source one at fed here is =
+      subst (λ (x : Entry). (source_of x ≡ x.vl.sender)
+      ⊎ (IsSwitch n (source_of x) × ((k : ℕ) × (k ≢ place) × Schedule.Enters n k x.row.vl (source_of x))))
+      (one n place e here at is)
+      (⊎_elim (λ (s : source_of e ≡ e.vl.sender). inl s)
+      (λ (s : IsSwitch n (source_of e) × IsEnteredElsewhere es place e). inr (s.0, entered s.1)) fed)
 
-pub has_source_back : (n : Network) (es : List Entry) (place : ℕ) (e : Entry) → AreEntries n es → EntryIsOne → IsEntry n place e → HasSource n place
-    → IsFed n es place e
-has_source_back n es place e are one at kept =
-    ⊎_elim (λ (s : source_of e ≡ e.vl.sender). inl s) (λ (s : IsSwitch n (source_of e) × ((k : ℕ) × (k ≢ place) × Schedule.Enters n k e.row.vl (source_of e))).
-    inr (s.0, entered_back n es place e are one s.1)) (kept e at)
+  pub has_source_back : EntryIsOne → IsEntry n place e → HasSource n place → IsFed n es place e
+  has_source_back one at kept =
+      ⊎_elim (λ (s : source_of e ≡ e.vl.sender). inl s)
+      (λ (s : IsSwitch n (source_of e) × ((k : ℕ) × (k ≢ place) × Schedule.Enters n k e.row.vl (source_of e))).
+      inr (s.0, entered_back one s.1)) (kept e at)
 
 -- ---- targets
 
@@ -169,17 +171,18 @@ has_source_back n es place e are one at kept =
 abbrev pub EntersNoneAgain : Network → Entry → Entry → Type 0
 EntersNoneAgain n e earlier = ¬ EntersAgain n earlier e
 
-pub enters_anew : (n : Network) (es front : List Entry) (place : ℕ) (e : Entry) → AreEntries n es → EntryIsOne → IsEntry n place e → front ≡ take place es
-    → target_of e ≢ e.vl.sender → All (EntersNoneAgain n e) front → EntersAnew n place
-enters_anew n es front place e are one at cut sender all =
+pub enters_anew : {n : Network} {es : List Entry} (front : List Entry) {place : ℕ} {e : Entry} → AreEntries n es
+    → EntryIsOne → IsEntry n place e → front ≡ take place es → target_of e ≢ e.vl.sender
+    → All (EntersNoneAgain n e) front → EntersAnew n place
+enters_anew {n} {es} front {place} {e} are one at cut sender all =
     let none = earlier_of_all n es front place (EntersNoneAgain n e) are one cut all in
     record {
       no_sender = λ here is. subst (λ (x : Entry). target_of x ≢ x.vl.sender) (one n place e here at is) sender;
       switches =
-          λ k earlier here below was is same switch meets. subst (λ (x : Entry). EntersNoneAgain n x earlier) (one n place e here at is)
+          λ k earlier here below was is same switch meets. subst (λ x. EntersNoneAgain n x earlier) (one n place e here at is)
           (none k earlier below was) (record { same_vl = same; same_target = meets; once = inl switch });
       end_systems =
-          λ k earlier here channel below was is same end on_earlier on_here meets. subst (λ (x : Entry). EntersNoneAgain n x earlier) (one n place e here at is)
+          λ k earlier here channel below was is same end on_earlier on_here meets. subst (λ x. EntersNoneAgain n x earlier) (one n place e here at is)
           (none k earlier below was) (record { same_vl = same; same_target = meets; once = inr (end, (channel, on_earlier, on_here)) });
     }
 
@@ -192,6 +195,7 @@ none_again n place e at kept k earlier below was h =
     h.same_target)
     h.once
 
-pub enters_anew_back : (n : Network) (es front : List Entry) (place : ℕ) (e : Entry) → AreEntries n es → IsEntry n place e → front ≡ take place es
-    → EntersAnew n place → All (EntersNoneAgain n e) front
-enters_anew_back n es front place e are at cut kept = all_of_earlier n es front place (EntersNoneAgain n e) are cut (none_again n place e at kept)
+pub enters_anew_back : {n : Network} {es : List Entry} (front : List Entry) {place : ℕ} {e : Entry} → AreEntries n es
+    → IsEntry n place e → front ≡ take place es → EntersAnew n place → All (EntersNoneAgain n e) front
+enters_anew_back {n} {es} front {place} {e} are at cut kept =
+    all_of_earlier n es front place (EntersNoneAgain n e) are cut (none_again n place e at kept)

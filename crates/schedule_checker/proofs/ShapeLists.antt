@@ -22,7 +22,7 @@ new_from_all Differ xs i x at all k e y below ke ie =
     let within : k < length (take i xs) = omega (arith, length-take i xs, below, slice_get_within xs k e ke) in
     let same : get_or (take i xs) k e ≡ e = get_or-take i xs k e below ∙ get_or_from_slice_get xs k e e ke in
     let one : x ≡ y = same_Some x y (sym at ∙ ie) in
-    subst (λ (z : _). Differ z e) one (subst (Differ x) same (all k e within))
+    subst (λ z. Differ z e) one (subst (Differ x) same (all k e within))
 
 pub all_from_new : {X : Type 0} (Differ : X → X → Type 0) (xs : List X) (i : ℕ) (x : X) → slice_get xs i ≡ Some x → IsNew Differ xs i
     → All (Differ x) (take i xs)
@@ -93,14 +93,14 @@ one_to_pass p P test (x ∷ xs) one =
       | false ↦ λ e. one_to_pass p P test xs (only_in_rest P x xs one.0 (λ h. false≢true (sym e ∙ (test x).1 h)) one.1 one.2)
     ] refl
 
--- the same where places are ids
-pub one_id : {I : Type 0} (number : I → ℕ) (id : ℕ → I) → ((i : I) → id (number i) ≡ i) → ((k : ℕ) → number (id k) ≡ k) → (P : ℕ → Type 0) → ExactlyOne P
-    → ExactlyOne (λ (i : I). P (number i))
-one_id number id back forth P one = (id one.0, subst P (sym (forth one.0)) one.1, λ i h. sym (back i) ∙ ap id (one.2 (number i) h))
+module _ {I : Type 0} (number : I → ℕ) (id : ℕ → I) (back : ((i : I) → id (number i) ≡ i))
+    (forth : ((k : ℕ) → number (id k) ≡ k)) where
+  -- the same where places are ids
+  pub one_id : (P : ℕ → Type 0) → ExactlyOne P → ExactlyOne (λ (i : I). P (number i))
+  one_id P one = (id one.0, subst P (sym (forth one.0)) one.1, λ i h. sym (back i) ∙ ap id (one.2 (number i) h))
 
-pub one_place : {I : Type 0} (number : I → ℕ) (id : ℕ → I) → ((i : I) → id (number i) ≡ i) → ((k : ℕ) → number (id k) ≡ k) → (P : ℕ → Type 0)
-    → ExactlyOne (λ (i : I). P (number i)) → ExactlyOne P
-one_place number id back forth P one = (number one.0, one.1, λ k h. sym (forth k) ∙ ap number (one.2 (id k) (subst P (sym (forth k)) h)))
+  pub one_place : (P : ℕ → Type 0) → ExactlyOne (λ (i : I). P (number i)) → ExactlyOne P
+  one_place P one = (number one.0, one.1, λ k h. sym (forth k) ∙ ap number (one.2 (id k) (subst P (sym (forth k)) h)))
 
 -- what a count of what passes answers
 pub decides_one : {X I : Type 0} (number : I → ℕ) (id : ℕ → I) → ((i : I) → id (number i) ≡ i) → ((k : ℕ) → number (id k) ≡ k)

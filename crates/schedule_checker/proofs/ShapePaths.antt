@@ -10,58 +10,62 @@ within P [] i h = absurd h
 within P (x ∷ xs) zero h = omega arith
 within P (x ∷ xs) (suc i) h = omega (arith, within P xs i h)
 
-pub uplink_within : (n : Network) (c : Channel) (d : DeviceId) (link : LinkId) → IsFirstUplink n c d link → link.0 < length n.link
-uplink_within n c d link first = within (λ l. (l.child ≡ d) × IsSwitchOf n c l.parent) n.link link.0 first.leads
+module _ (n : Network) (c : Channel) (d : DeviceId) where
+  pub uplink_within : {link : LinkId} → IsFirstUplink n c d link → link.0 < length n.link
+  uplink_within {link} first = within (λ l. (l.child ≡ d) × IsSwitchOf n c l.parent) n.link link.0 first.leads
 
--- a device has one first uplink
-one_first : (n : Network) (c : Channel) (d : DeviceId) (link other : LinkId) → IsFirstUplink n c d link → IsFirstUplink n c d other → link.0 ≡ other.0
-one_first n c d link other f g =
-    ⊎_elim
-    (λ (l : link.0 < other.0). let r : link.0 ≡ other.0 = absurd (g.first link l f.leads) in r)
-    (λ (m : other.0 ≤ link.0). ⊎_elim
-    (λ (l : other.0 < link.0). let r : link.0 ≡ other.0 = absurd (f.first other l g.leads) in r)
-    (λ (k : link.0 ≤ other.0). let r : link.0 ≡ other.0 = omega (arith, k, m) in r)
-    (cases_lt other.0 link.0))
-    (cases_lt link.0 other.0)
+  -- a device has one first uplink
+  one_first : {link other : LinkId} → IsFirstUplink n c d link → IsFirstUplink n c d other → link.0 ≡ other.0
+  one_first {link} {other} f g =
+      ⊎_elim
+      (λ (l : link.0 < other.0). let r : link.0 ≡ other.0 = absurd (g.first link l f.leads) in r)
+      (λ (m : other.0 ≤ link.0). ⊎_elim
+      (λ (l : other.0 < link.0). let r : link.0 ≡ other.0 = absurd (f.first other l g.leads) in r)
+      (λ (k : link.0 ≤ other.0). let r : link.0 ≡ other.0 = omega (arith, k, m) in r)
+      (cases_lt other.0 link.0))
+      (cases_lt link.0 other.0)
 
-pub leads_by : (n : Network) (c : Channel) (d : DeviceId) (link : LinkId) (l : Link) (most : ℕ) → most ≢ 0 → IsFirstUplink n c d link → link_at n link ≡ Some l
-    → LeadsToCmWithin n c l.parent (most - 1) → LeadsToCmWithin n c d most
-leads_by n c d link l most some first at h =
-    (link ∷ h.0, omega (arith, some, h.1), (first, closed (λ x. IsFirstPath n c x.parent h.0) (link_at n link) l at h.2))
+  pub leads_by : {link : LinkId} (l : Link) (most : ℕ) → most ≢ 0 → IsFirstUplink n c d link
+      → link_at n link ≡ Some l → LeadsToCmWithin n c l.parent (most - 1) → LeadsToCmWithin n c d most
+  leads_by {link} l most some first at h =
+      (link ∷ h.0, omega (arith, some, h.1), (first, closed (λ x. IsFirstPath n c x.parent h.0) (link_at n link) l at h.2))
 
-walked : (n : Network) (c : Channel) (d : DeviceId) (link : LinkId) (l : Link) (links : List LinkId) (most : ℕ) → (IsCmOf n c d → ⊥) → IsFirstUplink n c d link
-    → link_at n link ≡ Some l → length links ≤ most → IsFirstPath n c d links → LeadsToCmWithin n c l.parent (most - 1)
-walked n c d link l [] most bare first at short path = absurd (bare path)
-walked n c d link l (m ∷ ms) most bare first at short path =
-    let same : m ≡ link = ap (λ (k : ℕ). let i : LinkId = record { 0 = k } in i) (one_first n c d m link path.0 first) in
-    let known : link_at n m ≡ Some l = ap (λ (i : LinkId). link_at n i) same ∙ at in
-    (ms, omega (arith, short), at_known (λ x. IsFirstPath n c x.parent ms) (link_at n m) l known path.1)
+  walked : {link : LinkId} (l : Link) (links : List LinkId) (most : ℕ) → (IsCmOf n c d → ⊥)
+      → IsFirstUplink n c d link → link_at n link ≡ Some l → length links ≤ most → IsFirstPath n c d links
+      → LeadsToCmWithin n c l.parent (most - 1)
+  walked l [] most bare first at short path = absurd (bare path)
+  walked {link} l (m ∷ ms) most bare first at short path =
+      let same : m ≡ link = ap (λ (k : ℕ). let i : LinkId = record { 0 = k } in i) (one_first path.0 first) in
+      let known : link_at n m ≡ Some l = ap (λ i. link_at n i) same ∙ at in
+      (ms, omega (arith, short), at_known (λ x. IsFirstPath n c x.parent ms) (link_at n m) l known path.1)
 
-pub leads_on : (n : Network) (c : Channel) (d : DeviceId) (link : LinkId) (l : Link) (most : ℕ) → (IsCmOf n c d → ⊥) → IsFirstUplink n c d link
-    → link_at n link ≡ Some l → LeadsToCmWithin n c d most → LeadsToCmWithin n c l.parent (most - 1)
-leads_on n c d link l most bare first at h = walked n c d link l h.0 most bare first at h.1 h.2
+  pub leads_on : {link : LinkId} (l : Link) (most : ℕ) → (IsCmOf n c d → ⊥) → IsFirstUplink n c d link
+      → link_at n link ≡ Some l → LeadsToCmWithin n c d most → LeadsToCmWithin n c l.parent (most - 1)
+  leads_on l most bare first at h = walked l h.0 most bare first at h.1 h.2
 
-stuck : (n : Network) (c : Channel) (d : DeviceId) (links : List LinkId) → (IsCmOf n c d → ⊥) → ((link : LinkId) → IsUplink n c d link → ⊥)
-    → IsFirstPath n c d links → ⊥
-stuck n c d [] bare none path = bare path
-stuck n c d (m ∷ ms) bare none path = none m path.0.leads
+  stuck : (links : List LinkId) → (IsCmOf n c d → ⊥) → ((link : LinkId) → IsUplink n c d link → ⊥)
+      → IsFirstPath n c d links → ⊥
+  stuck [] bare none path = bare path
+  stuck (m ∷ ms) bare none path = none m path.0.leads
 
--- a device with no uplink leads to no compression master but itself
-pub leads_nowhere : (n : Network) (c : Channel) (d : DeviceId) (most : ℕ) → (IsCmOf n c d → ⊥) → ((link : LinkId) → IsUplink n c d link → ⊥)
-    → LeadsToCmWithin n c d most → ⊥
-leads_nowhere n c d most bare none h = stuck n c d h.0 bare none h.2
+  -- a device with no uplink leads to no compression master but itself
+  pub leads_nowhere : (most : ℕ) → (IsCmOf n c d → ⊥) → ((link : LinkId) → IsUplink n c d link → ⊥)
+      → LeadsToCmWithin n c d most → ⊥
+  leads_nowhere most bare none h = stuck h.0 bare none h.2
 
 -- connected on each channel is connected
-on_each : (n : Network) (d : DeviceId) → IsConnectedOn n A d → IsConnectedOn n B d → (c : Channel) → IsConnectedOn n c d
-on_each n d a b A = a
-on_each n d a b B = b
+on_each : {n : Network} {d : DeviceId} → IsConnectedOn n A d → IsConnectedOn n B d → (c : Channel)
+    → IsConnectedOn n c d
+on_each a b A = a
+on_each a b B = b
 
-pub connected : (n : Network) (i : ℕ) → IsConnectedOn n A (record { 0 = i }) → IsConnectedOn n B (record { 0 = i }) → IsConnected n i
-connected n i a b = record {
-  ends = λ end c. (on_each n (record { 0 = i }) a b c).end end;
-  relays = λ c relay. (on_each n (record { 0 = i }) a b c).relay relay;
-  paths = λ c member. (on_each n (record { 0 = i }) a b c).path member;
+pub connected : {n : Network} (i : ℕ) → IsConnectedOn n A (record { 0 = i }) → IsConnectedOn n B (record { 0 = i })
+    → IsConnected n i
+connected i a b = record {
+  ends = λ end c. (on_each a b c).end end;
+  relays = λ c relay. (on_each a b c).relay relay;
+  paths = λ c member. (on_each a b c).path member;
 }
 
-pub connected_on : (n : Network) (i : ℕ) (c : Channel) → IsConnected n i → IsConnectedOn n c (record { 0 = i })
-connected_on n i c h = record { end = λ end. h.ends end c; relay = h.relays c; path = h.paths c }
+pub connected_on : {n : Network} {i : ℕ} (c : Channel) → IsConnected n i → IsConnectedOn n c (record { 0 = i })
+connected_on c h = record { end = λ end. h.ends end c; relay = h.relays c; path = h.paths c }

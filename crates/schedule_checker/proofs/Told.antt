@@ -41,11 +41,12 @@ keeps_next n rule i j next below here kept other less =
     (λ (l : number_of other < i). below other l)
     (λ (g : i ≤ number_of other).
     let same : number_of rule ≡ number_of other = omega (arith, here, less, g, next) in
-    subst (λ (r : Rule). IsKept r n) (same_rule rule other same) kept)
+    subst (λ r. IsKept r n) (same_rule rule other same) kept)
     (cases_lt (number_of other) i)
 
-pub tells : (n : Network) (rule : Rule) (i place : ℕ) → KeepsBelow i n → number_of rule ≡ i → BreaksAt n rule place → IsFirstBroken n rule place
-tells n rule i place kept here breaks = record {
+pub tells : {n : Network} {rule : Rule} (i : ℕ) {place : ℕ} → KeepsBelow i n → number_of rule ≡ i
+    → BreaksAt n rule place → IsFirstBroken n rule place
+tells i kept here breaks = record {
   rules = λ other below. kept other (omega (arith, below, here));
   places = breaks.places;
   broken = breaks.broken;

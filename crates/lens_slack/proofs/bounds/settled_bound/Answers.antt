@@ -7,5 +7,6 @@ returns-clause-tightest c =
     let plan = c.args.plan.now in
     let network = plan.network.now in
     let is = c.requires.beta in
-    settled_first network c.errors_of.result (amount plan.beta) (subst (IsBeta network) (beta_is_whole network plan.beta is) is) c.errors_of.ensures.value
+    settled_first network c.errors_of.result (amount plan.beta)
+    (subst (IsBeta network) (beta_is_whole plan.beta is) is) c.errors_of.ensures.value
     c.found.result (search rules)

@@ -1,5 +1,5 @@
 use Rattle.schedule_checker.proofs.Trees.{tree_of}
-use Rattle.{schedule_checker.specs.Groups.AreGroups, schedule_tables.specs.declared.entry.Entry.Entry, std.proofs.Common.{◌∙◌, List, subst, sym}}
+use Rattle.{schedule_checker.specs.Groups.AreGroups, std.proofs.Common.{◌∙◌, subst, sym}}
 use Rattle.schedule_checker.proofs.checker.judge.Goals as goal
 
 pub beta-requires-clause-tree : goal.beta-requires-clause-tree
@@ -10,7 +10,7 @@ judge_plan-requires-clause-plan c = record {
   range = c.requires;
   tree = tree_of c.rules_give_trees.ensures c.args.network.now c.in-Ok.ensures.kept;
   entries = rw c.deref-2.ensures.value c.in-Ok-entries_of.ensures;
-  groups = subst (λ (es : List Entry). AreGroups es c.in-Ok-groups_of.groups) (c.deref.ensures.value ∙ sym c.deref-2.ensures.value)
+  groups = subst (λ es. AreGroups es c.in-Ok-groups_of.groups) (c.deref.ensures.value ∙ sym c.deref-2.ensures.value)
       c.in-Ok-groups_of.ensures;
   beta = c.beta.ensures;
 }

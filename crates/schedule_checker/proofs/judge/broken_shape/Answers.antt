@@ -7,5 +7,5 @@ places-preserved c = below_more _ _ c.places.invariant (c.if-not-keeps_shape_rul
 pub returns-clause-none : goal.returns-clause-none
 returns-clause-none c =
     let many = ap (λ r. places_of r c.args.network.now) c.rule.ensures in
-    kept_beyond (shape_rule c.args.rule) c.args.network.now c.requires
+    kept_beyond (shape_rule c.args.rule) c.requires
     (λ k below. c.places.invariant k (omega (arith, below, many, c.places_of-place-end.ensures, c.places-test.false)))

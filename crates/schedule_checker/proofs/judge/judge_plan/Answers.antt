@@ -12,5 +12,5 @@ rules-preserved c =
 pub returns-in-Some-clause-told : goal.returns-in-Some-clause-told
 returns-in-Some-clause-told c =
     rw c.rule.ensures
-    (tells c.args.plan.now.network.now (plan_rule (get_or plan_rules c.rules.rule-index plans.Delays)) (8 + c.rules.rule-index) _ c.rules.invariant
+    (tells (8 + c.rules.rule-index) c.rules.invariant
     (plan_number c.rules.rule-index c.rules-test.true) c.in-Some.ensures.some)

@@ -11,7 +11,7 @@ rules-preserved c =
 pub returns-in-Some-clause-told : goal.returns-in-Some-clause-told
 returns-in-Some-clause-told c =
     rw c.rule.ensures
-    (tells c.args.network.now (shape_rule (get_or shape_rules c.rules.rule-index shapes.Limits)) (1 + c.rules.rule-index) _ c.rules.invariant
+    (tells (1 + c.rules.rule-index) c.rules.invariant
     (shape_number c.rules.rule-index c.rules-test.true) c.in-Some.ensures.some)
 
 pub returns-in-Some-clause-shape : goal.returns-in-Some-clause-shape

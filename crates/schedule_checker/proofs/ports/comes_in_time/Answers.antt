@@ -20,7 +20,8 @@ returns-then-eq c =
     let sender : source_of e ≡ e.vl.sender = search rules in
     let ranges = c.requires.range in
     let offset = (c.entries_law.ensures.range n c.args.place e ranges at).row.offset in
-    in_time_of_sender n c.args.place e _ c.entries_law.ensures.one at sender (grind (arith, common_steps, ints, ranges.tt_start, offset))
+    in_time_of_sender {n = n} {place = c.args.place} {e = e} _ c.entries_law.ensures.one at sender
+    (grind (arith, common_steps, ints, ranges.tt_start, offset))
 
 pub returns-else-eq : goal.returns-else-eq
 returns-else-eq c =
@@ -29,4 +30,5 @@ returns-else-eq c =
     let e = c.index-entries-place.result in
     let at = entry_read n es c.args.place e c.requires.entries c.requires.place c.index-entries-place.is in
     let other : source_of e ≢ e.vl.sender = search rules in
-    in_time_of_switch n es c.args.place e c.comes_behind_all.result c.requires.entries c.entries_law.ensures.one at other c.comes_behind_all.ensures
+    in_time_of_switch {place = c.args.place} {e = e} c.comes_behind_all.result c.requires.entries
+    c.entries_law.ensures.one at other c.comes_behind_all.ensures

@@ -8,5 +8,5 @@ returns c =
     let es = c.args.entries.now in
     let counted : c.count.result ≡ count_by (λ (e : Entry). (source_of e).0 == c.args.place) es = search (rules, chains) in
     let same : c.count.result ≡ count_by (leaves n (record { 0 = c.args.place })) n.row = counted
-    ∙ rows_leave n es (record { 0 = c.args.place }) c.requires.entries in
+    ∙ rows_leave (record { 0 = c.args.place }) c.requires.entries in
     rw same (search (rules, tests))

@@ -10,8 +10,10 @@ returns-then-ne c =
     let e = c.index-entries-place.result in
     let at = entry_read n es place e c.requires.entries c.requires.place c.index-entries-place.is in
     let other : target_of e ≢ e.vl.sender = search rules in (
-      λ yes. enters_anew n es (take place es) place e c.requires.entries c.entries_law.ensures.one at refl other (c.enters_none_again.ensures.0 yes),
-      λ kept. c.enters_none_again.ensures.1 (enters_anew_back n es (take place es) place e c.requires.entries at refl kept),
+      λ yes. enters_anew (take place es) {place = place} {e = e} c.requires.entries
+          c.entries_law.ensures.one at refl other (c.enters_none_again.ensures.0 yes),
+      λ kept. c.enters_none_again.ensures.1 (enters_anew_back
+          (take place es) {place = place} {e = e} c.requires.entries at refl kept),
     )
 
 pub returns-else-ne : goal.returns-else-ne

@@ -6,5 +6,5 @@ returns c =
     let n = c.args.network.now in
     let es = c.args.entries.now in
     let e = c.index-entries-place.result in
-    goes_once n es c.args.place e c.is_new_by_link.result c.requires.entries c.entries_law.ensures.one
+    goes_once c.is_new_by_link.result c.requires.entries c.entries_law.ensures.one
     (entry_read n es c.args.place e c.requires.entries c.requires.place c.index-entries-place.is) c.is_new_by_link.ensures

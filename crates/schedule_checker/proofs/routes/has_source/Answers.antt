@@ -9,7 +9,7 @@ returns-then-eq c =
     let e = c.index-entries-place.result in
     let at = entry_read n es c.args.place e c.requires.entries c.requires.place c.index-entries-place.is in
     let sender : source_of e ≡ e.vl.sender = search rules in
-    (λ yes. has_source n es c.args.place e c.requires.entries c.entries_law.ensures.one at (inl sender), λ kept. c.if-eq.true)
+    (λ yes. has_source c.args.place e c.requires.entries c.entries_law.ensures.one at (inl sender), λ kept. c.if-eq.true)
 
 pub returns-then-is_switch : goal.returns-then-is_switch
 returns-then-is_switch c =
@@ -19,10 +19,11 @@ returns-then-is_switch c =
     let at = entry_read n es c.args.place e c.requires.entries c.requires.place c.index-entries-place.is in
     let other : source_of e ≢ e.vl.sender = search rules in
     let switch : IsSwitch n (source_of e) = search rules in (
-      λ yes. has_source n es c.args.place e c.requires.entries c.entries_law.ensures.one at (inr (switch, c.is_entered_elsewhere.ensures.0 yes)),
+      λ yes. has_source c.args.place e c.requires.entries
+          c.entries_law.ensures.one at (inr (switch, c.is_entered_elsewhere.ensures.0 yes)),
       λ kept. c.is_entered_elsewhere.ensures.1
           (⊎_elim (λ (s : source_of e ≡ e.vl.sender). absurd (other s)) (λ (s : IsSwitch n (source_of e) × IsEnteredElsewhere es c.args.place e). s.1)
-          (has_source_back n es c.args.place e c.requires.entries c.entries_law.ensures.one at kept)),
+          (has_source_back c.args.place e c.requires.entries c.entries_law.ensures.one at kept)),
     )
 
 pub returns-else-is_switch : goal.returns-else-is_switch
@@ -35,5 +36,5 @@ returns-else-is_switch c =
     let no_switch : ¬ IsSwitch n (source_of e) = search rules in (
       λ yes. absurd (grind (arith, yes, c.if-is_switch.false)),
       λ kept. absurd (⊎_elim (λ (s : source_of e ≡ e.vl.sender). other s) (λ (s : IsSwitch n (source_of e) × IsEnteredElsewhere es c.args.place e). no_switch
-          s.0) (has_source_back n es c.args.place e c.requires.entries c.entries_law.ensures.one at kept)),
+          s.0) (has_source_back c.args.place e c.requires.entries c.entries_law.ensures.one at kept)),
     )

@@ -15,6 +15,6 @@ returns c =
     let entry = c.index-entries-place.result in
     let is = entry_read n c.args.entries.now c.args.place entry c.requires.entries c.requires.place c.index-entries-place.is in
     let end : c.amount.result ≡ window_end n entry = c.amount.ensures.value ∙ ap (λ (w : Window). unsigned_abs w.to.0) c.window_of-window.ensures in (
-      λ t. ends_from_entry n c.args.place entry c.entries_law.ensures.one is (omega (arith, end, leb-true _ _ t)),
+      λ t. ends_from_entry c.entries_law.ensures.one is (omega (arith, end, leb-true _ _ t)),
       λ ends. le-leb _ _ (omega (arith, end, ends entry is)),
     )

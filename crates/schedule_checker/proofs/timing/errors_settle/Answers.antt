@@ -6,6 +6,6 @@ pub returns : goal.returns
 returns c =
     let n = c.args.network.now in
     let fits = λ (b : ℕ). errors_of n b ≤ amount n.settled in (
-      λ t. at_beta fits n c.args.beta c.beta_is_unique.ensures c.requires.beta (omega (arith, leb-true _ _ t)),
-      λ h. le-leb _ _ (omega (arith, of_beta fits n c.args.beta c.requires.beta h)),
+      λ t. at_beta fits c.args.beta c.beta_is_unique.ensures c.requires.beta (omega (arith, leb-true _ _ t)),
+      λ h. le-leb _ _ (omega (arith, of_beta fits c.args.beta c.requires.beta h)),
     )

@@ -6,7 +6,8 @@ pub returns-then-from-errors : goal.returns-then-from-errors
 returns-then-from-errors c =
     let n = c.args.network.now in
     let errors : amount n.settled + 2 * errors_of n (amount c.args.beta) ≤ amount n.precision = omega arith in (
-      λ t. precision_from_errors n c.args.beta c.beta_is_unique.ensures c.requires.beta errors (omega (arith, leb-true _ _ t)),
+      λ t. precision_from_errors c.args.beta c.beta_is_unique.ensures c.requires.beta errors
+          (omega (arith, leb-true _ _ t)),
       λ fits. le-leb _ _ (omega (arith, fits.calc)),
     )
 
@@ -14,5 +15,5 @@ pub returns-else-from-errors : goal.returns-else-from-errors
 returns-else-from-errors c =
     let n = c.args.network.now in (
       λ t. absurd (omega (arith, leb-true _ _ t)),
-      λ fits. le-leb _ _ (omega (arith, errors_from_precision n c.args.beta c.requires.beta fits)),
+      λ fits. le-leb _ _ (omega (arith, errors_from_precision c.args.beta c.requires.beta fits)),
     )

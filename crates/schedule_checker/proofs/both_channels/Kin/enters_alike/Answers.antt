@@ -10,4 +10,5 @@ returns-else-not-is_end_system c =
     let b = c.enters-else-not-is_end_system.result in
     let end : IsEndSystem n c.args.device = search rules in
     Decides-like _ (alike n vl c.args.device a b c.enters.ensures c.enters-else-not-is_end_system.ensures)
-    (alike_back n vl c.args.device a b c.enters.ensures c.enters-else-not-is_end_system.ensures end) (booleans_Decides a b)
+    (alike_back {n = n} {vl = vl} {device = c.args.device} a b c.enters.ensures
+    c.enters-else-not-is_end_system.ensures end) (booleans_Decides a b)

@@ -12,5 +12,5 @@ returns c =
     let At : ℕ → Type 0 = λ (k : ℕ). IsSomeAnd (slice_get es k) P in
     let run = cases_from_any _ _ c.any.result At (λ (k : ℕ). ¬ At k) c.any.ensures.ran (YieldsList-from_slice places cc) (λ x q k. search (rules, tests))
     (λ x q k. search (rules, tests)) in
-    enters_end_system n es kin.vl c.any.result c.requires.entries c.entries_law.ensures.one
+    enters_end_system kin.vl c.any.result c.requires.entries c.entries_law.ensures.one
     (some_there P es places c.any.result (λ k e at is. c.requires.places.all k e at is.0) (any_decides At c.any.result places run))

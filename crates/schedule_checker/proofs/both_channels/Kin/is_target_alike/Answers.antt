@@ -19,7 +19,7 @@ returns-else-ne c =
     let found = c.in-Some.ensures.lookup in
     let same : e.row.vl ≡ kin.vl = search (rules, tests) in
     let decides : Decides c.enters_alike.result (EntersAlike n kin.vl (target_of e)) =
-    subst (λ (d : _). Decides c.enters_alike.result (EntersAlike n kin.vl d)) c.target.ensures c.enters_alike.ensures in
+    subst (λ d. Decides c.enters_alike.result (EntersAlike n kin.vl d)) c.target.ensures c.enters_alike.ensures in
     if_there (TargetIsAlike n kin.vl) kin.entries.now c.args.at e c.enters_alike.result found.0 found.1
     (λ yes is. decides.0 yes, λ alike. decides.1 (alike same))
 

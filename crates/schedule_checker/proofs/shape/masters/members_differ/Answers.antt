@@ -1,5 +1,5 @@
 use Rattle.{net_plan.specs.Places.is_master, schedule_checker.proofs.ShapePairs.{AtPairs, before_from_pairs, filter_pairs, pairs_from_filter, pairs_more}}
-use Rattle.{net_plan.specs.{Rules.MembersDiffer, declared.tables.Device.Device}, std.proofs.Common.{◌∙◌, ◌≡◌, ◌≢◌, Bool, List, Some, length, refl, subst, sym}}
+use Rattle.{net_plan.specs.{Rules.MembersDiffer, declared.tables.Device.Device}, std.proofs.Common.{◌∙◌, ◌≡◌, ◌≢◌, Bool, Some, length, refl, subst, sym}}
 use Rattle.schedule_checker.proofs.shape.masters.members_differ.Goals.{else-is_master_device-via-else-is_master_device}
 use Rattle.schedule_checker.proofs.shape.masters.members_differ.Goals.{else-is_master_device-via-then-is_master_device+else-not-member_is_new}
 use Rattle.std.{proofs.lemmas.{Bool.false≢true, Option.slice_get_read}, specs.List.{filter, slice_get}}
@@ -20,7 +20,7 @@ returns-then-not-member_is_new c =
     in
     let passes : master device ≡ _ = sym c.is_master_device.ensures ∙ c.if-is_master_device.true in
     let broken = λ (m : MembersDiffer c.args.network.now). let pairs = pairs_from_filter master Differ devices (length devices)
-    (subst (λ (xs : List Device). AtPairs Differ (filter master xs)) (sym c.as_slice-devices.ensures) m) in
+    (subst (λ xs. AtPairs Differ (filter master xs)) (sym c.as_slice-devices.ensures) m) in
     false≢true (sym c.if-not-member_is_new.true
     ∙ c.member_is_new.ensures.1 (before_from_pairs master Differ devices (length devices) place device pairs c.loop-place-test.true at passes)) in
     (λ h. absurd (false≢true h), λ m. absurd (broken m))
@@ -42,4 +42,4 @@ loop-place-preserved c =
 pub returns : goal.returns
 returns c =
     let all = filter_pairs master Differ c.as_slice-devices.result.now c.loop-place.place c.loop-place-test.false c.loop-place.invariant in
-    (λ _. subst (λ (xs : List Device). AtPairs Differ (filter master xs)) c.as_slice-devices.ensures all, λ _. refl)
+    (λ _. subst (λ xs. AtPairs Differ (filter master xs)) c.as_slice-devices.ensures all, λ _. refl)

@@ -7,4 +7,4 @@ returns-then-is_connected_on c =
     let i = c.args.place in
     let a = c.is_connected_on.ensures.0 c.if-is_connected_on.true in
     let b = c.is_connected_on-then-is_connected_on.ensures in
-    (λ h. connected n i a (b.0 h), λ h. b.1 (connected_on n i B h))
+    (λ h. connected i a (b.0 h), λ h. b.1 (connected_on B h))
