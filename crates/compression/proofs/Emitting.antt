@@ -7,9 +7,10 @@ use Rattle.std.proofs.Common.{◌*ℤ◌, ◌++◌, ◌+ℤ◌, ◌<ℤ◌, ◌^
 use Rattle.std.proofs.lemmas.{Int.ints, List.{Elements.{All-cons, All-from_recursion, All-map, All-push, All-weaker}, append_assoc, length-map, map-append}}
 
 -- the middle of a collection's points
-pub middle-within : (ow : ℤ) (c : Cluster) → IsCollection ow c → (pos 0 ≤ℤ middle_of (relative c.points)) × (middle_of (relative c.points) ≤ℤ (pos 2 *ℤ ow))
-middle-within ow c col =
-    let e = emission-within ow (pos 0) c col in
+pub middle-within : {ow : ℤ} {c : Cluster} → IsCollection ow c
+    → (pos 0 ≤ℤ middle_of (relative c.points)) × (middle_of (relative c.points) ≤ℤ (pos 2 *ℤ ow))
+middle-within {ow} {c} col =
+    let e = emission-within (pos 0) col in
     let low : pos 0 ≤ℤ middle_of (relative c.points) = from_low c.opened (pos 2 *ℤ ow) (middle_of (relative c.points)) e.0 in
     let high : middle_of (relative c.points) ≤ℤ (pos 2 *ℤ ow) = from_high c.opened (pos 2 *ℤ ow) (middle_of (relative c.points)) c.end e.1 col.two in
     (low, high)
@@ -25,8 +26,9 @@ pub fits_within : (z : ℤ) → neg_ℤ (pos (2 ^ 62)) ≤ℤ z → z ≤ℤ pos
 fits_within z low high = grind (arith, ints, low, high)
 
 -- the first that waits is due first
-pub IsLeast-first : (v : Collecting) (c : Cluster) (rest : List Cluster) → IsSound v → v.waiting ≡ c ∷ rest → IsLeast (emission v.ow v.calc c) (emissions v)
-IsLeast-first v c rest sound split =
+pub IsLeast-first : {v : Collecting} (c : Cluster) (rest : List Cluster) → IsSound v → v.waiting ≡ c ∷ rest
+    → IsLeast (emission v.ow v.calc c) (emissions v)
+IsLeast-first {v} c rest sound split =
     let row : IsRow v.ow v.earliest (c ∷ rest) = subst (IsRow v.ow v.earliest) split sound.row in
     let first = emission v.ow v.calc c in
     let others : All (λ k. first ≤ℤ emission v.ow v.calc k) rest = All-from_recursion (λ (k : Cluster). first ≤ℤ emission v.ow v.calc k) rest
@@ -40,17 +42,19 @@ IsLeast-first v c rest sound split =
     subst (λ (ws : List Cluster). IsLeast first (map (emission v.ow v.calc) ws)) (sym split) whole
 
 -- a collector without the first that waits, at a later reading
-pub IsSound-emitted : (v : Collecting) (c : Cluster) (rest : List Cluster) (later : ℤ) → IsSound v → v.waiting ≡ c ∷ rest → v.earliest ≤ℤ later
-    → IsSound (record v { earliest = later; waiting = rest })
-IsSound-emitted v c rest later sound split le = grind (arith, ints, row-rest, length)
+pub IsSound-emitted : {v : Collecting} (c : Cluster) (rest : List Cluster) (later : ℤ) → IsSound v
+    → v.waiting ≡ c ∷ rest → v.earliest ≤ℤ later → IsSound (record v { earliest = later; waiting = rest })
+IsSound-emitted c rest later sound split le = grind (arith, ints, row-rest, length)
 
 -- where it stands
-pub Stands-emitted : (v : Collecting) (points : List Point) (emitted : List Compressed) (c : Cluster) (rest : List Cluster) (later : ℤ) → IsSound v
-    → v.waiting ≡ c ∷ rest → v.earliest ≤ℤ later → emission v.ow v.calc c ≤ℤ later → StandsForPoints v points emitted
-    → StandsForPoints (record v { earliest = later; waiting = rest }) points (emitted ++ compressed v.ow v.calc c ∷ [])
-Stands-emitted v points emitted c rest later sound split le at s =
+pub Stands-emitted : {v : Collecting} {points : List Point} {emitted : List Compressed} (c : Cluster)
+    (rest : List Cluster) (later : ℤ) → IsSound v → v.waiting ≡ c ∷ rest → v.earliest ≤ℤ later
+    → emission v.ow v.calc c ≤ℤ later → StandsForPoints v points emitted
+    → StandsForPoints (record v { earliest = later; waiting = rest }) points
+    (emitted ++ compressed v.ow v.calc c ∷ [])
+Stands-emitted {v} {points} c rest later sound split le at s =
     let col = row-head v.ow v.earliest c rest (subst (IsRow v.ow v.earliest) split sound.row) in
-    let low = (emission-within v.ow v.calc c col).0 in
+    let low = (emission-within v.calc col).0 in
     let ended : c.end <ℤ later = omega (arith, ints, low, at, col.two, sound.some) in
     let before : All (λ k. k.end <ℤ later) s.done = All-weaker (λ (k : Cluster). k.end <ℤ v.earliest) (λ (k : Cluster). k.end <ℤ later)
     (λ k h. omega (arith, ints, h, le)) s.done s.past in

@@ -68,7 +68,7 @@ has_fold acc (x ∷ xs) y at =
       | inl e ↦
           let rest = counts (with_first acc x) xs in
           subst (λ (q : Point). has_master (fold with_first acc (x ∷ xs)) q.master ≡ true) e
-          (ap (λ (a : List Point). has_master a x.master) rest.is ∙ has_more (with_first acc x) rest.more x.master (has_with_first acc x))
+          (ap (λ a. has_master a x.master) rest.is ∙ has_more (with_first acc x) rest.more x.master (has_with_first acc x))
       | inr here ↦ has_fold (with_first acc x) xs y here
     ]
 

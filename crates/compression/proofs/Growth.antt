@@ -56,21 +56,22 @@ pub record Comes (ow : ℤ) (o : Point) (ps : List Point) (p : Point) : Type 0 w
   pub high : p.reading ≤ℤ end_of ow o ps
   pub starts : (more : List Point) × (counted (window_end ow o) o ps ≡ o ∷ more)
 
--- what counts up to an end that is not before the cluster's
-counted-push : (ow : ℤ) (o : Point) (ps : List Point) (p : Point) → Comes ow o ps p → (end : ℤ) → end_of ow o ps ≤ℤ end
-    → counted end o (ps ++ p ∷ []) ≡ with_first (counted (end_of ow o ps) o ps) p
-counted-push ow o ps p comes end le = grind (arith, held-push_in, ints, held-same, firsts-push)
+module _ (ow : ℤ) (o : Point) (ps : List Point) (p : Point) where
+  -- what counts up to an end that is not before the cluster's
+  counted-push : Comes ow o ps p → (end : ℤ) → end_of ow o ps ≤ℤ end
+      → counted end o (ps ++ p ∷ []) ≡ with_first (counted (end_of ow o ps) o ps) p
+  counted-push comes end le = grind (arith, held-push_in, ints, held-same, firsts-push)
 
--- what counts in the first window with a point that lies in it, and with one that does not
-window-push_in : (ow : ℤ) (o : Point) (ps : List Point) (p : Point) → Comes ow o ps p → p.reading ≤ℤ window_end ow o
-    → counted (window_end ow o) o (ps ++ p ∷ []) ≡ with_first (counted (window_end ow o) o ps) p
-window-push_in ow o ps p comes first =
-    ap firsts (held-push_in o.cycle o.reading (window_end ow o) ps p comes.same comes.low first)
-    ∙ firsts-push (of_cycle_within o.cycle o.reading (window_end ow o) ps) p
+  -- what counts in the first window with a point that lies in it, and with one that does not
+  window-push_in : Comes ow o ps p → p.reading ≤ℤ window_end ow o
+      → counted (window_end ow o) o (ps ++ p ∷ []) ≡ with_first (counted (window_end ow o) o ps) p
+  window-push_in comes first =
+      ap firsts (held-push_in o.cycle o.reading (window_end ow o) ps p comes.same comes.low first)
+      ∙ firsts-push (of_cycle_within o.cycle o.reading (window_end ow o) ps) p
 
-window-push_out : (ow : ℤ) (o : Point) (ps : List Point) (p : Point) → window_end ow o <ℤ p.reading → counted (window_end ow o) o (ps ++ p ∷ []) ≡ counted
-    (window_end ow o) o ps
-window-push_out ow o ps p past = ap firsts (held-push_beyond o.cycle o.reading (window_end ow o) ps p past)
+  window-push_out : window_end ow o <ℤ p.reading → counted (window_end ow o) o (ps ++ p ∷ [])
+      ≡ counted (window_end ow o) o ps
+  window-push_out past = ap firsts (held-push_beyond o.cycle o.reading (window_end ow o) ps p past)
 
 length-with_first : (xs : List Point) (p : Point) → length xs ≤ length (with_first xs p)
 length-with_first xs p = grind (arith, cases_Bool, with_first-old, with_first-new, length-append)
@@ -78,12 +79,13 @@ length-with_first xs p = grind (arith, cases_Bool, with_first-old, with_first-ne
 -- where the first window has one master, the cluster has no more
 one_window : (ow : ℤ) (o : Point) (ps : List Point) → length (counted (window_end ow o) o ps) < 2 → counted (end_of ow o ps) o ps ≡ counted (window_end ow o) o
     ps
-one_window ow o ps few = ap (λ (e : ℤ). counted e o ps) (end_of-one ow o ps few)
+one_window ow o ps few = ap (λ e. counted e o ps) (end_of-one ow o ps few)
 
 -- the end with the point of a master that has none there
-end_of-joined : (ow : ℤ) (o : Point) (ps : List Point) (p : Point) → Comes ow o ps p → has_master (counted (end_of ow o ps) o ps) p.master ≡ false
+end_of-joined : {ow : ℤ} {o : Point} {ps : List Point} {p : Point} → Comes ow o ps p
+    → has_master (counted (end_of ow o ps) o ps) p.master ≡ false
     → end_of ow o (ps ++ p ∷ []) ≡ joined_end ow (cluster_of ow o ps) p.reading
-end_of-joined ow o ps p comes new =
+end_of-joined comes new =
     grind (
       arith,
       cases_Bool,
@@ -101,9 +103,9 @@ end_of-joined ow o ps p comes new =
     )
 
 -- the end with the point of a master that has one there
-end_of-repeat : (ow : ℤ) (o : Point) (ps : List Point) (p : Point) → Comes ow o ps p → has_master (counted (end_of ow o ps) o ps) p.master ≡ true
-    → end_of ow o (ps ++ p ∷ []) ≡ end_of ow o ps
-end_of-repeat ow o ps p comes old =
+end_of-repeat : {ow : ℤ} {o : Point} {ps : List Point} {p : Point} → Comes ow o ps p
+    → has_master (counted (end_of ow o ps) o ps) p.master ≡ true → end_of ow o (ps ++ p ∷ []) ≡ end_of ow o ps
+end_of-repeat comes old =
     grind (arith, cases_Bool, ints, window-push_in, cases_lt, length, one_window, end_of-same, with_first-old, length-with_first, end_of-two, window-push_out)
 
 joined_end-later : (ow : ℤ) (o : Point) (ps : List Point) (reading : ℤ) → pos 0 ≤ℤ ow → end_of ow o ps ≤ℤ joined_end ow (cluster_of ow o ps) reading
@@ -115,28 +117,29 @@ cluster_with o end points members = record { opened = o.reading; end = end; cycl
 cluster_by-push : (o : Point) (end : ℤ) (counts : List Point) (p : Point) → cluster_by o end (counts ++ p ∷ []) ≡ cluster_with o end
     (map (λ q. q.reading) counts ++ p.reading ∷ []) (bit_or (members_of counts) (2 ^ p.master))
 cluster_by-push o end counts p =
-    ap (λ (points : List ℤ). cluster_with o end points (members_of (counts ++ p ∷ []))) (map-append (λ (q : Point). q.reading) counts (p ∷ []))
+    ap (λ points. cluster_with o end points (members_of (counts ++ p ∷ []))) (map-append (λ (q : Point). q.reading) counts (p ∷ []))
     ∙ ap (λ (members : ℕ). cluster_with o end (map (λ q. q.reading) counts ++ p.reading ∷ []) members) (members_of-push counts p)
 
 -- the cluster with a point that joins
-pub cluster_of-joined : (ow : ℤ) (o : Point) (ps : List Point) (p : Point) → Comes ow o ps p → has_point_of (cluster_of ow o ps) p.master ≡ false
+pub cluster_of-joined : {ow : ℤ} {o : Point} {ps : List Point} {p : Point} → Comes ow o ps p
+    → has_point_of (cluster_of ow o ps) p.master ≡ false
     → cluster_of ow o (ps ++ p ∷ []) ≡ joined ow (cluster_of ow o ps) p.reading p.master
-cluster_of-joined ow o ps p comes new =
+cluster_of-joined {ow} {o} {ps} {p} comes new =
     let counts = counted (end_of ow o ps) o ps in
     let end = joined_end ow (cluster_of ow o ps) p.reading in
     let fresh : has_master counts p.master ≡ false = sym (has_point_of-is (cluster_of ow o ps) counts p.master refl) ∙ new in
-    ap (λ (e : ℤ). cluster_by o e (counted e o (ps ++ p ∷ []))) (end_of-joined ow o ps p comes fresh)
+    ap (λ e. cluster_by o e (counted e o (ps ++ p ∷ []))) (end_of-joined comes fresh)
     ∙ ap (cluster_by o end) (counted-push ow o ps p comes end (joined_end-later ow o ps p.reading comes.some) ∙ with_first-new counts p fresh)
     ∙ cluster_by-push o end counts p
 
 -- the cluster with a point that repeats
-pub cluster_of-repeat : (ow : ℤ) (o : Point) (ps : List Point) (p : Point) → Comes ow o ps p → has_point_of (cluster_of ow o ps) p.master ≡ true
-    → cluster_of ow o (ps ++ p ∷ []) ≡ cluster_of ow o ps
-cluster_of-repeat ow o ps p comes old =
+pub cluster_of-repeat : {ow : ℤ} {o : Point} {ps : List Point} {p : Point} → Comes ow o ps p
+    → has_point_of (cluster_of ow o ps) p.master ≡ true → cluster_of ow o (ps ++ p ∷ []) ≡ cluster_of ow o ps
+cluster_of-repeat {ow} {o} {ps} {p} comes old =
     let counts = counted (end_of ow o ps) o ps in
     let end = end_of ow o ps in
     let there : has_master counts p.master ≡ true = sym (has_point_of-is (cluster_of ow o ps) counts p.master refl) ∙ old in
-    ap (λ (e : ℤ). cluster_by o e (counted e o (ps ++ p ∷ []))) (end_of-repeat ow o ps p comes there)
+    ap (λ e. cluster_by o e (counted e o (ps ++ p ∷ []))) (end_of-repeat comes there)
     ∙ ap (cluster_by o end) (counted-push ow o ps p comes end (omega (arith, ints)) ∙ with_first-old counts p there)
 
 alone : (p : Point) (to : ℤ) → p.reading ≤ℤ to → counted to p (p ∷ []) ≡ p ∷ []
@@ -171,7 +174,7 @@ AreClusters-opened ow (o ∷ ps) (c ∷ cs) p some are past =
     let beyond_end : end_of ow o (o ∷ ps) <ℤ p.reading = subst (λ (k : Cluster). k.end <ℤ p.reading) are.0 past.0 in
     let rest = AreClusters-opened ow (beyond c.end ps) cs p some are.1 past.1 in (
       are.0 ∙ sym (cluster_of-beyond ow o (o ∷ ps) p some beyond_end),
-      subst (λ (qs : List Point). AreClusters ow qs (cs ++ opening ow p ∷ []))
+      subst (λ qs. AreClusters ow qs (cs ++ opening ow p ∷ []))
           (sym (beyond-push_out c.end ps p past.0)) rest,
     )
 
@@ -181,31 +184,34 @@ pub record Grows (ow : ℤ) (c d : Cluster) (p : Point) : Type 0 where
   pub repeat : p.cycle ≡ c.cycle → has_point_of c p.master ≡ true → d ≡ c
   pub joins : p.cycle ≡ c.cycle → has_point_of c p.master ≡ false → d ≡ joined ow c p.reading p.master
 
-grows_whole : (ow : ℤ) (o : Point) (ps : List Point) (d : Cluster) (p : Point) → Comes' ow o ps p → Grows ow (cluster_of ow o ps) d p
-    → d ≡ cluster_of ow o (ps ++ p ∷ [])
-grows_whole ow o ps d p comes grows = grind (arith, cases_eq, cases_Bool, cluster_of-repeat, cluster_of-joined, cluster_of-other)
+grows_whole : {ow : ℤ} (o : Point) (ps : List Point) {d : Cluster} {p : Point} → Comes' ow o ps p
+    → Grows ow (cluster_of ow o ps) d p → d ≡ cluster_of ow o (ps ++ p ∷ [])
+grows_whole o ps comes grows =
+    grind (arith, cases_eq, cases_Bool, cluster_of-repeat, cluster_of-joined, cluster_of-other)
 
-cluster_of-grows : (ow : ℤ) (o : Point) (ps : List Point) (c d : Cluster) (p : Point) → pos 0 ≤ℤ ow → c ≡ cluster_of ow o (o ∷ ps) → beyond c.end ps ≡ []
-    → c.opened ≤ℤ p.reading → p.reading ≤ℤ c.end → Grows ow c d p → d ≡ cluster_of ow o ((o ∷ ps) ++ p ∷ [])
-cluster_of-grows ow o ps c d p some is none low high grows =
+cluster_of-grows : {ow : ℤ} (o : Point) (ps : List Point) {c d : Cluster} {p : Point} → pos 0 ≤ℤ ow
+    → c ≡ cluster_of ow o (o ∷ ps) → beyond c.end ps ≡ [] → c.opened ≤ℤ p.reading → p.reading ≤ℤ c.end
+    → Grows ow c d p → d ≡ cluster_of ow o ((o ∷ ps) ++ p ∷ [])
+cluster_of-grows {ow} o ps {d} {p} some is none low high grows =
     let k = cluster_of ow o (o ∷ ps) in
     let least = end_of-least ow o (o ∷ ps) some in
     let none' : beyond (end_of ow o (o ∷ ps)) ps ≡ [] = subst (λ (x : Cluster). beyond x.end ps ≡ []) is none in
     let start : int_lt (end_of ow o (o ∷ ps)) o.reading ≡ false = int_lt-false (end_of ow o (o ∷ ps)) o.reading (omega (arith, ints, least, some)) in
     let comes : Comes' ow o (o ∷ ps) p = grind (arith, start, none', window-starts) in
-    grows_whole ow o (o ∷ ps) d p comes (subst (λ (x : Cluster). Grows ow x d p) is grows)
+    grows_whole o (o ∷ ps) comes (subst (λ x. Grows ow x d p) is grows)
 
 -- a point that is not beyond the last cluster
-pub AreClusters-within : (ow : ℤ) (ps : List Point) (cs : List Cluster) (c d : Cluster) (p : Point) → pos 0 ≤ℤ ow → AreClusters ow ps (cs ++ c ∷ [])
-    → AllByRecursion (λ k. k.end <ℤ p.reading) cs → c.opened ≤ℤ p.reading → p.reading ≤ℤ c.end → c.end ≤ℤ d.end → Grows ow c d p
-    → AreClusters ow (ps ++ p ∷ []) (cs ++ d ∷ [])
-AreClusters-within ow [] [] c d p some are past low high longer grows = absurd are
-AreClusters-within ow [] (k ∷ cs) c d p some are past low high longer grows = absurd are
-AreClusters-within ow (o ∷ ps) [] c d p some are past low high longer grows = grind (arith, no_clusters, beyond-push_in, ints, beyond-later, cluster_of-grows)
-AreClusters-within ow (o ∷ ps) (k ∷ cs) c d p some are past low high longer grows =
+pub AreClusters-within : {ow : ℤ} (ps : List Point) (cs : List Cluster) {c d : Cluster} {p : Point} → pos 0 ≤ℤ ow
+    → AreClusters ow ps (cs ++ c ∷ []) → AllByRecursion (λ k. k.end <ℤ p.reading) cs → c.opened ≤ℤ p.reading
+    → p.reading ≤ℤ c.end → c.end ≤ℤ d.end → Grows ow c d p → AreClusters ow (ps ++ p ∷ []) (cs ++ d ∷ [])
+AreClusters-within [] [] some are past low high longer grows = absurd are
+AreClusters-within [] (k ∷ cs) some are past low high longer grows = absurd are
+AreClusters-within (o ∷ ps) [] some are past low high longer grows =
+    grind (arith, no_clusters, beyond-push_in, ints, beyond-later, cluster_of-grows)
+AreClusters-within {ow} (o ∷ ps) (k ∷ cs) {d} {p} some are past low high longer grows =
     let beyond_end : end_of ow o (o ∷ ps) <ℤ p.reading = subst (λ (x : Cluster). x.end <ℤ p.reading) are.0 past.0 in
-    let rest = AreClusters-within ow (beyond k.end ps) cs c d p some are.1 past.1 low high longer grows in (
+    let rest = AreClusters-within (beyond k.end ps) cs some are.1 past.1 low high longer grows in (
       are.0 ∙ sym (cluster_of-beyond ow o (o ∷ ps) p some beyond_end),
-      subst (λ (qs : List Point). AreClusters ow qs (cs ++ d ∷ []))
+      subst (λ qs. AreClusters ow qs (cs ++ d ∷ []))
           (sym (beyond-push_out k.end ps p past.0)) rest,
     )

@@ -17,20 +17,21 @@ filter-push_in test ps p e = filter-append test ps (p ∷ []) ∙ ap (λ (b : Bo
 filter-push_out : (test : Point → Bool) (ps : List Point) (p : Point) → test p ≡ false → filter test (ps ++ p ∷ []) ≡ filter test ps
 filter-push_out test ps p e = filter-append test ps (p ∷ []) ∙ ap (λ (b : Bool). filter test ps ++ cond b (p ∷ []) []) e ∙ append-nil (filter test ps)
 
--- a point of the cycle in the interval
-pub held-push_in : (cycle : ℕ) (from to : ℤ) (ps : List Point) (p : Point) → p.cycle ≡ cycle → from ≤ℤ p.reading → p.reading ≤ℤ to
-    → of_cycle_within cycle from to (ps ++ p ∷ []) ≡ of_cycle_within cycle from to ps ++ p ∷ []
-held-push_in cycle from to ps p same low high = grind (arith, and_from, eq-eqb, int_le-from, filter-push_in)
+module _ (cycle : ℕ) (from to : ℤ) (ps : List Point) (p : Point) where
+  -- a point of the cycle in the interval
+  pub held-push_in : p.cycle ≡ cycle → from ≤ℤ p.reading → p.reading ≤ℤ to
+      → of_cycle_within cycle from to (ps ++ p ∷ []) ≡ of_cycle_within cycle from to ps ++ p ∷ []
+  held-push_in same low high = grind (arith, and_from, eq-eqb, int_le-from, filter-push_in)
 
--- one beyond it
-pub held-push_beyond : (cycle : ℕ) (from to : ℤ) (ps : List Point) (p : Point) → to <ℤ p.reading
-    → of_cycle_within cycle from to (ps ++ p ∷ []) ≡ of_cycle_within cycle from to ps
-held-push_beyond cycle from to ps p past = grind (arith, and_right, int_le-false, filter-push_out)
+  -- one beyond it
+  pub held-push_beyond : to <ℤ p.reading → of_cycle_within cycle from to (ps ++ p ∷ [])
+      ≡ of_cycle_within cycle from to ps
+  held-push_beyond past = grind (arith, and_right, int_le-false, filter-push_out)
 
--- one of another cycle
-pub held-push_other : (cycle : ℕ) (from to : ℤ) (ps : List Point) (p : Point) → p.cycle ≢ cycle → of_cycle_within cycle from to (ps ++ p ∷ []) ≡ of_cycle_within
-    cycle from to ps
-held-push_other cycle from to ps p other = grind (arith, and_left, ne_eqb, filter-push_out)
+  -- one of another cycle
+  pub held-push_other : p.cycle ≢ cycle → of_cycle_within cycle from to (ps ++ p ∷ [])
+      ≡ of_cycle_within cycle from to ps
+  held-push_other other = grind (arith, and_left, ne_eqb, filter-push_out)
 
 -- the first, of its own cycle
 pub held-start : (o : Point) (to : ℤ) (ps : List Point) → o.reading ≤ℤ to → of_cycle_within o.cycle o.reading to (o ∷ ps) ≡ o

@@ -24,8 +24,10 @@ last_but low high a b c (d ∷ ds) up (inl all) = last_but low high b c d ds up.
 last_but low high a b c (d ∷ ds) up (inr rest) = last_but low high b c d ds up.1 rest.1
 
 -- a mean of two numbers that lie within bounds
-mean_within : (low high p b d m : ℤ) → IsMean (b -ℤ p) (d -ℤ p) m → LiesWithin low high b → LiesWithin low high d → LiesWithin low high (p +ℤ m)
-mean_within low high p b d m mean from to = (omega (arith, ints, mean.least, mean.most, from.0, to.0), omega (arith, ints, mean.least, mean.most, from.1, to.1))
+mean_within : (low high p b d : ℤ) {m : ℤ} → IsMean (b -ℤ p) (d -ℤ p) m → LiesWithin low high b
+    → LiesWithin low high d → LiesWithin low high (p +ℤ m)
+mean_within low high p b d mean from to =
+    (omega (arith, ints, mean.least, mean.most, from.0, to.0), omega (arith, ints, mean.least, mean.most, from.1, to.1))
 
 pub middle_among_others : MiddleAmongOthers
 middle_among_others [] low high many up all = absurd (omega arith)
@@ -37,9 +39,9 @@ middle_among_others (a ∷ b ∷ c ∷ more) low high many up all =
     let at : last - 1 ≡ suc (length more) = omega arith in
     let inner : mean_of (offset_at ps 1) (offset_at ps (last - 1)) ≡ middle_of (relative ps) = middle_of-inner ps last (omega arith) (omega arith) in
     let d = get_or ps (suc (length more)) (pos 0) in
-    let is : mean_of (b -ℤ a) (d -ℤ a) ≡ middle_of (relative ps) = sym (ap (λ (n : ℕ). mean_of (b -ℤ a) (offset_at ps n)) at) ∙ inner in
-    subst (λ (m : ℤ). LiesWithin low high (a +ℤ m)) is
-    (mean_within low high a b d (mean_of (b -ℤ a) (d -ℤ a)) (mean_of-floor (b -ℤ a) (d -ℤ a)) (second low high a b c more up all)
+    let is : mean_of (b -ℤ a) (d -ℤ a) ≡ middle_of (relative ps) = sym (ap (λ n. mean_of (b -ℤ a) (offset_at ps n)) at) ∙ inner in
+    subst (λ m. LiesWithin low high (a +ℤ m)) is
+    (mean_within low high a b d (mean_of-floor (b -ℤ a) (d -ℤ a)) (second low high a b c more up all)
     (last_but low high a b c more up all))
 
 pub middle_from_first_to_last : MiddleFromFirstToLast

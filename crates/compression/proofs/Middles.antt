@@ -3,22 +3,22 @@ use Rattle.compression.{proofs.Ascents.offset_at-within, specs.{Ascent.{IsAscend
 use Rattle.std.proofs.Common.{◌+◌, ◌-ℤ◌, ◌-◌, ◌<◌, ◌∙◌, ◌∷◌, ◌≡◌, ◌≢◌, ◌≤ℤ◌, ◌≤◌, List, [], ap, arith, get_or, inl, inr, length, map, pos, refl, subst, suc}
 use Rattle.{std.proofs.{Common.{sym, ℕ, ℤ}, lemmas.{Bool.cases_lt, Int.ints}}, tte_units.{proofs.Means.mean_of-floor, specs.Mean.{IsMean, mean_of}}}
 
-only_mean : (s m : ℤ) → IsMean s s m → m ≡ s
-only_mean s m h = omega (arith, ints, h.least, h.most)
+only_mean : {s m : ℤ} → IsMean s s m → m ≡ s
+only_mean h = omega (arith, ints, h.least, h.most)
 
 -- the mean of a number with itself
 pub mean_of-same : (s : ℤ) → mean_of s s ≡ s
-mean_of-same s = only_mean s (mean_of s s) (mean_of-floor s s)
+mean_of-same s = only_mean (mean_of-floor s s)
 
 -- the mean of the first and the last, where there are fewer than three
 pub middle_of-ends : (ps : List ℤ) (last : ℕ) → length ps ≡ last + 1 → last < 2 → mean_of (offset_at ps 0) (offset_at ps last) ≡ middle_of (relative ps)
 middle_of-ends [] last len few = absurd (omega arith)
 middle_of-ends (a ∷ []) last len few =
     let e : last ≡ 0 = omega arith in
-    subst (λ (n : ℕ). mean_of (a -ℤ a) (offset_at (a ∷ []) n) ≡ a -ℤ a) (sym e) (mean_of-same (a -ℤ a))
+    subst (λ n. mean_of (a -ℤ a) (offset_at (a ∷ []) n) ≡ a -ℤ a) (sym e) (mean_of-same (a -ℤ a))
 middle_of-ends (a ∷ b ∷ []) last len few =
     let e : last ≡ 1 = omega arith in
-    subst (λ (n : ℕ). mean_of (a -ℤ a) (offset_at (a ∷ b ∷ []) n) ≡ mean_of (a -ℤ a) (b -ℤ a)) (sym e) refl
+    subst (λ n. mean_of (a -ℤ a) (offset_at (a ∷ b ∷ []) n) ≡ mean_of (a -ℤ a) (b -ℤ a)) (sym e) refl
 middle_of-ends (a ∷ b ∷ c ∷ more) last len few = absurd (omega arith)
 
 last_but_one-at : (p e f : ℤ) (more : List ℤ) → get_or (e ∷ f ∷ more) (length more) (pos 0) -ℤ p ≡ last_but_one (e -ℤ p) (f -ℤ p) (map (λ q. q -ℤ p) more)
@@ -32,29 +32,31 @@ middle_of-inner (a ∷ []) last len many = absurd (omega arith)
 middle_of-inner (a ∷ b ∷ []) last len many = absurd (omega arith)
 middle_of-inner (a ∷ b ∷ c ∷ []) last len many =
     let e : last - 1 ≡ 1 = omega arith in
-    subst (λ (n : ℕ). mean_of (b -ℤ a) (offset_at (a ∷ b ∷ c ∷ []) n) ≡ b -ℤ a) (sym e) (mean_of-same (b -ℤ a))
+    subst (λ n. mean_of (b -ℤ a) (offset_at (a ∷ b ∷ c ∷ []) n) ≡ b -ℤ a) (sym e) (mean_of-same (b -ℤ a))
 middle_of-inner (a ∷ b ∷ c ∷ d ∷ []) last len many =
     let e : last - 1 ≡ 2 = omega arith in
-    ap (λ (n : ℕ). mean_of (b -ℤ a) (offset_at (a ∷ b ∷ c ∷ d ∷ []) n)) e
+    ap (λ n. mean_of (b -ℤ a) (offset_at (a ∷ b ∷ c ∷ d ∷ []) n)) e
 middle_of-inner (a ∷ b ∷ c ∷ d ∷ e ∷ []) last len many =
     let at : last - 1 ≡ 3 = omega arith in
-    ap (λ (n : ℕ). mean_of (b -ℤ a) (offset_at (a ∷ b ∷ c ∷ d ∷ e ∷ []) n)) at
+    ap (λ n. mean_of (b -ℤ a) (offset_at (a ∷ b ∷ c ∷ d ∷ e ∷ []) n)) at
 middle_of-inner (a ∷ b ∷ c ∷ d ∷ e ∷ f ∷ more) last len many =
     let at : last - 1 ≡ suc (suc (suc (suc (length more)))) = omega arith in
-    ap (λ (n : ℕ). mean_of (b -ℤ a) (offset_at (a ∷ b ∷ c ∷ d ∷ e ∷ f ∷ more) n)) at ∙ ap (mean_of (b -ℤ a)) (last_but_one-at a e f more)
+    ap (λ n. mean_of (b -ℤ a) (offset_at (a ∷ b ∷ c ∷ d ∷ e ∷ f ∷ more) n)) at ∙ ap (mean_of (b -ℤ a)) (last_but_one-at a e f more)
 
 -- a list that is not empty has a length of its last place and one more
 pub length-some : {X : Type 0} (xs : List X) → xs ≢ [] → length xs ≡ (length xs - 1) + 1
 length-some [] some = absurd (some refl)
 length-some (x ∷ xs) some = omega arith
 
-between : (a b m s : ℤ) → IsMean a b m → (pos 0 ≤ℤ a) × (a ≤ℤ s) → (pos 0 ≤ℤ b) × (b ≤ℤ s) → (pos 0 ≤ℤ m) × (m ≤ℤ s)
-between a b m s mean from to = (omega (arith, ints, mean.least, mean.most, from.0, to.0), omega (arith, ints, mean.least, mean.most, from.1, to.1))
+between : {a b m : ℤ} (s : ℤ) → IsMean a b m → (pos 0 ≤ℤ a) × (a ≤ℤ s) → (pos 0 ≤ℤ b) × (b ≤ℤ s)
+    → (pos 0 ≤ℤ m) × (m ≤ℤ s)
+between s mean from to =
+    (omega (arith, ints, mean.least, mean.most, from.0, to.0), omega (arith, ints, mean.least, mean.most, from.1, to.1))
 
 mean_of-within : (ps : List ℤ) (i j : ℕ) → IsAscending ps → i < length ps → j < length ps → (pos 0 ≤ℤ mean_of (offset_at ps i) (offset_at ps j))
     × (mean_of (offset_at ps i) (offset_at ps j) ≤ℤ spread ps)
 mean_of-within ps i j up inside within =
-    between (offset_at ps i) (offset_at ps j) (mean_of (offset_at ps i) (offset_at ps j)) (spread ps) (mean_of-floor (offset_at ps i) (offset_at ps j))
+    between (spread ps) (mean_of-floor (offset_at ps i) (offset_at ps j))
     (offset_at-within ps i up inside) (offset_at-within ps j up within)
 
 -- a middle lies among the points

@@ -36,14 +36,15 @@ record Left (masters : List ℕ) (counts : List Point) : Type 0 where
   pub total : length counts + length rest ≡ length masters
   pub each : (m : ℕ) → Contains masters m → has_master counts m ≡ false → Contains rest m
 
-left_after : (masters : List ℕ) (acc xs : List Point) → Left masters acc → AllByRecursion (λ p. Contains masters p.master) xs
-    → Left masters (fold with_first acc xs)
-left_after masters acc [] l all = l
-left_after masters acc (x ∷ xs) l all =
+left_after : {masters : List ℕ} (acc xs : List Point) → Left masters acc
+    → AllByRecursion (λ p. Contains masters p.master) xs → Left masters (fold with_first acc xs)
+left_after acc [] l all = l
+left_after {masters} acc (x ∷ xs) l all =
     elim (cases_Bool (has_master acc x.master)) [
-      | inl old ↦ subst (λ (a : List Point). Left masters (fold with_first a xs)) (sym (with_first-old acc x old)) (left_after masters acc xs l all.1)
+      | inl old ↦ subst (λ (a : List Point). Left masters (fold with_first a xs)) (sym (with_first-old acc x old))
+          (left_after acc xs l all.1)
       | inr new ↦ subst (λ (a : List Point). Left masters (fold with_first a xs)) (sym (with_first-new acc x new))
-          (left_after masters (acc ++ x ∷ []) xs (one_more new) all.1)
+          (left_after (acc ++ x ∷ []) xs (one_more new) all.1)
     ]
   where
     one_more : has_master acc x.master ≡ false → Left masters (acc ++ x ∷ [])
@@ -60,7 +61,7 @@ few_count : (masters : List ℕ) (xs : List Point) → AllByRecursion (λ p. Con
     → has_master (firsts xs) m ≡ false → length (firsts xs) < length masters
 few_count masters xs all m at none =
     let start : Left masters [] = record { rest = masters; total = omega arith; each = λ k in_k free. in_k } in
-    let l = left_after masters [] xs start all in
+    let l = left_after [] xs start all in
     some_left l.rest (l.each m at none) l.total
   where
     some_left : (rest : List ℕ) → Contains rest m → length (firsts xs) + length rest ≡ length masters → length (firsts xs) < length masters
@@ -78,7 +79,7 @@ room ow (o ∷ ps) (k ∷ ks) masters are all c at m in_m free =
           let L : List Point = o ∷ ps in
           let counts = counted (end_of ow o L) o L in
           let is : c ≡ cluster_of ow o L = sym e ∙ are.0 in
-          let free' : has_point_of (cluster_of ow o L) m ≡ false = subst (λ (x : Cluster). has_point_of x m ≡ false) is free in
+          let free' : has_point_of (cluster_of ow o L) m ≡ false = subst (λ x. has_point_of x m ≡ false) is free in
           let none : has_master counts m ≡ false = sym (has_point_of-is (cluster_of ow o L) counts m refl) ∙ free' in
           let held = all-filter (λ (p : Point). Contains masters p.master)
           (λ q. q.cycle == o.cycle && (int_le o.reading q.reading && int_le q.reading (end_of ow o L))) L all in

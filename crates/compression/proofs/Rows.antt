@@ -31,15 +31,16 @@ last_or-last_from p [] = refl
 last_or-last_from p (q ∷ qs) = last_or-last_from q qs
 
 -- what may follow a collection's points is not below its opening
-pub opened-before : (ow : ℤ) (c : Cluster) (reading : ℤ) → IsCollection ow c → MayFollow c.points reading → c.opened ≤ℤ reading
-opened-before ow c reading col may =
-    let may' : MayFollow (c.opened ∷ col.later) reading = subst (λ (ps : List ℤ). MayFollow ps reading) col.points may in
+pub opened-before : {ow : ℤ} {c : Cluster} (reading : ℤ) → IsCollection ow c → MayFollow c.points reading
+    → c.opened ≤ℤ reading
+opened-before {c} reading col may =
+    let may' : MayFollow (c.opened ∷ col.later) reading = subst (λ ps. MayFollow ps reading) col.points may in
     let last : last_from c.opened col.later ≤ℤ reading = rw (last_or-last_from c.opened col.later) at may' in
     let up = last_from-up c.opened col.later col.rising in
     omega (arith, ints, last, up)
 
-pub opened-end : (ow : ℤ) (c : Cluster) → IsCollection ow c → c.opened ≤ℤ c.end
-opened-end ow c col =
+pub opened-end : {ow : ℤ} {c : Cluster} → IsCollection ow c → c.opened ≤ℤ c.end
+opened-end {c} col =
     let up = last_from-up c.opened col.later col.rising in
     omega (arith, ints, up, col.held)
 
@@ -59,36 +60,37 @@ row_last ow reading (k ∷ []) c row = record { collection = row.2.0; may = row.
 row_last ow reading (k ∷ m ∷ ms) c row =
     let rest = row_last ow reading (m ∷ ms) c row.2 in
     let m_is : IsCollection ow m = row_head ow reading m (ms ++ c ∷ []) row.2 in
-    let up = opened-end ow m m_is in
+    let up = opened-end m_is in
     record { collection = rest.collection; may = rest.may; before = (omega (arith, ints, row.1, up, rest.before.0), rest.before) }
   where
     row_head : (ow reading : ℤ) (m : Cluster) (ms : List Cluster) → IsRow ow reading (m ∷ ms) → IsCollection ow m
     row_head ow reading m [] row = row.0
     row_head ow reading m (n ∷ ns) row = row.0
 
--- a row with the collection that opens next
-pub row-push : (ow t reading : ℤ) (cs : List Cluster) (d : Cluster) → IsRow ow t cs → AllByRecursion (λ k. k.end <ℤ d.opened) cs → IsCollection ow d
-    → MayFollow d.points reading → IsRow ow reading (cs ++ d ∷ [])
-row-push ow t reading [] d row before col may = (col, may)
-row-push ow t reading (c ∷ []) d row before col may = (row.0, before.0, (col, may))
-row-push ow t reading (c ∷ e ∷ es) d row before col may = (row.0, row.1, row-push ow t reading (e ∷ es) d row.2 before.1 col may)
+module _ (ow t reading : ℤ) where
+  -- a row with the collection that opens next
+  pub row-push : (cs : List Cluster) {d : Cluster} → IsRow ow t cs → AllByRecursion (λ k. k.end <ℤ d.opened) cs
+      → IsCollection ow d → MayFollow d.points reading → IsRow ow reading (cs ++ d ∷ [])
+  row-push [] row before col may = (col, may)
+  row-push (c ∷ []) row before col may = (row.0, before.0, (col, may))
+  row-push (c ∷ e ∷ es) row before col may = (row.0, row.1, row-push (e ∷ es) row.2 before.1 col may)
 
--- a row with another last collection of the same opening
-pub row-replace : (ow t reading : ℤ) (front : List Cluster) (c d : Cluster) → IsRow ow t (front ++ c ∷ []) → d.opened ≡ c.opened → IsCollection ow d
-    → MayFollow d.points reading → IsRow ow reading (front ++ d ∷ [])
-row-replace ow t reading [] c d row same col may = (col, may)
-row-replace ow t reading (k ∷ []) c d row same col may = (row.0, subst (λ (o : ℤ). k.end <ℤ o) (sym same) row.1, (col, may))
-row-replace ow t reading (k ∷ m ∷ ms) c d row same col may = (row.0, row.1, row-replace ow t reading (m ∷ ms) c d row.2 same col may)
+  -- a row with another last collection of the same opening
+  pub row-replace : (front : List Cluster) (c : Cluster) {d : Cluster} → IsRow ow t (front ++ c ∷ [])
+      → d.opened ≡ c.opened → IsCollection ow d → MayFollow d.points reading → IsRow ow reading (front ++ d ∷ [])
+  row-replace [] c row same col may = (col, may)
+  row-replace (k ∷ []) c row same col may = (row.0, subst (λ o. k.end <ℤ o) (sym same) row.1, (col, may))
+  row-replace (k ∷ m ∷ ms) c row same col may = (row.0, row.1, row-replace (m ∷ ms) c row.2 same col may)
 
--- a row without its first collection, at a later reading
-pub row-rest : (ow t reading : ℤ) (c : Cluster) (cs : List Cluster) → t ≤ℤ reading → IsRow ow t (c ∷ cs) → IsRow ow reading cs
-row-rest ow t reading c [] le row = tt
-row-rest ow t reading c (d ∷ ds) le row = row-later (d ∷ ds) row.2
-  where
-    row-later : (es : List Cluster) → IsRow ow t es → IsRow ow reading es
-    row-later [] row = tt
-    row-later (e ∷ []) row = (row.0, MayFollow-later e.points t reading le row.1)
-    row-later (e ∷ f ∷ fs) row = (row.0, row.1, row-later (f ∷ fs) row.2)
+  -- a row without its first collection, at a later reading
+  pub row-rest : (c : Cluster) (cs : List Cluster) → t ≤ℤ reading → IsRow ow t (c ∷ cs) → IsRow ow reading cs
+  row-rest c [] le row = tt
+  row-rest c (d ∷ ds) le row = row-later (d ∷ ds) row.2
+    where
+      row-later : (es : List Cluster) → IsRow ow t es → IsRow ow reading es
+      row-later [] row = tt
+      row-later (e ∷ []) row = (row.0, MayFollow-later e.points t reading le row.1)
+      row-later (e ∷ f ∷ fs) row = (row.0, row.1, row-later (f ∷ fs) row.2)
 
 pub row-head : (ow reading : ℤ) (c : Cluster) (cs : List Cluster) → IsRow ow reading (c ∷ cs) → IsCollection ow c
 row-head ow reading c [] row = row.0
@@ -100,7 +102,7 @@ pub row-after : (ow reading : ℤ) (c : Cluster) (cs : List Cluster) → IsRow o
 row-after ow reading c [] row = tt
 row-after ow reading c (d ∷ ds) row =
     let d_is = row-head ow reading d ds row.2 in
-    ((row.1, d_is), later ds (omega (arith, ints, row.1, opened-end ow d d_is)) (row-after ow reading d ds row.2))
+    ((row.1, d_is), later ds (omega (arith, ints, row.1, opened-end d_is)) (row-after ow reading d ds row.2))
   where
     later : (es : List Cluster) → c.end ≤ℤ d.end → AllByRecursion (λ k. (d.end <ℤ k.opened) × IsCollection ow k) es
         → AllByRecursion (λ k. (c.end <ℤ k.opened) × IsCollection ow k) es
@@ -108,9 +110,10 @@ row-after ow reading c (d ∷ ds) row =
     later (e ∷ es) le all = ((omega (arith, ints, le, all.0.0), all.0.1), later es le all.1)
 
 -- an emission lies two windows and the time to calculate after a reading of the cluster
-pub emission-within : (ow calc : ℤ) (c : Cluster) → IsCollection ow c → ((c.opened +ℤ (pos 2 *ℤ ow) +ℤ calc) ≤ℤ emission ow calc c)
+pub emission-within : {ow : ℤ} (calc : ℤ) {c : Cluster} → IsCollection ow c
+    → ((c.opened +ℤ (pos 2 *ℤ ow) +ℤ calc) ≤ℤ emission ow calc c)
     × (emission ow calc c ≤ℤ (c.end +ℤ (pos 2 *ℤ ow) +ℤ calc))
-emission-within ow calc c col =
+emission-within calc {c} col =
     let among = middle_of-within (c.opened ∷ col.later) (λ e. cc) col.rising in
     let low : pos 0 ≤ℤ middle_of (relative c.points) = rw col.points among.0 in
     let high : middle_of (relative c.points) ≤ℤ (last_from c.opened col.later -ℤ c.opened) = rw col.points among.1 in
@@ -121,13 +124,13 @@ pub row-emissions : (ow calc reading : ℤ) (c : Cluster) (cs : List Cluster) �
     → AllByRecursion (λ k. emission ow calc c ≤ℤ emission ow calc k) cs
 row-emissions ow calc reading c cs row =
     let c_is = row-head ow reading c cs row in
-    each cs (row-after ow reading c cs row) (emission-within ow calc c c_is)
+    each cs (row-after ow reading c cs row) (emission-within calc c_is)
   where
     each : (ks : List Cluster) → AllByRecursion (λ k. (c.end <ℤ k.opened) × IsCollection ow k) ks → ((c.opened +ℤ (pos 2 *ℤ ow) +ℤ calc) ≤ℤ emission ow calc c)
         × (emission ow calc c ≤ℤ (c.end +ℤ (pos 2 *ℤ ow) +ℤ calc)) → AllByRecursion (λ k. emission ow calc c ≤ℤ emission ow calc k) ks
     each [] all within = tt
     each (k ∷ ks) all within =
-        let other = emission-within ow calc k all.0.1 in
+        let other = emission-within calc all.0.1 in
         (omega (arith, ints, within.1, other.0, all.0.0), each ks all.1 within)
 
 -- five collections are never open or waiting where a sixth would open: the first would be due too long before
@@ -139,7 +142,7 @@ row-room ow calc t reading (a ∷ b ∷ []) some short row past due = omega arit
 row-room ow calc t reading (a ∷ b ∷ c ∷ []) some short row past due = omega arith
 row-room ow calc t reading (a ∷ b ∷ c ∷ d ∷ []) some short row past due = omega arith
 row-room ow calc t reading (a ∷ b ∷ c ∷ d ∷ e ∷ more) some short row past due =
-    let late = emission-within ow calc a row.0 in
+    let late = emission-within calc row.0 in
     let two = row.2 in
     let three = two.2 in
     let four = three.2 in

@@ -15,9 +15,9 @@ pub open_at-some : (cs : List Cluster) (reading : ℤ) (c : Cluster) → open_at
 open_at-some cs reading c e = grind (arith, none_is_some, cases_Bool, ints)
 
 -- where none is open, all ended before
-pub all_ended : (v : Collecting) (reading : ℤ) → IsSound v → v.earliest ≤ℤ reading → open_at v.waiting reading ≡ None
+pub all_ended : {v : Collecting} (reading : ℤ) → IsSound v → v.earliest ≤ℤ reading → open_at v.waiting reading ≡ None
     → AllByRecursion (λ k. k.end <ℤ reading) v.waiting
-all_ended v reading sound order none =
+all_ended {v} reading sound order none =
     by_last (last_or None v.waiting) refl
   where
     all_before : (o : ℤ) (ks : List Cluster) → o ≤ℤ reading → AllByRecursion (λ k. k.end <ℤ o) ks → AllByRecursion (λ k. k.end <ℤ reading) ks
@@ -36,7 +36,7 @@ all_ended v reading sound order none =
           | inl ended ↦
               let split = last_split v.waiting c l in
               let last = row_last v.ow v.earliest split.0 c (subst (IsRow v.ow v.earliest) split.1 sound.row) in
-              let opened = opened-before v.ow c v.earliest last.collection last.may in
+              let opened = opened-before v.earliest last.collection last.may in
               let past : c.end <ℤ reading = grind (arith, ints, ended) in
               subst (AllByRecursion (λ k. k.end <ℤ reading)) (sym split.1)
               (all_push split.0 c (all_before c.opened split.0 (omega (arith, ints, opened, order)) last.before) past)
@@ -49,16 +49,18 @@ length-push [] c = refl
 length-push (k ∷ ks) c = omega (arith, length-push ks c)
 
 -- a collector with another collection
-pub IsSound-opened : (v : Collecting) (p : Point) → IsSound v → v.earliest ≤ℤ p.reading → p.reading ≤ℤ greatest_reading → open_at v.waiting p.reading ≡ None
-    → length v.waiting < 5 → IsSound (with_opened v p)
-IsSound-opened v p sound order high none room =
+pub IsSound-opened : {v : Collecting} (p : Point) → IsSound v → v.earliest ≤ℤ p.reading
+    → p.reading ≤ℤ greatest_reading → open_at v.waiting p.reading ≡ None → length v.waiting < 5
+    → IsSound (with_opened v p)
+IsSound-opened {v} p sound order high none room =
     let col : IsCollection v.ow (opening v.ow p) = grind (arith, ints) in
     record {
       some = sound.some;
       short = sound.short;
       small = sound.small;
       low = omega (arith, ints, order, sound.low);
-      row = row-push v.ow v.earliest p.reading v.waiting (opening v.ow p) sound.row (all_ended v p.reading sound order none) col (omega (arith, ints));
+      row = row-push v.ow v.earliest p.reading v.waiting sound.row (all_ended p.reading sound order none) col
+          (omega (arith, ints));
       few = omega (arith, room, length-push v.waiting (opening v.ow p));
     }
 
@@ -66,14 +68,15 @@ last_from-push : (p : ℤ) (ps : List ℤ) (q : ℤ) → last_from p (ps ++ q �
 last_from-push p [] q = refl
 last_from-push p (r ∷ rs) q = last_from-push r rs q
 
-pub joined_end-within : (ow : ℤ) (c : Cluster) (reading : ℤ) → IsCollection ow c → pos 0 ≤ℤ ow → (c.end ≤ℤ joined_end ow c reading)
-    × (joined_end ow c reading ≤ℤ (c.opened +ℤ (pos 2 *ℤ ow)))
-joined_end-within ow c reading col some = grind (arith, cases_Bool, ints)
+pub joined_end-within : {ow : ℤ} {c : Cluster} (reading : ℤ) → IsCollection ow c → pos 0 ≤ℤ ow
+    → (c.end ≤ℤ joined_end ow c reading) × (joined_end ow c reading ≤ℤ (c.opened +ℤ (pos 2 *ℤ ow)))
+joined_end-within reading col some = grind (arith, cases_Bool, ints)
 
 -- a collection with a point that joins it
-pub IsCollection-joined : (ow : ℤ) (c : Cluster) (reading : ℤ) (master : ℕ) → IsCollection ow c → pos 0 ≤ℤ ow → MayFollow c.points reading → reading ≤ℤ c.end
-    → IsCollection ow (joined ow c reading master)
-IsCollection-joined ow c reading master col some may here = grind (arith, joined_end-within, IsAscending-push, last_from-push, ints)
+pub IsCollection-joined : {ow : ℤ} {c : Cluster} (reading : ℤ) (master : ℕ) → IsCollection ow c → pos 0 ≤ℤ ow
+    → MayFollow c.points reading → reading ≤ℤ c.end → IsCollection ow (joined ow c reading master)
+IsCollection-joined reading master col some may here =
+    grind (arith, joined_end-within, IsAscending-push, last_from-push, ints)
 
 last_or-push : (ps : List ℤ) (q : ℤ) → last_or None (ps ++ q ∷ []) ≡ Some q
 last_or-push [] q = refl
@@ -94,20 +97,21 @@ last_joined-split ow p (k ∷ []) c = refl
 last_joined-split ow p (k ∷ m ∷ ms) c = ap (λ (ks : List Cluster). k ∷ ks) (last_joined-split ow p (m ∷ ms) c)
 
 -- a collector whose last collection is joined
-pub IsSound-joined : (v : Collecting) (front : List Cluster) (c : Cluster) (p : Point) → IsSound v → v.earliest ≤ℤ p.reading → v.waiting ≡ front ++ c ∷ []
-    → p.reading ≤ℤ c.end → IsSound (with_last v front c p)
-IsSound-joined v front c p sound order split here =
+pub IsSound-joined : {v : Collecting} (front : List Cluster) (c : Cluster) (p : Point) → IsSound v
+    → v.earliest ≤ℤ p.reading → v.waiting ≡ front ++ c ∷ [] → p.reading ≤ℤ c.end → IsSound (with_last v front c p)
+IsSound-joined {v} front c p sound order split here =
     let row : IsRow v.ow v.earliest (front ++ c ∷ []) = subst (IsRow v.ow v.earliest) split sound.row in
     let last = row_last v.ow v.earliest front c row in
     let may = MayFollow-later c.points v.earliest p.reading order last.may in
-    let col = IsCollection-joined v.ow c p.reading p.master last.collection (omega (arith, ints, sound.some, sound.short)) may here in
+    let col = IsCollection-joined p.reading p.master last.collection (omega (arith, ints, sound.some, sound.short))
+    may here in
     let follows : MayFollow (c.points ++ p.reading ∷ []) p.reading = rw (last_or-push c.points p.reading) (omega (arith, ints)) in
     record {
       some = sound.some;
       short = sound.short;
       small = sound.small;
       low = omega (arith, ints, order, sound.low);
-      row = row-replace v.ow v.earliest p.reading front c (joined v.ow c p.reading p.master) row refl col follows;
+      row = row-replace v.ow v.earliest p.reading front c row refl col follows;
       few = omega (arith, sound.few, ap length split, length-push front c, length-push front (joined v.ow c p.reading p.master));
     }
 
@@ -117,9 +121,9 @@ emissions_due ow calc reading [] all = tt
 emissions_due ow calc reading (c ∷ cs) all = (all.0, emissions_due ow calc reading cs all.1)
 
 -- there is room for one more
-pub room_to_open : (v : Collecting) (reading : ℤ) → IsSound v → v.earliest ≤ℤ reading → All (λ at. (reading -ℤ v.ow) <ℤ at) (emissions v)
-    → open_at v.waiting reading ≡ None → length v.waiting < 5
-room_to_open v reading sound order due none =
+pub room_to_open : {v : Collecting} (reading : ℤ) → IsSound v → v.earliest ≤ℤ reading
+    → All (λ at. (reading -ℤ v.ow) <ℤ at) (emissions v) → open_at v.waiting reading ≡ None → length v.waiting < 5
+room_to_open {v} reading sound order due none =
     row-room v.ow v.calc v.earliest reading v.waiting (omega (arith, ints, sound.some, sound.short)) sound.short sound.row
-    (all_ended v reading sound order none)
+    (all_ended reading sound order none)
     (emissions_due v.ow v.calc reading v.waiting (recursion_from_All (λ (at : ℤ). (reading -ℤ v.ow) <ℤ at) (emissions v) due))

@@ -34,10 +34,10 @@ role_in-ignored None p e = grind arith
 role_in-ignored (Some c) p e = grind (arith, cases_Bool, eqb-false)
 
 -- the last collection can take a point that is not beyond it
-pub able : (v : Collecting) (reading : ℤ) (master : ℕ) → IsSound v → v.earliest ≤ℤ reading
+pub able : {v : Collecting} (reading : ℤ) (master : ℕ) → IsSound v → v.earliest ≤ℤ reading
     → IfSome (open_at v.waiting reading) (λ c. IsTrue (has_point_of c master) ⊎ (length c.points < 8))
     → IfSome (last_or None v.waiting) (λ c. reading ≤ℤ c.end → CanTake c reading master)
-able v reading master sound order room =
+able {v} reading master sound order room =
     by_last (last_or None v.waiting) refl
   where
     room_in : (c : Cluster) → IsTrue (has_point_of c master) ⊎ (length c.points < 8) → has_point_of c master ≡ false → length c.points < 8
@@ -62,21 +62,26 @@ pub last_is_joined : (v : Collecting) (p : Point) (waiting : List Cluster) → J
     → waiting ≡ last_joined v.ow p v.waiting
 last_is_joined v p waiting is joins = grind (arith, role_in-joined, open_at-some, last_split, last_joined-split)
 
--- where a collector stands with a point that opens a collection, one that joins, and one that is ignored
-pub Stands-role_opened : (v w : Collecting) (p : Point) → IsSound v → v.earliest ≤ℤ p.reading → Opened ≡ role v.waiting p → w ≡ with_opened v p
-    → (points : List Point) (emitted : List Compressed) → StandsForPoints v points emitted → StandsForPoints w (points ++ p ∷ []) emitted
-Stands-role_opened v w p sound order is opens points emitted s =
-    let none = role_in-opened (open_at v.waiting p.reading) p (sym is) in
-    subst (λ (u : Collecting). StandsForPoints u (points ++ p ∷ []) emitted) (sym opens) (Stands-opened v points emitted p sound order none s)
+module _ (v w : Collecting) (p : Point) (sound : IsSound v) (order : v.earliest ≤ℤ p.reading) where
+  -- where a collector stands with a point that opens a collection, one that joins, and one that is ignored
+  pub Stands-role_opened : Opened ≡ role v.waiting p → w ≡ with_opened v p
+      → (points : List Point) (emitted : List Compressed) → StandsForPoints v points emitted
+      → StandsForPoints w (points ++ p ∷ []) emitted
+  Stands-role_opened is opens points emitted s =
+      let none = role_in-opened (open_at v.waiting p.reading) p (sym is) in
+      subst (λ u. StandsForPoints u (points ++ p ∷ []) emitted) (sym opens)
+      (Stands-opened v points emitted p sound order none s)
 
-pub Stands-role_joined : (v w : Collecting) (p : Point) → IsSound v → v.earliest ≤ℤ p.reading → Joined ≡ role v.waiting p
-    → ((front : List Cluster) (c : Cluster) → v.waiting ≡ front ++ c ∷ [] → w ≡ with_last v front c p) → (points : List Point) (emitted : List Compressed)
-    → StandsForPoints v points emitted → StandsForPoints w (points ++ p ∷ []) emitted
-Stands-role_joined v w p sound order is joins points emitted s = grind (arith, role_in-joined, open_at-some, last_split, Stands-joined)
+  pub Stands-role_joined : Joined ≡ role v.waiting p →
+      ((front : List Cluster) (c : Cluster) → v.waiting ≡ front ++ c ∷ [] → w ≡ with_last v front c p)
+      → {points : List Point} {emitted : List Compressed} → StandsForPoints v points emitted
+      → StandsForPoints w (points ++ p ∷ []) emitted
+  Stands-role_joined is joins s = grind (arith, role_in-joined, open_at-some, last_split, Stands-joined)
 
-pub Stands-role_ignored : (v w : Collecting) (p : Point) → IsSound v → v.earliest ≤ℤ p.reading → (role v.waiting p ≡ Repeat) ⊎ (role v.waiting p ≡ OtherCycle)
-    → w ≡ v → (points : List Point) (emitted : List Compressed) → StandsForPoints v points emitted → StandsForPoints w (points ++ p ∷ []) emitted
-Stands-role_ignored v w p sound order is same points emitted s = grind (arith, role_in-ignored, open_at-some, last_split, Stands-ignored)
+  pub Stands-role_ignored : (role v.waiting p ≡ Repeat) ⊎ (role v.waiting p ≡ OtherCycle) → w ≡ v
+      → {points : List Point} {emitted : List Compressed} → StandsForPoints v points emitted
+      → StandsForPoints w (points ++ p ∷ []) emitted
+  Stands-role_ignored is same s = grind (arith, role_in-ignored, open_at-some, last_split, Stands-ignored)
 
 last_or-append : {X : Type 0} (xs ys : List X) (y : X) → last_or None ys ≡ Some y → last_or None (xs ++ ys) ≡ Some y
 last_or-append [] ys y e = e
@@ -99,24 +104,26 @@ ended_none : (cs : List Cluster) (reading : ℤ) → AllByRecursion (λ c. c.end
 ended_none cs reading all = grind (arith, open_at-none, last_split, open_at-beyond, all-last)
 
 -- the role by what waits is the role by all clusters
-pub role-whole : (v : Collecting) (p : Point) → v.earliest ≤ℤ p.reading → (points : List Point) (emitted : List Compressed) (cs : List Cluster)
-    → StandsForPoints v points emitted → AreClusters v.ow points cs → role v.waiting p ≡ role cs p
-role-whole v p order points emitted cs s are =
-    by_last (last_or None v.waiting) refl ∙ ap (λ (ks : List Cluster). role ks p) (AreClusters-unique v.ow points (s.done ++ v.waiting) cs s.clusters are)
+pub role-whole : {v : Collecting} (p : Point) → v.earliest ≤ℤ p.reading
+    → {points : List Point} {emitted : List Compressed} (cs : List Cluster) → StandsForPoints v points emitted
+    → AreClusters v.ow points cs → role v.waiting p ≡ role cs p
+role-whole {v} p order {points} cs s are =
+    by_last (last_or None v.waiting) refl ∙ ap (λ ks. role ks p) (AreClusters-unique v.ow points (s.done ++ v.waiting) cs s.clusters are)
   where
     by_last : (o : Option Cluster) → last_or None v.waiting ≡ o → role v.waiting p ≡ role (s.done ++ v.waiting) p
     by_last None l =
         let none : v.waiting ≡ [] = last_or-none v.waiting l in
         let whole : s.done ++ v.waiting ≡ s.done = ap (λ (ws : List Cluster). s.done ++ ws) none ∙ append-nil s.done in
         let done = ended_later v.earliest p.reading s.done order (recursion_from_All (λ (c : Cluster). c.end <ℤ v.earliest) s.done s.past) in
-        ap (λ (o : Option Cluster). role_in o p) (open_at-none v.waiting p.reading l ∙ sym (ended_none s.done p.reading done))
-        ∙ ap (λ (ks : List Cluster). role ks p) (sym whole)
+        ap (λ o. role_in o p) (open_at-none v.waiting p.reading l ∙ sym (ended_none s.done p.reading done))
+        ∙ ap (λ ks. role ks p) (sym whole)
     by_last (Some c) l =
         ap (λ (o : Option Cluster). role_in (option_and_then (λ (k : Cluster). if int_lt k.end p.reading then None else Some k) o) p)
         (l ∙ sym (last_or-append s.done v.waiting c l))
 
 -- the invariant with a point that joins
-pub IsSound-takes : (v : Collecting) (p : Point) (waiting : List Cluster) → IsSound v → v.earliest ≤ℤ p.reading → role v.waiting p ≡ Joined
-    → ((front : List Cluster) (c : Cluster) → v.waiting ≡ front ++ c ∷ [] → waiting ≡ front ++ joined v.ow c p.reading p.master ∷ [])
+pub IsSound-takes : {v : Collecting} (p : Point) (waiting : List Cluster) → IsSound v → v.earliest ≤ℤ p.reading
+    → role v.waiting p ≡ Joined → ((front : List Cluster) (c : Cluster) → v.waiting ≡ front ++ c ∷ []
+    → waiting ≡ front ++ joined v.ow c p.reading p.master ∷ [])
     → IsSound (record v { earliest = p.reading; waiting = waiting })
-IsSound-takes v p waiting sound order is joins = grind (arith, role_in-joined, open_at-some, last_split, IsSound-joined)
+IsSound-takes p waiting sound order is joins = grind (arith, role_in-joined, open_at-some, last_split, IsSound-joined)

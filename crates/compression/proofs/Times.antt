@@ -15,9 +15,9 @@ open_beyond ow low (o ∷ ps) (c ∷ cs) are all =
     (subst (λ (k : Cluster). low <ℤ k.opened) (sym are.0) all.0, open_beyond ow low (beyond c.end ps) cs are.1 (all-beyond low c.end ps all.1))
 
 -- a point of the first cluster's time lies in no other
-pub only_first : (ow : ℤ) (ps : List Point) (c : Cluster) (cs : List Cluster) (p : Point) → AreClusters ow (beyond c.end ps) cs → p.reading ≤ℤ c.end
-    → (d : Cluster) → Contains cs d → LiesIn d p → ⊥
-only_first ow ps c cs p are within d at lies =
+pub only_first : (ow : ℤ) (ps : List Point) (c : Cluster) (cs : List Cluster) {p : Point}
+    → AreClusters ow (beyond c.end ps) cs → p.reading ≤ℤ c.end → {d : Cluster} → Contains cs d → LiesIn d p → ⊥
+only_first ow ps c cs are within {d} at lies =
     let past : c.end <ℤ d.opened = all_at (λ (k : Cluster). c.end <ℤ k.opened) cs d (open_beyond ow c.end (beyond c.end ps) cs are (beyond-all c.end ps)) at in
     omega (arith, ints, past, within, lies.low)
 
@@ -48,7 +48,7 @@ one_time ow (o ∷ ps) (c ∷ cs) some up are p at =
     elim (cases_Bool (int_le p.reading c.end)) [
       | inl inside ↦
           let within : p.reading ≤ℤ c.end = grind (arith, ints, inside) in
-          let low : c.opened ≤ℤ p.reading = subst (λ (r : ℤ). r ≤ℤ p.reading) (sym start.0) (not_before o ps p up at) in
+          let low : c.opened ≤ℤ p.reading = subst (λ r. r ≤ℤ p.reading) (sym start.0) (not_before o ps p up at) in
           (c, in_head c cs, record { low = low; high = within }, λ d in_d lies. only within d (in_cases c d cs in_d) lies)
       | inr outside ↦
           let past : c.end <ℤ p.reading = grind (arith, ints, outside) in
@@ -59,7 +59,7 @@ one_time ow (o ∷ ps) (c ∷ cs) some up are p at =
   where
     only : p.reading ≤ℤ c.end → (d : Cluster) → (c ≡ d) ⊎ Contains cs d → LiesIn d p → d ≡ c
     only within d (inl e) lies = sym e
-    only within d (inr at) lies = absurd (only_first ow ps c cs p are.1 within d at lies)
+    only within d (inr at) lies = absurd (only_first ow ps c cs {p = p} are.1 within {d = d} at lies)
 
     other : c.end <ℤ p.reading → (k : Cluster) → ((d : Cluster) → Contains cs d → LiesIn d p → d ≡ k) → (d : Cluster) → (c ≡ d) ⊎ Contains cs d → LiesIn d p
         → d ≡ k

@@ -24,7 +24,7 @@ pub record Other (ow : ℤ) (o : Point) (ps : List Point) (w : Point) : Type 0 w
 second_master : (ow : ℤ) (o : Point) (ps : List Point) → pos 0 ≤ℤ ow → 2 ≤ length (counted (window_end ow o) o (o ∷ ps)) → (w : Point) × Other ow o ps w
 second_master ow o ps some many =
     let k = window_counts ow o ps some in
-    found (k.0.more) (k.0.each) (subst (λ (n : ℕ). 2 ≤ n) (ap length k.1) many)
+    found (k.0.more) (k.0.each) (subst (λ n. 2 ≤ n) (ap length k.1) many)
   where
     found : (more : List Point) → AllByRecursion (λ q. Contains (of_cycle_within o.cycle o.reading (window_end ow o) ps) q
         × (has_master (o ∷ []) q.master ≡ false)) more → 2 ≤ length (o ∷ more) → (w : Point) × Other ow o ps w
@@ -53,7 +53,7 @@ only_master ow o ps some few q at same low high =
     let here = in_filter_from (λ r. r.cycle == o.cycle && (int_le o.reading r.reading && int_le r.reading (window_end ow o))) (o ∷ ps) q at passes in
     let has = firsts-has (of_cycle_within o.cycle o.reading (window_end ow o) (o ∷ ps)) q here in
     let k = window_counts ow o ps some in
-    alone (k.0.more) (subst (λ (n : ℕ). n < 2) (ap length k.1) few) (subst (λ (xs : List Point). has_master xs q.master ≡ true) k.1 has)
+    alone (k.0.more) (subst (λ n. n < 2) (ap length k.1) few) (subst (λ xs. has_master xs q.master ≡ true) k.1 has)
   where
     alone : (more : List Point) → length (o ∷ more) < 2 → has_master (o ∷ more) q.master ≡ true → q.master ≡ o.master
     alone [] few has =
@@ -71,80 +71,83 @@ pub record First (ow : ℤ) (o : Point) (ps : List Point) (c : Cluster) (cs : Li
   pub rest : AreClusters ow (beyond c.end ps) cs
   pub near : (p q : Point) → IsKept (o ∷ ps) (c ∷ cs) b cycle p → IsKept (o ∷ ps) (c ∷ cs) b cycle q → p.reading ≤ℤ (q.reading +ℤ ow)
 
--- a point of the opener's cycle up to the end is not dropped
-not_dropped : (ow : ℤ) (o : Point) (ps : List Point) (c : Cluster) (cs : List Cluster) (b cycle : ℕ) → First ow o ps c cs b cycle → (q : Point)
-    → q.cycle ≡ o.cycle → q.reading ≤ℤ c.end → ¬ IsDropped (c ∷ cs) q
-not_dropped ow o ps c cs b cycle f q same within (d, at, other, lies) =
-    elim (in_cases c d cs at) [
-      | inl e ↦ other (same ∙ sym (ap (λ (k : Cluster). k.cycle) f.is) ∙ ap (λ (k : Cluster). k.cycle) e)
-      | inr here ↦ only_first ow ps c cs q f.rest within d here lies
-    ]
+module _ {ow : ℤ} {o : Point} {ps : List Point} {c : Cluster} {cs : List Cluster} {b cycle : ℕ}
+    (f : First ow o ps c cs b cycle) where
+  -- a point of the opener's cycle up to the end is not dropped
+  not_dropped : (q : Point) → q.cycle ≡ o.cycle → q.reading ≤ℤ c.end → ¬ IsDropped (c ∷ cs) q
+  not_dropped q same within (d, at, other, lies) =
+      elim (in_cases c d cs at) [
+        | inl e ↦ other (same ∙ sym (ap (λ (k : Cluster). k.cycle) f.is) ∙ ap (λ (k : Cluster). k.cycle) e)
+        | inr here ↦ only_first ow ps c cs f.rest within here lies
+      ]
 
--- one that is kept and lies up to the end is of the opener's cycle
-own_cycle : (ow : ℤ) (o : Point) (ps : List Point) (c : Cluster) (cs : List Cluster) (b cycle : ℕ) → First ow o ps c cs b cycle → (q : Point)
-    → IsKept (o ∷ ps) (c ∷ cs) b cycle q → q.reading ≤ℤ c.end → Holds c q
-own_cycle ow o ps c cs b cycle f q k within =
-    let start = first_end ow o ps c f.some f.is in
-    let low : c.opened ≤ℤ q.reading = subst (λ (r : ℤ). r ≤ℤ q.reading) (sym start.0) (not_before o ps q f.order k.there) in
-    elim (cases_eq q.cycle c.cycle) [
-      | inl same ↦ (same, record { low = low; high = within })
-      | inr other ↦ absurd (k.kept (c, in_head c cs, other, record { low = low; high = within }))
-    ]
+  -- one that is kept and lies up to the end is of the opener's cycle
+  own_cycle : {q : Point} → IsKept (o ∷ ps) (c ∷ cs) b cycle q → q.reading ≤ℤ c.end → Holds c q
+  own_cycle {q} k within =
+      let start = first_end ow o ps c f.some f.is in
+      let low : c.opened ≤ℤ q.reading =
+      subst (λ r. r ≤ℤ q.reading) (sym start.0) (not_before o ps q f.order k.there) in
+      elim (cases_eq q.cycle c.cycle) [
+        | inl same ↦ (same, record { low = low; high = within })
+        | inr other ↦ absurd (k.kept (c, in_head c cs, other, record { low = low; high = within }))
+      ]
 
--- where one that is kept lies up to the end, so do all
-all_within : (ow : ℤ) (o : Point) (ps : List Point) (c : Cluster) (cs : List Cluster) (b cycle : ℕ) → First ow o ps c cs b cycle → (q r : Point)
-    → IsKept (o ∷ ps) (c ∷ cs) b cycle q → IsKept (o ∷ ps) (c ∷ cs) b cycle r → q.reading ≤ℤ c.end → r.reading ≤ℤ c.end
-all_within ow o ps c cs b cycle f q r kq kr within =
-    let holds = own_cycle ow o ps c cs b cycle f q kq within in
-    let end_is : c.end ≡ end_of ow o (o ∷ ps) = ap (λ (k : Cluster). k.end) f.is in
-    let least = end_of-least ow o (o ∷ ps) f.some in
-    let cycle_is : q.cycle ≡ o.cycle = holds.0 ∙ ap (λ (k : Cluster). k.cycle) f.is in
-    elim (cases_eq o.master b) [
-      | inr other ↦
-          let ko : IsKept (o ∷ ps) (c ∷ cs) b cycle o = record {
-            there = in_head o ps;
-            other = other;
-            same = sym cycle_is
-                ∙ kq.same;
-            kept = not_dropped ow o ps c cs b cycle f o refl (omega (arith, ints, end_is, least, f.some));
-          } in
-          let near = f.near r o kr ko in
-          omega (arith, ints, near, end_is, least)
-      | inl is_b ↦
-          elim (cases_lt (length (counted (window_end ow o) o (o ∷ ps))) 2) [
-            | inl few ↦
-                let one = end_of-one ow o (o ∷ ps) few in
-                let high : q.reading ≤ℤ window_end ow o = omega (arith, ints, within, end_is, one) in
-                absurd (kq.other (only_master ow o ps f.some few q kq.there cycle_is (not_before o ps q f.order kq.there) high ∙ is_b))
-            | inr many ↦
-                let two = end_of-two ow o (o ∷ ps) many in
-                let w = second_master ow o ps f.some many in
-                let kw : IsKept (o ∷ ps) (c ∷ cs) b cycle w.0 = record {
-                  there = in_tail o w.0 ps w.1.there;
-                  other = λ e. w.1.other (e ∙ sym is_b);
-                  same = w.1.same ∙ sym cycle_is ∙ kq.same;
-                  kept = not_dropped ow o ps c cs b cycle f w.0 w.1.same
-                      (omega (arith, ints, end_is, least, w.1.first));
-                } in
-                let near = f.near r w.0 kr kw in
-                omega (arith, ints, near, end_is, two, w.1.first)
-          ]
-    ]
+  -- where one that is kept lies up to the end, so do all
+  all_within : {q r : Point} → IsKept (o ∷ ps) (c ∷ cs) b cycle q → IsKept (o ∷ ps) (c ∷ cs) b cycle r
+      → q.reading ≤ℤ c.end → r.reading ≤ℤ c.end
+  all_within {q} {r} kq kr within =
+      let holds = own_cycle kq within in
+      let end_is : c.end ≡ end_of ow o (o ∷ ps) = ap (λ (k : Cluster). k.end) f.is in
+      let least = end_of-least ow o (o ∷ ps) f.some in
+      let cycle_is : q.cycle ≡ o.cycle = holds.0 ∙ ap (λ (k : Cluster). k.cycle) f.is in
+      elim (cases_eq o.master b) [
+        | inr other ↦
+            let ko : IsKept (o ∷ ps) (c ∷ cs) b cycle o = record {
+              there = in_head o ps;
+              other = other;
+              same = sym cycle_is
+                  ∙ kq.same;
+              kept = not_dropped o refl (omega (arith, ints, end_is, least, f.some));
+            } in
+            let near = f.near r o kr ko in
+            omega (arith, ints, near, end_is, least)
+        | inl is_b ↦
+            elim (cases_lt (length (counted (window_end ow o) o (o ∷ ps))) 2) [
+              | inl few ↦
+                  let one = end_of-one ow o (o ∷ ps) few in
+                  let high : q.reading ≤ℤ window_end ow o = omega (arith, ints, within, end_is, one) in
+                  absurd (kq.other (only_master ow o ps f.some few q kq.there cycle_is
+                  (not_before o ps q f.order kq.there) high ∙ is_b))
+              | inr many ↦
+                  let two = end_of-two ow o (o ∷ ps) many in
+                  let w = second_master ow o ps f.some many in
+                  let kw : IsKept (o ∷ ps) (c ∷ cs) b cycle w.0 = record {
+                    there = in_tail o w.0 ps w.1.there;
+                    other = λ e. w.1.other (e ∙ sym is_b);
+                    same = w.1.same ∙ sym cycle_is ∙ kq.same;
+                    kept = not_dropped w.0 w.1.same (omega (arith, ints, end_is, least, w.1.first));
+                  } in
+                  let near = f.near r w.0 kr kw in
+                  omega (arith, ints, near, end_is, two, w.1.first)
+            ]
+      ]
 
-together : (ow : ℤ) (ps : List Point) (cs : List Cluster) (b cycle : ℕ) → pos 0 ≤ℤ ow → Ordered ps → AreClusters ow ps cs
-    → ((p q : Point) → IsKept ps cs b cycle p → IsKept ps cs b cycle q → p.reading ≤ℤ (q.reading +ℤ ow))
-    → (p : Point) → IsKept ps cs b cycle p → (c : Cluster) × Contains cs c × ((q : Point) → IsKept ps cs b cycle q → Holds c q)
-together ow [] cs b cycle some up are near p k = absurd (in_none p k.there)
-together ow (o ∷ ps) [] b cycle some up are near p k = absurd are
-together ow (o ∷ ps) (c ∷ cs) b cycle some up are near p k =
+together : (ow : ℤ) (ps : List Point) (cs : List Cluster) {b cycle : ℕ} → pos 0 ≤ℤ ow → Ordered ps
+    → AreClusters ow ps cs → ((p q : Point) → IsKept ps cs b cycle p → IsKept ps cs b cycle q
+    → p.reading ≤ℤ (q.reading +ℤ ow)) → {p : Point} → IsKept ps cs b cycle p
+    → (c : Cluster) × Contains cs c × ((q : Point) → IsKept ps cs b cycle q → Holds c q)
+together ow [] cs some up are near {p} k = absurd (in_none p k.there)
+together ow (o ∷ ps) [] some up are near k = absurd are
+together ow (o ∷ ps) (c ∷ cs) {b} {cycle} some up are near {p} k =
     let f : First ow o ps c cs b cycle = record { some = some; order = up; is = are.0; rest = are.1; near = near } in
     elim (cases_Bool (int_le p.reading c.end)) [
       | inl inside ↦
           let within : p.reading ≤ℤ c.end = grind (arith, ints, inside) in
-          (c, in_head c cs, λ q kq. own_cycle ow o ps c cs b cycle f q kq (all_within ow o ps c cs b cycle f p q k kq within))
+          (c, in_head c cs, λ q kq. own_cycle f kq (all_within f k kq within))
       | inr outside ↦
           let past : c.end <ℤ p.reading = grind (arith, ints, outside) in
-          let rest = together ow (beyond c.end ps) cs b cycle some (Ordered-beyond c.end ps up.1) are.1 (λ q r kq kr. near q r (whole q kq) (whole r kr)) p
+          let rest = together ow (beyond c.end ps) cs some (Ordered-beyond c.end ps up.1) are.1
+          (λ q r kq kr. near q r (whole q kq) (whole r kr))
           (part p k past) in
           (rest.0, in_tail c rest.0 cs rest.1, λ q kq. rest.2 q (part q kq (also f past q kq)))
     ]
@@ -177,10 +180,10 @@ together ow (o ∷ ps) (c ∷ cs) b cycle some up are near p k =
         elim (cases_Bool (int_le q.reading c.end)) [
           | inl inside ↦
               let within : q.reading ≤ℤ c.end = grind (arith, ints, inside) in
-              let back = all_within ow o ps c cs b cycle f q p kq k within in
+              let back = all_within f kq k within in
               absurd (omega (arith, ints, back, past))
           | inr outside ↦ grind (arith, ints, outside)
         ]
 
 pub one_cluster : OneCluster
-one_cluster ow ps cs b cycle some up are near p k = together ow ps cs b cycle some (Ordered-from ps up) are near p k
+one_cluster ow ps cs b cycle some up are near p k = together ow ps cs some (Ordered-from ps up) are near k

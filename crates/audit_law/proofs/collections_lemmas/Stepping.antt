@@ -56,7 +56,7 @@ within : {ow : ℤ} (ps : List Point) (front : List Cluster) {c d : Cluster} {p 
     → Takes ow c d p → AreClusters ow (ps ++ p ∷ []) (front ++ d ∷ [])
 within {ow} ps front {c} {d} {p} some are past here longer takes =
     let front_is = before ow ps front c p.reading some are past in
-    AreClusters-within ow ps front c d p some are front_is.0 front_is.1 here longer takes
+    AreClusters-within ps front some are front_is.0 front_is.1 here longer takes
 
 true_is_false : true ≡ false → ⊥
 true_is_false e = cc

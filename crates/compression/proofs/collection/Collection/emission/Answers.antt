@@ -12,7 +12,7 @@ overflow_add-result-3 c =
     let opened : c.self.inside.opened.0 ≡ c.args.self.now.opened = ap (λ v. v.opened) c.self.view_is in
     let middle : c.middle-middle.result.0 ≡ middle_of (relative c.args.self.now.points) = c.middle-middle.ensures
     ∙ ap (λ v. middle_of (relative v.points)) c.self.view_is in
-    let within = middle-within c.args.ow.0 c.args.self.now c.requires.collection in
+    let within = middle-within c.requires.collection in
     fits_within _ (omega (arith, ints, opened, middle, within.0, c.requires.collection.low))
     (omega (arith, ints, opened, middle, within.1, c.requires.collection.high))
 
@@ -21,5 +21,5 @@ returns c =
     let opened : c.self.inside.opened.0 ≡ c.args.self.now.opened = ap (λ v. v.opened) c.self.view_is in
     let middle : c.middle-middle.result.0 ≡ middle_of (relative c.args.self.now.points) = c.middle-middle.ensures
     ∙ ap (λ v. middle_of (relative v.points)) c.self.view_is in
-    let within = middle-within c.args.ow.0 c.args.self.now c.requires.collection in
+    let within = middle-within c.requires.collection in
     omega (arith, ints, opened, middle, within.0, within.1)

@@ -8,4 +8,5 @@ pub returns-clause-least : goal.returns-clause-least
 returns-clause-least c =
     let v : Collecting = record { ow = c.self.inside.ow.0; calc = c.self.inside.calc.0; earliest = c.self.inside.earliest.0; waiting = c.self.inside.waiting }
     in
-    rw (← c.self.view_is, c.emission.ensures) (IsLeast-first v c.in_ok-first.first.now c.in_ok-first.ensures.0 c.self.invariant c.in_ok-first.ensures.1)
+    rw (← c.self.view_is, c.emission.ensures) (IsLeast-first c.in_ok-first.first.now c.in_ok-first.ensures.0
+    c.self.invariant c.in_ok-first.ensures.1)

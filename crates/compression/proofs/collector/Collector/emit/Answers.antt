@@ -9,7 +9,8 @@ invariant_of-self c =
     in
     let later = to_z w64 (of_z w64 c.max.result) in
     let le : c.self.inside.earliest.0 ≤ℤ later = omega (arith, ints, c.max.ensures.self_bound) in
-    IsSound-emitted v c.remove_first-first.result c.remove_first-first.new.self later c.self.invariant c.remove_first-first.ensures le
+    IsSound-emitted c.remove_first-first.result c.remove_first-first.new.self later c.self.invariant
+    c.remove_first-first.ensures le
 
 pub returns-clause-due : goal.returns-clause-due
 returns-clause-due c =
@@ -17,7 +18,8 @@ returns-clause-due c =
     in
     let at : c.compressed-compressed.result.at.0 ≡ emission v.ow v.calc c.remove_first-first.result = ap (λ (k : Compressed). k.at.0)
     c.compressed-compressed.ensures in
-    rw (← c.self.view_is, at) (IsLeast-first v c.remove_first-first.result c.remove_first-first.new.self c.self.invariant c.remove_first-first.ensures)
+    rw (← c.self.view_is, at) (IsLeast-first c.remove_first-first.result c.remove_first-first.new.self
+    c.self.invariant c.remove_first-first.ensures)
 
 pub returns-clause-stands : goal.returns-clause-stands
 returns-clause-stands c =
@@ -30,5 +32,6 @@ returns-clause-stands c =
     let past : emission v.ow v.calc c.remove_first-first.result ≤ℤ later = omega (arith, ints, c.max.ensures.other_bound, at) in
     λ points emitted s.
     rw c.compressed-compressed.ensures
-    (Stands-emitted v points emitted c.remove_first-first.result c.remove_first-first.new.self later c.self.invariant c.remove_first-first.ensures le past
-    (subst (λ (u : Collecting). StandsForPoints u points emitted) (sym c.self.view_is) s))
+    (Stands-emitted c.remove_first-first.result c.remove_first-first.new.self later c.self.invariant
+    c.remove_first-first.ensures le past
+    (subst (λ u. StandsForPoints u points emitted) (sym c.self.view_is) s))

@@ -5,7 +5,8 @@ use Rattle.compression.proofs.collector.Collector.open.Goals as goal
 pub push-requires : goal.push-requires
 push-requires c =
     let sound : IsSound c.args.self.now = subst IsSound c.self.view_is c.self.invariant in
-    rw (ap (λ v. v.waiting) c.self.view_is) (room_to_open c.args.self.now c.args.reading.0 sound c.requires.order c.requires.due c.requires.none)
+    rw (ap (λ v. v.waiting) c.self.view_is) (room_to_open c.args.reading.0 sound c.requires.order c.requires.due
+    c.requires.none)
 
 pub invariant_of-self : goal.invariant_of-self
 invariant_of-self c =
@@ -15,15 +16,15 @@ invariant_of-self c =
     let order = rw (← c.self.view_is) at c.requires.order in
     let none = rw (← c.self.view_is) at c.requires.none in
     let due = rw (← c.self.view_is) at c.requires.due in
-    let room = room_to_open v c.args.reading.0 c.self.invariant order due none in
+    let room = room_to_open c.args.reading.0 c.self.invariant order due none in
     let waiting : c.push.new.self ≡ (with_opened v p).waiting = c.push.ensures ∙ ap (λ (k : Cluster). c.self.inside.waiting ++ k ∷ []) c.open-collection.ensures
     in
     subst (λ (ws : List Cluster). IsSound (record v { earliest = c.args.reading.0; waiting = ws })) (sym waiting)
-    (IsSound-opened v p c.self.invariant order c.requires.high none room)
+    (IsSound-opened p c.self.invariant order c.requires.high none room)
 
 pub returns-clause-few : goal.returns-clause-few
 returns-clause-few c =
     let sound : IsSound c.args.self.now = subst IsSound c.self.view_is c.self.invariant in
-    let room = room_to_open c.args.self.now c.args.reading.0 sound c.requires.order c.requires.due c.requires.none in
+    let room = room_to_open c.args.reading.0 sound c.requires.order c.requires.due c.requires.none in
     let same = ap (λ (v : Collecting). length v.waiting) c.self.view_is in
     omega (arith, room, same, ap length c.push.ensures, length-push c.self.inside.waiting c.open-collection.result)

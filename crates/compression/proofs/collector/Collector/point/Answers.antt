@@ -7,7 +7,7 @@ use Rattle.compression.proofs.collector.Collector.point.Goals as goal
 pub offer-taken-requires-clause-last : goal.offer-taken-requires-clause-last
 offer-taken-requires-clause-last c =
     let sound : IsSound c.args.self.now = subst IsSound c.self.view_is c.self.invariant in
-    rw (ap (λ v. v.waiting) c.self.view_is) (able c.args.self.now c.args.reading.0 c.args.master sound c.requires.order c.requires.room)
+    rw (ap (λ v. v.waiting) c.self.view_is) (able c.args.reading.0 c.args.master sound c.requires.order c.requires.room)
 
 pub invariant_of-self-in-Joined : goal.invariant_of-self-in-Joined
 invariant_of-self-in-Joined c =
@@ -15,27 +15,31 @@ invariant_of-self-in-Joined c =
     let v : Collecting = record { ow = c.self.inside.ow.0; calc = c.self.inside.calc.0; earliest = c.self.inside.earliest.0; waiting = c.self.inside.waiting }
     in
     let order = rw (← c.self.view_is) at c.requires.order in
-    IsSound-takes v p c.offer-taken.new.self c.self.invariant order (sym c.in-Joined.ensures.role) (c.in-Joined.ensures.joined refl)
+    IsSound-takes p c.offer-taken.new.self c.self.invariant order (sym c.in-Joined.ensures.role)
+    (c.in-Joined.ensures.joined refl)
 
 pub returns-in-Opened-clause-role : goal.returns-in-Opened-clause-role
 returns-in-Opened-clause-role c =
     let p : Point = point_at c.args.reading.0 c.args.master c.args.cycle in
     λ points emitted clusters s are.
-    c.offer-taken.ensures.role ∙ ap (λ (v : Collecting). role v.waiting p) c.self.view_is ∙ role-whole c.args.self.now p c.requires.order points emitted
+    c.offer-taken.ensures.role ∙ ap (λ (v : Collecting). role v.waiting p) c.self.view_is ∙ role-whole p
+    c.requires.order
     clusters s are
 
 pub returns-in-Joined-clause-role : goal.returns-in-Joined-clause-role
 returns-in-Joined-clause-role c =
     let p : Point = point_at c.args.reading.0 c.args.master c.args.cycle in
     λ points emitted clusters s are.
-    c.offer-taken.ensures.role ∙ ap (λ (v : Collecting). role v.waiting p) c.self.view_is ∙ role-whole c.args.self.now p c.requires.order points emitted
+    c.offer-taken.ensures.role ∙ ap (λ (v : Collecting). role v.waiting p) c.self.view_is ∙ role-whole p
+    c.requires.order
     clusters s are
 
 pub returns-in-Repeat-clause-role : goal.returns-in-Repeat-clause-role
 returns-in-Repeat-clause-role c =
     let p : Point = point_at c.args.reading.0 c.args.master c.args.cycle in
     λ points emitted clusters s are.
-    c.offer-taken.ensures.role ∙ ap (λ (v : Collecting). role v.waiting p) c.self.view_is ∙ role-whole c.args.self.now p c.requires.order points emitted
+    c.offer-taken.ensures.role ∙ ap (λ (v : Collecting). role v.waiting p) c.self.view_is ∙ role-whole p
+    c.requires.order
     clusters s are
 
 pub returns-in-Opened-clause-stands : goal.returns-in-Opened-clause-stands
@@ -55,8 +59,9 @@ returns-in-Joined-clause-stands c =
     let order = rw (← c.self.view_is) at c.requires.order in
     λ points emitted s.
     Stands-role_joined v w p c.self.invariant order c.in-Joined.ensures.role
-    (λ front k split. ap (λ (ws : List Cluster). record w { waiting = ws }) (c.in-Joined.ensures.joined refl front k split))
-    points emitted (subst (λ (u : Collecting). StandsForPoints u points emitted) (sym c.self.view_is) s)
+    (λ front k split. ap (λ (ws : List Cluster). record w { waiting = ws })
+    (c.in-Joined.ensures.joined refl front k split)) (subst
+    (λ u. StandsForPoints u points emitted) (sym c.self.view_is) s)
 
 not_joined : (t : Taken) → (t ≡ Repeat) ⊎ (t ≡ OtherCycle) → t ≢ Joined
 not_joined t (inl e) j = cc
@@ -68,7 +73,7 @@ returns-in-Joined-clause-joins c =
     let v : Collecting = record { ow = c.self.inside.ow.0; calc = c.self.inside.calc.0; earliest = c.self.inside.earliest.0; waiting = c.self.inside.waiting }
     in
     let last = last_is_joined v p c.offer-taken.new.self c.in-Joined.ensures.role (c.in-Joined.ensures.joined refl) in
-    λ _. ap (λ (ws : List Cluster). record v { earliest = p.reading; waiting = ws }) last ∙ ap (λ (u : Collecting). with_joined u p) c.self.view_is
+    λ _. ap (λ (ws : List Cluster). record v { earliest = p.reading; waiting = ws }) last ∙ ap (λ u. with_joined u p) c.self.view_is
 
 pub returns-in-Repeat-clause-stands : goal.returns-in-Repeat-clause-stands
 returns-in-Repeat-clause-stands c =
@@ -81,8 +86,8 @@ returns-in-Repeat-clause-stands c =
     let is : (role v.waiting p ≡ Repeat) ⊎ (role v.waiting p ≡ OtherCycle) =
     elim c.in-Repeat.is [ inl e ↦ inl (sym c.offer-taken.ensures.role ∙ e) | inr e ↦ inr (sym c.offer-taken.ensures.role ∙ e) ] in
     λ points emitted s.
-    Stands-role_ignored v w p c.self.invariant order is same points emitted
-    (subst (λ (u : Collecting). StandsForPoints u points emitted) (sym c.self.view_is) s)
+    Stands-role_ignored v w p c.self.invariant order is same
+    (subst (λ u. StandsForPoints u points emitted) (sym c.self.view_is) s)
 
 pub returns-in-Joined-clause-few : goal.returns-in-Joined-clause-few
 returns-in-Joined-clause-few c =
@@ -91,7 +96,7 @@ returns-in-Joined-clause-few c =
     let v : Collecting = record { ow = inside.ow.0; calc = inside.calc.0; earliest = inside.earliest.0; waiting = inside.waiting } in
     let order = rw (← c.self.view_is) at c.requires.order in
     let joins = c.in-Joined.ensures.joined refl in
-    (IsSound-takes v p c.offer-taken.new.self c.self.invariant order (sym c.in-Joined.ensures.role) joins).few
+    (IsSound-takes p c.offer-taken.new.self c.self.invariant order (sym c.in-Joined.ensures.role) joins).few
 
 pub returns-in-Repeat-clause-few : goal.returns-in-Repeat-clause-few
 returns-in-Repeat-clause-few c =
