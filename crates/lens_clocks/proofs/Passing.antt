@@ -32,7 +32,7 @@ module _ (s : Scenario) (hs : List Happening) where
   cycles_more n a b c p q =
       let next : n + 1 ≡ suc n = omega arith in
       subst (λ k. PutsLines (lines_to s hs k) a c) (sym next)
-      (PutsLines-append (lines_to s hs n) (cycle_lines s hs (suc n)) a b c p (subst (λ k. PutsLines (cycle_lines s hs k) b c) next q))
+      (PutsLines-append p (subst (λ k. PutsLines (cycle_lines s hs k) b c) next q))
 
   pub cycles_fail : (n count : ℕ) (a b c : Shown) → n < count → PutsLines (lines_to s hs n) a b → PutFails (cycle_lines s hs (n + 1)) b c
       → PutFails (lines_to s hs count) a c
@@ -40,8 +40,8 @@ module _ (s : Scenario) (hs : List Happening) where
       let next : n + 1 ≡ suc n = omega arith in
       let h = front (suc n) count (omega (arith, lt)) in
       subst (λ ls. PutFails ls a c) (sym h.1)
-      (PutFails-more (lines_to s hs (suc n)) h.0 a c
-      (PutFails-behind (lines_to s hs n) (cycle_lines s hs (suc n)) a b c p (subst (λ k. PutFails (cycle_lines s hs k) b c) next q)))
+      (PutFails-more h.0
+      (PutFails-behind (cycle_lines s hs (suc n)) c p (subst (λ k. PutFails (cycle_lines s hs k) b c) next q)))
 
   pub cycles_some : (n count : ℕ) (a b : Shown) → n < count → PutsLines (lines_to s hs n) a b → PutsSome (lines_to s hs count) a b
   cycles_some n count a b lt p = let h = front n count (omega (arith, lt)) in record { done = lines_to s hs n; left = h.0; order = h.1; puts = p }

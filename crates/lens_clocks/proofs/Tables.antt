@@ -12,8 +12,8 @@ pub puts_last : {lines : List (List ℕ)} (line : List ℕ) (result : Result (Un
     (c : Shown) → PutsLines lines a b → OnOk result (Appends b.written c.written line)
     → OnErr result (AppendsFront b.written c.written line) → c.puts ≡ next_count b.puts
     → Puts (lines ++ line ∷ []) result a c
-puts_last {lines} line (Ok done) {a} {b} c p all front counted = PutsLines-more lines line a b c p all counted
-puts_last {lines} line (Err cause) {a} {b} c p all front counted = PutsLines-fails lines line [] a b c p front counted
+puts_last {lines} line (Ok done) {a} {b} c p all front counted = PutsLines-more line c p all counted
+puts_last {lines} line (Err cause) {a} {b} c p all front counted = PutsLines-fails line [] c p front counted
 
 drop_next : {X : Type 0} (xs : List X) (n : ℕ) (d : X) → n < length xs → drop n xs ≡ get_or xs n d ∷ drop (n + 1) xs
 drop_next [] n d lt = absurd (omega (arith, lt))
@@ -31,7 +31,7 @@ module _ {X : Type 0} (f : X → List ℕ) (all : List X) (n : ℕ) (d : X) (lin
       let lines : map f (take n all) ++ line ∷ [] ≡ map f (take (n + 1) all) =
       ap (λ (l : List ℕ). map f (take n all) ++ l ∷ []) same ∙ sym (map-append f (take n all) (one ∷ []))
       ∙ sym (ap (map f) (take_more all n d within)) in
-      subst (λ ls. PutsLines ls a c) lines (PutsLines-more (map f (take n all)) line a b c p more counted)
+      subst (λ ls. PutsLines ls a c) lines (PutsLines-more line c p more counted)
 
   pub lines_fail : (a b c : Shown) → PutsLines (map f (take n all)) a b → AppendsFront b.written c.written line → c.puts ≡ next_count b.puts
       → PutFails (map f all) a c
@@ -41,4 +41,4 @@ module _ {X : Type 0} (f : X → List ℕ) (all : List X) (n : ℕ) (d : X) (lin
       let split : take n all ++ one ∷ rest ≡ all = sym (ap (λ (xs : List X). take n all ++ xs) (drop_next all n d within)) ∙ take-append-drop n all in
       let lines : map f (take n all) ++ line ∷ map f rest ≡ map f all =
       ap (λ (l : List ℕ). map f (take n all) ++ l ∷ map f rest) same ∙ sym (map-append f (take n all) (one ∷ rest)) ∙ ap (map f) split in
-      subst (λ ls. PutFails ls a c) lines (PutsLines-fails (map f (take n all)) line (map f rest) a b c p front counted)
+      subst (λ ls. PutFails ls a c) lines (PutsLines-fails line (map f rest) c p front counted)

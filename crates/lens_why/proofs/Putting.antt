@@ -15,10 +15,10 @@ module _ (network : Network) (note : Note) (said : Ground) where
   -- the put of the record's line failed
   pub put_none : (old new : Shown) → AppendsFront old.written new.written line → new.puts ≡ next_count old.puts
       → PutFails (told_lines network note said) old new
-  put_none old new front counted = PutsLines-fails [] line (if is_told said then ground_line said ∷ [] else []) old old new (PutsLines-none old) front counted
+  put_none old new front counted = PutsLines-fails line (if is_told said then ground_line said ∷ [] else []) new (PutsLines-none old) front counted
 
   one_line : (old new : Shown) → Appends old.written new.written line → new.puts ≡ next_count old.puts → PutsLines (line ∷ []) old new
-  one_line old new whole counted = PutsLines-more [] line old old new (PutsLines-none old) whole counted
+  one_line old new whole counted = PutsLines-more line new (PutsLines-none old) whole counted
 
   -- it was put, and the ground says nothing
   pub put_alone : (old new : Shown) → is_told said ≡ false → Appends old.written new.written line → new.puts ≡ next_count old.puts
@@ -30,11 +30,11 @@ module _ (network : Network) (note : Note) (said : Ground) where
       → Appends mid.written new.written (ground_line said) → new.puts ≡ next_count mid.puts → PutsLines (told_lines network note said) old new
   put_both old mid new told whole counted more again =
       subst (λ b. PutsLines (lines_by b) old new) (sym told)
-      (PutsLines-more (line ∷ []) (ground_line said) old mid new (one_line old mid whole counted) more again)
+      (PutsLines-more (ground_line said) new (one_line old mid whole counted) more again)
 
   -- the put of the ground's line failed
   pub put_half : (old mid new : Shown) → is_told said ≡ true → Appends old.written mid.written line → mid.puts ≡ next_count old.puts
       → AppendsFront mid.written new.written (ground_line said) → new.puts ≡ next_count mid.puts → PutFails (told_lines network note said) old new
   put_half old mid new told whole counted front again =
       subst (λ b. PutFails (lines_by b) old new) (sym told)
-      (PutsLines-fails (line ∷ []) (ground_line said) [] old mid new (one_line old mid whole counted) front again)
+      (PutsLines-fails (ground_line said) [] new (one_line old mid whole counted) front again)

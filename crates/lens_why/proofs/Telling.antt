@@ -140,7 +140,7 @@ module _ (network : Network) (octets : List ℕ) (first note : Note) (old now : 
         let here = subst (λ ls. PutsLines ls now new) (lines_at said is) puts in
         let whole = lines_parts own all t.done t.h [] ∙ ap (λ (ls : List (List ℕ)). chain_lines own all t.done ++ ls) (append-nil (record_lines own all t.h)) in
         subst (λ ls. PutsLines ls old new) (sym whole)
-        (PutsLines-append (chain_lines own all t.done) (record_lines own all t.h) old now new t.puts here)
+        (PutsLines-append t.puts here)
 
     -- they were put
     pub told_more : PutsLines (told_lines network note said) now new → (next : Note) → note_at t.notes (cause_of note.body) ≡ Some next
@@ -178,7 +178,7 @@ module _ (network : Network) (octets : List ℕ) (first note : Note) (old now : 
         let whole = whole_of all first.number (first_of t.done t.h) (rest_of t.done t.h []) parted in
         let answer = chain_answer network t.notes (first_of t.done t.h ∷ rest_of t.done t.h []) in
         let lines = ap (chain_lines own all) (parts_of t.done t.h []) in
-        let given = Ends-gives (chain_lines own all (first_of t.done t.h ∷ rest_of t.done t.h [])) Done status old new after
+        let given = Ends-gives Done status after
         (subst (λ ls. PutsLines ls old new) lines (put_on puts)) ends in
         among named notes end of status after (inl (answer, inr (first_of t.done t.h, rest_of t.done t.h [], whole, refl), given))
 
@@ -195,8 +195,8 @@ module _ (network : Network) (octets : List ℕ) (first note : Note) (old now : 
         let whole = whole_of all first.number (first_of t.done t.h) (rest_of t.done t.h more.0) parted in
         let answer = chain_answer network t.notes (first_of t.done t.h ∷ rest_of t.done t.h more.0) in
         let here = subst (λ ls. PutFails ls now new) (lines_at said is) fails in
-        let behind = PutFails-behind (chain_lines own all t.done) (record_lines own all t.h ++ chain_lines own all more.0) old now new t.puts
-        (PutFails-more (record_lines own all t.h) (chain_lines own all more.0) now new here) in
+        let behind = PutFails-behind (record_lines own all t.h ++ chain_lines own all more.0) new t.puts
+        (PutFails-more (chain_lines own all more.0) here) in
         let lines = lines_parts own all t.done t.h more.0 in
         let failed = subst (λ ls. PutFails ls old new) (sym lines ∙ ap (chain_lines own all) (parts_of t.done t.h more.0)) behind in
         among named notes end of WriteFault new

@@ -17,11 +17,11 @@ none_put lines old new p = record { done = []; left = lines; order = refl; puts 
 -- the first ones of no lines
 some_nothing : (lines : List (List ℕ)) (old new : Shown) → lines ≡ [] → PutsSome lines old new → PutsLines [] old new
 some_nothing lines old new e s =
-    let none = no_front s.done s.left (sym e ∙ s.order) in subst (λ (ls : List (List ℕ)). PutsLines ls old new) none s.puts
+    let none = no_front s.done s.left (sym e ∙ s.order) in subst (λ ls. PutsLines ls old new) none s.puts
 
 -- an answer without lines puts nothing
 pub puts_nothing : (a : Answer) (status : Status) (old new : Shown) → a.lines ≡ [] → Gives a status old new → PutsLines [] old new
-puts_nothing a status old new e (inl g) = subst (λ (ls : List (List ℕ)). PutsLines ls old new) e g.1
+puts_nothing a status old new e (inl g) = subst (λ ls. PutsLines ls old new) e g.1
 puts_nothing a status old new e (inr (inl (is, inl g))) = absurd (none_stands g.done g.line g.left (sym e ∙ g.order))
 puts_nothing a status old new e (inr (inl (is, inr g))) = some_nothing a.lines old new e g
 puts_nothing a status old new e (inr (inr g)) = some_nothing a.lines old new e g.1
@@ -30,12 +30,12 @@ puts_nothing a status old new e (inr (inr g)) = some_nothing a.lines old new e g
 
 -- a front of its lines
 pub some_given : (a : Answer) (status : Status) (old new : Shown) → (status ≡ WriteFault → ⊥) → Gives a status old new → PutsSome a.lines old new
-some_given a status old new not (inl g) = PutsSome-all a.lines old new g.1
+some_given a status old new not (inl g) = PutsSome-all g.1
 some_given a status old new not (inr (inl g)) = absurd (not g.0)
 some_given a status old new not (inr (inr g)) = g.1
 
 pub fails_given : (a : Answer) (status : Status) (old new : Shown) → Gives a status old new → WriteFails a.lines old new
-fails_given a status old new (inl g) = inr (PutsSome-all a.lines old new g.1)
+fails_given a status old new (inl g) = inr (PutsSome-all g.1)
 fails_given a status old new (inr (inl g)) = g.1
 fails_given a status old new (inr (inr g)) = inr g.1
 

@@ -13,9 +13,9 @@ puts_after-more [] line puts = refl
 puts_after-more (x ∷ lines) line puts = puts_after-more lines line (next_count puts)
 
 -- one more line
-pub PutsLines-more : (lines : List (List ℕ)) (line : List ℕ) (a b c : Shown) → PutsLines lines a b → Appends b.written c.written line
-    → c.puts ≡ next_count b.puts → PutsLines (lines ++ line ∷ []) a c
-PutsLines-more lines line a b c p w n = record {
+pub PutsLines-more : {lines : List (List ℕ)} (line : List ℕ) {a b : Shown} (c : Shown) → PutsLines lines a b
+    → Appends b.written c.written line → c.puts ≡ next_count b.puts → PutsLines (lines ++ line ∷ []) a c
+PutsLines-more {lines} line {a} {b} c p w n = record {
   written =
       let joined : concat (lines ++ line ∷ []) ≡ concat lines ++ line =
       concat-append lines (line ∷ []) ∙ ap (λ (t : List ℕ). concat lines ++ t) (append-nil line) in
@@ -24,65 +24,72 @@ PutsLines-more lines line a b c p w n = record {
 }
 
 -- the put of the next line failed
-pub PutsLines-fails : (lines : List (List ℕ)) (line : List ℕ) (left : List (List ℕ)) (a b c : Shown) → PutsLines lines a b
-    → AppendsFront b.written c.written line → c.puts ≡ next_count b.puts → PutFails (lines ++ line ∷ left) a c
-PutsLines-fails lines line left a b c p w n = record { done = lines; line = line; left = left; order = refl; before = b; puts = p; front = w; counted = n }
+pub PutsLines-fails : {lines : List (List ℕ)} (line : List ℕ) (left : List (List ℕ)) {a b : Shown} (c : Shown)
+    → PutsLines lines a b → AppendsFront b.written c.written line → c.puts ≡ next_count b.puts
+    → PutFails (lines ++ line ∷ left) a c
+PutsLines-fails {lines} line left {b} c p w n =
+    record { done = lines; line = line; left = left; order = refl; before = b; puts = p; front = w; counted = n }
 
 puts_after-append : (xs ys : List (List ℕ)) (puts : ℕ) → puts_after (length (xs ++ ys)) puts ≡ puts_after (length ys) (puts_after (length xs) puts)
 puts_after-append [] ys puts = refl
 puts_after-append (x ∷ xs) ys puts = puts_after-append xs ys (next_count puts)
 
 -- lines and then others
-pub PutsLines-append : (xs ys : List (List ℕ)) (a b c : Shown) → PutsLines xs a b → PutsLines ys b c → PutsLines (xs ++ ys) a c
-PutsLines-append xs ys a b c p q = record {
+pub PutsLines-append : {xs ys : List (List ℕ)} {a b c : Shown} → PutsLines xs a b → PutsLines ys b c
+    → PutsLines (xs ++ ys) a c
+PutsLines-append {xs} {ys} {a} {b} {c} p q = record {
   written = rw concat-append (Appends-trans a.written b.written c.written (concat xs) (concat ys) p.written q.written);
   counted = q.counted ∙ ap (puts_after (length ys)) p.counted ∙ sym (puts_after-append xs ys a.puts);
 }
 
-pub PutsSome-behind : (xs ys : List (List ℕ)) (a b c : Shown) → PutsLines xs a b → PutsSome ys b c → PutsSome (xs ++ ys) a c
-PutsSome-behind xs ys a b c p q = record {
-  done = xs ++ q.done;
-  left = q.left;
-  order = ap (λ (ls : List (List ℕ)). xs ++ ls) q.order ∙ sym (append_assoc xs q.done q.left);
-  puts = PutsLines-append xs q.done a b c p q.puts;
-}
+module _ {xs : List (List ℕ)} (ys : List (List ℕ)) {a b : Shown} (c : Shown) (p : PutsLines xs a b) where
+  pub PutsSome-behind : PutsSome ys b c → PutsSome (xs ++ ys) a c
+  PutsSome-behind q = record {
+    done = xs ++ q.done;
+    left = q.left;
+    order = ap (λ (ls : List (List ℕ)). xs ++ ls) q.order ∙ sym (append_assoc xs q.done q.left);
+    puts = PutsLines-append p q.puts;
+  }
 
-pub PutFails-behind : (xs ys : List (List ℕ)) (a b c : Shown) → PutsLines xs a b → PutFails ys b c → PutFails (xs ++ ys) a c
-PutFails-behind xs ys a b c p q = record {
-  done = xs ++ q.done;
-  line = q.line;
-  left = q.left;
-  order = ap (λ (ls : List (List ℕ)). xs ++ ls) q.order ∙ sym (append_assoc xs q.done (q.line ∷ q.left));
-  before = q.before;
-  puts = PutsLines-append xs q.done a b q.before p q.puts;
-  front = q.front;
-  counted = q.counted;
-}
+  pub PutFails-behind : PutFails ys b c → PutFails (xs ++ ys) a c
+  PutFails-behind q = record {
+    done = xs ++ q.done;
+    line = q.line;
+    left = q.left;
+    order = ap (λ (ls : List (List ℕ)). xs ++ ls) q.order ∙ sym (append_assoc xs q.done (q.line ∷ q.left));
+    before = q.before;
+    puts = PutsLines-append p q.puts;
+    front = q.front;
+    counted = q.counted;
+  }
 
-pub WriteFails-behind : (xs ys : List (List ℕ)) (a b c : Shown) → PutsLines xs a b → WriteFails ys b c → WriteFails (xs ++ ys) a c
-WriteFails-behind xs ys a b c p (inl q) = inl (PutFails-behind xs ys a b c p q)
-WriteFails-behind xs ys a b c p (inr q) = inr (PutsSome-behind xs ys a b c p q)
+  pub WriteFails-behind : WriteFails ys b c → WriteFails (xs ++ ys) a c
+  WriteFails-behind (inl q) = inl (PutFails-behind q)
+  WriteFails-behind (inr q) = inr (PutsSome-behind q)
 
 -- nothing more was put
-pub PutsLines-still : (lines : List (List ℕ)) (a b c : Shown) → PutsLines lines a b → PutsNone b c → PutsLines lines a c
-PutsLines-still lines a b c p none = record {
+pub PutsLines-still : {lines : List (List ℕ)} {a b : Shown} (c : Shown) → PutsLines lines a b → PutsNone b c
+    → PutsLines lines a c
+PutsLines-still {lines} {a} c p none = record {
   written = subst (λ (w : Option (List ℕ)). Appends a.written w (concat lines)) (sym none.0) p.written;
   counted = none.1 ∙ p.counted;
 }
 
 -- all of these lines are the first ones of them
-pub PutsSome-all : (lines : List (List ℕ)) (a b : Shown) → PutsLines lines a b → PutsSome lines a b
-PutsSome-all lines a b p = record { done = lines; left = []; order = sym (append-nil lines); puts = p }
+pub PutsSome-all : {lines : List (List ℕ)} {a b : Shown} → PutsLines lines a b → PutsSome lines a b
+PutsSome-all {lines} p = record { done = lines; left = []; order = sym (append-nil lines); puts = p }
 
 -- lines were put, and then all was passed on, or that failed
-pub Ends-gives : (lines : List (List ℕ)) (wanted status : Status) (old now new : Shown) → PutsLines lines old now → Ends wanted status now new
+pub Ends-gives : {lines : List (List ℕ)} (wanted status : Status) {old now : Shown} (new : Shown)
+    → PutsLines lines old now → Ends wanted status now new
     → Gives (record { status = wanted; lines = lines }) status old new
-Ends-gives lines wanted status old now new p (none, inl e) = inl (e.0, PutsLines-still lines old now new p none, e.1)
-Ends-gives lines wanted status old now new p (none, inr e) = inr (inl (e, inr (PutsSome-all lines old new (PutsLines-still lines old now new p none))))
+Ends-gives wanted status new p (none, inl e) = inl (e.0, PutsLines-still new p none, e.1)
+Ends-gives wanted status new p (none, inr e) = inr (inl (e, inr (PutsSome-all (PutsLines-still new p none))))
 
 -- a put of one of these lines failed, so one of these and more
-pub PutFails-more : (lines more : List (List ℕ)) (old new : Shown) → PutFails lines old new → PutFails (lines ++ more) old new
-PutFails-more lines more old new p = record {
+pub PutFails-more : {lines : List (List ℕ)} (more : List (List ℕ)) {old new : Shown} → PutFails lines old new
+    → PutFails (lines ++ more) old new
+PutFails-more more p = record {
   done = p.done;
   line = p.line;
   left = p.left ++ more;

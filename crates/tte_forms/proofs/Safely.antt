@@ -42,7 +42,7 @@ module _ (Whole : Status → Shown → Shown → Type 0) (IsSafe : List (List �
 
     -- nothing put is a front of what is safe
     nothing : PutsNone old new → PutsSome text old new
-    nothing none = none_put text old new (PutsLines-still [] old old new (PutsLines-none old) none)
+    nothing none = none_put text old new (PutsLines-still new (PutsLines-none old) none)
 
     some_of : (a : Answer) (status : Status) → IsSafe a.lines ⊎ (a.lines ≡ []) → (status ≡ WriteFault → ⊥) → Gives a status old new
         → PutsSo IsSafe PutsSome old new

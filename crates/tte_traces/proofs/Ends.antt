@@ -268,7 +268,7 @@ module _ {B K O : Type 0} (source : sources.Ghosts B) (sink : sinks.Ghosts K) (b
       general = for_front (λ octets. GivesOne (Is octets network) status (shown_by sink old) (shown_by sink new))
           (λ octets f.
           let seen = subst (λ c. StopsLines f.0 c (told_by sink old) (told_by sink put)) is f.1 in
-          let puts = PutsLines-still f.0 (shown_by sink old) (shown_by sink put) (shown_by sink new) (puts_shown sink f.0 old put seen) e.0 in
+          let puts = PutsLines-still (shown_by sink new) (puts_shown sink f.0 old put seen) e.0 in
           elim e.1 [
             | inl m ↦ front_given (Is octets network) status f.2 (inr m.0) puts
             | inr w ↦ front_failed (Is octets network) {lines = f.0} status {old = shown_by sink old} {new = shown_by sink new} f.2 w (inr puts)
@@ -294,7 +294,7 @@ module _ {B K O : Type 0} (source : sources.Ghosts B) (sink : sinks.Ghosts K) (b
         let all : IsAllAdmitted network octets d.events = record { admitted = a.0; ended = d.have_ended; none_left = a.1 } in
         let seen = puts_shown sink (lines network d.events d.notes) old put
         (along.all network octets d.events d.notes (told_by sink old) (told_by sink put) observer a.0 d.records d.sees) in
-        let puts = PutsLines-still (lines network d.events d.notes) (shown_by sink old) (shown_by sink put) (shown_by sink new) seen e.0 in
+        let puts = PutsLines-still (shown_by sink new) seen e.0 in
         elim e.1 [
           | inl done ↦ whole_given lines network octets d.events d.notes status (shown_by sink old) (shown_by sink new) all d.records done.0 puts done.1
           | inr failed ↦ whole_failed lines network octets d.events d.notes status (shown_by sink old) (shown_by sink new) all d.records failed puts

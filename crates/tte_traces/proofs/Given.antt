@@ -22,7 +22,7 @@ front_failed Is {lines} status {old} {new} begins cause (inl fails) =
     inr (inl (
       cause,
       λ a is. let b = begins a is in inl (subst (λ ls.
-          PutFails ls old new) (sym b.1) (PutFails-more lines b.0 old new fails)),
+          PutFails ls old new) (sym b.1) (PutFails-more b.0 fails)),
     ))
 front_failed Is {lines} status begins cause (inr puts) =
     inr (inl (cause, λ a is. let b = begins a is in inr (record { done = lines; left = b.0; order = b.1; puts = puts })))
@@ -68,7 +68,7 @@ module _ (lines : LinesOf) where
       record { events = events; admitted = b.admitted; is = inr (record { fault = fault; is = b.is; notes = notes; records = run; answer = refl }) } in
       one_given (IsTraceAnswer lines octets network) (faulty_answer lines network events notes fault) status old new is
       (λ a i. faulty_is lines network octets events notes fault a b run i)
-      (Gives-behind (lines network events notes) (record { status = fault_status fault; lines = fault_lines (length events + 1) fault }) status old now new
+      (Gives-behind (record { status = fault_status fault; lines = fault_lines (length events + 1) fault }) status
       puts g)
 
   -- a trace that is admitted to its end is answered to its end

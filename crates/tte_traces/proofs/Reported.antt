@@ -31,7 +31,7 @@ module _ {T K : Type 0} (sink : Ghosts K) (network : Network) (notes : List Note
   report_more x old {now} {new} p n =
       subst (λ ls. PutsLines ls (shown_as old) (shown_as (told_by sink new)))
       (report_one network notes note)
-      (PutsLines-more (report_of network notes) (note_line network note) (shown_as old) (shown_as (told_by sink now))
+      (PutsLines-more (note_line network note)
       (shown_as (told_by sink new)) p n.all.0
       n.counted)
 
@@ -43,8 +43,7 @@ module _ {T K : Type 0} (sink : Ghosts K) (network : Network) (notes : List Note
   report_fails WriteFault old {now} {new} p n =
       inl (subst (λ ls. PutFails ls (shown_as old) (shown_as (told_by sink new)))
       (report_one network notes note)
-      (PutsLines-fails (report_of network notes) (note_line network note) [] (shown_as old)
-      (shown_as (told_by sink now)) (shown_as (told_by sink new)) p
+      (PutsLines-fails (note_line network note) [] (shown_as (told_by sink new)) p
       n.front.0 n.counted))
 
   pub report_goes : (r : Result T Cut) (old : Told) {now new : K} → PutsReport network notes old (told_by sink now)

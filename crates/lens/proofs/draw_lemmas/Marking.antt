@@ -76,7 +76,7 @@ module _ (network : Network) (view : View) (all : List Mark) (notes : List Note)
         rest = rest;
         left = left;
         done = h.done ++ own;
-        puts = PutsLines-append h.done own old now new h.puts puts;
+        puts = PutsLines-append h.puts puts;
         whole = next_lines note rest next
             ∙ ap (λ ms. h.done ++ (own ++ mark_lines network view ms rest)) (sym moves)
             ∙ sym (append_assoc h.done own (mark_lines network view behind rest));
@@ -101,7 +101,7 @@ module _ (network : Network) (view : View) (all : List Mark) (notes : List Note)
       let lines : back_lines network view all notes ≡ h.done ++ close_line ∷ [] = ap (λ (ls : List (List ℕ)). ls ++ close_line ∷ [])
       (h.whole ∙ ap (λ ns. h.done ++ mark_lines network view marks ns) none ∙ append-nil h.done) in
       subst (λ (ls : List (List ℕ)). Gives (record { status = Done; lines = ls }) status old new) (sym lines)
-      (Gives-behind h.done (line_answer Done close_line) status old now new h.puts gives)
+      (Gives-behind (line_answer Done close_line) status h.puts gives)
 
 -- ---- the next record
 
@@ -125,7 +125,7 @@ pub wide_answer : (network : Network) (view : View) (notes : List Note) (plan : 
 wide_answer network view notes plan status old new same wide ends =
     let answer : draw_answer network view notes ≡ too_long_answer =
     ap (λ (b : Bool). if b then record { status = Done; lines = picture_lines network view notes } else too_long_answer) (ap fits (sym same) ∙ wide) in
-    subst (λ a. Gives a status old new) (sym answer) (Ends-gives [] TooLong status old old new (PutsLines-none old) ends)
+    subst (λ a. Gives a status old new) (sym answer) (Ends-gives TooLong status new (PutsLines-none old) ends)
 
 pub fit_answer : (network : Network) (view : View) (notes : List Note) (plan : Plan) (windows : List Came)
     (clocks : Clocks) (status : Status) {old new : Shown} → plan ≡ plan_of network view notes
@@ -158,5 +158,4 @@ module _ (network : Network) (plan : Plan) (windows : List Came) (clocks : Clock
       → Gives (back_answer network plan.view plan.marks notes) status now new
       → Gives (fitting_answer network plan windows clocks notes) status old new
   front_given status {old} {now} {new} puts gives =
-      Gives-behind (front_lines network plan windows clocks) (back_answer network plan.view plan.marks notes) status
-      old now new puts gives
+      Gives-behind (back_answer network plan.view plan.marks notes) status puts gives

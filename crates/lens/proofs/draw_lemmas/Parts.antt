@@ -8,8 +8,8 @@ use Rattle.{std.specs.{Prelude.{Err, Ok, OnErr, OnOk, flat_map}, declared.result
 -- one line, in one put
 pub draws_one : (line : List ℕ) (result : Result (Unit {0}) SinkFailed) (old new : Shown) → OnOk result (Appends old.written new.written line)
     → OnErr result (AppendsFront old.written new.written line) → new.puts ≡ next_count old.puts → Draws (line ∷ []) result old new
-draws_one line (Ok done) old new all front counted = PutsLines-more [] line old old new (PutsLines-none old) all counted
-draws_one line (Err cause) old new all front counted = PutsLines-fails [] line [] old old new (PutsLines-none old) front counted
+draws_one line (Ok done) old new all front counted = PutsLines-more line new (PutsLines-none old) all counted
+draws_one line (Err cause) old new all front counted = PutsLines-fails line [] new (PutsLines-none old) front counted
 
 -- a put that failed failed among more lines
 pub fails_before : {xs : List (List ℕ)} (ys : List (List ℕ)) {a b : Shown} → PutFails xs a b → PutFails (xs ++ ys) a b
@@ -27,7 +27,7 @@ fails_before ys p = record {
 -- a put failed behind lines that were put, and others were to come
 pub fails_between : {xs ys : List (List ℕ)} (zs : List (List ℕ)) {a b c : Shown} → PutsLines xs a b → PutFails ys b c
     → PutFails (xs ++ (ys ++ zs)) a c
-fails_between {xs} {ys} zs {a} {b} {c} p q = PutFails-behind xs (ys ++ zs) a b c p (fails_before zs q)
+fails_between {xs} {ys} zs {a} {b} {c} p q = PutFails-behind (ys ++ zs) c p (fails_before zs q)
 
 -- ---- lists
 
@@ -54,7 +54,7 @@ module _ {X : Type 0} (f : X → List (List ℕ)) (all : List X) (n : ℕ) where
       let lines : flat_map f (take (n + 1) all) ≡ flat_map f (take n all) ++ f x =
       ap (λ (xs : List X). flat_map f xs) (take_more all n d within) ∙ flat_map-append f (take n all) (x ∷ [])
       ∙ ap (λ (ls : List (List ℕ)). flat_map f (take n all) ++ ls) (append-nil (f x)) in
-      subst (λ ls. PutsLines ls a c) (sym lines) (PutsLines-append (flat_map f (take n all)) (f x) a b c p q)
+      subst (λ ls. PutsLines ls a c) (sym lines) (PutsLines-append p q)
 
   pub flat_fails : (d : X) (a b c : Shown) → n < length all → PutsLines (flat_map f (take n all)) a b → PutFails (f (get_or all n d)) b c
       → PutFails (flat_map f all) a c
@@ -105,7 +105,7 @@ pub places_more : (f : ℕ → List (List ℕ)) (n : ℕ) {a b c : Shown} → Pu
 places_more f n {a} {b} {c} p q =
     let lines : lines_from f 0 (n + 1) ≡ lines_from f 0 n ++ f n =
     places_split f n 1 ∙ ap (λ (ls : List (List ℕ)). lines_from f 0 n ++ ls) (append-nil (f n)) in
-    subst (λ ls. PutsLines ls a c) (sym lines) (PutsLines-append (lines_from f 0 n) (f n) a b c p q)
+    subst (λ ls. PutsLines ls a c) (sym lines) (PutsLines-append p q)
 
 pub places_fail : (f : ℕ → List (List ℕ)) (n count : ℕ) {a b c : Shown} → n < count
     → PutsLines (lines_from f 0 n) a b → PutFails (f n) b c → PutFails (lines_from f 0 count) a c

@@ -32,7 +32,7 @@ module _ (network : Network) (seed cycles : ℕ) (it : StormEvents) (old now : S
     given = given;
     puts =
         subst (λ ls. PutsLines ls old new) (sym (lines_of_both network h.events (event ∷ [])))
-        (PutsLines-more (event_lines network h.events) (event_line network event) old now new h.puts whole counted);
+        (PutsLines-more (event_line network event) new h.puts whole counted);
   }
 
   -- all of them, and what was put is passed on
@@ -41,7 +41,7 @@ module _ (network : Network) (seed cycles : ℕ) (it : StormEvents) (old now : S
   puts_all status new all ends = inl (
     record { status = Done; lines = event_lines network h.events },
     record { events = h.events; storm = record { whole = all; each = h.given.each }; answer = refl },
-    Ends-gives (event_lines network h.events) Done status old now new h.puts ends,
+    Ends-gives Done status new h.puts ends,
   )
 
   -- the put of the next one failed: the storm goes on behind it, so there is an answer
@@ -56,7 +56,7 @@ module _ (network : Network) (seed cycles : ℕ) (it : StormEvents) (old now : S
       let all = first ++ rest.0 in
       let lines : event_lines network all ≡ event_lines network h.events ++ event_line network event ∷ event_lines network rest.0 =
       ap (event_lines network) (append_assoc h.events (event ∷ []) rest.0) ∙ lines_of_both network h.events (event ∷ rest.0) in
-      let fails = PutsLines-fails (event_lines network h.events) (event_line network event) (event_lines network rest.0) old now new h.puts front counted in
+      let fails = PutsLines-fails (event_line network event) (event_lines network rest.0) new h.puts front counted in
       let answer : List (List ℕ) → Answer = λ ls. record { status = Done; lines = ls } in inl (
         answer (event_lines network all),
         record { events = all; storm = rest.1; answer = refl },

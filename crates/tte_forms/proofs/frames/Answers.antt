@@ -2,10 +2,10 @@
 use Rattle.{pcf_codec.{proofs.Outcomes.spelt_read, specs.{Decoding.decoded, Spelling.pcf_length}}, tte_units.specs.declared.frames.pcf.Pcf.Pcf}
 use Rattle.{pcf_codec.{proofs.Sequences.length-spelling, specs.Sequence.{IsLongestFront, SpellsAll}}, std.proofs.Common.{refl, subst, suc, sym, take, ℕ}}
 use Rattle.{pcf_codec.specs.declared.refusal.PcfRefusal.PcfRefusal, std.proofs.lemmas.{Bool.{le-ltb, lt-ltb}, List.{append-nil, drop-drop, nil_from_length}}}
-use Rattle.std.proofs.Common.{◌*◌, ◌++◌, ◌+◌, ◌-◌, ◌<◌, ◌∙◌, ◌∷◌, ◌≡◌, ◌≢◌, ◌≤◌, Err, List, Result, [], ap, append_assoc, arith, drop, length, length-append}
+use Rattle.std.proofs.Common.{◌*◌, ◌++◌, ◌+◌, ◌-◌, ◌<◌, ◌∙◌, ◌∷◌, ◌≡◌, ◌≢◌, ◌≤◌, Err, List, [], ap, append_assoc, arith, drop, length, length-append}
 use Rattle.{std.{proofs.Math.Seq.{drop-append_seam, take-append_seam}, specs.Prelude.{IfSome, Option}}, tte_forms.specs.frames.Law.{ShowsFrames, frame_lines}}
 use Rattle.tte_forms.{proofs.{Octets.{for_read, for_too_many}, Puts.{Ends-gives, PutsLines-none}, frames.Frames.{behind, no_frame}}, specs.Putting.Shown}
-use Rattle.tte_forms.specs.{Answering.{Answer, Answers, Ends, Gives, with_line}, declared.status.Status.{Status, TheVariants.{Done, FrameRefused, TooLong}}}
+use Rattle.tte_forms.specs.{Answering.{Answers, Ends, Gives, with_line}, declared.status.Status.{Status, TheVariants.{Done, FrameRefused, TooLong}}}
 use Rattle.tte_forms.specs.frames.{Answer.{file_limit, frame_at, frame_count, frames_answer, judgement_of, show_answer}, FrameLine.{frame_line, refusal_line}}
 
 pub show_answer-fits : (octets : List ℕ) → length octets ≤ file_limit → show_answer octets ≡ frames_answer 0 (frame_count octets) octets
@@ -20,14 +20,14 @@ pub answers-read : (left : Option (List ℕ)) (octets : List ℕ) (status : Stat
     → length octets ≤ file_limit → Gives (frames_answer 0 (frame_count octets) octets) status old new → Answers show_answer left status old new
 answers-read left octets status old new all short g =
     for_read left octets (λ xs. Gives (show_answer xs) status old new) all
-    (subst (λ (a : Answer). Gives a status old new) (sym (show_answer-fits octets short)) g)
+    (subst (λ a. Gives a status old new) (sym (show_answer-fits octets short)) g)
 
 pub answers-long : (left : Option (List ℕ)) (status : Status) (old new : Shown) → IfSome left (λ all. file_limit < length all) → Ends TooLong status old new
     → Answers show_answer left status old new
 answers-long left status old new long ends =
     for_too_many file_limit left (λ xs. Gives (show_answer xs) status old new) long
-    (λ xs many. subst (λ (a : Answer). Gives a status old new) (sym (show_answer-long xs many))
-    (Ends-gives [] TooLong status old old new (PutsLines-none old) ends))
+    (λ xs many. subst (λ a. Gives a status old new) (sym (show_answer-long xs many))
+    (Ends-gives TooLong status new (PutsLines-none old) ends))
 
 frames_answer-next : (k n : ℕ) (octets : List ℕ) → frames_answer k (suc n) octets ≡ judgement_of (k + 1) (decoded (frame_at k octets))
     (frames_answer (k + 1) n octets)
@@ -57,10 +57,10 @@ frames-spelt (p ∷ ps) k m octets front rest cut (first, others, join, one, all
     let more = frames-spelt ps (k + 1) m octets others rest next all in
     let count : length (p ∷ ps) + m ≡ suc (length ps + m) = omega arith in
     let behind_it : k + 1 + length ps ≡ k + length (p ∷ ps) = omega arith in
-    ap (λ (n : ℕ). frames_answer k n octets) count
+    ap (λ n. frames_answer k n octets) count
     ∙ frames_answer-next k (length ps + m) octets
-    ∙ ap (λ (r : Result Pcf PcfRefusal). judgement_of (k + 1) r (frames_answer (k + 1) (length ps + m) octets)) (ap decoded frame ∙ spelt_read first p one)
-    ∙ ap (with_line (frame_line (k + 1) p)) (more ∙ ap (λ (n : ℕ). behind (frame_lines (k + 1 + 1) ps) (frames_answer n m octets)) behind_it)
+    ∙ ap (λ r. judgement_of (k + 1) r (frames_answer (k + 1) (length ps + m) octets)) (ap decoded frame ∙ spelt_read first p one)
+    ∙ ap (with_line (frame_line (k + 1) p)) (more ∙ ap (λ n. behind (frame_lines (k + 1 + 1) ps) (frames_answer n m octets)) behind_it)
 
 whole : (octets : List ℕ) (ps : List Pcf) → length octets ≤ file_limit → SpellsAll octets ps
     → show_answer octets ≡ record { status = Done; lines = frame_lines 1 ps }
@@ -68,7 +68,7 @@ whole octets ps short s =
     let size = length-spelling octets ps s in
     let count : frame_count octets ≡ length ps + 0 = omega arith in
     show_answer-fits octets short
-    ∙ ap (λ (n : ℕ). frames_answer 0 n octets) count
+    ∙ ap (λ n. frames_answer 0 n octets) count
     ∙ frames-spelt ps 0 0 octets octets [] (sym (append-nil octets)) s
     ∙ ap (behind (frame_lines 1 ps)) (no_frame (0 + length ps) octets 0 refl)
     ∙ ap (λ (ls : List (List ℕ)). record { status = Done; lines = ls }) (append-nil (frame_lines 1 ps))
@@ -87,10 +87,10 @@ refused octets rest ps e short l bad some =
     let others = frames_answer (0 + length ps + 1) (frame_count octets - length ps - 1) octets in
     let number : 0 + length ps + 1 ≡ length ps + 1 = omega arith in
     show_answer-fits octets short
-    ∙ ap (λ (n : ℕ). frames_answer 0 n octets) count
+    ∙ ap (λ n. frames_answer 0 n octets) count
     ∙ frames-spelt ps 0 (suc (frame_count octets - length ps - 1)) octets l.front rest l.cut l.spells
     ∙ ap (behind (frame_lines 1 ps)) (frames_answer-next (0 + length ps) (frame_count octets - length ps - 1) octets
-    ∙ ap (λ (r : Result Pcf PcfRefusal). judgement_of (0 + length ps + 1) r others) read)
+    ∙ ap (λ r. judgement_of (0 + length ps + 1) r others) read)
     ∙ ap (λ (n : ℕ). record { status = FrameRefused; lines = frame_lines 1 ps ++ refusal_line n e ∷ [] }) number
 
 pub shows_frames : ShowsFrames

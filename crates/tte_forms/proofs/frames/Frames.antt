@@ -1,7 +1,7 @@
 -- The answer for the frames of a file, frame by frame.
 use Rattle.{pcf_codec.specs.Decoding.decoded, std.{proofs.lemmas.List.append-nil, specs.Io.KnownBytes.Appends}, tte_io.specs.Faults.next_count}
 use Rattle.{pcf_codec.specs.declared.refusal.PcfRefusal.PcfRefusal, tte_forms.specs.Putting.{PutsLines, Shown}, tte_units.specs.declared.frames.pcf.Pcf.Pcf}
-use Rattle.std.proofs.Common.{◌++◌, ◌+◌, ◌-◌, ◌<◌, ◌∙◌, ◌∷◌, ◌≡◌, ◌≤◌, Err, List, Ok, Result, [], ap, append_assoc, arith, inl, inr, refl, subst, suc, sym}
+use Rattle.std.proofs.Common.{◌++◌, ◌+◌, ◌-◌, ◌<◌, ◌∙◌, ◌∷◌, ◌≡◌, ◌≤◌, Err, List, Ok, [], ap, append_assoc, arith, inl, inr, refl, subst, suc, sym}
 use Rattle.{std.proofs.Common.{zero, ℕ}, tte_io.specs.Told.AppendsFront}
 use Rattle.tte_forms.proofs.Puts.{Ends-gives, PutsLines-append, PutsLines-fails, PutsLines-more, PutsSome-behind, WriteFails-behind}
 use Rattle.tte_forms.specs.{Answering.{Answer, Ends, Gives, with_line}, declared.status.Status.Status, frames.FrameLine.{frame_line, refusal_line}}
@@ -27,51 +27,55 @@ pub record IsShown (n k : ℕ) (octets : List ℕ) (old now : Shown) : Type 0 wh
   pub puts : PutsLines done old now
   pub rest : frames_answer 0 n octets ≡ behind done (frames_answer k (n - k) octets)
 
-pub IsShown-more : (n k : ℕ) (octets : List ℕ) (p : Pcf) (old now new : Shown) → IsShown n k octets old now → k < n → decoded (frame_at k octets) ≡ Ok p
-    → Appends now.written new.written (frame_line (k + 1) p) → new.puts ≡ next_count now.puts → IsShown n (k + 1) octets old new
-IsShown-more n k octets p old now new s lt d w c = record {
+pub IsShown-more : {n k : ℕ} {octets : List ℕ} (p : Pcf) {old now : Shown} (new : Shown) → IsShown n k octets old now
+    → k < n → decoded (frame_at k octets) ≡ Ok p → Appends now.written new.written (frame_line (k + 1) p)
+    → new.puts ≡ next_count now.puts → IsShown n (k + 1) octets old new
+IsShown-more {n} {k} {octets} p new s lt d w c = record {
   done = s.done ++ frame_line (k + 1) p ∷ [];
-  puts = PutsLines-more s.done (frame_line (k + 1) p) old now new s.puts w c;
+  puts = PutsLines-more (frame_line (k + 1) p) new s.puts w c;
   rest =
       s.rest
-      ∙ ap (behind s.done) (next_frame k n octets lt ∙ ap (λ (r : Result Pcf PcfRefusal). judgement_of (k + 1) r (frames_answer (k + 1) (n - (k + 1)) octets))
+      ∙ ap (behind s.done) (next_frame k n octets lt ∙ ap (λ r. judgement_of (k + 1) r (frames_answer (k + 1) (n - (k + 1)) octets))
       d)
       ∙ sym (ap (λ (ls : List (List ℕ)). record { status = (frames_answer (k + 1) (n - (k + 1)) octets).status; lines = ls })
       (append_assoc s.done (frame_line (k + 1) p ∷ []) (frames_answer (k + 1) (n - (k + 1)) octets).lines));
 }
 
 -- all frames were shown
-pub IsShown-all : (n k : ℕ) (octets : List ℕ) (status : Status) (old now new : Shown) → IsShown n k octets old now → n ≤ k → Ends Done status now new
-    → Gives (frames_answer 0 n octets) status old new
-IsShown-all n k octets status old now new s le ends =
+pub IsShown-all : {n k : ℕ} {octets : List ℕ} (status : Status) {old now : Shown} (new : Shown)
+    → IsShown n k octets old now → n ≤ k → Ends Done status now new → Gives (frames_answer 0 n octets) status old new
+IsShown-all {n} {k} {octets} status {old} new s le ends =
     let whole : frames_answer 0 n octets ≡ record { status = Done; lines = s.done } =
     s.rest ∙ ap (behind s.done) (no_frame k octets (n - k) (omega arith)) ∙ ap (λ (ls : List (List ℕ)). record { status = Done; lines = ls })
     (append-nil s.done) in
-    subst (λ (a : Answer). Gives a status old new) (sym whole) (Ends-gives s.done Done status old now new s.puts ends)
+    subst (λ a. Gives a status old new) (sym whole) (Ends-gives Done status new s.puts ends)
 
 -- the put of a frame's line failed
-pub IsShown-fails : (n k : ℕ) (octets : List ℕ) (p : Pcf) (old now new : Shown) → IsShown n k octets old now → k < n → decoded (frame_at k octets) ≡ Ok p
-    → AppendsFront now.written new.written (frame_line (k + 1) p) → new.puts ≡ next_count now.puts → Gives (frames_answer 0 n octets) WriteFault old new
-IsShown-fails n k octets p old now new s lt d w c =
+pub IsShown-fails : {n k : ℕ} {octets : List ℕ} (p : Pcf) {old now : Shown} (new : Shown)
+    → IsShown n k octets old now → k < n → decoded (frame_at k octets) ≡ Ok p
+    → AppendsFront now.written new.written (frame_line (k + 1) p) → new.puts ≡ next_count now.puts
+    → Gives (frames_answer 0 n octets) WriteFault old new
+IsShown-fails {n} {k} {octets} p {old} new s lt d w c =
     let rest = frames_answer (k + 1) (n - (k + 1)) octets in
     let whole : frames_answer 0 n octets ≡ behind s.done (with_line (frame_line (k + 1) p) rest) =
-    s.rest ∙ ap (behind s.done) (next_frame k n octets lt ∙ ap (λ (r : Result Pcf PcfRefusal). judgement_of (k + 1) r rest) d) in
-    subst (λ (a : Answer). Gives a WriteFault old new) (sym whole)
-    (inr (inl (refl, inl (PutsLines-fails s.done (frame_line (k + 1) p) rest.lines old now new s.puts w c))))
+    s.rest ∙ ap (behind s.done) (next_frame k n octets lt ∙ ap (λ r. judgement_of (k + 1) r rest) d) in
+    subst (λ a. Gives a WriteFault old new) (sym whole)
+    (inr (inl (refl, inl (PutsLines-fails (frame_line (k + 1) p) rest.lines new s.puts w c))))
 
 -- an answer's lines behind those that were put
-pub Gives-behind : (lines : List (List ℕ)) (a : Answer) (status : Status) (old now new : Shown) → PutsLines lines old now → Gives a status now new
-    → Gives (behind lines a) status old new
-Gives-behind lines a status old now new p (inl g) = inl (g.0, PutsLines-append lines a.lines old now new p g.1, g.2)
-Gives-behind lines a status old now new p (inr (inl g)) = inr (inl (g.0, WriteFails-behind lines a.lines old now new p g.1))
-Gives-behind lines a status old now new p (inr (inr g)) = inr (inr (g.0, PutsSome-behind lines a.lines old now new p g.1))
+pub Gives-behind : {lines : List (List ℕ)} (a : Answer) (status : Status) {old now new : Shown}
+    → PutsLines lines old now → Gives a status now new → Gives (behind lines a) status old new
+Gives-behind a status p (inl g) = inl (g.0, PutsLines-append p g.1, g.2)
+Gives-behind a status {new} p (inr (inl g)) = inr (inl (g.0, WriteFails-behind a.lines new p g.1))
+Gives-behind a status {new} p (inr (inr g)) = inr (inr (g.0, PutsSome-behind a.lines new p g.1))
 
 -- a frame is refused
-pub IsShown-refused : (n k : ℕ) (octets : List ℕ) (e : PcfRefusal) (status : Status) (old now new : Shown) → IsShown n k octets old now → k < n
-    → decoded (frame_at k octets) ≡ Err e
-    → Gives (record { status = FrameRefused; lines = refusal_line (k + 1) e ∷ [] }) status now new → Gives (frames_answer 0 n octets) status old new
-IsShown-refused n k octets e status old now new s lt d g =
+pub IsShown-refused : {n k : ℕ} {octets : List ℕ} (e : PcfRefusal) (status : Status) {old now new : Shown}
+    → IsShown n k octets old now → k < n → decoded (frame_at k octets) ≡ Err e
+    → Gives (record { status = FrameRefused; lines = refusal_line (k + 1) e ∷ [] }) status now new
+    → Gives (frames_answer 0 n octets) status old new
+IsShown-refused {n} {k} {octets} e status {old} {new} s lt d g =
     let rest = frames_answer (k + 1) (n - (k + 1)) octets in
     let whole : frames_answer 0 n octets ≡ behind s.done (record { status = FrameRefused; lines = refusal_line (k + 1) e ∷ [] }) =
-    s.rest ∙ ap (behind s.done) (next_frame k n octets lt ∙ ap (λ (r : Result Pcf PcfRefusal). judgement_of (k + 1) r rest) d) in
-    subst (λ (a : Answer). Gives a status old new) (sym whole) (Gives-behind s.done _ status old now new s.puts g)
+    s.rest ∙ ap (behind s.done) (next_frame k n octets lt ∙ ap (λ r. judgement_of (k + 1) r rest) d) in
+    subst (λ a. Gives a status old new) (sym whole) (Gives-behind _ status s.puts g)

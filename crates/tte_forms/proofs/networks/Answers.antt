@@ -21,7 +21,7 @@ same_refusal octets d e p q = cc
 -- a network that is accepted breaks no rule
 no_unfit : (octets : List ℕ) (n : Network) (told : RuleBroken) → MeansAccepted octets n → MeansUnfit octets told → ⊥
 no_unfit octets n told m u =
-    let first = subst (λ (x : Network). TellsFirstBroken x told) (same_network octets u.network n u.read m.read) u.first in
+    let first = subst (λ x. TellsFirstBroken x told) (same_network octets u.network n u.read m.read) u.first in
     first.first.broken (m.rules first.rule told.index)
 
 -- ---- where the lines about a network that is refused are given
@@ -37,7 +37,7 @@ module _ (lines : List ℕ → List (List ℕ)) (Then : Network → Answer → T
   -- a text that is no network has the answer for its fault alone
   file_one : (e : FileRefusal) → MeansNoNetwork octets e → (b : Answer) → IsAnswerBy lines Then octets b → b ≡ refused_by lines (file_reason e)
   file_one e m b (inl h) = absurd (omega (arith, h.0, m.fits))
-  file_one e m b (inr (inl h)) = h.2 ∙ ap (λ (x : FileRefusal). refused_by lines (file_reason x)) (same_refusal octets h.0 e h.1.read m.read)
+  file_one e m b (inr (inl h)) = h.2 ∙ ap (λ x. refused_by lines (file_reason x)) (same_refusal octets h.0 e h.1.read m.read)
   file_one e m b (inr (inr (inl h))) = absurd (no_both octets h.1.network e h.1.read m.read)
   file_one e m b (inr (inr (inr h))) = absurd (no_both octets h.0 e h.1.read m.read)
 
@@ -48,8 +48,8 @@ module _ (lines : List ℕ → List (List ℕ)) (Then : Network → Answer → T
   rule_one one told m b (inr (inl h)) = absurd (no_both octets m.network h.0 m.read h.1.read)
   rule_one one told m b (inr (inr (inl h))) =
       let same = same_network octets h.1.network m.network h.1.read m.read in
-      h.2 ∙ ap (λ (x : RuleBroken). refused_by lines (rule_reason x))
-      (one m.network h.0 told (subst (λ (n : Network). TellsFirstBroken n h.0) same h.1.first) m.first)
+      h.2 ∙ ap (λ x. refused_by lines (rule_reason x))
+      (one m.network h.0 told (subst (λ n. TellsFirstBroken n h.0) same h.1.first) m.first)
   rule_one one told m b (inr (inr (inr h))) = absurd (no_unfit octets h.0 told h.1 m)
 
   -- an accepted network has the answers for it alone

@@ -38,4 +38,4 @@ pub answers-long : (left : Option (List ℕ)) (status : Status) (old new : Shown
 answers-long left status old new long ends =
     for_too_many capture_limit left (λ xs. Gives (capture_answer xs) status old new) long
     (λ xs many. subst (λ a. Gives a status old new) (sym (capture_answer-long xs many))
-    (Ends-gives [] TooLong status old old new (PutsLines-none old) ends))
+    (Ends-gives TooLong status new (PutsLines-none old) ends))

@@ -50,7 +50,7 @@ module _ (k : ℕ) (head : CaptureHead) (file : List ℕ) where
   IsShown-more at p old now new s within further is w c =
       let others = packets_answer (s.turns - 1) (k + 1) head file p.to in record {
         done = s.done ++ packet_line k file p ∷ [];
-        puts = PutsLines-more s.done (packet_line k file p) old now new s.puts w c;
+        puts = PutsLines-more (packet_line k file p) new s.puts w c;
         turns = s.turns - 1;
         enough = omega (arith, s.enough, within, further);
         rest =
@@ -67,7 +67,7 @@ module _ (k : ℕ) (head : CaptureHead) (file : List ℕ) where
       let whole : packets_answer (length file) 1 head file head_length ≡ record { status = Done; lines = s.done } =
       decided at old now (Ok None) s within is
       ∙ ap (λ (ls : List (List ℕ)). record { status = Done; lines = ls }) (append-nil s.done) in
-      subst (λ a. Gives a status old new) (sym whole) (Ends-gives s.done Done status old now new s.puts ends)
+      subst (λ a. Gives a status old new) (sym whole) (Ends-gives Done status new s.puts ends)
 
   -- the put of a packet's line failed
   pub IsShown-fails : (at : ℕ) (p : Packet) (old now new : Shown) → IsShown k head file at old now → at ≤ length file
@@ -76,7 +76,7 @@ module _ (k : ℕ) (head : CaptureHead) (file : List ℕ) where
       → Gives (packets_answer (length file) 1 head file head_length) WriteFault old new
   IsShown-fails at p old now new s within is w c =
       let others = packets_answer (s.turns - 1) (k + 1) head file p.to in
-      let fails = PutsLines-fails s.done (packet_line k file p) others.lines old now new s.puts w c in
+      let fails = PutsLines-fails (packet_line k file p) others.lines new s.puts w c in
       subst (λ a. Gives a WriteFault old new)
       (sym (decided at old now (Ok (Some p)) s within is)) (inr (inl (refl, inl fails)))
 
@@ -87,4 +87,4 @@ module _ (k : ℕ) (head : CaptureHead) (file : List ℕ) where
       → Gives (packets_answer (length file) 1 head file head_length) status old new
   IsShown-refused at e status old {now} {new} s within is g =
       subst (λ a. Gives a status old new) (sym (decided at old now (Err e) s within is))
-      (Gives-behind s.done (line_answer CaptureRefused (packet_refusal_line k e)) status old now new s.puts g)
+      (Gives-behind (line_answer CaptureRefused (packet_refusal_line k e)) status s.puts g)

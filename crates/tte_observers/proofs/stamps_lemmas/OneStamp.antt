@@ -53,7 +53,7 @@ module _ (granule : ℕ) (network : Network) (world : ExactWorld) (number : ℕ)
       let from = shown_as (told_by sink old) in
       let now = shown_as (told_by sink new) in
       subst (λ ls. PutsLines ls from now) (ap (λ (t : List ℕ). t ∷ []) same ∙ sym (lines_are (Some local) is))
-      (PutsLines-more [] text from from now (PutsLines-none from) written counted)
+      (PutsLines-more text now (PutsLines-none from) written counted)
 
   -- its put failed
   pub one_fails : {K : Type 0} (sink : Ghosts K) (local : ℤ) (text : List ℕ) (old new : K)
@@ -66,7 +66,7 @@ module _ (granule : ℕ) (network : Network) (world : ExactWorld) (number : ℕ)
       let from = shown_as (told_by sink old) in
       let now = shown_as (told_by sink new) in
       subst (λ ls. PutFails ls from now) (ap (λ (t : List ℕ). t ∷ []) same ∙ sym (lines_are (Some local) is))
-      (PutsLines-fails [] text [] from from now (PutsLines-none from) front counted)
+      (PutsLines-fails text [] now (PutsLines-none from) front counted)
 
 -- ---- the first devices
 
@@ -96,7 +96,7 @@ one_more_device sink network line k granule own old now new same first one =
     let to = shown_as (told_by sink new) in
     let next : suc k ≡ k + 1 = omega arith in
     let more : PutsLines (lines_by_first granule network line (suc k)) from to =
-    PutsLines-append (lines_by_first granule network line k) (lines_by granule network line (record { 0 = k })) from (shown_as (told_by sink now)) to first
+    PutsLines-append first
     (subst (λ (n : ℕ). PutsLines (lines_by n network line (record { 0 = k })) (shown_as (told_by sink now)) to) same one) in
     subst (λ n. PutsLines (lines_by_first granule network line n) from to) next more
 
@@ -108,10 +108,9 @@ pub devices_fail : {K : Type 0} (sink : Ghosts K) (network : Network) (line : Li
 devices_fail sink network line k n granule own old now new same le first one =
     let from = shown_as (told_by sink old) in
     let to = shown_as (told_by sink new) in
-    let fails = PutFails-behind (lines_by_first granule network line k) (lines_by granule network line (record { 0 = k })) from
-    (shown_as (told_by sink now)) to first
+    let fails = PutFails-behind (lines_by granule network line (record { 0 = k })) to first
     (subst (λ (m : ℕ). PutFails (lines_by m network line (record { 0 = k })) (shown_as (told_by sink now)) to) same one) in
     let rest = first_devices granule network line (suc k) n le in
     let more : PutFails (lines_by_first granule network line (suc k) ++ rest.0) from to =
-    PutFails-more (lines_by_first granule network line (suc k)) rest.0 from to fails in
+    PutFails-more rest.0 fails in
     subst (λ ls. PutFails ls from to) (sym rest.1) more

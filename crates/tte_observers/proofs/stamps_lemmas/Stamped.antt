@@ -67,16 +67,14 @@ module _ (granule : ℕ) (network : Network) (world : ExactWorld) (events : List
     notes = notes ++ note ∷ [];
     records = befell.so_far;
     puts = subst (λ ls. PutsLines ls (shown_as old) (shown_as (told_by sink new))) (sym (one_line_more p.notes p.records))
-        (PutsLines-append (stamp_lines granule network events p.notes) (line_stamps granule network (line_at network events event (notes ++ note ∷ [])))
-        (shown_as old) (shown_as (told_by sink now)) (shown_as (told_by sink new)) p.puts puts);
+        (PutsLines-append p.puts puts);
   }
   stamps_go sink (Err OutOfMemory) old now new p puts cut = absurd (let is : ◌≡◌ {A = Cut} OutOfMemory WriteFault = cut in cc)
   stamps_go sink (Err WriteFault) old now new p puts cut = record {
     notes = notes ++ note ∷ [];
     records = befell.so_far;
     stops = inl (subst (λ ls. PutFails ls (shown_as old) (shown_as (told_by sink new))) (sym (one_line_more p.notes p.records))
-        (PutFails-behind (stamp_lines granule network events p.notes) (line_stamps granule network (line_at network events event (notes ++ note ∷ [])))
-        (shown_as old) (shown_as (told_by sink now)) (shown_as (told_by sink new)) p.puts puts));
+        (PutFails-behind (line_stamps granule network (line_at network events event (notes ++ note ∷ []))) (shown_as (told_by sink new)) p.puts puts));
   }
 
 -- and the granule is the first one still

@@ -52,7 +52,7 @@ module _ {B K : Type 0} (source : sources.Ghosts B) (sink : sinks.Ghosts K) (beg
   all_of a status new same g =
       let none : PutsLines [] (shown_as (told_by sink old)) (shown_as (told_by sink put)) =
       subst (λ t. PutsLines [] (shown_as (told_by sink old)) (shown_as t)) (sym same) (PutsLines-none (shown_as (told_by sink old))) in
-      Gives-behind [] a status (shown_by sink old) (shown_by sink put) (shown_by sink new) (puts_shown sink [] old put none) g
+      Gives-behind a status (puts_shown sink [] old put none) g
 
   abbrev Ends : Status → K → Type 0
   Ends status new = VotesEnd begun.votes.voters network (source.left first) (source.left now) status (shown_by sink old) (shown_by sink new)

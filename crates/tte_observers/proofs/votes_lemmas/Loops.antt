@@ -32,7 +32,7 @@ module _ (network : Network) (voters : Voters) (ns : List Note) where
         → PutsLines (lines_to network voters (happenings network ns) (key_of cycle device + 1)) old new
     puts_next own =
         subst (λ ls. PutsLines ls old new) (sym (lines_given network voters ns from cycle device ballot left next))
-        (PutsLines-append (to from) (lines_at network cycle device ballot) old now new puts own)
+        (PutsLines-append puts own)
 
     pub next_within : key_of cycle device + 1 ≤ 2 ^ 64
     next_within = let c = next.in_cycle in let d = next.of_device in omega (arith, c, d)
@@ -46,8 +46,8 @@ module _ (network : Network) (voters : Voters) (ns : List Note) where
         let rest = lines_front network voters hs (key + 1) (2 ^ 64) next_within in
         let fails : PutFails (to (key + 1)) old new =
         subst (λ ls. PutFails ls old new) (sym (lines_given network voters ns from cycle device ballot left next))
-        (PutFails-behind (to from) (lines_at network cycle device ballot) old now new puts own) in
-        subst (λ ls. PutFails ls old new) (sym (lines_all network voters hs few ∙ rest.1)) (PutFails-more (to (key + 1)) rest.0 old new fails)
+        (PutFails-behind (lines_at network cycle device ballot) new puts own) in
+        subst (λ ls. PutFails ls old new) (sym (lines_all network voters hs few ∙ rest.1)) (PutFails-more rest.0 fails)
 
   -- none is left
   pub puts_all : (from : ℕ) (old new : Shown) → length network.device < 2 ^ 32 → from ≤ 2 ^ 64 → AreOpenFrom network voters ns from (2 ^ 64)
@@ -86,7 +86,7 @@ put_one sink (Ok x) text lines old new is all front counted =
     let a = shown_by sink old in
     record {
       all = subst (λ ls. PutsLines ls a (shown_by sink new)) (sym is)
-          (PutsLines-more [] text a a (shown_by sink new) (PutsLines-none a) all counted);
+          (PutsLines-more text (shown_by sink new) (PutsLines-none a) all counted);
       fails = tt {0};
     }
 put_one sink (Err e) text lines old new is all front counted =
@@ -94,5 +94,5 @@ put_one sink (Err e) text lines old new is all front counted =
     record {
       all = tt {0};
       fails = subst (λ ls. PutFails ls a (shown_by sink new)) (sym is)
-          (PutsLines-fails [] text [] a a (shown_by sink new) (PutsLines-none a) front counted);
+          (PutsLines-fails text [] (shown_by sink new) (PutsLines-none a) front counted);
     }

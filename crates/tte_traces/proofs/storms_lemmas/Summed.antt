@@ -49,7 +49,7 @@ module _ {lines : List (List ℕ)} {count : ℕ} {old now : Shown} (new : Shown)
         left = next.0;
         order = next.1 ∙ sym (append_assoc h.done (line ∷ []) next.0);
         counted = omega (arith, long, counted);
-        puts = PutsLines-more h.done line old now new h.puts written puts;
+        puts = PutsLines-more line new h.puts written puts;
       }
 
   pub lines_fail : AppendsFront now.written new.written line → new.puts ≡ next_count now.puts
@@ -59,7 +59,7 @@ module _ {lines : List (List ℕ)} {count : ℕ} {old now : Shown} (new : Shown)
       inr (inl (
         refl,
         subst (λ l. WriteFails l old new) (sym next.1)
-            (inl (PutsLines-fails h.done line next.0 old now new h.puts front puts)),
+            (inl (PutsLines-fails line next.0 new h.puts front puts)),
       ))
 
 none_left : (done left : List (List ℕ)) → length (done ++ left) ≡ length done → left ≡ []
@@ -72,7 +72,7 @@ pub lines_all : {lines : List (List ℕ)} {count : ℕ} (status : Status) {old n
 lines_all {lines} status {old} {now} new h all ends =
     let none = none_left h.done h.left (ap (λ l. length l) (sym h.order) ∙ all ∙ sym h.counted) in
     let whole : lines ≡ h.done = h.order ∙ ap (λ (l : List (List ℕ)). h.done ++ l) none ∙ append-nil h.done in
-    Ends-gives lines Done status old now new (subst (λ l. PutsLines l old now) (sym whole) h.puts) ends
+    Ends-gives Done status new (subst (λ l. PutsLines l old now) (sym whole) h.puts) ends
 
 -- ---- what the summary tells
 

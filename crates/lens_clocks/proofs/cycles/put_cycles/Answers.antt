@@ -55,5 +55,5 @@ returns-clause-gives g c befallen hs known =
     let now = shown_by g.K.Sink c.cycles.out in
     let all : c.cycles.before ≡ c.args.until / c.amount-cycle.result = omega (arith, c.cycles-test.false, c.cycles.auto.before-end) in
     let count : c.cycles.before ≡ cycles_by s c.args.until = all ∙ ap (λ (n : ℕ). c.args.until / n) c.amount-cycle.ensures.value in
-    Ends-gives (lines_to s hs (cycles_by s c.args.until)) Done c.end_with.result old now (shown_by g.K.Sink c.end_with.new.out)
+    Ends-gives Done c.end_with.result (shown_by g.K.Sink c.end_with.new.out)
     (subst (λ n. PutsLines (lines_to s hs n) old now) count (c.cycles.invariant.puts befallen hs known)) c.end_with.ensures.ends

@@ -9,7 +9,7 @@ returns-in-Err-clause-puts g c =
     let now = shown_by g.K.Sink c.put_clocks.new.out in
     let network = c.args.network.now in
     let lines = λ (least : ℤ). map (clock_line network c.args.number least) c.args.clocks.now in
-    PutFails-more (lines c.args.ends.least) (spread_line network c.args.number (Some c.args.ends) ∷ []) old now
+    PutFails-more (spread_line network c.args.number (Some c.args.ends) ∷ [])
     (subst (λ (z : ℤ). PutFails (lines z) old now) (to_z-of_z w128 c.args.ends.least (search rules)) c.in-Err.ensures.puts)
 
 pub returns-clause-puts : goal.returns-clause-puts

@@ -18,7 +18,7 @@ flows-preserved g c =
     record {
       puts =
           subst (λ ls. PutsLines ls (shown c.args.out.now) (shown c.put.new.self)) (sym lines)
-          (PutsLines-more (map line_of (take n all)) (line_of next.one) (shown c.args.out.now) (shown c.flows.out)
+          (PutsLines-more (line_of next.one)
           (shown c.put.new.self) c.flows.invariant.puts whole c.put.ensures.counted);
       quiet = c.in-Ok.ensures.ok_unchanged ∙ c.flows.invariant.quiet;
     }
@@ -31,8 +31,7 @@ returns-clause-gives g c =
     let whole = ap (λ (i : ℕ). take i all) (omega (arith, c.flows-test.false, c.flows.auto.one-index-end)) ∙ take-length all in
     let puts = subst (λ (ts : List FlowTold). PutsLines (map line_of ts) (shown c.args.out.now) (shown c.flows.out)) whole c.flows.invariant.puts in
     let sums = c.as_slice-2.ensures ∙ c.make_sum_line.ensures ∙ ap (sum_line all) (sym (sum_none all)) in
-    Gives-behind (map line_of all) (line_answer Done (sum_line all (sum_by (λ (one : FlowTold). 0) all))) c.put_last.result (shown c.args.out.now)
-    (shown c.flows.out) (shown c.put_last.new.out) puts
+    Gives-behind (line_answer Done (sum_line all (sum_by (λ (one : FlowTold). 0) all))) c.put_last.result puts
     (subst (λ bytes. Gives (line_answer Done bytes) c.put_last.result (shown c.flows.out) (shown c.put_last.new.out)) sums
     c.put_last.ensures.gives)
 
@@ -56,6 +55,6 @@ returns-in-Err-clause-gives g c =
     let front =
     subst (λ bytes. AppendsFront (g.K.Sink.written c.flows.out) (g.K.Sink.written c.put.new.self) bytes) next.line c.in-Err.ensures.front in
     let fails =
-    PutsLines-fails first (line_of next.one) others (shown c.args.out.now) (shown c.flows.out) (shown c.put.new.self)
+    PutsLines-fails (line_of next.one) others (shown c.put.new.self)
     c.flows.invariant.puts front c.put.ensures.counted in
     inr (inl (refl, inl (subst (λ ls. PutFails ls (shown c.args.out.now) (shown c.put.new.self)) (sym lines) fails)))

@@ -19,7 +19,7 @@ comings-preserved g c =
     record {
       puts =
           subst (λ ls. PutsLines ls (shown c.args.out.now) (shown c.put.new.self)) (sym lines)
-          (PutsLines-more (map (latency_line network) (take n all)) (latency_line network f) (shown c.args.out.now) (shown c.comings.out)
+          (PutsLines-more (latency_line network f)
           (shown c.put.new.self) c.comings.invariant.puts whole c.put.ensures.counted);
       quiet = c.in-Ok.ensures.ok_unchanged ∙ c.comings.invariant.quiet;
     }
@@ -41,6 +41,6 @@ returns-in-Err-clause-gives g c =
     let front = subst (λ bytes. AppendsFront (g.K.Sink.written c.comings.out) (g.K.Sink.written c.put.new.self) bytes) next.line
     c.in-Err.ensures.front in
     let fails =
-    PutsLines-fails first (latency_line network f) others (shown c.args.out.now) (shown c.comings.out) (shown c.put.new.self) c.comings.invariant.puts
+    PutsLines-fails (latency_line network f) others (shown c.put.new.self) c.comings.invariant.puts
     front c.put.ensures.counted in
     inr (inl (refl, inl (subst (λ ls. PutFails ls (shown c.args.out.now) (shown c.put.new.self)) (sym lines) fails)))

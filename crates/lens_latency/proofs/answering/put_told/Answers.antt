@@ -19,7 +19,7 @@ lines-preserved g c =
     record {
       puts =
           subst (λ ls. PutsLines ls (shown c.args.out.now) (shown c.put.new.self)) (sym lines)
-          (PutsLines-more (map (told_line network) (take n all)) (told_line network f) (shown c.args.out.now) (shown c.lines.out)
+          (PutsLines-more (told_line network f)
           (shown c.put.new.self) c.lines.invariant.puts whole c.put.ensures.counted);
       quiet = c.in-Ok.ensures.ok_unchanged ∙ c.lines.invariant.quiet;
     }
@@ -41,6 +41,6 @@ returns-in-Err-clause-gives g c =
     let front = subst (λ bytes. AppendsFront (g.K.Sink.written c.lines.out) (g.K.Sink.written c.put.new.self) bytes) next.line
     c.in-Err.ensures.front in
     let fails =
-    PutsLines-fails first (told_line network f) others (shown c.args.out.now) (shown c.lines.out) (shown c.put.new.self) c.lines.invariant.puts
+    PutsLines-fails (told_line network f) others (shown c.put.new.self) c.lines.invariant.puts
     front c.put.ensures.counted in
     inr (inl (refl, inl (subst (λ ls. PutFails ls (shown c.args.out.now) (shown c.put.new.self)) (sym lines) fails)))

@@ -20,7 +20,7 @@ pieces-preserved g c =
     record {
       puts =
           subst (λ ls. PutsLines ls (shown c.args.out.now) (shown c.put.new.self)) (sym lines)
-          (PutsLines-more (map (piece_line network title) (take n all)) (piece_line network title f) (shown c.args.out.now) (shown c.pieces.out)
+          (PutsLines-more (piece_line network title f)
           (shown c.put.new.self) c.pieces.invariant.puts whole c.put.ensures.counted);
       quiet = c.in-Ok.ensures.ok_unchanged ∙ c.pieces.invariant.quiet;
     }
@@ -43,6 +43,6 @@ returns-in-Err-clause-gives g c =
     let front = subst (λ bytes. AppendsFront (g.K.Sink.written c.pieces.out) (g.K.Sink.written c.put.new.self) bytes) next.line
     c.in-Err.ensures.front in
     let fails =
-    PutsLines-fails first (piece_line network title f) others (shown c.args.out.now) (shown c.pieces.out) (shown c.put.new.self) c.pieces.invariant.puts
+    PutsLines-fails (piece_line network title f) others (shown c.put.new.self) c.pieces.invariant.puts
     front c.put.ensures.counted in
     inr (inl (refl, inl (subst (λ ls. PutFails ls (shown c.args.out.now) (shown c.put.new.self)) (sym lines) fails)))

@@ -19,7 +19,7 @@ lines-preserved g c =
     record {
       puts =
           subst (λ ls. PutsLines ls (shown c.args.out.now) (shown c.put.new.self)) (sym lines)
-          (PutsLines-more (map plan_line (take n all)) (plan_line f) (shown c.args.out.now) (shown c.lines.out) (shown c.put.new.self)
+          (PutsLines-more (plan_line f) (shown c.put.new.self)
           c.lines.invariant.puts whole c.put.ensures.counted);
       quiet = c.in-Ok.ensures.ok_unchanged ∙ c.lines.invariant.quiet;
     }
@@ -40,6 +40,5 @@ returns-in-Err-clause-gives g c =
     let front = subst (λ bytes. AppendsFront (g.K.Sink.written c.lines.out) (g.K.Sink.written c.put.new.self) bytes) next.line
     c.in-Err.ensures.front in
     let fails =
-    PutsLines-fails first (plan_line f) others (shown c.args.out.now) (shown c.lines.out) (shown c.put.new.self) c.lines.invariant.puts front
-    c.put.ensures.counted in
+    PutsLines-fails (plan_line f) others (shown c.put.new.self) c.lines.invariant.puts front c.put.ensures.counted in
     inr (inl (refl, inl (subst (λ ls. PutFails ls (shown c.args.out.now) (shown c.put.new.self)) (sym lines) fails)))

@@ -20,7 +20,7 @@ parts-preserved g c =
     record {
       puts =
           subst (λ ls. PutsLines ls (shown c.args.out.now) (shown c.put.new.self)) (sym lines)
-          (PutsLines-more (map (part_line network title) (take n all)) (part_line network title f) (shown c.args.out.now) (shown c.parts.out)
+          (PutsLines-more (part_line network title f)
           (shown c.put.new.self) c.parts.invariant.puts whole c.put.ensures.counted);
       quiet = c.in-Ok.ensures.ok_unchanged ∙ c.parts.invariant.quiet;
     }
@@ -43,6 +43,6 @@ returns-in-Err-clause-gives g c =
     let front = subst (λ bytes. AppendsFront (g.K.Sink.written c.parts.out) (g.K.Sink.written c.put.new.self) bytes) next.line
     c.in-Err.ensures.front in
     let fails =
-    PutsLines-fails first (part_line network title f) others (shown c.args.out.now) (shown c.parts.out) (shown c.put.new.self) c.parts.invariant.puts
+    PutsLines-fails (part_line network title f) others (shown c.put.new.self) c.parts.invariant.puts
     front c.put.ensures.counted in
     inr (inl (refl, inl (subst (λ ls. PutFails ls (shown c.args.out.now) (shown c.put.new.self)) (sym lines) fails)))

@@ -16,10 +16,10 @@ returns-clause-gives g c =
     let new = shown c.put_last.new.out in
     let line : c.as_slice.result.now ≡ first = c.as_slice.ensures ∙ c.make_broken_line.ensures in
     let whole = subst (λ (bytes : List ℕ). Appends (g.K.Sink.written c.args.out.now) (g.K.Sink.written c.put.new.self) bytes) line c.in-Ok.ensures.all in
-    let puts = PutsLines-more [] first old old now (PutsLines-none old) whole c.put.ensures.counted in
+    let puts = PutsLines-more first now (PutsLines-none old) whole c.put.ensures.counted in
     let last : c.as_slice-2.result.now ≡ place_line network rule place = c.as_slice-2.ensures ∙ c.make_place_line.ensures in
     let gives = subst (λ bytes. Gives (line_answer NetworkRefused bytes) c.put_last.result now new) last c.put_last.ensures.gives in
-    Gives-behind (first ∷ []) (line_answer NetworkRefused (place_line network rule place)) c.put_last.result old now new puts gives
+    Gives-behind (line_answer NetworkRefused (place_line network rule place)) c.put_last.result puts gives
 
 pub returns-in-Err-clause-gives : goal.returns-in-Err-clause-gives
 returns-in-Err-clause-gives g c =
@@ -33,5 +33,6 @@ returns-in-Err-clause-gives g c =
     let line : c.as_slice.result.now ≡ first = c.as_slice.ensures ∙ c.make_broken_line.ensures in
     let front =
     subst (λ bytes. AppendsFront (g.K.Sink.written c.args.out.now) (g.K.Sink.written c.put.new.self) bytes) line c.in-Err.ensures.front in
-    let fails = PutsLines-fails [] first (place_line network rule place ∷ []) old old now (PutsLines-none old) front c.put.ensures.counted in
+    let fails = PutsLines-fails first (place_line network rule place ∷ []) now (PutsLines-none old) front
+    c.put.ensures.counted in
     inr (inl (refl, inl fails))

@@ -20,7 +20,7 @@ findings-preserved g c =
     record {
       puts =
           subst (λ ls. PutsLines ls (shown c.args.out.now) (shown c.put.new.self)) (sym lines)
-          (PutsLines-more (map (finding_line network) (take n all)) (finding_line network f) (shown c.args.out.now) (shown c.findings.out)
+          (PutsLines-more (finding_line network f)
           (shown c.put.new.self) c.findings.invariant.puts whole c.put.ensures.counted);
       quiet = c.in-Ok.ensures.ok_unchanged ∙ c.findings.invariant.quiet;
     }
@@ -38,8 +38,7 @@ returns-clause-gives g c =
     )) ∙ take-length all in
     let puts = subst (λ (fs : List Finding). PutsLines (map (finding_line network) fs) (shown c.args.out.now) (shown c.findings.out)) whole
     c.findings.invariant.puts in
-    Gives-behind (map (finding_line network) all) (ending_answer network all c.args.slack.now.ending) c.put_ending.result (shown c.args.out.now)
-    (shown c.findings.out) (shown c.put_ending.new.out) puts
+    Gives-behind (ending_answer network all c.args.slack.now.ending) c.put_ending.result puts
     (c.put_ending.ensures.gives all (c.shorts_of-shorts.ensures ∙ ap shorts_of c.as_slice-findings.ensures.value))
 
 pub returns-in-Err-clause-gives : goal.returns-in-Err-clause-gives
@@ -64,6 +63,6 @@ returns-in-Err-clause-gives g c =
     let front =
     subst (λ bytes. AppendsFront (g.K.Sink.written c.findings.out) (g.K.Sink.written c.put.new.self) bytes) line c.in-Err.ensures.front in
     let fails =
-    PutsLines-fails first (finding_line network f) others (shown c.args.out.now) (shown c.findings.out) (shown c.put.new.self) c.findings.invariant.puts
+    PutsLines-fails (finding_line network f) others (shown c.put.new.self) c.findings.invariant.puts
     front c.put.ensures.counted in
     inr (inl (refl, inl (subst (λ ls. PutFails ls (shown c.args.out.now) (shown c.put.new.self)) (sym lines) fails)))

@@ -90,7 +90,7 @@ all_gives sink {network} {events} notes begun {it} wanted status old put new see
     let puts = puts_shown sink front old put seen.puts in
     subst (λ (ls : List (List ℕ)). Gives (record { status = wanted; lines = ls }) status (shown_by sink old) (shown_by sink new))
     (whole network events hs start (told_by sink put) it seen ∙ at_start network events hs start (told_by sink put) it seen events hs)
-    (Gives-behind front (record { status = wanted; lines = rest }) status (shown_by sink old) (shown_by sink put) (shown_by sink new) puts g)
+    (Gives-behind (record { status = wanted; lines = rest }) status puts g)
 
 module _ {B K : Type 0} (source : sources.Ghosts B) (sink : sinks.Ghosts K) (begun : Capture) (network : Network) (first : B) (origin : Trace) (now : B)
     (trace : Trace) (old put : K) where

@@ -56,7 +56,7 @@ module _ (network : Network) (world : ExactWorld) (events : List Event) (notes :
       let joined : front ++ lines ≡ packets_of s it.link it.way (xs ++ z ∷ []) =
       ap (λ (l : List (List ℕ)). front ++ l) own ∙ sym (filter_map-append (packet_of s it.link it.way) xs (z ∷ [])) in
       let puts = subst (λ ls. PutsLines ls (shown_as start.told) (shown_as last)) joined
-      (PutsLines-append front lines (shown_as start.told) (shown_as mid) (shown_as last) (flushed network events xs start told it seen (shown_as mid) p) q) in
+      (PutsLines-append (flushed network events xs start told it seen (shown_as mid) p) q) in
       subst (λ l. SeesRecords network events l start last new) (sym (one_more network notes note))
       (record_seen network events xs start told it seen z high order new last link way cut time none puts)
 
@@ -80,6 +80,6 @@ module _ (network : Network) (world : ExactWorld) (events : List Event) (notes :
       let joined : front ++ lines ≡ packets_of s it.link it.way (xs ++ z ∷ []) =
       ap (λ (l : List (List ℕ)). front ++ l) own ∙ sym (filter_map-append (packet_of s it.link it.way) xs (z ∷ [])) in
       let fails = subst (λ ls. PutFails ls (shown_as start.told) (shown_as last)) joined
-      (PutFails-behind front lines (shown_as start.told) (shown_as mid) (shown_as last) (flushed network events xs start told it seen (shown_as mid) p) q) in
+      (PutFails-behind lines (shown_as last) (flushed network events xs start told it seen (shown_as mid) p) q) in
       subst (λ l. StopsRecords network events l WriteFault start last) (sym (one_more network notes note))
       (record_stops network events xs start told it seen z high order (xs ++ z ∷ []) [] last (sym (append-nil (xs ++ z ∷ []))) fails)

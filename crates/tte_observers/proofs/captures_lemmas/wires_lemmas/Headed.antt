@@ -8,25 +8,25 @@ use Rattle.tte_observers.{proofs.captures_lemmas.wires_lemmas.Words.{inr, refl, 
 
 -- the header is put
 pub head_put : (old new : Shown) → Appends old.written new.written head_octets → new.puts ≡ next_count old.puts → PutsLines (head_octets ∷ []) old new
-head_put old new written counted = PutsLines-more [] head_octets old old new (PutsLines-none old) written counted
+head_put old new written counted = PutsLines-more head_octets new (PutsLines-none old) written counted
 
 -- its put fails
 pub head_failed : (old new : Shown) → AppendsFront old.written new.written head_octets → new.puts ≡ next_count old.puts
     → (left : List (List ℕ)) → PutFails (head_octets ∷ left) old new
-head_failed old new front counted left = PutsLines-fails [] head_octets left old old new (PutsLines-none old) front counted
+head_failed old new front counted left = PutsLines-fails head_octets left new (PutsLines-none old) front counted
 
 -- ---- the answer behind it
 
 module _ (IsAnswer : Answer → Type 0) (old mid new : Shown) (head : PutsLines (head_octets ∷ []) old mid) where
   fails_behind : (b : Answer) → WriteFails b.lines mid new → WriteFails (head_octets ∷ b.lines) old new
-  fails_behind b f = WriteFails-behind (head_octets ∷ []) b.lines old mid new head f
+  fails_behind b f = WriteFails-behind b.lines new head f
 
   some_behind : (b : Answer) → PutsSome b.lines mid new → PutsSome (head_octets ∷ b.lines) old new
-  some_behind b p = PutsSome-behind (head_octets ∷ []) b.lines old mid new head p
+  some_behind b p = PutsSome-behind b.lines new head p
 
   pub headed_given : (status : Status) → GivesOne IsAnswer status mid new → GivesOne (IsHeaded IsAnswer) status old new
   headed_given status (inl (b, is, same, puts, passed)) =
-      inl (with_line head_octets b, (b, is, refl), same, PutsLines-append (head_octets ∷ []) b.lines old mid new head puts, passed)
+      inl (with_line head_octets b, (b, is, refl), same, PutsLines-append head puts, passed)
   headed_given status (inr (inl (failed, each))) =
       inr (inl (failed, λ a h. subst (λ (x : Answer). WriteFails x.lines old new) (sym h.2) (fails_behind h.0 (each h.0 h.1))))
   headed_given status (inr (inr (cause, each))) =
@@ -60,7 +60,7 @@ module _ (link : LinkId) (way : Way) (network : Network) (first left : Option (L
         whole = s.whole;
         notes = s.notes;
         records = s.records;
-        puts = PutsLines-append (head_octets ∷ []) (settled_lines link way network s.events s.notes) old mid new head s.puts;
+        puts = PutsLines-append head s.puts;
       }) h
 
   pub little_headed : ForTrace first left (λ octets rest. TakesLittle (settled_lines link way) network octets rest mid new)
@@ -74,7 +74,7 @@ module _ (link : LinkId) (way : Way) (network : Network) (first left : Option (L
         notes = t.notes;
         records = t.records;
         between = t.between;
-        puts = PutsLines-append (head_octets ∷ []) (settled_lines link way network t.events t.notes) old mid t.between head t.puts;
+        puts = PutsLines-append head t.puts;
         more = t.more;
         few = t.few;
       }) h

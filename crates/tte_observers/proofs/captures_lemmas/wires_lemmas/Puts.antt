@@ -17,7 +17,7 @@ module _ {K : Type 0} (sink : Ghosts K) where
       (shown_as (told_by sink new))
   puts_one line x old new written counted quiet =
       let a = shown_as (told_by sink old) in
-      PutsLines-more [] line a a (shown_as (told_by sink new)) (PutsLines-none a) written counted
+      PutsLines-more line (shown_as (told_by sink new)) (PutsLines-none a) written counted
 
   pub one_put : {T : Type 0} (line : List ℕ) (x : T) (old new : K) → Appends (sink.written old) (sink.written new) line
       → sink.puts new ≡ next_count (sink.puts old) → sink.faults new ≡ sink.faults old → PutsAll {T = T} sink (line ∷ []) (Ok x) old new
@@ -32,7 +32,7 @@ module _ {K : Type 0} (sink : Ghosts K) where
         all = tt {0};
         failed = (
           refl,
-          PutsLines-fails [] line [] a a (shown_as (told_by sink new)) (PutsLines-none a) front counted,
+          PutsLines-fails line [] (shown_as (told_by sink new)) (PutsLines-none a) front counted,
           rose,
         );
       }
@@ -42,7 +42,7 @@ module _ {K : Type 0} (sink : Ghosts K) where
       → PutsAll sink more r now new → PutsAll sink (lines ++ more) r old new
   then_all lines more x (Ok y) old now new p q = record {
     all = (
-      PutsLines-append lines more (shown_as (told_by sink old)) (shown_as (told_by sink now)) (shown_as (told_by sink new)) p.all.0 q.all.0,
+      PutsLines-append p.all.0 q.all.0,
       q.all.1 ∙ p.all.1,
     );
     failed = tt {0};
@@ -51,7 +51,7 @@ module _ {K : Type 0} (sink : Ghosts K) where
     all = tt {0};
     failed = (
       q.failed.0,
-      PutFails-behind lines more (shown_as (told_by sink old)) (shown_as (told_by sink now)) (shown_as (told_by sink new)) p.all.0 q.failed.1,
+      PutFails-behind more (shown_as (told_by sink new)) p.all.0 q.failed.1,
       subst (λ n. Rose n (sink.faults new)) p.all.1 q.failed.2,
     );
   }
@@ -61,7 +61,7 @@ module _ {K : Type 0} (sink : Ghosts K) where
       → PutsAll {T = U} sink (lines ++ more) (Err e) old new
   failed_more lines more e old new p = record {
     all = tt {0};
-    failed = (p.failed.0, PutFails-more lines more (shown_as (told_by sink old)) (shown_as (told_by sink new)) p.failed.1, p.failed.2);
+    failed = (p.failed.0, PutFails-more more p.failed.1, p.failed.2);
   }
 
   -- what was put is more than before

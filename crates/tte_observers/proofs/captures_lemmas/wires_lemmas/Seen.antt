@@ -53,16 +53,14 @@ module _ (network : Network) (events : List Event) (hs : List Happening) (start 
       → PutsLines (packets_of (scenario_under network events) it.link it.way hs) (shown_as start.told) new
   flushed new p =
       subst (λ ls. PutsLines ls (shown_as start.told) new) whole
-      (PutsLines-append (packets_of (scenario_under network events) it.link it.way (settled hs)) (sent_packets it.cut it.time it.sends.items)
-      (shown_as start.told) (shown_as put) new seen.puts p)
+      (PutsLines-append seen.puts p)
 
   -- their put fails
   pub flush_failed : (new : Shown) → PutFails (sent_packets it.cut it.time it.sends.items) (shown_as put) new
       → PutFails (packets_of (scenario_under network events) it.link it.way hs) (shown_as start.told) new
   flush_failed new p =
       subst (λ ls. PutFails ls (shown_as start.told) new) whole
-      (PutFails-behind (packets_of (scenario_under network events) it.link it.way (settled hs)) (sent_packets it.cut it.time it.sends.items)
-      (shown_as start.told) (shown_as put) new seen.puts p)
+      (PutFails-behind (sent_packets it.cut it.time it.sends.items) new seen.puts p)
 
   -- ---- one more record that is no event's
 

@@ -1,11 +1,11 @@
-use Rattle.{tte_forms.proofs.Puts.Ends-gives, tte_observers.proofs.votes_lemmas.Words.{Done, [], inl, inr, refl, shown_by, subst, vote_lines}}
+use Rattle.{tte_forms.proofs.Puts.Ends-gives, tte_observers.proofs.votes_lemmas.Words.{Done, inl, inr, refl, shown_by, subst}}
 use Rattle.{tte_forms.specs.Faults.IsWanted, tte_io.specs.Faults.Rose}
 use Rattle.tte_observers.proofs.votes.putting.end_votes.Goals as goal
 
 pub returns-in-Ok-clause-gives : goal.returns-in-Ok-clause-gives
 returns-in-Ok-clause-gives g c = λ voters notes holds.
     let shown = shown_by g.K.Sink in
-    Ends-gives (vote_lines voters c.args.network.now [] notes) Done c.end_with.result (shown c.args.out.now) (shown c.put_votes.new.out)
+    Ends-gives Done c.end_with.result
     (shown c.end_with.new.out) (c.in-Ok.ensures.lines voters notes holds).all c.end_with.ensures.ends
 
 pub returns-in-Err-clause-gives : goal.returns-in-Err-clause-gives

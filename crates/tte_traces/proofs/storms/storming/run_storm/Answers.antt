@@ -1,4 +1,4 @@
-use Rattle.{std.proofs.Common.{[], inl}, tte_forms.specs.Putting.shown_by, tte_traces.specs.storms.summary.Lines.lines_of}
+use Rattle.{std.proofs.Common.inl, tte_forms.specs.Putting.shown_by, tte_traces.specs.storms.summary.Lines.lines_of}
 use Rattle.tte_forms.{proofs.{Puts.{PutsLines-none, PutsLines-still}, frames.Frames.Gives-behind}, specs.declared.status.Status.TheVariants.Done}
 use Rattle.tte_traces.proofs.storms.storming.run_storm.Goals as goal
 
@@ -10,6 +10,6 @@ returns-in-Ok-clause-ends g c =
     inl (
       c.in-Ok.summary,
       c.in-Ok.ensures.sums,
-      Gives-behind [] (record { status = Done; lines = lines_of c.in-Ok.summary }) c.put_summary.result old now (shown c.put_summary.new.out)
-          (PutsLines-still [] old old now (PutsLines-none old) c.summary_of.ensures.nothing_put) c.put_summary.ensures.gives,
+      Gives-behind (record { status = Done; lines = lines_of c.in-Ok.summary }) c.put_summary.result
+          (PutsLines-still now (PutsLines-none old) c.summary_of.ensures.nothing_put) c.put_summary.ensures.gives,
     )

@@ -15,7 +15,7 @@ returns-in-None-clause-general g c =
     let shown = shown_by g.K.Sink in
     nameless_given c.args.link.now c.args.way (g.B.Source.left c.args.second.now) c.args.accepted.now c.end_with.result
     (subst (λ (n : Network). HasNoBearer (link_names n.link) c.args.link.now) c.network.ensures.value c.in-None.ensures.none)
-    (Ends-gives [] NameRefused c.end_with.result (shown c.args.out.now) (shown c.args.out.now) (shown c.end_with.new.out)
+    (Ends-gives NameRefused c.end_with.result (shown c.end_with.new.out)
     (PutsLines-none (shown c.args.out.now)) c.end_with.ensures.ends)
 
 pub returns-in-Some-clause-read : goal.returns-in-Some-clause-read
