@@ -10,7 +10,7 @@ by_parts n r e z h = rw h refl
 pub expected_is : {network : Network} (device : DeviceId) (n : ℕ) → IsInRange network
     → expected_at (plan_of network device) n ≡ pos (n * amount network.cycle + expected_by network device)
 expected_is {network} device n range = by_parts n (amount network.cycle) (expected_by network device) network.cycle.0
-    (its_amount _ _ network.cycle range.cycle)
+    (its_amount range.cycle)
 
 pub fits_far : {z : ℤ} → IsFar z → FitsSigned w128 z
 fits_far far = let least = far.least in let most = far.most in grind (arith, ints, least, most)

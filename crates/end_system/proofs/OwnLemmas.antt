@@ -192,8 +192,9 @@ is_own {network} {device} own range keeps end plan_is precision correction dmax 
             (record {
               least = from_zero (expected_offset network);
               most = expected_most (expected_offset network) (amount network.dmax)
-                  (amount network.precision) (amount network.calc) refl (amount_most _ _ _ range.dmax) (amount_most _ _ _ range.precision)
-                  (amount_most _ _ _ range.calc);
+                  (amount network.precision) (amount network.calc) refl (amount_most range.dmax)
+                  (amount_most range.precision)
+                  (amount_most range.calc);
             });
         precision = within _ _ network.precision own.precision precision range.precision;
         correction = within _ _ network.correction own.correction correction range.correction;
@@ -203,7 +204,8 @@ is_own {network} {device} own range keeps end plan_is precision correction dmax 
         margin = rw (plan_is, precision, correction)
             (margin_by (expected_offset network) (amount network.dmax) (amount network.precision) (amount network.calc) (amount network.correction)
             (amount network.cycle) network.precision.0 network.cycle.0 network.correction.0 refl
-            (its_amount _ _ _ range.precision) (its_amount _ _ _ range.cycle) (its_amount _ _ _ range.correction) (keeps rules.Correction 0)
+            (its_amount range.precision) (its_amount range.cycle) (its_amount range.correction)
+            (keeps rules.Correction 0)
             (at_least range.cycle));
       };
       periods = λ vl. keeps rules.Periods vl;

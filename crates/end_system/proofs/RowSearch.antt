@@ -98,7 +98,7 @@ pub slot_offset : {network : Network} (device : DeviceId) {slot : Slot} → IsIn
     → IsSlotOf network (SentBy device) slot → slot.place.offset ≤ 2 ^ 40
 slot_offset {network} device {slot} range is =
     let in_range = in_range network slot.place.row.0 is.entry range is.is in
-    subst (λ (p : Place). p.offset ≤ 2 ^ 40) (sym is.place) (amount_most 0 (2 ^ 40) is.entry.row.offset in_range.row.offset)
+    subst (λ (p : Place). p.offset ≤ 2 ^ 40) (sym is.place) (amount_most in_range.row.offset)
 
 -- what is known of a slot at a place
 pub slot_at : {network : Network} {device : DeviceId} {rows : Rows} (place : ℕ) (slot : Slot)

@@ -62,7 +62,7 @@ number_told : (c : ℕ) (cs : List ℕ) (low high : ℕ) (units : Units) → 97 
     → IsTold (number_line (c ∷ cs) units)
 unfolding number_line
 number_told c cs low high units letter visible few within =
-    let most = amount_most low high units within in
+    let most = amount_most within in
     let number = decimal (amount units) in
     told_by c cs (number ∷ []) (number_line (c ∷ cs) units) letter (visible, (decimal_visible (amount units) (omega (arith, most, few)), tt))
     (number_text (c ∷ cs) number)

@@ -392,7 +392,7 @@ module _ (network : Network) (trees : HasTrees network) (channel : Channel) wher
                   let child : c.link.child ≡ sender = sym (ap (λ w. target_by w c.link) down.0) ∙ same in
                   let P = λ (l : Link). (l.child ≡ sender) × IsSwitchOf network channel l.parent in
                   let up = closed P (link_at network p.hop.link) c.link c.at (child, c.on) in
-                  let it = followed network channel sender p.hop.link c.link from trees.tree up c.at path in
+                  let it = followed channel sender p.hop.link c.link from trees.tree up c.at path in
                   let on : is_on from p.hop.link ≡ true = ap (λ ls. is_on ls p.hop.link) it.1 ∙ on_first p.hop.link it.0 in
                   false≢true (sym down.1 ∙ on)
             ]

@@ -200,7 +200,7 @@ module _ (network : Network) (vl : VlId) (of_vl : VirtualLink) (start : ℕ) (go
     leads_first place e to Up is own on to_path by sender =
         let child = sym (from_child e by) ∙ sender in
         let up = subst (λ d. IsUplink network channel d e.row.link) child (uplink place e is on) in
-        let it = followed network channel of_vl.sender e.row.link e.link from goes.tree up is.link path in
+        let it = followed channel of_vl.sender e.row.link e.link from goes.tree up is.link path in
         let here = subst (λ d. IsPath network channel d to) (to_parent e by) to_path in
         let same = paths_are_unique network channel e.link.parent it.0 to goes.tree it.2 here in
         let whole : from ≡ e.row.link ∷ to = it.1 ∙ ap (λ (ls : List LinkId). e.row.link ∷ ls) same in
@@ -244,7 +244,7 @@ module _ (network : Network) (vl : VlId) (of_vl : VirtualLink) (start : ℕ) (go
         (before (e.row.link ∷ to) (subst (λ d. IsPath network channel d (e.row.link ∷ to)) (sym (from_child e by)) child)) late
     leads_behind place next e to Down is own on to_path by before late =
         let here = subst (λ d. IsPath network channel d to) (to_child e by) to_path in
-        let it = followed network channel e.link.child e.row.link e.link to goes.tree (uplink place e is on) is.link here in
+        let it = followed channel e.link.child e.row.link e.link to goes.tree (uplink place e is on) is.link here in
         let child = subst (IsPath network channel e.link.child) it.1 here in
         subst (λ ls. Lead network vl start (way_to ls) (window_end network e + 1)) (sym it.1)
         (leads_down place next e it.0 (is_on from e.row.link) is own on child by refl

@@ -15,18 +15,18 @@ made jitter links delay start control = record { jitter = jitter; links = links;
 
 weights_once : {n : Network} {w v : Weights} → AreWeights n w → AreWeights n v → w ≡ v
 weights_once {n} {w} {v} p q =
-    let jitter = greatest_is_unique (IsOfPath n (jitter_on n)) w.jitter v.jitter p.jitter q.jitter in
-    let links = greatest_is_unique (IsOfPath n (length {A = LinkId})) w.links v.links p.links q.links in
-    let delay = greatest_is_unique (IsOfPath n (delay_on n)) w.delay v.delay p.delay q.delay in
-    let start = greatest_is_unique (IsStartOf n) w.start v.start p.start q.start in
-    let control = greatest_is_unique (IsPortTimeOf n) w.control v.control p.control q.control in
+    let jitter = greatest_is_unique (IsOfPath n (jitter_on n)) p.jitter q.jitter in
+    let links = greatest_is_unique (IsOfPath n (length {A = LinkId})) p.links q.links in
+    let delay = greatest_is_unique (IsOfPath n (delay_on n)) p.delay q.delay in
+    let start = greatest_is_unique (IsStartOf n) p.start q.start in
+    let control = greatest_is_unique (IsPortTimeOf n) p.control q.control in
     ap (λ k. made k w.links w.delay w.start w.control) jitter ∙ ap (λ k. made v.jitter k w.delay w.start w.control) links
     ∙ ap (λ k. made v.jitter v.links k w.start w.control) delay ∙ ap (λ k. made v.jitter v.links v.delay k w.control) start
     ∙ ap (λ k. made v.jitter v.links v.delay v.start k) control
 
 vl_once : (n : Network) (vl : ℕ) (ls ks : List SheetLine) → AreLinesOf n vl ls → AreLinesOf n vl ks → ls ≡ ks
 vl_once n vl ls ks p q =
-    let hops = greatest_is_unique (ComesOver n (record { 0 = vl })) p.hops q.hops p.are_hops q.are_hops in
+    let hops = greatest_is_unique (ComesOver n (record { 0 = vl })) p.are_hops q.are_hops in
     let comings = comings_by_once n vl p.comings q.comings p.come q.come in
     p.is ∙ ap (λ (k : ℕ). lines.Vl (record { 0 = vl }) k ∷ map (λ (c : Coming). lines.Coming c) p.comings) hops
     ∙ ap (λ (cs : List Coming). lines.Vl (record { 0 = vl }) q.hops ∷ map (λ (c : Coming). lines.Coming c) cs) comings ∙ sym q.is

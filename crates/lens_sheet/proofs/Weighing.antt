@@ -24,7 +24,7 @@ pub jitter_left : {n : Network} {links : ℕ} (beta rest jitter : ℕ) → IsBet
     → rest ≡ 4 * n.rho * amount n.dmax / 10 ^ 9 + 8 * amount n.grain * (links + 2) → jitter ≡ beta - rest
     → IsGreatest (IsOfPath n (jitter_on n)) jitter
 jitter_left {n} {links} beta rest jitter is greatest sum left =
-    let same = greatest_is_unique (IsOfPath n (length {A = LinkId})) is.links links is.links_greatest greatest in
+    let same = greatest_is_unique (IsOfPath n (length {A = LinkId})) is.links_greatest greatest in
     let value = is.value in
     let told : IsBetaAt n beta is.jitter links = subst (λ k. IsBetaAt n beta is.jitter k) same value in
     let here : is.jitter ≡ jitter = omega (arith, ints, told, sum, left) in
@@ -34,7 +34,7 @@ pub rest_most : {n : Network} {links : ℕ} (beta rest : ℕ) → IsBeta n (pos 
     → IsGreatest (IsOfPath n (length {A = LinkId})) links
     → rest ≡ 4 * n.rho * amount n.dmax / 10 ^ 9 + 8 * amount n.grain * (links + 2) → rest ≤ beta
 rest_most {n} {links} beta rest is greatest sum =
-    let same = greatest_is_unique (IsOfPath n (length {A = LinkId})) is.links links is.links_greatest greatest in
+    let same = greatest_is_unique (IsOfPath n (length {A = LinkId})) is.links_greatest greatest in
     let told : IsBetaAt n beta is.jitter links = subst (λ k. IsBetaAt n beta is.jitter k) same is.value in
     omega (arith, ints, told, sum)
 

@@ -8,9 +8,9 @@ use Rattle.std.proofs.Common.{◌+◌, ◌∙◌, ◌≡◌, ◌⊎◌, Bool, Li
 
 pub beta_is_unique : BetaIsUnique
 beta_is_unique n b other g h =
-    let j = greatest_is_unique (IsOfPath n (jitter_on n)) g.jitter h.jitter g.jitter_greatest h.jitter_greatest in
-    let l = greatest_is_unique (IsOfPath n (length {A = LinkId})) g.links h.links g.links_greatest h.links_greatest in
-    g.value ∙ ap (λ (x : ℕ). pos (beta_at n x g.links)) j ∙ ap (λ (x : ℕ). pos (beta_at n h.jitter x)) l ∙ sym h.value
+    let j = greatest_is_unique (IsOfPath n (jitter_on n)) g.jitter_greatest h.jitter_greatest in
+    let l = greatest_is_unique (IsOfPath n (length {A = LinkId})) g.links_greatest h.links_greatest in
+    g.value ∙ ap (λ x. pos (beta_at n x g.links)) j ∙ ap (λ x. pos (beta_at n h.jitter x)) l ∙ sym h.value
 
 either_channel : (o : Option Channel) (c : Channel) → (o ≡ Some c) ⊎ (o ≡ Some c → ⊥)
 either_channel None c = inr (λ e. grind (arith, e))
@@ -28,35 +28,38 @@ either_device : (o : Option Device) (c : Channel) → IsSomeAnd o (λ d. (is_end
 either_device None c = inr (λ h. h)
 either_device (Some d) c = either_role (is_end_system d.role) d.channel c
 
-from_one : (n : Network) (c : Channel) (measure : List LinkId → ℕ) → IsTree n → (d : DeviceId) → (m : ℕ) × IsGreatest (IsOfPathFrom n c d measure) m
-from_one n c measure tree d = ⊎_elim
-    (λ (h : IsDeviceOf n c d). let p = tree.reach c d h in let r : (m : ℕ)
-    × IsGreatest (IsOfPathFrom n c d measure) m = (measure p.0, greatest_from_path n c d measure p.0 (measure p.0) tree h p.2 refl) in r)
-    (λ (no : IsDeviceOf n c d → ⊥). let r : (m : ℕ) × IsGreatest (IsOfPathFrom n c d measure) m = (0, greatest_from_none n c d measure no) in r)
-    (either_device (device_at n d) c)
+module _ {n : Network} (c : Channel) (measure : List LinkId → ℕ) (tree : IsTree n) where
+  from_one : (d : DeviceId) → (m : ℕ) × IsGreatest (IsOfPathFrom n c d measure) m
+  from_one d = ⊎_elim
+      (λ (h : IsDeviceOf n c d). let p = tree.reach c d h in let r : (m : ℕ)
+      × IsGreatest (IsOfPathFrom n c d measure) m =
+      (measure p.0, greatest_from_path c d measure p.0 (measure p.0) tree h p.2 refl) in r)
+      (λ (no : IsDeviceOf n c d → ⊥). let r : (m : ℕ) × IsGreatest (IsOfPathFrom n c d measure)
+      m = (0, greatest_from_none n c d measure no) in r)
+      (either_device (device_at n d) c)
 
-from_first : (n : Network) (c : Channel) (measure : List LinkId → ℕ) → IsTree n → (places : ℕ) → (m : ℕ) × IsGreatest (IsOfPathBelow n c places measure) m
-from_first n c measure tree zero = (0, greatest_below_none n c measure)
-from_first n c measure tree (suc k) =
-    let before = from_first n c measure tree k in
-    let one = from_one n c measure tree (record { 0 = k }) in
-    let same : k + 1 ≡ suc k = omega arith in (
-      max before.0 one.0,
-      subst (λ (p : ℕ). IsGreatest (IsOfPathBelow n c p measure) (max before.0 one.0)) same
-          (greatest_below_more n c measure k before.0 one.0 before.1 one.1),
-    )
+  from_first : (places : ℕ) → (m : ℕ) × IsGreatest (IsOfPathBelow n c places measure) m
+  from_first zero = (0, greatest_below_none n c measure)
+  from_first (suc k) =
+      let before = from_first k in
+      let one = from_one (record { 0 = k }) in
+      let same : k + 1 ≡ suc k = omega arith in (
+        max before.0 one.0,
+        subst (λ p. IsGreatest (IsOfPathBelow n c p measure) (max before.0 one.0)) same
+            (greatest_below_more n c measure k before.0 one.0 before.1 one.1),
+      )
 
-on_channel : (n : Network) (c : Channel) (measure : List LinkId → ℕ) → IsTree n → (m : ℕ) × IsGreatest (IsOfPathOn n c measure) m
-on_channel n c measure tree = let all = from_first n c measure tree (length n.device) in (all.0, greatest_below_all n c measure all.0 all.1)
+  on_channel : (m : ℕ) × IsGreatest (IsOfPathOn n c measure) m
+  on_channel = let all = from_first (length n.device) in (all.0, greatest_below_all n c measure all.1)
 
-greatest_exists : (n : Network) (measure : List LinkId → ℕ) → IsTree n → (m : ℕ) × IsGreatest (IsOfPath n measure) m
-greatest_exists n measure tree =
-    let a = on_channel n A measure tree in
-    let b = on_channel n B measure tree in
-    (max a.0 b.0, greatest_of_channels n measure a.0 b.0 a.1 b.1)
+greatest_exists : {n : Network} (measure : List LinkId → ℕ) → IsTree n → (m : ℕ) × IsGreatest (IsOfPath n measure) m
+greatest_exists {n} measure tree =
+    let a = on_channel A measure tree in
+    let b = on_channel B measure tree in
+    (max a.0 b.0, greatest_of_channels n measure a.1 b.1)
 
 pub beta_exists : BetaExists
 beta_exists n tree =
-    let j = greatest_exists n (jitter_on n) tree in
-    let l = greatest_exists n (length {A = LinkId}) tree in
+    let j = greatest_exists (jitter_on n) tree in
+    let l = greatest_exists (length {A = LinkId}) tree in
     (pos (beta_at n j.0 l.0), record { jitter = j.0; links = l.0; jitter_greatest = j.1; links_greatest = l.1; value = refl })

@@ -7,27 +7,29 @@ use Rattle.{std.proofs.Common.{◌∙◌, ◌∷◌, ◌≡◌, List, [], arith,
 
 -- a compression master is no end system and no relay
 cm_is_no_end : (r : Role) → r ≡ Cm → is_end_system r ≡ true → ⊥
-cm_is_no_end r e h = false≢true (subst (λ (x : Role). is_end_system x ≡ true) e h)
+cm_is_no_end r e h = false≢true (subst (λ x. is_end_system x ≡ true) e h)
 
 cm_is_no_relay : (r : Role) → r ≡ Cm → r ≡ Relay → ⊥
 cm_is_no_relay r e h = grind (arith, e, h)
 
-root : (n : Network) → KeepsShapeRules n → (c : Channel) (cm : DeviceId) (link : LinkId) → IsCmOf n c cm → IsUplink n c cm link → ⊥
-root n keeps c cm link h u = grind (arith, opened, ⊎_elim, cm_is_no_end, at_known, cm_is_no_relay)
+root : {n : Network} → KeepsShapeRules n → (c : Channel) (cm : DeviceId) (link : LinkId) → IsCmOf n c cm
+    → IsUplink n c cm link → ⊥
+root keeps c cm link h u = grind (arith, opened, ⊎_elim, cm_is_no_end, at_known, cm_is_no_relay)
 
 pub child_of : (n : Network) (c : Channel) (d : DeviceId) (link : LinkId) → IsUplink n c d link → IsChildOf n d link
 child_of n c d link u =
     let l = opened (λ (x : Link). (x.child ≡ d) × IsSwitchOf n c x.parent) (link_at n link) u in
     closed (λ (x : Link). x.child ≡ d) (link_at n link) l.0 l.1 l.2.0
 
-one_uplink : (n : Network) → KeepsShapeRules n → (c : Channel) (d : DeviceId) (link other : LinkId) → IsUplink n c d link → IsUplink n c d other → link ≡ other
-one_uplink n keeps c d link other u v =
+one_uplink : {n : Network} → KeepsShapeRules n → (c : Channel) (d : DeviceId) (link other : LinkId)
+    → IsUplink n c d link → IsUplink n c d other → link ≡ other
+one_uplink {n} keeps c d link other u v =
     let l = opened (λ (x : Link). (x.child ≡ d) × IsSwitchOf n c x.parent) (link_at n link) u in
     let j = keeps.joins link.0 l.0 l.1 in
     ⊎_elim
-    (λ (e : IsEndSystem n l.0.child). let one = (keeps.connected d.0).ends (subst (λ (i : DeviceId). IsEndSystem n i) l.2.0 e) c in let r : link ≡ other = one.2
+    (λ (e : IsEndSystem n l.0.child). let one = (keeps.connected d.0).ends (subst (λ i. IsEndSystem n i) l.2.0 e) c in let r : link ≡ other = one.2
     link u ∙ sym (one.2 other v) in r)
-    (λ (r : IsRoleOf n Relay j.0 l.0.child). let one = (keeps.connected d.0).relays j.0 (subst (λ (i : DeviceId). IsRoleOf n Relay j.0 i) l.2.0 r) in let r :
+    (λ (r : IsRoleOf n Relay j.0 l.0.child). let one = (keeps.connected d.0).relays j.0 (subst (λ i. IsRoleOf n Relay j.0 i) l.2.0 r) in let r :
     link ≡ other = one.2 link (child_of n c d link u) ∙ sym (one.2 other (child_of n c d other v)) in r)
     j.2
 
@@ -43,4 +45,5 @@ has_path : (n : Network) (c : Channel) (d : DeviceId) → LeadsToCm n c d → Ha
 has_path n c d h = (h.0, h.1, first_path n c d h.0 h.2)
 
 pub rules_give_trees : RulesGiveTrees
-rules_give_trees n keeps = record { root = root n keeps; one_uplink = one_uplink n keeps; reach = λ c d h. has_path n c d ((keeps.connected d.0).paths c h) }
+rules_give_trees n keeps =
+    record { root = root keeps; one_uplink = one_uplink keeps; reach = λ c d h. has_path n c d ((keeps.connected d.0).paths c h) }

@@ -25,17 +25,19 @@ cuts_or_not (events.Cut link way) = inl (link, way, refl)
 cuts_or_not what = inr (λ link way e. cc)
 
 -- a device whose uplink leads to itself has no path
-pub no_path : (network : Network) (channel : Channel) (device : DeviceId) (link : LinkId) (l : Link) → IsTree network → link_at network link ≡ Some l
-    → l.parent ≡ device → IsUplink network channel device link → (links : List LinkId) → IsPath network channel device links → ⊥
-no_path network channel device link l tree at turns up [] path = tree.root channel device link path up
-no_path network channel device link l tree at turns up (k ∷ ks) path =
+pub no_path : {network : Network} (channel : Channel) (device : DeviceId) (link : LinkId) (l : Link) → IsTree network
+    → link_at network link ≡ Some l → l.parent ≡ device → IsUplink network channel device link
+    → (links : List LinkId) → IsPath network channel device links → ⊥
+no_path channel device link l tree at turns up [] path = tree.root channel device link path up
+no_path {network} channel device link l tree at turns up (k ∷ ks) path =
     let first = opened (λ (x : Link). (x.child ≡ device) × IsSwitchOf network channel x.parent × IsPath network channel x.parent ks) (link_at network k) path in
     let here : IsUplink network channel device k = closed (λ (x : Link). (x.child ≡ device) × IsSwitchOf network channel x.parent) (link_at network k) first.0
     first.1 (first.2.0, first.2.1) in
     let one = tree.one_uplink channel device k link here up in
-    let same : first.0 ≡ l = same_some (link_at network k) first.0 l first.1 (subst (λ (m : LinkId). link_at network m ≡ Some l) (sym one) at) in
+    let same : first.0 ≡ l = same_some (link_at network k) first.0 l first.1 (subst (λ m. link_at network m ≡ Some l) (sym one) at) in
     let parent : first.0.parent ≡ device = ap (λ (x : Link). x.parent) same ∙ turns in
-    no_path network channel device link l tree at turns up ks (subst (λ (d : DeviceId). IsPath network channel d ks) parent first.2.2)
+    no_path channel device link l tree at turns up ks
+    (subst (λ d. IsPath network channel d ks) parent first.2.2)
 
 pub none_told : (before behind : List Event) (event : Event) → [] ≡ before ++ event ∷ behind → ⊥
 none_told [] behind event e = cc

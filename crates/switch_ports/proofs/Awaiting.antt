@@ -130,7 +130,7 @@ fresh_fit : {network : Network} {device : DeviceId} {d : Departure} → IsInRang
     → IsFit d
 fresh_fit {network} {d} range is =
     let entry = in_range network d.of.row.0 is.of.entry range is.of.is in record {
-      offset = subst (λ (o : LeavingRow). o.offset ≤ 2 ^ 40) (sym is.of.kept) (amount_most _ _ is.of.entry.row.offset entry.row.offset);
+      offset = subst (λ (o : LeavingRow). o.offset ≤ 2 ^ 40) (sym is.of.kept) (amount_most entry.row.offset);
       period = subst (λ (o : LeavingRow). 1 ≤ o.period) (sym is.of.kept) entry.vl.period_least;
       link = subst (λ (o : LeavingRow). o.link.0 < 2 ^ 32) (sym is.of.kept) (let a = entry.row.link in let b = range.few_links in omega (arith, a, b));
       place =

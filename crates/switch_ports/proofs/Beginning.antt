@@ -45,8 +45,8 @@ begun_stands s {network} {device} accepted site intake rows sync start heard col
     sym (sync ∙ ap (λ p. begun p (start_of network device)) site.plan) in
     let adjustment : s.sync.adjustment.0 ≡ (adjustment_at_start (start_of network device)).0 = ap (λ (x : Standing). x.adjustment.0) (sym standing) in
     let changed_is : s.changed.0 ≡ (adjustment_at_start (start_of network device)).0 = ap (λ (u : Units). u.0) changed ∙ adjustment in
-    let p = its_amount _ _ network.precision accepted.range.precision in
-    let r = its_amount _ _ network.cycle accepted.range.cycle in
+    let p = its_amount accepted.range.precision in
+    let r = its_amount accepted.range.cycle in
     record {
       accepted = accepted;
       intake = intake;

@@ -198,8 +198,8 @@ corrected {s} {new} {network} {device} {node} {moment} cycle by st later timed l
     let fair = (st.steady timed).fair lt in
     let number = some_of_all s network node 0 h.is.1 fair in
     let low = by_low by st fair h.is.3 in
-    let p = its_amount _ _ network.precision st.accepted.range.precision in
-    let r = its_amount _ _ network.cycle st.accepted.range.cycle in
+    let p = its_amount st.accepted.range.precision in
+    let r = its_amount st.accepted.range.cycle in
     let en = ap (λ q. expected_at q (node.standing.number + 1)) st.plan ∙ expected_is device
     (node.standing.number + 1) st.accepted in
     let room = small_expected (is_cm network device) (amount network.dmax) (amount network.precision) (amount network.calc) (amount network.correction)
@@ -273,8 +273,8 @@ module _ (s new : Switch) (network : Network) (device : DeviceId) (node : Node) 
       subst (λ x. HasVerdict x s.heard Cleared) (sym st.standing) h.is in
       let steady = st.steady timed in
       let joined = steady.joined at.joining at.cycle in
-      let p = its_amount _ _ network.precision st.accepted.range.precision in
-      let r = its_amount _ _ network.cycle st.accepted.range.cycle in
+      let p = its_amount st.accepted.range.precision in
+      let r = its_amount st.accepted.range.cycle in
       let en = ap (λ q. expected_at q node.standing.number) st.plan ∙ expected_is device
       node.standing.number st.accepted in
       let en1 = ap (λ q. expected_at q (node.standing.number + 1)) st.plan ∙ expected_is device

@@ -36,12 +36,12 @@ near_frame : {network : Network} {device : DeviceId} {s : Switch} {node : Node} 
 near_frame {network} {device} {node} {frame} st f =
     let en = ap (λ q. expected_at q node.standing.number) st.plan ∙ expected_is device
     node.standing.number st.accepted in
-    let r = its_amount _ _ network.cycle st.accepted.range.cycle in
+    let r = its_amount st.accepted.range.cycle in
     let n = near_by node.standing.number last_cycle (amount network.cycle) (expected_by network device) (amount network.precision)
     (expected_at node.standing.plan node.standing.number) frame.point.0 node.standing.adjustment.0 network.precision.0 (pos 2 *ℤ network.cycle.0)
-    f.cycle refl (amount_most _ _ network.cycle st.accepted.range.cycle) (expected_most device st.accepted.range)
-    (amount_most _ _ network.precision st.accepted.range.precision)
-    (its_amount _ _ network.precision st.accepted.range.precision) (omega (arith, ints, r)) en f.point.low f.point.high f.behind f.ahead in
+    f.cycle refl (amount_most st.accepted.range.cycle) (expected_most device st.accepted.range)
+    (amount_most st.accepted.range.precision)
+    (its_amount st.accepted.range.precision) (omega (arith, ints, r)) en f.point.low f.point.high f.behind f.ahead in
     record { difference = n.0; deviation = n.1 }
 
 if_mapped : {X : Type 0} (P Q : X → Type 0) (o : Option X) → ((x : X) → P x → Q x) → IfSome o P → IfSome o Q

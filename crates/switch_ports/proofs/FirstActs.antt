@@ -163,7 +163,7 @@ module _ (s : Switch) (network : Network) (device : DeviceId) (node : Node) wher
       order_clash d.of.offset d.of.link.0 d.of.row.0 n.d.of.offset n.d.of.link.0 n.d.of.row.0 cycle next.cycle L
       (amount network.precision)
       node.standing.adjustment.0 reading network.precision.0 (ends_in st.accepted mine)
-      (its_amount _ _ network.precision st.accepted.range.precision)
+      (its_amount st.accepted.range.precision)
       (subst (λ z. (z -ℤ node.standing.adjustment.0) ≤ℤ reading) (value_is cycle other)
       (subst (λ (x : RowId). reading_for network node (doing (dispatching x cycle)) ≤ℤ reading) (sym same) here))
       (subst (λ z. reading <ℤ (z +ℤ network.precision.0)) its_at in_time)

@@ -48,7 +48,7 @@ module _ (s : Switch) (network : Network) (device : DeviceId) (node : Node) (poi
       e ∙ ap ripe_as (heard_same st)
       ∙ ap (λ z. ripe_as (heard_as (plan_of network device) z node.standing.state node.standing.adjustment.0
       point cycle members))
-      (its_amount _ _ network.precision st.accepted.range.precision)
+      (its_amount st.accepted.range.precision)
 
 -- the switch stands as the device that has heard the frame
 pub heard_stands : {s : Switch} (new : Switch) {network : Network} {device : DeviceId} {node : Node}

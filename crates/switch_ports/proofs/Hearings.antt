@@ -26,8 +26,9 @@ pub is_point : {s : Switch} {network : Network} {device : DeviceId} {node : Node
     → IsComing network moment point → IsPoint point
 is_point {network} {moment} {point} st may is = record {
   low =
-      low_point (amount network.precision) point.0 moment.reading.0 network.precision.0 (amount_most _ _ network.precision st.accepted.range.precision)
-      (its_amount _ _ network.precision st.accepted.range.precision) (through _ _ _ st.begun may.later.reading) is.in_time;
+      low_point (amount network.precision) point.0 moment.reading.0 network.precision.0
+      (amount_most st.accepted.range.precision)
+      (its_amount st.accepted.range.precision) (through _ _ _ st.begun may.later.reading) is.in_time;
   high = through _ _ _ is.reached may.later.low_enough;
 }
 
@@ -54,8 +55,8 @@ heard_before : {s : Switch} {network : Network} {device : DeviceId} {node : Node
     (amount network.correction)
     (amount network.precision) point.0 node.standing.adjustment.0 moment.reading.0 node.changed
 heard_before {network} {device} {node} {moment} {point} cycle st may is timed lt early late =
-    let p = its_amount _ _ network.precision st.accepted.range.precision in
-    let r = its_amount _ _ network.cycle st.accepted.range.cycle in
+    let p = its_amount st.accepted.range.precision in
+    let r = its_amount st.accepted.range.cycle in
     let ec = expected_is device cycle st.accepted in
     let en = ap (λ q. expected_at q node.standing.number) st.plan ∙ expected_is device
     node.standing.number st.accepted in
@@ -94,8 +95,8 @@ fair_frame {network} {device} {node} frame {point} st may is timed lt e =
     let w = (within_in (plan_of network device) network.precision.0 node.standing.state node.standing.adjustment.0 point.0 frame.cycle frame.members (sym e)).1
     in
     let h = heard_before frame.cycle st may is timed lt w.1 w.2 in
-    let p = its_amount _ _ network.precision st.accepted.range.precision in
-    let r = its_amount _ _ network.cycle st.accepted.range.cycle in
+    let p = its_amount st.accepted.range.precision in
+    let r = its_amount st.accepted.range.cycle in
     let en = ap (λ q. expected_at q node.standing.number) st.plan ∙ expected_is device
     node.standing.number st.accepted in
     let t2 = times_two _ _ r in
@@ -205,8 +206,8 @@ joins_stands {new} {network} {device} {node} {moment} {frame} {point} st may is 
     let same : new.sync ≡ standing = h.sync ∙ ap (λ (x : Standing). after x (heard_frame frame point (Some (joined_by x.plan frame point)))) (sym st.standing)
     in
     let adjustment : new.sync.adjustment.0 ≡ standing.adjustment.0 = ap (λ (x : Standing). x.adjustment.0) same in
-    let p = its_amount _ _ network.precision st.accepted.range.precision in
-    let r = its_amount _ _ network.cycle st.accepted.range.cycle in
+    let p = its_amount st.accepted.range.precision in
+    let r = its_amount st.accepted.range.cycle in
     let lower = join_lower (frame.cycle * amount network.cycle + expected_by network device) (amount network.precision) (amount network.cycle)
     (expected_at node.standing.plan frame.cycle) moment.reading.0 point.0 standing.adjustment.0 (moment.reading.0 +ℤ standing.adjustment.0)
     (pos 3 *ℤ network.precision.0) (pos 2 *ℤ network.cycle.0)
@@ -226,7 +227,7 @@ joins_stands {new} {network} {device} {node} {moment} {frame} {point} st may is 
       begun = through _ _ _ st.begun may.later.reading;
       small =
           small_join frame.cycle last_cycle (amount network.cycle) (expected_by network device) point.0 standing.adjustment.0 used refl
-          (amount_most _ _ network.cycle st.accepted.range.cycle) (expected_most device st.accepted.range) at.low
+          (amount_most st.accepted.range.cycle) (expected_most device st.accepted.range) at.low
           at.high (omega (arith, ints, ec));
       steady = grind (arith, two_more, lower, lower.0, never_less, lower.1, silent, standing);
       collects = fresh_collects new.collector st.collects h.collector;

@@ -14,10 +14,10 @@ use Rattle.switch_ports.specs.Due.{least_of}
 module _ {s : Switch} {network : Network} {device : DeviceId} {node : Node}
     (st : StandsAs s network device node) where
   pub window_is : s.collector.ow ≡ observation_window network
-  window_is = st.collects.window ∙ its_amount _ _ network.precision st.accepted.range.precision
+  window_is = st.collects.window ∙ its_amount st.accepted.range.precision
 
   calc_is : s.collector.calc ≡ pos (amount network.calc)
-  calc_is = st.collects.calc ∙ its_amount _ _ network.calc st.accepted.range.calc
+  calc_is = st.collects.calc ∙ its_amount st.accepted.range.calc
 
 from_one : (x : ℤ) → pos 1 ≤ℤ x → pos 0 ≤ℤ x
 from_one x h = omega (arith, ints, h)

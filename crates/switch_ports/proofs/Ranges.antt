@@ -11,8 +11,9 @@ small_offset false d p q a b c = omega (arith, a, b, c)
 
 pub expected_most : {network : Network} (device : DeviceId) → IsInRange network → expected_by network device ≤ 2 ^ 43
 expected_most {network} device range =
-    small_offset (is_cm network device) (amount network.dmax) (amount network.precision) (amount network.calc) (amount_most _ _ network.dmax range.dmax)
-    (amount_most _ _ network.precision range.precision) (amount_most _ _ network.calc range.calc)
+    small_offset (is_cm network device) (amount network.dmax) (amount network.precision) (amount network.calc)
+    (amount_most range.dmax)
+    (amount_most range.precision) (amount_most range.calc)
 
 within_43 : (n : ℕ) → n ≤ 2 ^ 43 → IsWithin 0 (2 ^ 43) (units_of n)
 within_43 n h = record { least = omega (arith, ints); most = omega (arith, ints, h) }
@@ -42,4 +43,4 @@ less x y m n a b h = omega (arith, ints, a, b, h)
 -- a compression takes a precision at most
 pub calc_short : {network : Network} → IsInRange network → KeepsRules network → network.calc.0 ≤ℤ network.precision.0
 calc_short {network} range keeps =
-    less _ _ _ _ (its_amount _ _ network.calc range.calc) (its_amount _ _ network.precision range.precision) (keeps rules.Precision 0).calc
+    less _ _ _ _ (its_amount range.calc) (its_amount range.precision) (keeps rules.Precision 0).calc

@@ -58,7 +58,7 @@ room {network} device accepted =
           small_expected (is_cm network device) (amount network.dmax) (amount network.precision) (amount network.calc) (amount network.correction)
           (accepted.rules rules.Correction 0);
       correction = in_cycle _ _ _ _ _ _ begins schedule.ends;
-      some = from_units _ _ accepted.range.precision.least (its_amount _ _ network.precision accepted.range.precision);
+      some = from_units _ _ accepted.range.precision.least (its_amount accepted.range.precision);
       compression = compression_in (is_cm network device) (amount network.dmax) (amount network.precision) (amount network.calc);
     }
 
@@ -69,4 +69,5 @@ expected_by_parts n r e R is = rw is (omega (arith, ints))
 pub expected_is : {network : Network} (device : DeviceId) (n : ℕ) → IsAccepted network
     → expected_at (plan_of network device) n ≡ (pos (n * amount network.cycle) +ℤ pos (expected_by network device))
 expected_is {network} device n accepted =
-    expected_by_parts n (amount network.cycle) (expected_by network device) network.cycle.0 (its_amount _ _ network.cycle accepted.range.cycle)
+    expected_by_parts n (amount network.cycle) (expected_by network device) network.cycle.0
+    (its_amount accepted.range.cycle)

@@ -65,13 +65,13 @@ module _ (adjustment : ℤ) where
       → b.link.0 < 2 ^ 32 → b.place < 2 ^ 32 → (b.row.0 < a.row.0 → b.place < a.place) → key_at a x ≤ key_at b y
       → Precedes (dispatch_at adjustment b y) (dispatch_at adjustment a x) → ⊥
   not_before a b x y fx fy la pa lb pb rise le (inl lt) =
-      let ex = its_amount 0 _ x.value fx in let ey = its_amount 0 _ y.value fy in
+      let ex = its_amount fx in let ey = its_amount fy in
       omega (arith, ints, la, pa, lb, pb, le, lt, ex, ey)
   not_before a b x y fx fy la pa lb pb rise le (inr (e, inl lt)) =
-      let ex = its_amount 0 _ x.value fx in let ey = its_amount 0 _ y.value fy in
+      let ex = its_amount fx in let ey = its_amount fy in
       omega (arith, ints, la, pa, lb, pb, le, lt, e, ex, ey)
   not_before a b x y fx fy la pa lb pb rise le (inr (e, inr (same, lt))) =
-      let ex = its_amount 0 _ x.value fx in let ey = its_amount 0 _ y.value fy in
+      let ex = its_amount fx in let ey = its_amount fy in
       let less = rise lt in omega (arith, ints, la, pa, lb, pb, le, same, less, e, ex, ey)
 
   -- a row whose key is that of none awaits none
@@ -79,7 +79,7 @@ module _ (adjustment : ℤ) where
       → no_key ≤ option_map_or (key_at of) o no_key → option_map (dispatch_at adjustment of) o ≡ None
   none_awaited of None fit link place le = refl
   none_awaited of (Some held) fit link place le =
-      let most = amount_most 0 _ held.value fit in absurd (omega (arith, link, place, le, most))
+      let most = amount_most fit in absurd (omega (arith, link, place, le, most))
 
   -- no row awaits one
   all_none : (rows : List Departure) → All IsFit rows → All (λ key. no_key ≤ key) (map key_by rows)

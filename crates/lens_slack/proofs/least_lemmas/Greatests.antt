@@ -28,7 +28,7 @@ module _ {X : Type 0} (P : X → ℕ → Type 0) (xs : List X) where
   pub one_more : (k : ℕ) (x : X) (a b : ℕ) → slice_get xs k ≡ Some x → IsGreatest (IsAmongFirst k) a → IsGreatest (P x) b
       → IsGreatest (IsAmongFirst (k + 1)) (max a b)
   one_more k x a b at first this =
-      greatest_of_both (IsAmongFirst k) (P x) (IsAmongFirst (k + 1)) a b first this (earlier_or_this k x at)
+      greatest_of_both (IsAmongFirst k) (P x) (IsAmongFirst (k + 1)) first this (earlier_or_this k x at)
       (λ n h. let less = h.2 in (h.0, h.1, omega (arith, less), h.3, h.4)) (λ n h. (k, x, omega arith, at, h))
 
   pub all_first : (k m : ℕ) → length xs ≤ k → IsGreatest (IsAmongFirst k) m → IsGreatest IsAmong m

@@ -63,7 +63,7 @@ module _ (n : Network) (t : Times) (range : IsInRange n) (h : Suffices (with_tim
   some_dmax =
       let beta = some_beta m shape in
       let path = some_path m shape (delay_on m) in
-      let fine = (amount_within 1 1048576 n.grain range.grain).1 in
+      let fine = (amount_within range.grain).1 in
       let some = beta_some fine beta.0 beta.1 in
       let way = path.1.1 in
       let all : beta.0 + delay_on n way.0 ≤ t.dmax = h.rules Delays (omega arith) path.1.0.0 beta.0 path.0 way.0 beta.1 way.1 way.2 in
@@ -106,8 +106,8 @@ module _ (n : Network) (t : Times) (range : IsInRange n) (h : Suffices (with_tim
       let third = calc in
       let fourth = settles in
       let fifth = some_dmax in
-      let cycle = (amount_within (2 ^ 32) (2 ^ 40) n.cycle range.cycle).2 in
-      let some_calc = (amount_within 1 (2 ^ 40) n.calc range.calc).1 in
+      let cycle = (amount_within range.cycle).2 in
+      let some_calc = (amount_within range.calc).1 in
       record {
         version = range.version;
         cycle = range.cycle;

@@ -17,7 +17,7 @@ some_units z = Some (record { 0 = z })
 start_within : (most : ℕ) (o : Option Units) → IfSome o (IsWithin 0 (2 ^ 40)) → ((k : ℕ) → o ≡ Some (units_of k) → k ≤ most) → IfSome o (λ s. s.0 ≤ℤ pos most)
 start_within most None range all = tt
 start_within most (Some s) range all =
-    let whole = (amount_within 0 (2 ^ 40) s range).0 in
+    let whole = (amount_within range).0 in
     let few = all (amount s) (ap some_units whole) in
     omega (arith, ints, whole, few)
 

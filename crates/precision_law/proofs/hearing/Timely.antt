@@ -113,7 +113,7 @@ trip_in_time {v} way first last legs links channel device q {a} is jitter_is man
     let few : length links ≤ 8 = subst (λ ls. length ls ≤ 8) (paths_are_unique n channel device reach.0 links tree reach.2 path) reach.1 in
     let growth_is : clock_in last ≡ growth sums.hops = omega (arith, sums.grows, fresh) in
     let lacking = subst (λ x. Waits n.rho (amount n.grain) (amount n.dmax - x) (q - time_of last) a) growth_is waits in
-    let grain = (amount_within 1 1048576 n.grain is.lawful.range.grain).1 in
+    let grain = (amount_within is.lawful.range.grain).1 in
     let law = permanent_in_time n.rho (amount n.grain) (amount n.dmax) (time_of first) (time_of last) q a sums.hops is.lawful.range.rho grain
     (omega (arith, sums.many, many, few)) sums.are
     (omega (arith, last_young way first last legs is trip fresh, growth_is)) sums.travels after lacking in

@@ -73,8 +73,7 @@ hold_is_young {s} master link l t lawful there =
     let here = in_all (λ k. beta_at n beta.jitter beta.links + delay_by k ≤ amount n.dmax) n.link link.0 l room.dmax.links there in
     let most = hold_most s link l Up t lawful there known.hold.least in
     grows_little n beta.jitter beta.links (amount l.hold) (amount l.wire) (amount l.jitter) (leaving_time s link t - t)
-    (s.reading master (leaving_time s link t) - s.reading master t)
-    (amount_within 1 1048576 n.grain lawful.range.grain).1
+    (s.reading master (leaving_time s link t) - s.reading master t) (amount_within lawful.range.grain).1
     ((lawful.clocks master).drifts t (leaving_time s link t) (omega arith))
     (omega (arith, most))
     here

@@ -61,7 +61,7 @@ fit_rows {network} range are row there =
       period_least = vl.period_least;
       period_most = vl.period_most;
       phase = vl.phase;
-      offset = amount_most _ _ entry.row.offset its_row.offset;
+      offset = amount_most its_row.offset;
     })
 
 -- ---- what is sent is dispatched with no cause

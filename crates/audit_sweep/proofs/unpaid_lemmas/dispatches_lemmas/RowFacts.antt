@@ -21,7 +21,7 @@ row_fit {network} range on =
       period_least = vl.period_least;
       period_most = vl.period_most;
       phase = vl.phase;
-      offset = amount_most _ _ entry.row.offset its_row.offset;
+      offset = amount_most its_row.offset;
     })
 
 source_there : {network : Network} (way : Way) {link : Link} → IsLinkInRange network link

@@ -4,5 +4,5 @@ use Rattle.device_rules.proofs.network.begun.Goals as goal
 pub returns-clause-high : goal.returns-clause-high
 returns-clause-high c =
     let most : c.from-2.result ≤ 2 ^ 40 = rw (c.from-2.ensures ∙ c.amount.ensures.value)
-    (amount_most _ _ c.args.network.now.cycle c.requires.cycle) in
+    (amount_most c.requires.cycle) in
     rw c.from.ensures (mul-le-mul_left c.args.cycle most)

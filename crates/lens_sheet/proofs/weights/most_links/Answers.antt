@@ -6,5 +6,5 @@ pub returns-clause-greatest : goal.returns-clause-greatest
 returns-clause-greatest c =
     let n = c.args.network.now in
     subst (λ k. IsGreatest (IsOfPath n (length {A = LinkId})) k) (sym c.greater.ensures)
-    (greatest_of_channels n (length {A = LinkId}) c.most_links_on.result c.most_links_on-2.result c.most_links_on.ensures.greatest
+    (greatest_of_channels n (length {A = LinkId}) c.most_links_on.ensures.greatest
     c.most_links_on-2.ensures.greatest)

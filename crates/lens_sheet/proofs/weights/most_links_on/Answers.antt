@@ -20,5 +20,5 @@ returns-clause-greatest c =
     let n = c.args.network.now in
     let same : length c.as_slice-place-end.result.now ≡ length n.device = ap (λ xs. length {A = Device} xs) c.as_slice-place-end.ensures in
     let all : c.devices.place ≡ length n.device = omega (arith, same, c.devices.auto.place-end, c.devices-test.false) in
-    greatest_below_all n c.args.channel (length {A = LinkId}) c.devices.most
+    greatest_below_all n c.args.channel (length {A = LinkId})
     (subst (λ k. IsGreatest (IsOfPathBelow n c.args.channel k (length {A = LinkId})) c.devices.most) all c.devices.invariant.greatest)

@@ -17,7 +17,7 @@ ends_differ network link l keeps at same =
     let member : IsDeviceOf network joint.0 l.parent = closed (λ (d : Device). (is_end_system d.role ≡ true) ⊎ (d.channel ≡ Some joint.0))
     (device_at network l.parent) switch.0 switch.1 (inr switch.2) in
     let path = tree.reach joint.0 l.parent member in
-    no_path network joint.0 l.parent link l tree at refl up path.0 path.2
+    no_path joint.0 l.parent link l tree at refl up path.0 path.2
 
 -- ---- ways
 

@@ -8,7 +8,8 @@ overflow_add-first c =
     let h = few_cycles c.args.first _ c.requires.first (at_least c.requires.range.cycle) in omega (arith, h)
 
 pub dispatch_of-requires-in-None-clause-first : goal.dispatch_of-requires-in-None-clause-first
-dispatch_of-requires-in-None-clause-first c = next_block c.args.first _ c.requires.first (amount_most _ _ _ c.requires.range.cycle)
+dispatch_of-requires-in-None-clause-first c =
+    next_block c.args.first _ c.requires.first (amount_most c.requires.range.cycle)
 
 pub dispatch_of-requires-clause-offset : goal.dispatch_of-requires-clause-offset
 dispatch_of-requires-clause-offset c =

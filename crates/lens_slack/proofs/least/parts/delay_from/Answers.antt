@@ -4,5 +4,6 @@ use Rattle.lens_slack.proofs.least.parts.delay_from.Goals as goal
 pub returns-then-is_device_of-clause-greatest : goal.returns-then-is_device_of-clause-greatest
 returns-then-is_device_of-clause-greatest c =
     let n = c.args.network.now in
-    greatest_from_path n c.args.channel c.args.device (delay_on n) c.path.result c.delay_on.result c.requires.tree (search rules) c.path.ensures.leads
+    greatest_from_path c.args.channel c.args.device (delay_on n) c.path.result c.delay_on.result c.requires.tree
+    (search rules) c.path.ensures.leads
     c.delay_on.ensures.value

@@ -6,4 +6,4 @@ pub returns-clause-longest : goal.returns-clause-longest
 returns-clause-longest c =
     let n = c.args.network.now in
     subst (λ k. IsGreatest (IsOfPath n (delay_on n)) k) (sym c.greater.ensures)
-    (greatest_of_channels n (delay_on n) c.longest_on.result c.longest_on-2.result c.longest_on.ensures.longest c.longest_on-2.ensures.longest)
+    (greatest_of_channels n (delay_on n) c.longest_on.ensures.longest c.longest_on-2.ensures.longest)

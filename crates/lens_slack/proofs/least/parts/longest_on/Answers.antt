@@ -20,5 +20,5 @@ returns-clause-longest c =
     let n = c.args.network.now in
     let same : length c.as_slice-place-end.result.now ≡ length n.device = ap (λ xs. length {A = Device} xs) c.as_slice-place-end.ensures in
     let all : c.devices.place ≡ length n.device = omega (arith, same, c.devices.auto.place-end, c.devices-test.false) in
-    greatest_below_all n c.args.channel (delay_on n) c.devices.longest
+    greatest_below_all n c.args.channel (delay_on n)
     (subst (λ k. IsGreatest (IsOfPathBelow n c.args.channel k (delay_on n)) c.devices.longest) all c.devices.invariant.longest)

@@ -12,10 +12,11 @@ returns c =
       jitter = extent.jitter;
       links = extent.links;
       jitter_greatest =
-          subst (IsGreatest (IsOfPath n (jitter_on n))) (sym c.max-extent.ensures.jitter) (greatest_of_channels n (jitter_on n) _ _ a.jitter b.jitter);
+          subst (IsGreatest (IsOfPath n (jitter_on n))) (sym c.max-extent.ensures.jitter)
+          (greatest_of_channels n (jitter_on n) a.jitter b.jitter);
       links_greatest =
           subst (IsGreatest (IsOfPath n (length {A = LinkId}))) (sym c.max-extent.ensures.links)
-          (greatest_of_channels n (length {A = LinkId}) _ _ a.links b.links);
+          (greatest_of_channels n (length {A = LinkId}) a.links b.links);
       value = c.from_amount.ensures.whole
           ∙ ap (λ (rho : ℕ). pos (extent.jitter + 4 * rho * c.amount.result / 10 ^ 9 + 8 * c.amount-2.result * (extent.links + 2))) c.from.ensures
           ∙ ap (λ (dmax : ℕ). pos (extent.jitter + 4 * n.rho * dmax / 10 ^ 9 + 8 * c.amount-2.result * (extent.links + 2))) c.amount.ensures.value

@@ -1,4 +1,4 @@
-use Rattle.{net_plan.proofs.Greatest.{IsOfPathBelow, greatest_below_all, greatest_below_more}, std.proofs.Common.{◌+◌, ◌≡◌, ap, arith, length, subst, sym, ℕ}}
+use Rattle.{net_plan.proofs.Greatest.{IsOfPathBelow, greatest_below_all, greatest_below_more}, std.proofs.Common.{◌+◌, ◌≡◌, ap, arith, length, subst, sym}}
 use Rattle.net_plan.specs.{Bounds.{IsGreatest, jitter_on}, declared.{ids.LinkId.LinkId, tables.Device.Device}}
 use Rattle.net_plan.proofs.network.Network.extent_on.Goals as goal
 
@@ -24,15 +24,15 @@ loop-place-preserved c =
 pub returns-clause-jitter : goal.returns-clause-jitter
 returns-clause-jitter c =
     let n = c.args.self.now in
-    let same : length c.as_slice-place-end.result.now ≡ length n.device = ap (λ (xs : _). length {A = Device} xs) c.as_slice-place-end.ensures in
+    let same : length c.as_slice-place-end.result.now ≡ length n.device = ap (λ xs. length {A = Device} xs) c.as_slice-place-end.ensures in
     let all : c.loop-place.place ≡ length n.device = omega (arith, same, c.loop-place.auto.place-end, c.loop-place-test.false) in
-    greatest_below_all n c.args.channel (jitter_on n) _
-    (subst (λ (k : ℕ). IsGreatest (IsOfPathBelow n c.args.channel k (jitter_on n)) c.loop-place.extent.jitter) all c.loop-place.invariant.jitter)
+    greatest_below_all n c.args.channel (jitter_on n)
+    (subst (λ k. IsGreatest (IsOfPathBelow n c.args.channel k (jitter_on n)) c.loop-place.extent.jitter) all c.loop-place.invariant.jitter)
 
 pub returns-clause-links : goal.returns-clause-links
 returns-clause-links c =
     let n = c.args.self.now in
-    let same : length c.as_slice-place-end.result.now ≡ length n.device = ap (λ (xs : _). length {A = Device} xs) c.as_slice-place-end.ensures in
+    let same : length c.as_slice-place-end.result.now ≡ length n.device = ap (λ xs. length {A = Device} xs) c.as_slice-place-end.ensures in
     let all : c.loop-place.place ≡ length n.device = omega (arith, same, c.loop-place.auto.place-end, c.loop-place-test.false) in
-    greatest_below_all n c.args.channel (length {A = LinkId}) _
-    (subst (λ (k : ℕ). IsGreatest (IsOfPathBelow n c.args.channel k (length {A = LinkId})) c.loop-place.extent.links) all c.loop-place.invariant.links)
+    greatest_below_all n c.args.channel (length {A = LinkId})
+    (subst (λ k. IsGreatest (IsOfPathBelow n c.args.channel k (length {A = LinkId})) c.loop-place.extent.links) all c.loop-place.invariant.links)

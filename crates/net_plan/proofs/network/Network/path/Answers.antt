@@ -16,13 +16,14 @@ loop-link-preserved c =
     let found : link_at n link ≡ Some (get_or n.link link.0 c.index-as_slice-link.result) = slice_get-get_or n.link link.0 c.index-as_slice-link.result
     (slice_get_within n.link link.0 up.0 up.1) in
     let known = subst (λ (xs : List Link). link_at n link ≡ Some (get_or xs link.0 c.index-as_slice-link.result)) (sym c.as_slice.ensures) found in
-    let f = followed n ch at link (get_or c.as_slice.result.now link.0 c.index-as_slice-link.result) inv.0 c.requires.tree leads known inv.1 in
+    let f = followed {n = n} ch at link (get_or c.as_slice.result.now link.0 c.index-as_slice-link.result) inv.0
+    c.requires.tree leads known inv.1 in
     let joined : c.push.new.self ++ f.0 ≡ c.loop-link.path ++ inv.0 = ap (λ (p : List LinkIdValue). p ++ f.0) c.push.ensures
     ∙ append_assoc c.loop-link.path (link ∷ []) f.0 ∙ ap (λ (r : List LinkIdValue). c.loop-link.path ++ r) (sym f.1) in (
       f.0,
       f.2,
-      subst (λ (p : List LinkIdValue). length p ≤ 8) (sym joined) inv.2,
-      subst (λ (p : List LinkIdValue). IsPath n ch c.args.device p) (sym joined)
+      subst (λ p. length p ≤ 8) (sym joined) inv.2,
+      subst (λ p. IsPath n ch c.args.device p) (sym joined)
           inv.3,
     )
 

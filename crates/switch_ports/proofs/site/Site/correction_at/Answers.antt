@@ -9,7 +9,7 @@ overflow_sub-result c =
     let fit : FitsSigned w64 c.args.adjustment.0 = search rules in
     less_fits c.correction_value-value.result.0 c.args.adjustment.0 (c.args.cycle * amount site.plan.cycle_length + amount site.correction)
     (ap (λ (u : Units). u.0) c.correction_value-value.ensures)
-    (most_value _ _ _ c.requires.cycle (amount_most _ _ site.plan.cycle_length ranges.cycle) (amount_most _ _ site.correction ranges.correction))
+    (most_value _ _ _ c.requires.cycle (amount_most ranges.cycle) (amount_most ranges.correction))
     c.requires.small fit
 
 pub returns-then-changed-value : goal.returns-then-changed-value
@@ -20,7 +20,7 @@ returns-then-changed-value c =
     let changed : FitsSigned w64 c.args.changed.0 = search rules in
     comes c.correction_value-value.result.0 c.args.adjustment.0 c.args.changed.0 (c.args.cycle * amount site.plan.cycle_length + amount site.correction)
     (ap (λ (u : Units). u.0) c.correction_value-value.ensures)
-    (most_value _ _ _ c.requires.cycle (amount_most _ _ site.plan.cycle_length ranges.cycle) (amount_most _ _ site.correction ranges.correction))
+    (most_value _ _ _ c.requires.cycle (amount_most ranges.cycle) (amount_most ranges.correction))
     c.requires.small fit changed c.if-changed-value.true
 
 pub returns-else-changed-value : goal.returns-else-changed-value
@@ -30,5 +30,5 @@ returns-else-changed-value c =
     let changed : FitsSigned w64 c.args.changed.0 = search rules in
     comes_not c.correction_value-value.result.0 c.args.adjustment.0 c.args.changed.0 (c.args.cycle * amount site.plan.cycle_length + amount site.correction)
     (ap (λ (u : Units). u.0) c.correction_value-value.ensures)
-    (most_value _ _ _ c.requires.cycle (amount_most _ _ site.plan.cycle_length ranges.cycle) (amount_most _ _ site.correction ranges.correction))
+    (most_value _ _ _ c.requires.cycle (amount_most ranges.cycle) (amount_most ranges.correction))
     changed c.if-changed-value.false

@@ -20,7 +20,7 @@ pub returns-in-Ok-clause-is : goal.returns-in-Ok-clause-is
 returns-in-Ok-clause-is c network device taken range site has link =
     let at = standpoint_of c.args.at.now in
     let clock : c.local-local.result.0 ≡ clock_of at = c.local-local.ensures
-    ∙ ap (λ z. z +ℤ c.args.at.now.adjustment.0) (its_amount _ _ c.args.at.now.reading c.requires.alive.reading) in
+    ∙ ap (λ z. z +ℤ c.args.at.now.adjustment.0) (its_amount c.requires.alive.reading) in
     let none = ap (λ m. heading_fault (not (is_off c.args.at.now.state)) c.args.at.now.state m c.of-heading.result) (sym site.marker)
     ∙ ap (λ (b : Bool). heading_fault (not b) c.args.at.now.state c.args.self.now.site.marker c.of-heading.result) (sym c.is_off.ensures)
     ∙ sym c.fault.ensures.is ∙ c.in_default.is in
@@ -35,7 +35,7 @@ pub returns-in-Err-clause-is : goal.returns-in-Err-clause-is
 returns-in-Err-clause-is c network device taken range site has link =
     let at = standpoint_of c.args.at.now in
     let clock : c.local-local.result.0 ≡ clock_of at = c.local-local.ensures
-    ∙ ap (λ z. z +ℤ c.args.at.now.adjustment.0) (its_amount _ _ c.args.at.now.reading c.requires.alive.reading) in
+    ∙ ap (λ z. z +ℤ c.args.at.now.adjustment.0) (its_amount c.requires.alive.reading) in
     let none = ap (λ m. heading_fault (not (is_off c.args.at.now.state)) c.args.at.now.state m c.of-heading.result) (sym site.marker)
     ∙ ap (λ (b : Bool). heading_fault (not b) c.args.at.now.state c.args.self.now.site.marker c.of-heading.result) (sym c.is_off.ensures)
     ∙ sym c.fault.ensures.is ∙ c.in_default.is in
