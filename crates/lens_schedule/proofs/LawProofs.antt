@@ -70,7 +70,7 @@ begun {network} {k} {entry} keeps is =
     let fits = (keeps Precision 0).errors beta (subst (IsBeta network) some.value some) in
     let within = slice_get_within network.link entry.row.link.0 entry.link is.link in
     let start = (keeps ScheduleStart 0).begins entry.row.link.0 entry.link within in
-    let offset = begun_below network (amount entry.row.offset + 1) k entry keeps is (omega arith) in
+    let offset = begun_below (amount entry.row.offset + 1) k entry keeps is (omega arith) in
     omega (arith, fits, start, offset)
 
 -- the window that is drawn is that of the receiver

@@ -20,10 +20,11 @@ pub same_or_other : (d e : DeviceId) → (d ≡ e) ⊎ (d ≢ e)
 same_or_other d e = grind (arith, cases_eq)
 
 -- by the offset: a row that leaves its sender is in the schedule, and any other comes behind one that enters its source
-pub begun_below : (network : Network) (bound place : ℕ) (entry : Entry) → KeepsRules network → IsEntry network place entry → amount entry.row.offset < bound
+pub begun_below : {network : Network} (bound place : ℕ) (entry : Entry) → KeepsRules network
+    → IsEntry network place entry → amount entry.row.offset < bound
     → amount network.tt_start ≤ amount entry.row.offset
-begun_below network zero place entry keeps is below = absurd (omega arith)
-begun_below network (suc bound) place entry keeps is below =
+begun_below zero place entry keeps is below = absurd (omega arith)
+begun_below (suc bound) place entry keeps is below =
     elim (same_or_other (source_of entry) entry.vl.sender) [
       | inl sender ↦ (keeps Forwarding place).from_sender entry is sender
       | inr not ↦ elim (keeps Sources place entry is) [
@@ -32,7 +33,7 @@ begun_below network (suc bound) place entry keeps is below =
             let k = other.1.0 in
             let enters = other.1.2 in
             let behind = (keeps Forwarding place).from_switch k enters.entry entry enters.is is (sym enters.same_vl) not enters.target in
-            let first = begun_below network bound k enters.entry keeps enters.is (omega (arith, behind, below)) in
+            let first = begun_below bound k enters.entry keeps enters.is (omega (arith, behind, below)) in
             omega (arith, behind, first)
       ]
     ]
@@ -70,6 +71,7 @@ periods_agree n p q one two =
     ]
 
 -- virtual links that occur in one cycle coincide
-pub occur_together : (one two : VirtualLink) (cycle : ℕ) → Contains (1 ∷ 2 ∷ 4 ∷ 8 ∷ 16 ∷ 32 ∷ 64 ∷ []) one.period
-    → Contains (1 ∷ 2 ∷ 4 ∷ 8 ∷ 16 ∷ 32 ∷ 64 ∷ []) two.period → OccursIn one cycle → OccursIn two cycle → Coincide one two
-occur_together one two cycle first second here there = grind (arith, min, periods_agree)
+pub occur_together : {one two : VirtualLink} {cycle : ℕ} → Contains (1 ∷ 2 ∷ 4 ∷ 8 ∷ 16 ∷ 32 ∷ 64 ∷ []) one.period
+    → Contains (1 ∷ 2 ∷ 4 ∷ 8 ∷ 16 ∷ 32 ∷ 64 ∷ []) two.period → OccursIn one cycle → OccursIn two cycle
+    → Coincide one two
+occur_together first second here there = grind (arith, min, periods_agree)

@@ -17,11 +17,12 @@ entry r v l = record { row = r; vl = v; link = l }
 pub one_entry : EntryIsOne
 one_entry n i e f a b = grind (arith, one)
 
-pub entry_pushed : (n : Network) (entries : List Entry) (e : Entry) (count : ℕ) → length entries ≡ count → IsEntry n count e
-    → ((place : ℕ) (entry : Entry) → slice_get entries place ≡ Some entry → IsEntry n place entry)
-    → (place : ℕ) (entry : Entry) → slice_get (entries ++ e ∷ []) place ≡ Some entry → IsEntry n place entry
-entry_pushed n entries e count len is each place entry h =
+pub entry_pushed : {n : Network} (entries : List Entry) {e : Entry} {count : ℕ} → length entries ≡ count
+    → IsEntry n count e → ((place : ℕ) (entry : Entry) → slice_get entries place ≡ Some entry
+    → IsEntry n place entry) → (place : ℕ) (entry : Entry) → slice_get (entries ++ e ∷ []) place ≡ Some entry
+    → IsEntry n place entry
+entry_pushed {n} entries {e} {count} len is each place entry h =
     ⊎_elim
     (λ (g : slice_get entries place ≡ Some entry). each place entry g)
-    (λ (g : (place ≡ length entries) × (e ≡ entry)). subst (λ (p : ℕ). IsEntry n p entry) (sym (g.0 ∙ len)) (subst (λ (x : Entry). IsEntry n count x) g.1 is))
+    (λ (g : (place ≡ length entries) × (e ≡ entry)). subst (λ p. IsEntry n p entry) (sym (g.0 ∙ len)) (subst (λ x. IsEntry n count x) g.1 is))
     (pushed entries e entry place h)

@@ -12,28 +12,31 @@ use Rattle.std.proofs.Common.{◌*◌, ◌+◌, ◌/◌, ◌^◌, ◌∙◌, ◌
 use Rattle.{std.proofs.lemmas.{Int.ints, List.{Elements.All-weaker, Sums.sum_by-cons}, Option.slice_get-get_or}, tte_units.specs.declared.units.Units.Units}
 use Rattle.{std.specs.Prelude.{Bool, false, if◌then◌else◌, length, slice_get, true}, tte_units.specs.{Amount.amount, declared.frames.channel.Channel.Channel}}
 
-amount_within : (low high : ℕ) (units : Units) → IsWithin low high units → (low ≤ amount units) × (amount units ≤ high)
-amount_within low high units h = (omega (arith, ints, h.least, h.most), omega (arith, ints, h.least, h.most))
+amount_within : {low high : ℕ} {units : Units} → IsWithin low high units
+    → (low ≤ amount units) × (amount units ≤ high)
+amount_within h = (omega (arith, ints, h.least, h.most), omega (arith, ints, h.least, h.most))
 
 -- half of a quotient
 halved : (a b : ℕ) → b ≡ 2 * a → 2 * (a / 10 ^ 9) ≤ b / 10 ^ 9
 halved a b e = omega (arith, e)
 
-drift_room : (n : Network) → IsInRange n → DriftHasRoom n
-drift_room n range = grind (arith, amount_within, halved)
+drift_room : {n : Network} → IsInRange n → DriftHasRoom n
+drift_room range = grind (arith, amount_within, halved)
 
-precision_room : (n : Network) (beta : ℕ) → IsInRange n → DriftHasRoom n → PrecisionFits n → IsBeta n (pos beta) → PrecisionHasRoom n beta
-precision_room n beta range drift fits is =
+precision_room : {n : Network} (beta : ℕ) → IsInRange n → DriftHasRoom n → PrecisionFits n → IsBeta n (pos beta)
+    → PrecisionHasRoom n beta
+precision_room beta range drift fits is =
     let e = fits.errors beta is in
-    let calc = (amount_within 1 (2 ^ 40) n.calc range.calc).0 in
+    let calc = (amount_within range.calc).0 in
     record {
       eight_errors = omega (arith, e, drift.two_drifts, drift.two_readings, drift.four_readings, drift.grain);
       compression_most = omega (arith, fits.calc);
       compression_least = omega (arith, calc);
     }
 
-settled_room : (n : Network) (beta : ℕ) → DriftHasRoom n → ErrorsSettle n → IsBeta n (pos beta) → SettledHasRoom n beta
-settled_room n beta drift settle is =
+settled_room : {n : Network} (beta : ℕ) → DriftHasRoom n → ErrorsSettle n → IsBeta n (pos beta)
+    → SettledHasRoom n beta
+settled_room beta drift settle is =
     let e = settle beta is in
     record {
       errors = omega (arith, e, drift.two_drifts, drift.two_readings, drift.four_readings, drift.grain);
@@ -60,13 +63,16 @@ shape_rules n keeps = record {
 }
 
 -- the last control frame on a link, with the schedule's begin
-last_frame : (n : Network) → CorrectionFits n → ScheduleFits n
-    → All (λ link. amount n.correction + amount n.dmax + 8 * amount n.precision + pcf_port_time link ≤ amount n.cycle) n.link
-last_frame n correction schedule = grind (arith, All-weaker)
+last_frame : {n : Network} → CorrectionFits n → ScheduleFits n → All
+    (λ link. amount n.correction + amount n.dmax + 8 * amount n.precision + pcf_port_time link ≤ amount n.cycle)
+    n.link
+last_frame correction schedule = grind (arith, All-weaker)
 
-cycle_room : (n : Network) (beta : ℕ) (link : Link) → DriftHasRoom n → PrecisionFits n → PrecisionHasRoom n beta → CorrectionFits n → ScheduleFits n
-    → amount n.correction + amount n.dmax + 4 * amount n.precision + pcf_port_time link ≤ amount n.tt_start → CycleHasRoom n beta
-cycle_room n beta link drift fits precision correction schedule first = grind (arith, last_frame)
+cycle_room : {n : Network} {beta : ℕ} (link : Link) → DriftHasRoom n → PrecisionFits n → PrecisionHasRoom n beta
+    → CorrectionFits n → ScheduleFits n
+    → amount n.correction + amount n.dmax + 4 * amount n.precision + pcf_port_time link ≤ amount n.tt_start
+    → CycleHasRoom n beta
+cycle_room link drift fits precision correction schedule first = grind (arith, last_frame)
 
 -- an element that a filter keeps
 kept : {X : Type 0} (p : X → Bool) (xs : List X) → 1 ≤ length (filter p xs) → (i : ℕ) × (x : X) × (slice_get xs i ≡ Some x) × (p x ≡ true)
@@ -95,54 +101,62 @@ some_link n keeps =
     let l = opened (λ (l : Link). (l.child ≡ record { 0 = m.0 }) × IsSwitchOf n A l.parent) (link_at n up.0) up.1 in
     (up.0.0, l.0, l.1)
 
--- dmax has room for the delays of a device's uplink, with which its path begins
-first_link : (n : Network) (beta : ℕ) → IsTree n → KeepsRules n → IsBeta n (pos beta) → (c : Channel) (d : DeviceId) (place : ℕ) (link : Link)
-    → slice_get n.link place ≡ Some link → IsUplink n c d (record { 0 = place }) → IsDeviceOf n c d → (links : List LinkId) → IsPath n c d links
-    → beta + delay_by link ≤ amount n.dmax
-first_link n beta tree keeps is c d place link at up member [] path = absurd (tree.root c d (record { 0 = place }) path up)
-first_link n beta tree keeps is c d place link at up member (l ∷ ls) path =
-    let k = opened (λ (x : Link). (x.child ≡ d) × IsSwitchOf n c x.parent × IsPath n c x.parent ls) (link_at n l) path in
-    let also : IsUplink n c d l = closed (λ (x : Link). (x.child ≡ d) × IsSwitchOf n c x.parent) (link_at n l) k.0 k.1 (k.2.0, k.2.1) in
-    let same = tree.one_uplink c d l (record { 0 = place }) also up in
-    let here : delay_of n l ≡ delay_by link = ap (delay_of n) same ∙ ap (λ (o : Option Link). option_map_or delay_by o 0) at in
-    let all = keeps Delays d.0 beta c (l ∷ ls) is member path in
-    omega (arith, all, here, sum_by-cons (delay_of n) l ls)
+module _ {n : Network} (beta : ℕ) (tree : IsTree n) (keeps : KeepsRules n) (is : IsBeta n (pos beta)) where
+  -- dmax has room for the delays of a device's uplink, with which its path begins
+  first_link : (c : Channel) (d : DeviceId) (place : ℕ) (link : Link) → slice_get n.link place ≡ Some link
+      → IsUplink n c d (record { 0 = place }) → IsDeviceOf n c d → (links : List LinkId) → IsPath n c d links
+      → beta + delay_by link ≤ amount n.dmax
+  first_link c d place link at up member [] path = absurd (tree.root c d (record { 0 = place }) path up)
+  first_link c d place link at up member (l ∷ ls) path =
+      let k = opened (λ (x : Link). (x.child ≡ d) × IsSwitchOf n c x.parent × IsPath n c x.parent ls) (link_at n l)
+      path in
+      let also : IsUplink n c d l =
+      closed (λ (x : Link). (x.child ≡ d) × IsSwitchOf n c x.parent) (link_at n l) k.0 k.1 (k.2.0, k.2.1) in
+      let same = tree.one_uplink c d l (record { 0 = place }) also up in
+      let here : delay_of n l ≡ delay_by link =
+      ap (delay_of n) same ∙ ap (λ (o : Option Link). option_map_or delay_by o 0) at in
+      let all = keeps Delays d.0 beta c (l ∷ ls) is member path in
+      omega (arith, all, here, sum_by-cons (delay_of n) l ls)
 
--- dmax has room for the delays of each link, which begins the path of its child
-link_room : (n : Network) (beta : ℕ) → IsTree n → KeepsRules n → IsBeta n (pos beta) → (place : ℕ) (link : Link) → slice_get n.link place ≡ Some link
-    → beta + delay_by link ≤ amount n.dmax
-link_room n beta tree keeps is place link at =
-    let joint = keeps Joints place link at in
-    let up : IsUplink n joint.0 link.child (record { 0 = place }) = closed (λ (l : Link). (l.child ≡ link.child) × IsSwitchOf n joint.0 l.parent)
-    (slice_get n.link place) link at (refl, joint.1) in
-    let member : IsDeviceOf n joint.0 link.child = ⊎_elim
-    (λ (e : IsEndSystem n link.child). let d = opened (λ (d : Device). is_end_system d.role ≡ true) (device_at n link.child) e in
-    let r : IsDeviceOf n joint.0 link.child = closed (λ (x : Device). (is_end_system x.role ≡ true) ⊎ (x.channel ≡ Some joint.0)) (device_at n link.child) d.0
-    d.1 (inl d.2) in r)
-    (λ (e : IsRoleOf n Relay joint.0 link.child). let d = opened (λ (d : Device). (d.role ≡ Relay) × (d.channel ≡ Some joint.0)) (device_at n link.child) e in
-    let r : IsDeviceOf n joint.0 link.child = closed (λ (x : Device). (is_end_system x.role ≡ true) ⊎ (x.channel ≡ Some joint.0)) (device_at n link.child) d.0
-    d.1 (inr d.2.1) in r)
-    joint.2 in
-    let path = tree.reach joint.0 link.child member in
-    first_link n beta tree keeps is joint.0 link.child place link at up member path.0 path.2
+  -- dmax has room for the delays of each link, which begins the path of its child
+  link_room : (place : ℕ) (link : Link) → slice_get n.link place ≡ Some link → beta + delay_by link ≤ amount n.dmax
+  link_room place link at =
+      let joint = keeps Joints place link at in
+      let up : IsUplink n joint.0 link.child (record { 0 = place }) =
+      closed (λ (l : Link). (l.child ≡ link.child) × IsSwitchOf n joint.0 l.parent)
+      (slice_get n.link place) link at (refl, joint.1) in
+      let member : IsDeviceOf n joint.0 link.child = ⊎_elim
+      (λ (e : IsEndSystem n link.child). let d = opened (λ (d : Device). is_end_system d.role ≡ true)
+      (device_at n link.child) e in
+      let r : IsDeviceOf n joint.0 link.child = closed
+      (λ (x : Device). (is_end_system x.role ≡ true) ⊎ (x.channel ≡ Some joint.0)) (device_at n link.child) d.0
+      d.1 (inl d.2) in r)
+      (λ (e : IsRoleOf n Relay joint.0 link.child). let d = opened
+      (λ (d : Device). (d.role ≡ Relay) × (d.channel ≡ Some joint.0)) (device_at n link.child) e in
+      let r : IsDeviceOf n joint.0 link.child = closed
+      (λ (x : Device). (is_end_system x.role ≡ true) ⊎ (x.channel ≡ Some joint.0)) (device_at n link.child) d.0
+      d.1 (inr d.2.1) in r)
+      joint.2 in
+      let path = tree.reach joint.0 link.child member in
+      first_link joint.0 link.child place link at up member path.0 path.2
 
 pub margins : RulesGiveTrees → RulesGiveMargins
 margins trees n beta range keeps is =
     let tree = trees n (shape_rules n keeps) in
-    let drift = drift_room n range in
-    let precision = precision_room n beta range drift (keeps Precision 0) is in
+    let drift = drift_room range in
+    let precision = precision_room beta range drift (keeps Precision 0) is in
     let one = some_link n keeps in
     let begins = in_all (λ link. amount n.correction + amount n.dmax + 4 * amount n.precision + pcf_port_time link ≤ amount n.tt_start) n.link one.0 one.1
     (keeps ScheduleStart 0).begins one.2 in
     record {
       drift = drift;
       precision = precision;
-      cycle = cycle_room n beta one.1 drift (keeps Precision 0) precision (keeps Correction 0) (keeps ScheduleStart 0) begins;
+      cycle = cycle_room one.1 drift (keeps Precision 0) precision (keeps Correction 0) (keeps ScheduleStart 0) begins;
       dmax = record {
-        path = omega (arith, link_room n beta tree keeps is one.0 one.1 one.2);
-        links = All-from_places (λ link. beta + delay_by link ≤ amount n.dmax) n.link (link_room n beta tree keeps is);
+        path = omega (arith, link_room beta tree keeps is one.0 one.1 one.2);
+        links = All-from_places (λ link. beta + delay_by link ≤ amount n.dmax) n.link (link_room beta tree keeps is);
         paths = λ c d links member path. keeps Delays d.0 beta c links is member path;
       };
-      settled = settled_room n beta drift (keeps Settling 0) is;
+      settled = settled_room beta drift (keeps Settling 0) is;
       errors = errors_small n beta;
     }

@@ -9,8 +9,9 @@ use Rattle.{schedule_tables.specs.declared.{entry.Entry.Entry, slot.{Place.Place
 use Rattle.std.proofs.Common.{◌%◌, ◌+◌, ◌<◌, ◌∙◌, ◌∷◌, ◌≡◌, ◌≤◌, List, None, Option, Some, [], ap, arith, get_or, inl, inr, length, refl, subst, sym, ℕ, ⊎_elim}
 
 -- a row's place by its entry
-pub place_is : (n : Network) (row : RowId) (e : Entry) → IsEntry n row.0 e → dispatch_order n row ≡ numbers_of (place_by e row)
-place_is n row e is = ap (λ (o : Option Row). option_map_or (λ r. amount r.offset ∷ r.link.0 ∷ row.0 ∷ []) o []) is.row
+pub place_is : {n : Network} (row : RowId) {e : Entry} → IsEntry n row.0 e
+    → dispatch_order n row ≡ numbers_of (place_by e row)
+place_is row is = ap (λ (o : Option Row). option_map_or (λ r. amount r.offset ∷ r.link.0 ∷ row.0 ∷ []) o []) is.row
 
 -- nothing is below the first place
 below_first : (a b c : ℕ) → IsBelow (a ∷ b ∷ c ∷ []) (0 ∷ 0 ∷ 0 ∷ []) → ⊥
@@ -25,12 +26,12 @@ IsBoundOf n (Some row) place = (e : Entry) × (dispatch_order n row ≡ numbers_
 pub no_row : (n : Network) (after : Option RowId) (place : Place) → after ≡ None → numbers_of place ≡ 0 ∷ 0 ∷ 0 ∷ [] → IsBoundOf n after place
 no_row n after place none first = rw none first
 
-pub some_row : (n : Network) (rows : List TimedRow) (after : Option RowId) (place : Place) (row : RowId) (timed : TimedRow)
-    → AreTimedRows n (length n.row) rows → after ≡ Some row → place ≡ timed.behind
+pub some_row : {n : Network} {rows : List TimedRow} (after : Option RowId) (place : Place) (row : RowId)
+    (timed : TimedRow) → AreTimedRows n (length n.row) rows → after ≡ Some row → place ≡ timed.behind
     → row.0 < length rows → timed ≡ get_or rows row.0 timed → IsBoundOf n after place
-some_row n rows after place row timed are some there within found =
+some_row {rows} after place row timed are some there within found =
     let t = are.each row.0 timed (slice_get_read rows (length rows) row.0 timed refl within found) in
-    rw some (t.entry, place_is n row t.entry t.is, ap numbers_of (there ∙ t.behind))
+    rw some (t.entry, place_is row t.is, ap numbers_of (there ∙ t.behind))
 
 -- what is not below the bound comes behind the row
 comes_behind : (n : Network) (after : Option RowId) (place it : Place) (row : RowId) → IsBoundOf n after place
@@ -38,16 +39,16 @@ comes_behind : (n : Network) (after : Option RowId) (place it : Place) (row : Ro
 comes_behind n None place it row of at from = tt
 comes_behind n (Some other) place it row (e, is, behind) at from =
     rw (is, at) (not_below_more it.offset it.link.0 it.row.0 (amount e.row.offset) e.row.link.0 other.0
-    (λ below. from (subst (λ (xs : List ℕ). IsBelow (numbers_of it) xs) (sym behind) below)))
+    (λ below. from (subst (λ xs. IsBelow (numbers_of it) xs) (sym behind) below)))
 
 -- what comes behind the row is not below the bound
 not_below : (n : Network) (after : Option RowId) (place it : Place) (row : RowId) → IsBoundOf n after place
     → dispatch_order n row ≡ numbers_of it → ComesBehind n after row → IsBelow (numbers_of it) (numbers_of place) → ⊥
-not_below n None place it row of at behind below = below_first it.offset it.link.0 it.row.0 (subst (λ (xs : List ℕ). IsBelow (numbers_of it) xs) of below)
+not_below n None place it row of at behind below = below_first it.offset it.link.0 it.row.0 (subst (λ xs. IsBelow (numbers_of it) xs) of below)
 not_below n (Some other) place it row (e, is, more) at behind below =
     below_more it.offset it.link.0 it.row.0 (amount e.row.offset) e.row.link.0 other.0
-    (subst (λ (xs : List ℕ). IsBelow (numbers_of it) xs) more below)
-    (subst (λ (xs : List ℕ). IsBelow xs (numbers_of it)) is (subst (λ (xs : List ℕ). IsBelow (dispatch_order n other) xs) at behind))
+    (subst (λ xs. IsBelow (numbers_of it) xs) more below)
+    (subst (λ xs. IsBelow xs (numbers_of it)) is (subst (λ xs. IsBelow (dispatch_order n other) xs) at behind))
 
 abbrev device_id : ℕ → DeviceId
 device_id n = record { 0 = n }
@@ -63,9 +64,9 @@ last_same h = cc
 abbrev slot_of : (n : Network) (device : DeviceId) (cycle : ℕ) (row : RowId) → IsDispatched n device cycle row → Slot
 slot_of n device cycle row is = record { device = device; residue = cycle % 64; place = place_by is.entry row }
 
-is_slot : (n : Network) (device : DeviceId) (cycle : ℕ) (row : RowId) (is : IsDispatched n device cycle row) → ((k : ℕ) → HasPeriod n k)
-    → IsSlotOf n Whole (slot_of n device cycle row is)
-is_slot n device cycle row is periods = record {
+is_slot : {n : Network} {device : DeviceId} {cycle : ℕ} {row : RowId} (is : IsDispatched n device cycle row)
+    → ((k : ℕ) → HasPeriod n k) → IsSlotOf n Whole (slot_of n device cycle row is)
+is_slot {cycle} is periods = record {
   entry = is.entry;
   is = is.is;
   place = refl;
@@ -79,52 +80,55 @@ is_slot n device cycle row is periods = record {
 abbrev pub bound_of : DeviceId → ℕ → Place → Slot
 bound_of device cycle place = record { device = device; residue = cycle % 64; place = place }
 
--- the slot of a row that is dispatched behind the other is not below it
-not_low : (n : Network) (device : DeviceId) (cycle : ℕ) (after : Option RowId) (place : Place) (row : RowId) (is : IsDispatched n device cycle row)
-    → IsBoundOf n after place → ComesBehind n after row → IsBelow (key_of (slot_of n device cycle row is)) (key_of (bound_of device cycle place)) → ⊥
-not_low n device cycle after place row is of behind below =
-    elim below [
-      | inl less ↦ omega (arith, less)
-      | inr (_, inl less) ↦ omega (arith, less)
-      | inr (_, inr (_, low)) ↦ not_below n after place (place_by is.entry row) row of (place_is n row is.entry is.is) behind low
-    ]
+module _ (n : Network) (device : DeviceId) (cycle : ℕ) (after : Option RowId) (place : Place) where
+  -- the slot of a row that is dispatched behind the other is not below it
+  not_low : {row : RowId} (is : IsDispatched n device cycle row) → IsBoundOf n after place → ComesBehind n after row
+      → IsBelow (key_of (slot_of n device cycle row is)) (key_of (bound_of device cycle place)) → ⊥
+  not_low {row} is of behind below =
+      elim below [
+        | inl less ↦ omega (arith, less)
+        | inr (_, inl less) ↦ omega (arith, less)
+        | inr (_, inr (_, low)) ↦ not_below n after place (place_by is.entry row) row of (place_is row is.is) behind low
+      ]
 
--- the next slot is that of the next row
-pub is_next_row : (n : Network) (device : DeviceId) (cycle : ℕ) (after : Option RowId) (place : Place) (slots : List Slot) (s : Slot) → 1 ≤ cycle
-    → AreSlotsOf n slots → ((k : ℕ) → HasPeriod n k) → IsBoundOf n after place → s.device.0 ≡ device.0 → s.residue ≡ cycle % 64
-    → IsFirstSlot slots (bound_of device cycle place) s → IsNextRow n device cycle after s.place.row
-is_next_row n device cycle after place slots s begun are periods of same_device same_residue next =
-    let is = All-contains (IsSlotOf n Whole) slots s are.sound next.there in
-    let place_of_s : dispatch_order n s.place.row ≡ numbers_of s.place = place_is n s.place.row is.entry is.is ∙ ap numbers_of (sym is.place) in
-    record {
-      dispatched = record {
-        entry = is.entry;
-        is = is.is;
-        source = is.source ∙ ap device_id same_device;
-        occurs = record {
-          begun = begun;
-          in_phase =
-              sym (period_divides cycle is.entry.vl.period (periods is.entry.row.vl.0 is.entry.vl is.is.vl).0)
-              ∙ ap (λ (x : ℕ). x % is.entry.vl.period) (sym same_residue) ∙ is.in_phase;
+  -- the next slot is that of the next row
+  pub is_next_row : {slots : List Slot} {s : Slot} → 1 ≤ cycle → AreSlotsOf n slots → ((k : ℕ) → HasPeriod n k)
+      → IsBoundOf n after place → s.device.0 ≡ device.0 → s.residue ≡ cycle % 64
+      → IsFirstSlot slots (bound_of device cycle place) s → IsNextRow n device cycle after s.place.row
+  is_next_row {slots} {s} begun are periods of same_device same_residue next =
+      let is = All-contains (IsSlotOf n Whole) slots s are.sound next.there in
+      let place_of_s : dispatch_order n s.place.row ≡ numbers_of s.place =
+      place_is s.place.row is.is ∙ ap numbers_of (sym is.place) in
+      record {
+        dispatched = record {
+          entry = is.entry;
+          is = is.is;
+          source = is.source ∙ ap device_id same_device;
+          occurs = record {
+            begun = begun;
+            in_phase =
+                sym (period_divides cycle is.entry.vl.period (periods is.entry.row.vl.0 is.entry.vl is.is.vl).0)
+                ∙ ap (λ (x : ℕ). x % is.entry.vl.period) (sym same_residue) ∙ is.in_phase;
+          };
         };
-      };
-      behind = comes_behind n after place s.place s.place.row of place_of_s (λ below. next.from (inr (same_device, inr (same_residue, below))));
-      first = λ later other after_it.
-          let t = slot_of n device cycle later other in
-          let place_of_t : dispatch_order n later ≡ numbers_of t.place = place_is n later other.entry other.is in
-          let out = next.first t (are.complete t (is_slot n device cycle later other periods)) (not_low n device cycle after place later other of after_it) in
-          ⊎_elim
-          (λ (e : numbers_of s.place ≡ numbers_of t.place). inl (ap row_id (last_same e)))
-          (λ (l : IsBelow (numbers_of s.place) (numbers_of t.place)). inr (rw (place_of_s, place_of_t) l))
-          (same_or_below (numbers_of s.place) (numbers_of t.place) refl
-          (λ l. out (inr (sym same_device, inr (sym same_residue, l)))));
-    }
+        behind = comes_behind n after place s.place s.place.row of place_of_s
+            (λ below. next.from (inr (same_device, inr (same_residue, below))));
+        first = λ later other after_it.
+            let t = slot_of n device cycle later other in
+            let place_of_t : dispatch_order n later ≡ numbers_of t.place = place_is later other.is in
+            let out = next.first t (are.complete t (is_slot other periods)) (not_low other of after_it) in
+            ⊎_elim
+            (λ (e : numbers_of s.place ≡ numbers_of t.place). inl (ap row_id (last_same e)))
+            (λ (l : IsBelow (numbers_of s.place) (numbers_of t.place)). inr (rw (place_of_s, place_of_t) l))
+            (same_or_below (numbers_of s.place) (numbers_of t.place) refl
+            (λ l. out (inr (sym same_device, inr (sym same_residue, l)))));
+      }
 
--- where there is no such slot, there is no next row
-pub has_no_next_row : (n : Network) (device : DeviceId) (cycle : ℕ) (after : Option RowId) (place : Place) (slots : List Slot) → AreSlotsOf n slots
-    → ((k : ℕ) → HasPeriod n k) → IsBoundOf n after place → AreBelow slots (bound_of device cycle place) → HasNoNextRow n device cycle after
-has_no_next_row n device cycle after place slots are periods of none row is behind =
-    none (slot_of n device cycle row is) (are.complete _ (is_slot n device cycle row is periods)) (not_low n device cycle after place row is of behind)
+  -- where there is no such slot, there is no next row
+  pub has_no_next_row : {slots : List Slot} → AreSlotsOf n slots → ((k : ℕ) → HasPeriod n k)
+      → IsBoundOf n after place → AreBelow slots (bound_of device cycle place) → HasNoNextRow n device cycle after
+  has_no_next_row are periods of none row is behind =
+      none (slot_of n device cycle row is) (are.complete _ (is_slot is periods)) (not_low is of behind)
 
 -- what is not below a bound, and of another device or residue, stands above all of these
 beyond : (a b d r : ℕ) (xs ys zs : List ℕ) → (IsBelow (a ∷ b ∷ xs) (d ∷ r ∷ ys) → ⊥) → (a ≡ d → b ≡ r → ⊥) → IsBelow (d ∷ r ∷ zs) (a ∷ b ∷ xs)
@@ -140,11 +144,11 @@ beyond a b d r xs ys zs from other =
     ]
 
 -- where the slot is of another device or residue, there is no next row
-pub is_no_next_row : (n : Network) (device : DeviceId) (cycle : ℕ) (after : Option RowId) (place : Place) (slots : List Slot) (s : Slot) → AreSlotsOf n slots
-    → ((k : ℕ) → HasPeriod n k)
-    → IsBoundOf n after place → (s.device.0 ≡ device.0 → s.residue ≡ cycle % 64 → ⊥) → IsFirstSlot slots (bound_of device cycle place) s
+pub is_no_next_row : {n : Network} (device : DeviceId) (cycle : ℕ) (after : Option RowId) (place : Place)
+    {slots : List Slot} {s : Slot} → AreSlotsOf n slots → ((k : ℕ) → HasPeriod n k) → IsBoundOf n after place
+    → (s.device.0 ≡ device.0 → s.residue ≡ cycle % 64 → ⊥) → IsFirstSlot slots (bound_of device cycle place) s
     → HasNoNextRow n device cycle after
-is_no_next_row n device cycle after place slots s are periods of other next row is behind =
+is_no_next_row {n} device cycle after place {s} are periods of other next row is behind =
     let t = slot_of n device cycle row is in
-    next.first t (are.complete t (is_slot n device cycle row is periods)) (not_low n device cycle after place row is of behind)
+    next.first t (are.complete t (is_slot is periods)) (not_low n device cycle after place is of behind)
     (beyond s.device.0 s.residue device.0 (cycle % 64) (numbers_of s.place) (numbers_of place) (numbers_of t.place) next.from other)

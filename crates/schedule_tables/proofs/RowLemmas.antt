@@ -5,20 +5,21 @@ use Rattle.{schedule_tables.specs.Entries.IsEntry, std.{proofs.lemmas.Option.sli
 use Rattle.std.proofs.Common.{◌++◌, ◌+◌, ◌<◌, ◌∙◌, ◌∷◌, ◌≡◌, List, Some, [], ap, arith, get_or, length, length-append, refl, subst, sym, ℕ, ⊎_elim}
 
 -- one more row
-pub rows_more : (n : Network) (count : ℕ) (rows : List TimedRow) (row : TimedRow) → AreTimedRows n count rows → IsTimedRow n count row
-    → AreTimedRows n (count + 1) (rows ++ row ∷ [])
-rows_more n count rows row are is = record {
+pub rows_more : {n : Network} {count : ℕ} {rows : List TimedRow} {row : TimedRow} → AreTimedRows n count rows
+    → IsTimedRow n count row → AreTimedRows n (count + 1) (rows ++ row ∷ [])
+rows_more {n} {count} {rows} {row} are is = record {
   count_is = omega (arith, length-append rows (row ∷ []), are.count_is);
   each = λ place other h. ⊎_elim
       (λ (g : slice_get rows place ≡ Some other). are.each place other g)
       (λ (g : (place ≡ length rows) × (row ≡ other)).
-      subst (λ (p : ℕ). IsTimedRow n p other) (sym (g.0 ∙ are.count_is)) (subst (λ (x : TimedRow). IsTimedRow n count x) g.1 is))
+      subst (λ p. IsTimedRow n p other) (sym (g.0 ∙ are.count_is)) (subst (λ x. IsTimedRow n count x) g.1 is))
       (pushed rows row other place h);
 }
 
 -- the window of a row by its entry
-pub window_at : (n : Network) (count : ℕ) (rows : List TimedRow) (place : ℕ) (row : TimedRow) (entry : Entry) → AreTimedRows n count rows → place < length rows
-    → row ≡ get_or rows place row → IsEntry n place entry → row.window ≡ window_of n entry
-window_at n count rows place row entry are within found at =
+pub window_at : {n : Network} {count : ℕ} {rows : List TimedRow} {place : ℕ} (row : TimedRow) {entry : Entry}
+    → AreTimedRows n count rows → place < length rows → row ≡ get_or rows place row → IsEntry n place entry
+    → row.window ≡ window_of n entry
+window_at {n} {rows} {place} row {entry} are within found at =
     let is = are.each place row (slice_get_read rows (length rows) place row refl within found) in
     is.window ∙ ap (window_of n) (one_entry n place is.entry entry is.is at)

@@ -19,9 +19,9 @@ abbrev pub Ends : {X : Type 0} → (X → X → Ordering) → List X → X → �
 Ends cmp xs bound place = IsPartitionPoint (λ x. is_lt (cmp x bound) ≡ true) (λ x. is_lt (cmp x bound) ≡ false) xs place
 
 -- what is below a bound stands first
-pub parted : {X : Type 0} (numbers : X → List ℕ) (cmp : X → X → Ordering) → IsOrder numbers cmp → (bound : X) (xs : List X) → Ascends numbers xs
-    → IsPartitionedBy (λ x. is_lt (cmp x bound)) xs
-parted numbers cmp laws bound xs order i j d le within last =
+pub parted : {X : Type 0} {numbers : X → List ℕ} {cmp : X → X → Ordering} → IsOrder numbers cmp
+    → (bound : X) (xs : List X) → Ascends numbers xs → IsPartitionedBy (λ x. is_lt (cmp x bound)) xs
+parted {numbers} {cmp} laws bound xs order i j d le within last =
     ⊎_elim
     (λ (e : is_lt (cmp (get_or xs i d) bound) ≡ true). e)
     (λ (e : is_lt (cmp (get_or xs i d) bound) ≡ false).
@@ -35,23 +35,25 @@ parted numbers cmp laws bound xs order i j d le within last =
     (above_or_same i j le))
     (cases_Bool (is_lt (cmp (get_or xs i d) bound)))
 
--- what is not below the bound stands no earlier
-pub not_before : {X : Type 0} (numbers : X → List ℕ) (cmp : X → X → Ordering) → IsOrder numbers cmp → (xs : List X) (bound : X) (place : ℕ)
-    → Ends cmp xs bound place → (x : X) (has : Contains xs x) → (IsBelow (numbers x) (numbers bound) → ⊥) → place ≤ has.0
-not_before numbers cmp laws xs bound place ends x has out =
-    ⊎_elim
-    (λ (l : has.0 < place).
-    absurd (out
-    (lt_true _ (numbers x) (numbers bound) (laws.compares x bound) (ap (λ y. is_lt (cmp y bound)) (sym has.2) ∙ ends.0 has.0 x (omega arith) l))))
-    (λ (l : place ≤ has.0). l)
-    (cases_lt has.0 place)
+module _ {X : Type 0} {numbers : X → List ℕ} {cmp : X → X → Ordering} (laws : IsOrder numbers cmp) (xs : List X)
+    (bound : X) (place : ℕ) (ends : Ends cmp xs bound place) (x : X) where
+  -- what is not below the bound stands no earlier
+  pub not_before : (has : Contains xs x) → (IsBelow (numbers x) (numbers bound) → ⊥) → place ≤ has.0
+  not_before has out =
+      ⊎_elim
+      (λ (l : has.0 < place).
+      absurd (out
+      (lt_true _ (numbers x) (numbers bound) (laws.compares x bound)
+      (ap (λ y. is_lt (cmp y bound)) (sym has.2) ∙ ends.0 has.0 x (omega arith) l))))
+      (λ (l : place ≤ has.0). l)
+      (cases_lt has.0 place)
 
--- what stands there is not below it
-pub not_below : {X : Type 0} (numbers : X → List ℕ) (cmp : X → X → Ordering) → IsOrder numbers cmp → (xs : List X) (bound : X) (place : ℕ)
-    → Ends cmp xs bound place → (x : X) → slice_get xs place ≡ Some x → IsBelow (numbers x) (numbers bound) → ⊥
-not_below numbers cmp laws xs bound place ends x at =
-    lt_false _ (numbers x) (numbers bound) (laws.compares x bound) (ap (λ y. is_lt (cmp y bound)) (sym (get_or_from_slice_get xs place x x at))
-    ∙ ends.1 place x (omega arith) (slice_get_within xs place x at))
+  -- what stands there is not below it
+  pub not_below : slice_get xs place ≡ Some x → IsBelow (numbers x) (numbers bound) → ⊥
+  not_below at =
+      lt_false _ (numbers x) (numbers bound) (laws.compares x bound)
+      (ap (λ y. is_lt (cmp y bound)) (sym (get_or_from_slice_get xs place x x at))
+      ∙ ends.1 place x (omega arith) (slice_get_within xs place x at))
 
 -- nothing that stands no earlier than another is below it
 pub no_earlier : {X : Type 0} (numbers : X → List ℕ) (xs : List X) → Ascends numbers xs → (place : ℕ) (x : X) → slice_get xs place ≡ Some x
@@ -75,12 +77,13 @@ pub is_first : (slots : List Slot) (bound : Slot) (place : ℕ) → AreInOrder s
     → IsFirstSlot slots bound s
 is_first slots bound place order ends s at = record {
   there = (place, slice_get_within slots place s at, get_or_from_slice_get slots place s s at);
-  from = not_below key_of slot_cmp slot_order slots bound place ends s at;
-  first = λ other has out. no_earlier key_of slots order place s at other has (not_before key_of slot_cmp slot_order slots bound place ends other has out);
+  from = not_below slot_order slots bound place ends s at;
+  first = λ other has out. no_earlier key_of slots order place s at other has
+      (not_before slot_order slots bound place ends other has out);
 }
 
 -- where it ends with the slots, there is none
 pub none_left : (slots : List Slot) (bound : Slot) (place : ℕ) → Ends slot_cmp slots bound place → length slots ≤ place → AreBelow slots bound
 none_left slots bound place ends past other has out =
-    let after = not_before key_of slot_cmp slot_order slots bound place ends other has out in
+    let after = not_before slot_order slots bound place ends other has out in
     omega (arith, has.1, past, after)

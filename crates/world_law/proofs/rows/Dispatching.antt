@@ -157,7 +157,7 @@ pub record IsApart (network : Network) (offset : ℕ) : Type 0 where
 pub row_apart : {network : Network} {place : ℕ} {entry : Entry} → KeepsRules network → IsEntry network place entry
     → IsApart network (amount entry.row.offset)
 row_apart {network} {place} {entry} rules is =
-    let begun = begun_below network (amount entry.row.offset + 1) place entry rules is (omega arith) in
+    let begun = begun_below (amount entry.row.offset + 1) place entry rules is (omega arith) in
     let start = in_all
     (λ (l : Link). amount network.correction + amount network.dmax + 4 * amount network.precision + pcf_port_time l ≤ amount network.tt_start)
     network.link entry.row.link.0 entry.link (rules ScheduleStart 0).begins is.link in
@@ -271,13 +271,13 @@ one_row {s} {js} {device} {t} other from with {cycle} number law same d e =
     let b = (law.rules Periods e.entry.row.vl.0 e.entry.vl e.row.vl).0 in (
       elim (cases_lt d.place e.place) [
         | inl lt ↦ absurd (elim (law.rules Spacing e.place d.place d.entry e.entry lt d.row e.row (sym links) (sym ways)
-            (occur_together e.entry.vl d.entry.vl cycle b a occurs d.occurs)) [
+            (occur_together b a occurs d.occurs)) [
               | inl clear ↦ let far = far_before n d.entry e.entry clear in omega (arith, far, less)
               | inr clear ↦ let far = far_before n e.entry d.entry clear in omega (arith, far, more)
             ])
         | inr ge ↦ elim (cases_lt e.place d.place) [
           | inl gt ↦ absurd (elim (law.rules Spacing d.place e.place e.entry d.entry gt e.row d.row links ways
-              (occur_together d.entry.vl e.entry.vl cycle a b d.occurs occurs)) [
+              (occur_together a b d.occurs occurs)) [
                 | inl clear ↦ let far = far_before n e.entry d.entry clear in omega (arith, far, more)
                 | inr clear ↦ let far = far_before n d.entry e.entry clear in omega (arith, far, less)
               ])

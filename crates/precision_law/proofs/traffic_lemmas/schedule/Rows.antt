@@ -8,7 +8,8 @@ use Rattle.schedule_tables.specs.{Schedule.IsClearBefore, declared.rule.Rule.The
 -- ---- the schedule's begin
 
 pub rows_come_in_schedule : RowsComeInSchedule
-rows_come_in_schedule network place entry keeps is = begun_below network (amount entry.row.offset + 1) place entry keeps is (omega arith)
+rows_come_in_schedule network place entry keeps is =
+    begun_below (amount entry.row.offset + 1) place entry keeps is (omega arith)
 
 -- ---- rooms
 
@@ -40,7 +41,8 @@ apart_in_order : {network : Network} {k place : ℕ} {earlier entry : Entry} {cy
     → IsClearBefore network earlier entry ⊎ IsClearBefore network entry earlier
 apart_in_order {k} {place} {earlier} {entry} {cycle} keeps lt one two link way here there =
     keeps Spacing place k earlier entry lt one two link way
-    (occur_together entry.vl earlier.vl cycle (keeps Periods entry.row.vl.0 entry.vl two.vl).0 (keeps Periods earlier.row.vl.0 earlier.vl one.vl).0 here there)
+    (occur_together (keeps Periods entry.row.vl.0 entry.vl two.vl).0 (keeps Periods earlier.row.vl.0 earlier.vl
+    one.vl).0 here there)
 
 pub rows_stand_apart : RowsStandApart
 rows_stand_apart network place other entry second cycle keeps one two link way here there = grind (arith, cases_lt, apart_in_order)

@@ -11,6 +11,6 @@ loop-place-preserved c = record {
         c.loop-place.invariant.count,
       );
   each =
-      rw c.in-Ok.ensures.items (entry_pushed c.args.network.now c.loop-place.entries.items c.entry_of.result c.loop-place.place c.loop-place.invariant.count
+      rw c.in-Ok.ensures.items (entry_pushed c.loop-place.entries.items c.loop-place.invariant.count
       c.entry_of.ensures.is c.loop-place.invariant.each);
 }

@@ -12,11 +12,11 @@ returns-then-next-bound-clause-next c n tables =
           let timed = w.in_ok-get-in-Some.field-0.now in
           let found = w.in_ok-get-in-Some.ensures.lookup in
           let rows : AreTimedRows n (length n.row) w.deref.result.now = rw w.deref.ensures.value tables.rows in
-          some_row n w.deref.result.now after place w.in-Some.row timed rows w.in-Some.is w.place-is found.3.0 found.1
+          some_row after place w.in-Some.row timed rows w.in-Some.is w.place-is found.3.0 found.1
       | in-None w ↦ no_row n after place w.in-None.is (rw w.place-is refl)
     ] in
     let slots : AreSlotsOf n c.deref-2.result.now = rw c.deref-2.ensures.value tables.slots in
-    is_next_row n c.args.device c.args.cycle after place c.deref-2.result.now c.in_ok-next.next (omega arith) slots tables.periods of
+    is_next_row n c.args.device c.args.cycle after place (omega arith) slots tables.periods of
     (eqb-true _ _ (sym c.if-eq.ensures)) c.if-next-bound.true (c.in_ok-next.ensures.first slots.order)
 
 pub returns-in_err-next-clause-none : goal.returns-in_err-next-clause-none
@@ -28,11 +28,12 @@ returns-in_err-next-clause-none c n tables =
           let timed = w.in_ok-get-in-Some.field-0.now in
           let found = w.in_ok-get-in-Some.ensures.lookup in
           let rows : AreTimedRows n (length n.row) w.deref.result.now = rw w.deref.ensures.value tables.rows in
-          some_row n w.deref.result.now after place w.in-Some.row timed rows w.in-Some.is w.place-is found.3.0 found.1
+          some_row after place w.in-Some.row timed rows w.in-Some.is w.place-is found.3.0 found.1
       | in-None w ↦ no_row n after place w.in-None.is (rw w.place-is refl)
     ] in
     let slots : AreSlotsOf n c.deref-2.result.now = rw c.deref-2.ensures.value tables.slots in
-    rw c.from_residual-in_err-next.ensures (has_no_next_row n c.args.device c.args.cycle after place c.deref-2.result.now slots tables.periods of
+    rw c.from_residual-in_err-next.ensures (has_no_next_row n c.args.device c.args.cycle after place slots
+    tables.periods of
     (c.in_err-next.ensures.none slots.order))
 
 pub returns-else-eq-clause-none : goal.returns-else-eq-clause-none
@@ -44,11 +45,11 @@ returns-else-eq-clause-none c n tables =
           let timed = w.in_ok-get-in-Some.field-0.now in
           let found = w.in_ok-get-in-Some.ensures.lookup in
           let rows : AreTimedRows n (length n.row) w.deref.result.now = rw w.deref.ensures.value tables.rows in
-          some_row n w.deref.result.now after place w.in-Some.row timed rows w.in-Some.is w.place-is found.3.0 found.1
+          some_row after place w.in-Some.row timed rows w.in-Some.is w.place-is found.3.0 found.1
       | in-None w ↦ no_row n after place w.in-None.is (rw w.place-is refl)
     ] in
     let slots : AreSlotsOf n c.deref-2.result.now = rw c.deref-2.ensures.value tables.slots in
-    is_no_next_row n c.args.device c.args.cycle after place c.deref-2.result.now c.in_ok-next.next slots tables.periods of
+    is_no_next_row c.args.device c.args.cycle after place slots tables.periods of
     (λ same_device same_residue.
     elim c.else-eq.branch [
       | else-eq-via-then-eq+else-next-bound w ↦ w.if-next-bound.false same_residue
