@@ -6,18 +6,20 @@ use Rattle.tte_io.specs.{NextLine.{NextLine, TakesLine}, Outcome.{Outcome, Tells
 use Rattle.tte_io.specs.declared.lines.LineTaken.TheVariants as taken
 
 -- what was to come is what was given, and what is still to come
-coming : {E : Type 0} (before : List ℕ) (had : Bool) (left : List ℕ) (after : LineReaderState) (rest : List ℕ) (result : Result LineTaken E)
-    (n : NextLine before had (Some left) after (Some rest) result) → before ++ left ≡ n.given ++ (pending after ++ rest)
-coming before had left after rest result n =
+coming : {E : Type 0} {before : List ℕ} {had : Bool} (left : List ℕ) {after : LineReaderState} (rest : List ℕ)
+    {result : Result LineTaken E} (n : NextLine before had (Some left) after (Some rest) result)
+    → before ++ left ≡ n.given ++ (pending after ++ rest)
+coming {before} left {after} rest n =
     let read = n.earlier ++ n.last in
     ap (λ (t : List ℕ). before ++ t) n.consumed ∙ sym (append_assoc before read rest) ∙ ap (λ (t : List ℕ). t ++ rest) n.nothing_lost
     ∙ append_assoc n.given (pending after) rest
 
 -- a text without an LF, and behind it an LF or nothing
-line_found : (octets text behind rest : List ℕ) (after : LineReaderState) → octets ≡ text ++ behind → IsLine text → first_line behind ≡ []
-    → rest ≡ behind_line behind → octets ≢ [] → after.text ≡ Some text
-    → (after.ended ≡ false → behind ≡ lf ∷ rest) → Outcome {E = ℕ} octets (Ok taken.Whole) after rest
-line_found octets text behind rest after same line none next some shown ends =
+line_found : (octets : List ℕ) {text : List ℕ} (behind rest : List ℕ) (after : LineReaderState)
+    → octets ≡ text ++ behind → IsLine text → first_line behind ≡ [] → rest ≡ behind_line behind → octets ≢ []
+    → after.text ≡ Some text → (after.ended ≡ false → behind ≡ lf ∷ rest)
+    → Outcome {E = ℕ} octets (Ok taken.Whole) after rest
+line_found octets {text} behind rest after same line none next some shown ends =
     let first : first_line octets ≡ text = ap first_line same ∙ first_line-append text behind line.unbroken ∙ ap (λ (t : List ℕ). text ++ t) none
     ∙ append-nil text in
     let rest_is : rest ≡ behind_line octets = next ∙ sym (behind_line-append text behind line.unbroken) ∙ ap behind_line (sym same) in
@@ -27,7 +29,7 @@ line_found octets text behind rest after same line none next some shown ends =
 
 -- what is left is to come where the end was not found
 to_come_open : (pending : List ℕ) (ended : Bool) (left : List ℕ) → ended ≡ false → to_come pending ended left ≡ pending ++ left
-to_come_open pending ended left is = ap (λ (b : Bool). to_come pending b left) is
+to_come_open pending ended left is = ap (λ b. to_come pending b left) is
 
 -- where nothing is left, that makes no difference
 to_come_none : (pending : List ℕ) (ended : Bool) (left : List ℕ) → left ≡ [] → to_come pending ended left ≡ pending ++ left
@@ -35,9 +37,10 @@ to_come_none pending true left none = ap (λ (t : List ℕ). pending ++ t) (sym 
 to_come_none pending false left none = refl
 
 -- a line was given, with its LF or as what was left
-line_given : (octets given : List ℕ) (after : LineReaderState) (rest : List ℕ) → octets ≡ given ++ (pending after ++ rest) → TakesLine given after (Some rest)
+line_given : (octets : List ℕ) {given : List ℕ} {after : LineReaderState} (rest : List ℕ)
+    → octets ≡ given ++ (pending after ++ rest) → TakesLine given after (Some rest)
     → Outcome {E = ℕ} octets (Ok taken.Whole) after (to_come (pending after) after.ended rest)
-line_given octets given after rest same t =
+line_given octets {after} rest same t =
     let shown : after.text ≡ Some t.text = ap (λ (r : LineReaderState). r.text) t.reader in
     let unkept : after.kept ≡ [] = ap (λ (r : LineReaderState). r.kept) t.reader in
     let tail = pending after ++ rest in
@@ -45,59 +48,63 @@ line_given octets given after rest same t =
       | inl e ↦
           let whole : octets ≡ t.text ++ lf ∷ tail = same ∙ ap (λ (g : List ℕ). g ++ tail) e.0 ∙ append_assoc t.text (lf ∷ []) tail in
           let come : to_come (pending after) after.ended rest ≡ tail = to_come_open (pending after) after.ended rest e.1 in
-          line_found octets t.text (lf ∷ tail) (to_come (pending after) after.ended rest) after whole t.line refl come
+          line_found octets (lf ∷ tail) (to_come (pending after) after.ended rest) after whole t.line refl come
           (λ none. omega (arith, ap length (sym whole ∙ none), length-append t.text (lf ∷ tail))) shown
           (λ _. ap (λ (u : List ℕ). lf ∷ u) (sym come))
       | inr e ↦
           let gone : tail ≡ [] = ap (λ (k : List ℕ). (k ++ after.ahead) ++ rest) unkept ∙ ap (λ (a : List ℕ). a ++ rest) e.2 ∙ e.4 in
           let whole : octets ≡ t.text ++ [] = same ∙ ap (λ (g : List ℕ). g ++ tail) e.0 ∙ ap (λ (g : List ℕ). t.text ++ g) gone in
           let come : to_come (pending after) after.ended rest ≡ [] = to_come_none (pending after) after.ended rest e.4 ∙ gone in
-          line_found octets t.text [] (to_come (pending after) after.ended rest) after whole t.line refl come
+          line_found octets [] (to_come (pending after) after.ended rest) after whole t.line refl come
           (λ none. e.1 (sym (append-nil t.text) ∙ sym whole ∙ none)) shown
           (λ is. let on = e.3 in absurd cc)
     ]
 
--- what comes where the end was not found before
-outcome_open : {E : Type 0} (before left : List ℕ) (after : LineReaderState) (rest : List ℕ) (result : Result LineTaken E)
-    → NextLine before false (Some left) after (Some rest) result → Outcome (before ++ left) result after (to_come (pending after) after.ended rest)
-outcome_open before left after rest (Ok taken.Whole) n =
-    line_given (before ++ left) n.given after rest (coming before false left after rest (Ok taken.Whole) n) n.answer
-outcome_open before left after rest (Ok taken.End) n =
-    let end : rest ≡ [] = elim n.answer.end [ inl e ↦ absurd cc | inr e ↦ e ] in
-    let gone : pending after ++ rest ≡ [] = ap (λ (r : LineReaderState). pending r ++ rest) n.answer.reader ∙ end in (
-      coming before false left after rest (Ok taken.End) n ∙ ap (λ (g : List ℕ). g ++ (pending after ++ rest)) n.answer.none ∙ gone,
-      to_come_none (pending after) after.ended rest end ∙ gone,
-    )
-outcome_open before left after rest (Ok taken.Long) n =
-    let on : after.ended ≡ false = ap (λ (r : LineReaderState). r.ended) n.answer.reader in
-    let same : before ++ left ≡ pending after ++ rest =
-    coming before false left after rest (Ok taken.Long) n ∙ ap (λ (g : List ℕ). g ++ (pending after ++ rest)) n.answer.none in (
-      subst (λ (t : List ℕ). line_limit < length (first_line t)) (sym same) (first_line-too_long (pending after) rest n.answer.line),
-      to_come_open (pending after) after.ended rest on ∙ sym same,
-    )
-outcome_open before left after rest (Err e) n =
-    let on : after.ended ≡ false = ap (λ (r : LineReaderState). r.ended) n.answer.reader in
-    to_come_open (pending after) after.ended rest on
-    ∙ sym (coming before false left after rest (Err e) n ∙ ap (λ (t : List ℕ). t ++ (pending after ++ rest)) n.answer.none)
+module _ {E : Type 0} (before left : List ℕ) (after : LineReaderState) (rest : List ℕ) where
+  -- what comes where the end was not found before
+  outcome_open : (result : Result LineTaken E) → NextLine before false (Some left) after (Some rest) result
+      → Outcome (before ++ left) result after (to_come (pending after) after.ended rest)
+  outcome_open (Ok taken.Whole) n =
+      line_given (before ++ left) rest (coming left rest n) n.answer
+  outcome_open (Ok taken.End) n =
+      let end : rest ≡ [] = elim n.answer.end [ inl e ↦ absurd cc | inr e ↦ e ] in
+      let gone : pending after ++ rest ≡ [] = ap (λ r. pending r ++ rest) n.answer.reader ∙ end in (
+        coming left rest n ∙ ap (λ (g : List ℕ). g ++ (pending after ++ rest)) n.answer.none ∙ gone,
+        to_come_none (pending after) after.ended rest end ∙ gone,
+      )
+  outcome_open (Ok taken.Long) n =
+      let on : after.ended ≡ false = ap (λ (r : LineReaderState). r.ended) n.answer.reader in
+      let same : before ++ left ≡ pending after ++ rest =
+      coming left rest n ∙ ap (λ (g : List ℕ). g ++ (pending after ++ rest)) n.answer.none in (
+        subst (λ t. line_limit < length (first_line t)) (sym same) (first_line-too_long rest n.answer.line),
+        to_come_open (pending after) after.ended rest on ∙ sym same,
+      )
+  outcome_open (Err e) n =
+      let on : after.ended ≡ false = ap (λ (r : LineReaderState). r.ended) n.answer.reader in
+      to_come_open (pending after) after.ended rest on
+      ∙ sym (coming left rest n ∙ ap (λ (t : List ℕ). t ++ (pending after ++ rest)) n.answer.none)
 
--- what comes where it had been found
-outcome_ended : {E : Type 0} (before left : List ℕ) (after : LineReaderState) (rest : List ℕ) (result : Result LineTaken E)
-    → NextLine before true (Some left) after (Some rest) result → Outcome (before ++ []) result after (to_come (pending after) after.ended rest)
-outcome_ended before left after rest (Ok taken.Whole) n = absurd (n.ends refl)
-outcome_ended before left after rest (Ok taken.Long) n = absurd (n.ends refl)
-outcome_ended before left after rest (Err e) n = absurd (n.ends refl)
-outcome_ended before left after rest (Ok taken.End) n =
-    let all : before ++ (n.earlier ++ n.last) ≡ [] = n.nothing_lost ∙ ap (λ (g : List ℕ). g ++ pending after) n.answer.none ∙ ap pending n.answer.reader in
-    let none : before ≡ [] = ends_none before (n.earlier ++ n.last) all in
-    (append-nil before ∙ none, ap (λ (r : LineReaderState). to_come (pending r) r.ended rest) n.answer.reader)
-  where
-    ends_none : (xs ys : List ℕ) → xs ++ ys ≡ [] → xs ≡ []
-    ends_none [] ys e = refl
-    ends_none (x ∷ xs) ys e = absurd cc
+  -- what comes where it had been found
+  outcome_ended : (result : Result LineTaken E) → NextLine before true (Some left) after (Some rest) result
+      → Outcome (before ++ []) result after (to_come (pending after) after.ended rest)
+  outcome_ended (Ok taken.Whole) n = absurd (n.ends refl)
+  outcome_ended (Ok taken.Long) n = absurd (n.ends refl)
+  outcome_ended (Err e) n = absurd (n.ends refl)
+  outcome_ended (Ok taken.End) n =
+      let all : before ++ (n.earlier ++ n.last) ≡ [] =
+      n.nothing_lost ∙ ap (λ (g : List ℕ). g ++ pending after) n.answer.none ∙ ap pending n.answer.reader in
+      let none : before ≡ [] = ends_none before (n.earlier ++ n.last) all in
+      (append-nil before ∙ none, ap (λ (r : LineReaderState). to_come (pending r) r.ended rest) n.answer.reader)
+    where
+      ends_none : (xs ys : List ℕ) → xs ++ ys ≡ [] → xs ≡ []
+      ends_none [] ys e = refl
+      ends_none (x ∷ xs) ys e = absurd cc
 
-pub outcome_told : {E : Type 0} (before : List ℕ) (had : Bool) (left_before : Option (List ℕ)) (after : LineReaderState) (left_after : Option (List ℕ))
-    (result : Result LineTaken E) → NextLine before had left_before after left_after result → TellsOutcome before had left_before after left_after result
-outcome_told before had None after left_after result n = tt
-outcome_told before had (Some left) after None result n = absurd n.consumed
-outcome_told before true (Some left) after (Some rest) result n = outcome_ended before left after rest result n
-outcome_told before false (Some left) after (Some rest) result n = outcome_open before left after rest result n
+pub outcome_told : {E : Type 0} {before : List ℕ} (had : Bool) (left_before : Option (List ℕ))
+    {after : LineReaderState} (left_after : Option (List ℕ)) {result : Result LineTaken E}
+    → NextLine before had left_before after left_after result
+    → TellsOutcome before had left_before after left_after result
+outcome_told had None left_after n = tt
+outcome_told had (Some left) None n = absurd n.consumed
+outcome_told {before} true (Some left) {after} (Some rest) {result} n = outcome_ended before left after rest result n
+outcome_told {before} false (Some left) {after} (Some rest) {result} n = outcome_open before left after rest result n

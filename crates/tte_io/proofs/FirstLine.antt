@@ -18,8 +18,9 @@ behind_line-append (x ∷ xs) rest unbroken =
     ∙ behind_line-append xs rest (All-tail (λ (octet : ℕ). octet ≡ lf → ⊥) x xs unbroken)
 
 -- octets that begin with too many for a line have a first line that is too long
-pub first_line-too_long : (octets rest : List ℕ) → IsTooLong octets → line_limit < length (first_line (octets ++ rest))
-first_line-too_long octets rest long =
+pub first_line-too_long : {octets : List ℕ} (rest : List ℕ) → IsTooLong octets
+    → line_limit < length (first_line (octets ++ rest))
+first_line-too_long {octets} rest long =
     let front = take (line_limit + 1) octets in
     let behind = drop (line_limit + 1) octets ++ rest in
     let split : octets ++ rest ≡ front ++ behind = ap (λ (t : List ℕ). t ++ rest) (sym (take-append-drop (line_limit + 1) octets))

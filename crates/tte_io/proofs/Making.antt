@@ -16,8 +16,9 @@ pub record Making (before : List ℕ) (left_before : Option (List ℕ)) (line ah
   pub same : before ++ (earlier ++ last) ≡ line ++ ahead
   pub is_line : IsLine line
 
-pub making_begun : (line ahead : List ℕ) (left : Option (List ℕ)) → IsLine line → Making (line ++ ahead) left line ahead left
-making_begun line ahead left is_line = record {
+pub making_begun : {line : List ℕ} (ahead : List ℕ) (left : Option (List ℕ)) → IsLine line
+    → Making (line ++ ahead) left line ahead left
+making_begun {line} ahead left is_line = record {
   earlier = [];
   last = [];
   consumed = Consumes-nil left;
@@ -27,98 +28,100 @@ making_begun line ahead left is_line = record {
   is_line = is_line;
 }
 
--- nothing was read, or a read came behind the others
-making_more : (before : List ℕ) (left_before : Option (List ℕ)) (line ahead : List ℕ) (left : Option (List ℕ)) (read ahead_after : List ℕ)
-    (left_after : Option (List ℕ)) → Making before left_before line ahead left
-    → Consumes left left_after read → length read ≤ ahead_limit → ahead_after ≡ ahead ++ read → (read ≢ [] → ahead ≡ [])
-    → Making before left_before line ahead_after left_after
-making_more before left_before line ahead left [] ahead_after left_after m consumed size added needed = record {
-  earlier = m.earlier;
-  last = m.last;
-  consumed =
-      subst (Consumes left_before left_after) (append-nil (m.earlier ++ m.last))
-      (Consumes-trans left_before left left_after (m.earlier ++ m.last) [] m.consumed consumed);
-  last_size = m.last_size;
-  needed = m.needed;
-  same = m.same ∙ ap (λ (t : List ℕ). line ++ t) (sym (append-nil ahead) ∙ sym added);
-  is_line = m.is_line;
-}
-making_more before left_before line ahead left (x ∷ xs) ahead_after left_after m consumed size added needed =
-    let none : ahead ≡ [] = needed (λ e. cc) in
-    let whole : before ++ (m.earlier ++ m.last) ≡ line = m.same ∙ ap (λ (t : List ℕ). line ++ t) none ∙ append-nil line in
-    record {
-      earlier = m.earlier ++ m.last;
-      last = x ∷ xs;
-      consumed = Consumes-trans left_before left left_after (m.earlier ++ m.last) (x ∷ xs) m.consumed consumed;
-      last_size = size;
-      needed = λ _. subst IsLine (sym whole) m.is_line;
-      same =
-          sym (append_assoc before (m.earlier ++ m.last) (x ∷ xs)) ∙ ap (λ (t : List ℕ). t ++ x ∷ xs) whole
-          ∙ ap (λ (t : List ℕ). line ++ t) (ap (λ (t : List ℕ). t ++ x ∷ xs) (sym none) ∙ sym added);
-      is_line = m.is_line;
-    }
+module _ (before : List ℕ) (left_before : Option (List ℕ)) (line ahead : List ℕ) (left : Option (List ℕ)) where
+  -- nothing was read, or a read came behind the others
+  making_more : (read ahead_after : List ℕ) (left_after : Option (List ℕ))
+      → Making before left_before line ahead left → Consumes left left_after read → length read ≤ ahead_limit
+      → ahead_after ≡ ahead ++ read → (read ≢ [] → ahead ≡ []) → Making before left_before line ahead_after left_after
+  making_more [] ahead_after left_after m consumed size added needed = record {
+    earlier = m.earlier;
+    last = m.last;
+    consumed =
+        subst (Consumes left_before left_after) (append-nil (m.earlier ++ m.last))
+        (Consumes-trans left_before left left_after (m.earlier ++ m.last) [] m.consumed consumed);
+    last_size = m.last_size;
+    needed = m.needed;
+    same = m.same ∙ ap (λ (t : List ℕ). line ++ t) (sym (append-nil ahead) ∙ sym added);
+    is_line = m.is_line;
+  }
+  making_more (x ∷ xs) ahead_after left_after m consumed size added needed =
+      let none : ahead ≡ [] = needed (λ e. cc) in
+      let whole : before ++ (m.earlier ++ m.last) ≡ line =
+      m.same ∙ ap (λ (t : List ℕ). line ++ t) none ∙ append-nil line in
+      record {
+        earlier = m.earlier ++ m.last;
+        last = x ∷ xs;
+        consumed = Consumes-trans left_before left left_after (m.earlier ++ m.last) (x ∷ xs) m.consumed consumed;
+        last_size = size;
+        needed = λ _. subst IsLine (sym whole) m.is_line;
+        same =
+            sym (append_assoc before (m.earlier ++ m.last) (x ∷ xs)) ∙ ap (λ (t : List ℕ). t ++ x ∷ xs) whole
+            ∙ ap (λ (t : List ℕ). line ++ t) (ap (λ (t : List ℕ). t ++ x ∷ xs) (sym none) ∙ sym added);
+        is_line = m.is_line;
+      }
 
-pub making_filled : (before : List ℕ) (left_before : Option (List ℕ)) (line ahead : List ℕ) (left : Option (List ℕ)) (ahead_after : List ℕ)
-    (left_after : Option (List ℕ)) → Making before left_before line ahead left
-    → Fills ahead left ahead_after left_after → Making before left_before line ahead_after left_after
-making_filled before left_before line ahead left ahead_after left_after m f =
-    making_more before left_before line ahead left f.read ahead_after left_after m f.consumed f.size f.added f.needed
+  pub making_filled : {ahead_after : List ℕ} {left_after : Option (List ℕ)}
+      → Making before left_before line ahead left → Fills ahead left ahead_after left_after
+      → Making before left_before line ahead_after left_after
+  making_filled {ahead_after} {left_after} m f =
+      making_more f.read ahead_after left_after m f.consumed f.size f.added f.needed
 
-pub making_advanced : (before : List ℕ) (left_before : Option (List ℕ)) (line ahead : List ℕ) (left : Option (List ℕ)) (line_after ahead_after : List ℕ)
-    → Making before left_before line ahead left
-    → Advances line ahead step.Unfinished line_after ahead_after → Making before left_before line_after ahead_after left
-making_advanced before left_before line ahead left line_after ahead_after m a = record {
-  earlier = m.earlier;
-  last = m.last;
-  consumed = m.consumed;
-  last_size = m.last_size;
-  needed = m.needed;
-  same = m.same ∙ sym a.1 ∙ sym (append-nil line_after) ∙ ap (λ (t : List ℕ). line_after ++ t) (sym a.2);
-  is_line = a.0;
-}
+  pub making_advanced : (line_after ahead_after : List ℕ) → Making before left_before line ahead left
+      → Advances line ahead step.Unfinished line_after ahead_after
+      → Making before left_before line_after ahead_after left
+  making_advanced line_after ahead_after m a = record {
+    earlier = m.earlier;
+    last = m.last;
+    consumed = m.consumed;
+    last_size = m.last_size;
+    needed = m.needed;
+    same = m.same ∙ sym a.1 ∙ sym (append-nil line_after) ∙ ap (λ (t : List ℕ). line_after ++ t) (sym a.2);
+    is_line = a.0;
+  }
 
--- the line's LF came
-pub taken_at_lf : {E : Type 0} (before : List ℕ) (had ended : Bool) (left_before : Option (List ℕ)) (line ahead : List ℕ) (left : Option (List ℕ))
-    (line_after ahead_after : List ℕ) → had ≡ false → ended ≡ false → Making before left_before line ahead left
-    → Advances line ahead step.Ended line_after ahead_after
-    → NextLine {E = E} before had left_before (reader_state (progress_after {E = E} (Ok Whole)) line_after ahead_after ended) left (Ok Whole)
-taken_at_lf before had ended left_before line ahead left line_after ahead_after unended still m a = record {
-  earlier = m.earlier;
-  last = m.last;
-  consumed = m.consumed;
-  last_size = m.last_size;
-  needed = λ some. (unended, m.needed some);
-  ends = λ is. absurd cc;
-  given = line_after ++ lf ∷ [];
-  nothing_lost = m.same ∙ a.1 ∙ sym (append_assoc line_after (lf ∷ []) ahead_after);
-  answer = record { text = line_after; line = a.0; ended = inl (refl, still); reader = refl };
-}
+module _ {E : Type 0} (before : List ℕ) (had ended : Bool) (left_before : Option (List ℕ)) (line ahead : List ℕ)
+    (left : Option (List ℕ)) (line_after ahead_after : List ℕ) (unended : had ≡ false) (still : ended ≡ false) where
+  -- the line's LF came
+  pub taken_at_lf : Making before left_before line ahead left → Advances line ahead step.Ended line_after ahead_after
+      → NextLine {E = E} before had left_before
+      (reader_state (progress_after {E = E} (Ok Whole)) line_after ahead_after ended) left (Ok Whole)
+  taken_at_lf m a = record {
+    earlier = m.earlier;
+    last = m.last;
+    consumed = m.consumed;
+    last_size = m.last_size;
+    needed = λ some. (unended, m.needed some);
+    ends = λ is. absurd cc;
+    given = line_after ++ lf ∷ [];
+    nothing_lost = m.same ∙ a.1 ∙ sym (append_assoc line_after (lf ∷ []) ahead_after);
+    answer = record { text = line_after; line = a.0; ended = inl (refl, still); reader = refl };
+  }
 
--- it has passed its limit
-pub found_too_long : {E : Type 0} (before : List ℕ) (had ended : Bool) (left_before : Option (List ℕ)) (line ahead : List ℕ) (left : Option (List ℕ))
-    (line_after ahead_after : List ℕ) → had ≡ false → ended ≡ false → Making before left_before line ahead left
-    → Advances line ahead step.TooLong line_after ahead_after
-    → NextLine {E = E} before had left_before (reader_state (progress_after {E = E} (Ok Long)) line_after ahead_after ended) left (Ok Long)
-found_too_long before had ended left_before line ahead left line_after ahead_after unended still m a =
-    let stays : line_after ++ ahead_after ≡ line ++ ahead = cc in
-    record {
-      earlier = m.earlier;
-      last = m.last;
-      consumed = m.consumed;
-      last_size = m.last_size;
-      needed = λ some. (unended, m.needed some);
-      ends = λ is. absurd cc;
-      given = [];
-      nothing_lost = m.same ∙ sym stays;
-      answer = record { none = refl; line = subst IsTooLong (sym stays) a.0; reader = ap (reader_state TooLong line_after ahead_after) still };
-    }
+  -- it has passed its limit
+  pub found_too_long : Making before left_before line ahead left
+      → Advances line ahead step.TooLong line_after ahead_after → NextLine {E = E} before had left_before
+      (reader_state (progress_after {E = E} (Ok Long)) line_after ahead_after ended) left (Ok Long)
+  found_too_long m a =
+      let stays : line_after ++ ahead_after ≡ line ++ ahead = cc in
+      record {
+        earlier = m.earlier;
+        last = m.last;
+        consumed = m.consumed;
+        last_size = m.last_size;
+        needed = λ some. (unended, m.needed some);
+        ends = λ is. absurd cc;
+        given = [];
+        nothing_lost = m.same ∙ sym stays;
+        answer = record { none = refl; line = subst IsTooLong (sym stays) a.0; reader = ap (reader_state TooLong line_after ahead_after) still };
+      }
 
 -- the source has ended
-pub taken_at_end : {E : Type 0} (before : List ℕ) (had : Bool) (left_before : Option (List ℕ)) (line ahead : List ℕ) (left : Option (List ℕ))
-    (taken : LineTaken) → had ≡ false → Making before left_before line ahead left → ahead ≡ [] → IsAtEnd left
-    → ((taken ≡ End) × (line ≡ [])) ⊎ ((taken ≡ Whole) × (line ≢ []))
-    → NextLine {E = E} before had left_before (reader_state (progress_after {E = E} (Ok taken)) line ahead true) left (Ok taken)
-taken_at_end {E} before had left_before line ahead left taken unended m none end (inl h) =
+pub taken_at_end : {E : Type 0} {before : List ℕ} (had : Bool) {left_before : Option (List ℕ)} {line ahead : List ℕ}
+    {left : Option (List ℕ)} (taken : LineTaken) → had ≡ false → Making before left_before line ahead left
+    → ahead ≡ [] → IsAtEnd left → ((taken ≡ End) × (line ≡ [])) ⊎ ((taken ≡ Whole) × (line ≢ []))
+    → NextLine {E = E} before had left_before (reader_state (progress_after {E = E} (Ok taken)) line ahead true) left
+    (Ok taken)
+taken_at_end {E} {before} had {left_before} {line} {ahead} {left} taken unended m none end (inl h) =
     let P = λ (t : LineTaken). NextLine {E = E} before had left_before (reader_state (progress_after {E = E} (Ok t)) line ahead true) left (Ok t) in
     subst P (sym h.0) (record {
       earlier = m.earlier;
@@ -131,11 +134,11 @@ taken_at_end {E} before had left_before line ahead left taken unended m none end
       nothing_lost = m.same;
       answer = record {
         none = refl;
-        reader = ap (λ (t : List ℕ). reader_state Unfinished t ahead true) h.1 ∙ ap (λ (t : List ℕ). reader_state Unfinished [] t true) none;
+        reader = ap (λ t. reader_state Unfinished t ahead true) h.1 ∙ ap (λ t. reader_state Unfinished [] t true) none;
         end = inr end;
       };
     })
-taken_at_end {E} before had left_before line ahead left taken unended m none end (inr h) =
+taken_at_end {E} {before} had {left_before} {line} {ahead} {left} taken unended m none end (inr h) =
     let P = λ (t : LineTaken). NextLine {E = E} before had left_before (reader_state (progress_after {E = E} (Ok t)) line ahead true) left (Ok t) in
     subst P (sym h.0) (record {
       earlier = m.earlier;
@@ -150,10 +153,11 @@ taken_at_end {E} before had left_before line ahead left taken unended m none end
     })
 
 -- a read failed
-pub kept_after_failure : {E : Type 0} (before : List ℕ) (had ended : Bool) (left_before : Option (List ℕ)) (line ahead : List ℕ) (left : Option (List ℕ))
-    (e : E) → had ≡ false → ended ≡ false → Making before left_before line ahead left → ahead ≡ []
+pub kept_after_failure : {E : Type 0} {before : List ℕ} (had ended : Bool) {left_before : Option (List ℕ)}
+    {line ahead : List ℕ} {left : Option (List ℕ)} (e : E) → had ≡ false → ended ≡ false
+    → Making before left_before line ahead left → ahead ≡ []
     → NextLine before had left_before (reader_state (progress_after (Err e)) line ahead ended) left (Err e)
-kept_after_failure before had ended left_before line ahead left e unended still m none = record {
+kept_after_failure had ended {line} e unended still m none = record {
   earlier = m.earlier;
   last = m.last;
   consumed = m.consumed;
@@ -165,7 +169,7 @@ kept_after_failure before had ended left_before line ahead left e unended still 
   answer = record {
     none = refl;
     line = m.is_line;
-    reader = ap (λ (t : List ℕ). reader_state Unfinished line t ended) none ∙ ap (reader_state Unfinished line []) still;
+    reader = ap (λ t. reader_state Unfinished line t ended) none ∙ ap (reader_state Unfinished line []) still;
   };
 }
 
@@ -208,16 +212,17 @@ long_unended line ahead false long keeps = refl
 pub making_next : (progress : Progress) (line ahead : List ℕ) (ended : Bool) (cleared : List ℕ) (now : LineReaderState) (left : Option (List ℕ))
     → reader_state progress line ahead ended ≡ now → progress ≡ Taken → cleared ≡ [] → Making (pending now) left cleared ahead left
 making_next progress line ahead ended cleared now left same is none =
-    let pending_is : pending now ≡ ahead = sym (ap pending same) ∙ ap (λ (p : Progress). pending (reader_state p line ahead ended)) is in
+    let pending_is : pending now ≡ ahead = sym (ap pending same) ∙ ap (λ p. pending (reader_state p line ahead ended)) is in
     let empty : IsLine [] = record { unbroken = λ k octet within. absurd (omega (arith, within)); within = omega arith } in
-    rw (pending_is, none) (making_begun [] ahead left empty)
+    rw (pending_is, none) (making_begun ahead left empty)
 
 -- an unfinished line goes on
-pub making_on : (progress : Progress) (line ahead : List ℕ) (ended : Bool) (now : LineReaderState) (left : Option (List ℕ))
-    → reader_state progress line ahead ended ≡ now → progress ≡ Unfinished → IsLine line → Making (pending now) left line ahead left
-making_on progress line ahead ended now left same is is_line =
-    let pending_is : pending now ≡ line ++ ahead = sym (ap pending same) ∙ ap (λ (p : Progress). pending (reader_state p line ahead ended)) is in
-    rw pending_is (making_begun line ahead left is_line)
+pub making_on : (progress : Progress) {line : List ℕ} (ahead : List ℕ) (ended : Bool) (now : LineReaderState)
+    (left : Option (List ℕ)) → reader_state progress line ahead ended ≡ now → progress ≡ Unfinished → IsLine line
+    → Making (pending now) left line ahead left
+making_on progress {line} ahead ended now left same is is_line =
+    let pending_is : pending now ≡ line ++ ahead = sym (ap pending same) ∙ ap (λ p. pending (reader_state p line ahead ended)) is in
+    rw pending_is (making_begun ahead left is_line)
 
 -- the line so far and what is ahead are of a reader, and where the end was found nothing is pending
 pub record MadeOf (now : LineReaderState) (line ahead : List ℕ) (ended : Bool) : Type 0 where
@@ -233,8 +238,8 @@ pub made_next : (progress : Progress) (line ahead : List ℕ) (ended : Bool) (cl
     → reader_state progress line ahead ended ≡ now → progress ≡ Taken → cleared ≡ [] → KeepsEnd (reader_state progress line ahead ended)
     → MadeOf now cleared ahead ended
 made_next progress line ahead ended cleared now same is none keeps =
-    let now_is : reader_state Taken line ahead ended ≡ now = ap (λ (p : Progress). reader_state p line ahead ended) (sym is) ∙ same in
-    let end : ended ≡ true → ahead ≡ [] = subst (λ (p : Progress). KeepsEnd (reader_state p line ahead ended)) is keeps in
+    let now_is : reader_state Taken line ahead ended ≡ now = ap (λ p. reader_state p line ahead ended) (sym is) ∙ same in
+    let end : ended ≡ true → ahead ≡ [] = subst (λ p. KeepsEnd (reader_state p line ahead ended)) is keeps in
     record {
       same = sym (ap (λ (r : LineReaderState). r.ended) now_is);
       none = λ on. (sym (ap pending now_is) ∙ end on, none, end on);
@@ -244,26 +249,28 @@ made_next progress line ahead ended cleared now same is none keeps =
 pub made_on : (progress : Progress) (line ahead : List ℕ) (ended : Bool) (now : LineReaderState) → reader_state progress line ahead ended ≡ now
     → progress ≡ Unfinished → KeepsEnd (reader_state progress line ahead ended) → MadeOf now line ahead ended
 made_on progress line ahead ended now same is keeps =
-    let now_is : reader_state Unfinished line ahead ended ≡ now = ap (λ (p : Progress). reader_state p line ahead ended) (sym is) ∙ same in
-    let end : ended ≡ true → line ++ ahead ≡ [] = subst (λ (p : Progress). KeepsEnd (reader_state p line ahead ended)) is keeps in
+    let now_is : reader_state Unfinished line ahead ended ≡ now = ap (λ p. reader_state p line ahead ended) (sym is) ∙ same in
+    let end : ended ≡ true → line ++ ahead ≡ [] = subst (λ p. KeepsEnd (reader_state p line ahead ended)) is keeps in
     record {
       same = sym (ap (λ (r : LineReaderState). r.ended) now_is);
       none = λ on. (sym (ap pending now_is) ∙ end on, (none_before line ahead (end on)).0, (none_before line ahead (end on)).1);
       all = sym (ap pending now_is);
     }
 
-pub found_ended : {E : Type 0} (now : LineReaderState) (line ahead : List ℕ) (ended : Bool) (left : Option (List ℕ)) → MadeOf now line ahead ended
-    → ended ≡ true → NextLine {E = E} (pending now) now.ended left (reader_state Unfinished line ahead ended) left (Ok End)
-found_ended now line ahead ended left m on =
-    let none = m.none on in
-    still_ended (pending now) now.ended left (reader_state Unfinished line ahead ended) (m.same ∙ on) none.0
-    (ap (λ (t : List ℕ). reader_state Unfinished t ahead ended) none.1 ∙ ap (λ (t : List ℕ). reader_state Unfinished [] t ended) none.2
-    ∙ ap (reader_state Unfinished [] []) on)
+module _ {E : Type 0} (now : LineReaderState) (line ahead : List ℕ) (ended : Bool) (left : Option (List ℕ)) where
+  pub found_ended : MadeOf now line ahead ended → ended ≡ true
+      → NextLine {E = E} (pending now) now.ended left (reader_state Unfinished line ahead ended) left (Ok End)
+  found_ended m on =
+      let none = m.none on in
+      still_ended (pending now) now.ended left (reader_state Unfinished line ahead ended) (m.same ∙ on) none.0
+      (ap (λ t. reader_state Unfinished t ahead ended) none.1 ∙ ap
+      (λ t. reader_state Unfinished [] t ended) none.2
+      ∙ ap (reader_state Unfinished [] []) on)
 
--- what is taken of these octets is taken of what was pending
-pub taken_of_made : {E : Type 0} (now : LineReaderState) (line ahead : List ℕ) (ended : Bool) (left : Option (List ℕ)) (after : LineReaderState)
-    (rest : Option (List ℕ)) (result : Result LineTaken E) → MadeOf now line ahead ended → ended ≡ false
-    → NextLine (line ++ ahead) false left after rest result → NextLine (pending now) now.ended left after rest result
-taken_of_made now line ahead ended left after rest result m off is =
-    subst (λ (e : Bool). NextLine (pending now) e left after rest result) (sym (m.same ∙ off))
-    (subst (λ (t : List ℕ). NextLine t false left after rest result) (sym m.all) is)
+  -- what is taken of these octets is taken of what was pending
+  pub taken_of_made : {after : LineReaderState} {rest : Option (List ℕ)} {result : Result LineTaken E}
+      → MadeOf now line ahead ended → ended ≡ false → NextLine (line ++ ahead) false left after rest result
+      → NextLine (pending now) now.ended left after rest result
+  taken_of_made {after} {rest} {result} m off is =
+      subst (λ e. NextLine (pending now) e left after rest result) (sym (m.same ∙ off))
+      (subst (λ t. NextLine t false left after rest result) (sym m.all) is)

@@ -2,23 +2,24 @@
 use Rattle.std.proofs.{Common.{◌++◌, ◌∙◌, ◌≡◌, ◌≤◌, List, Some, [], ap, append-nil, drop, length, sym, take, ℕ}, lemmas.List.{take-append-drop, take-append-le}}
 use Rattle.tte_io.specs.Told.{PassesSome}
 
--- no more of it
-pub passes_none : (passed written : List ℕ) (count : ℕ) → take count written ≡ passed → PassesSome (Some passed) (Some passed) (Some written)
-passes_none passed written count front = record {
-  more = [];
-  grown = sym (append-nil passed);
-  held = drop count written;
-  front = sym (take-append-drop count written) ∙ ap (λ (t : List ℕ). t ++ drop count written) front;
-}
+module _ (passed written : List ℕ) (count : ℕ) (front : take count written ≡ passed) where
+  -- no more of it
+  pub passes_none : PassesSome (Some passed) (Some passed) (Some written)
+  passes_none = record {
+    more = [];
+    grown = sym (append-nil passed);
+    held = drop count written;
+    front = sym (take-append-drop count written) ∙ ap (λ (t : List ℕ). t ++ drop count written) front;
+  }
 
--- all of it
-pub passes_all : (passed written : List ℕ) (count : ℕ) → take count written ≡ passed → PassesSome (Some passed) (Some written) (Some written)
-passes_all passed written count front = record {
-  more = drop count written;
-  grown = sym (take-append-drop count written) ∙ ap (λ (t : List ℕ). t ++ drop count written) front;
-  held = [];
-  front = sym (append-nil written);
-}
+  -- all of it
+  pub passes_all : PassesSome (Some passed) (Some written) (Some written)
+  passes_all = record {
+    more = drop count written;
+    grown = sym (take-append-drop count written) ∙ ap (λ (t : List ℕ). t ++ drop count written) front;
+    held = [];
+    front = sym (append-nil written);
+  }
 
 -- no more of it, where more was put
 pub passed_still : (written more : List ℕ) (count : ℕ) → count ≤ length written → take count (written ++ more) ≡ take count written

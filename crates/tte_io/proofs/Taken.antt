@@ -12,7 +12,7 @@ too_many-left (Some xs) (Some ys) limit taken = omega (arith, ap length taken.2,
 pub given_front : (xs left copied rest : List ℕ) (taken n : ℕ) → drop taken xs ≡ left → copied ≡ take n left → n ≤ length left
     → left ≡ take n (copied ++ rest) ++ drop (taken + n) xs
 given_front xs left copied rest taken n is copy within =
-    let size : length copied ≡ n = omega (arith, ap (λ (l : List ℕ). length l) copy, length-take n left) in
+    let size : length copied ≡ n = omega (arith, ap (λ l. length l) copy, length-take n left) in
     let front = take-append-le n copied rest (omega (arith, size)) ∙ take_all n copied (omega (arith, size)) ∙ copy in
     let back = sym (drop-drop n taken xs) ∙ ap (λ (l : List ℕ). drop n l) is in
     rw (front, back) (sym (take-append-drop n left))

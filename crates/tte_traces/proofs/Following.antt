@@ -156,7 +156,7 @@ some_found found.Whole n =
             (λ (r : LineReaderState). r.text) n.answer.reader ∙ ap (λ (l : List ℕ). Some l) (sym first),
       ),
     )
-some_found {after} found.Long n = (pending after ++ [], first_line-too_long (pending after) [] n.answer.line)
+some_found {after} found.Long n = (pending after ++ [], first_line-too_long [] n.answer.line)
 some_found found.End n = ([], refl)
 
 -- how a trace goes on, by how the events go on with what was found
@@ -316,7 +316,7 @@ module _ (network : Network) (came : List ℕ) (events : List Event) (old : Trac
         let none_read : reader.ended ≡ true → left ≡ [] = λ is. none (ap (λ (r : LineReaderState). r.ended) same ∙ is) in
         let told = as_told (pending old.reader) old.reader.ended left_before reader left_after (Ok t) n left none_read in
         let r = before_any (Ok t) n left none_read in
-        let outcome = outcome_told (pending old.reader) old.reader.ended (Some (read ++ left)) reader (Some left) (Ok t) told in
+        let outcome = outcome_told old.reader.ended (Some (read ++ left)) (Some left) told in
         behind_more_octets network came read left events result new r.admitted
         (reads_told network (came ++ (read ++ left)) events result new left
         (reads_so network (came ++ (read ++ left)) events (read
@@ -334,7 +334,7 @@ module _ (network : Network) (came : List ℕ) (events : List Event) (old : Trac
         let read = n.earlier ++ n.last in
         let told = as_told (pending old.reader) old.reader.ended left_before reader left_after (Err stop) n left none in
         let r = before_any (Err stop) n left none in
-        let outcome = outcome_told (pending old.reader) old.reader.ended (Some (read ++ left)) reader (Some left) (Err stop) told in
+        let outcome = outcome_told old.reader.ended (Some (read ++ left)) (Some left) told in
         behind_more_octets network came read left events (Err stop) (record old { reader = reader }) r.admitted
         (reads_told network (came ++ (read ++ left)) events (Err stop) (record old { reader = reader }) left
         (reads_same network (came ++ (read ++ left)) events (read ++ left) old stop refl r which told outcome));

@@ -6,7 +6,7 @@ pub returns-in-Some-clause-next : goal.returns-in-Some-clause-next
 returns-in-Some-clause-next g c = found_over _ _ _ _ _ c.in-Some.found (c.in-Some.ensures.found (g.B.Source.left c.args.source.now))
 
 pub returns-in-Some-clause-told : goal.returns-in-Some-clause-told
-returns-in-Some-clause-told g c = outcome_told _ _ _ _ _ _ (returns-in-Some-clause-next g c)
+returns-in-Some-clause-told g c = outcome_told _ _ _ (returns-in-Some-clause-next g c)
 
 pub returns-in-Err-clause-next : goal.returns-in-Err-clause-next
 returns-in-Err-clause-next g c =
@@ -14,7 +14,7 @@ returns-in-Err-clause-next g c =
     c.in-None.ensures.none.2
 
 pub returns-in-Err-clause-told : goal.returns-in-Err-clause-told
-returns-in-Err-clause-told g c = outcome_told _ _ _ _ _ _ (returns-in-Err-clause-next g c)
+returns-in-Err-clause-told g c = outcome_told _ _ _ (returns-in-Err-clause-next g c)
 
 pub returns-in-Ok-next_line-clause-next : goal.returns-in-Ok-next_line-clause-next
 returns-in-Ok-next_line-clause-next g c =
@@ -24,7 +24,7 @@ returns-in-Ok-next_line-clause-next g c =
     unmoved _ _ c.in-None.ensures.none next
 
 pub returns-in-Ok-next_line-clause-told : goal.returns-in-Ok-next_line-clause-told
-returns-in-Ok-next_line-clause-told g c = outcome_told _ _ _ _ _ _ (returns-in-Ok-next_line-clause-next g c)
+returns-in-Ok-next_line-clause-told g c = outcome_told _ _ _ (returns-in-Ok-next_line-clause-next g c)
 
 pub returns-in-Err-next_line-clause-next : goal.returns-in-Err-next_line-clause-next
 returns-in-Err-next_line-clause-next g c =
@@ -34,4 +34,4 @@ returns-in-Err-next_line-clause-next g c =
     unmoved _ _ c.in-None.ensures.none next
 
 pub returns-in-Err-next_line-clause-told : goal.returns-in-Err-next_line-clause-told
-returns-in-Err-next_line-clause-told g c = outcome_told _ _ _ _ _ _ (returns-in-Err-next_line-clause-next g c)
+returns-in-Err-next_line-clause-told g c = outcome_told _ _ _ (returns-in-Err-next_line-clause-next g c)

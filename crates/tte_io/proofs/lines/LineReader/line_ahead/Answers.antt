@@ -2,18 +2,18 @@ use Rattle.std.proofs.Common.{◌∙◌, ◌≡◌, Ok, ap, refl, subst, sym}
 use Rattle.tte_io.proofs.Making.{MadeOf, Making, found_ended, found_too_long, long_unended, made_next, made_on, making_next, making_on, still_too_long}
 use Rattle.tte_io.{proofs.{Making.taken_at_lf, lines.LineReader.line_ahead.Goals.{in-Taken, in-Unfinished}}, specs.{NextLine.NextLine, Progress.reader_state}}
 use Rattle.tte_io.specs.{ReaderState.{KeepsEnd, KeepsLongLine, LineReaderState, pending}, declared.ends.SourceFailed.SourceFailed}
-use Rattle.tte_io.specs.declared.lines.{LineTaken.TheVariants.Long, Progress.{Progress, TheVariants.TooLong}}
+use Rattle.tte_io.specs.declared.lines.{LineTaken.TheVariants.Long, Progress.TheVariants.TooLong}
 use Rattle.tte_io.proofs.lines.LineReader.line_ahead.Goals as goal
 
 pub returns-in-TooLong-clause-found : goal.returns-in-TooLong-clause-found
 returns-in-TooLong-clause-found c left =
     let r = c.self.inside in
     let is : reader_state TooLong r.line r.ahead r.ended ≡ c.args.self.now =
-    ap (λ (p : Progress). reader_state p r.line r.ahead r.ended) (sym c.in-TooLong.is) ∙ c.self.view_is in
+    ap (λ p. reader_state p r.line r.ahead r.ended) (sym c.in-TooLong.is) ∙ c.self.view_is in
     let long : KeepsLongLine (reader_state TooLong r.line r.ahead r.ended) =
-    subst (λ (p : Progress). KeepsLongLine (reader_state p r.line r.ahead r.ended)) c.in-TooLong.is c.self.invariant.2 in
+    subst (λ p. KeepsLongLine (reader_state p r.line r.ahead r.ended)) c.in-TooLong.is c.self.invariant.2 in
     let end : KeepsEnd (reader_state TooLong r.line r.ahead r.ended) =
-    subst (λ (p : Progress). KeepsEnd (reader_state p r.line r.ahead r.ended)) c.in-TooLong.is c.self.invariant.3 in
+    subst (λ p. KeepsEnd (reader_state p r.line r.ahead r.ended)) c.in-TooLong.is c.self.invariant.3 in
     subst (λ (s : LineReaderState). NextLine {E = SourceFailed} (pending s) s.ended left s left (Ok Long)) is
     (still_too_long r.line r.ahead r.ended left (long_unended r.line r.ahead r.ended (long refl) end) (long refl))
 
@@ -24,7 +24,8 @@ returns-in-Ended-clause-found c left =
     let making : Making (pending c.args.self.now) left at.line at.ahead left = elim c.match-self.branch [
       | in-Taken w ↦
           rw w.self-inside-is (making_next r.progress r.line r.ahead r.ended w.clear.new.self c.args.self.now left c.self.view_is w.in-Taken.is w.clear.ensures)
-      | in-Unfinished w ↦ rw w.self-inside-is (making_on r.progress r.line r.ahead r.ended c.args.self.now left c.self.view_is w.in-Unfinished.is
+      | in-Unfinished w ↦ rw w.self-inside-is (making_on r.progress r.ahead r.ended c.args.self.now left
+          c.self.view_is w.in-Unfinished.is
           c.self.invariant.0)
     ] in
     let made : MadeOf c.args.self.now at.line at.ahead at.ended = elim c.match-self.branch [
@@ -42,7 +43,8 @@ returns-in-TooLong-advance-clause-found c left =
     let making : Making (pending c.args.self.now) left at.line at.ahead left = elim c.match-self.branch [
       | in-Taken w ↦
           rw w.self-inside-is (making_next r.progress r.line r.ahead r.ended w.clear.new.self c.args.self.now left c.self.view_is w.in-Taken.is w.clear.ensures)
-      | in-Unfinished w ↦ rw w.self-inside-is (making_on r.progress r.line r.ahead r.ended c.args.self.now left c.self.view_is w.in-Unfinished.is
+      | in-Unfinished w ↦ rw w.self-inside-is (making_on r.progress r.ahead r.ended c.args.self.now left
+          c.self.view_is w.in-Unfinished.is
           c.self.invariant.0)
     ] in
     let made : MadeOf c.args.self.now at.line at.ahead at.ended = elim c.match-self.branch [

@@ -1,5 +1,5 @@
 use Rattle.{std.proofs.Common.{◌∙◌, ◌≡◌, Ok, ap, refl, subst, sym}, tte_io.specs.declared.lines.{LineTaken.TheVariants.Long, Progress.TheVariants.TooLong}}
-use Rattle.{std.proofs.lemmas.Result.err_from_is_err_and, tte_io.specs.{NextLine.NextLine, declared.{ends.SourceFailed.SourceFailed, lines.Progress.Progress}}}
+use Rattle.{std.proofs.lemmas.Result.err_from_is_err_and, tte_io.specs.{NextLine.NextLine, declared.ends.SourceFailed.SourceFailed}}
 use Rattle.tte_io.proofs.Coming.{outcome_told}
 use Rattle.tte_io.{proofs.Making.{MadeOf, found_ended, long_unended, made_next, made_on, still_too_long, taken_of_made}, specs.Progress.reader_state}
 use Rattle.tte_io.{proofs.lines.LineReader.next_line.Goals.{in-Taken, in-Unfinished}, specs.ReaderState.{KeepsEnd, KeepsLongLine, LineReaderState, pending}}
@@ -10,16 +10,16 @@ returns-in-TooLong-clause-next g c =
     let r = c.self.inside in
     let left = g.S.Source.left c.args.source.now in
     let is : reader_state TooLong r.line r.ahead r.ended ≡ c.args.self.now =
-    ap (λ (p : Progress). reader_state p r.line r.ahead r.ended) (sym c.in-TooLong.is) ∙ c.self.view_is in
+    ap (λ p. reader_state p r.line r.ahead r.ended) (sym c.in-TooLong.is) ∙ c.self.view_is in
     let long : KeepsLongLine (reader_state TooLong r.line r.ahead r.ended) =
-    subst (λ (p : Progress). KeepsLongLine (reader_state p r.line r.ahead r.ended)) c.in-TooLong.is c.self.invariant.2 in
+    subst (λ p. KeepsLongLine (reader_state p r.line r.ahead r.ended)) c.in-TooLong.is c.self.invariant.2 in
     let end : KeepsEnd (reader_state TooLong r.line r.ahead r.ended) =
-    subst (λ (p : Progress). KeepsEnd (reader_state p r.line r.ahead r.ended)) c.in-TooLong.is c.self.invariant.3 in
+    subst (λ p. KeepsEnd (reader_state p r.line r.ahead r.ended)) c.in-TooLong.is c.self.invariant.3 in
     subst (λ (s : LineReaderState). NextLine {E = SourceFailed} (pending s) s.ended left s left (Ok Long)) is
     (still_too_long r.line r.ahead r.ended left (long_unended r.line r.ahead r.ended (long refl) end) (long refl))
 
 pub returns-in-TooLong-clause-told : goal.returns-in-TooLong-clause-told
-returns-in-TooLong-clause-told g c = outcome_told _ _ _ _ _ _ (returns-in-TooLong-clause-next g c)
+returns-in-TooLong-clause-told g c = outcome_told _ _ _ (returns-in-TooLong-clause-next g c)
 
 pub returns-then-self-clause-next : goal.returns-then-self-clause-next
 returns-then-self-clause-next g c =
@@ -34,7 +34,7 @@ returns-then-self-clause-next g c =
     found_ended c.args.self.now at.line at.ahead at.ended (g.S.Source.left c.args.source.now) made c.if-self.true
 
 pub returns-then-self-clause-told : goal.returns-then-self-clause-told
-returns-then-self-clause-told g c = outcome_told _ _ _ _ _ _ (returns-then-self-clause-next g c)
+returns-then-self-clause-told g c = outcome_told _ _ _ (returns-then-self-clause-next g c)
 
 pub returns-in_err-taken-clause-next : goal.returns-in_err-taken-clause-next
 returns-in_err-taken-clause-next g c =
@@ -47,7 +47,7 @@ returns-in_err-taken-clause-next g c =
       | in-Unfinished w ↦ rw w.self-inside-is (made_on r.progress r.line r.ahead r.ended c.args.self.now c.self.view_is w.in-Unfinished.is c.self.invariant.3)
     ] in
     rw ((err_from_is_err_and c.from_residual.result c.from_residual.ensures.1).1)
-    (taken_of_made c.args.self.now at.line at.ahead at.ended _ _ _ _ made c.if-self.false c.in_err-taken.ensures.next)
+    (taken_of_made c.args.self.now at.line at.ahead at.ended _ made c.if-self.false c.in_err-taken.ensures.next)
 
 pub returns-in_err-taken-clause-told : goal.returns-in_err-taken-clause-told
-returns-in_err-taken-clause-told g c = outcome_told _ _ _ _ _ _ (returns-in_err-taken-clause-next g c)
+returns-in_err-taken-clause-told g c = outcome_told _ _ _ (returns-in_err-taken-clause-next g c)

@@ -10,7 +10,7 @@ returns-clause-octets c =
     let left : c.split_at.result.1.now ≡ c.args.self.now.left = c.split_at.ensures.back ∙ ap (λ (l : List ℕ). drop s.taken l) c.deref.ensures.value ∙ state in
     let copy : c.copy_from_slice.new.self ≡ take n c.args.self.now.left =
     c.copy_from_slice.ensures.after ∙ c.split_at-2.ensures.front ∙ ap (λ (l : List ℕ). take n l) left in
-    let size = ap (λ (l : List ℕ). length l) left in
+    let size = ap (λ l. length l) left in
     let within : n ≤ length c.args.self.now.left = omega (arith, size, c.min.ensures, c.min-count.ensures) in (
       given_front s.octets.items _ _ (drop n c.args.buf.now) s.taken n state copy within,
       λ zero some. drop_all (s.taken + n) s.octets.items
@@ -19,7 +19,7 @@ returns-clause-octets c =
             zero,
             some,
             size,
-            ap (λ (l : List ℕ). length l) state,
+            ap (λ l. length l) state,
             length-drop s.taken s.octets.items,
             length-take n c.args.buf.now,
             length-append c.copy_from_slice.new.self (drop n c.args.buf.now),
