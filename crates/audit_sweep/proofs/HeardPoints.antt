@@ -41,9 +41,9 @@ heard_before_corrections s hs device t founded none =
     (λ h i. ap (λ (b : Bool). b && changes_adjustment device h.note.body) (le-ltb (time_of h) t (not_earlier h i))) in
     let quiet = makes_none f (filter (kept es) late)
     (λ h i. high_quiet s.network device h h.note.body (not_lower h (in_filter (kept es) late h i))) in
-    ap (λ gs. heard_since_point s gs device t) (before_is_front {hs = hs} {p = t ∷ 6 ∷ []} at)
+    ap (λ gs. heard_since_point s gs device t) (before_is_front at)
     ∙ sym (ap (λ (gs : List Happening). filter_map f (filter (kept gs) (after_last set hs)))
-    (sym (same_earlier t (6 ∷ []) {hs = hs} at))
+    (sym (same_earlier t (6 ∷ []) at))
     ∙ ap (λ (gs : List Happening). filter_map f (filter (kept es) (after_last set gs))) at.whole
     ∙ ap (λ gs. filter_map f (filter (kept es) gs)) since
     ∙ ap (filter_map f) (filter-append (kept es) (after_last set front) late)

@@ -59,7 +59,7 @@ one_time ow (o ∷ ps) (c ∷ cs) some up are p at =
   where
     only : p.reading ≤ℤ c.end → (d : Cluster) → (c ≡ d) ⊎ Contains cs d → LiesIn d p → d ≡ c
     only within d (inl e) lies = sym e
-    only within d (inr at) lies = absurd (only_first ow ps c cs {p = p} are.1 within {d = d} at lies)
+    only within d (inr at) lies = absurd (only_first ow ps c cs {p = p} are.1 within at lies)
 
     other : c.end <ℤ p.reading → (k : Cluster) → ((d : Cluster) → Contains cs d → LiesIn d p → d ≡ k) → (d : Cluster) → (c ≡ d) ⊎ Contains cs d → LiesIn d p
         → d ≡ k

@@ -106,8 +106,8 @@ module _ (network : Network) (octets : List ℕ) (ns : List Note) (end : Units) 
       let p = parted_there of number h there in
       let at = split place_of (IsDue own) all (place_of h) of.run.founded in
       ap (λ es. (adjustment_after own es device).0)
-      (ap (earlier (time_of h)) (sym p.are ∙ before_is_front {hs = all} {p = place_of h} at)
-      ∙ same_earlier (time_of h) (rank h.note.body ∷ key (members_in h) h.note.body) {hs = all} at)
+      (ap (earlier (time_of h)) (sym p.are ∙ before_is_front at)
+      ∙ same_earlier (time_of h) (rank h.note.body ∷ key (members_in h) h.note.body) at)
 
   pub corrected_by : (cycle : ℕ) (by adjustment : Units) → h.note.body ≡ notes.Corrected device cycle by adjustment
       → IsCorrectedBy by (corrected_ground own all h device cycle)

@@ -48,8 +48,8 @@ module _ (network : Network) (octets : List ℕ) (ns : List Note) (end : Units) 
   same_times =
       let p = parted_there of number h there in
       let at = split place_of (IsDue own) all (place_of h) of.run.founded in
-      ap (earlier (time_of h)) (sym p.are ∙ before_is_front {hs = all} {p = place_of h} at)
-      ∙ same_earlier (time_of h) (rank h.note.body ∷ key (members_in h) h.note.body) {hs = all} at
+      ap (earlier (time_of h)) (sym p.are ∙ before_is_front at)
+      ∙ same_earlier (time_of h) (rank h.note.body ∷ key (members_in h) h.note.body) at
 
   arrives : SaysTaken h.note.body device link cause vl cycle → (signal : Signal) × TakesIn (arrival_of own before device (time_of h) link cause signal) vl cycle
   arrives (inl is) =

@@ -194,11 +194,11 @@ module _ (s : Scenario) (hs : List Happening) (t : ℕ) (device : DeviceId) (lin
       ≡ arrival_of s hs device t link cause signal
   same_outcome (control frame) founded at may =
       ap (λ p. control_arrival s.network device link p frame)
-      (same_standpoint s device t at.front hs (same_earlier t _ {hs = hs} at))
+      (same_standpoint s device t at.front hs (same_earlier t _ at))
   same_outcome (timed octets) founded at may =
       let here = standpoint s hs device t in
       ap (λ p. timed_arrival s.network device link p octets (last_taken at.front device t link cause))
-      (same_standpoint s device t at.front hs (same_earlier t _ {hs = hs} at))
+      (same_standpoint s device t at.front hs (same_earlier t _ at))
       ∙ by_octets s.network device link here octets (last_taken at.front device t link cause)
       (last_taken hs device t link cause)
       (octets_fault s.network here octets) (λ vl. same_taken vl founded at may)
@@ -284,7 +284,7 @@ some_arrival {s} {hs} {until} {cause} founded o =
       says = refl;
     } in (
       x,
-      due_there (IsDueByArrival s) {hs = hs} {p = p} at x place due,
+      due_there (IsDueByArrival s) at x place due,
       within o.time until (rank body ∷ key (members_in x) body) o.timely,
       tells o.device o.link cause o.is,
       refl,

@@ -78,7 +78,7 @@ some_change {s} {hs} {until} {cause} founded o =
     let p = place_at o.time 0 body in
     let at = split place_of (IsDue s) hs p founded in
     let changes = moved s hs at.front o.device o.time o.state cause o.why o.brought
-    (sym (same_earlier o.time _ {hs = hs} at)) (λ h is low.
+    (sym (same_earlier o.time _ at)) (λ h is low.
     found_before s hs p founded at cause h is.there
     (ahead (time_of h) o.time (rank h.note.body) 7 (key (members_in h) h.note.body) (o.device.0 ∷ cause ∷ []) (omega (arith, is.same_time)) low)) o.changes in
     let x = next_of s at.front o.time body in
@@ -92,7 +92,7 @@ some_change {s} {hs} {until} {cause} founded o =
       changes = changes;
       says = refl;
     } in
-    (x, due_there (IsDueByChange s) {hs = hs} {p = p} at x refl due, within o.time until (7 ∷ o.device.0 ∷ cause ∷ []) o.timely, refl, refl)
+    (x, due_there (IsDueByChange s) at x refl due, within o.time until (7 ∷ o.device.0 ∷ cause ∷ []) o.timely, refl, refl)
 
 change_owed : (s : Scenario) {hs : List Happening} (until : ℕ) {x : Happening}
     → IsDueIn place_of (IsDueByChange s) hs x → IsBefore (place_of x) ((until + 1) ∷ [])

@@ -208,7 +208,7 @@ some_point {s} {hs} {until} {device} {time} founded o =
       shows = shows_record s at.front device time o.cycle v o.more;
     } in (
       x,
-      due_there (IsDueByPoint s) {hs = hs} {p = p} at x
+      due_there (IsDueByPoint s) at x
           (record_place time (members_in x) device o.cycle adjustment v) due,
       within time until (rank body ∷ key (members_in x) body) o.timely,
       record { at = refl; of_point = is_of_point device o.cycle adjustment v },

@@ -79,7 +79,7 @@ some_departure {s} {hs} {until} {cause} {link} founded o =
       says = refl;
     } in (
       x,
-      due_there (IsDueByLeaving s) {hs = hs} {p = p} at x (record_place t (members_in x) o.device link cause d) due,
+      due_there (IsDueByLeaving s) at x (record_place t (members_in x) o.device link cause d) due,
       within t until (rank body ∷ key (members_in x) body) o.timely,
       tells o.device link cause d,
       refl,

@@ -30,12 +30,12 @@ some_sending {s} {hs} {until} {o} founded owed =
     let body = notes.Sent o.device o.cycle in
     let p = place_at o.time 0 body in
     let at = split place_of (IsDue s) hs p founded in
-    let sends = sends_by s hs at.front o.device o.time (sym (same_earlier o.time _ {hs = hs} at)) owed.sends in
+    let sends = sends_by s hs at.front o.device o.time (sym (same_earlier o.time _ at)) owed.sends in
     let x = next_of s at.front o.time body in
     let due : IsDueBySending s at.front x =
     record { due = next_is_due s at.front o.time body sends; device = o.device; cycle = o.cycle; sends = sends; says = refl } in
     let here = within o.time until (5 ∷ o.device.0 ∷ o.cycle ∷ []) owed.timely in
-    (x, due_there (IsDueBySending s) {hs = hs} {p = p} at x refl due, here, record { at = refl; says = refl }, refl)
+    (x, due_there (IsDueBySending s) at x refl due, here, record { at = refl; says = refl }, refl)
 
 sending_owed : (s : Scenario) {hs : List Happening} (until : ℕ) {x : Happening}
     → IsDueIn place_of (IsDueBySending s) hs x → IsBefore (place_of x) ((until + 1) ∷ [])
@@ -81,8 +81,7 @@ some_dispatch {s} {hs} {until} {o} founded owed =
     let body = dispatch_record o cut in
     let p = o.time ∷ rank body ∷ key 0 body in
     let at = split place_of (IsDue s) hs p founded in
-    let dispatches = dispatches_by s hs at.front o.device o.time
-    (sym (same_earlier o.time _ {hs = hs} at)) owed.dispatches in
+    let dispatches = dispatches_by s hs at.front o.device o.time (sym (same_earlier o.time _ at)) owed.dispatches in
     let x = next_of s at.front o.time body in
     let due : IsDueByDispatch s at.front x = record {
       due = next_is_due s at.front o.time body (causes_record o cut refl dispatches);
@@ -92,7 +91,7 @@ some_dispatch {s} {hs} {until} {o} founded owed =
       says = refl;
     } in (
       x,
-      due_there (IsDueByDispatch s) {hs = hs} {p = p} at x (record_place o.time (members_in x) o cut) due,
+      due_there (IsDueByDispatch s) at x (record_place o.time (members_in x) o cut) due,
       within o.time until (rank body ∷ key (members_in x) body) owed.timely,
       record { at = refl; says = refl },
       refl,

@@ -30,8 +30,7 @@ some_emission {s} {hs} {until} {device} {sent} founded o =
     let body = emission_record device sent o.verdict in
     let p = emission_place o.time device sent in
     let at = split place_of (IsDue s) hs p founded in
-    let emits = subst (λ gs. Emits s gs device o.time sent o.verdict)
-    (before_is_front {hs = hs} {p = p} at) o.emits in
+    let emits = subst (λ gs. Emits s gs device o.time sent o.verdict) (before_is_front at) o.emits in
     let x = next_of s at.front o.time body in
     let due : IsDueByEmission s at.front x = record {
       due = next_is_due s at.front o.time body emits;
@@ -42,7 +41,7 @@ some_emission {s} {hs} {until} {device} {sent} founded o =
       says = refl;
     } in
     let here = within o.time until (rank body ∷ key (members_in x) body) o.timely in
-    (x, due_there (IsDueByEmission s) {hs = hs} {p = p} at x refl due, here, (refl, refl, refl, refl, refl), refl)
+    (x, due_there (IsDueByEmission s) at x refl due, here, (refl, refl, refl, refl, refl), refl)
 
 -- the place of what is due by an emission
 due_place : {s : Scenario} {before : List Happening} {x : Happening} (h : IsDueByEmission s before x)

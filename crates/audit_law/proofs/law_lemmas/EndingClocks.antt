@@ -28,7 +28,7 @@ some_clock {s} hs {until} {device} {time} founded o =
       clock = clock;
       says = refl;
     } in
-    (x, due_there (IsDueByEnd s) {hs = hs} {p = p} at x refl due, within time until (14 ∷ device.0 ∷ []) o.timely, (refl, refl), refl)
+    (x, due_there (IsDueByEnd s) at x refl due, within time until (14 ∷ device.0 ∷ []) o.timely, (refl, refl), refl)
 
 clock_owed : (s : Scenario) {hs : List Happening} (until : ℕ) {x : Happening} → IsDueIn place_of (IsDueByEnd s) hs x
     → IsBefore (place_of x) ((until + 1) ∷ []) → (at : DeviceId × ℕ) × OwesClock s until at.0 at.1

@@ -33,7 +33,7 @@ some_loss {s} {hs} {until} {cause} founded o =
       lost = lost;
       says = refl;
     } in
-    (x, due_there (IsDueBySend s) {hs = hs} {p = p} at x refl due, within o.time until (9 ∷ o.device.0 ∷ o.link.0 ∷ cause ∷ []) o.timely, refl, refl)
+    (x, due_there (IsDueBySend s) at x refl due, within o.time until (9 ∷ o.device.0 ∷ o.link.0 ∷ cause ∷ []) o.timely, refl, refl)
 
 loss_owed : (s : Scenario) {hs : List Happening} (until : ℕ) {x : Happening} → IsDueIn place_of (IsDueBySend s) hs x
     → IsBefore (place_of x) ((until + 1) ∷ []) → (cause : ℕ) × (o : OwesLoss s hs until cause)

@@ -31,7 +31,7 @@ module _ (s : Scenario) (hs : List Happening) (p : List ℕ) (founded : IsFounde
   pub found_before : (at : IsSplit place_of hs p) (n : ℕ) (h : Happening) → numbered hs n ≡ Some h
       → IsBefore (place_of h) p → numbered at.front n ≡ Some h
   found_before at n h there sooner =
-      let i = in_front_of {place = place_of} {ns = hs} {p = p} at h (numbered_in hs n h there) sooner in
+      let i = in_front_of at h (numbered_in hs n h there) sooner in
       let number = number_is s hs n h founded there in
       subst (λ m. numbered at.front m ≡ Some h) number (by_number s at.front h (front_of at) i)
 

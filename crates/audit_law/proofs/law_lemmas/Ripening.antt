@@ -159,7 +159,7 @@ some_permanence {s} {hs} {until} {cause} founded o =
       says = refl;
     } in (
       x,
-      due_there (IsDueByPermanence s) {hs = hs} {p = p} at x place due,
+      due_there (IsDueByPermanence s) at x place due,
       within o.time until (rank body ∷ key (members_in x) body) o.timely,
       tells s at.front o.time o.device o.link cause o.point is becomes,
       refl,

@@ -18,7 +18,7 @@ some_event s hs until line founded o =
     let x = next_of s at.front time body in
     let due : IsDueByEvent s at.front x =
     record { due = next_is_due s at.front time body befalls; line = line; what = o.event.what; befalls = befalls; says = refl } in
-    (x, due_there (IsDueByEvent s) {hs = hs} {p = p} at x refl due, within time until (1 ∷ line ∷ []) o.timely, refl, refl)
+    (x, due_there (IsDueByEvent s) at x refl due, within time until (1 ∷ line ∷ []) o.timely, refl, refl)
 
 event_owed : (s : Scenario) (hs : List Happening) (until : ℕ) (x : Happening) → IsDueIn place_of (IsDueByEvent s) hs x
     → IsBefore (place_of x) ((until + 1) ∷ []) → (line : ℕ) × (o : OwesEvent s until line) × TellsEvent line x.note.body × (time_of x ≡ amount o.event.time)

@@ -243,7 +243,7 @@ sends_there {v} {device} {u} cycle is le master begun synchronised reaches =
     let note : Note = record { number = length at.front + 1; time = units_of u; body = notes.Sent device cycle } in
     let x : Happening = happening s.network at.front note in
     let due : IsDue s at.front x = record { number = refl; same = refl; begun = omega (arith, ints); cause = sends } in
-    (x, record { there = due_is_there {s = s} {mark = (v.until + 1) ∷ []} {hs = v.records} {x = x} at is.run due (inl (omega (arith, le))); is = refl; good = master.good }, refl)
+    (x, record { there = due_is_there {s = s} {mark = (v.until + 1) ∷ []} {x = x} at is.run due (inl (omega (arith, le))); is = refl; good = master.good }, refl)
 
 -- at the last dispatch an old clock has reached the beginning of the cycle
 pub masters_dispatch : BlocksGoSo → MastersDispatch

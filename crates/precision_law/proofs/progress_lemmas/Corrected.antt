@@ -60,7 +60,7 @@ module _ (v : View) (device : DeviceId) (is : IsView v) (z : ℕ) (never : Keeps
       (refl, before, (cycle, by, adjustment, h, record { there = found; same_time = refl }, body)) in
       record {
         g = happening s.network at.front (next_note at.front t state);
-        there = due_there {v = v} t state {p = t ∷ 7 ∷ rest} at is (within_run is h i) refl changes;
+        there = due_there {v = v} t state at is (within_run is h i) refl changes;
         at = refl;
         makes = λ old. ap (λ (b : Bool). if b then Synchronised else old) (eq-eqb device.0 device.0 refl);
       }

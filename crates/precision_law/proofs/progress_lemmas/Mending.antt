@@ -253,7 +253,7 @@ mended_channels_come_in sound laws known s mark ns until beta up is_beta channel
     let sure = sound s u up.lawful in
     let at = view_with u sure.0 beta up is_beta le sure.1 in
     let v = view_of s u sure.0 beta at.cut.front in
-    mended laws known {beta = beta} up is_beta switch of_channel mends {sure = sure.0} at
+    mended laws known {beta = beta} up is_beta switch of_channel mends at
     (λ m w block whole late. whole_master_sends known.goes channel block at.is all whole late) long
 
 pub mended_relays_come_in : OneChannelIsSound → FramesGoSo → AreBlocksKnown → MendedRelaysComeIn
@@ -263,6 +263,6 @@ mended_relays_come_in sound laws known s mark ns until beta up is_beta channel c
     let v = view_of s u sure.0 beta at.cut.front in
     let kept : (next : ℕ) → next ≤ u + 1 → NoCliqueBefore v cm next = λ next to h state cause why i early body clique.
     keeps.kept h state cause why (at.cut.inside h i) (omega (arith, early, to)) body clique in
-    mended laws known {beta = beta} up is_beta switch of_channel mends {sure = sure.0} at
+    mended laws known {beta = beta} up is_beta switch of_channel mends at
     (λ m w block whole late. calm_master_sends known.goes channel block cm at.is of_cm keeps.on
     (kept block.before.next block.before.in_run) whole late) long

@@ -16,7 +16,7 @@ cut_run {N} {place} IsDue {p} {ns} at up run = record {
         | inl l ↦ none n l lt
         | inr r ↦ at.none n r (chain (place n) (place x) p lt here)
       ]) due (up (place x) here) in
-      (found.0, in_front_of {place = place} {ns = ns} {p = p} at found.0 found.1 (subst (λ q. IsBefore q p) (sym found.2) here), found.2);
+      (found.0, in_front_of at found.0 found.1 (subst (λ q. IsBefore q p) (sym found.2) here), found.2);
   within = at.before;
 }
 
@@ -56,7 +56,7 @@ cut_at s {mark} {hs} until t run covers le =
     let all = all_kept (λ h. nat_lt (time_of h) (t + 1)) at.front (λ h i. lt-ltb (time_of h) (t + 1) (soon h (t + 1) (at.before h i))) in
     record {
       front = at.front;
-      run = cut_run {place = place_of} (IsDue s) {mark = mark} {p = (t + 1) ∷ []} {ns = hs} at (λ q b. before_cover
+      run = cut_run {place = place_of} (IsDue s) {mark = mark} at (λ q b. before_cover
           mark until t q covers le b) run;
       same = sym (keeps (t + 1) (omega arith)) ∙ all;
       inside = λ h i. subst (IsIn h) (sym at.whole) (in_left h at.front at.rest i);

@@ -74,7 +74,7 @@ is_sent {v} cm t c clusters is one good within at are there reached =
     record {
       h = h;
       emission = record {
-        there = due_there {v = v} t body {p = place_of_sent v cm c t} at is within refl emits;
+        there = due_there {v = v} t body at is within refl emits;
         opened = record { 0 = c.opened };
         at = record { 0 = sent_at v c };
         verdict = verdict;
@@ -145,7 +145,7 @@ is_recorded {v} {device} {arrival} {link} {frame} {point} {q} verdict is r at be
     let place = ap (λ (m : ℕ). q ∷ 3 ∷ device.0 ∷ unsigned_abs point ∷ m ∷ link.0 ∷ number ∷ []) members in
     record {
       h = h;
-      there = due_there {v = v} q body {p = place_of_ripe device arrival link frame point q} at is r.in_run place
+      there = due_there {v = v} q body at is r.in_run place
           ripens;
       is = refl;
       time = refl;

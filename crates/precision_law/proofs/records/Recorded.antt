@@ -138,7 +138,7 @@ corrected_there {v} {device} {u} {cycle} by at is le comes =
     let body : NoteBody = notes.Corrected device cycle by adjustment in (
       happening v.scenario.network at.front (next_note at.front u body),
       record {
-        there = due_there {v = v} u body {p = u ∷ 6 ∷ device.0 ∷ []} at is
+        there = due_there {v = v} u body at is
             le refl (record { corrected = comes; sum = refl });
         at = refl;
         says = inl (cycle, by, adjustment, refl);
@@ -152,7 +152,7 @@ lost_there : {v : View} (device : DeviceId) (u : ℕ) (why : Why)
 lost_there {v} device u why at is le changes =
     let body : NoteBody = notes.State device Integrating 0 why in (
       happening v.scenario.network at.front (next_note at.front u body),
-      record { there = due_there {v = v} u body {p = u ∷ 7 ∷ device.0 ∷ 0 ∷ []} at is le refl changes; at = refl; says = inr (0, why, refl) },
+      record { there = due_there {v = v} u body at is le refl changes; at = refl; says = inr (0, why, refl) },
     )
 
 pub points_are_recorded : NoneTurnsOn → PointsAreRecorded

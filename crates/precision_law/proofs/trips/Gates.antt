@@ -101,7 +101,7 @@ are_open_on goes {v} channel {n} block is low high in_run switch u of_channel fr
       to = omega (arith, ints, block_ends v n block.next _ block.before.is_hull block.is_over, high, to, hull_ordered n block.before is);
       in_run = omega (arith, to, in_run);
     } in
-    gate_is_open goes {v = v} {n = n} {u = u} at switch is (switches_are_good v channel switch is of_channel)
+    gate_is_open goes at switch is (switches_are_good v channel switch is of_channel)
     (omega (arith, ints, low, from)) (omega (arith, ints, high, to))
 
 pub are_open_from : BlocksGoSo → {v : View} {n w : ℕ} (block : IsInBlock v n w) → IsView v

@@ -116,7 +116,7 @@ goes_over {v} {way} {r} {frame} {sender} {receiver} {link} {l} is g correct uncu
     (key (members_in r) r.note.body) (sender.0 ∷ link.0 ∷ r.note.number ∷ []) (omega arith) (gives_low n r.note.body sender link g.gives) in
     let front = front_founded place_of (IsDue s) at.front at.rest (subst (IsFounded place_of (IsDue s)) at.whole is.run.founded) in
     let found = by_number s at.front r front
-    (in_front_of {place = place_of} {ns = hs} {p = t ∷ 8 ∷ sender.0 ∷ link.0 ∷ r.note.number ∷ []} at r g.given
+    (in_front_of at r g.given
     sooner) in
     let old : nat_lt (amount n.dmax) clock ≡ false = le-ltb (amount n.dmax) clock (omega (arith, small)) in
     let cut : is_cut s link (way_from n sender link) t ≡ false = ap (λ w. is_cut s link w t) g.from_way ∙ uncut in

@@ -153,13 +153,13 @@ has_left {s} {mark} {hs} h master cycle link l lawful run i is there child up co
     let sooner : IsBefore (place_of h) (t ∷ 8 ∷ master.0 ∷ link.0 ∷ h.note.number ∷ []) = sent_before (time_of h) (hold_at s link Up (time_of h))
     (rank h.note.body) (key (members_in h) h.note.body) (master.0 ∷ link.0 ∷ h.note.number ∷ []) (ap rank is) in
     let front = front_founded place_of (IsDue s) at.front at.rest (subst (IsFounded place_of (IsDue s)) at.whole run.founded) in
-    let found = by_number s at.front h front (in_front_of {place = place_of} {ns = hs} at h i sooner) in
+    let found = by_number s at.front h front (in_front_of at h i sooner) in
     let young : clock ≤ amount s.network.dmax = omega (arith, hold_is_young master link l (time_of h) lawful there) in
     let departs = whole_departs s at.front h master cycle link frame found is of_frame
     (closed (λ (k : Link). k.child ≡ master) (link_at s.network link) l there child) up correct whole young in
     record {
       leaving = happening s.network at.front (next_note at.front t body);
-      there = due_is_there {s = s} {mark = mark} {hs = hs} {x = happening s.network at.front (next_note at.front t body)} at run (next_due s at.front t body departs) (in_time _);
+      there = due_is_there {s = s} {mark = mark} {x = happening s.network at.front (next_note at.front t body)} at run (next_due s at.front t body departs) (in_time _);
       clock = clock;
       body = refl;
       at = refl;
@@ -212,7 +212,7 @@ same_standpoint : (s : Scenario) (device : DeviceId) (t : ℕ) (more rest : List
     (at : IsSplit place_of hs (t ∷ more)) (by : IsSplit place_of hs (t ∷ rest))
     → standpoint s by.front device t ≡ standpoint s at.front device t
 same_standpoint s device t more rest {hs} at by =
-    ap (standpoint_by s device t) (same_earlier t rest by ∙ sym (same_earlier t more {hs = hs} at))
+    ap (standpoint_by s device t) (same_earlier t rest by ∙ sym (same_earlier t more at))
 
 module _ (s : Scenario) (ps : List Happening) (leaving : Happening) (device : DeviceId) (link : LinkId) (t : ℕ)
     (frame : Pcf) where
@@ -254,7 +254,7 @@ pub found_before : (s : Scenario) {hs : List Happening} (t : ℕ) (more : List �
     → numbered at.front h.note.number ≡ Some h
 found_before s {hs} t more at h founded i sooner =
     let front = front_founded place_of (IsDue s) at.front at.rest (subst (IsFounded place_of (IsDue s)) at.whole founded) in
-    by_number s at.front h front (in_front_of {place = place_of} {ns = hs} {p = t ∷ more} at h i (inl sooner))
+    by_number s at.front h front (in_front_of at h i (inl sooner))
 
 -- a control frame that is on its way comes
 has_arrived : {s : Scenario} {mark : List ℕ} {hs : List Happening} {leaving : Happening} {device : DeviceId}
@@ -274,7 +274,7 @@ has_arrived {s} {mark} {hs} {leaving} {device} {link} {t} frame run i sooner arr
           record {
             coming = coming;
             there =
-                due_is_there {s = s} {mark = mark} {hs = hs} {x = coming} at run (next_due s at.front t body arrived)
+                due_is_there {s = s} {mark = mark} {x = coming} at run (next_due s at.front t body arrived)
                 (chain (place_of coming) (t ∷ 14 ∷ []) mark (inr (refl, inl (omega arith))) in_time);
             at = refl;
             comes = inl (taken.frame.clock, refl);
@@ -282,7 +282,7 @@ has_arrived {s} {mark} {hs} {leaving} {device} {link} {t} frame run i sooner arr
       | inl dropped ↦
           let body : NoteBody = notes.Dropped device link number dropped.0 in
           let coming : Happening = happening s.network by.front (next_note by.front t body) in
-          let stands = same_standpoint s device t _ _ {hs = hs} at by in
+          let stands = same_standpoint s device t _ _ at by in
           let is : control_arrival s.network device link (standpoint s by.front device t) (Ok frame) ≡ arrivals.Dropped dropped.0 =
           ap (λ p. control_arrival s.network device link p (Ok frame)) stands ∙ dropped.1 in
           let drops = arrives_as s by.front leaving device link t frame (arrivals.Dropped dropped.0)

@@ -41,7 +41,7 @@ by_front s {hs} device t cycle v at =
 pub earlier_up_to : {hs : List Happening} (t : ℕ) (at : IsSplit place_of hs (t ∷ 6 ∷ []))
     → earlier t (up_to t hs) ≡ earlier t hs
 earlier_up_to {hs} t at =
-    let late = late_part {hs = hs} t 6 [] (omega arith) at in late_earlier late ∙ same_earlier t (6 ∷ []) {hs = hs} at
+    let late = late_part {hs = hs} t 6 [] (omega arith) at in late_earlier late ∙ same_earlier t (6 ∷ []) at
 
 low_rank : (u r t : ℕ) (ks : List ℕ) → IsBefore (u ∷ r ∷ ks) (t ∷ 6 ∷ []) → u ≡ t → r < 6
 low_rank u r t ks (inl lt) same = absurd (omega (arith, lt, same))
@@ -67,7 +67,7 @@ front_earlier s hs h founded front rest whole =
         | inr r ↦ never_self (place_of n) (chain (place_of n) (place_of h) (place_of n) lt (behind_first place_of (IsDue s) front rest h n parts r))
       ];
     } in
-    same_earlier (time_of h) (rank h.note.body ∷ key (members_in h) h.note.body) {hs = hs} at
+    same_earlier (time_of h) (rank h.note.body ∷ key (members_in h) h.note.body) at
 
 -- where the device has a correction point at the time, no record of the front is of the time and changes its adjustment
 pub front_after : (s : Scenario) {hs : List Happening} (device : DeviceId) (t cycle : ℕ)
@@ -90,7 +90,7 @@ front_after s {hs} device t cycle at founded next = record {
         let state : state_before s hs device t ≡ Integrating =
         subst (λ u. state_before s hs device u ≡ Integrating) same (sym (state_by s by.front hs device (time_of h) fronts) ∙ looks) in
         absurd (no_point (state_before s at.front device t) _ cycle
-        (state_by s at.front hs device t (same_earlier t (6 ∷ []) {hs = hs} at) ∙ state) next)
+        (state_by s at.front hs device t (same_earlier t (6 ∷ []) at) ∙ state) next)
 
 -- so what has been heard by then is told by the front
 pub heard_front : (s : Scenario) (hs : List Happening) (device : DeviceId) (t : ℕ) (at : IsSplit place_of hs (t ∷ 6 ∷ [])) (heard : Summary) (shown : Shown)
@@ -98,4 +98,4 @@ pub heard_front : (s : Scenario) (hs : List Happening) (device : DeviceId) (t : 
     → (IsAfter at.front device t → Shows s at.front device shown → Summarizes heard (heard_since_point s at.front device t)) → IsHeard s at.front device t heard
 heard_front s hs device t at heard shown founded shows told cycle next =
     told (front_after s {hs = hs} device t cycle at founded next)
-    (subst (λ gs. Shows s gs device shown) (front_is {hs = hs} {p = t ∷ 6 ∷ []} at) shows)
+    (subst (λ gs. Shows s gs device shown) (front_is at) shows)

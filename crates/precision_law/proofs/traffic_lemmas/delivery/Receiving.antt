@@ -252,7 +252,7 @@ arrivals_are_taken brings channels v h device receiver link cause vl cycle is fi
           | true ↦ λ again. repeated at.front at.rest at.whole again
           | false ↦ λ anew.
               let judgement = taken_so brings channels is fit good fine d whole enters in_run up off at.front
-              (same_earlier t _ {hs = v.records} at) (last_taken at.front receiver t link h.note.number) anew in
+              (same_earlier t _ at) (last_taken at.front receiver t link h.note.number) anew in
               let kind : taken_by s.network receiver vl cycle ≡ arrivals.Accepted vl cycle = ap (λ (x : Bool). if x then arrivals.Delivered vl cycle
               else arrivals.Accepted vl cycle) end in
               let body = notes.Accepted receiver link h.note.number vl cycle in
@@ -260,7 +260,7 @@ arrivals_are_taken brings channels v h device receiver link cause vl cycle is fi
               record {
                 taking = taking;
                 there =
-                    due_is_there {s = s} {mark = (v.until + 1) ∷ []} {hs = v.records} {x = taking} at is.run
+                    due_is_there {s = s} {mark = (v.until + 1) ∷ []} {x = taking} at is.run
                     (next_due s at.front t body (arrives_as at.front (arrivals.Accepted vl cycle) found (judgement ∙ kind))) (inl (omega (arith, in_run)));
                 by_then = omega arith;
                 link = link;
@@ -279,7 +279,7 @@ arrivals_are_taken brings channels v h device receiver link cause vl cycle is fi
           | true ↦ λ again. repeated at.front at.rest at.whole again
           | false ↦ λ anew.
               let judgement = taken_so brings channels is fit good fine d whole enters in_run up off at.front
-              (same_earlier t _ {hs = v.records} at) (last_taken at.front receiver t link h.note.number) anew in
+              (same_earlier t _ at) (last_taken at.front receiver t link h.note.number) anew in
               let kind : taken_by s.network receiver vl cycle ≡ arrivals.Delivered vl cycle = ap (λ (x : Bool). if x then arrivals.Delivered vl cycle
               else arrivals.Accepted vl cycle) end in
               let body = notes.Delivered receiver link h.note.number vl cycle in
@@ -287,7 +287,7 @@ arrivals_are_taken brings channels v h device receiver link cause vl cycle is fi
               record {
                 taking = taking;
                 there =
-                    due_is_there {s = s} {mark = (v.until + 1) ∷ []} {hs = v.records} {x = taking} at is.run
+                    due_is_there {s = s} {mark = (v.until + 1) ∷ []} {x = taking} at is.run
                     (next_due s at.front t body (arrives_as at.front (arrivals.Delivered vl cycle) found (judgement ∙ kind))) (inl (omega (arith, in_run)));
                 by_then = omega arith;
                 link = link;

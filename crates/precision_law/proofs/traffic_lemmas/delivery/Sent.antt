@@ -52,7 +52,7 @@ dispatched channels {v} {place} {entry} {cause} {cycle} {t} is can =
     let link = entry.row.link in
     let vl = entry.row.vl in
     let at = split place_of (IsDue s) v.records (t ∷ 10 ∷ device.0 ∷ link.0 ∷ cause ∷ vl.0 ∷ cycle ∷ []) is.run.founded in
-    let same = same_earlier t _ {hs = v.records} at in
+    let same = same_earlier t _ at in
     let body = notes.TtSent device link cause vl cycle in
     let sent = happening n at.front (next_note at.front t body) in
     let reached = subst (λ (m : ℕ). Reaches s v.records device (pos (cycle * m + amount entry.row.offset)) t)
@@ -77,7 +77,7 @@ dispatched channels {v} {place} {entry} {cause} {cycle} {t} is can =
       };
       whole = channels.whole v link (way_from n device link) t is on_link can.in_run;
     } in
-    let there = due_is_there {s = s} {mark = (v.until + 1) ∷ []} {hs = v.records} {x = sent} at is.run
+    let there = due_is_there {s = s} {mark = (v.until + 1) ∷ []} {x = sent} at is.run
     (next_due s at.front t body caused) (inl (omega (arith, can.in_run))) in
     let d = dispatches_are_of_rows v sent device link cause vl cycle is there refl in
     record { record_of = sent; cause = cause; dispatch = d; same = (rows_go_once n d.place place d.entry entry is.lawful.rules d.row can.row d.of_vl d.by).1 }

@@ -57,7 +57,7 @@ part s time ns run =
     let hs = happenings s.network ns in
     let at = split place_of (IsDue s) hs (time ∷ []) run.founded in
     let cut = cut_run {place = place_of} (IsDue
-    s) {mark = time ∷ 2 ∷ []} {p = time ∷ []} {ns = hs} at (λ q before. before_of_time q time (2 ∷ []) before)
+    s) {mark = time ∷ 2 ∷ []} at (λ q before. before_of_time q time (2 ∷ []) before)
     run in
     record {
       front = notes_of at.front;

@@ -57,5 +57,5 @@ recorded s mark hs i e run get begun told =
       begun = begun;
       cause = record { event = e; before = i; line_is = refl; is = get; at = refl; same = refl };
     } in
-    let there = due_is_there {s = s} {mark = mark} {hs = hs} {x = x} at run due told in
+    let there = due_is_there {s = s} {mark = mark} {x = x} at run due told in
     (x.note.number, x, by_number s hs x run.founded there, refl, refl)

@@ -14,7 +14,7 @@ returns-then-is_owed-clause-untold c befallen hs kept founded shows untold =
     let stands : StandsAt s at.front c.args.network.now device t c.of-moment.result c.args.shown.now = record {
       of_network = refl;
       befalls = befalls;
-      shows = subst (λ es. Shows s es device c.args.shown.now) (sym (same_earlier t (6 ∷ []) {hs = hs} at)) shows;
+      shows = subst (λ es. Shows s es device c.args.shown.now) (sym (same_earlier t (6 ∷ []) at)) shows;
     } in
     let hears : IsHeard s at.front device t c.heard_since-heard.result =
     heard_front s hs device t at c.heard_since-heard.result c.before_rank.result.now founded (c.before_rank.ensures s hs kept.stands)
@@ -42,7 +42,7 @@ returns-else-is_owed-clause-told c befallen hs kept founded shows told cycle owe
     let stands : StandsAt s at.front c.args.network.now device t c.of-moment.result c.args.shown.now = record {
       of_network = refl;
       befalls = befalls;
-      shows = subst (λ es. Shows s es device c.args.shown.now) (sym (same_earlier t (6 ∷ []) {hs = hs} at)) shows;
+      shows = subst (λ es. Shows s es device c.args.shown.now) (sym (same_earlier t (6 ∷ []) at)) shows;
     } in
     let hears : IsHeard s at.front device t c.heard_since-heard.result =
     heard_front s hs device t at c.heard_since-heard.result c.before_rank.result.now founded (c.before_rank.ensures s hs kept.stands)
