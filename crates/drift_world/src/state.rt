@@ -3,6 +3,7 @@ ghost use Rattle.std.specs.Prelude.{Some, [], false, length, pos, slice_get, tru
 ghost use Rattle.{net_plan.specs.declared.network.Network.Network, run_law.specs.declared.note.Note.Note};
 
 use device_rules::frames::MadeFrame;
+use device_rules::is_parent_of;
 use drift_clock::Clock;
 use net_plan::{DeviceId, Event, LinkId, Network, Way, What};
 use run_law::{Machine, NoteBody};
@@ -16,7 +17,6 @@ use world_state::contents::{Befallen, Content, Settled, WayState};
 use world_state::event_notes::EventNote;
 use world_state::frames::Frames;
 use world_state::kept::Kept;
-use world_state::leaving::is_parent;
 use world_state::queue::UnderWay;
 use world_state::shelves::Shelves;
 use world_state::timers::Timers;
@@ -91,7 +91,7 @@ impl<C: Clock, M: Machine + Drop> State<C, M> {
         ensures { slice_get (if is_parent_of network.now device link then self.now.downs.items
             else self.now.ups.items) link.0 ≡ Some result }
     {
-        if is_parent(network, device, link) {
+        if is_parent_of(network, device, link) {
             self.downs[link.0 as usize]
         } else {
             self.ups[link.0 as usize]

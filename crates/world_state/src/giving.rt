@@ -2,7 +2,7 @@ ghost use Rattle.std.specs.Prelude.{◌+◌, ◌<◌, ◌^◌, ◌↔◌, ◌∷
 ghost use Rattle.std.specs.Prelude.{IsTrue, OnOk, Some, false, length, true};
 ghost use Rattle.{net_plan.specs.{Ranges.IsInRange, Rules.IsChildOf}, tte_units.specs.Amount.amount};
 ghost use Rattle.{net_plan.specs.declared.ids.LinkId.{LinkId as LinkOf}, world_state.specs.Shelves.HasPlace};
-ghost use Rattle.run_law.specs.{control.Leaving.{Gives, Passes}, scenario.Devices.{IsParentOf, is_relay}};
+ghost use Rattle.run_law.specs.{control.Leaving.{Gives, Passes}, scenario.Devices.IsParentOf};
 ghost use Rattle.world_state.specs.{Frames.{IsOneMore, room_of, waiter_of}, Sound.{AreBelow, AreUnderWay}};
 ghost use Rattle.world_state.specs.Giving.{ArePutTo, CameBy, IsGivenBy, IsYoung, awaited_by, entry_at_port, place_at_port};
 
@@ -12,7 +12,8 @@ use crate::frames::Frames;
 use crate::queue::{DueAt, UnderWay};
 use crate::shelves::Shelves;
 use crate::waiting::{awaited, wait_for};
-use net_plan::{DeviceId, Link, LinkId, Network, Role};
+use device_rules::is_relay;
+use net_plan::{DeviceId, Link, LinkId, Network};
 use run_law::plain::{PlainBody, PlainKind, Rank};
 use tte_units::frames::Pcf;
 
@@ -30,16 +31,6 @@ fn is_above(network: &Network, device: DeviceId, link: LinkId) -> bool
     ensures { IsTrue result ↔ IsParentOf network.now device link }
 {
     network.link.as_slice()[link.0 as usize].parent == device
-}
-
-/// Is the device a relay?
-pub fn is_a_relay(network: &Network, device: DeviceId) -> bool
-    ensures { result ≡ is_relay network.now device }
-{
-    match network.device.as_slice().get(device.0 as usize) {
-        Some(found) => found.role == Role::Relay,
-        None => false,
-    }
 }
 
 /// To which of its links a device gives a frame: to those that lead up to its parents, and to those that lead down from
@@ -78,7 +69,7 @@ fn ends_of(network: &Network, body: &PlainBody, device: DeviceId) -> Ends
             link: by,
             ..
         } => {
-            let passes = both(device == *relay, is_a_relay(network, device));
+            let passes = both(device == *relay, is_relay(network, device));
             Ends {
                 up: both(passes, is_above(network, device, *by)),
                 down: both(passes, is_child(network, device, *by)),

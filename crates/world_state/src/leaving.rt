@@ -1,6 +1,6 @@
-ghost use Rattle.std.specs.Prelude.{◌<◌, ◌∷◌, ◌≡◌, ◌≤◌, IsPermutation, None, length};
+ghost use Rattle.std.specs.Prelude.{◌∷◌, ◌≡◌, ◌≤◌, IsPermutation, None};
 ghost use Rattle.net_plan.specs.{Ranges.IsInRange, declared.network.Network.Network as NetworkValue};
-ghost use Rattle.run_law.specs.{plain.Bodies.body_of, records.Happenings.with_clock, scenario.Devices.is_parent_of};
+ghost use Rattle.run_law.specs.{plain.Bodies.body_of, records.Happenings.with_clock};
 ghost use Rattle.world_state.specs.{Leaving.{departed, port_entry}, Sound.{AreUnderWay, rank_of}, queue.Places.IsFirst};
 
 use crate::contents::{Content, Settled};
@@ -100,12 +100,4 @@ fn with_clock(frame: Pcf, clock: u64) -> Pcf
     ensures { result ≡ with_clock clock frame }
 {
     Pcf { clock, ..frame }
-}
-
-/// Is the device the parent of the link?
-pub fn is_parent(network: &Network, device: DeviceId, link: LinkId) -> bool
-    requires { link.0 < length network.now.link }
-    ensures { result ≡ is_parent_of network.now device link }
-{
-    network.link.as_slice()[link.0 as usize].parent == device
 }

@@ -3,8 +3,8 @@ ghost use Rattle.{net_plan.specs.Ranges.IsInRange, run_law.specs.control.Wires.{
 ghost use Rattle.world_state.specs.{Giving.{IsPutOn, place_on_wire, wire_entry}, Views.octets_of};
 
 use crate::contents::{Content, Signal, Timed, WayState};
-use crate::leaving::is_parent;
 use crate::queue::{DueAt, Entry, UnderWay};
+use device_rules::is_parent_of;
 use net_plan::{DeviceId, LinkId, Network};
 use run_law::plain::{PlainBody, PlainKind, Rank};
 use tte_units::frames::Pcf;
@@ -83,7 +83,7 @@ fn wire_place(
     let index = link.0 as usize;
     let found = network.link.as_slice().get(index)?;
     let sent = sending.time + sending.on_port;
-    if is_parent(network, sending.device, link) {
+    if is_parent_of(network, sending.device, link) {
         Some(DueAt {
             at: sent + downs[index].delay,
             rank: Rank::Arrived.number(),

@@ -5,8 +5,7 @@ ghost use Rattle.tte_units.specs.Amount.{amount};
 
 use crate::contents::Waits;
 use crate::frames::Frames;
-use crate::giving::is_a_relay;
-use crate::leaving::is_parent;
+use device_rules::{is_parent_of, is_relay};
 use drift_clock::transparent::permanence;
 use net_plan::{DeviceId, LinkId, Network};
 use run_law::plain::{PlainBody, PlainKind};
@@ -15,10 +14,9 @@ use tte_units::frames::Pcf;
 
 /// Does the device wait for the permanence of what comes by the link?
 fn does_wait(network: &Network, device: DeviceId, link: LinkId) -> bool
-    requires { link.0 < length network.now.link }
     ensures { result ≡ waits_for network.now device link }
 {
-    !is_a_relay(network, device) || !is_parent(network, device, link)
+    !is_relay(network, device) || !is_parent_of(network, device, link)
 }
 
 /// What waits by a record, where its device is broken or not and its clock reads this.

@@ -7,6 +7,7 @@ ghost use Rattle.tte_observers.specs.captures.wires.{Packets.{is_sent_on, packet
 
 use crate::captures::pcap::put_packet;
 use device_rules::frames::MadeFrame;
+use device_rules::is_parent_of;
 use net_plan::{DeviceId, LinkId, Network, Way};
 use pcf_codec::{PCF_LENGTH, decode, encode};
 use run_law::plain::{PlainBody, PlainKind};
@@ -14,7 +15,6 @@ use tte_io::Sink;
 use tte_units::frames::Pcf;
 use world_drive::Cut;
 use world_state::contents::{Signal, Timed};
-use world_state::leaving::is_parent;
 use world_state::packets::Packet;
 
 /// How many units of time a microsecond has.
@@ -42,7 +42,7 @@ fn sends_on(network: &Network, device: DeviceId, other: LinkId, link: LinkId, wa
     if link.0 != other.0 {
         return false;
     }
-    let from = if is_parent(network, device, link) {
+    let from = if is_parent_of(network, device, link) {
         Way::Down
     } else {
         Way::Up
