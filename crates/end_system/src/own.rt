@@ -1,15 +1,15 @@
 ghost use Rattle.std.specs.Prelude.{◌*◌, ◌+ℤ◌, ◌+◌, ◌<ℤ◌, ◌<◌, ◌^◌, ◌≡◌, ◌≤ℤ◌, ◌≤◌, length, neg_ℤ, pos};
 ghost use Rattle.end_system.specs.Owns.{HasOwnRange, IsOwnOf, IsUplinkOf, channel_by, end_plan, wire_by};
 ghost use Rattle.{net_plan.specs.{Paths.IsUplink, Ranges.IsInRange}, tte_units.specs.Amount.amount};
-ghost use Rattle.{net_plan.specs.Places.{IsEndSystem, is_master}, run_law.specs.records.Frames.dispatched_frame};
+ghost use Rattle.net_plan.specs.Places.{IsEndSystem, is_master};
 ghost use Rattle.run_law.specs.{control.Hearing.is_in_schedule, scenario.Devices.has_role};
 ghost use Rattle.{schedule_tables.specs.Rules.KeepsRules, sync_state.specs.Plan.expected_at};
 
+use device_rules::frames::dispatched_frame;
 use net_plan::{DeviceId, LinkId, Network, Role};
 use sync_state::SyncPlan;
-use sync_state::membership::one;
 use tte_units::Units;
-use tte_units::frames::{Channel, Members, Pcf, PcfKind};
+use tte_units::frames::{Channel, Pcf};
 
 /// A link from the device to a switch.
 #[derive(Clone, Copy)]
@@ -104,7 +104,7 @@ impl Own {
             correction: network.correction,
             dmax: network.dmax,
             marker: network.marker,
-            frame: first_frame(network, device),
+            frame: dispatched_frame(network, device, 0),
             is_master: is_master(network, device),
             a: uplink_of(network, device, Channel::A),
             b: uplink_of(network, device, Channel::B),
@@ -136,25 +136,6 @@ fn plan_of(network: &Network) -> SyncPlan
         cycle_length: network.cycle,
         expected: Units::from_amount(2 * network.dmax.amount() + compression),
         threshold: network.sync_threshold,
-    }
-}
-
-/// The frame of an end system, as that of cycle 0.
-fn first_frame(network: &Network, device: DeviceId) -> Pcf
-    requires range { IsInRange network.now }
-    requires end { IsEndSystem network.now device }
-    ensures { result ≡ dispatched_frame network.now device 0 }
-{
-    let found = &network.device.as_slice()[device.0 as usize];
-    Pcf {
-        destination: network.pcf_destination,
-        source: found.mac,
-        cycle: 0,
-        members: found.member.map_or(Members(1), |member| one(member)),
-        priority: network.priority,
-        domain: network.domain,
-        kind: PcfKind::Integration,
-        clock: 0,
     }
 }
 

@@ -10,5 +10,5 @@ uplink_of-requires-2-clause-one c = let one = (c.requires.rules Connections c.ar
 pub returns : goal.returns
 returns c =
     is_own _ c.requires.range c.requires.rules c.requires.end
-    c.plan_of.ensures refl refl refl refl c.first_frame.ensures
+    c.plan_of.ensures refl refl refl refl c.dispatched_frame.ensures
     c.is_master.ensures c.uplink_of.ensures c.uplink_of-2.ensures
