@@ -178,7 +178,7 @@ fn heard(channel: Option<Channel>, carried: Carried, point: Units, within: bool)
 }
 
 /// The channel of a link, which is that of its parent.
-fn channel_of_link(network: &Network, link: LinkId) -> Option<Channel>
+pub fn channel_of_link(network: &Network, link: LinkId) -> Option<Channel>
     ensures { result ≡ channel_of_link network.now link }
 {
     let found = network.link.as_slice().get(link.0 as usize)?;
@@ -186,7 +186,7 @@ fn channel_of_link(network: &Network, link: LinkId) -> Option<Channel>
 }
 
 /// The channel of a switch.
-fn channel_of(network: &Network, device: DeviceId) -> Option<Channel>
+pub fn channel_of(network: &Network, device: DeviceId) -> Option<Channel>
     ensures { result ≡ channel_of network.now device }
 {
     network.device.as_slice().get(device.0 as usize)?.channel

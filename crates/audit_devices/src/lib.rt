@@ -12,7 +12,7 @@ mod subject;
 mod taking;
 mod takings;
 
-pub use effect::Carried;
+pub use effect::{Carried, channel_of, channel_of_link};
 pub use shown::{Readings, Shown};
 pub use standings::Standings;
 pub use taking::Taking;

@@ -4,11 +4,12 @@ ghost use Rattle.{audit_law.specs.events.Readings.scenario_under, audit_sweep.sp
 ghost use Rattle.lens_overview.specs.News.{change_at, change_of, kind_of, last_cycle, named_cycle, news_of, reason_kind};
 ghost use Rattle.{lens_overview.specs.News.{repeats_by, struck}, lens_svg.specs.Sketching.moment};
 ghost use Rattle.net_plan.specs.{Ranges.IsInRange, declared.event.Event.Event};
-ghost use Rattle.run_law.specs.{records.Happenings.Happening, scenario.Devices.channel_of_link};
+ghost use Rattle.run_law.specs.records.Happenings.{Happening};
 
 use crate::label::Kind;
 use crate::shade::{Shade, shade_of};
 use crate::spread::spread_by;
+use audit_devices::channel_of_link;
 use audit_sweep::Index;
 use net_plan::{DeviceId, LinkId, Network, VlId, Way, What};
 use run_law::{Note, NoteBody, Reason};
@@ -196,18 +197,6 @@ fn change_at(before: &[News], number: u64) -> Option<Change>
         Some(news) => Some(news.change),
         None => None,
     }
-}
-
-/// The channel of a link, which is that of its parent.
-fn channel_of_link(network: &Network, link: LinkId) -> Option<Channel>
-    ensures { result ≡ channel_of_link network.now link }
-{
-    let found = network.link.as_slice().get(link.0 as usize)?;
-    network
-        .device
-        .as_slice()
-        .get(found.parent.0 as usize)?
-        .channel
 }
 
 /// The last cycle that the records stand in, or tell of a frame.

@@ -7,12 +7,12 @@ ghost use Rattle.{lens_why.specs.Records.IsThere, tte_units.specs.declared.units
 ghost use Rattle.lens_why.specs.Seeking.{cut_by, cut_told, cut_with, is_channel, is_frame, is_hearing_of, is_sought};
 ghost use Rattle.lens_why.specs.Seeking.{is_turning_on, last_sought, opens, turns, turns_before};
 ghost use Rattle.net_plan.specs.declared.{event.Event.{Event as EventValue}, network.Network.{Network as NetworkValue}};
-ghost use Rattle.run_law.specs.{declared.note.Note.{Note as NoteValue}, scenario.Devices.{channel_of, channel_of_link}};
+ghost use Rattle.run_law.specs.declared.note.Note.{Note as NoteValue};
 ghost use Rattle.run_law.specs.records.{Happenings.{Happening, happenings, numbered}, Ranks.place_of};
 ghost use Rattle.{run_law.specs.timed.Receptions.{comes_before, is_taken_before}, tte_reports.specs.Reports.IsReportOf};
 
 use crate::ground::magnitude;
-use audit_devices::Carried;
+use audit_devices::{Carried, channel_of, channel_of_link};
 use audit_sweep::Index;
 use net_plan::{DeviceId, LinkId, Network, VlId, Way, What};
 use run_law::{Judgement, Note, NoteBody, Why};
@@ -420,19 +420,4 @@ fn is_channel(channel: Channel, other: Channel) -> bool
         Channel::A => matches!(other, Channel::A),
         Channel::B => matches!(other, Channel::B),
     }
-}
-
-/// The channel of a link, which is that of its parent.
-fn channel_of_link(network: &Network, link: LinkId) -> Option<Channel>
-    ensures { result ≡ channel_of_link network.now link }
-{
-    let found = network.link.as_slice().get(link.0 as usize)?;
-    channel_of(network, found.parent)
-}
-
-/// The channel of a switch.
-fn channel_of(network: &Network, device: DeviceId) -> Option<Channel>
-    ensures { result ≡ channel_of network.now device }
-{
-    network.device.as_slice().get(device.0 as usize)?.channel
 }

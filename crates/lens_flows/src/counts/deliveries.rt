@@ -2,13 +2,14 @@
 
 ghost use Rattle.std.specs.Prelude.{◌≡◌, ◌<◌, ◌^◌, ◌≤◌, All, List};
 ghost use Rattle.lens_flows.specs.counts.Deliveries.{AreDeliveries, IsBelow, IsOneMore, delivery_by, is_channel, is_of};
-ghost use Rattle.{lens_flows.specs.counts.Deliveries.{is_on, one_if}, run_law.specs.scenario.Devices.channel_of_link};
+ghost use Rattle.lens_flows.specs.counts.Deliveries.{is_on, one_if};
 ghost use Rattle.lens_flows.specs.judge.{Courses.{IsCourse, IsFit, IsSomeCourse, scenario_of}, Flows.IsFlow};
 ghost use Rattle.{net_plan.specs.declared.event.Event.Event, run_law.specs.records.Happenings.Happening};
 
 use crate::counts::Nearest;
 use crate::counts::nearest::{nearer, nearest_by, place_at};
 use crate::judge::{Course, Flow};
+use audit_devices::channel_of_link;
 use net_plan::{DeviceId, LinkId, Network, VlId};
 use run_law::NoteBody;
 use tte_units::frames::Channel;
@@ -148,16 +149,4 @@ fn is_channel(channel: Channel, found: Option<Channel>) -> bool
         (Channel::A, Some(Channel::B)) | (Channel::B, Some(Channel::A)) => false,
         (Channel::A, None) | (Channel::B, None) => false,
     }
-}
-
-/// The channel of a link, which is that of its parent.
-fn channel_of_link(network: &Network, link: LinkId) -> Option<Channel>
-    ensures { result ≡ channel_of_link network.now link }
-{
-    let found = network.link.as_slice().get(link.0 as usize)?;
-    network
-        .device
-        .as_slice()
-        .get(found.parent.0 as usize)?
-        .channel
 }
