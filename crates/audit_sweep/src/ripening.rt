@@ -5,14 +5,14 @@ ghost use Rattle.{audit_law.specs.events.Readings.{clock_reading, scenario_under
 ghost use Rattle.{audit_sweep.specs.Knowing.{IsKnown, KnowsSome}, drift_clock.specs.transparent.Points.point_of};
 ghost use Rattle.audit_sweep.specs.{Passing.IsPassable, Ripenings.{IsPermanentOrNone, IsPointReached, waiting_clock}};
 ghost use Rattle.net_plan.specs.{Belonging.HasDevice, Ranges.IsInRange, declared.event.Event.Event};
-ghost use Rattle.run_law.specs.{control.Permanence.waits_for, records.Happenings.Happening};
+ghost use Rattle.run_law.specs.records.Happenings.{Happening};
 ghost use Rattle.tte_units.specs.Amount.{amount};
 
 use crate::known::Known;
 use crate::passage::Passage;
 use crate::records::Kept;
 use audit_law::events::reading_law;
-use device_rules::{is_parent_of, is_relay};
+use device_rules::waits_for;
 use net_plan::{DeviceId, LinkId, Network};
 use tte_units::Units;
 use tte_units::frames::Pcf;
@@ -90,13 +90,6 @@ fn waiting_clock(kept: Kept, device: DeviceId, link: LinkId) -> Option<u64>
         | Kept::Accepted(_, _, _)
         | Kept::Other => None,
     }
-}
-
-/// Does the device wait for the permanence of what comes by the link?
-fn waits_for(network: &Network, device: DeviceId, link: LinkId) -> bool
-    ensures { result ≡ waits_for network.now device link }
-{
-    !is_relay(network, device) || !is_parent_of(network, device, link)
 }
 
 /// The point of a frame that arrived then with this transparent clock, if the device's clock first reads it at the

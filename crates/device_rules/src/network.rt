@@ -2,6 +2,7 @@
 
 ghost use Rattle.std.specs.{Int.int_div_euclid, Prelude.{◌*◌, ◌+◌, ◌<◌, ◌^◌, ◌≡◌, ◌≤ℤ◌, ◌≤◌, pos}};
 ghost use Rattle.{device_rules.specs.Widths.IsLocal, run_law.specs.device.Standpoints.{cycle_at, offset_in_cycle}};
+ghost use Rattle.run_law.specs.control.Permanence.{waits_for};
 ghost use Rattle.{net_plan.specs.Ranges.IsInRange, sync_state.specs.Plan.expected_at, tte_units.specs.Amount.amount};
 ghost use Rattle.run_law.specs.scenario.Devices.{expected_by, is_cm, is_cm_role, is_end, is_parent_of, is_relay};
 ghost use Rattle.run_law.specs.scenario.{Devices.{is_relay_role, plan_of}, Ways.{way_to, wire_of}};
@@ -64,6 +65,13 @@ pub fn is_parent_of(network: &Network, device: DeviceId, link: LinkId) -> bool
         Some(found) => found.parent.0 == device.0,
         None => false,
     }
+}
+
+/// Does the device wait for the permanence of what comes by the link?
+pub fn waits_for(network: &Network, device: DeviceId, link: LinkId) -> bool
+    ensures { result ≡ waits_for network.now device link }
+{
+    !is_relay(network, device) || !is_parent_of(network, device, link)
 }
 
 /// The way on which the device receives by the link.

@@ -1,23 +1,16 @@
 ghost use Rattle.std.specs.Prelude.{◌≡◌, ◌<◌, ◌≤◌, ◌≤ℤ◌, ◌^◌, ◌+◌, pos, length, IfSome, Some};
 ghost use Rattle.{net_plan.specs.Ranges.IsInRange, world_state.specs.Giving.{CameBy, IsYoung, awaited_by, giver_of}};
-ghost use Rattle.{run_law.specs.control.Permanence.waits_for, world_state.specs.Frames.{IsOneMore, room_of, waiter_of}};
+ghost use Rattle.world_state.specs.Frames.{IsOneMore, room_of, waiter_of};
 ghost use Rattle.tte_units.specs.Amount.{amount};
 
 use crate::contents::Waits;
 use crate::frames::Frames;
-use device_rules::{is_parent_of, is_relay};
+use device_rules::waits_for;
 use drift_clock::transparent::permanence;
-use net_plan::{DeviceId, LinkId, Network};
+use net_plan::{DeviceId, Network};
 use run_law::plain::{PlainBody, PlainKind};
 use tte_units::Units;
 use tte_units::frames::Pcf;
-
-/// Does the device wait for the permanence of what comes by the link?
-fn does_wait(network: &Network, device: DeviceId, link: LinkId) -> bool
-    ensures { result ≡ waits_for network.now device link }
-{
-    !is_relay(network, device) || !is_parent_of(network, device, link)
-}
 
 /// What waits by a record, where its device is broken or not and its clock reads this.
 #[inline(always)]
@@ -46,7 +39,7 @@ pub fn awaited(
     else {
         return None;
     };
-    if broken || !does_wait(network, *device, *link) {
+    if broken || !waits_for(network, *device, *link) {
         return None;
     }
     let frame = frame?;

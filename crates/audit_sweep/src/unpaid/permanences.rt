@@ -5,15 +5,15 @@ ghost use Rattle.audit_law.specs.{events.Remembering.{Remembers, RemembersSome},
 ghost use Rattle.audit_sweep.specs.{records.Keeping.record_of, unpaid.Debtors.{AreKnown, scenario_of}};
 ghost use Rattle.audit_sweep.specs.unpaid.{Unpaid.TellsUnpaid, Waiting.{IsPermanentBy, IsReachedBy, IsWaitingAs}};
 ghost use Rattle.net_plan.specs.{Belonging.HasDevice, Ranges.IsInRange, declared.event.Event.Event};
-ghost use Rattle.run_law.specs.{control.Permanence.waits_for, records.Happenings.{Happening, numbered}};
+ghost use Rattle.run_law.specs.records.Happenings.{Happening, numbered};
 ghost use Rattle.drift_clock.specs.transparent.Points.{point_of};
 ghost use Rattle.audit_law.specs.law.Owed as debts;
 
 use crate::records::{Kept, KeptRecord};
 use crate::unpaid::Debtor;
 use crate::unpaid::earliest::earlier_of;
-use device_rules::{is_parent_of, is_relay};
-use net_plan::{DeviceId, LinkId, Network};
+use device_rules::waits_for;
+use net_plan::{DeviceId, Network};
 use tte_units::Units;
 
 /// A frame that waits at a device for its permanence.
@@ -142,11 +142,4 @@ fn point_of(reading: u64, clock: u64, dmax: Units) -> i128
     ensures { result ≡ point_of (pos reading) clock dmax.0 }
 {
     i128::from(reading) + (i128::from(dmax.0) - i128::from(clock))
-}
-
-/// Does the device wait for the permanence of what comes by the link?
-fn waits_for(network: &Network, device: DeviceId, link: LinkId) -> bool
-    ensures { result ≡ waits_for network.now device link }
-{
-    !is_relay(network, device) || !is_parent_of(network, device, link)
 }
