@@ -169,7 +169,7 @@ fn comes_by(way: Way, link: &Link, device: DeviceId) -> bool
 }
 
 /// Are the two ways one?
-fn is_way(way: Way, other: Way) -> bool
+pub fn is_way(way: Way, other: Way) -> bool
     ensures { result ≡ is_way way other }
 {
     match (way, other) {

@@ -22,7 +22,7 @@ mod timed;
 pub use arriving::{control_arrival, is_cold_start, refused};
 pub use collecting::point_fault;
 pub use correcting::{PointStanding, PointVerdict, correction_value, joined_adjustment, verdict};
-pub use entrances::{EnteringRow, Entrances};
+pub use entrances::{EnteringRow, Entrances, is_way};
 pub use first_kind::{TaskKind, TellsKind};
 pub use heading::Heading;
 pub use hearing::heard_as;

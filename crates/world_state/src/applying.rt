@@ -2,7 +2,7 @@ ghost use Rattle.std.specs.{List.list_any, Prelude.{unsigned_abs, ℕ}};
 ghost use Rattle.std.specs.Prelude.{◌*◌, ◌++◌, ◌+◌, ◌<◌, ◌==◌, ◌^◌, ◌||◌, ◌≡◌, ◌≢◌, ◌≤ℤ◌, ◌≤◌, All, Bool, IfNone};
 ghost use Rattle.std.specs.Prelude.{IfSome, OnErr, OnOk, Some, false, filter, length, map, not, pos, slice_get};
 ghost use Rattle.net_plan.specs.declared.{ids.DeviceId.DeviceId, network.Network.Network, tables.Way.{Way as WayOf}};
-ghost use Rattle.{net_plan.specs.declared.ids.LinkId.LinkId, run_law.specs.scenario.{Scenarios.turns_on, Ways.is_way}};
+ghost use Rattle.{net_plan.specs.declared.ids.LinkId.LinkId, run_law.specs.scenario.Scenarios.turns_on};
 ghost use Rattle.{run_law.specs.machines.Nodes.Node, tte_units.specs.declared.rates.Ppb.Ppb};
 ghost use Rattle.{run_law.specs.scenario.Hypothesis.breaks_at, sync_state.specs.declared.state.State.TheVariants.Off};
 ghost use Rattle.world_law.specs.world.Outcomes.{also_befell, befallen_node, ends_world};
@@ -15,6 +15,7 @@ use crate::contents::{Befallen, WayState};
 use crate::frames::Frames;
 use crate::kept::Kept;
 use crate::packets::{Happened, Happening, Packet};
+use device_rules::is_way;
 use drift_clock::Clock;
 use net_plan::{DeviceId, Network, Octets, Way, What};
 use run_law::Machine;
@@ -38,34 +39,24 @@ pub fn set_rate<C: Clock>(clocks: &mut Vec<C>, time: Units, what: &What)
     }
 }
 
-/// Are the two ways one?
-fn is_same(a: Way, b: Way) -> bool
-    ensures { result ≡ is_way a b }
-{
-    match (a, b) {
-        (Way::Up, Way::Up) | (Way::Down, Way::Down) => true,
-        (Way::Up, Way::Down) | (Way::Down, Way::Up) => false,
-    }
-}
-
 /// A way of a link after what befalls the network.
 fn way_after(was: WayState, link: u32, way: Way, what: &What) -> WayState
     ensures { result ≡ way_after (record { 0 = link }) way what.now was }
 {
     match what {
-        What::Wire(other, turned, delay) if link == other.0 && is_same(way, *turned) => WayState {
+        What::Wire(other, turned, delay) if link == other.0 && is_way(way, *turned) => WayState {
             delay: delay.0.unsigned_abs(),
             ..was
         },
-        What::Hold(other, turned, hold) if link == other.0 && is_same(way, *turned) => WayState {
+        What::Hold(other, turned, hold) if link == other.0 && is_way(way, *turned) => WayState {
             hold: hold.0.unsigned_abs(),
             ..was
         },
-        What::Cut(other, turned) if link == other.0 && is_same(way, *turned) => WayState {
+        What::Cut(other, turned) if link == other.0 && is_way(way, *turned) => WayState {
             cut: true,
             ..was
         },
-        What::Heal(other, turned) if link == other.0 && is_same(way, *turned) => WayState {
+        What::Heal(other, turned) if link == other.0 && is_way(way, *turned) => WayState {
             cut: false,
             ..was
         },
