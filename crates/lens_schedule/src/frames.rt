@@ -2,12 +2,12 @@
 ghost use Rattle.std.specs.Prelude.{◌^◌, ◌≡◌, ◌≤◌};
 ghost use Rattle.lens_schedule.specs.Frames.{frame_of, height_of, seat_of, stroke_of, window_begin};
 ghost use Rattle.{net_plan.specs.Ranges.IsInRange, schedule_tables.specs.Entries.IsEntryInRange};
-ghost use Rattle.schedule_tables.specs.Windows.{arrival_of, port_time, tolerance, window_end};
+ghost use Rattle.schedule_tables.specs.Windows.{port_time, window_end};
 
 use crate::Scale;
 use lens_svg::Point;
 use net_plan::{LinkId, Network, VlId, Way};
-use schedule_tables::Entry;
+use schedule_tables::{Entry, arrival_of, tolerance};
 
 /// How far to the right of its column something begins and ends, in pixels.
 #[derive(Clone, Copy)]
@@ -59,15 +59,6 @@ fn stroke_of(scale: Scale, from: u64, to: u64) -> Stroke
     }
 }
 
-/// How far the clocks of two devices may differ.
-pub(crate) fn tolerance(network: &Network) -> u64
-    requires { IsInRange network.now }
-    ensures value { result ≡ tolerance network.now }
-    ensures bound { result ≤ 2 ^ 41 }
-{
-    network.precision.amount() + network.gamma().amount()
-}
-
 /// How long a row's frame occupies its port.
 pub(crate) fn port_time(network: &Network, entry: &Entry) -> u64
     requires { IsEntryInRange network.now entry.now }
@@ -77,15 +68,6 @@ pub(crate) fn port_time(network: &Network, entry: &Entry) -> u64
     entry.port_time().amount()
 }
 
-/// The place in the sender's cycle at which it has arrived, over the least wire delay.
-fn arrival_of(network: &Network, entry: &Entry) -> u64
-    requires { IsEntryInRange network.now entry.now }
-    ensures value { result ≡ arrival_of entry.now }
-    ensures bound { result ≤ 2 ^ 43 }
-{
-    entry.row.offset.amount() + port_time(network, entry) + entry.link.wire.amount()
-}
-
 /// The last place in the receiver's cycle at which it may arrive.
 pub(crate) fn window_end(network: &Network, entry: &Entry) -> u64
     requires range { IsInRange network.now }
@@ -93,7 +75,7 @@ pub(crate) fn window_end(network: &Network, entry: &Entry) -> u64
     ensures value { result ≡ window_end network.now entry.now }
     ensures bound { result ≤ 2 ^ 45 }
 {
-    arrival_of(network, entry) + entry.link.jitter.amount() + tolerance(network)
+    arrival_of(entry) + entry.link.jitter.amount() + tolerance(network)
 }
 
 /// The first one.
@@ -102,7 +84,7 @@ fn window_begin(network: &Network, entry: &Entry) -> u64
     requires entry { IsEntryInRange network.now entry.now }
     ensures { result ≡ window_begin network.now entry.now }
 {
-    arrival_of(network, entry).saturating_sub(tolerance(network))
+    arrival_of(entry).saturating_sub(tolerance(network))
 }
 
 /// The frame of a row.

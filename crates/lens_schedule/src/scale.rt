@@ -3,9 +3,9 @@ ghost use Rattle.std.specs.Prelude.{◌^◌, ◌≡◌, ◌≤◌, All};
 ghost use Rattle.lens_schedule.specs.Scale.{last_end, scale_of, x_of};
 ghost use Rattle.{net_plan.specs.Ranges.IsInRange, schedule_tables.specs.Entries.IsEntryInRange};
 
-use crate::frames::{tolerance, window_end};
+use crate::frames::window_end;
 use net_plan::Network;
-use schedule_tables::Entry;
+use schedule_tables::{Entry, tolerance};
 
 /// Where the part that is drawn to scale begins and ends, as places in the cycle.
 #[derive(Clone, Copy)]

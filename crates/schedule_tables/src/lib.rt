@@ -18,4 +18,4 @@ pub use memory::OutOfMemory;
 pub use rule::Rule;
 pub use slot::{Place, RESIDUES, Slot, Whose, first_slot, slots_of};
 pub use tables::Tables;
-pub use window::{Window, window_of};
+pub use window::{Window, arrival_of, tolerance, window_of};

@@ -31,8 +31,11 @@ pub fn window_of(network: &Network, entry: &Entry) -> Window
     }
 }
 
-/// The place in the sender's cycle at which the frame has arrived, over the least wire delay.
-fn arrival_of(entry: &Entry) -> u64
+/// The place in the sender's cycle at which the frame has arrived, over the least wire delay, in
+/// units of 2^-16 ns.
+///
+/// The numbers of the entry lie in their ranges.
+pub fn arrival_of(entry: &Entry) -> u64
     requires offset { IsWithin 0 (2 ^ 40) entry.now.row.offset }
     requires octets { entry.now.vl.length ≤ 1514 }
     requires wire { IsWithin 1 (2 ^ 40) entry.now.link.wire }
@@ -42,8 +45,10 @@ fn arrival_of(entry: &Entry) -> u64
     entry.row.offset.amount() + entry.port_time().amount() + entry.link.wire.amount()
 }
 
-/// The precision and gamma: how far the clocks of two devices may differ.
-fn tolerance(network: &Network) -> u64
+/// The precision and gamma: how far the clocks of two devices may differ, in units of 2^-16 ns.
+///
+/// The numbers of the network lie in their ranges.
+pub fn tolerance(network: &Network) -> u64
     requires { IsInRange network.now }
     ensures value { result ≡ tolerance network.now }
     ensures bound { result ≤ 2 ^ 41 }
