@@ -15,5 +15,5 @@ mod permanences;
 pub mod points;
 
 pub use debtor::Debtor;
-pub use paid::{Paid, cause_of};
+pub use paid::Paid;
 pub use payments::Payments;

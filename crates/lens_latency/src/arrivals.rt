@@ -4,9 +4,8 @@ ghost use Rattle.std.specs.{List.cons_option, Prelude.{◌++◌, ◌∷◌, ◌�
 ghost use Rattle.lens_latency.specs.Following.{IsFollowed, arrival_by, departure_at, departure_by, is_departure};
 ghost use Rattle.tte_units.specs.Amount.{amount};
 
-use audit_sweep::unpaid::cause_of;
 use net_plan::{DeviceId, Network, VlId};
-use run_law::{Note, NoteBody};
+use run_law::{Note, NoteBody, cause_of};
 use tte_io::OutOfMemory;
 use tte_reports::RecordTaker;
 

@@ -1,7 +1,6 @@
 //! What a record says of where it is drawn, and how.
 ghost use Rattle.std.specs.Prelude.{◌≡◌};
 ghost use Rattle.lens_svg.specs.Bodies.{child_of, look_of, own_hue, scene_of, seat_of, struck_by, struck_look};
-ghost use Rattle.run_law.specs.records.Causes.{cause_of};
 
 use crate::mark::ground_of;
 use crate::{Ground, Hue, Look};
@@ -91,28 +90,6 @@ pub fn seat_of(network: &Network, body: &NoteBody) -> u64
         | NoteBody::Delivered { .. }
         | NoteBody::Dropped { .. }
         | NoteBody::Clock { .. } => u64::from(scene_of(network, body).0) + 1,
-    }
-}
-
-/// The number of the record that it comes from, or 0.
-pub(crate) fn cause_of(body: &NoteBody) -> u64
-    ensures { result ≡ cause_of body.now }
-{
-    match body {
-        NoteBody::Event { .. }
-        | NoteBody::Compressed { .. }
-        | NoteBody::Sent { .. }
-        | NoteBody::Corrected { .. }
-        | NoteBody::Clock { .. } => 0,
-        NoteBody::Arrived { cause, .. }
-        | NoteBody::Permanent { cause, .. }
-        | NoteBody::State { cause, .. }
-        | NoteBody::Left { cause, .. }
-        | NoteBody::Lost { cause, .. }
-        | NoteBody::TtSent { cause, .. }
-        | NoteBody::Accepted { cause, .. }
-        | NoteBody::Delivered { cause, .. }
-        | NoteBody::Dropped { cause, .. } => *cause,
     }
 }
 

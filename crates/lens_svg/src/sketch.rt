@@ -4,13 +4,13 @@ ghost use Rattle.lens_svg.specs.{Lanes.start_of, Layout.{IsOnPaper, widest}, Ske
 ghost use Rattle.lens_svg.specs.Sketching.{is_drawn, last_in, mark_at, mark_of, no_marks_in, noted, seated, side_in, took, turned};
 ghost use Rattle.net_plan.specs.Ranges.{IsInRange};
 
-use crate::bodies::{cause_of, look_of, own_hue, scene_of, seat_of};
+use crate::bodies::{look_of, own_hue, scene_of, seat_of};
 use crate::kept::side_if;
 use crate::lanes::{start_of, y_of};
 use crate::layout::{Side, side_of};
 use crate::{Ground, Hue, Kept, Look, Mark, Pen, Span, Title};
 use net_plan::{Device, Network};
-use run_law::{Note, NoteBody};
+use run_law::{Note, NoteBody, cause_of};
 use std::alloc::Global;
 use std::marker::Model;
 use tte_io::OutOfMemory;

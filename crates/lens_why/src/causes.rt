@@ -5,9 +5,8 @@ ghost use Rattle.{run_law.specs.declared.note.Note.{Note as NoteValue}, tte_audi
 ghost use Rattle.tte_reports.specs.{Commands.IsRead, Places.note_at, Reports.IsReportOf};
 ghost use Rattle.tte_units.specs.declared.units.Units.{Units as UnitsValue};
 
-use audit_sweep::unpaid::cause_of;
 use net_plan::Network;
-use run_law::Note;
+use run_law::{Note, cause_of};
 use tte_reports::AuditedReport;
 
 /// The record of the number, or how many there are where there is none.

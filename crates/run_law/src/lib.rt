@@ -17,6 +17,6 @@ pub use judgement::{Judgement, Reason, Why};
 pub use laws::{earlier_run_is_front, hypothesis_is_decided, run_goes_on, run_is_one};
 pub use locals::spread;
 pub use machine::Machine;
-pub use note::{Note, NoteBody};
+pub use note::{Note, NoteBody, cause_of};
 pub use outside::Outside;
 pub use steps::{Act, Arrival, Moment, Ripe};

@@ -1,3 +1,6 @@
+ghost use Rattle.std.specs.Prelude.{◌≡◌};
+ghost use Rattle.run_law.specs.records.Causes.{cause_of};
+
 use crate::{Judgement, Reason, Why};
 use net_plan::{DeviceId, LinkId, VlId, What};
 use sync_state::State;
@@ -146,4 +149,26 @@ pub enum NoteBody {
         adjustment: Units,
         state: State,
     },
+}
+
+/// The number of the record that a record comes from, or 0.
+pub fn cause_of(body: &NoteBody) -> u64
+    ensures { result ≡ cause_of body.now }
+{
+    match body {
+        NoteBody::Arrived { cause, .. }
+        | NoteBody::Permanent { cause, .. }
+        | NoteBody::State { cause, .. }
+        | NoteBody::Left { cause, .. }
+        | NoteBody::Lost { cause, .. }
+        | NoteBody::TtSent { cause, .. }
+        | NoteBody::Accepted { cause, .. }
+        | NoteBody::Delivered { cause, .. }
+        | NoteBody::Dropped { cause, .. } => *cause,
+        NoteBody::Event { .. }
+        | NoteBody::Compressed { .. }
+        | NoteBody::Sent { .. }
+        | NoteBody::Corrected { .. }
+        | NoteBody::Clock { .. } => 0,
+    }
 }

@@ -1,5 +1,4 @@
 ghost use Rattle.std.specs.Prelude.{◌≡◌};
-ghost use Rattle.run_law.specs.records.Causes.{cause_of};
 ghost use Rattle.audit_sweep.specs.unpaid.Payments.{both, is_old, nothing, paid_by};
 
 use run_law::{NoteBody, Reason};
@@ -83,26 +82,4 @@ fn is_old(reason: Reason) -> bool
     ensures { result ≡ is_old reason }
 {
     matches!(reason, Reason::Old)
-}
-
-/// The number of the record that a record comes from, or 0.
-pub fn cause_of(body: &NoteBody) -> u64
-    ensures { result ≡ cause_of body.now }
-{
-    match body {
-        NoteBody::Arrived { cause, .. }
-        | NoteBody::Permanent { cause, .. }
-        | NoteBody::State { cause, .. }
-        | NoteBody::Left { cause, .. }
-        | NoteBody::Lost { cause, .. }
-        | NoteBody::TtSent { cause, .. }
-        | NoteBody::Accepted { cause, .. }
-        | NoteBody::Delivered { cause, .. }
-        | NoteBody::Dropped { cause, .. } => *cause,
-        NoteBody::Event { .. }
-        | NoteBody::Compressed { .. }
-        | NoteBody::Sent { .. }
-        | NoteBody::Corrected { .. }
-        | NoteBody::Clock { .. } => 0,
-    }
 }

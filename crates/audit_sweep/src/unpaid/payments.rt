@@ -4,8 +4,7 @@ ghost use Rattle.audit_sweep.specs.unpaid.Payments.{ArePayments, IsPaidSo};
 
 use crate::records::OutOfMemory;
 use crate::unpaid::Paid;
-use crate::unpaid::paid::cause_of;
-use run_law::NoteBody;
+use run_law::{NoteBody, cause_of};
 use std::alloc::Global;
 use std::marker::Model;
 

@@ -8,10 +8,9 @@ ghost use Rattle.lens.specs.declared.draw.subject.Subject.{Subject as SubjectVal
 ghost use Rattle.tte_reports.specs.{Commands.IsRead, Reports.{IsReportOf, IsSomeReport}};
 
 use crate::draw::subject::{Subject, own_flag};
-use audit_sweep::unpaid::cause_of;
 use lens_svg::{Flags, Span, flag_at, scene_of};
 use net_plan::{Device, DeviceId, Network};
-use run_law::Note;
+use run_law::{Note, cause_of};
 use std::alloc::Global;
 use tte_io::OutOfMemory;
 use tte_reports::{AuditedReport, RecordTaker, take_records};

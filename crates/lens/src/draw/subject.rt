@@ -3,10 +3,9 @@ ghost use Rattle.std.specs.Prelude.{◌≡◌, ◌+◌, IfNone, IfSome};
 ghost use Rattle.lens.specs.draw.{Keeping.{is_sending, own_flag}, Naming.{IsUnknown, Names}};
 ghost use Rattle.net_plan.specs.Ranges.{IsInRange};
 
-use audit_sweep::unpaid::cause_of;
 use lens_svg::{flag_at, seat_of};
 use net_plan::{DeviceId, Network, VlId};
-use run_law::NoteBody;
+use run_law::{NoteBody, cause_of};
 
 /// What a picture is of.
 #[derive(Clone, Copy)]
