@@ -12,6 +12,7 @@ use crate::unpaid::Debtor;
 use crate::unpaid::dispatches::RowDebtor;
 use crate::unpaid::emissions::first_unemitted;
 use crate::unpaid::points::{earlier, first_unsent, first_untold};
+use tte_units::magnitude;
 
 impl Sweep<'_> {
     /// The first time up to the end at which a record is lacking: it is due given those that were taken, and is not one
@@ -47,7 +48,7 @@ impl Sweep<'_> {
     fn end(&self) -> u64
         ensures { result ≡ amount self.now.known.end }
     {
-        self.known.end.0.unsigned_abs()
+        magnitude(self.known.end)
     }
 
     // What owes the records that other records bring, and those of clocks.

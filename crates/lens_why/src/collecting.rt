@@ -10,13 +10,13 @@ ghost use Rattle.lens_why.specs.Collections.{as_point, behind_point, collected_g
 ghost use Rattle.run_law.specs.{control.Collections.{ends_stretch, point_by}, declared.note.Note.{Note as NoteValue}};
 ghost use Rattle.{run_law.specs.records.Ranks.place_of, tte_reports.specs.Reports.IsReportOf};
 
-use crate::ground::{Ground, beyond, magnitude};
+use crate::ground::{Ground, beyond};
 use crate::seeking::{Sought, last_before};
 use audit_devices::Carried;
 use net_plan::{DeviceId, Network};
 use run_law::{Judgement, NoteBody, Why};
 use tte_reports::AuditedReport;
-use tte_units::Units;
+use tte_units::{Units, magnitude};
 
 /// The last collection of a compression master so far. Readings are in units of 2^-16 ns.
 #[derive(Clone, Copy, PartialEq, Eq)]

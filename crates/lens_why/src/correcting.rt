@@ -8,14 +8,14 @@ ghost use Rattle.{net_plan.specs.{Belonging.HasDevice, Ranges.IsInRange}, tte_re
 ghost use Rattle.{run_law.specs.declared.judgement.Why.Why, tte_units.specs.declared.units.Units.{Units as UnitsValue}};
 ghost use Rattle.run_law.specs.{declared.note.Note.{Note as NoteValue}, records.Happenings.{Happening, happenings}};
 
-use crate::ground::{Best, Ground, Told, beyond, magnitude};
+use crate::ground::{Best, Ground, Told, beyond};
 use crate::seeking::{Sought, last_before};
 use device_rules::joined_adjustment;
 use net_plan::{DeviceId, Network};
 use sync_state::membership::{Heard, HeardFrame, count};
 use tte_reports::AuditedReport;
-use tte_units::Units;
 use tte_units::frames::Channel;
+use tte_units::{Units, magnitude};
 
 /// What the channels say to the correction of the device's clock, that of the cycle, by the record of the number at the
 /// time.

@@ -14,7 +14,7 @@ ghost use Rattle.run_law.specs.device.Standpoints.{clock_of, cycle_at, offset_in
 ghost use Rattle.run_law.specs.{records.Happenings.{Happening, happenings, numbered}, scenario.Ways.is_way_of};
 ghost use Rattle.{tte_reports.specs.Reports.IsReportOf, tte_units.specs.declared.units.Units.{Units as UnitsValue}};
 
-use crate::ground::{Ground, magnitude, place_in_cycle, position_at};
+use crate::ground::{Ground, place_in_cycle, position_at};
 use crate::seeking::{Coming, Sought, last_before};
 use audit_sweep::Index;
 use device_rules::{is_relay, way_to};
@@ -22,7 +22,7 @@ use net_plan::{DeviceId, LinkId, Network, Row, RowId, Way};
 use run_law::Reason;
 use schedule_tables::{Entry, entry_of, window_of};
 use tte_reports::AuditedReport;
-use tte_units::Units;
+use tte_units::{Units, magnitude};
 
 /// What comes to the device by the link at the time, from the record of the number `cause`, and is dropped with the
 /// record of the number.

@@ -26,8 +26,8 @@ use run_law::{Judgement, Note, NoteBody, Why};
 use schedule_tables::{entry_of, window_of};
 use sync_state::State;
 use tte_reports::AuditedReport;
-use tte_units::Units;
 use tte_units::frames::Members;
+use tte_units::{Units, magnitude};
 
 /// What a channel says to a correction of a device's clock, by the best frame that the device has heard on it.
 #[derive(Clone, Copy, PartialEq, Eq)]
@@ -376,13 +376,6 @@ fn lost(
 {
     let way = way_from(network, device, link);
     Ground::CutBy(cut_before(report, network, number, link, way))
-}
-
-/// How many units these are, without their sign.
-pub(crate) fn magnitude(units: Units) -> u64
-    ensures { result ≡ amount units }
-{
-    units.0.unsigned_abs()
 }
 
 /// The local value at this offset in the cycle.

@@ -11,15 +11,14 @@ ghost use Rattle.run_law.specs.declared.note.Note.{Note as NoteValue};
 ghost use Rattle.run_law.specs.records.{Happenings.{Happening, happenings, numbered}, Ranks.place_of};
 ghost use Rattle.{run_law.specs.timed.Receptions.{comes_before, is_taken_before}, tte_reports.specs.Reports.IsReportOf};
 
-use crate::ground::magnitude;
 use audit_devices::{Carried, channel_of, channel_of_link};
 use audit_sweep::Index;
 use net_plan::{DeviceId, LinkId, Network, VlId, Way, What};
 use run_law::{Judgement, Note, NoteBody, Why};
 use sync_state::membership::HeardFrame;
 use tte_reports::AuditedReport;
-use tte_units::Units;
 use tte_units::frames::Channel;
+use tte_units::{Units, magnitude};
 
 /// By what a record is looked for.
 #[derive(Clone, Copy)]

@@ -8,4 +8,4 @@ mod units;
 
 pub use rates::{Ppb, slip};
 pub use speed::{Speed, octets};
-pub use units::{READING_LIMIT, Units, mean};
+pub use units::{READING_LIMIT, Units, magnitude, mean};

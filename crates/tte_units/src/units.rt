@@ -29,6 +29,13 @@ impl Units {
     }
 }
 
+/// How many units these are, without their sign.
+pub fn magnitude(units: Units) -> u64
+    ensures { result ≡ amount units }
+{
+    units.0.unsigned_abs()
+}
+
 /// The mean of two numbers of units, rounded towards minus infinity.
 ///
 /// Both lie strictly between -2^61 and 2^61.

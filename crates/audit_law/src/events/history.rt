@@ -16,7 +16,7 @@ use crate::events::{OutOfMemory, clocks};
 use drift_clock::{Clock, SegmentClock};
 use net_plan::{DeviceId, Event, Link, LinkId, Network, Way, What};
 use std::alloc::{AllocError, Global};
-use tte_units::{Ppb, Units};
+use tte_units::{Ppb, Units, magnitude};
 
 /// The greatest value that is sought. No clock reads so much at a time up to 2^60.
 const MOST_SOUGHT: i128 = 1 << 61;
@@ -306,13 +306,6 @@ fn way_place(link: LinkId, way: Way) -> usize
         Way::Up => place,
         Way::Down => place + 1,
     }
-}
-
-// So many units, whatever their sign.
-fn magnitude(units: Units) -> u64
-    ensures { result ≡ amount units }
-{
-    units.0.unsigned_abs()
 }
 
 // The value as it is sought: no clock reads less than 0.
