@@ -2,7 +2,7 @@ ghost use Rattle.std.specs.{List.{count_by, enumerate_from}, Prelude.{[], pos}};
 ghost use Rattle.std.specs.Prelude.{◌*◌, ◌++◌, ◌+ℤ◌, ◌<ℤ◌, ◌^◌, ◌↔◌, ◌∷◌, ◌≡◌, ◌≢◌, ◌⊎◌, IsSomeAnd, IsTrue, List, Some};
 ghost use Rattle.fault_hypothesis.specs.{SoundMasters.is_sound_beside, Watching.Watches};
 ghost use Rattle.net_plan.specs.{Belonging.{HasDevice, IsOfNetwork}, Ranges.{IsInRange, IsLinkInRange}};
-ghost use Rattle.{net_plan.specs.Places.is_master, run_law.specs.scenario.Faults.{IsBroken, IsTurnedOn}};
+ghost use Rattle.run_law.specs.scenario.Faults.{IsBroken, IsTurnedOn};
 ghost use Rattle.net_plan.specs.declared.{event.Event.{Event as EventValue}, network.Network.{Network as NetworkValue}};
 ghost use Rattle.run_law.specs.scenario.Hypothesis.{BreaksNoMaster, BreaksSecond, ComesTooEarly, ComesTooLate};
 ghost use Rattle.run_law.specs.scenario.Hypothesis.{CutsOtherChannel, LeavesTooFew, SendsUnbroken, SetsFastRate};
@@ -10,7 +10,7 @@ ghost use Rattle.run_law.specs.scenario.Hypothesis.{SetsLongHold, SetsOtherWire,
 
 use crate::places::{begins_on, channel_of, device_at, link_at};
 use crate::{Outside, Watch};
-use net_plan::{Device, DeviceId, Event, Link, LinkId, Network, Role, What};
+use net_plan::{Device, DeviceId, Event, Link, LinkId, Network, What};
 use tte_units::Units;
 use tte_units::frames::Channel;
 
@@ -72,17 +72,11 @@ fn breaks_no_master(network: &Network, event: &Event) -> bool
 {
     match &event.what {
         What::Break(device) => match device_at(network, *device) {
-            Some(found) => !is_master(found.role),
+            Some(found) => !found.role.is_master(),
             None => true,
         },
         _ => false,
     }
-}
-
-fn is_master(role: Role) -> bool
-    ensures { result ≡ is_master role }
-{
-    role == Role::Master
 }
 
 // Are there both channels, and do they differ?
@@ -237,5 +231,5 @@ fn is_sound_beside(broken: Option<DeviceId>, other: DeviceId, place: usize, foun
         Some(broken) => broken.0 as usize == place,
         None => false,
     };
-    is_master(found.role) && found.start.is_some() && !is_broken && other.0 as usize != place
+    found.role.is_master() && found.start.is_some() && !is_broken && other.0 as usize != place
 }

@@ -1,5 +1,5 @@
 ghost use Rattle.std.specs.Prelude.{◌≡◌};
-ghost use Rattle.net_plan.specs.Places.{is_end_system};
+ghost use Rattle.net_plan.specs.Places.{is_end_system, is_master};
 
 use crate::{DeviceId, LinkId, Name, VlId};
 use std::marker::Model;
@@ -50,6 +50,16 @@ impl Role {
         match self {
             Role::Master | Role::Client => true,
             Role::Cm | Role::Relay => false,
+        }
+    }
+
+    /// Is this the role of a synchronisation master?
+    pub fn is_master(self) -> bool
+        ensures { result ≡ is_master self }
+    {
+        match self {
+            Role::Master => true,
+            Role::Client | Role::Cm | Role::Relay => false,
         }
     }
 }

@@ -2,24 +2,15 @@ ghost use Rattle.std.specs.Prelude.{◌*◌, ◌≡◌, pos};
 ghost use Rattle.{net_plan.specs.{Places.is_master, Ranges.IsInRange}, run_law.specs.scenario.Devices.has_role};
 ghost use Rattle.tte_units.specs.Amount.{amount};
 
-use net_plan::{DeviceId, Network, Role};
+use net_plan::{DeviceId, Network};
 
 /// Is the device a master?
 pub fn is_master(network: &Network, device: DeviceId) -> bool
     ensures { result ≡ has_role network.now is_master device }
 {
     match network.device.as_slice().get(device.0 as usize) {
-        Some(found) => is_master_role(found.role),
+        Some(found) => found.role.is_master(),
         None => false,
-    }
-}
-
-fn is_master_role(role: Role) -> bool
-    ensures { result ≡ is_master role }
-{
-    match role {
-        Role::Master => true,
-        Role::Client | Role::Cm | Role::Relay => false,
     }
 }
 

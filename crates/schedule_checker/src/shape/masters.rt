@@ -4,7 +4,7 @@ ghost use Rattle.{net_plan.specs.Places.is_master, schedule_checker.specs.Parts.
 ghost use Rattle.net_plan.specs.Rules.{HasOffSwitch, MastersSuffice, MembersDiffer, masters, most_masters};
 ghost use Rattle.tte_units.specs.declared.frames.channel.Channel.{Channel as ChannelValue};
 
-use net_plan::{Device, Network, Role};
+use net_plan::{Device, Network};
 use tte_units::frames::Channel;
 
 /// The least count of masters.
@@ -64,7 +64,7 @@ pub(crate) fn masters_suffice(network: &Network, part: u32) -> bool
 fn is_master_device(device: &Device) -> bool
     ensures { result ≡ is_master device.now.role }
 {
-    device.role == Role::Master
+    device.role.is_master()
 }
 
 /// How many masters there are.
