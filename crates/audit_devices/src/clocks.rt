@@ -15,6 +15,5 @@ pub use correcting::{Correction, Point, coming_cycle, coming_point, corrects};
 pub use ending::{EndClock, shows_clock};
 pub use finding::{Crossed, Series, next_crossing};
 pub use moment::Moment;
-pub use network::is_master;
 pub use reaching::{is_up, reaches};
 pub use sending::{Sending, beginnings, next_sending, sends};

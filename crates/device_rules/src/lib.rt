@@ -28,6 +28,6 @@ pub use heading::Heading;
 pub use hearing::heard_as;
 pub use intake::Intake;
 pub use leaving::{Departed, departure};
-pub use network::{is_cm, is_end, is_parent_of, is_relay, waits_for, way_to};
+pub use network::{is_cm, is_end, is_master, is_parent_of, is_relay, waits_for, way_to};
 pub use standpoint::Standpoint;
 pub use timed::TimedArrival;

@@ -3,9 +3,10 @@
 ghost use Rattle.std.specs.{Int.int_div_euclid, Prelude.{◌*◌, ◌+◌, ◌<◌, ◌^◌, ◌≡◌, ◌≤ℤ◌, ◌≤◌, pos}};
 ghost use Rattle.{device_rules.specs.Widths.IsLocal, run_law.specs.device.Standpoints.{cycle_at, offset_in_cycle}};
 ghost use Rattle.run_law.specs.control.Permanence.{waits_for};
-ghost use Rattle.{net_plan.specs.Ranges.IsInRange, sync_state.specs.Plan.expected_at, tte_units.specs.Amount.amount};
-ghost use Rattle.run_law.specs.scenario.Devices.{expected_by, is_cm, is_cm_role, is_end, is_parent_of, is_relay};
-ghost use Rattle.run_law.specs.scenario.{Devices.{is_relay_role, plan_of}, Ways.{way_to, wire_of}};
+ghost use Rattle.{net_plan.specs.{Places.is_master, Ranges.IsInRange}, sync_state.specs.Plan.expected_at};
+ghost use Rattle.tte_units.specs.Amount.{amount};
+ghost use Rattle.run_law.specs.scenario.Devices.{expected_by, has_role, is_cm, is_cm_role, is_end, is_parent_of};
+ghost use Rattle.run_law.specs.scenario.{Devices.{is_relay, is_relay_role, plan_of}, Ways.{way_to, wire_of}};
 
 use net_plan::{DeviceId, LinkId, Network, Role, Way};
 
@@ -25,6 +26,16 @@ fn is_cm_role(role: Role) -> bool
     match role {
         Role::Cm => true,
         Role::Relay | Role::Master | Role::Client => false,
+    }
+}
+
+/// Is the device a synchronisation master?
+pub fn is_master(network: &Network, device: DeviceId) -> bool
+    ensures { result ≡ has_role network.now is_master device }
+{
+    match network.device.as_slice().get(device.0 as usize) {
+        Some(found) => found.role.is_master(),
+        None => false,
     }
 }
 

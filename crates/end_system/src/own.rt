@@ -1,12 +1,12 @@
 ghost use Rattle.std.specs.Prelude.{◌*◌, ◌+ℤ◌, ◌+◌, ◌<ℤ◌, ◌<◌, ◌^◌, ◌≡◌, ◌≤ℤ◌, ◌≤◌, length, neg_ℤ, pos};
 ghost use Rattle.end_system.specs.Owns.{HasOwnRange, IsOwnOf, IsUplinkOf, channel_by, end_plan, wire_by};
 ghost use Rattle.{net_plan.specs.{Paths.IsUplink, Ranges.IsInRange}, tte_units.specs.Amount.amount};
-ghost use Rattle.net_plan.specs.Places.{IsEndSystem, is_master};
-ghost use Rattle.run_law.specs.{control.Hearing.is_in_schedule, scenario.Devices.has_role};
+ghost use Rattle.{net_plan.specs.Places.IsEndSystem, run_law.specs.control.Hearing.is_in_schedule};
 ghost use Rattle.{schedule_tables.specs.Rules.KeepsRules, sync_state.specs.Plan.expected_at};
 
 use device_rules::frames::dispatched_frame;
-use net_plan::{DeviceId, LinkId, Network, Role};
+use device_rules::is_master;
+use net_plan::{DeviceId, LinkId, Network};
 use sync_state::SyncPlan;
 use tte_units::Units;
 use tte_units::frames::{Channel, Pcf};
@@ -109,20 +109,6 @@ impl Own {
             a: uplink_of(network, device, Channel::A),
             b: uplink_of(network, device, Channel::B),
         }
-    }
-}
-
-/// Whether the end system is a synchronisation master.
-fn is_master(network: &Network, device: DeviceId) -> bool
-    requires range { IsInRange network.now }
-    requires end { IsEndSystem network.now device }
-    ensures { result ≡ has_role network.now is_master device }
-{
-    match network.device.as_slice()[device.0 as usize].role {
-        Role::Master => true,
-        Role::Client => false,
-        Role::Cm => false,
-        Role::Relay => false,
     }
 }
 

@@ -7,9 +7,10 @@ ghost use Rattle.net_plan.specs.declared.{event.Event.Event, ids.DeviceId.{Devic
 ghost use Rattle.run_law.specs.{device.LocalClocks.Reaches, scenario.Scenarios.Scenario, timed.Dispatching.Sends};
 
 use crate::Shown;
-use crate::clocks::network::{begun, is_master};
+use crate::clocks::network::begun;
 use crate::clocks::{Moment, Series, is_up, next_crossing, reaches};
 use audit_law::events::{EventHistory, reading_law};
+use device_rules::is_master;
 use net_plan::{DeviceId, Network};
 use sync_state::State;
 

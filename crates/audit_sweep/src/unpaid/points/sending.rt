@@ -12,9 +12,10 @@ ghost use Rattle.audit_law.specs.law.Owed as debts;
 
 use crate::records::places::Places;
 use crate::unpaid::points::first::{earlier, end_of};
-use audit_devices::clocks::{Crossed, Moment, beginnings, is_master, is_up, next_crossing};
+use audit_devices::clocks::{Crossed, Moment, beginnings, is_up, next_crossing};
 use audit_devices::{Shown, Standings};
 use audit_law::events::{EventHistory, reading_law};
+use device_rules::is_master;
 use net_plan::{DeviceId, Network};
 use run_law::plain::Place;
 use sync_state::State;
