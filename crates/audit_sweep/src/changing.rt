@@ -85,6 +85,7 @@ fn bringer_by(device: DeviceId, kept: Kept) -> Bringer
         | Kept::Left(_, _)
         | Kept::TtSent(_, _)
         | Kept::Accepted(_, _, _)
+        | Kept::Delivered(_, _, _)
         | Kept::Other => Bringer::Other,
     }
 }

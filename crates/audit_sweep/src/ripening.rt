@@ -88,6 +88,7 @@ fn waiting_clock(kept: Kept, device: DeviceId, link: LinkId) -> Option<u64>
         | Kept::Left(_, _)
         | Kept::TtSent(_, _)
         | Kept::Accepted(_, _, _)
+        | Kept::Delivered(_, _, _)
         | Kept::Other => None,
     }
 }

@@ -6,7 +6,7 @@ pub mod FlowParts
 pub mod Ends
 pub mod Leasts
 pub mod Sums
-pub mod SeenMore
+pub mod KeptDeliveries
 pub mod Telling
 pub mod OneTold
 pub mod Certainty

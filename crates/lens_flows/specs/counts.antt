@@ -5,5 +5,4 @@ pub mod Greatest
 pub mod Counted
 pub mod Nearest
 pub mod Deliveries
-pub mod Seen
 pub mod Told

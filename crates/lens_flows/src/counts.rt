@@ -5,12 +5,11 @@ mod counting;
 mod deliveries;
 mod flows;
 mod nearest;
-mod seen;
 mod told;
 
 pub use counting::FateCounts;
+pub(crate) use deliveries::deliveries_in;
 pub use deliveries::{Deliveries, Delivery};
 pub use flows::flows_of;
 pub use nearest::Nearest;
-pub use seen::{OutOfMemory, Seen};
 pub use told::{FlowTold, tell_all};

@@ -42,6 +42,7 @@ kept_of (notes.Corrected device cycle by adjustment) = kept.Corrected device
 kept_of (notes.Left device link cause clock) = kept.Left device link
 kept_of (notes.TtSent device link cause vl cycle) = kept.TtSent device link
 kept_of (notes.Accepted device link cause vl cycle) = kept.Accepted device vl cycle
+kept_of (notes.Delivered device link cause vl cycle) = kept.Delivered device link vl
 kept_of other = kept.Other
 
 -- what is kept of a record

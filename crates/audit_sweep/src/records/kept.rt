@@ -37,6 +37,8 @@ pub enum Kept {
     TtSent(DeviceId, LinkId),
     /// A switch takes a frame of the virtual link, in this cycle of its own.
     Accepted(DeviceId, VlId, u32),
+    /// A frame of the virtual link that came by the link is delivered at the device.
+    Delivered(DeviceId, LinkId, VlId),
     /// No record comes from it.
     Other,
 }

@@ -44,9 +44,14 @@ pub(crate) fn kept_of(body: &NoteBody) -> Kept
             cycle,
             ..
         } => Kept::Accepted(*device, *vl, *cycle),
+        NoteBody::Delivered {
+            device,
+            link,
+            vl,
+            ..
+        } => Kept::Delivered(*device, *link, *vl),
         NoteBody::State { .. }
         | NoteBody::Lost { .. }
-        | NoteBody::Delivered { .. }
         | NoteBody::Dropped { .. }
         | NoteBody::Clock { .. } => Kept::Other,
     }

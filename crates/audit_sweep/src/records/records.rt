@@ -63,6 +63,13 @@ impl KeptRecords {
         }
     }
 
+    /// What is kept of each record, in their order.
+    pub fn as_slice(&self) -> &[KeptRecord]
+        ensures { result.now ≡ self.now }
+    {
+        self.records.as_slice()
+    }
+
     /// What is to be kept of a further record of this time and body.
     pub fn make(&self, network: &Network, time: u64, body: &NoteBody) -> KeptRecord
         requires { IsInRange network.now }

@@ -70,6 +70,7 @@ impl Debtor<'_> {
             | Kept::Left(_, _)
             | Kept::TtSent(_, _)
             | Kept::Accepted(_, _, _)
+            | Kept::Delivered(_, _, _)
             | Kept::Other => false,
         }
     }

@@ -146,6 +146,7 @@ fn may_give(network: &Network, kept: Kept) -> bool
         | Kept::Left(_, _)
         | Kept::TtSent(_, _)
         | Kept::Accepted(_, _, _)
+        | Kept::Delivered(_, _, _)
         | Kept::Other => false,
     }
 }

@@ -122,6 +122,7 @@ fn waiting_frame(network: &Network, kept: &KeptRecord) -> Option<Waiting>
         | Kept::Left(_, _)
         | Kept::TtSent(_, _)
         | Kept::Accepted(_, _, _)
+        | Kept::Delivered(_, _, _)
         | Kept::Other => return None,
     };
     if kept.frame.is_none() {

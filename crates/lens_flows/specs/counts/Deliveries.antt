@@ -9,6 +9,8 @@ use Rattle.{net_plan.specs.declared.event.Event.Event, run_law.specs.records.{Ha
 use Rattle.tte_units.specs.declared.frames.channel.Channel.{Channel, TheVariants.{A, B}}
 use Rattle.{run_law.specs.declared.note.Note.Note, tte_units.specs.Amount.amount}
 use Rattle.run_law.specs.{declared.note.NoteBody.NoteBody, scenario.{Devices.channel_of_link, Scenarios.Scenario}}
+use Rattle.audit_sweep.specs.declared.records.kept.{Kept.Kept, KeptRecord.KeptRecord}
+use Rattle.audit_sweep.specs.declared.records.kept.Kept.TheVariants as kepts
 use Rattle.run_law.specs.declared.note.NoteBody.TheVariants as notes
 
 -- what a record at the time says of a delivery, if it says that a frame is delivered
@@ -16,6 +18,15 @@ abbrev pub delivery_by : ℕ → NoteBody → Option Delivery
 delivery_by time (notes.Delivered device link cause vl cycle) =
     Some (record { time = time; device = device; link = link; vl = vl })
 delivery_by time body = None
+
+-- the same, by what an audit keeps of the record
+abbrev pub delivered_by : ℕ → Kept → Option Delivery
+delivered_by time (kepts.Delivered device link vl) =
+    Some (record { time = time; device = device; link = link; vl = vl })
+delivered_by time other = None
+
+abbrev pub delivery_kept : KeptRecord → Option Delivery
+delivery_kept r = delivered_by r.time r.kept
 
 -- the deliveries that the records tell
 abbrev pub deliveries_of : List Note → List Delivery

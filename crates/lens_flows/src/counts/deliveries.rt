@@ -1,7 +1,7 @@
 //! The deliveries of a flow.
 
-ghost use Rattle.std.specs.Prelude.{◌≡◌, ◌<◌, ◌^◌, ◌≤◌, All, List};
-ghost use Rattle.lens_flows.specs.counts.Deliveries.{AreDeliveries, IsBelow, IsOneMore, delivery_by, is_channel, is_of};
+ghost use Rattle.std.specs.Prelude.{◌≡◌, ◌<◌, ◌^◌, ◌≤◌, All, IfOk, List, filter_map};
+ghost use Rattle.lens_flows.specs.counts.Deliveries.{AreDeliveries, IsBelow, IsOneMore, delivery_kept, is_channel, is_of};
 ghost use Rattle.lens_flows.specs.counts.Deliveries.{is_on, one_if};
 ghost use Rattle.lens_flows.specs.judge.{Courses.{IsCourse, IsFit, IsSomeCourse, scenario_of}, Flows.IsFlow};
 ghost use Rattle.{net_plan.specs.declared.event.Event.Event, run_law.specs.records.Happenings.Happening};
@@ -10,8 +10,9 @@ use crate::counts::Nearest;
 use crate::counts::nearest::{nearer, nearest_by, place_at};
 use crate::judge::{Course, Flow};
 use audit_devices::channel_of_link;
+use audit_sweep::records::{Kept, KeptRecord};
 use net_plan::{DeviceId, LinkId, Network, VlId};
-use run_law::NoteBody;
+use std::alloc::{AllocError, Global};
 use tte_units::frames::Channel;
 
 /// A delivery that a record tells.
@@ -35,35 +36,40 @@ pub struct Deliveries {
     pub nearest: Option<Nearest>,
 }
 
-/// What a record at the time says of a delivery, if it says that a frame is delivered.
-pub(crate) fn delivery_by(time: u64, body: &NoteBody) -> Option<Delivery>
-    ensures { result ≡ delivery_by time body.now }
+/// The deliveries that the records of a report tell, by what its audit keeps of each.
+///
+/// Fails when memory runs out.
+pub(crate) fn deliveries_in(
+    alloc: Global,
+    records: &[KeptRecord],
+) -> Result<Vec<Delivery>, AllocError>
+    ensures { IfOk result (λ deliveries. deliveries.items ≡ filter_map delivery_kept records.now) }
 {
-    match body {
-        NoteBody::Delivered {
+    records.iter().filter_map(delivery_kept).collect(alloc)
+}
+
+/// The delivery that the record tells, if it does.
+fn delivery_kept(record: &KeptRecord) -> Option<Delivery>
+    ensures { result ≡ delivery_kept record.now }
+{
+    match record.kept {
+        Kept::Delivered(device, link, vl) => Some(Delivery {
+            time: record.time,
             device,
             link,
             vl,
-            ..
-        } => Some(Delivery {
-            time,
-            device: *device,
-            link: *link,
-            vl: *vl,
         }),
-        NoteBody::Event { .. }
-        | NoteBody::Arrived { .. }
-        | NoteBody::Permanent { .. }
-        | NoteBody::Compressed { .. }
-        | NoteBody::Sent { .. }
-        | NoteBody::Corrected { .. }
-        | NoteBody::State { .. }
-        | NoteBody::Left { .. }
-        | NoteBody::Lost { .. }
-        | NoteBody::TtSent { .. }
-        | NoteBody::Accepted { .. }
-        | NoteBody::Dropped { .. }
-        | NoteBody::Clock { .. } => None,
+        Kept::On(_)
+        | Kept::Send(_, _)
+        | Kept::Arrived(_, _, _)
+        | Kept::Permanent(_, _)
+        | Kept::Compressed(_, _)
+        | Kept::Sent(_)
+        | Kept::Corrected(_)
+        | Kept::Left(_, _)
+        | Kept::TtSent(_, _)
+        | Kept::Accepted(_, _, _)
+        | Kept::Other => None,
     }
 }
 

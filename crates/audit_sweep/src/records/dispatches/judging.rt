@@ -162,6 +162,7 @@ impl Loss {
                 | Kept::Corrected(_)
                 | Kept::Left(_, _)
                 | Kept::TtSent(_, _)
+                | Kept::Delivered(_, _, _)
                 | Kept::Other,
             )
             | None => None,

@@ -152,6 +152,7 @@ fn giver(network: &Network, link: LinkId, kept: Kept) -> Option<DeviceId>
         | Kept::Left(_, _)
         | Kept::TtSent(_, _)
         | Kept::Accepted(_, _, _)
+        | Kept::Delivered(_, _, _)
         | Kept::Other => return None,
     };
     if gives { Some(device) } else { None }

@@ -34,6 +34,7 @@ pub fn loss_due(
         | Kept::Left(_, _)
         | Kept::TtSent(_, _)
         | Kept::Accepted(_, _, _)
+        | Kept::Delivered(_, _, _)
         | Kept::Other => return None,
     };
     let device = match network.link.as_slice().get(link.0 as usize) {

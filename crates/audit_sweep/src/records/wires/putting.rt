@@ -53,6 +53,7 @@ pub(crate) fn put_by(network: &Network, kept: &KeptRecord) -> Option<Put>
         | Kept::Sent(_)
         | Kept::Corrected(_)
         | Kept::Accepted(_, _, _)
+        | Kept::Delivered(_, _, _)
         | Kept::Other => None,
     }
 }
@@ -115,6 +116,7 @@ pub(crate) fn is_stopped(history: &EventHistory, kept: &KeptRecord, link: LinkId
         | Kept::Left(_, _)
         | Kept::TtSent(_, _)
         | Kept::Accepted(_, _, _)
+        | Kept::Delivered(_, _, _)
         | Kept::Other => false,
     }
 }

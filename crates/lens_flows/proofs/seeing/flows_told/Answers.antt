@@ -1,12 +1,9 @@
 use Rattle.{lens_flows.proofs.AllTold.{all_told, flows_each}, run_law.specs.records.Happenings.happenings, tte_reports.proofs.Times.{end_same, end_soon}}
-use Rattle.lens_flows.proofs.Reading.{deliveries_soon}
+use Rattle.lens_flows.proofs.{Reading.deliveries_soon, counts_lemmas.KeptDeliveries.deliveries_kept}
 use Rattle.{lens_flows.specs.counts.FlowLists.AreFlows, std.specs.Prelude.{All, unsigned_abs}, tte_units.specs.Amount.amount}
 use Rattle.{lens_flows.specs.declared.counts.deliveries.Delivery.Delivery, std.proofs.Common.{◌^◌, ◌∙◌, ◌≤◌, List, ap, arith, rules, subst, sym, ℤ}}
 use Rattle.{std.{proofs.lemmas.Int.to_z-of_z, specs.Int.w64}, tte_audit.specs.Report.events_of}
 use Rattle.lens_flows.proofs.seeing.flows_told.Goals as goal
-
-pub deliveries_in-requires-clause-report : goal.deliveries_in-requires-clause-report
-deliveries_in-requires-clause-report c = c.requires.read.some
 
 pub flows_of-requires : goal.flows_of-requires
 flows_of-requires c = c.requires.read.some.2.range
@@ -35,9 +32,12 @@ tell_all-requires-clause-flows c =
 
 pub tell_all-requires-clause-timely : goal.tell_all-requires-clause-timely
 tell_all-requires-clause-timely c =
+    let network = c.args.network.now in
     let some = c.requires.read.some in
+    let shows = c.requires.read.index some.0 some.1 some.2 in
     subst (λ (ds : List Delivery). All (λ (d : Delivery). d.time ≤ 2 ^ 60) ds)
-    (sym (c.as_slice-deliveries.ensures.value ∙ c.in_ok-seen.ensures some.0 some.1 some.2)) (deliveries_soon some.2)
+    (sym (c.as_slice-deliveries.ensures.value
+    ∙ deliveries_kept network some.0 c.in_ok-seen.ensures (c.as_slice-records.ensures ∙ shows.records))) (deliveries_soon some.2)
 
 pub returns : goal.returns
 returns c notes end r =
@@ -47,5 +47,6 @@ returns c notes end r =
     ∙ ap (λ u. amount u) (sym (end_same network c.args.report.now.octets notes end r shows)) in
     all_told network notes end
     (subst (AreFlows network) (sym c.as_slice-all.ensures.value) c.in_ok-flows.ensures) until
-    (c.as_slice-deliveries.ensures.value ∙ c.in_ok-seen.ensures notes end r)
+    (c.as_slice-deliveries.ensures.value
+    ∙ deliveries_kept network notes c.in_ok-seen.ensures (c.as_slice-records.ensures ∙ shows.records))
     (c.in_ok-told.ensures (events_of notes) (happenings network notes) (record { remembers = shows.events; stands = shows.standings }))
