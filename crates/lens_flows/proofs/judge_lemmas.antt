@@ -5,3 +5,4 @@ pub mod BegunCycles
 pub mod Fating
 pub mod Comings
 pub mod Rows
+pub mod Spans

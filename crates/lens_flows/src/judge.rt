@@ -13,4 +13,4 @@ mod sent;
 pub use beginning::Begun;
 pub use course::Course;
 pub use fate::Fate;
-pub use flow::Flow;
+pub use flow::{Flow, RowSpan};

@@ -1,8 +1,9 @@
 -- The flows of a network, one virtual link and one device after another.
 use Rattle.lens_flows.{proofs.counts_lemmas.Orders.{all_more, all_none, all_same}, specs.counts.PartLists.{AreFlowsBefore, ComesBefore, IsFlowOf, IsTo}}
-use Rattle.{lens_flows.{proofs.judge_lemmas.Rows.receiver_there, specs.declared.judge.flow.Flow.Flow}, net_plan.specs.declared.ids.DeviceId.DeviceId}
+use Rattle.{lens_flows.specs.declared.judge.flow.{Flow.Flow, RowSpan.RowSpan}, net_plan.specs.declared.ids.DeviceId.DeviceId}
+use Rattle.lens_flows.proofs.judge_lemmas.{Rows.receiver_there, Spans.span_one}
 use Rattle.{lens_flows.specs.counts.FlowLists.{AreFlows, IsFlowBefore}, net_plan.specs.declared.{network.Network.Network, tables.VirtualLink.VirtualLink}}
-use Rattle.{lens_flows.specs.judge.Flows.IsFlow, run_law.specs.{law.Safety.IsWindowEnd, scenario.Devices.is_end}, schedule_tables.specs.Windows.window_end}
+use Rattle.{lens_flows.specs.judge.Flows.{AreWithin, IsFlow, IsRowOf}, run_law.specs.{law.Safety.IsWindowEnd, scenario.Devices.is_end}, schedule_tables.specs.Windows.window_end}
 use Rattle.{net_plan.specs.{Bounds.IsGreatest, Places.{IsEndSystem, device_at, is_end_system}}, std.specs.Prelude.{IsSomeAnd, None, Option, Some, slice_get}}
 use Rattle.{net_plan.specs.declared.{ids.VlId.VlId, tables.Device.Device}, std.proofs.lemmas.{Bool.{cases_lt, false≢true}, Option.slice_get_within}}
 use Rattle.std.proofs.Common.{◌++◌, ◌+◌, ◌∙◌, ◌∷◌, ◌≡◌, ◌≤◌, ◌⊎◌, List, [], ap, arith, false, inl, inr, length, refl, subst, sym, true, ℕ}
@@ -61,11 +62,13 @@ to_one {network} {vl} {device} {a} {b} p q =
     let le = greatest_one (IsWindowEnd network b.vl b.device) greatest q.is.greatest in
     let ge = greatest_one (IsWindowEnd network b.vl b.device) q.is.greatest greatest in
     let lasts : a.last ≡ b.last = omega (arith, le, ge) in
-    ap (λ v. made v a.of_vl a.device a.last) vls ∙ ap (λ o. made b.vl o a.device a.last) of_vls
-    ∙ ap (λ d. made b.vl b.of_vl d a.last) devices ∙ ap (λ n. made b.vl b.of_vl b.device n) lasts
+    let spans = span_one (subst (λ v. AreWithin network v a.rows) vls p.is.rows) q.is.rows in
+    ap (λ v. made v a.of_vl a.device a.last a.rows) vls ∙ ap (λ o. made b.vl o a.device a.last a.rows) of_vls
+    ∙ ap (λ d. made b.vl b.of_vl d a.last a.rows) devices ∙ ap (λ n. made b.vl b.of_vl b.device n a.rows) lasts
+    ∙ ap (made b.vl b.of_vl b.device b.last) spans
   where
-    made : VlId → VirtualLink → DeviceId → ℕ → Flow
-    made v o d n = record { vl = v; of_vl = o; device = d; last = n }
+    made : VlId → VirtualLink → DeviceId → ℕ → RowSpan → Flow
+    made v o d n r = record { vl = v; of_vl = o; device = d; last = n; rows = r }
 
     some_same : Some a.of_vl ≡ Some b.of_vl → a.of_vl ≡ b.of_vl
     some_same e = cc
@@ -144,6 +147,13 @@ pub no_end_system : {network : Network} {vl : VlId} {device : DeviceId} {flow : 
 no_end_system {network} {device} out to =
     let end : IsEndSystem network device = subst (IsEndSystem network) to.to to.is.end_system in
     false≢true (sym out ∙ end_role (device_at network device) end)
+
+pub no_rows : {network : Network} {vl : VlId} {device : DeviceId} {flow : Flow}
+    → ((place : ℕ) → IsRowOf network vl place → ⊥) → IsTo network vl device flow → ⊥
+no_rows {network} none to =
+    let enters = to.is.enters in
+    none enters.place (subst (λ v. IsRowOf network v enters.place) to.of_vl
+    (record { row = to.is.into.row; is = enters.is.row; of_vl = enters.of_vl }))
 
 pub no_window : {network : Network} {vl : VlId} {device : DeviceId} {flow : Flow}
     → ((n : ℕ) → IsWindowEnd network vl device n → ⊥) → IsTo network vl device flow → ⊥

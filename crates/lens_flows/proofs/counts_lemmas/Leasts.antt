@@ -1,8 +1,8 @@
 -- The least distances of two kinds, and of all rows.
 use Rattle.lens_flows.specs.{counts.Nearest.{IsInside, IsInsideRow, IsInsideSome, TellsLeast, nearer}, declared.counts.nearest.Nearest.Nearest}
-use Rattle.{lens_flows.specs.declared.judge.flow.Flow.Flow, std.{proofs.lemmas.Bool.cases_lt, specs.{Int.int_rem_euclid, Prelude.{None, Option, Some, min}}}}
+use Rattle.{lens_flows.specs.{declared.judge.flow.Flow.Flow, judge.Flows.{AreWithin, IsRowOf}}, std.{proofs.lemmas.Bool.cases_lt, specs.{Int.int_rem_euclid, Prelude.{None, Option, Some, min}}}}
 use Rattle.{net_plan.specs.declared.{ids.LinkId.LinkId, network.Network.Network}, schedule_tables.specs.declared.window.Window.Window}
-use Rattle.std.proofs.{Common.{◌+◌, ◌-ℤ◌, ◌<◌, ◌^◌, ◌≡◌, ◌≤◌, ◌⊎◌, arith, inl, inr, length, pos, subst, sym, ℕ, ℤ}, lemmas.{Int.ints, Option.slice_get_within}}
+use Rattle.std.proofs.{Common.{◌+◌, ◌-ℤ◌, ◌<◌, ◌^◌, ◌≡◌, ◌≤◌, ◌⊎◌, arith, inl, inr, pos, subst, sym, ℕ, ℤ}, lemmas.Int.ints}
 
 -- what comes after the first of the two
 pub least_both : (P Q R : ℕ → ℕ → Type 0) (a b : Option Nearest) → ((x y : ℕ) → P x y → R x y) → ((x y : ℕ) → Q x y → R x y)
@@ -63,13 +63,17 @@ inside_least window place early late behind before = record {
 
 -- ---- the rows
 
+row_of : {network : Network} {flow : Flow} {link : LinkId} {place : ℤ} {k x y : ℕ} → IsInsideRow network flow link place k x y
+    → IsRowOf network flow.vl k
+row_of at = record { row = at.entry.row; is = at.is.row; of_vl = at.of_vl }
+
 -- a row before this place
 abbrev pub IsInsideBefore : Network → Flow → LinkId → ℤ → ℕ → ℕ → ℕ → Type 0
 IsInsideBefore network flow link place n early late = (k : ℕ) × (k < n) × IsInsideRow network flow link place k early late
 
 module _ (network : Network) (flow : Flow) (link : LinkId) (place : ℤ) where
-  pub inside_none : (x y : ℕ) → IsInsideBefore network flow link place 0 x y → ⊥
-  inside_none x y (k, lt, at) = omega (arith, lt)
+  pub inside_none : AreWithin network flow.vl flow.rows → (x y : ℕ) → IsInsideBefore network flow link place flow.rows.from x y → ⊥
+  inside_none within x y (k, lt, at) = let ge = (within.all k (row_of at)).0 in omega (arith, lt, ge)
 
   pub inside_more : (n : ℕ) (last found new : Option Nearest) → new ≡ nearer last found
       → TellsLeast (IsInsideBefore network flow link place n) last
@@ -88,14 +92,13 @@ module _ (network : Network) (flow : Flow) (link : LinkId) (place : ℤ) where
             inr (subst (λ k. IsInsideRow network flow link place k x y) same h.2)
       ]) before here)
 
-  pub inside_all : (n : ℕ) (last : Option Nearest) → length network.row ≤ n
+  pub inside_all : (n : ℕ) (last : Option Nearest) → AreWithin network flow.vl flow.rows → flow.rows.to ≤ n
       → TellsLeast (IsInsideBefore network flow link place n) last
       → TellsLeast (IsInsideSome network flow link place) last
-  inside_all n last all tells =
+  inside_all n last within all tells =
       least_same (IsInsideBefore network flow link place n) (IsInsideSome network flow link place) last
       (λ x y h. (h.0, h.2))
-      (λ x y h. let within = slice_get_within network.row h.0 h.1.entry.row h.1.is.row in
-      (h.0, omega (arith, within, all), h.1)) tells
+      (λ x y h. let lt = (within.all h.0 (row_of h.1)).1 in (h.0, omega (arith, lt, all), h.1)) tells
 
 -- ---- the place in a cycle
 

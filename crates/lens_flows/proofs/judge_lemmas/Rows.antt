@@ -1,8 +1,8 @@
 -- The rows by which the sender of a flow sends.
 use Rattle.{lens_flows.specs.{declared.judge.flow.Flow.Flow, judge.Fates.IsRowSent}, std.specs.Prelude.{IsSomeAnd, None, Option, Some, slice_get}}
-use Rattle.{lens_flows.specs.judge.Flows.IsFlow, net_plan.specs.Belonging.HasDevice, std.proofs.lemmas.{Bool.cases_lt, Option.slice_get_within}}
+use Rattle.{lens_flows.specs.judge.Flows.{AreWithin, IsFlow}, net_plan.specs.Belonging.HasDevice, std.proofs.lemmas.{Bool.cases_lt, Option.slice_get_within}}
 use Rattle.net_plan.specs.{Places.{device_at, is_end_system}, Ranges.{IsInRange, IsVlInRange}, declared.{tables.Device.Device}}
-use Rattle.{net_plan.specs.declared.network.Network.Network, std.proofs.Common.{◌+◌, ◌<◌, ◌≡◌, ◌≤◌, List, arith, inl, inr, length, refl, subst, true, ℕ}}
+use Rattle.{net_plan.specs.declared.network.Network.Network, std.proofs.Common.{◌+◌, ◌<◌, ◌≡◌, ◌≤◌, ◌⊎◌, List, arith, inl, inr, length, refl, subst, true, ℕ}}
 use Rattle.{run_law.specs.{records.Happenings.Happening, scenario.Scenarios.Scenario}, tte_units.proofs.general_lemmas.Lists.in_all}
 
 pub sender_there : {network : Network} {flow : Flow} → IsInRange network → IsFlow network flow
@@ -25,9 +25,18 @@ one_more P n before here k lt =
       | inr more ↦ let same : n ≡ k = omega (arith, more, lt) in subst P same here
     ]
 
--- behind the last row there is none
-pub all_rows : (s : Scenario) (hs : List Happening) (flow : Flow) (cycle to n : ℕ) → length s.network.row ≤ n
-    → ((k : ℕ) → k < n → IsRowSent s hs flow cycle to k) → (k : ℕ) → IsRowSent s hs flow cycle to k
-all_rows s hs flow cycle to n all before k entry is =
-    let within = slice_get_within s.network.row k entry.row is.row in
-    before k (omega (arith, within, all)) entry is
+-- a row at another place is of another virtual link
+pub row_off : (s : Scenario) (hs : List Happening) (flow : Flow) (cycle to : ℕ) → AreWithin s.network flow.vl flow.rows → (k : ℕ)
+    → (k < flow.rows.from) ⊎ (flow.rows.to ≤ k) → IsRowSent s hs flow cycle to k
+row_off s hs flow cycle to within k off entry is of_vl source =
+    let at = within.all k (record { row = entry.row; is = is.row; of_vl = of_vl }) in
+    let ge = at.0 in
+    let lt = at.1 in
+    absurd (elim off [ inl less ↦ omega (arith, ge, less) | inr more ↦ omega (arith, lt, more) ])
+
+pub all_rows : (s : Scenario) (hs : List Happening) (flow : Flow) (cycle to n : ℕ) → AreWithin s.network flow.vl flow.rows
+    → flow.rows.to ≤ n → ((k : ℕ) → k < n → IsRowSent s hs flow cycle to k) → (k : ℕ) → IsRowSent s hs flow cycle to k
+all_rows s hs flow cycle to n within all before k = elim (cases_lt k n) [
+  | inl less ↦ before k less
+  | inr more ↦ row_off s hs flow cycle to within k (inr (omega (arith, all, more)))
+]

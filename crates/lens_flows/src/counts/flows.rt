@@ -1,11 +1,11 @@
 //! The flows of a network.
 
-ghost use Rattle.std.specs.Prelude.{◌≡◌, ◌<◌, ◌+◌, IfOk, OnOk, length};
+ghost use Rattle.std.specs.Prelude.{◌≡◌, ◌<◌, ◌+◌, IfOk, MatchOption, OnOk, length, ℕ};
 ghost use Rattle.lens_flows.specs.counts.{FlowLists.AreFlows, Greatest.{EndsAt, TellsGreatest, later_of}};
 ghost use Rattle.{lens_flows.specs.counts.PartLists.{AreFlowsBefore, IsFlowTo}, run_law.specs.law.Safety.IsWindowEnd};
-ghost use Rattle.net_plan.specs.{Belonging.HasVl, Ranges.IsInRange};
+ghost use Rattle.{lens_flows.specs.judge.Flows.{AreWithin, IsRowOf, TellsSpan}, net_plan.specs.{Belonging.HasVl, Ranges.IsInRange}};
 
-use crate::judge::Flow;
+use crate::judge::{Flow, RowSpan};
 use device_rules::is_end;
 use net_plan::{DeviceId, Network, RowId, VlId};
 use schedule_tables::{entries_law, entry_of, window_of};
@@ -69,13 +69,51 @@ fn flow_to(network: &Network, vl: VlId, device: DeviceId) -> Option<Flow>
         return None;
     }
     match last_end(network, vl, device) {
-        Some(last) => Some(Flow {
-            vl,
-            of_vl: network.vl.as_slice()[vl.0 as usize],
-            device,
-            last,
-        }),
+        Some(last) => match rows_of(network, vl) {
+            Some(rows) => Some(Flow {
+                vl,
+                of_vl: network.vl.as_slice()[vl.0 as usize],
+                device,
+                last,
+                rows,
+            }),
+            None => None,
+        },
         None => None,
+    }
+}
+
+/// Where the rows of the virtual link stand, if it has any.
+fn rows_of(network: &Network, vl: VlId) -> Option<RowSpan>
+    requires { IsInRange network.now }
+    ensures { MatchOption result ((place : ℕ) → IsRowOf network.now vl place → ⊥) (AreWithin network.now vl) }
+{
+    let mut span = None;
+    'rows: for place in 0..network.row.as_slice().len() {
+        span = with_row(network, vl, span, RowId(place as u32));
+    }
+    span
+}
+
+/// The same with the row behind those so far.
+fn with_row(network: &Network, vl: VlId, span: Option<RowSpan>, row: RowId) -> Option<RowSpan>
+    requires range { IsInRange network.now }
+    requires row { row.0 < length network.now.row }
+    ensures { TellsSpan network.now vl row.0 span → TellsSpan network.now vl (row.0 + 1) result }
+{
+    let entry = entry_of(network, row);
+    if entry.row.vl.0 != vl.0 {
+        return span;
+    }
+    match span {
+        Some(span) => Some(RowSpan {
+            from: span.from,
+            to: row.0 + 1,
+        }),
+        None => Some(RowSpan {
+            from: row.0,
+            to: row.0 + 1,
+        }),
     }
 }
 

@@ -2,7 +2,7 @@
 
 ghost use Rattle.std.specs.Prelude.{◌≡◌, ◌<◌, ◌+ℤ◌, ◌^◌, ◌≤◌, ◌≤ℤ◌, List, length, neg_ℤ, pos};
 ghost use Rattle.lens_flows.specs.counts.Nearest.{IsInside, IsInsideRow, IsInsideSome, TellsLeast, nearer, place_at};
-ghost use Rattle.lens_flows.specs.judge.Courses.{IsCourse, IsFit, IsSomeCourse, scenario_of};
+ghost use Rattle.lens_flows.specs.judge.{Courses.{IsCourse, IsFit, IsSomeCourse, scenario_of}, Flows.AreWithin};
 ghost use Rattle.net_plan.specs.{Belonging.HasDevice, Ranges.IsInRange, declared.event.Event.Event};
 ghost use Rattle.run_law.specs.{device.Standpoints.offset_in_cycle, records.Happenings.Happening};
 
@@ -59,12 +59,13 @@ pub(crate) fn nearest_by(
     place: u64,
 ) -> Option<Nearest>
     requires range { IsInRange network.now }
+    requires rows { AreWithin network.now flow.now.vl flow.now.rows }
     requires most { place ≤ 2 ^ 40 }
     ensures { TellsLeast (IsInsideSome network.now flow.now link (pos place)) result }
 {
     let mut nearest = None;
-    'rows: for row in 0..network.row.as_slice().len() {
-        let found = inside_row(network, flow, link, place, RowId(row as u32));
+    'rows: for row in flow.rows.from..flow.rows.to {
+        let found = inside_row(network, flow, link, place, RowId(row));
         nearest = nearer(nearest, found);
     }
     nearest

@@ -25,8 +25,8 @@ impl Course<'_> {
         if self.events.is_broken(flow.of_vl.sender, before) {
             return false;
         }
-        'rows: for place in 0..self.network.row.as_slice().len() {
-            if !self.is_row_sent(flow, RowId(place as u32), cycle, before) {
+        'rows: for place in flow.rows.from..flow.rows.to {
+            if !self.is_row_sent(flow, RowId(place), cycle, before) {
                 return false;
             }
         }

@@ -5,6 +5,9 @@ use Rattle.lens_flows.proofs.counts.deliveries.one_more.Goals as goal
 pub place_at-place-requires-clause-device : goal.place_at-place-requires-clause-device
 place_at-place-requires-clause-device c = receiver_there c.requires.flow
 
+pub nearest_by-found-requires-clause-rows : goal.nearest_by-found-requires-clause-rows
+nearest_by-found-requires-clause-rows c = c.requires.flow.rows
+
 pub returns : goal.returns
 returns c =
     let network = c.args.course.now.network.now in

@@ -1,8 +1,14 @@
-use Rattle.{lens_flows.proofs.counts_lemmas.Leasts.{inside_all, inside_more, inside_none}, std.proofs.Common.{ap, arith, length, pos}}
+use Rattle.{lens_flows.proofs.{counts_lemmas.Leasts.{inside_all, inside_more, inside_none}, judge_lemmas.Spans.span_short}, std.proofs.Common.{arith, pos}}
 use Rattle.lens_flows.proofs.counts.nearest.nearest_by.Goals as goal
 
 pub rows-init : goal.rows-init
-rows-init c = inside_none c.args.network.now c.args.flow.now c.args.link (pos c.args.place)
+rows-init c = inside_none c.args.network.now c.args.flow.now c.args.link (pos c.args.place) c.requires.rows
+
+pub inside_row-found-requires-clause-row : goal.inside_row-found-requires-clause-row
+inside_row-found-requires-clause-row c =
+    let all = span_short c.requires.rows in
+    let lt = c.rows-test.true in
+    omega (arith, all, lt)
 
 pub rows-preserved : goal.rows-preserved
 rows-preserved c =
@@ -11,6 +17,6 @@ rows-preserved c =
 
 pub returns : goal.returns
 returns c =
-    let e = ap (λ rows. length rows) c.as_slice-row-end.ensures in
     let h = c.rows-test.false in
-    inside_all c.args.network.now c.args.flow.now c.args.link (pos c.args.place) c.rows.row c.rows.nearest (omega (arith, h, e)) c.rows.invariant
+    inside_all c.args.network.now c.args.flow.now c.args.link (pos c.args.place) c.rows.row c.rows.nearest c.requires.rows (omega (arith, h))
+    c.rows.invariant

@@ -1,6 +1,5 @@
-use Rattle.std.proofs.{Common.{◌∙◌, ap, arith, length, refl, sym}, lemmas.Bool.false≢true}
-use Rattle.lens_flows.{proofs.judge_lemmas.Rows.{all_rows, one_more, sender_there}, specs.judge.{Courses.scenario_of, Fates.IsRowSent}}
-use Rattle.net_plan.specs.declared.tables.Row.{Row}
+use Rattle.std.proofs.{Common.{◌∙◌, arith, inl, refl, sym}, lemmas.Bool.false≢true}
+use Rattle.lens_flows.{proofs.judge_lemmas.{Rows.{all_rows, one_more, row_off, sender_there}, Spans.span_short}, specs.judge.{Courses.scenario_of, Fates.IsRowSent}}
 use Rattle.lens_flows.proofs.judge.course.Course.is_sent.Goals as goal
 
 pub returns-then-is_broken : goal.returns-then-is_broken
@@ -12,11 +11,12 @@ returns-then-is_broken c befallen hs known =
     )
 
 pub rows-init : goal.rows-init
-rows-init c befallen hs known k lt = absurd (omega (arith, lt))
+rows-init c befallen hs known k lt =
+    row_off (scenario_of c.args.self.now befallen) hs c.args.flow.now c.args.cycle c.args.before c.requires.flow.rows k (inl lt)
 
 pub is_row_sent-requires-clause-row : goal.is_row_sent-requires-clause-row
 is_row_sent-requires-clause-row c =
-    let all = ap length c.as_slice-place-end.ensures in
+    let all = span_short c.requires.flow.rows in
     let lt = c.rows-test.true in
     omega (arith, all, lt)
 
@@ -36,10 +36,10 @@ returns c befallen hs known =
     let network = c.args.self.now.network.now in
     let s = scenario_of c.args.self.now befallen in
     let there = sender_there c.requires.fit.range c.requires.flow in
-    let all = ap (λ rows. length rows) c.as_slice-place-end.ensures in
     let most = c.rows-test.false in (
       λ e. record {
-        rows = all_rows s hs c.args.flow.now c.args.cycle c.args.before c.rows.place (omega (arith, all, most)) (c.rows.invariant befallen hs known);
+        rows = all_rows s hs c.args.flow.now c.args.cycle c.args.before c.rows.place c.requires.flow.rows (omega (arith, most))
+            (c.rows.invariant befallen hs known);
         correct = sym (c.is_broken.ensures network befallen known.remembers there) ∙ c.if-is_broken.false;
       },
       λ sent. refl,
