@@ -180,13 +180,19 @@ with_other flags i k apart = by (nat_lt i (length flags)) refl
         ∙ sym (unwrap_or-slice_get flags k false)
     by false e = ap (λ (c : Bool). unwrap_or (slice_get (if c then slice_set flags i true else flags) k) false) e
 
+-- another record's flag is what it was
+pub flag_other : (flags : List Bool) (number k : ℕ) → (k ≡ number → ⊥) → flag_at (with_flag flags number) k ≡ flag_at flags k
+flag_other flags number zero apart = refl
+flag_other flags zero (suc j) apart = refl
+flag_other flags (suc i) (suc j) apart = with_other flags i j (λ same. apart (ap suc same))
+
 -- the flag that is set is
 set_here : (flags : List Bool) (number : ℕ) → 1 ≤ number → number ≤ length flags → flag_at (with_flag flags number) number ≡ true
 set_here flags zero some within = absurd (omega (arith, some))
 set_here flags (suc i) some within = with_same flags i (omega (arith, within))
 
 -- those that were set stay
-set_still : (flags : List Bool) (number k : ℕ) → flag_at flags k ≡ true → flag_at (with_flag flags number) k ≡ true
+pub set_still : (flags : List Bool) (number k : ℕ) → flag_at flags k ≡ true → flag_at (with_flag flags number) k ≡ true
 set_still flags number zero set = absurd (false≢true set)
 set_still flags zero (suc j) set = set
 set_still flags (suc i) (suc j) set = by (j == i) refl

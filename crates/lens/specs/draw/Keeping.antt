@@ -87,3 +87,17 @@ cause_at ns number = option_map_or (λ note. cause_of note.body) (note_at ns num
 -- the flags with that of the cause of the record of this number, where it has one itself
 abbrev pub passed_on : List Note → ℕ → List Bool → List Bool
 passed_on ns number flags = if flag_at flags number then with_flag flags (cause_at ns number) else flags
+
+-- the lanes with that in which the record stands, if it lies in the span
+abbrev pub with_lane : Network → Span → Note → List Bool → List Bool
+with_lane network span note lanes =
+    if holds span (moment note) then with_at lanes (scene_of network note.body).0 true else lanes
+
+-- the same for the record of this number, if there is one
+abbrev pub lane_at : Network → Span → List Note → ℕ → List Bool → List Bool
+lane_at network span ns number lanes =
+    option_map_or (λ note. with_lane network span note lanes) (note_at ns number) lanes
+
+-- the same, if the record has a flag
+abbrev pub lanes_on : Network → Span → List Note → ℕ → List Bool → List Bool → List Bool
+lanes_on network span ns number flags lanes = if flag_at flags number then lane_at network span ns number lanes else lanes

@@ -1,8 +1,9 @@
 //! Which records a picture of one thing keeps, as flags.
-ghost use Rattle.std.specs.Prelude.{◌&&◌, ◌++◌, ◌∷◌, ◌≡◌, IfOk, List, OnOk, [], false, if◌then◌else◌, map, true};
+ghost use Rattle.std.specs.Prelude.{◌++◌, ◌∷◌, ◌≡◌, IfOk, List, OnOk, [], false, if◌then◌else◌, map, true};
 ghost use Rattle.lens.specs.draw.Keeping.{AreFlags, AreLanes, AreOwn, cause_at, passed_on, with_flag};
-ghost use Rattle.lens_svg.specs.{Layout.holds, Sketching.{moment, with_at}, Views.flag_at};
-ghost use Rattle.run_law.specs.{declared.note.Note.{Note as NoteValue}, records.Happenings.happenings};
+ghost use Rattle.lens.specs.draw.Keeping.{lane_at, lanes_on, with_lane};
+ghost use Rattle.lens_svg.specs.{Layout.holds, Sketching.{moment, with_at}};
+ghost use Rattle.run_law.specs.{declared.note.Note.{Note as NoteValue}, records.{Causes.cause_of, Happenings.happenings}};
 ghost use Rattle.{tte_audit.specs.Named.IsNamed, tte_units.specs.declared.units.Units.{Units as UnitsValue}};
 ghost use Rattle.lens.specs.declared.draw.subject.Subject.{Subject as SubjectValue};
 ghost use Rattle.tte_reports.specs.{Commands.IsRead, Reports.{IsReportOf, IsSomeReport}};
@@ -63,33 +64,7 @@ fn own_flags(
     Ok(own.flags)
 }
 
-/// Which lanes the records so far stand in that are drawn.
-#[derive(Drop)]
-struct Stood {
-    span: Span,
-    records: Vec<bool>,
-    lanes: Vec<bool>,
-}
-
-impl RecordTaker for Stood {
-    ghost holds = { λ network notes before begun stood. (stood.span ≡ begun.span) × (stood.records.items ≡ begun.records.items)
-        × AreLanes network begun.span begun.records.items before stood.lanes.items };
-
-    fn take(&mut self, network: &Network, note: &Note) -> Result<(), OutOfMemory> {
-        let drawn = is_drawn(self.span, self.records.as_slice(), note);
-        set_lane(&mut self.lanes, drawn, scene_of(network, &note.body));
-        Ok(())
-    }
-}
-
-/// Does the record lie in the span, and has it a flag?
-fn is_drawn(span: Span, records: &[bool], note: &Note) -> bool
-    ensures { result ≡ (holds span (moment note.now) && flag_at records.now note.now.number) }
-{
-    span.holds(note.time.0.unsigned_abs()) && flag_at(records, note.number)
-}
-
-/// Flags the device where a record in its lane is drawn.
+/// Flags the device where a record stands in its lane.
 fn set_lane(lanes: &mut Vec<bool>, drawn: bool, device: DeviceId)
     ensures { lanes.new.items ≡ (if drawn then with_at lanes.old.items device.0 true else lanes.old.items) }
 {
@@ -110,33 +85,6 @@ fn no_lanes(alloc: Global, devices: &[Device]) -> Result<Vec<bool>, OutOfMemory>
     Ok(lanes)
 }
 
-/// Which lanes a picture has of these records in the span.
-pub(crate) fn flags_with_lanes(
-    alloc: Global,
-    network: &Network,
-    report: &AuditedReport,
-    span: Span,
-    records: Vec<bool>,
-) -> Result<Flags, OutOfMemory>
-    requires named { IsNamed network.now }
-    requires report { IsSomeReport network.now report.now.octets }
-    ensures { IfOk result (λ flags. (notes : List NoteValue) (end : UnitsValue)
-        → IsReportOf network.now report.now.octets notes end
-        → (flags.records.items ≡ records.items) × AreLanes network.now span records.items notes flags.lanes.items) }
-{
-    let lanes = no_lanes(alloc, network.device.as_slice())?;
-    let mut stood = Stood {
-        span,
-        records,
-        lanes,
-    };
-    take_records(report, network, &mut stood)?;
-    Ok(Flags {
-        records: stood.records,
-        lanes: stood.lanes,
-    })
-}
-
 /// Flags the record of this number.
 fn set_flag(flags: &mut Vec<bool>, number: u64)
     ensures { flags.new.items ≡ with_flag flags.old.items number }
@@ -150,50 +98,80 @@ fn set_flag(flags: &mut Vec<bool>, number: u64)
     }
 }
 
-/// The number of the cause of the record of this number, or 0.
-fn cause_at(network: &Network, report: &AuditedReport, number: u64) -> u64
+/// Does the record lie in the span?
+fn is_within(span: Span, note: &Note) -> bool
+    ensures { result ≡ holds span (moment note.now) }
+{
+    span.holds(note.time.0.unsigned_abs())
+}
+
+/// Flags the cause of a record that is kept, and the device in whose lane it stands if it lies in the span.
+fn mark(network: &Network, span: Span, note: &Note, flags: &mut Flags)
+    ensures records { flags.new.records.items ≡ with_flag flags.old.records.items (cause_of note.now.body) }
+    ensures lanes { flags.new.lanes.items ≡ with_lane network.now span note.now flags.old.lanes.items }
+{
+    set_flag(&mut flags.records, cause_of(&note.body));
+    let within = is_within(span, note);
+    set_lane(&mut flags.lanes, within, scene_of(network, &note.body));
+}
+
+/// The same for the record of this number, if there is one.
+fn mark_at(network: &Network, report: &AuditedReport, span: Span, number: u64, flags: &mut Flags)
     requires named { IsNamed network.now }
     requires read { IsRead network.now report.now }
     ensures { (notes : List NoteValue) (end : UnitsValue) → IsReportOf network.now report.now.octets notes end
-        → result ≡ cause_at notes number }
+        → (flags.new.records.items ≡ with_flag flags.old.records.items (cause_at notes number))
+        × (flags.new.lanes.items ≡ lane_at network.now span notes number flags.old.lanes.items) }
 {
     match report.record(network, number) {
-        Some(note) => cause_of(&note.body),
-        None => 0,
+        Some(note) => mark(network, span, &note, flags),
+        None => (),
     }
 }
 
-/// Flags the cause of the record of this number, where that has a flag.
-fn pass_on(network: &Network, report: &AuditedReport, number: u64, flags: &mut Vec<bool>)
+/// The same, if the record has a flag.
+fn pass_on(network: &Network, report: &AuditedReport, span: Span, number: u64, flags: &mut Flags)
     requires named { IsNamed network.now }
     requires read { IsRead network.now report.now }
     ensures { (notes : List NoteValue) (end : UnitsValue) → IsReportOf network.now report.now.octets notes end
-        → flags.new.items ≡ passed_on notes number flags.old.items }
+        → (flags.new.records.items ≡ passed_on notes number flags.old.records.items)
+        × (flags.new.lanes.items
+        ≡ lanes_on network.now span notes number flags.old.records.items flags.old.lanes.items) }
 {
-    if flag_at(flags.as_slice(), number) {
-        let cause = cause_at(network, report, number);
-        set_flag(flags, cause);
+    if !flag_at(flags.records.as_slice(), number) {
+        return;
     }
+    mark_at(network, report, span, number, flags);
 }
 
-/// Which records of the report a picture of the thing keeps: those of it, and all their causes.
+/// Which records of the report a picture of the thing keeps: those of it, and all their causes; and in which lanes
+/// those of them stand that lie in the span.
+///
+/// Fails when memory runs out.
 pub(crate) fn kept_flags(
     alloc: Global,
     network: &Network,
     report: &AuditedReport,
+    span: Span,
     subject: Subject,
-) -> Result<Vec<bool>, OutOfMemory>
+) -> Result<Flags, OutOfMemory>
     requires named { IsNamed network.now }
     requires read { IsRead network.now report.now }
     ensures { IfOk result (λ flags. (notes : List NoteValue) (end : UnitsValue)
         → IsReportOf network.now report.now.octets notes end
-        → AreFlags network.now subject (happenings network.now notes) flags.items) }
+        → AreFlags network.now subject (happenings network.now notes) flags.records.items
+        × AreLanes network.now span flags.records.items notes flags.lanes.items) }
 {
-    let mut flags = own_flags(alloc, network, report, subject)?;
-    // A cause is before what it causes.
+    let own = own_flags(alloc, network, report, subject)?;
+    let lanes = no_lanes(alloc, network.device.as_slice())?;
+    let mut flags = Flags {
+        records: own,
+        lanes,
+    };
+    // A cause is before what it causes, so a record has all its flags when its turn comes.
     let mut number = report.count();
     'records: while number > 0 {
-        pass_on(network, report, number, &mut flags);
+        pass_on(network, report, span, number, &mut flags);
         number -= 1;
     }
     Ok(flags)

@@ -11,7 +11,7 @@ ghost use Rattle.tte_reports.specs.Reading.{ReadsReport, TakesReport};
 ghost use Rattle.tte_units.specs.declared.units.Units.{Units as UnitsValue};
 
 use crate::draw::drawing::draw_known;
-use crate::draw::flags::{flags_with_lanes, kept_flags};
+use crate::draw::flags::kept_flags;
 use crate::draw::spans::span_of;
 use crate::draw::subject::{Subject, subject_named};
 use crate::forms::Part;
@@ -71,12 +71,8 @@ fn draw_kept<K: Sink>(
     ensures statuses { IsAuditStatus result }
     ensures cause { HasCause result ⊥ (PutFailed K.Sink out.old out.new) }
 {
-    let records = match kept_flags(alloc, network, report, subject) {
-        Ok(records) => records,
-        Err(_) => return Status::OutOfMemory,
-    };
     let span = span_of(network, part);
-    let flags = match flags_with_lanes(alloc, network, report, span, records) {
+    let flags = match kept_flags(alloc, network, report, span, subject) {
         Ok(flags) => flags,
         Err(_) => return Status::OutOfMemory,
     };
