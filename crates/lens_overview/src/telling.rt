@@ -43,9 +43,13 @@ pub(crate) fn told_by(
     ensures { IfOk result (λ all. (notes : List NoteValue) (end : UnitsValue)
         → IsReportOf network.now report.now.octets notes end → all.items ≡ news_by network.now notes notes) }
 {
+    // Room for all is taken at once: a list that grows holds its elements twice.
+    let Ok(news) = Vec::with_capacity(alloc, report.count() as usize) else {
+        return Err(OutOfMemory);
+    };
     let mut told = Told {
         index: &report.index,
-        news: Vec::new(alloc),
+        news,
     };
     take_records(report, network, &mut told)?;
     Ok(told.news)

@@ -56,10 +56,10 @@ fn own_flags(
         → IsReportOf network.now report.now.octets notes end
         → AreOwn network.now subject notes notes flags.items) }
 {
-    let mut own = Own {
-        subject,
-        flags: Vec::new(alloc),
+    let Ok(flags) = Vec::with_capacity(alloc, report.count() as usize) else {
+        return Err(OutOfMemory);
     };
+    let mut own = Own { subject, flags };
     take_records(report, network, &mut own)?;
     Ok(own.flags)
 }
