@@ -1,8 +1,8 @@
 -- Lines put one after another.
 use Rattle.lens_clocks.specs.Putting.{Puts}
-use Rattle.std.proofs.Common.{◌++◌, ◌+◌, ◌<◌, ◌∙◌, ◌∷◌, ◌≡◌, List, [], ap, arith, drop, get_or, length}
-use Rattle.std.proofs.Common.{map, refl, subst, suc, sym, take, zero, ℕ}
-use Rattle.{std.proofs.lemmas.List.{map-append, take-append-drop, take_more}, std.specs.Io.KnownBytes.Appends}
+use Rattle.std.proofs.Common.{◌++◌, ◌+◌, ◌<◌, ◌∙◌, ◌∷◌, ◌≡◌, List, [], ap, drop, get_or, length}
+use Rattle.std.proofs.Common.{map, subst, sym, take, ℕ}
+use Rattle.{std.proofs.lemmas.List.{at_drop_more, map-append, take-append-drop, take_more}, std.specs.Io.KnownBytes.Appends}
 use Rattle.std.specs.{Prelude.{Err, Ok, OnErr, OnOk}, declared.result.Result.Result}
 use Rattle.tte_forms.{proofs.Puts.{PutsLines-fails, PutsLines-more}, specs.Putting.{PutFails, PutsLines, Shown}}
 use Rattle.tte_io.specs.{Faults.next_count, Told.AppendsFront, declared.ends.SinkFailed.SinkFailed}
@@ -14,13 +14,6 @@ pub puts_last : {lines : List (List ℕ)} (line : List ℕ) (result : Result (Un
     → Puts (lines ++ line ∷ []) result a c
 puts_last {lines} line (Ok done) {a} {b} c p all front counted = PutsLines-more line c p all counted
 puts_last {lines} line (Err cause) {a} {b} c p all front counted = PutsLines-fails line [] c p front counted
-
-drop_next : {X : Type 0} (xs : List X) (n : ℕ) (d : X) → n < length xs → drop n xs ≡ get_or xs n d ∷ drop (n + 1) xs
-drop_next [] n d lt = absurd (omega (arith, lt))
-drop_next (x ∷ xs) zero d lt = refl
-drop_next (x ∷ xs) (suc n) d lt =
-    let next : suc (n + 1) ≡ suc n + 1 = omega arith in
-    drop_next xs n d (omega (arith, lt)) ∙ ap (λ (k : ℕ). get_or xs n d ∷ drop k (x ∷ xs)) next
 
 -- a line for each of a list
 module _ {X : Type 0} (f : X → List ℕ) (all : List X) (n : ℕ) (d : X) (line : List ℕ) (within : n < length all) (same : line ≡ f (get_or all n d)) where
@@ -38,7 +31,7 @@ module _ {X : Type 0} (f : X → List ℕ) (all : List X) (n : ℕ) (d : X) (lin
   lines_fail a b c p front counted =
       let one = get_or all n d in
       let rest = drop (n + 1) all in
-      let split : take n all ++ one ∷ rest ≡ all = sym (ap (λ (xs : List X). take n all ++ xs) (drop_next all n d within)) ∙ take-append-drop n all in
+      let split : take n all ++ one ∷ rest ≡ all = sym (ap (λ (xs : List X). take n all ++ xs) (at_drop_more (λ (xs : List X). xs) all n d within)) ∙ take-append-drop n all in
       let lines : map f (take n all) ++ line ∷ map f rest ≡ map f all =
       ap (λ (l : List ℕ). map f (take n all) ++ l ∷ map f rest) same ∙ sym (map-append f (take n all) (one ∷ rest)) ∙ ap (map f) split in
       subst (λ ls. PutFails ls a c) lines (PutsLines-fails line (map f rest) c p front counted)

@@ -1,14 +1,7 @@
 -- The line of the next coming.
 use Rattle.lens_latency.specs.{Lines.{latency_line, told_line}, declared.{comings.Coming.Coming, seeing.Told.Told}}
-use Rattle.{net_plan.specs.declared.network.Network.Network, std.proofs.lemmas.List.take_more}
-use Rattle.std.proofs.Common.{◌++◌, ◌+◌, ◌<◌, ◌∙◌, ◌∷◌, ◌≡◌, List, [], ap, arith, drop, get_or, length, refl, suc, take, zero, ℕ}
-
-drop_next : {X : Type 0} (xs : List X) (n : ℕ) (d : X) → n < length xs → drop n xs ≡ get_or xs n d ∷ drop (n + 1) xs
-drop_next [] n d lt = absurd (omega (arith, lt))
-drop_next (x ∷ xs) zero d lt = refl
-drop_next (x ∷ xs) (suc n) d lt =
-    let next : suc (n + 1) ≡ suc n + 1 = omega arith in
-    drop_next xs n d (omega (arith, lt)) ∙ ap (λ (k : ℕ). get_or xs n d ∷ drop k (x ∷ xs)) next
+use Rattle.{net_plan.specs.declared.network.Network.Network, std.proofs.lemmas.List.{at_drop_more, take_more}}
+use Rattle.std.proofs.Common.{◌++◌, ◌+◌, ◌<◌, ◌∷◌, ◌≡◌, List, [], drop, get_or, length, take, ℕ}
 
 -- the coming of this number, and its line
 pub record IsNext (network : Network) (all : List Coming) (n : ℕ) (text : List ℕ) : Type 0 where
@@ -19,7 +12,8 @@ pub record IsNext (network : Network) (all : List Coming) (n : ℕ) (text : List
 
 pub next_line : (network : Network) (all : List Coming) (d : Coming) (n : ℕ) (text : List ℕ) → n < length all
     → text ≡ latency_line network (get_or all n d) → IsNext network all n text
-next_line network all d n text within is = grind (arith, get_or, take_more, drop_next)
+next_line network all d n text within is =
+    record { coming = get_or all n d; line = is; front = take_more all n d within; rest = at_drop_more (λ (xs : List Coming). xs) all n d within }
 
 -- the same with what is told of it
 pub record IsNextTold (network : Network) (all : List Told) (n : ℕ) (text : List ℕ) : Type 0 where
@@ -31,4 +25,4 @@ pub record IsNextTold (network : Network) (all : List Told) (n : ℕ) (text : Li
 pub next_told : (network : Network) (all : List Told) (d : Told) (n : ℕ) (text : List ℕ) → n < length all
     → text ≡ told_line network (get_or all n d) → IsNextTold network all n text
 next_told network all d n text within is =
-    record { one = get_or all n d; line = is; front = take_more all n d within; rest = drop_next all n d within }
+    record { one = get_or all n d; line = is; front = take_more all n d within; rest = at_drop_more (λ (xs : List Told). xs) all n d within }

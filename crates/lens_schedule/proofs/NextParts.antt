@@ -1,14 +1,7 @@
 -- The line of the next part.
 use Rattle.lens_schedule.specs.{Lines.part_line, declared.part.Part.Part}
-use Rattle.{net_plan.specs.declared.network.Network.Network, std.proofs.lemmas.List.{map-append, take_more}}
-use Rattle.std.proofs.Common.{◌++◌, ◌+◌, ◌<◌, ◌∙◌, ◌∷◌, ◌≡◌, List, [], ap, append_assoc, arith, drop, get_or, length, map, refl, suc, sym, take, zero, ℕ}
-
-drop_next : {X : Type 0} (xs : List X) (n : ℕ) (d : X) → n < length xs → drop n xs ≡ get_or xs n d ∷ drop (n + 1) xs
-drop_next [] n d lt = absurd (omega (arith, lt))
-drop_next (x ∷ xs) zero d lt = refl
-drop_next (x ∷ xs) (suc n) d lt =
-    let next : suc (n + 1) ≡ suc n + 1 = omega arith in
-    drop_next xs n d (omega (arith, lt)) ∙ ap (λ (k : ℕ). get_or xs n d ∷ drop k (x ∷ xs)) next
+use Rattle.{net_plan.specs.declared.network.Network.Network, std.proofs.lemmas.List.{at_drop_more, map-append, take_more}}
+use Rattle.std.proofs.Common.{◌++◌, ◌+◌, ◌<◌, ◌∙◌, ◌∷◌, ◌≡◌, List, [], ap, append_assoc, drop, get_or, length, map, sym, take, ℕ}
 
 -- the part of this number, and its line
 pub record IsNext (network : Network) (title : List ℕ) (all : List Part) (n : ℕ) (text : List ℕ) : Type 0 where
@@ -20,7 +13,7 @@ pub record IsNext (network : Network) (title : List ℕ) (all : List Part) (n : 
 pub next_line : (network : Network) (title : List ℕ) (all : List Part) (d : Part) (n : ℕ) (text : List ℕ) → n < length all
     → text ≡ part_line network title (get_or all n d) → IsNext network title all n text
 next_line network title all d n text within is =
-    record { part = get_or all n d; line = is; front = take_more all n d within; rest = drop_next all n d within }
+    record { part = get_or all n d; line = is; front = take_more all n d within; rest = at_drop_more (λ (xs : List Part). xs) all n d within }
 
 -- one more of a list is added
 pub map_next : {X Y : Type 0} (f : X → Y) (xs : List X) (n : ℕ) (d : X) (old m p : List Y) (y : Y) → n < length xs

@@ -7,15 +7,16 @@ ghost use Rattle.lens_schedule.specs.Lines.{lane_line, link_text, origin_text, p
 ghost use Rattle.lens_schedule.specs.Lines.{place_text, rail_text, role_of, row_text, stretch_text};
 ghost use Rattle.lens_schedule.specs.Lines.{stretch_word, time_text, times_text, twig_line};
 ghost use Rattle.lens_schedule.specs.Lines.{zone_begin, zone_end, zone_line};
-ghost use Rattle.{lens_svg.specs.Elements.role_word, tte_io.specs.Line.line_limit};
+ghost use Rattle.tte_io.specs.Line.{line_limit};
 ghost use Rattle.net_plan.specs.{Belonging.{device_name, link_name, vl_name}, Ranges.IsInRange};
 
 use crate::frames::{height_of, seat_of};
 use crate::{Frame, Lane, Part, Stretch, Stroke, Twig, Zone};
 use lens_svg::{
     Element, Point, Title, make_element_line, make_heading_line, make_title_line, push_micros,
+    role_word,
 };
-use net_plan::{DeviceId, LinkId, Network, Role, VlId};
+use net_plan::{DeviceId, LinkId, Network, VlId};
 use trace_text::way_text;
 use tte_io::LineText;
 
@@ -83,19 +84,6 @@ fn make_caption(line: &mut LineText, network: &Network, rows: u64)
     line.push(
         " What comes in each cycle is as high as its lane. Stretches without windows are folded.</text>\n",
     );
-}
-
-/// The word of a role.
-fn role_word(role: Role) -> &'static str
-    ensures text { result.now ≡ role_word role }
-    ensures short { length result.now ≤ 6 }
-{
-    match role {
-        Role::Master => "master",
-        Role::Client => "client",
-        Role::Cm => "cm",
-        Role::Relay => "relay",
-    }
 }
 
 /// The word of the device's role.

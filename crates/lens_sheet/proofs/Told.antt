@@ -4,8 +4,8 @@ use Rattle.lens_sheet.specs.{Lines.numbers, Loading.HasLink, Sheet.{AreLinesOf, 
 use Rattle.lens_sheet.specs.declared.{loads.Load.Load, sheet.{Number.Number, SheetLine.SheetLine}, weights.Weights.Weights}
 use Rattle.lens_sheet.specs.declared.sheet.SheetLine.TheVariants as lines
 use Rattle.net_plan.specs.declared.network.Network.{Network}
-use Rattle.std.proofs.Common.{◌++◌, ◌+◌, ◌<◌, ◌∙◌, ◌∷◌, ◌≡◌, List, [], ap, arith, drop, get_or, length, map, refl, subst, suc, sym, take, zero, ℕ}
-use Rattle.std.{proofs.lemmas.List.{Elements.{All-append, All-cons, All-map}, take_more}, specs.List.All}
+use Rattle.std.proofs.Common.{◌++◌, ◌+◌, ◌<◌, ◌∷◌, ◌≡◌, List, [], arith, drop, get_or, length, map, subst, sym, take, ℕ}
+use Rattle.std.{proofs.lemmas.List.{Elements.{All-append, All-cons, All-map}, at_drop_more, take_more}, specs.List.All}
 
 -- ---- names
 
@@ -31,13 +31,6 @@ sheet_names n loads vls links are =
 
 -- ---- puts
 
-drop_next : {X : Type 0} (xs : List X) (n : ℕ) (d : X) → n < length xs → drop n xs ≡ get_or xs n d ∷ drop (n + 1) xs
-drop_next [] n d lt = absurd (omega (arith, lt))
-drop_next (x ∷ xs) zero d lt = refl
-drop_next (x ∷ xs) (suc n) d lt =
-    let next : suc (n + 1) ≡ suc n + 1 = omega arith in
-    drop_next xs n d (omega (arith, lt)) ∙ ap (λ (k : ℕ). get_or xs n d ∷ drop k (x ∷ xs)) next
-
 -- the line of this number, and its text
 pub record IsNext (network : Network) (w : Weights) (all : List SheetLine) (n : ℕ) (text : List ℕ) : Type 0 where
   pub told : SheetLine
@@ -48,4 +41,4 @@ pub record IsNext (network : Network) (w : Weights) (all : List SheetLine) (n : 
 pub next_line : (network : Network) (w : Weights) (all : List SheetLine) (d : SheetLine) (n : ℕ) (text : List ℕ) → n < length all
     → text ≡ line_text network w (get_or all n d) → IsNext network w all n text
 next_line network w all d n text within is =
-    record { told = get_or all n d; line = is; front = take_more all n d within; rest = drop_next all n d within }
+    record { told = get_or all n d; line = is; front = take_more all n d within; rest = at_drop_more (λ (xs : List SheetLine). xs) all n d within }

@@ -1,6 +1,6 @@
 -- What was found by the first steps, with what is to be found by the others.
 use Rattle.{lens_slack.specs.{Finds.{AreFound, AreOf, some_found}, declared.spot.Finding.Finding}, net_plan.specs.declared.network.Network.Network}
-use Rattle.{lens_slack.specs.{Spots.spot_at, Taking.Takes, Tightest.IsTightestAt}, std.proofs.{Common.{zero, ℕ}, lemmas.List.append-nil}}
+use Rattle.{lens_slack.specs.{Spots.spot_at, Taking.Takes, Tightest.IsTightestAt}, std.proofs.{Common.{zero, ℕ}, lemmas.List.{append-nil, at_drop_more}}}
 use Rattle.lens_slack.specs.declared.{measuring.Ending.{Ending, TheVariants.{Broken, Whole}}, step.Step.{Step, TheVariants.{Judged, Listed, Measured}}}
 use Rattle.{lens_slack.specs.declared.spot.Measure.Measure, schedule_checker.specs.Judging.plan_rule, schedule_tables.specs.declared.rule.Rule.Rule}
 use Rattle.std.proofs.Common.{◌++◌, ◌+◌, ◌<◌, ◌∙◌, ◌∷◌, ◌≡◌, ◌≤◌, List, [], ap, append_assoc, arith, drop, get_or, inl, inr, length, refl, subst, suc, sym}
@@ -45,11 +45,7 @@ module _ (network : Network) (steps : List Step) where
 -- ---- what is left of a list
 
 pub drop_next : {X : Type 0} (xs : List X) (n : ℕ) (d : X) → n < length xs → drop n xs ≡ get_or xs n d ∷ drop (n + 1) xs
-drop_next [] n d lt = absurd (omega (arith, lt))
-drop_next (x ∷ xs) zero d lt = refl
-drop_next (x ∷ xs) (suc n) d lt =
-    let next : suc (n + 1) ≡ suc n + 1 = omega arith in
-    drop_next xs n d (omega (arith, lt)) ∙ ap (λ (k : ℕ). get_or xs n d ∷ drop k (x ∷ xs)) next
+drop_next {X} xs n d lt = at_drop_more (λ (ys : List X). ys) xs n d lt
 
 pub drop_all : {X : Type 0} (xs : List X) (n : ℕ) → length xs ≤ n → drop n xs ≡ []
 drop_all [] zero most = refl

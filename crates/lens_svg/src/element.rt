@@ -83,8 +83,8 @@ fn push_band(line: &mut LineText, band: Band)
     }
 }
 
-/// The word of a role.
-fn role_word(role: Role) -> &'static str
+/// The word of a role: at most 6 octets.
+pub fn role_word(role: Role) -> &'static str
     ensures text { result.now ≡ role_word role }
     ensures short { length result.now ≤ 6 }
 {

@@ -2,7 +2,7 @@
 use Rattle.{lens.specs.draw.Picture.lines_from, tte_forms.proofs.Puts.{PutFails-behind, PutsLines-append, PutsLines-fails, PutsLines-more, PutsLines-none}}
 use Rattle.{lens.specs.draw.Putting.Draws, std.{proofs.Common.{zero, ℕ}, specs.Io.KnownBytes.Appends}, tte_io.specs.{Faults.next_count, Told.AppendsFront}}
 use Rattle.std.proofs.Common.{◌++◌, ◌+◌, ◌-◌, ◌<◌, ◌∙◌, ◌∷◌, ◌≡◌, ◌≤◌, List, [], ap, append_assoc, arith, drop, get_or, length, refl, subst, suc, sym, take}
-use Rattle.{std.proofs.lemmas.{Grind.flat_map-append, List.{append-nil, take-append-drop, take_more}}, tte_forms.specs.Putting.{PutFails, PutsLines, Shown}}
+use Rattle.{std.proofs.lemmas.{Grind.flat_map-append, List.{at_drop_more, append-nil, take-append-drop, take_more}}, tte_forms.specs.Putting.{PutFails, PutsLines, Shown}}
 use Rattle.{std.specs.{Prelude.{Err, Ok, OnErr, OnOk, flat_map}, declared.result.Result.Result}, tte_io.specs.declared.ends.SinkFailed.SinkFailed}
 
 -- one line, in one put
@@ -31,13 +31,6 @@ fails_between {xs} {ys} zs {a} {b} {c} p q = PutFails-behind (ys ++ zs) c p (fai
 
 -- ---- lists
 
-drop_next : {X : Type 0} (xs : List X) (n : ℕ) (d : X) → n < length xs → drop n xs ≡ get_or xs n d ∷ drop (n + 1) xs
-drop_next [] n d within = absurd (omega (arith, within))
-drop_next (x ∷ xs) zero d within = refl
-drop_next (x ∷ xs) (suc n) d within =
-    let next : suc (n + 1) ≡ suc n + 1 = omega arith in
-    drop_next xs n d (omega (arith, within)) ∙ ap (λ (k : ℕ). get_or xs n d ∷ drop k (x ∷ xs)) next
-
 pub take_all : {X : Type 0} (n : ℕ) (xs : List X) → length xs ≤ n → take n xs ≡ xs
 take_all zero [] end = refl
 take_all zero (x ∷ xs) end = absurd (omega (arith, end))
@@ -61,7 +54,7 @@ module _ {X : Type 0} (f : X → List (List ℕ)) (all : List X) (n : ℕ) where
   flat_fails d a b c within p q =
       let x = get_or all n d in
       let rest = drop (n + 1) all in
-      let split : all ≡ take n all ++ x ∷ rest = sym (take-append-drop n all) ∙ ap (λ (xs : List X). take n all ++ xs) (drop_next all n d within) in
+      let split : all ≡ take n all ++ x ∷ rest = sym (take-append-drop n all) ∙ ap (λ (xs : List X). take n all ++ xs) (at_drop_more (λ (xs : List X). xs) all n d within) in
       let lines : flat_map f all ≡ flat_map f (take n all) ++ (f x ++ flat_map f rest) =
       ap (λ (xs : List X). flat_map f xs) split ∙ flat_map-append f (take n all) (x ∷ rest) in
       subst (λ ls. PutFails ls a c) (sym lines) (fails_between (flat_map f rest) p q)
