@@ -49,12 +49,12 @@ pub(crate) fn deliveries_in(
 }
 
 /// The delivery that the record tells, if it does.
-fn delivery_kept(record: &KeptRecord) -> Option<Delivery>
-    ensures { result ≡ delivery_kept record.now }
+fn delivery_kept(entry: &KeptRecord) -> Option<Delivery>
+    ensures { result ≡ delivery_kept entry.now }
 {
-    match record.kept {
+    match entry.kept {
         Kept::Delivered(device, link, vl) => Some(Delivery {
-            time: record.time,
+            time: entry.time,
             device,
             link,
             vl,
