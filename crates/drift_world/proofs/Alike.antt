@@ -1,15 +1,17 @@
 -- A world stands also where its lists have what they had in another order.
-use Rattle.drift_world.proofs.Words.{◌↔◌, AtPort, DeviceId, IsIn, List, Network, Node, Note, OnWire, Scenario, StandsBehind, World, ℕ}
+use Rattle.drift_world.proofs.Words.{◌↔◌, ◌∙◌, ◌≡◌, AtPort, DeviceId, IsIn, List, Network, Node, Note, OnWire, Scenario, Stands, StandsAt, StandsBehind}
+use Rattle.drift_world.proofs.Words.{World, refl, ℕ}
 
 module _ {C M : Type 0} (reading : C → ℕ → ℕ) (stands : M → Network → DeviceId → Node → Type 0) (s : Scenario)
     (world : World C M) (notes : List Note) where
   -- other wires and ports, with the same on them and at them
-  with_lists : (wires : List OnWire) (ports : List AtPort) (p : List ℕ)
+  with_lists : (wires : List OnWire) (ports : List AtPort)
       → ((e : OnWire) → IsIn e wires ↔ IsIn e world.wires) → ((e : AtPort) → IsIn e ports ↔ IsIn e world.ports)
-      → StandsBehind reading stands s world notes p → StandsBehind reading stands s
-      (record world { wires = wires; ports = ports }) notes p
-  with_lists wires ports p on at behind =
-      let it = behind.0 in (
+      → (it : Stands reading stands s world notes)
+      → (new : Stands reading stands s (record world { wires = wires; ports = ports }) notes)
+      × (new.mark ≡ it.mark) × (new.cursor ≡ it.cursor)
+  with_lists wires ports on at it =
+      (
         record {
           same = it.same;
           range = it.range;
@@ -51,15 +53,26 @@ module _ {C M : Type 0} (reading : C → ℕ → ℕ) (stands : M → Network �
           are = it.are;
           shown = it.shown;
         },
-        behind.1,
+        refl,
+        refl,
       )
 
   pub with_wires : (wires : List OnWire) (p : List ℕ) → ((e : OnWire) → IsIn e wires ↔ IsIn e world.wires)
       → StandsBehind reading stands s world notes p → StandsBehind reading stands s
       (record world { wires = wires }) notes p
-  with_wires wires p on = with_lists wires world.ports p on (λ e. (λ i. i, λ i. i))
+  with_wires wires p on behind =
+      let new = with_lists wires world.ports on (λ e. (λ i. i, λ i. i)) behind.0 in (new.0, new.2 ∙ behind.1)
 
   pub with_ports : (ports : List AtPort) (p : List ℕ) → ((e : AtPort) → IsIn e ports ↔ IsIn e world.ports)
       → StandsBehind reading stands s world notes p → StandsBehind reading stands s
       (record world { ports = ports }) notes p
-  with_ports ports p at = with_lists world.wires ports p (λ e. (λ i. i, λ i. i)) at
+  with_ports ports p at behind =
+      let new = with_lists world.wires ports (λ e. (λ i. i, λ i. i)) at behind.0 in (new.0, new.2 ∙ behind.1)
+
+  -- and so where there is one frontier
+  pub ports_at : (ports : List AtPort) (p : List ℕ) → ((e : AtPort) → IsIn e ports ↔ IsIn e world.ports)
+      → StandsAt reading stands s world notes p → StandsAt reading stands s
+      (record world { ports = ports }) notes p
+  ports_at ports p at one =
+      let new = with_lists world.wires ports (λ e. (λ i. i, λ i. i)) at one.0 in
+      (new.0, new.1 ∙ one.1, new.2 ∙ one.2)

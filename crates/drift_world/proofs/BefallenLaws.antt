@@ -1,11 +1,11 @@
 -- What comes of the events of an instant is settled, as its law asks for it.
-use Rattle.{drift_world.proofs.Alike.with_ports, std.specs.List.filter_map, world_law.proofs.runs.Worlds.length_is}
+use Rattle.{drift_world.proofs.Alike.ports_at, std.specs.List.filter_map, world_law.proofs.runs.Worlds.length_is}
 use Rattle.{drift_world.{proofs.Fits.{all_put_some, have_octets}, specs.declared.state.State.State}, run_law.proofs.law.FirstPlaces.numbered_within}
 use Rattle.{drift_world.proofs.Rising.InOrder, run_law.specs.records.Causes.IsOfThisTime, world_state.specs.declared.queue.Entry.Entry}
 use Rattle.{drift_world.proofs.Puts.{is_put_in, one_put_in, order_put, some_put_in}, world_law.specs.steps.Befalling.{ArePutBy, befell_bodies, bodies_of}}
 use Rattle.drift_world.proofs.Words.{◌+◌, ◌<◌, ◌↔◌, ◌∙◌, ◌∷◌, ◌≡◌, ◌⊎◌, ArePutIn, AreUnderWay, AreWays, Befallen, Bool, Content, DeviceId, Happening}
 use Rattle.drift_world.proofs.Words.{Integrating, IsIn, IsPermutation-sym, IsPutOn, IsSomePut, Kept, Link, LinkId, List, Network, Node, None, Note, OnWire}
-use Rattle.drift_world.proofs.Words.{Option, Port, Scenario, Settled, Some, Stands, StandsBehind, Up, WayNow, WayState, What, Wire, World, [], ap, arith}
+use Rattle.drift_world.proofs.Words.{Option, Port, Scenario, Settled, Some, Stands, StandsAt, Up, WayNow, WayState, What, Wire, World, [], ap, arith}
 use Rattle.drift_world.proofs.Words.{at_port, befell_as, behind, delay_at, false, given_of, happenings, if◌then◌else◌, in_permuted, inl, inr, is_broken}
 use Rattle.drift_world.proofs.Words.{is_cut, is_given, is_mapped, length, length-map, link_at, map, numbers_end, numbered, on_wire, option_map_or, rank_of, refl}
 use Rattle.drift_world.proofs.Words.{same_Some, settled_at, signal_as, signal_of, slice_get-map, slice_get_within, subst, sym, time_of, time_on_port, true}
@@ -261,7 +261,7 @@ module _ {C M : Type 0} (reading : C → ℕ → ℕ) (stands : Kept M → Netwo
   -- the outcomes are settled
   pub befallen_stands : (settled : List Settled) (entries : List (Entry Content)) → length notes + length state.befell.items < numbers_end
       → AreSettledBy s.network state.broken.items state.ups.items state.time state.befell.items state.settled.items settled state.under_way.entries entries
-      → StandsBehind reading stands s
+      → StandsAt reading stands s
       (record (world_of s.network state) {
         wires = filter_map (on_wire s.network) entries;
         ports = filter_map at_port entries;
@@ -289,7 +289,7 @@ module _ {C M : Type 0} (reading : C → ℕ → ℕ) (stands : Kept M → Netwo
         befell = [];
         settled = map (settled_at s.network state.time) settled;
       } in
-      with_ports reading stands s after notes (filter_map at_port entries) (behind (state.time ∷ 2 ∷ []))
+      ports_at reading stands s after notes (filter_map at_port entries) (behind (state.time ∷ 2 ∷ []))
       (ports_settled s.network old.range state.broken.items state.ups.items state.time 0 state.befell.items state.settled.items settled
       state.under_way.entries entries so) step
 
@@ -304,7 +304,7 @@ module _ {C M : Type 0} (reading : C → ℕ → ℕ) (stands : Kept M → Netwo
   pub befallen_behind : (befell : List Befallen) (settled : List Settled) (entries : List (Entry Content)) → befell ≡ []
       → length notes + length state.befell.items < numbers_end
       → AreSettledBy network state.broken.items state.ups.items state.time state.befell.items state.settled.items settled state.under_way.entries entries
-      → StandsBehind reading stands s
+      → StandsAt reading stands s
       (record (world_of network state) {
         wires = filter_map (on_wire network) entries;
         ports = filter_map at_port entries;
@@ -314,7 +314,7 @@ module _ {C M : Type 0} (reading : C → ℕ → ℕ) (stands : Kept M → Netwo
         settled = map (settled_at network state.time) settled;
       }) notes (behind (state.time ∷ 2 ∷ []))
   befallen_behind befell settled entries none few so =
-      subst (λ (l : List Befallen). StandsBehind reading stands s
+      subst (λ (l : List Befallen). StandsAt reading stands s
       (record (world_of network state) {
         wires = filter_map (on_wire network) entries;
         ports = filter_map at_port entries;
@@ -325,7 +325,7 @@ module _ {C M : Type 0} (reading : C → ℕ → ℕ) (stands : Kept M → Netwo
       }) notes (behind (state.time ∷ 2 ∷ []))) (sym none)
       (subst (λ (n : Network). Standing n
       → AreSettledBy n state.broken.items state.ups.items state.time state.befell.items state.settled.items settled state.under_way.entries entries
-      → StandsBehind reading stands s
+      → StandsAt reading stands s
       (record (world_of n state) {
         wires = filter_map (on_wire n) entries;
         ports = filter_map at_port entries;

@@ -2,7 +2,7 @@
 use Rattle.{drift_world.proofs.{Launches.given_out, Sendings.puts, Storings.taken_by}, world_law.proofs.giving.Given.given_step}
 use Rattle.drift_world.proofs.Words.{◌++◌, ◌+◌, ◌∙◌, ◌∷◌, ◌≡◌, Accepted, Arrived, Changed, Compressed, Content, Delivered, DeviceId, Dropped, DueAt, Giving}
 use Rattle.drift_world.proofs.Words.{Happening, Holding, IfSome, IsGivenOut, IsOf, IsPutOn, IsStoredBy, Kept, Left, List, Lost, Network, NoSourceBefore, Node}
-use Rattle.drift_world.proofs.Words.{None, Note, NoteBody, Option, Pcf, Permanent, Scenario, Settled, Some, Stands, StandsBehind, Timed, TtSent, WayState, []}
+use Rattle.drift_world.proofs.Words.{None, Note, NoteBody, Option, Pcf, Permanent, Scenario, Settled, Some, Stands, StandsAt, Timed, TtSent, WayState, []}
 use Rattle.drift_world.proofs.Words.{World, ap, append-nil, at_port, behind, happening, happenings, length, map, note_of, octets_in, on_wire, place_of, refl}
 use Rattle.drift_world.{proofs.Words.{settled_at, stored_as, subst, sym, waiting_as, wire_entry, with_first, ℕ}, specs.declared.state.State.State}
 use Rattle.{run_law.specs.declared.note.NoteBody.TheVariants.{Clock, Corrected, Event, Sent}, world_state.specs.declared.queue.Entry.Entry}
@@ -52,7 +52,7 @@ GivesOn {C} {M} reading stands s network =
     → NoSourceBefore s (happenings s.network notes) old.cursor (place_of (settled_at network state.time first))
     → MayBeGiven network first.body first.frame first.octets → IsGivenOut reading network state after first.body first.frame (length notes + 1) giving
     → IsPutOn (wire_entry network state.ups.items state.downs.items first.body first.frame first.octets state.time (length notes + 1))
-    after.under_way.entries entries → IsStoredBy first.body first.octets (length notes + 1) state.stored.items held → StandsBehind reading stands s
+    after.under_way.entries entries → IsStoredBy first.body first.octets (length notes + 1) state.stored.items held → StandsAt reading stands s
     (record (with_first network state first rest) {
       wires = filter_map (on_wire network) entries;
       ports = filter_map at_port entries;

@@ -1,7 +1,7 @@
 -- A record that stands at the place of its source is given before all that is settled.
 use Rattle.drift_world.{proofs.Turning.{comes_first, is_at, ranked_at}, specs.{Turns.{IsNow, MayWork, source_place}, declared.source.Source.Source}}
 use Rattle.drift_world.proofs.Words.{◌++◌, ◌+◌, ◌<◌, ◌^◌, ◌∙◌, ◌∷◌, ◌≡◌, ◌≤◌, AtPort, Bool, ChangesOnly, DeviceId, DueAt, Happening, IfSome, IsBefore, IsIn}
-use Rattle.drift_world.proofs.Words.{Accepted, Arrived, IsPutAt, IsSomePut, List, NoteBody, StandsBehind, note_of, units_of}
+use Rattle.drift_world.proofs.Words.{Accepted, Arrived, IsPutAt, IsSomePut, List, NoteBody, StandsAt, note_of, units_of}
 use Rattle.drift_world.proofs.Words.{Network, NoSourceBefore, Node, None, Note, Option, Scenario, Settled, Some, Stands, Waits, []}
 use Rattle.drift_world.proofs.Words.{ap, arith, behind, chain, changed_device, departure_body, happenings, inl, inr, is_mapped, keeps, length}
 use Rattle.drift_world.proofs.Words.{numbers_of, option_map_or, own_place, place_of, rank, refl, ripe_place, settled_at, subst, suc, sym}
@@ -180,7 +180,7 @@ module _ {C M : Type 0} (last_step : C → ℕ) (reading : C → ℕ → ℕ) (s
       → note ≡ record { number = mid.given + 1; time = units_of mid.time; body = one.body }
       → ((s : Scenario) (notes : List Note) (is : Stands reading (keeps stands) s (with_first network mid one mid.settled.items) notes)
       → NoSourceBefore s (happenings s.network notes) is.cursor (place_of (settled_at network mid.time one))
-      → StandsBehind reading (keeps stands) s (world_of network new) (notes ++ note_of notes (settled_at network mid.time one) ∷ [])
+      → StandsAt reading (keeps stands) s (world_of network new) (notes ++ note_of notes (settled_at network mid.time one) ∷ [])
       (behind (place_of (settled_at network mid.time one))))
       → (s : Scenario) (notes : List Note) → Stands reading (keeps stands) s (world_of network old) notes
       → Stands reading (keeps stands) s (world_of network new) (notes ++ note ∷ [])

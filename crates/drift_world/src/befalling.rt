@@ -3,7 +3,7 @@ ghost use Rattle.drift_world.specs.{Nearing.IsLess, Turns.{IsStep, MayWork}, dec
 ghost use Rattle.drift_world.specs.{Sound.IsSound, Stepping.{ChangesOnly, IsRunning}, Views.world_of};
 ghost use Rattle.{net_plan.specs.Ranges.IsInRange, world_state.specs.Keeping.keeps};
 ghost use Rattle.run_law.specs.{declared.note.Note.Note, records.Order.behind, scenario.Scenarios.Scenario};
-ghost use Rattle.world_law.specs.world.{Moves.StandsBehind, World.Stands};
+ghost use Rattle.world_law.specs.world.{Moves.StandsAt, World.Stands};
 
 use crate::state::State;
 use device_rules::TellsKind;
@@ -25,7 +25,7 @@ impl<C: Clock, M: Machine + Drop> State<C, M> {
         ensures sound { IsSound C.last_step network.now self.new }
         ensures stands { (s : Scenario) (notes : List Note)
             → Stands C.reading (keeps M.stands) s (world_of network.now self.old) notes
-            → OnOk result (StandsBehind C.reading (keeps M.stands) s (world_of network.now self.new) notes
+            → OnOk result (StandsAt C.reading (keeps M.stands) s (world_of network.now self.new) notes
             (behind (self.old.time ∷ 2 ∷ []))) }
         ensures err { OnErr result (world_of network.now self.new ≡ world_of network.now self.old) }
         ensures done { OnOk result (self.new.pending ≡ false) }

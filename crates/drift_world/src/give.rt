@@ -23,7 +23,7 @@ impl<C: Clock, M: Machine + Drop> State<C, M> {
     ghost use Rattle.net_plan.specs.declared.ids.DeviceId.{DeviceId as DeviceOf};
     ghost use Rattle.run_law.specs.records.{Happenings.happenings, Ranks.place_of};
     ghost use Rattle.tte_units.specs.Amount.{amount, units_of};
-    ghost use Rattle.world_law.specs.{source.First.NoSourceBefore, world.{Moves.StandsBehind, World.{Stands, note_of}}};
+    ghost use Rattle.world_law.specs.{source.First.NoSourceBefore, world.{Moves.StandsAt, World.{Stands, note_of}}};
     ghost use Rattle.world_state.specs.{Frames.{room_of, waiter_of}, Shelves.{HasPlace, spot_of}, Storing.IsStoredBy};
     ghost use Rattle.world_state.specs.Giving.{ArrivedAt, CameBy, HasItsOctets, IsPutOn, IsYoung, changed_device};
     ghost use Rattle.world_state.specs.{Giving.{giver_of, wire_entry}, Sound.{AreBelow, AreUnderWay, IsShort}};
@@ -187,7 +187,7 @@ impl<C: Clock, M: Machine + Drop> State<C, M> {
             → (old : Stands C.reading (keeps M.stands) s
             (with_first network.now self.old first self.old.settled.items) notes)
             → NoSourceBefore s (happenings s.network notes) old.cursor (place_of z)
-            → StandsBehind C.reading (keeps M.stands) s (world_of network.now self.new) (notes ++ note_of notes z ∷ [])
+            → StandsAt C.reading (keeps M.stands) s (world_of network.now self.new) (notes ++ note_of notes z ∷ [])
             (behind (place_of z)) }
         ensures arrived { ArrivedAt (length network.now.device) note.new.body }
         ensures others { ChangesOnly (changed_device first.body) self.old self.new }
@@ -250,7 +250,7 @@ impl<C: Clock, M: Machine + Drop> State<C, M> {
             → NoSourceBefore s (happenings s.network notes) old.cursor
             (place_of (settled_at network.now self.old.time first))
             → OnOk result ((note.new ≡ note_of notes (settled_at network.now self.old.time first))
-            × StandsBehind C.reading (keeps M.stands) s (world_of network.now self.new) (notes ++ note.new ∷ [])
+            × StandsAt C.reading (keeps M.stands) s (world_of network.now self.new) (notes ++ note.new ∷ [])
             (behind (place_of (settled_at network.now self.old.time first)))) }
         ensures err { OnErr result (world_of network.now self.new ≡ world_of network.now self.old) }
         ensures given { OnOk result (self.new.given ≡ self.old.given + 1) }

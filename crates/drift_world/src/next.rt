@@ -235,7 +235,7 @@ impl<C: Clock, M: TellsKind + Drop> State<C, M> {
 impl<C: Clock, M: Machine + Drop> State<C, M> {
     ghost use Rattle.drift_world.specs.Sound.{IsSound};
     ghost use Rattle.net_plan.specs.declared.network.Network.{Network as NetworkOf};
-    ghost use Rattle.world_law.specs.world.Moves.{NothingBefore, StandsBehind};
+    ghost use Rattle.world_law.specs.world.Moves.{NothingBefore, StandsAt};
 
     /// Time passes, where nothing is under way before.
     fn pass_to(&mut self, time: u64)
@@ -248,7 +248,7 @@ impl<C: Clock, M: Machine + Drop> State<C, M> {
         ensures stands { (network : NetworkOf) (s : Scenario) (notes : List NoteOf)
             → Stands C.reading (keeps M.stands) s (world_of network self.old) notes
             → NothingBefore (keeps M.stands) s (world_of network self.old) (time ∷ [])
-            → StandsBehind C.reading (keeps M.stands) s (world_of network self.new) notes (time ∷ []) }
+            → StandsAt C.reading (keeps M.stands) s (world_of network self.new) notes (time ∷ []) }
         ensures same { self.new ≡ record self.old { time = time; early = true } }
     {
         self.time = time;

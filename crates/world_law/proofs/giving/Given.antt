@@ -7,7 +7,7 @@ use Rattle.std.proofs.lemmas.{List.length_push, Option.slice_get_cases}
 use Rattle.world_law.proofs.Words.{◌++◌, ◌+◌, ◌<◌, ◌∙◌, ◌∷◌, ◌≡◌, ◌≤◌, ◌⊎◌, AreAtPorts, AreClusters, AreOfNetwork, AreOnWires, AreSettled, AreWaiting}
 use Rattle.world_law.proofs.Words.{AtPort, Bool, Device, DeviceId, Happening, HaveBefallen, Integrating, IsActedOut, IsActing, IsBefore, IsDue}
 use Rattle.world_law.proofs.Words.{IsFounded, IsHeld, IsIn, IsJoiningNow, IsKept, IsSource, List, Network}
-use Rattle.world_law.proofs.Words.{Node, None, Note, NoteBody, OnWire, Pcf, Scenario, Some, Synchronised}
+use Rattle.world_law.proofs.Words.{Node, None, NoteBody, OnWire, Pcf, Scenario, Some, Synchronised}
 use Rattle.world_law.proofs.Words.{Task, Waiting, [], act_place, adjustment_after, amount, ap, append-nil, append_assoc, arith, before_behind}
 use Rattle.world_law.proofs.Words.{before_next_time, behind, cases_Bool, chain, changed_at, clock_place, device_at, earlier, ends_stretch, eqb-true, false}
 use Rattle.world_law.proofs.Words.{filter, filter_map, happening, happenings, if◌then◌else◌, in_left, in_parts, in_right, inl, inr, ints}
@@ -22,7 +22,6 @@ use Rattle.world_law.proofs.giving.GivenParts.{IsGiving, over_itself, same_perma
 use Rattle.world_law.specs.{device.Plain.with_number, world.World.IsDueAs}
 use Rattle.run_law.specs.declared.judgement.Judgement.TheVariants as judgements
 use Rattle.run_law.specs.declared.note.NoteBody.TheVariants as kinds
-use Rattle.world_law.specs.{source.First.NoSourceBefore, steps.Turns.StandsAt, world.World.{Stands, Stored, World}}
 
 -- ---- what the records tell but for a number
 
@@ -408,32 +407,10 @@ device_in network device lt =
       | inr ge ↦ absurd (omega (arith, lt, ge.0))
     ]
 
-abbrev GivenAt : {C M : Type 0} → (C → ℕ → ℕ) → (M → Network → DeviceId → Node → Type 0) → Type 0
-GivenAt {C} {M} reading stands =
-    (s : Scenario) (world : World C M) (notes : List Note) (z : Happening) (rest : List Happening) (wires : List OnWire)
-    (ports : List AtPort) (waiting : List Waiting) (stored : List Stored) (old : Stands reading stands s world notes)
-    → world.settled ≡ z ∷ rest
-    → NoSourceBefore s (happenings s.network notes) old.cursor (place_of z)
-    → ArePut s (happening s.network (happenings s.network notes) (note_of notes z)) (length notes + 1) world.wires wires
-    → AreGiven s (happening s.network (happenings s.network notes) (note_of notes z))
-    (length notes + 1) world.ports ports
-    → AreAwaited s (happening s.network (happenings s.network notes) (note_of notes z))
-    (length notes + 1) world.waiting waiting
-    → AreTaken (happening s.network (happenings s.network notes) (note_of notes z))
-    (length notes + 1) world.stored stored
-    → StandsAt reading stands s (record world {
-      wires = wires;
-      ports = ports;
-      waiting = waiting;
-      stored = stored;
-      settled = rest;
-      given = world.given + 1;
-    }) (notes ++ note_of notes z ∷ []) (behind (place_of z))
-
--- then there is one frontier, behind it
-pub given_at : {C M : Type 0} (reading : C → ℕ → ℕ) (stands : M → Network → DeviceId → Node → Type 0)
-    → GivenAt reading stands
-given_at {C} {M} reading stands s world notes z rest wires ports waiting stored old settled none put given
+-- it is given: then there is one frontier, behind it
+pub given_step : {C M : Type 0} (reading : C → ℕ → ℕ) (stands : M → Network → DeviceId → Node → Type 0)
+    → GivenStep reading stands
+given_step {C} {M} reading stands s world notes z rest wires ports waiting stored old settled none put given
     awaited taken =
     let hs = happenings s.network notes in
     let n = length notes + 1 in
@@ -524,8 +501,3 @@ given_at {C} {M} reading stands s world notes z rest wires ports waiting stored 
       refl,
       refl,
     )
-
-pub given_step : {C M : Type 0} (reading : C → ℕ → ℕ) (stands : M → Network → DeviceId → Node → Type 0) → GivenStep reading stands
-given_step reading stands s world notes z rest wires ports waiting stored old settled none put given awaited taken =
-    let it = given_at reading stands s world notes z rest wires ports waiting stored old settled none put given awaited
-    taken in (it.0, it.2)

@@ -7,7 +7,7 @@ use Rattle.{run_law.specs.declared.note.Note.Note, sync_state.specs.declared.sta
 use Rattle.run_law.specs.{declared.note.NoteBody.NoteBody, records.Happenings.{Happening, happenings, numbered}}
 use Rattle.run_law.specs.machines.Nodes.{Node}
 use Rattle.{run_law.specs.records.Order.behind, world_law.specs.world.World.{Befell, OnWire, Stands, World, numbers_end}}
-use Rattle.{run_law.specs.scenario.Ways.is_cut, world_law.specs.world.Moves.{ArePut, ArePutIn, StandsBehind}}
+use Rattle.{run_law.specs.scenario.Ways.is_cut, world_law.specs.world.Moves.{ArePut, ArePutIn, StandsAt}}
 use Rattle.net_plan.specs.declared.event.What.TheVariants as events
 use Rattle.run_law.specs.declared.judgement.Why.TheVariants as whys
 use Rattle.run_law.specs.declared.note.NoteBody.TheVariants as kinds
@@ -33,7 +33,8 @@ ArePutBy s hs (e ∷ befell) old new =
     (mid : List OnWire) × (h : Happening) × (numbered hs e.number ≡ Some h) × ArePut s h e.number old mid
     × ArePutBy s hs befell mid new
 
--- the outcomes of the instant's events are settled, before all else of it is worked off; there are numbers for them
+-- the outcomes of the instant's events are put in, before all else of it is worked off; there are numbers for them. None
+-- of them stands at its source, so that there is one frontier
 abbrev pub BefellStep : {C M : Type 0} → (C → ℕ → ℕ) → (M → Network → DeviceId → Node → Type 0) → Type 0
 BefellStep {C} {M} reading stands =
     (s : Scenario) (world : World C M) (notes : List Note) (wires : List OnWire) (settled : List Happening)
@@ -41,6 +42,6 @@ BefellStep {C} {M} reading stands =
     → length notes + length world.befell < numbers_end
     → ArePutBy s (happenings s.network notes) world.befell world.wires wires
     → ArePutIn s.network (happenings s.network notes) world.now (befell_bodies s world.now world.befell) [] settled
-    → StandsBehind reading stands s
+    → StandsAt reading stands s
     (record world { wires = wires; early = false; pending = false; befell = []; settled = settled }) notes
     (behind (world.now ∷ 2 ∷ []))

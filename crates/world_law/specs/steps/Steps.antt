@@ -11,7 +11,7 @@ use Rattle.schedule_tables.specs.Rules.{KeepsRules}
 use Rattle.sync_state.specs.declared.state.State.{State, TheVariants.Off}
 use Rattle.tte_units.specs.{Amount.{amount, units_of}, declared.units.Units.Units}
 use Rattle.world_law.specs.{device.Ready.IsSteady, source.{Agreeing.scenario, Applying.note_of_event}}
-use Rattle.world_law.specs.world.{Calls.IsStateOf, Moves.{ArePutIn, ComesFirst, IsWithout, NothingBefore, StandsBehind}}
+use Rattle.world_law.specs.world.{Calls.IsStateOf, Moves.{ArePutIn, ComesFirst, IsWithout, NothingBefore, StandsAt, StandsBehind}}
 use Rattle.world_law.specs.world.Outcomes.{also_befell, befallen_node, departure_body, ends_world}
 use Rattle.world_law.specs.world.World.{AreWays, AtPort, IsClockOf, IsForward, IsFromEnd, Stands, Waiting, WayNow}
 use Rattle.world_law.specs.world.World.{World, clock_place, numbers_end, port_place}
@@ -20,13 +20,13 @@ use Rattle.run_law.specs.declared.note.NoteBody.TheVariants as kinds
 
 -- ---- time passes
 
--- where nothing is under way before a later time, the world stands at that time
+-- where nothing is under way before a later time, the world stands at that time, with one frontier
 abbrev pub PassedStep : {C M : Type 0} → (C → ℕ → ℕ) → (M → Network → DeviceId → Node → Type 0) → Type 0
 PassedStep {C} {M} reading stands =
     (s : Scenario) (world : World C M) (notes : List Note) (t : ℕ) (old : Stands reading stands s world notes)
     → world.settled ≡ [] → world.now < t → t ≤ 2 ^ 60 → world.ended ≡ false
     → NothingBefore stands s world (t ∷ [])
-    → StandsBehind reading stands s (record world { now = t; early = true }) notes (t ∷ [])
+    → StandsAt reading stands s (record world { now = t; early = true }) notes (t ∷ [])
 
 -- ---- a frame at a port leaves
 

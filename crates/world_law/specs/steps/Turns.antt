@@ -11,14 +11,9 @@ use Rattle.tte_units.specs.{Amount.units_of, declared.units.Units.Units}
 use Rattle.world_law.specs.source.Sources.{task_place}
 use Rattle.world_law.specs.steps.{Acting.{Acts, task_of}, Ripening.{HasRipened, ripe_bodies}, Steps.departure_bodies}
 use Rattle.world_law.specs.world.{Calls.{HasHeard, IsSet, IsStateOf, moment_of}, Outcomes.arrival_body}
-use Rattle.world_law.specs.world.Moves.{AreAwaited, AreGiven, ArePut, ArePutIn, AreTaken, ComesFirst, IsWithout}
+use Rattle.world_law.specs.world.Moves.{AreAwaited, AreGiven, ArePut, ArePutIn, AreTaken, ComesFirst, IsWithout, StandsAt}
 use Rattle.world_law.specs.world.World.{AtPort, OnWire, Stands, Waiting, World, clock_place, is_at_source, port_place, ripe_place, wire_place}
 use Rattle.run_law.specs.declared.note.NoteBody.TheVariants as kinds
-
--- the records given are the run up to this place, and what is before it is worked off
-abbrev pub StandsAt : {C M : Type 0} → (C → ℕ → ℕ) → (M → Network → DeviceId → Node → Type 0) → Scenario → World C M
-    → List Note → List ℕ → Type 0
-StandsAt reading stands s world notes p = (st : Stands reading stands s world notes) × (st.mark ≡ p) × (st.cursor ≡ p)
 
 -- the next record, of this body
 abbrev pub next_note : List Note → ℕ → NoteBody → Note
@@ -66,6 +61,13 @@ pub data IsTurn {C M : Type 0} (s : Scenario) (notes : List Note) (bodies : List
   gives : (body : NoteBody) (others : List NoteBody) → bodies ≡ body ∷ others → is_at_source body ≡ true
       → IsGivenNow s notes body others old new more → IsTurn s notes bodies old new more
   puts : starts_there bodies ≡ false → IsPutAll s notes bodies old new more → IsTurn s notes bodies old new more
+
+-- where nothing of the present instant but events is worked off, as at the beginning and once an event has befallen,
+-- there is one frontier
+abbrev pub EarlyAtOne : {C M : Type 0} → (C → ℕ → ℕ) → (M → Network → DeviceId → Node → Type 0) → Type 0
+EarlyAtOne {C} {M} reading stands =
+    (s : Scenario) (world : World C M) (notes : List Note) (old : Stands reading stands s world notes)
+    → world.early ≡ true → StandsAt reading stands s world notes old.cursor
 
 -- the turn by which the clock of the next device is shown, at the end
 abbrev pub ClockTurn : {C M : Type 0} → (C → ℕ → ℕ) → (M → Network → DeviceId → Node → Type 0) → Type 0

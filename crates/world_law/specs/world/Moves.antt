@@ -86,10 +86,15 @@ abbrev pub StandsBehind : {C M : Type 0} → (C → ℕ → ℕ) → (M → Netw
     → List Note → List ℕ → Type 0
 StandsBehind reading stands s world notes p = (new : Stands reading stands s world notes) × (new.cursor ≡ p)
 
+-- there is one frontier, at this place: the records given are the run up to it, and what is before it is worked off
+abbrev pub StandsAt : {C M : Type 0} → (C → ℕ → ℕ) → (M → Network → DeviceId → Node → Type 0) → Scenario → World C M
+    → List Note → List ℕ → Type 0
+StandsAt reading stands s world notes p = (st : Stands reading stands s world notes) × (st.mark ≡ p) × (st.cursor ≡ p)
+
 -- ---- a record is given
 
 -- the first of what is settled is given: with the next number, and what it puts on wires, gives to ports, waits for
--- and takes
+-- and takes. Then there is one frontier, behind it
 abbrev pub GivenStep : {C M : Type 0} → (C → ℕ → ℕ) → (M → Network → DeviceId → Node → Type 0) → Type 0
 GivenStep {C} {M} reading stands =
     (s : Scenario) (world : World C M) (notes : List Note) (z : Happening) (rest : List Happening) (wires : List OnWire)
@@ -103,7 +108,7 @@ GivenStep {C} {M} reading stands =
     waiting
     → AreTaken (happening s.network (happenings s.network notes) (note_of notes z)) (length notes + 1) world.stored
     stored
-    → StandsBehind reading stands s
+    → StandsAt reading stands s
     (record world {
       wires = wires;
       ports = ports;

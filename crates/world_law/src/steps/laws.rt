@@ -1,7 +1,7 @@
 ghost use Rattle.world_law.specs.steps.{Acting.ActedStep, Arriving.HeardStep, Befalling.BefellStep};
 ghost use Rattle.world_law.specs.steps.Repeating.{ActsAddUp, ActsAreBounded, ActsBringFew, NoActYet};
 ghost use Rattle.world_law.specs.steps.{Ending.CorrectionEnds, Ripening.RipenedStep};
-ghost use Rattle.world_law.specs.steps.{Steps.{AppliedStep, Begun, ClockStep, LeftStep, PassedStep}, Turns.{ActedTurn, ClockTurn, HeardTurn, LeftTurn, RipenedTurn}};
+ghost use Rattle.world_law.specs.steps.{Steps.{AppliedStep, Begun, ClockStep, LeftStep, PassedStep}, Turns.{ActedTurn, ClockTurn, EarlyAtOne, HeardTurn, LeftTurn, RipenedTurn}};
 
 use drift_clock::Clock;
 use run_law::Machine;
@@ -11,7 +11,7 @@ pub fn begun<C: Clock, M: Machine + Drop>()
     ensures { Begun C.reading M.stands }
 {}
 
-/// Where a world stands and time passes, it stands again.
+/// Where a world stands and time passes, it stands at the later time, with one frontier.
 pub fn passed_step<C: Clock, M: Machine + Drop>()
     ensures { PassedStep C.reading M.stands }
 {}
@@ -29,6 +29,11 @@ pub fn left_step<C: Clock, M: Machine + Drop>()
 /// Where a world stands and the clock of a device is shown at the end, it stands again.
 pub fn clock_step<C: Clock, M: Machine + Drop>()
     ensures { ClockStep C.reading M.stands }
+{}
+
+/// Where a world stands, and nothing of the present instant but events is worked off, there is one frontier.
+pub fn early_at_one<C: Clock, M: Machine + Drop>()
+    ensures { EarlyAtOne C.reading M.stands }
 {}
 
 /// Where a world stands at one frontier and the clock of a device is shown at the end, it stands behind it with its record
@@ -62,8 +67,8 @@ pub fn applied_step<C: Clock, M: Machine + Drop>()
     ensures { AppliedStep C.reading M.stands }
 {}
 
-/// Where a world stands and the outcomes of the instant's events are pending, it stands again once they are settled,
-/// before all else of the instant.
+/// Where a world stands and the outcomes of the instant's events are pending, it stands behind the events once they are
+/// put in, with one frontier.
 pub fn befell_step<C: Clock, M: Machine + Drop>()
     ensures { BefellStep C.reading M.stands }
 {}

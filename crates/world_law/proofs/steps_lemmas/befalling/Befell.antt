@@ -12,6 +12,7 @@ use Rattle.world_law.proofs.steps_lemmas.befalling.{Devices.{AreToldOf, held_tol
 use Rattle.world_law.proofs.steps_lemmas.{befalling.UnderWay.{IsTelling, goes_on, ports_told, waiting_told, wires_told}, steps.Applied.no_coming}
 use Rattle.world_law.proofs.{runs.Applies.{event_cause, event_place}, steps_lemmas.Words.{time_of, true}, steps_lemmas.befalling.Calm.{calm_joins, is_calm}}
 use Rattle.world_law.specs.world.World.{IsDueAs, IsWorkedOff}
+use Rattle.world_law.proofs.steps_lemmas.{Words.{StandsBehind, World, never_self}, turns.Turns.raised_to}
 use Rattle.world_law.{proofs.steps_lemmas.steps.AppliedParts.{before_others, own_event}, specs.steps.Befalling.{BefellStep, befell_bodies}}
 use Rattle.net_plan.specs.declared.event.What.TheVariants as events
 use Rattle.run_law.specs.declared.judgement.Why.TheVariants as whys
@@ -81,6 +82,16 @@ not_under now r more high (inr (e, inr (two, none))) = none
 
 behind_two : (now r : ℕ) (more : List ℕ) → 7 ≤ r → IsBefore (behind (now ∷ 2 ∷ [])) (now ∷ r ∷ more)
 behind_two now r more high = inr (refl, inl (omega (arith, high)))
+
+-- none of them is before the place behind the events
+not_yet : (s : Scenario) (hs : List Happening) (now : ℕ) {z : Happening} → IsOne s hs now z
+    → IsBefore (place_of z) (behind (now ∷ 2 ∷ [])) → ⊥
+not_yet s hs now {z} it b =
+    let at = late_place s hs now it in
+    let soon : IsBefore (now ∷ at.0 ∷ at.1) (behind (now ∷ 2 ∷ [])) =
+    subst (λ p. IsBefore p (behind (now ∷ 2 ∷ []))) at.2 b in
+    never_self (behind (now ∷ 2 ∷ []))
+    (chain (behind (now ∷ 2 ∷ [])) (now ∷ at.0 ∷ at.1) (behind (now ∷ 2 ∷ [])) (behind_two now at.0 at.1 at.3) soon)
 
 -- ---- what is due by an event is among them
 
@@ -305,7 +316,15 @@ befell_step {C} {M} reading stands s world notes wires settled old open_ room pu
     let on = goes_on m in
     let few = few_all s now world.befell in
     let put_count = all_long s hs now bodies [] settled put_in in
-    let none_long : length {A = Happening} [] ≡ 0 = refl in (
+    let none_long : length {A = Happening} [] ≡ 0 = refl in
+    let then_ : World C M = record world {
+      wires = wires;
+      early = false;
+      pending = false;
+      befell = [];
+      settled = settled;
+    } in
+    let behind_it : StandsBehind reading stands s then_ notes (behind here) = (
       record {
         same = old.same;
         range = old.range;
@@ -355,7 +374,8 @@ befell_step {C} {M} reading stands s world notes wires settled old open_ room pu
         shown = λ device lt ended. (λ b. absurd (no_clock now device b), λ less. on (clock_place now device) ((old.shown device lt ended).1 less));
       },
       refl,
-    )
+    ) in
+    raised_to behind_it (λ z i b. not_yet s hs now (filled.each z i) b)
   where
     no_part : (front rest : List Happening) (z : Happening) → [] ≡ front ++ z ∷ rest → ⊥
     no_part [] rest z e = cc

@@ -2,10 +2,10 @@
 use Rattle.world_law.proofs.devices.Working.{worked_by}
 use Rattle.world_law.proofs.{acts.{Acting.{IsUnmoved, cleared_on, had_come_before}, NoActs.nothing_comes_before}, devices.Resting.{IsPast, IsWorked, at_rest}}
 use Rattle.world_law.{proofs.{giving.GivenParts.no_later_events, runs.Worlds.nothing_settled_is_all}, specs.source.First.NoSourceBefore}
-use Rattle.world_law.{proofs.devices.Passes.passes_if, specs.{device.Own.IsStill, steps.Steps.PassedStep, world.{Moves.NothingBefore, World.way_now}}}
+use Rattle.world_law.{proofs.devices.Passes.passes_if, specs.{device.Own.IsStill, steps.Steps.PassedStep, world.{Moves.{NothingBefore, StandsAt}, World.way_now}}}
 use Rattle.world_law.proofs.steps_lemmas.Words.{◌++◌, ◌+◌, ◌-◌, ◌<ℤ◌, ◌<◌, ◌^◌, ◌∙◌, ◌∷◌, ◌≡◌, ◌≤ℤ◌, ◌≤◌, AreSettled, DeviceId, Down, Happening}
 use Rattle.world_law.proofs.steps_lemmas.Words.{HasDoneFrom, HasSentFrom, HaveBefallen, IsBefore, IsHeld, IsIn, IsKept, IsLeft, IsOut, IsPending, IsReadyAt}
-use Rattle.world_law.proofs.steps_lemmas.Words.{IsSteady, LinkId, List, Network, Node, Note, Scenario, Some, Stands, StandsBehind, Task, Up, Way, World, []}
+use Rattle.world_law.proofs.steps_lemmas.Words.{IsSteady, LinkId, List, Network, Node, Note, Scenario, Some, Stands, Task, Up, Way, World, []}
 use Rattle.world_law.proofs.steps_lemmas.Words.{act_place, acts_before, adjustment_after, all_up_to, amount, ap, append-nil, are_past, arith, cases_Bool}
 use Rattle.world_law.proofs.steps_lemmas.Words.{cases_int, cases_lt, change_still, changed_at, doing, emitting, false, filter_map, happenings, has_cleared}
 use Rattle.world_law.proofs.steps_lemmas.Words.{inl, inr, ints, last_or, length, members_in, natural, no_later_breaks, not_on_after, numbered_in}
@@ -49,7 +49,7 @@ pub passed_but_devices : {C M : Type 0} {reading : C → ℕ → ℕ} {stands : 
     → ((device : DeviceId) → device.0 < length s.network.device
     → (machine : M) × (slice_get world.machines device.0 ≡ Some machine)
     × IsHeld stands s (happenings s.network notes) [] (t ∷ []) t device machine)
-    → StandsBehind reading stands s (record world { now = t; early = true }) notes (t ∷ [])
+    → StandsAt reading stands s (record world { now = t; early = true }) notes (t ∷ [])
 passed_but_devices {stands} {s} {world} {notes} t old settled lt few running none first devices =
     let hs = happenings s.network notes in
     let now = world.now in
@@ -133,6 +133,7 @@ passed_but_devices {stands} {s} {world} {notes} t old settled lt few running non
         are = subst (λ l. AreSettled s hs l (t ∷ []) (t ∷ []) t) (sym settled) (nothing_full s hs t);
         shown = λ device in_it ended. absurd (let bad : false ≡ true = sym running ∙ ended in cc);
       },
+      refl,
       refl,
     )
 

@@ -3,8 +3,9 @@ use Rattle.world_law.proofs.steps_lemmas.Words.{◌++◌, ◌+◌, ◌<◌, ◌�
 use Rattle.world_law.proofs.steps_lemmas.Words.{List, Network, NoneBefore, Node, Note, NoteBody, Scenario, Stands, StandsBehind, World, [], ap, append-nil, arith}
 use Rattle.world_law.proofs.steps_lemmas.Words.{before_behind, behind, cases_Bool, chain, false, happenings, in_left, in_parts, in_right, inl, inr, is_at_source}
 use Rattle.world_law.proofs.steps_lemmas.Words.{never_self, place_of, rank, refl, second, settled_as, subst, sym, true, ℕ}
-use Rattle.world_law.proofs.{giving.{Given.given_at, GivenParts.{source_kinds, up_to_place}}, runs.Worlds.given_up_to}
-use Rattle.world_law.specs.steps.Turns.{IsTurn, StandsAt, next_note, starts_there}
+use Rattle.world_law.proofs.{giving.{Given.given_step, GivenParts.{source_kinds, up_to_place}}, runs.Worlds.given_up_to}
+use Rattle.world_law.specs.steps.Turns.{EarlyAtOne, IsTurn, next_note, starts_there}
+use Rattle.world_law.specs.world.Moves.{StandsAt}
 
 -- ---- one frontier
 
@@ -67,6 +68,19 @@ module _ {C M : Type 0} {reading : C → ℕ → ℕ} {stands : M → Network �
     refl,
   )
 
+  -- so it is where all before a place is worked off, and nothing to come is before it
+  pub raised_to : {p : List ℕ} → StandsBehind reading stands s world notes p
+      → ((z : Happening) → IsIn z world.settled → IsBefore (place_of z) p → ⊥)
+      → StandsAt reading stands s world notes p
+  raised_to behind_it ahead =
+      subst (λ q. StandsAt reading stands s world notes q) behind_it.1
+      (raised behind_it.0 (λ z i b. ahead z i (subst (λ q. IsBefore (place_of z) q) behind_it.1 b)))
+
+  -- where nothing of the present instant but events is worked off, nothing is to come
+  pub none_early : Stands reading stands s world notes → world.early ≡ true → (z : Happening) → IsIn z world.settled → ⊥
+  none_early st fresh z i =
+      never_self (world.now ∷ 2 ∷ []) (st.early fresh (world.now ∷ 2 ∷ []) (st.are.begun z i))
+
   -- and where there is one, nothing to come stands at its source
   pub late_at : {p : List ℕ} → StandsAt reading stands s world notes p → (z : Happening) → IsIn z world.settled
       → is_at_source z.note.body ≡ false
@@ -77,10 +91,16 @@ module _ {C M : Type 0} {reading : C → ℕ → ℕ} {stands : M → Network �
         (st.0.are.worked z i is)))
   ]
 
+-- so it is before all else of the instant but events
+pub early_at_one : {C M : Type 0} (reading : C → ℕ → ℕ) (stands : M → Network → DeviceId → Node → Type 0)
+    → EarlyAtOne reading stands
+early_at_one reading stands s world notes old fresh =
+    raised old (λ z i b. none_early old fresh z i)
+
 -- ---- what is put in
 
 -- each that is there then was there, or is one of these
-put_is : (network : Network) (hs : List Happening) (now : ℕ) (bodies : List NoteBody) (old new : List Happening)
+pub put_is : (network : Network) (hs : List Happening) (now : ℕ) (bodies : List NoteBody) (old new : List Happening)
     → ArePutIn network hs now bodies old new
     → (z : Happening) → IsIn z new → IsIn z old
     ⊎ ((body : NoteBody) × IsIn body bodies × (z ≡ settled_as network hs now body))
@@ -143,6 +163,24 @@ late_apart z now r more kind late at =
         ]
       ]
     ]
+
+-- where the world stands behind a source, and nothing to come stands where its own does, there is one frontier
+pub raised_behind : {C M : Type 0} {reading : C → ℕ → ℕ} {stands : M → Network → DeviceId → Node → Type 0}
+    {s : Scenario} {world : World C M} {notes : List Note} (now r : ℕ) (rest : List ℕ) {at : List ℕ}
+    → at ≡ now ∷ r ∷ rest → IsTurnRank r → StandsBehind reading stands s world notes (behind at)
+    → ((z : Happening) → IsIn z world.settled → is_at_source z.note.body ≡ false)
+    → StandsAt reading stands s world notes (behind at)
+raised_behind now r rest {at} stood kind behind_it off =
+    raised_to behind_it (λ z i b.
+    elim (up_to_place (place_of z) at b) [
+      | inl e ↦ late_apart z now r rest kind (off z i) (e ∙ stood)
+      | inr lt ↦
+          elim (up_to_place at (place_of z)
+          (behind_it.0.are.not_past z i at (subst (λ q. IsBefore at q) (sym behind_it.1) (before_behind at)))) [
+            | inl e ↦ never_self at (subst (λ q. IsBefore q at) (sym e) lt)
+            | inr gt ↦ never_self at (chain at (place_of z) at gt lt)
+          ]
+    ])
 
 -- the records of a source: the first stands where the source does, and the others behind it, or all come later
 pub data AreThere (network : Network) (hs : List Happening) (now : ℕ) (at : List ℕ) : List NoteBody → Type 0 where
@@ -220,7 +258,7 @@ turn_by {reading} {stands} {s} {world} {notes} old r rest {at} stood kind mid {n
     ) in
     let behind_it = step (z ∷ new.settled) (subst (λ l. ArePutIn s.network hs mid.now l world.settled (z ∷ new.settled))
     (sym is) put) in
-    let then_ = given_at reading stands s (record mid { settled = z ∷ new.settled }) notes z new.settled new.wires
+    let then_ = given_step reading stands s (record mid { settled = z ∷ new.settled }) notes z new.settled new.wires
     new.ports new.waiting new.stored
     behind_it.0 refl
     (λ w source waits b. waits (subst (λ q. IsBefore w q) (sym behind_it.1)
@@ -241,25 +279,13 @@ turn_by {reading} {stands} {s} {world} {notes} old r rest {at} stood kind {bodie
     (IsTurn.puts not_there g) =
     let hs = happenings s.network notes in
     let put = subst (λ l. ArePutIn s.network hs mid.now bodies l new.settled) same g.put in
-    let behind_it = step new.settled put in
-    let st = behind_it.0 in
     let off : (z : Happening) → IsIn z new.settled → is_at_source z.note.body ≡ false = λ z i.
     elim (put_is s.network hs mid.now bodies world.settled new.settled put z i) [
       | inl was ↦ late_at old z was
       | inr it ↦ ap (λ (h : Happening). is_at_source h.note.body) it.2 ∙ late_of bodies not_there there it.0 it.1
     ] in
-    let ahead : (z : Happening) → IsIn z new.settled → IsBefore (place_of z) st.cursor → ⊥ = λ z i b.
-    elim (up_to_place (place_of z) at (subst (λ q. IsBefore (place_of z) q) behind_it.1 b)) [
-      | inl e ↦ late_apart z world.now r rest kind (off z i) (e ∙ stood)
-      | inr lt ↦
-          elim (up_to_place at (place_of z)
-          (st.are.not_past z i at (subst (λ q. IsBefore at q) (sym behind_it.1) (before_behind at)))) [
-            | inl e ↦ never_self at (subst (λ q. IsBefore q at) (sym e) lt)
-            | inr gt ↦ never_self at (chain at (place_of z) at gt lt)
-          ]
-    ] in
     let then_ = record mid { settled = new.settled } in
     subst (λ (x : World _ _). StandsAt reading stands s x (notes ++ more) (behind at)) (sym g.same)
     (subst (λ (l : List Note). StandsAt reading stands s then_ l (behind at))
     (sym (ap (λ (l : List Note). notes ++ l) g.none ∙ append-nil notes))
-    (subst (λ q. StandsAt reading stands s then_ notes q) behind_it.1 (raised st ahead)))
+    (raised_behind world.now r rest stood kind (step new.settled put) off))

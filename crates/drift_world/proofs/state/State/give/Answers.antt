@@ -1,7 +1,7 @@
 use Rattle.drift_world.proofs.{Fits.sound_same, Gave.{changes_since, popped_world, unchanged}, Words.{settled_at, subst, sym, units_of, world_of, ℕ}}
 use Rattle.drift_world.{proofs.state.State.give.Goals.After-unwrap-first, specs.declared.state.State.State}
 use Rattle.drift_world.proofs.Words.{◌++◌, ◌+◌, ◌<◌, ◌∙◌, ◌∷◌, ◌≡◌, ChangesOnly, DeviceId, HasItsOctets, IfSome, List, NoSourceBefore, Note, Option, Settled}
-use Rattle.drift_world.proofs.Words.{Stands, StandsBehind, World, [], ap, behind, changed_device, happenings, keeps, note_of, place_of, refl}
+use Rattle.drift_world.proofs.Words.{Stands, StandsAt, World, [], ap, behind, changed_device, happenings, keeps, note_of, place_of, refl}
 use Rattle.std.{proofs.lemmas.List.Elements.{All-head, All-tail}, specs.Prelude.{All, option_to_list}}
 use Rattle.world_state.specs.{Frames.room_of, Shelves.HasPlace, declared.contents.Spot.Spot}
 use Rattle.drift_world.proofs.state.State.give.Given as given
@@ -88,17 +88,17 @@ returns-clause-stands g c = λ s notes other rest is.
     } in
     let z = settled_at network w.time first in
     let Steps = λ (q : World _ _). (o : Stands K.reading stands s q notes) → NoSourceBefore s (happenings s.network notes) o.cursor (place_of z)
-    → StandsBehind K.reading stands s (world_of network new) (notes ++ note_of notes z ∷ []) (behind (place_of z)) in
+    → StandsAt K.reading stands s (world_of network new) (notes ++ note_of notes z ∷ []) (behind (place_of z)) in
     let step : Steps (world_of network w) = subst Steps (popped_world network w popped first room.entries room.waiting room.stored whole refl)
     (c.give_first.ensures.stands s notes) in
     let Gives = λ (f : Settled). (o : Stands K.reading stands s (world_of network w) notes)
     → NoSourceBefore s (happenings s.network notes) o.cursor (place_of (settled_at network w.time f)) → (note ≡ note_of notes (settled_at network w.time f))
-    × StandsBehind K.reading stands s (world_of network new) (notes ++ note ∷ []) (behind (place_of (settled_at network w.time f))) in
+    × StandsAt K.reading stands s (world_of network new) (notes ++ note ∷ []) (behind (place_of (settled_at network w.time f))) in
     let given : Gives first = λ o none.
     let same : note ≡ note_of notes z = c.give_first.ensures.note
     ∙ ap (λ (k : ℕ). let n : Note = record { number = k + 1; time = units_of w.time; body = first.body } in n) o.given in (
       same,
-      subst (λ (n : Note). StandsBehind K.reading stands s (world_of network new) (notes ++ n ∷ []) (behind (place_of z))) (sym same) (step o none),
+      subst (λ (n : Note). StandsAt K.reading stands s (world_of network new) (notes ++ n ∷ []) (behind (place_of z))) (sym same) (step o none),
     ) in
     subst Gives (heads first other c.pop_front.new.self.items rest (sym whole ∙ is)) given
 

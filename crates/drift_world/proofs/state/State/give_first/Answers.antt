@@ -1,7 +1,7 @@
 use Rattle.drift_world.proofs.{Fits.sized_so, Givings.given_on, MayGive.{low_with, may_give}, Words.world_of, state.State.give_first.Goals.After-launch_octets}
 use Rattle.drift_world.proofs.Gave.{from_ports, from_wire, waits_apart, waits_below, waits_elsewhere, waits_more, wire_is, wire_sound}
 use Rattle.drift_world.proofs.Words.{◌++◌, ◌+◌, ◌∙◌, ◌∷◌, ◌≡◌, ChangesOnly, IfSome, IsGivenOut, IsPutOn, IsSound, IsStoredBy}
-use Rattle.drift_world.proofs.Words.{Note, StandsBehind, Units, [], ap, arith, behind, changed_device, inl, inr, keeps, length}
+use Rattle.drift_world.proofs.Words.{Note, StandsAt, Units, [], ap, arith, behind, changed_device, inl, inr, keeps, length}
 use Rattle.drift_world.proofs.Words.{note_of, place_of, refl, settled_at, subst, sym, units_of, wire_entry}
 use Rattle.{drift_world.specs.declared.state.State.State, world_state.specs.{Shelves.{HasPlace, spot_of}, Sound.IsShort}}
 use Rattle.std.specs.Prelude.{All}
@@ -98,7 +98,7 @@ returns-clause-stands g c = λ s notes old none.
     none
     (may_give K.reading g.M.Machine.stands network w first c.requires.running c.requires.octets) out sent held in
     let last = gave_all g (goal.at.returns-clause-stands g c).After-launch_octets in
-    subst (λ q. StandsBehind K.reading stands s (world_of network q) (notes ++ note_of notes z ∷ []) (behind (place_of z))) (sym last)
+    subst (λ q. StandsAt K.reading stands s (world_of network q) (notes ++ note_of notes z ∷ []) (behind (place_of z))) (sym last)
     step
 
 pub returns-clause-others : goal.returns-clause-others

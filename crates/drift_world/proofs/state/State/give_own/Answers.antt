@@ -1,6 +1,6 @@
 use Rattle.drift_world.proofs.{AtSource.{at_rank, own_gives}, Fits.sound_same, Gave.{changes_since, popped_world}, OwnPlaces.{no_change, no_shelf, no_waiter}}
 use Rattle.drift_world.proofs.{Timings.aside, Turning.kept_timers, state.State.give_own.Goals.After-unwrap-own}
-use Rattle.drift_world.proofs.Words.{◌++◌, ◌+◌, ◌∙◌, ◌∷◌, ◌≡◌, ◌≤◌, ChangesOnly, HasItsOctets, NoSourceBefore, Note, Settled, Stands, StandsBehind, World, []}
+use Rattle.drift_world.proofs.Words.{◌++◌, ◌+◌, ◌∙◌, ◌∷◌, ◌≡◌, ◌≤◌, ChangesOnly, HasItsOctets, NoSourceBefore, Note, Settled, Stands, StandsAt, World, []}
 use Rattle.drift_world.proofs.Words.{ap, arith, behind, changed_device, happenings, inl, keeps, note_of, place_of, rank, refl, settled_at, subst, sym}
 use Rattle.drift_world.{proofs.Words.{units_of, world_of, ℕ}, specs.declared.state.State.State}
 use Rattle.drift_world.proofs.Words.{List}
@@ -85,7 +85,7 @@ returns-clause-kept g c =
     (λ s notes old.
     let Steps = λ (q : World _ _). (o : Stands K.reading (keeps g.M.Machine.stands) s q notes)
     → NoSourceBefore s (happenings s.network notes) o.cursor (place_of z)
-    → StandsBehind K.reading (keeps g.M.Machine.stands) s (world_of network new) (notes ++ note_of notes z ∷ []) (behind (place_of z)) in
+    → StandsAt K.reading (keeps g.M.Machine.stands) s (world_of network new) (notes ++ note_of notes z ∷ []) (behind (place_of z)) in
     let step : Steps (world_of network w) = subst Steps (popped_world network w popped first refl refl refl whole refl) (give.stands s notes) in
     let same : c.give_first.new.note ≡ note_of notes z = give.note
     ∙ ap (λ (k : ℕ). let n : Note = record { number = k + 1; time = units_of w.time; body = first.body } in n) old.given in
