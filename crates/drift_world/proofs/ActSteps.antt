@@ -10,14 +10,17 @@ use Rattle.{run_law.specs.{declared.steps.Act.Act, machines.{Answers.IsActOf, Ca
 use Rattle.drift_world.proofs.Words.{◌+◌, ◌<◌, ◌≡◌, ◌≤◌, ArePutIn, ComesFirst, DeviceId, Happening, HasActed, IsAt, IsBefore, IsHeld, IsIn, IsOf, IsSomePut}
 use Rattle.drift_world.proofs.Words.{◌∙◌, ◌∷◌, IfSome, IsSomeAnd, Kept, List, Moment, Network, Node, None, Note, Option, Scenario, Settled, Some, Stands, StandsFor, Units, [], ap, arith}
 use Rattle.drift_world.proofs.Words.{cases_lt, chain, false, happenings, in_parts, in_right, inl, inr, keeps, length, map, moment_of, pos, rank, refl, same_Some}
+use Rattle.drift_world.proofs.Words.{◌++◌, NoteBody, StandsAt, World, append-nil}
 use Rattle.drift_world.proofs.Words.{settled_at, slice_get_within, stored_as, subst, sym, true, world_of, ℕ}
 use Rattle.run_law.{proofs.runs.Places.{before_behind, in_left}, specs.records.Order.behind}
 use Rattle.world_law.proofs.{rows.Dispatching.lawful, steps_lemmas.growing.FromZero.kept_from_zero}
 use Rattle.world_law.specs.world.{Calls.{IsSet, IsStateOf}, World.{AreStored, IsKept}}
 use Rattle.{std.specs.Prelude.All, world_law.specs.{source.Sources.task_place, steps.Acting.{Acts, place_of_act, rank_of_act, task_of}}}
-use Rattle.{sync_state.specs.declared.state.State.{State as Standing}, world_state.specs.Acting.{AreOutcomes, HasItsRow, bodies_of}}
+use Rattle.{sync_state.specs.declared.state.State.{State as Standing}, world_state.specs.Acting.{AreOutcomes, HasItsRow, bodies_of, body_of}}
 use Rattle.world_law.proofs.steps_lemmas.acting.{ActedSteps.acted_step, First.{act_more, act_rest, act_stands}, Kept.may_act_now}
 use Rattle.world_law.proofs.steps_lemmas.{acting.Stage.{StageAt, stage_of}, steps.Passed.no_task}
+use Rattle.world_law.proofs.steps_lemmas.turns.ActTurns.{act_starts_late, acted_turn}
+use Rattle.world_law.specs.steps.Turns.{IsTurn}
 use Rattle.world_law.specs.device.Left.{HasTaskBy}
 use Rattle.run_law.specs.declared.steps.Act.TheVariants as acts
 
@@ -27,6 +30,20 @@ not_before_own now r d more (inl lt) = omega (arith, lt)
 not_before_own now r d more (inr (e, inl lt)) = omega (arith, lt)
 not_before_own now r d more (inr (e, inr (f, inl lt))) = omega (arith, lt)
 not_before_own now r d more (inr (e, inr (f, inr (g, b)))) = b
+
+head_is : (x y : NoteBody) (xs ys : List NoteBody) → x ∷ xs ≡ y ∷ ys → x ≡ y
+head_is x y xs ys e = cc
+
+-- where the first of an act's records is of a high rank, or there is none, the first that comes of it is
+first_high : (first second : Option Settled) → IfSome first (λ z. 6 < rank z.body) → IsFine 7 second → (body : NoteBody)
+    (others : List NoteBody) → body_of first ++ body_of second ≡ body ∷ others → 6 < rank body
+first_high (Some z) second late fine body others e =
+    subst (λ b. 6 < rank b) (head_is z.body body (body_of second) others e) late
+first_high None (Some z) late fine body others e =
+    let same : z.body ≡ body = head_is z.body body [] others e in
+    let high = fine.1 in
+    subst (λ b. 6 < rank b) same (omega (arith, high))
+first_high None None late fine body others e = absurd (let bad : [] ≡ body ∷ others = e in cc)
 
 -- of records in their order, where one is of a low rank the first is
 abbrev pub IsLowFirst : ℕ → List Settled → Type 0
@@ -282,28 +299,22 @@ module _ {C M : Type 0} (reading : C → ℕ → ℕ) (stands : M → Network �
       let new = acted_at at.s at.notes at.is act after (acted at.s at.notes at.is) in
       no_sooner_then at.s at.notes at.is act after new.0 (acted at.s at.notes at.is) new.1 left (is at.s at.notes at.is new.0 new.2)
 
-  -- the world stands again
+  -- the world stands again, and where none of its records stands where it is done, there is one frontier
   pub acted_once : (after : Kept M) (was is : Standing) (before adjustment : Units) (act : Act) (outcomes : Outcomes) (mid new : List Settled)
       (machines : List (Kept M)) → IsSet device.0 after state.machines.items machines
       → IsSomePut outcomes.first state.settled.items mid → IsSomePut outcomes.second mid new → (s : Scenario) (notes : List Note) (old : Old s notes)
       → First_ s notes old → HasActed (keeps stands) s.network device (moment_of s device state.time) act machine after
       → IsStateOf (keeps stands) s.network device machine was before → IsStateOf (keeps stands) s.network device after is adjustment
       → AreOutcomes s state.stored.items state.time (state.given + 1) device was adjustment act outcomes
-      → StandsFrom reading stands s
+      → Stands reading (keeps stands) s
       (record (world_of network state) { early = false; machines = machines; settled = map (settled_at network state.time) new }) notes
-      (part_place part state.time device)
+      × (old.mark ≡ old.cursor → IfSome outcomes.first (λ z. 6 < rank z.body) → StandsFrom reading stands s
+      (record (world_of network state) { early = false; machines = machines; settled = map (settled_at network state.time) new }) notes
+      (part_place part state.time device))
   acted_once after was is before adjustment act outcomes mid new machines set one two s notes old first acted stood stands_then are =
       let gone = acted_step reading (keeps stands) s (world_of network state) notes device after (bodies_of outcomes) machines
       (map (settled_at network state.time) new) old acts_are set puts in
-      let place = task_place s.network state.time device (task_of act) in (
-        gone.0,
-        λ b.
-            not_before_own state.time (rank_of_act act) device.0 (act_more s.network act)
-            (chain (state.time ∷ rank_of_act act ∷ device.0 ∷ act_more s.network act) (behind place) (place_of_act state.time device act)
-            (subst (λ q. IsBefore q (behind place)) (act_stands s.network state.time device act) (before_behind place))
-            (subst (λ q. IsBefore (behind place) q) (sym (of_part s notes old act after acted))
-            (subst (λ q. IsBefore q (part_place part state.time device)) gone.1 b))),
-      )
+      (gone.0, λ one late. from_there one late)
     where
       own : AreProper s (happenings s.network notes) state.time device was adjustment act outcomes
       own = proper_at s notes old first act after was adjustment outcomes acted are
@@ -334,3 +345,34 @@ module _ {C M : Type 0} (reading : C → ℕ → ℕ) (stands : M → Network �
           (settled_in_order old)
           (subst (λ n. IsOwn s.network n state.time (happenings s.network notes) outcomes.first) (sym old.same) own.first)
           (subst (λ n. IsOwn s.network n state.time (happenings s.network notes) outcomes.second) (sym old.same) own.second)
+
+      place : List ℕ
+      place = task_place s.network state.time device (task_of act)
+
+      ahead : (cursor : List ℕ) → cursor ≡ behind place → IsBefore cursor (part_place part state.time device) → ⊥
+      ahead cursor at b =
+          not_before_own state.time (rank_of_act act) device.0 (act_more s.network act)
+          (chain (state.time ∷ rank_of_act act ∷ device.0 ∷ act_more s.network act) (behind place) (place_of_act state.time device act)
+          (subst (λ q. IsBefore q (behind place)) (act_stands s.network state.time device act) (before_behind place))
+          (subst (λ q. IsBefore (behind place) q) (sym (of_part s notes old act after acted))
+          (subst (λ q. IsBefore q (part_place part state.time device)) at b)))
+
+      then_ : World C (Kept M)
+      then_ = record (world_of network state) { early = false; machines = machines; settled = map (settled_at network state.time) new }
+
+      -- none of its records stands where it is done
+      turn : IfSome outcomes.first (λ z. 6 < rank z.body)
+          → IsTurn s notes (bodies_of outcomes) (record (world_of network state) { early = false; machines = machines }) then_ []
+      turn late =
+          IsTurn.puts
+          (act_starts_late s (happenings s.network notes) state.time device was adjustment act (bodies_of outcomes) own.bodies
+          (first_high outcomes.first outcomes.second late own.second_fine))
+          (record { none = refl; put = puts; same = refl })
+
+      from_there : old.mark ≡ old.cursor → IfSome outcomes.first (λ z. 6 < rank z.body)
+          → StandsFrom reading stands s then_ notes (part_place part state.time device)
+      from_there one late =
+          let it = acted_turn reading (keeps stands) s (world_of network state) then_ notes [] old.cursor device after (bodies_of outcomes) machines
+          (old, one, refl) acts_are set (turn late) in
+          let here = subst (λ l. StandsAt reading (keeps stands) s then_ l (behind place)) (append-nil notes) it in
+          (here.0, here.1 ∙ sym here.2, ahead here.0.cursor here.2)

@@ -5,6 +5,9 @@ use Rattle.drift_world.proofs.Words.{Stands, arith, cases_lt, chain, happenings,
 use Rattle.{drift_world.proofs.Words.{suc, true, world_of, zero, ℕ}, std.proofs.Common.All}
 use Rattle.drift_world.specs.{Acting.AreAbove, Turns.source_rank, declared.{source.Source.Source, state.State.State}}
 use Rattle.drift_world.specs.declared.source.Source.TheVariants.{Act, Arrival, Clock, Departure, Events, Later, Ripening}
+use Rattle.drift_world.proofs.Words.{◌∙◌, Happening, StandsAt, StandsBehind, StandsOne, World, behind, false}
+use Rattle.drift_world.proofs.Sources.{made_of}
+use Rattle.world_law.proofs.steps_lemmas.turns.Turns.{IsTurnRank, late_at, raised_behind}
 use Rattle.world_law.specs.world.World.{is_at_source}
 use Rattle.run_law.specs.declared.note.NoteBody.TheVariants as kinds
 
@@ -47,6 +50,58 @@ pub rank_most : (body : NoteBody) → rank body ≤ 14
 rank_most (kinds.Event line what) = omega arith
 rank_most other = omega arith
 
+-- ---- where there is one frontier
+
+-- what holds of all holds of each
+pub each_of : {X : Type 0} (P : X → Type 0) (xs : List X) (x : X) → All P xs → IsIn x xs → P x
+each_of P [] x all i = absurd i
+each_of P (y ∷ ys) x all (inl same) = subst P (sym same) (all zero y (omega arith))
+each_of P (y ∷ ys) x all (inr i) = each_of P ys x (λ k d within. all (suc k) d (omega (arith, within))) i
+
+-- nothing that is settled stands where its source does
+pub is_late : {C M : Type 0} (reading : C → ℕ → ℕ) (stands : M → Network → DeviceId → Node → Type 0) (network : Network)
+    (state : State C M) (z : Settled) (others : List Settled) {s : Scenario} {notes : List Note}
+    → state.settled.items ≡ z ∷ others
+    → (old : Stands reading (keeps stands) s (world_of network state) notes) → old.mark ≡ old.cursor
+    → is_at_source z.body ≡ false
+is_late reading stands network state z others {s} {notes} whole old one =
+    let shown = settled_at network state.time z in
+    let there : IsIn shown (map (settled_at network state.time) state.settled.items) =
+    subst (λ (l : List Settled). IsIn shown (map (settled_at network state.time) l)) (sym whole) (inl refl) in
+    let at : StandsAt reading (keeps stands) s (world_of network state) notes old.cursor = (old, one, refl) in
+    late_at at shown there
+
+-- one frontier at this place is one at some place
+pub one_of : {C M : Type 0} {reading : C → ℕ → ℕ} {stands : M → Network → DeviceId → Node → Type 0} {s : Scenario}
+    {world : World C M} {notes : List Note} {p : List ℕ} → StandsAt reading stands s world notes p
+    → StandsOne reading stands s world notes
+one_of at = (at.0, at.1 ∙ sym at.2)
+
+-- a record that stands where no source does
+abbrev pub IsLate : Settled → Type 0
+IsLate z = is_at_source z.body ≡ false
+
+-- all that is settled does
+pub all_late : {C M : Type 0} (reading : C → ℕ → ℕ) (stands : M → Network → DeviceId → Node → Type 0)
+    (network : Network) (state : State C M) {s : Scenario} {notes : List Note}
+    → StandsOne reading (keeps stands) s (world_of network state) notes → All IsLate state.settled.items
+all_late reading stands network state {s} {notes} old =
+    let at : StandsAt reading (keeps stands) s (world_of network state) notes old.0.cursor = (old.0, old.1, refl) in
+    all_of IsLate state.settled.items (λ z i. late_at at (settled_at network state.time z)
+    (is_mapped (settled_at network state.time) state.settled.items z i))
+
+-- where a source is worked off, and all that is settled then stands where none does, there is one frontier
+pub one_behind : {C M : Type 0} (reading : C → ℕ → ℕ) (stands : M → Network → DeviceId → Node → Type 0)
+    (network : Network) (state : State C M) {s : Scenario} {notes : List Note} (now r : ℕ) (rest : List ℕ) {p : List ℕ}
+    → p ≡ now ∷ r ∷ rest → IsTurnRank r → All IsLate state.settled.items
+    → StandsBehind reading (keeps stands) s (world_of network state) notes (behind p)
+    → StandsOne reading (keeps stands) s (world_of network state) notes
+one_behind reading stands network state now r rest {p} stood kind late behind_it =
+    one_of (raised_behind now r rest stood kind behind_it (λ h i.
+    let made = made_of (settled_at network state.time) state.settled.items h i in
+    subst (λ (g : Happening). is_at_source g.note.body ≡ false) made.2
+    (each_of IsLate state.settled.items made.0 late made.1)))
+
 -- ---- it may be given
 
 -- its source is worked off, so no other stands before it that is not
@@ -61,12 +116,6 @@ own_gives stands network state z others source whole old =
     subst (λ (l : List Settled). IsIn shown (map (settled_at network state.time) l)) (sym whole) (inl refl) in
     let before = old.are.worked shown there source in
     λ w of_w not_yet b. not_yet (chain w (place_of shown) old.cursor b before)
-
--- what holds of all holds of each
-pub each_of : {X : Type 0} (P : X → Type 0) (xs : List X) (x : X) → All P xs → IsIn x xs → P x
-each_of P [] x all i = absurd i
-each_of P (y ∷ ys) x all (inl same) = subst P (sym same) (all zero y (omega arith))
-each_of P (y ∷ ys) x all (inr i) = each_of P ys x (λ k d within. all (suc k) d (omega (arith, within))) i
 
 -- where the first of what is settled is of a higher rank, all is
 each_above : (network : Network) (now low : ℕ) (settled : List Settled) → InOrder (map (settled_at network now) settled)

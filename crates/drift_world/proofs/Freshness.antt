@@ -7,7 +7,9 @@ use Rattle.drift_world.proofs.Words.{Waits, [], amount, ap, arith, at_port, begi
 use Rattle.drift_world.proofs.Words.{on_wire, one, reading_of, refl, scenario, slice_get-get_or, slice_get-map, subst, sym, way_as, world_of, ℕ, ℤ}
 use Rattle.{drift_world.specs.{Beginning.{AreFresh, IsFirstState}, declared.state.State.State}, std.proofs.Common.{All, filter_map, slice_get}}
 use Rattle.{net_plan.specs.declared.event.Event.Event, run_law.specs.law.FirstLaws.IsEventInRange, std.proofs.lemmas.List.{Elements.All-nil, length-replicate}}
+use Rattle.drift_world.proofs.{AtSource.one_of, Words.Stands}
 use Rattle.std.specs.Option.{option_map}
+use Rattle.world_law.proofs.steps_lemmas.turns.Turns.{none_early, raised}
 
 none_within : (network : Network) → AreWithinHypothesis network []
 none_within network before behind e order = absurd (from before order)
@@ -55,9 +57,9 @@ module _ {C M : Type 0} (fresh : ℕ → C) (last_step : C → ℕ) (network : N
 
   module _ (after_step : C → ℕ → ℤ → C) (reading : C → ℕ → ℕ) (grain : C → ℕ) (count : C → ℕ → ℕ) (law : IsLawful fresh after_step reading grain count)
       (stands : M → Network → DeviceId → Node → Type 0) (are : AreFresh stands network machines) (range : IsInRange network) (rules : KeepsRules network) where
-    pub first_stands : StandsUnder fresh after_step reading stands network (world_of network state) [] []
-    first_stands = record {
-      is = begun reading (keeps stands) network (reading_of fresh after_step reading network []) (world_of network state)
+    stood : Stands reading (keeps stands) (scenario network (reading_of fresh after_step reading network []) []) (world_of network state) []
+    stood =
+          begun reading (keeps stands) network (reading_of fresh after_step reading network []) (world_of network state)
           (record {
             of_it = refl;
             clocks = λ device lt. (fresh (amount network.grain), ap (λ cs. slice_get cs device.0) first.clocks ∙ found_in _ _ _ lt, λ t late. refl);
@@ -89,7 +91,12 @@ module _ {C M : Type 0} (fresh : ℕ → C) (last_step : C → ℕ) (network : N
           (λ device. steady fresh after_step reading (keeps_clock_laws fresh after_step reading grain count law)
           (begins_at_zero fresh after_step reading grain count law) [] device range rules (none_within network) (λ e i. absurd i))
           (λ device. begins_at_zero fresh after_step reading grain count law (amount network.grain) [])
-          (let least = range.precision.least in omega (arith, ints, least)) range rules;
+          (let least = range.precision.least in omega (arith, ints, least)) range rules
+
+    pub first_stands : StandsUnder fresh after_step reading stands network (world_of network state) [] []
+    first_stands = record {
+      is = (one_of (raised stood (λ z i b. none_early stood first.early z i))).0;
+      one = (one_of (raised stood (λ z i b. none_early stood first.early z i))).1;
       clocks = λ device lt. ap (λ cs. slice_get cs device.0) first.clocks ∙ found_in _ _ _ lt;
       of_network = All-nil (λ (e : Event). IsOfNetwork network e.what);
       times = All-nil IsEventInRange;

@@ -1,16 +1,18 @@
 -- A record that stands at the place of its source is given before all that is settled.
-use Rattle.drift_world.{proofs.Turning.{comes_first, is_at, ranked_at}, specs.{Turns.{IsNow, MayWork, source_place}, declared.source.Source.Source}}
+use Rattle.drift_world.{proofs.{AtSource.one_of, Turning.{comes_first, is_at, ranked_at}}, specs.{Turns.{IsNow, MayWork, source_place}, declared.source.Source.Source}}
 use Rattle.drift_world.proofs.Words.{◌++◌, ◌+◌, ◌<◌, ◌^◌, ◌∙◌, ◌∷◌, ◌≡◌, ◌≤◌, AtPort, Bool, ChangesOnly, DeviceId, DueAt, Happening, IfSome, IsBefore, IsIn}
-use Rattle.drift_world.proofs.Words.{Accepted, Arrived, IsPutAt, IsSomePut, List, NoteBody, StandsAt, note_of, units_of}
+use Rattle.drift_world.proofs.Words.{Accepted, Arrived, IsPutAt, IsSomePut, List, NoteBody, StandsAt, StandsOne, note_of, units_of}
 use Rattle.drift_world.proofs.Words.{Network, NoSourceBefore, Node, None, Note, Option, Scenario, Settled, Some, Stands, Waits, []}
 use Rattle.drift_world.proofs.Words.{ap, arith, behind, chain, changed_device, departure_body, happenings, inl, inr, is_mapped, keeps, length}
 use Rattle.drift_world.proofs.Words.{numbers_of, option_map_or, own_place, place_of, rank, refl, ripe_place, settled_at, subst, suc, sym}
-use Rattle.drift_world.proofs.Words.{waiting_as, with_first, zero}
+use Rattle.drift_world.proofs.Words.{false, waiting_as, with_first, zero}
 use Rattle.drift_world.{proofs.Words.{world_of, ℕ}, specs.{Giving.IsRunningWith, Ripening.IsJudged, Stepping.StandsPast, declared.state.State.State}}
 use Rattle.std.{proofs.Common.slice_index_or, specs.Prelude.insert}
 use Rattle.world_state.specs.{Frames.{Waiting, room_of, waiter_of}, Shelves.{HasPlace, Shelved, spot_of}}
-use Rattle.world_state.specs.{Hearing.arrived, Leaving.departed, Ripening.{AreSettledSo, joined_record, ripe_record}, declared.contents.Signal.{Signal as SignalSent}}
+use Rattle.world_state.specs.{Hearing.arrived, Leaving.{departed, departure_by}, Ripening.{AreSettledSo, joined_record, ripe_record}, declared.contents.Signal.{Signal as SignalSent}}
 use Rattle.run_law.{proofs.runs.Places.before_behind, specs.declared.steps.{Arrival.Arrival, Ripe.Ripe}}
+use Rattle.run_law.specs.control.Leaving.{Departure, leaves, on_cut_way, too_old}
+use Rattle.world_law.specs.world.World.{is_at_source}
 use Rattle.run_law.specs.declared.steps.Arrival.TheVariants as arrivals
 use Rattle.run_law.specs.declared.steps.Ripe.TheVariants as ripe
 
@@ -31,7 +33,25 @@ arrived_device place (arrivals.Passes frame way) signal e = refl
 arrived_device place (arrivals.PassesAndWaits frame way point) signal e = refl
 arrived_device place other signal e = absurd (omega (arith, e))
 
+-- what becomes of it else stands where no source does
+pub arrived_late : (place : DueAt) (is : Arrival) (signal : SignalSent) → (rank (arrived place is signal).body ≡ 2 → ⊥)
+    → is_at_source (arrived place is signal).body ≡ false
+arrived_late place (arrivals.Waits frame point) signal not = absurd (not refl)
+arrived_late place (arrivals.Passes frame way) signal not = absurd (not refl)
+arrived_late place (arrivals.PassesAndWaits frame way point) signal not = absurd (not refl)
+arrived_late place other signal not = refl
+
+departure_late : (e : AtPort) (d : Departure) → (rank (departure_body e d) ≡ 8 → ⊥)
+    → is_at_source (departure_body e d) ≡ false
+departure_late e (leaves clock) not = absurd (not refl)
+departure_late e too_old not = refl
+departure_late e on_cut_way not = refl
+
 module _ (network : Network) (reading : ℕ) (cut : Bool) (e : AtPort) where
+  pub departed_late : (rank (departed network reading cut e).body ≡ 8 → ⊥)
+      → is_at_source (departed network reading cut e).body ≡ false
+  departed_late not = departure_late e (departure_by network reading cut e) not
+
   -- so does that of a frame that left
   pub departed_own : rank (departed network reading cut e).body ≡ 8
       → own_place (departed network reading cut e) ≡ 8 ∷ e.device.0 ∷ e.link.0 ∷ e.cause ∷ []
@@ -182,12 +202,12 @@ module _ {C M : Type 0} (last_step : C → ℕ) (reading : C → ℕ → ℕ) (s
       → NoSourceBefore s (happenings s.network notes) is.cursor (place_of (settled_at network mid.time one))
       → StandsAt reading (keeps stands) s (world_of network new) (notes ++ note_of notes (settled_at network mid.time one) ∷ [])
       (behind (place_of (settled_at network mid.time one))))
-      → (s : Scenario) (notes : List Note) → Stands reading (keeps stands) s (world_of network old) notes
-      → Stands reading (keeps stands) s (world_of network new) (notes ++ note ∷ [])
+      → (s : Scenario) (notes : List Note) → StandsOne reading (keeps stands) s (world_of network old) notes
+      → StandsOne reading (keeps stands) s (world_of network new) (notes ++ note ∷ [])
   stands_first new note at is_note gives s notes is =
-      let h = past_it s notes is (comes_first last_step reading stands network old source s notes may now is) in
+      let h = past_it s notes is.0 (comes_first last_step reading stands network old source s notes may now is.0) in
       let same : note ≡ note_of notes (settled_at network mid.time one) =
       is_note ∙ ap (λ (k : ℕ). let n : Note = record { number = k + 1; time = units_of mid.time; body = one.body } in n) h.0.given in
-      subst (λ (n : Note). Stands reading (keeps stands) s (world_of network new) (notes ++ n ∷ [])) (sym same)
-      (gives s notes h.0
-      (none_before_last s (happenings s.network notes) h.0.cursor (source_place old.time source) (place_of (settled_at network mid.time one)) h.1 at)).0
+      subst (λ (n : Note). StandsOne reading (keeps stands) s (world_of network new) (notes ++ n ∷ [])) (sym same)
+      (one_of (gives s notes h.0
+      (none_before_last s (happenings s.network notes) h.0.cursor (source_place old.time source) (place_of (settled_at network mid.time one)) h.1 at)))

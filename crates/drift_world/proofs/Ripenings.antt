@@ -12,6 +12,7 @@ use Rattle.{drift_world.specs.declared.state.State.State, tte_units.proofs.gener
 use Rattle.{run_law.{proofs.records.Members.from_map, specs.declared.judgement.Judgement.Judgement}, world_law.proofs.steps_lemmas.ripening.Asking.may_ask}
 use Rattle.{run_law.proofs.records.Order.all_of, std.{proofs.Common.{All, nat_eq}, specs.{List.slice_get, Option.option_and_then}}}
 use Rattle.{std.proofs.lemmas.Map.Keys.{IsDistinct-IsPermutation, IsDistinct-head, IsDistinct-tail}, world_law.specs.steps.Ripening.{HasRipened, ripe_bodies}}
+use Rattle.drift_world.{proofs.AtSource.IsLate, specs.Ripening.IsJudged}
 use Rattle.run_law.specs.declared.judgement.Judgement.TheVariants as judgements
 use Rattle.run_law.specs.declared.judgement.Why.TheVariants as whys
 use Rattle.run_law.specs.declared.note.NoteBody.TheVariants as kinds
@@ -206,3 +207,11 @@ ripened {reading} stands network state {w} new machine after {result} {settled} 
     (is_set state.machines.items w.device.0 after many) (without w state.waiting.items new t apart state.time)
     (are_put_in s network state.time hs w of (length notes + 1) result state.settled.items settled
     (subst (λ n. AreSettledSo (n + 1) w result state.settled.items settled) old.given put) (settled_in_order old))
+
+-- where a frame is not judged, its record does not stand where it was permanent
+pub dropped_late : (number : ℕ) (w : Waits) (is : Ripe) (old new : List Settled) → (IsJudged is → ⊥)
+    → AreSettledSo number w is old new → All IsLate old → All IsLate new
+dropped_late number w (ripe.Dropped reason) old new not so late =
+    subst (λ l. All IsLate l) (sym so.more)
+    (all_put IsLate (ripe_record w (ripe.Dropped reason)) old so.mid so.at so.first refl late)
+dropped_late number w other old new not so late = absurd (not tt)

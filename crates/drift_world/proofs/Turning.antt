@@ -1,16 +1,17 @@
 -- A turn of a world: what comes first, and what the steps keep.
 use Rattle.{drift_world.proofs.Fits.{sound_same, sound_timers}, world_law.proofs.{acts.NoActs.nothing_comes_before, runs.Worlds.nothing_settled_is_all}}
 use Rattle.drift_world.proofs.{Foremost.timers_later, Rising.{InOrder, settled_in_order}}
-use Rattle.drift_world.{proofs.{AtSource.{IsSourceRank, at_rank, own_gives, rank_most, ranks}, Sources.{of_world, sooner_too}}, specs.{Stepping.IsRekeyed, declared.{source.Source.Source, state.State.State}}}
+use Rattle.drift_world.{proofs.{AtSource.{IsSourceRank, at_rank, is_late, rank_most, ranks}, Sources.{of_world, sooner_too}}, specs.{Stepping.IsRekeyed, declared.{source.Source.Source, state.State.State}}}
 use Rattle.drift_world.proofs.{Timings.{passed, rekeyed, unchanged}, Words.{numbers_of, option_map_or, own_place, place_of, rank, refl, settled_at, subst, sym, true, world_of, ℕ}}
 use Rattle.drift_world.proofs.Words.{◌++◌, ◌+◌, ◌<◌, ◌^◌, ◌∙◌, ◌∷◌, ◌≡◌, ◌≤◌, AreFirsts, AreSettled, AreTimed, Bool, ChangesOnly, ComesFirst, DeviceId}
-use Rattle.drift_world.proofs.Words.{Content, Waits, at_port, on_wire, waiting_as}
+use Rattle.drift_world.proofs.Words.{Content, StandsOne, Waits, at_port, false, on_wire, waiting_as}
+use Rattle.world_law.specs.world.World.{is_at_source}
 use Rattle.{std.specs.List.filter_map, world_state.specs.declared.queue.Entry.Entry}
 use Rattle.drift_world.proofs.Words.{Due, DueAt, Err, Happening, HasItsOctets, HasNothingBefore, IsAt, IsBefore, IsIn, IsRunning, IsScenarioRun, IsSound}
 use Rattle.drift_world.proofs.Words.{IsWell, List, Network, NoSourceBefore, Node, Note, Ok, OnErr, OnOk, Option, Result, Scenario, Settled, SourceFirst}
 use Rattle.run_law.specs.records.Ranks.{key}
 use Rattle.drift_world.proofs.Words.{Stands, Turn, [], ap, append-nil, arith, cases_lt, chain, happenings, inl, inr, keeps, length, length-map, map, never_self}
-use Rattle.drift_world.specs.Turns.{HasRoom, IsAfter, IsForemost, IsKept, IsNow, IsPassed, IsStep, IsThere, MayGive, MayWork, PassSays, SettledFirst, TurnSays, given_in}
+use Rattle.drift_world.specs.Turns.{HasRoom, IsAfter, IsForemost, IsKept, IsNow, IsOpen, IsPassed, IsStep, IsThere, MayGive, MayWork, PassSays, SettledFirst, TurnSays, given_in}
 use Rattle.drift_world.specs.{Turns.{source_place, source_rank}, declared.source.Source.TheVariants.{Act, Arrival, Clock, Departure, Events, Later, Ripening}}
 use Rattle.{drift_world.specs.declared.next.Turn.TheVariants.{Ends, Gives, GoesOn}, run_law.proofs.runs.Places.{before_later, before_later_time}}
 use Rattle.std.proofs.Common.{All, slice_get}
@@ -116,7 +117,13 @@ module _ {C M : Type 0} (last_step : C → ℕ) (reading : C → ℕ → ℕ) (s
       → IsAt reading stands network state (source_place state.time source)
   is_at state source may now =
       let run = may.well.running in
-      record { s = run.s; notes = run.notes; is = run.is; first = comes_first state source run.s run.notes may now run.is }
+      record {
+        s = run.s;
+        notes = run.notes;
+        is = run.is;
+        one = may.well.one;
+        first = comes_first state source run.s run.notes may now run.is;
+      }
 
   -- nothing that is under way is before a record of a lower rank than the first source
   pub nothing_ahead : (state : State C M) (source : Source) (z : Settled) → IsForemost reading stands network state source
@@ -127,18 +134,27 @@ module _ {C M : Type 0} (last_step : C → ℕ) (reading : C → ℕ → ℕ) (s
       let before = ahead_before reading stands network state source z foremost.there ahead in
       sooner_too p foremost.nothing (λ b. never_self p (chain p w p before b))
 
-  -- where what is settled comes first, it may be given: one of the rank of the source stands where its own does
-  pub may_give_first : (state : State C M) (source : Source) → IsForemost reading stands network state source → SettledFirst state.settled.items source
+  -- where there is one frontier, nothing that is settled stands where its source does
+  not_own : (state : State C M) (source : Source) (is : SettledFirst state.settled.items source)
+      → IsWell last_step reading stands network state → source_rank source ≡ rank is.first.body → ⊥
+  not_own state source is well same =
+      let own : is_at_source is.first.body ≡ true = at_rank is.first.body (subst IsSourceRank same (ranks source)) in
+      let late = is_late reading stands network state is.first is.others is.whole well.running.is well.one in
+      let bad : false ≡ true = sym late ∙ own in cc
+
+  -- where what is settled comes first, it may be given
+  pub may_give_first : (state : State C M) (source : Source) → IsWell last_step reading stands network state
+      → IsForemost reading stands network state source → SettledFirst state.settled.items source
       → MayGive reading stands network state
-  may_give_first state source foremost is = record {
+  may_give_first state source well foremost is = record {
     first = is.first;
     others = is.others;
     whole = is.whole;
     before = elim (cases_lt (rank is.first.body) (source_rank source)) [
-      | inl lt ↦ inl (nothing_ahead state source is.first foremost lt)
+      | inl lt ↦ nothing_ahead state source is.first foremost lt
       | inr le ↦
           let least = is.ahead in
-          inr (at_rank is.first.body (subst IsSourceRank (let e : source_rank source ≡ rank is.first.body = omega (arith, le, least) in e) (ranks source)))
+          absurd (not_own state source is well (omega (arith, le, least)))
     ];
   }
 
@@ -157,14 +173,10 @@ module _ {C M : Type 0} (last_step : C → ℕ) (reading : C → ℕ → ℕ) (s
       first_is : (x : Settled) (rest : List Settled) → state.settled.items ≡ x ∷ rest → x ≡ z
       first_is x rest is = let e : x ∷ rest ≡ z ∷ others = sym is ∙ whole in cc
 
-  -- nor where it stands where its source does
   pub gives_first : (state : State C M) (may : MayGive reading stands network state) (s : Scenario) (notes : List Note) → IsSound last_step network state
       → (old : Stands reading (keeps stands) s (world_of network state) notes)
       → NoSourceBefore s (happenings s.network notes) old.cursor (place_of (settled_at network state.time may.first))
-  gives_first state may s notes sound old = elim may.before [
-    | inl nothing ↦ first_gives state may.first may.others s notes sound nothing may.whole old
-    | inr source ↦ own_gives stands network state may.first may.others source may.whole old
-  ]
+  gives_first state may s notes sound old = first_gives state may.first may.others s notes sound may.before may.whole old
 
   -- where nothing is settled, and nothing under way before a later time, the records are the run up to it
   pub whole_run : (state : State C M) (s : Scenario) (notes : List Note) (until : ℕ) → IsSound last_step network state
@@ -181,18 +193,25 @@ module _ {C M : Type 0} (last_step : C → ℕ) (reading : C → ℕ → ℕ) (s
 
   -- ---- what steps keep
 
-  pub runs_on : (old new : State C M) → IsRunning reading stands network old
-      → ((s : Scenario) (notes : List Note) → Stands reading (keeps stands) s (world_of network old) notes
-      → Stands reading (keeps stands) s (world_of network new) notes) → IsRunning reading stands network new
-  runs_on old new is still = record { s = is.s; notes = is.notes; is = still is.s is.notes is.is }
+  on_then : (old new : State C M) (well : IsWell last_step reading stands network old) → ((s : Scenario) (notes : List Note)
+      → StandsOne reading (keeps stands) s (world_of network old) notes
+      → StandsOne reading (keeps stands) s (world_of network new) notes)
+      → StandsOne reading (keeps stands) well.running.s (world_of network new) well.running.notes
+  on_then old new well still = still well.running.s well.running.notes (well.running.is, well.one)
+
+  pub runs_on : (old new : State C M) → IsWell last_step reading stands network old
+      → ((s : Scenario) (notes : List Note) → StandsOne reading (keeps stands) s (world_of network old) notes
+      → StandsOne reading (keeps stands) s (world_of network new) notes) → IsRunning reading stands network new
+  runs_on old new well still =
+      record { s = well.running.s; notes = well.running.notes; is = (on_then old new well still).0 }
 
   -- a step that changes no device
   pub plain_step : (old new : State C M) → IsWell last_step reading stands network old → IsSound last_step network new
       → ((n : ℕ) → ChangesOnly n old new) → new.timers ≡ old.timers → new.given ≡ old.given
-      → ((s : Scenario) (notes : List Note) → Stands reading (keeps stands) s (world_of network old) notes
-      → Stands reading (keeps stands) s (world_of network new) notes) → IsStep last_step reading stands network old new
+      → ((s : Scenario) (notes : List Note) → StandsOne reading (keeps stands) s (world_of network old) notes
+      → StandsOne reading (keeps stands) s (world_of network new) notes) → IsStep last_step reading stands network old new
   plain_step old new well sound changes timers given still = record {
-    well = record { sound = sound; running = runs_on old new well.running still; timed = unchanged reading stands network old new well.timed changes timers };
+    well = record { sound = sound; running = runs_on old new well still; one = (on_then old new well still).1; timed = unchanged reading stands network old new well.timed changes timers };
     after = record { clocks = (changes 0).clocks; ended = (changes 0).ended; later = let same = (changes 0).time in omega (arith, same) };
     still = still;
     time = (changes 0).time;
@@ -202,20 +221,49 @@ module _ {C M : Type 0} (last_step : C → ℕ) (reading : C → ℕ → ℕ) (s
   -- a step that changes one device, whose timers are set anew
   pub rekeyed_step : (device : DeviceId) (old mid new : State C M) → IsWell last_step reading stands network old → IsSound last_step network mid
       → device.0 < length network.device → ChangesOnly device.0 old mid → mid.timers ≡ old.timers → mid.given ≡ old.given
-      → ((s : Scenario) (notes : List Note) → Stands reading (keeps stands) s (world_of network old) notes
-      → Stands reading (keeps stands) s (world_of network mid) notes)
+      → ((s : Scenario) (notes : List Note) → StandsOne reading (keeps stands) s (world_of network old) notes
+      → StandsOne reading (keeps stands) s (world_of network mid) notes)
       → IsRekeyed reading stands network device mid new → IsStep last_step reading stands network old new
   rekeyed_step device old mid new well sound there changes timers given still keyed =
       let same = keyed.sets.same in
-      let on = λ (s : Scenario) (notes : List Note) (is : Stands reading (keeps stands) s (world_of network old) notes).
-      subst (λ t. Stands reading (keeps stands) s (world_of network t) notes) (sym same) (still s notes is) in
+      let on : (s : Scenario) (notes : List Note) → StandsOne reading (keeps stands) s (world_of network old) notes
+      → StandsOne reading (keeps stands) s (world_of network new) notes = λ s notes is.
+      subst (λ t. StandsOne reading (keeps stands) s (world_of network t) notes) (sym same) (still s notes is) in
       let at : new.time ≡ old.time = ap (λ (t : State C M). t.time) same ∙ changes.time in
       record {
         well = record {
           sound = sound_timers last_step network mid new same sound;
-          running = runs_on old new well.running on;
+          running = runs_on old new well on;
+          one = (on_then old new well on).1;
           timed = rekeyed reading stands network device old mid new well.timed there changes timers keyed;
         };
+        after = record {
+          clocks = ap (λ (t : State C M). t.clocks) same ∙ changes.clocks;
+          ended = ap (λ (t : State C M). t.ended) same ∙ changes.ended;
+          later = omega (arith, at);
+        };
+        still = on;
+        time = at;
+        given = ap (λ (t : State C M). t.given) same ∙ given;
+      }
+
+  -- one that leaves a record put in where it was done
+  pub rekeyed_open : (device : DeviceId) (old mid new : State C M) → IsWell last_step reading stands network old → IsSound last_step network mid
+      → device.0 < length network.device → ChangesOnly device.0 old mid → mid.timers ≡ old.timers → mid.given ≡ old.given
+      → ((s : Scenario) (notes : List Note) → StandsOne reading (keeps stands) s (world_of network old) notes
+      → Stands reading (keeps stands) s (world_of network mid) notes)
+      → IsRekeyed reading stands network device mid new → IsOpen last_step reading stands network old new
+  rekeyed_open device old mid new well sound there changes timers given still keyed =
+      let same = keyed.sets.same in
+      let run = well.running in
+      let on : (s : Scenario) (notes : List Note) → StandsOne reading (keeps stands) s (world_of network old) notes
+      → Stands reading (keeps stands) s (world_of network new) notes = λ s notes is.
+      subst (λ t. Stands reading (keeps stands) s (world_of network t) notes) (sym same) (still s notes is) in
+      let at : new.time ≡ old.time = ap (λ (t : State C M). t.time) same ∙ changes.time in
+      record {
+        sound = sound_timers last_step network mid new same sound;
+        running = record { s = run.s; notes = run.notes; is = on run.s run.notes (run.is, well.one) };
+        timed = rekeyed reading stands network device old mid new well.timed there changes timers keyed;
         after = record {
           clocks = ap (λ (t : State C M). t.clocks) same ∙ changes.clocks;
           ended = ap (λ (t : State C M). t.ended) same ∙ changes.ended;
@@ -234,13 +282,13 @@ module _ {C M : Type 0} (last_step : C → ℕ) (reading : C → ℕ → ℕ) (s
     well = step.well;
     after = step.after;
     stands_then = λ s notes is.
-        subst (λ l. Stands reading (keeps stands) s (world_of network new) l) (sym (append-nil notes)) (step.still s notes is);
+        subst (λ l. StandsOne reading (keeps stands) s (world_of network new) l) (sym (append-nil notes)) (step.still s notes is);
   }
 
   -- a turn behind a step
   pub kept_then : (old mid new : State C M) (more : List Note) → IsAfter old mid
-      → ((s : Scenario) (notes : List Note) → Stands reading (keeps stands) s (world_of network old) notes
-      → Stands reading (keeps stands) s (world_of network mid) notes)
+      → ((s : Scenario) (notes : List Note) → StandsOne reading (keeps stands) s (world_of network old) notes
+      → StandsOne reading (keeps stands) s (world_of network mid) notes)
       → IsKept last_step reading stands network mid new more → IsKept last_step reading stands network old new more
   kept_then old mid new more after still kept = record {
     well = kept.well;
@@ -249,17 +297,21 @@ module _ {C M : Type 0} (last_step : C → ℕ) (reading : C → ℕ → ℕ) (s
   }
 
   -- records are given, and timers are set then
-  pub kept_timers : (old mid new : State C M) (more : List Note) → IsRunning reading stands network old → IsSound last_step network mid → IsAfter old mid
-      → ((s : Scenario) (notes : List Note) → Stands reading (keeps stands) s (world_of network old) notes
-      → Stands reading (keeps stands) s (world_of network mid) (notes ++ more))
+  pub kept_timers : (old mid new : State C M) (more : List Note) → IsWell last_step reading stands network old → IsSound last_step network mid → IsAfter old mid
+      → ((s : Scenario) (notes : List Note) → StandsOne reading (keeps stands) s (world_of network old) notes
+      → StandsOne reading (keeps stands) s (world_of network mid) (notes ++ more))
       → new ≡ record mid { timers = new.timers } → AreTimed reading stands network new → IsKept last_step reading stands network old new more
-  kept_timers old mid new more run sound after stands_more same timed =
-      let on = λ (s : Scenario) (notes : List Note) (is : Stands reading (keeps stands) s (world_of network old) notes).
-      subst (λ t. Stands reading (keeps stands) s (world_of network t) (notes ++ more)) (sym same) (stands_more s notes is) in
+  kept_timers old mid new more well sound after stands_more same timed =
+      let run = well.running in
+      let on : (s : Scenario) (notes : List Note) → StandsOne reading (keeps stands) s (world_of network old) notes
+      → StandsOne reading (keeps stands) s (world_of network new) (notes ++ more) = λ s notes is.
+      subst (λ t. StandsOne reading (keeps stands) s (world_of network t) (notes ++ more)) (sym same) (stands_more s notes is) in
+      let then_ = on run.s run.notes (run.is, well.one) in
       record {
         well = record {
           sound = sound_timers last_step network mid new same sound;
-          running = record { s = run.s; notes = run.notes ++ more; is = on run.s run.notes run.is };
+          running = record { s = run.s; notes = run.notes ++ more; is = then_.0 };
+          one = then_.1;
           timed = timed;
         };
         after = subst (λ t. IsAfter old t) (sym same) (record { clocks = after.clocks; ended = after.ended; later = after.later });
@@ -273,8 +325,8 @@ module _ {C M : Type 0} (last_step : C → ℕ) (reading : C → ℕ → ℕ) (s
     well = passed.well;
     after = passed_after old new until turn passed;
     stands_then = λ s notes is.
-        subst (λ (l : List Note). Stands reading (keeps stands) s (world_of network new) (notes ++ l)) (sym (none_given turn passed.says))
-        (subst (Stands reading (keeps stands) s (world_of network new)) (sym (append-nil notes)) (passed.still s notes is));
+        subst (λ (l : List Note). StandsOne reading (keeps stands) s (world_of network new) (notes ++ l)) (sym (none_given turn passed.says))
+        (subst (λ (l : List Note). StandsOne reading (keeps stands) s (world_of network new) l) (sym (append-nil notes)) (passed.still s notes is));
   }
     where
       none_given : (turn : Turn) → PassSays old new until turn → given_in {E = E} (Ok turn) note ≡ []
@@ -305,20 +357,20 @@ module _ {C M : Type 0} (last_step : C → ℕ) (reading : C → ℕ → ℕ) (s
       })
       (ap (λ (t : State C M). t.timers) same) (ap (λ (t : State C M). t.given) same)
       (λ s notes is.
-      subst (λ (t : State C M). Stands reading (keeps stands) s (world_of network t) notes) (sym same)
+      subst (λ (t : State C M). StandsOne reading (keeps stands) s (world_of network t) notes) (sym same)
       (subst
-      (λ (l : List (Entry Content)). Stands reading (keeps stands) s
+      (λ (l : List (Entry Content)). StandsOne reading (keeps stands) s
       (record (world_of network mid) { wires = filter_map (on_wire network) l; ports = filter_map at_port l }) notes)
       (sym entries)
       (subst
-      (λ (l : List Waits). Stands reading (keeps stands) s
+      (λ (l : List Waits). StandsOne reading (keeps stands) s
       (record (world_of network old) {
         waiting = map waiting_as l;
         settled = map (settled_at network old.time) new.settled.items;
       }) notes)
       (sym waiting)
       (subst
-      (λ (l : List Settled). Stands reading (keeps stands) s
+      (λ (l : List Settled). StandsOne reading (keeps stands) s
       (record (world_of network old) { settled = map (settled_at network old.time) l }) notes)
       (sym items) is))))
 
@@ -359,11 +411,12 @@ module _ {C M : Type 0} (last_step : C → ℕ) (reading : C → ℕ → ℕ) (s
   pub passes : (old new : State C M) (time : ℕ) → IsWell last_step reading stands network old
       → HasNothingBefore reading stands network old (time ∷ []) → old.time < time → time ≤ 2 ^ 60
       → new ≡ record old { time = time; early = true } → IsSound last_step network new
-      → ((s : Scenario) (notes : List Note) → Stands reading (keeps stands) s (world_of network old) notes
-      → Stands reading (keeps stands) s (world_of network new) notes) → IsWell last_step reading stands network new
+      → ((s : Scenario) (notes : List Note) → StandsOne reading (keeps stands) s (world_of network old) notes
+      → StandsOne reading (keeps stands) s (world_of network new) notes) → IsWell last_step reading stands network new
   passes old new time well none later limit same sound still = record {
     sound = sound;
-    running = runs_on old new well.running still;
+    running = runs_on old new well still;
+    one = (on_then old new well still).1;
     timed = subst (AreTimed reading stands network) (sym same)
         (passed reading stands network old time true well.timed (omega (arith, later))
         (timers_later reading stands network old well.running time (omega (arith, limit)) well.timed none));
@@ -424,7 +477,7 @@ pub record IsOnward {C M : Type 0} (last_step : C → ℕ) (reading : C → ℕ 
     (old new : State C M) (until : ℕ) : Type 0 where
   pub well : IsWell last_step reading stands network new
   pub after : IsAfter old new
-  pub still : (s : Scenario) (notes : List Note) → Stands reading (keeps stands) s (world_of network old) notes
-      → Stands reading (keeps stands) s (world_of network new) notes
+  pub still : (s : Scenario) (notes : List Note) → StandsOne reading (keeps stands) s (world_of network old) notes
+      → StandsOne reading (keeps stands) s (world_of network new) notes
   pub early : new.time < until
   pub given : new.given ≡ old.given

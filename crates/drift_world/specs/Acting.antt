@@ -3,7 +3,8 @@ use Rattle.std.specs.Prelude.{◌<ℤ◌, ◌<◌, ◌∷◌, ◌≡◌, ◌≤�
 use Rattle.drift_world.specs.{Parts.{IsFirstPart, IsNoSooner}, Showing.IsOf}
 use Rattle.drift_world.specs.declared.{part.{Part.Part, ToDo.{ToDo, TheVariants.{Give, Next, Now}}}, state.State.State}
 use Rattle.{run_law.specs.machines.Nodes.Node, world_state.specs.Keeping.keeps}
-use Rattle.{net_plan.specs.declared.ids.DeviceId.DeviceId, world_law.specs.world.World.{Stands, World}}
+use Rattle.{drift_world.specs.Views.world_of, net_plan.specs.declared.ids.DeviceId.DeviceId}
+use Rattle.world_law.specs.world.{Moves.{ComesFirst, StandsOne}, World.{Stands, World}}
 use Rattle.{net_plan.specs.declared.network.Network.Network, run_law.specs.records.Order.IsBefore}
 use Rattle.{run_law.specs.{declared.note.Note.Note, records.Ranks.rank}, world_state.specs.declared.kept.Kept.Kept}
 use Rattle.{run_law.specs.machines.Tasks.{IsDueReading, IsPending, Task, reading_for}, world_state.specs.declared.contents.Settled.Settled}
@@ -76,8 +77,16 @@ IsLeft reading stands network state device (Now part) = IsDueAt reading stands n
 IsLeft reading stands network state device (Next due) =
     IsNextDue stands state device due × IsIdleAt reading stands network state device
 
--- the world stands, and the cursor is not before the place
+-- the world stands with one frontier, which is not before the place
 abbrev pub StandsFrom : {C M : Type 0} → (C → ℕ → ℕ) → (M → Network → DeviceId → Node → Type 0) → Scenario
     → World C (Kept M) → List Note → List ℕ → Type 0
 StandsFrom reading stands s world notes p =
-    (new : Stands reading (keeps stands) s world notes) × (IsBefore new.cursor p → ⊥)
+    (new : Stands reading (keeps stands) s world notes) × (new.mark ≡ new.cursor) × (IsBefore new.cursor p → ⊥)
+
+-- where the source at the place comes first, and there is one frontier, there is one then
+abbrev pub GoesOnFrom : {C M : Type 0} → (C → ℕ → ℕ) → (M → Network → DeviceId → Node → Type 0) → Network → State C M
+    → State C M → List ℕ → Type 0
+GoesOnFrom reading stands network old new place =
+    (s : Scenario) (notes : List Note) (is : Stands reading (keeps stands) s (world_of network old) notes)
+    → is.mark ≡ is.cursor → ComesFirst reading (keeps stands) s (world_of network old) notes is place
+    → StandsOne reading (keeps stands) s (world_of network new) notes

@@ -12,13 +12,15 @@ use Rattle.{world_law.specs.world.World.{Stands, World}, world_state.specs.{Keep
 pub use Rattle.precision_law.specs.traffic.safety.Under.{clock_of, last_time, reading_of}
 
 -- the events are the network's, their times are none below 0, and each is within the fault hypothesis; the records
--- given are those of the run under them, and each part of the world is as these events and records leave it
+-- given are those of the run under them up to the frontier, and each part of the world is as these events and records
+-- leave it
 pub record StandsUnder {C M : Type 0} (fresh : ℕ → C) (after_step : C → ℕ → ℤ → C) (reading : C → ℕ → ℕ)
     (stands : M → Network → DeviceId → Node
     → Type 0) (network : Network) (world : World C (Kept M)) (events : List Event)
     (notes : List Note) : Type 0 where
   pub is : Stands reading (keeps stands) (scenario network (reading_of fresh after_step reading network events) events)
       world notes
+  pub one : is.mark ≡ is.cursor
   pub clocks : (device : DeviceId) → device.0 < length network.device
       → slice_get world.clocks device.0 ≡ Some (clock_of fresh after_step network events device)
   pub of_network : All (λ e. IsOfNetwork network e.what) events

@@ -21,13 +21,14 @@ pub record IsRunning {C M : Type 0} (reading : C → ℕ → ℕ) (stands : M �
   pub notes : List Note
   pub is : Stands reading (keeps stands) s (world_of network state) notes
 
--- and the source at this place comes first
+-- there is one frontier, and the source at this place comes first
 pub record IsAt {C M : Type 0} (reading : C → ℕ → ℕ) (stands : M → Network → DeviceId → Node
     → Type 0) (network : Network) (state : State C M)
     (place : List ℕ) : Type 0 where
   pub s : Scenario
   pub notes : List Note
   pub is : Stands reading (keeps stands) s (world_of network state) notes
+  pub one : is.mark ≡ is.cursor
   pub first : ComesFirst reading (keeps stands) s (world_of network state) notes is place
 
 -- where the source at the place comes first, and these records are settled, the state stands behind it

@@ -2,7 +2,8 @@
 use Rattle.std.specs.Prelude.{◌++◌, ◌+◌, ◌-◌, ◌<◌, ◌^◌, ◌∷◌, ◌≡◌, ◌≤ℤ◌, ◌≤◌, ◌⊎◌, Bool, Err, List, Ok, Result}
 use Rattle.std.specs.{Prelude.{Some, [], false, length, pos, slice_get, true, ℕ}, VecDeque.{deque_capacity, deque_len}}
 use Rattle.{drift_world.specs.{Nearing.{IsLess, Nears}, Views.world_of}, tte_units.specs.Amount.units_of}
-use Rattle.drift_world.specs.{Sourcing.{HasNothingBefore, IsRipePlace, due_place}, declared.source.Source.Source}
+use Rattle.drift_world.specs.{Sound.IsSound, Sourcing.{AreTimed, HasNothingBefore, IsRipePlace, due_place}}
+use Rattle.drift_world.specs.{Stepping.IsRunning, declared.source.Source.Source}
 use Rattle.{drift_world.specs.{Wells.IsWell, declared.state.State.State}, world_state.specs.declared.queue.DueAt.DueAt}
 use Rattle.drift_world.specs.declared.{next.Turn.TheVariants.{Ends, Gives, GoesOn}, source.Source.TheVariants.Ripening}
 use Rattle.{drift_world.specs.declared.next.Turn.Turn, world_state.specs.declared.timers.Due.Due}
@@ -12,7 +13,7 @@ use Rattle.{drift_world.specs.Acting.IsFrom, run_law.specs.{declared.note.Note.N
 use Rattle.drift_world.specs.{Parts.{part_place, part_rank}, declared.part.Part.Part}
 use Rattle.{run_law.specs.machines.Nodes.Node, world_state.specs.{Frames.first_of, Keeping.keeps, Views.{settled_at, waiting_as}}}
 use Rattle.run_law.specs.{records.Order.IsIn, runs.DueRecords.IsScenarioRun, scenario.Scenarios.Scenario}
-use Rattle.world_law.specs.world.World.{Stands, clock_place, is_at_source, ripe_place}
+use Rattle.world_law.specs.world.{Moves.StandsOne, World.{Stands, clock_place, ripe_place}}
 use Rattle.world_state.specs.{declared.contents.{Settled.Settled, Waits.Waits}, queue.Places.{IsFirst, numbers_of}}
 
 -- the place of a source, at the present time
@@ -107,15 +108,13 @@ abbrev pub SourceFirst : List Settled → Source → Type 0
 SourceFirst settled source = (first : Settled) (others : List Settled) → settled ≡ first ∷ others
     → source_rank source < rank first.body
 
--- something is settled: the first of it is before all that is to come, or stands where its source does, which is worked
--- off
+-- something is settled: the first of it is before all that is to come
 pub record MayGive {C M : Type 0} (reading : C → ℕ → ℕ) (stands : M → Network → DeviceId → Node
     → Type 0) (network : Network) (state : State C M) : Type 0 where
   pub first : Settled
   pub others : List Settled
   pub whole : state.settled.items ≡ first ∷ others
   pub before : HasNothingBefore reading stands network state (place_of (settled_at network state.time first))
-      ⊎ (is_at_source first.body ≡ true)
 
 -- there is room for two more records that are settled, there are numbers for them, and there is room for what a record
 -- launches
@@ -179,8 +178,8 @@ pub record IsKept {C M : Type 0} (last_step : C → ℕ) (reading : C → ℕ �
     → Type 0) (network : Network) (old new : State C M) (more : List Note) : Type 0 where
   pub well : IsWell last_step reading stands network new
   pub after : IsAfter old new
-  pub stands_then : (s : Scenario) (notes : List Note) → Stands reading (keeps stands) s (world_of network old) notes
-      → Stands reading (keeps stands) s (world_of network new) (notes ++ more)
+  pub stands_then : (s : Scenario) (notes : List Note) → StandsOne reading (keeps stands) s (world_of network old) notes
+      → StandsOne reading (keeps stands) s (world_of network new) (notes ++ more)
 
 -- the state has come to the time, and nothing of it but events is worked off
 pub record HasCome {C M : Type 0} (new : State C M) (until : ℕ) : Type 0 where
@@ -209,7 +208,7 @@ IsWhole s notes until other = Unit {0}
 -- what it says of records, and how far it goes
 pub record TurnsTo {C M : Type 0} (reading : C → ℕ → ℕ) (stands : M → Network → DeviceId → Node → Type 0)
     (network : Network) (until : ℕ) (old new : State C M) (note : Note) (turn : Turn) : Type 0 where
-  pub whole : (s : Scenario) (notes : List Note) → Stands reading (keeps stands) s (world_of network old) notes
+  pub whole : (s : Scenario) (notes : List Note) → StandsOne reading (keeps stands) s (world_of network old) notes
       → IsWhole s notes until turn
   pub says : TurnSays old new until note turn
   pub nears : Nears network until old new turn
@@ -226,7 +225,19 @@ pub record IsStep {C M : Type 0} (last_step : C → ℕ) (reading : C → ℕ �
     (old new : State C M) : Type 0 where
   pub well : IsWell last_step reading stands network new
   pub after : IsAfter old new
-  pub still : (s : Scenario) (notes : List Note) → Stands reading (keeps stands) s (world_of network old) notes
+  pub still : (s : Scenario) (notes : List Note) → StandsOne reading (keeps stands) s (world_of network old) notes
+      → StandsOne reading (keeps stands) s (world_of network new) notes
+  pub time : new.time ≡ old.time
+  pub given : new.given ≡ old.given
+
+-- a device has acted, and the record that stands where it was done is put in, and not given yet
+pub record IsOpen {C M : Type 0} (last_step : C → ℕ) (reading : C → ℕ → ℕ) (stands : M → Network → DeviceId → Node
+    → Type 0) (network : Network) (old new : State C M) : Type 0 where
+  pub sound : IsSound last_step network new
+  pub running : IsRunning reading stands network new
+  pub timed : AreTimed reading stands network new
+  pub after : IsAfter old new
+  pub still : (s : Scenario) (notes : List Note) → StandsOne reading (keeps stands) s (world_of network old) notes
       → Stands reading (keeps stands) s (world_of network new) notes
   pub time : new.time ≡ old.time
   pub given : new.given ≡ old.given
@@ -235,9 +246,9 @@ pub record IsStep {C M : Type 0} (last_step : C → ℕ) (reading : C → ℕ �
 pub record IsPassed {C M : Type 0} (last_step : C → ℕ) (reading : C → ℕ → ℕ) (stands : M → Network → DeviceId → Node
     → Type 0) (network : Network) (until : ℕ) (old new : State C M) (turn : Turn) : Type 0 where
   pub well : IsWell last_step reading stands network new
-  pub still : (s : Scenario) (notes : List Note) → Stands reading (keeps stands) s (world_of network old) notes
-      → Stands reading (keeps stands) s (world_of network new) notes
-  pub whole : (s : Scenario) (notes : List Note) → Stands reading (keeps stands) s (world_of network old) notes
+  pub still : (s : Scenario) (notes : List Note) → StandsOne reading (keeps stands) s (world_of network old) notes
+      → StandsOne reading (keeps stands) s (world_of network new) notes
+  pub whole : (s : Scenario) (notes : List Note) → StandsOne reading (keeps stands) s (world_of network old) notes
       → IsWhole s notes until turn
   pub says : PassSays old new until turn
   pub same : new ≡ record old { time = new.time; early = new.early }

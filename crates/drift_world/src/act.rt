@@ -1,11 +1,11 @@
 ghost use Rattle.std.specs.Prelude.{◌+◌, ◌-◌, ◌<ℤ◌, ◌<◌, ◌^◌, ◌≡◌, ◌≤ℤ◌, ◌≤◌, IfOk, IfSome, IsFalse, IsSomeAnd, IsTrue};
-ghost use Rattle.std.specs.Prelude.{List, OnOk, Some, false, length, slice_get, true, vec_capacity, ℕ};
+ghost use Rattle.std.specs.Prelude.{List, OnErr, OnOk, Some, false, length, slice_get, true, vec_capacity, ℕ};
 ghost use Rattle.std.specs.VecDeque.{deque_capacity, deque_len};
-ghost use Rattle.drift_world.specs.Acting.{AreAbove, HasOwn, IsDueAt, IsFrom, IsLeft, StandsFrom};
-ghost use Rattle.drift_world.specs.{Nearing.IsLess, Turns.{IsStep, MayWork}, declared.source.Source.Source};
+ghost use Rattle.drift_world.specs.Acting.{AreAbove, GoesOnFrom, HasOwn, IsDueAt, IsFrom, IsLeft, StandsFrom};
+ghost use Rattle.drift_world.specs.{Nearing.IsLess, Turns.{IsOpen, IsStep, MayWork}, declared.source.Source.Source};
 ghost use Rattle.drift_world.specs.Parts.{IsLaterThan, IsNoSoonerLeft, part_place, part_rank};
 ghost use Rattle.drift_world.specs.{Sound.{IsSized, IsSound}, Stepping.{ChangesOnly, IsAt}, Views.world_of};
-ghost use Rattle.drift_world.specs.declared.part.ToDo.{ToDo as ToDoOf};
+ghost use Rattle.drift_world.specs.declared.part.ToDo.{ToDo as ToDoOf, TheVariants.Give};
 ghost use Rattle.{drift_world.specs.Showing.IsOf, run_law.specs.records.Ranks.rank, world_state.specs.Keeping.keeps};
 ghost use Rattle.{net_plan.specs.Ranges.IsInRange, world_state.specs.declared.kept.Kept.{Kept as KeptValue}};
 ghost use Rattle.{net_plan.specs.declared.network.Network.Network, world_law.specs.world.World.Stands};
@@ -176,8 +176,13 @@ impl<C: Clock, M: TellsKind + Drop> State<C, M> {
             → slice_get self.new.machines.items i ≡ slice_get self.old.machines.items i }
         ensures own { result ≡ true → HasOwn self.new }
         ensures above { result ≡ false → AreAbove (part_rank part) self.new }
-        ensures stands { (s : Scenario) (notes : List Note)
+        ensures gives { (s : Scenario) (notes : List Note)
             → (old : Stands C.reading (keeps M.stands) s (world_of network.now self.old) notes)
+            → ComesFirst C.reading (keeps M.stands) s (world_of network.now self.old) notes old
+            (part_place part self.old.time device)
+            → Stands C.reading (keeps M.stands) s (world_of network.now self.new) notes }
+        ensures stands { result ≡ false → (s : Scenario) (notes : List Note)
+            → (old : Stands C.reading (keeps M.stands) s (world_of network.now self.old) notes) → old.mark ≡ old.cursor
             → ComesFirst C.reading (keeps M.stands) s (world_of network.now self.old) notes old
             (part_place part self.old.time device)
             → StandsFrom C.reading M.stands s (world_of network.now self.new) notes
@@ -256,10 +261,14 @@ impl<C: Clock, M: TellsKind + Drop> State<C, M> {
         } }
         ensures others { ChangesOnly device.0 self.old self.new }
         ensures stands { (s : Scenario) (notes : List Note)
-            → (old : Stands C.reading (keeps M.stands) s (world_of network.now self.old) notes)
+            → (old : Stands C.reading (keeps M.stands) s (world_of network.now self.old) notes) → old.mark ≡ old.cursor
             → ComesFirst C.reading (keeps M.stands) s (world_of network.now self.old) notes old
             (part_place part self.old.time device)
             → Stands C.reading (keeps M.stands) s (world_of network.now self.new) notes }
+        ensures one { IfOk result (λ left. (left ≡ Give → ⊥)
+            → GoesOnFrom C.reading M.stands network.now self.old self.new (part_place part self.old.time device)) }
+        ensures err { OnErr result
+            (GoesOnFrom C.reading M.stands network.now self.old self.new (part_place part self.old.time device)) }
         ensures left { IfOk result (λ left. IsLaterThan part left
             × IsLeft C.reading M.stands network.now self.new device left) }
     {
@@ -292,8 +301,11 @@ impl<C: Clock, M: TellsKind + Drop> State<C, M> {
         device: DeviceId,
     ) -> Result<bool, OutOfMemory>
         requires may { MayWork C.last_step C.reading M.stands network.now self.old (Source.Act part device) }
-        ensures step { IsStep C.last_step C.reading M.stands network.now self.old self.new }
-        ensures own { IfOk result (λ gives. gives ≡ true → HasOwn self.new) }
+        ensures step { IfOk result (λ gives. gives ≡ false
+            → IsStep C.last_step C.reading M.stands network.now self.old self.new) }
+        ensures own { IfOk result (λ gives. gives ≡ true
+            → IsOpen C.last_step C.reading M.stands network.now self.old self.new × HasOwn self.new) }
+        ensures err { OnErr result (IsStep C.last_step C.reading M.stands network.now self.old self.new) }
         ensures under_way { self.new.under_way ≡ self.old.under_way }
         ensures less { IfOk result (λ gives. gives ≡ false → IsLess network.now self.old self.new) }
     {

@@ -6,6 +6,7 @@ ghost use Rattle.{run_law.specs.records.Ranks.{place_of, rank}, world_state.spec
 ghost use Rattle.world_state.specs.{Frames.room_of, Giving.{HasItsOctets, changed_device}};
 ghost use Rattle.world_state.specs.queue.Places.{IsFirst, numbers_of};
 ghost use Rattle.world_state.specs.{Views.settled_at, declared.contents.Settled.{Settled as SettledValue}};
+ghost use Rattle.world_law.specs.world.World.{is_at_source};
 
 use crate::next::Turn;
 use crate::state::State;
@@ -39,6 +40,7 @@ impl<C: Clock, M: Machine + Drop> State<C, M> {
         ensures own { rank result.body ≡ 2
             → place_of (settled_at network.now self.old.time result) ≡ numbers_of place }
         ensures device { rank result.body ≡ 2 → changed_device result.body ≡ place.device }
+        ensures late { (rank result.body ≡ 2 → ⊥) → is_at_source result.body ≡ false }
         ensures stands { (settled : List SettledValue) (index : ℕ)
             → IsPutAt result self.old.settled.items settled index
             → StandsPast C.reading M.stands network.now self.old self.new (numbers_of place) settled }

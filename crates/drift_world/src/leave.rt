@@ -3,6 +3,7 @@ ghost use Rattle.{net_plan.specs.Ranges.IsInRange, run_law.specs.scenario.Scenar
 ghost use Rattle.drift_world.specs.Turns.{IsKept, MayWork, WorkSays, noted};
 ghost use Rattle.drift_world.specs.declared.source.Source.{Source as SourceOf};
 ghost use Rattle.world_state.specs.queue.Places.{IsFirst, numbers_of};
+ghost use Rattle.world_law.specs.world.World.{is_at_source};
 
 use crate::next::Turn;
 use crate::state::State;
@@ -32,6 +33,7 @@ impl<C: Clock, M: Machine + Drop> State<C, M> {
         requires device { place.device < length network.now.device }
         requires link { place.link < length network.now.link }
         ensures octets { IfSome result (λ z. HasItsOctets z.body z.octets) }
+        ensures late { IfSome result (λ z. (rank z.body ≡ 8 → ⊥) → is_at_source z.body ≡ false) }
         ensures own { IfSome result (λ z. rank z.body ≡ 8
             → own_place z ≡ 8 ∷ place.device ∷ place.link ∷ place.cause ∷ []) }
         ensures none { IfSome result (λ z. changed_device z.body ≡ 2 ^ 32) }
@@ -59,6 +61,7 @@ impl<C: Clock, M: Machine + Drop> State<C, M> {
         requires at { place.at ≡ self.old.time }
         ensures sound { IsSound C.last_step network.now self.new }
         ensures octets { IfSome result (λ z. HasItsOctets z.body z.octets) }
+        ensures late { IfSome result (λ z. (rank z.body ≡ 8 → ⊥) → is_at_source z.body ≡ false) }
         ensures own { IfSome result (λ z. rank z.body ≡ 8
             → place_of (settled_at network.now self.old.time z) ≡ numbers_of place) }
         ensures none { IfSome result (λ z. changed_device z.body ≡ 2 ^ 32) }

@@ -91,6 +91,11 @@ abbrev pub StandsAt : {C M : Type 0} → (C → ℕ → ℕ) → (M → Network 
     → List Note → List ℕ → Type 0
 StandsAt reading stands s world notes p = (st : Stands reading stands s world notes) × (st.mark ≡ p) × (st.cursor ≡ p)
 
+-- there is one, at some place
+abbrev pub StandsOne : {C M : Type 0} → (C → ℕ → ℕ) → (M → Network → DeviceId → Node → Type 0) → Scenario → World C M
+    → List Note → Type 0
+StandsOne reading stands s world notes = (st : Stands reading stands s world notes) × (st.mark ≡ st.cursor)
+
 -- ---- a record is given
 
 -- the first of what is settled is given: with the next number, and what it puts on wires, gives to ports, waits for

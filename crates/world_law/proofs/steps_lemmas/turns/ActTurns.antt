@@ -4,8 +4,8 @@ use Rattle.world_law.proofs.steps_lemmas.Words.{Ripe, Scenario, State, Units, []
 use Rattle.world_law.proofs.steps_lemmas.Words.{is_at_source, is_cut, length, place_of, rank, refl, subst, sym, time_of, true, way_from, ℕ}
 use Rattle.world_law.proofs.steps_lemmas.Words.{Compressed}
 use Rattle.world_law.specs.world.Outcomes.{judged_as}
-use Rattle.world_law.proofs.steps_lemmas.{acting.{ActedSteps.acted_step, First.{act_rest, act_stands, late_rank, low_rank}}, turns.Turns.{AreThere, one_later, one_there, turn_by, two_there}}
-use Rattle.world_law.specs.steps.{Acting.{AreActBodies, first_bodies, joining_bodies, rank_of_act}, Turns.{ActedTurn}}
+use Rattle.world_law.proofs.steps_lemmas.{acting.{ActedSteps.acted_step, First.{act_rest, act_stands, late_rank, low_rank}}, turns.Turns.{AreThere, high_starts, one_later, one_there, turn_by, two_there}}
+use Rattle.world_law.specs.steps.{Acting.{AreActBodies, first_bodies, joining_bodies, rank_of_act}, Turns.{ActedTurn, starts_there}}
 use Rattle.run_law.specs.declared.note.NoteBody.TheVariants as kinds
 use Rattle.run_law.specs.declared.steps.Act.TheVariants as acts
 use Rattle.run_law.specs.declared.steps.Ripe.TheVariants as ripe
@@ -54,6 +54,16 @@ act_there s hs now device was adjustment (acts.Correct cycle verdicts.Cleared) b
 act_there s hs now device was adjustment (acts.Dispatch row cycle) bodies are =
     subst (λ l. AreThere s.network hs now (now ∷ 6 ∷ act_rest s.network device (acts.Dispatch row cycle)) l) (sym are.4)
     (dispatch_there (is_cut s are.0.row.link (way_from s.network device are.0.row.link) now) _ _ refl refl)
+
+-- where the first of its records is of a higher rank than any act, none of them stands where it is done
+pub act_starts_late : (s : Scenario) (hs : List Happening) (now : ℕ) (device : DeviceId) (was : State)
+    (adjustment : Units) (act : Act) (bodies : List NoteBody) → AreActBodies s hs now device was adjustment act bodies
+    → ((body : NoteBody) (others : List NoteBody) → bodies ≡ body ∷ others → 6 < rank body)
+    → starts_there bodies ≡ false
+act_starts_late s hs now device was adjustment act bodies are high =
+    let low = low_rank act in
+    high_starts bodies (act_there s hs now device was adjustment act bodies are)
+    (λ body others whole. let above = high body others whole in omega (arith, low, above))
 
 -- nothing to come of a higher rank stands before it
 none_above : (now r : ℕ) (more : List ℕ) (zs : List Happening) → ((z : Happening) → IsIn z zs → time_of z ≡ now)

@@ -226,6 +226,22 @@ module _ {network : Network} {hs : List Happening} {now : ℕ} {at : List ℕ} w
       absurd (let bad : false ≡ true = sym none ∙ own in cc)
   late_of bodies none (AreThere.later all late) body i = late body i
 
+none_starts : (bodies : List NoteBody) → ((body : NoteBody) → IsIn body bodies → is_at_source body ≡ false)
+    → starts_there bodies ≡ false
+none_starts [] late = refl
+none_starts (body ∷ bodies) late = late body (inl refl)
+
+-- where the first of them is of a higher rank, none stands where the source does
+pub high_starts : {network : Network} {hs : List Happening} {now r : ℕ} {rest : List ℕ} (bodies : List NoteBody)
+    → AreThere network hs now (now ∷ r ∷ rest) bodies
+    → ((body : NoteBody) (others : List NoteBody) → bodies ≡ body ∷ others → r < rank body)
+    → starts_there bodies ≡ false
+high_starts {r} bodies (AreThere.first x more own place behind_it) high =
+    let same : rank x ≡ r = ap second place in
+    let above = high x more refl in
+    absurd (omega (arith, same, above))
+high_starts bodies (AreThere.later all late) high = none_starts all late
+
 -- where the world with the records to come stands behind the source, it stands there with those that stand at it given
 pub turn_by : {C M : Type 0} {reading : C → ℕ → ℕ} {stands : M → Network → DeviceId → Node → Type 0} {s : Scenario}
     {world : World C M} {notes : List Note} {p : List ℕ} → StandsAt reading stands s world notes p

@@ -1,9 +1,11 @@
 use Rattle.drift_world.proofs.{ActRecords.AreProper, ActSteps.{above_then, acted_once, asked_to_act, later_then, left_in, never_broken, octets_then, own_then}}
 use Rattle.drift_world.proofs.{ActSteps.{proper_at, row_within}, Rising.{InOrder, settled_in_order}}
 use Rattle.{drift_world.proofs.{Fits.sized_so, Showings.shows_of}, world_law.{proofs.giving.GivenParts.some_same, specs.world.Calls.IsStateOf}}
-use Rattle.drift_world.proofs.Words.{◌≡◌, HasActed, List, Note, Scenario, Some, Stands, arith, happenings, is_set, keeps, length, length-set}
-use Rattle.drift_world.proofs.{Words.{map, moment_of, refl, settled_at, slice_get_read, slice_set, subst, world_of}, state.State.act_once.Goals.After-outcomes_of-outcomes}
-use Rattle.std.proofs.Common.{slice_get}
+use Rattle.drift_world.proofs.Words.{◌<◌, ◌≡◌, ComesFirst, HasActed, IfSome, List, Note, Scenario, Some, Stands, arith, happenings, is_set, keeps, length, length-set}
+use Rattle.drift_world.proofs.{Words.{map, moment_of, refl, settled_at, slice_get_read, slice_set, subst, world_of}, state.State.act_once.Goals.{After-outcomes_of-outcomes, After-put_both}}
+use Rattle.drift_world.proofs.Words.{rank}
+use Rattle.std.proofs.Common.{false, slice_get}
+use Rattle.drift_world.specs.{Acting.StandsFrom, Parts.part_place}
 use Rattle.drift_world.proofs.state.State.act_once.Given as given
 use Rattle.drift_world.proofs.state.State.act_once.Goals as goal
 
@@ -140,8 +142,28 @@ returns-clause-later g c = λ left is_left.
     left_in {reading = K.reading} stands {network = network} device left is_left {s = s} after
     (record { same = of.same; clocks = of.clocks; broken = of.broken; ways = of.ways }) set.there)
 
-pub returns-clause-stands : goal.returns-clause-stands
-returns-clause-stands g c = λ s notes old first.
+-- the world stands again, and where none of its records stands where it is done, there is one frontier
+stood : (g : given.Over) (c : After-put_both g) (s : Scenario) (notes : List Note)
+    → (old : Stands g.C.Clock.reading (keeps g.M.Machine.stands) s (world_of c.args.network.now c.args.self.now) notes)
+    → ComesFirst g.C.Clock.reading (keeps g.M.Machine.stands) s (world_of c.args.network.now c.args.self.now) notes old
+    (part_place c.args.part c.args.self.now.time c.args.device)
+    → slice_get c.args.self.now.machines.items c.args.device.0 ≡ Some c.index_mut.result.now
+    → HasActed (keeps g.M.Machine.stands) s.network c.args.device (moment_of s c.args.device c.args.self.now.time) c.in-Some.act c.index_mut.result.now
+    c.act.new.self
+    → Stands g.C.Clock.reading (keeps g.M.Machine.stands) s
+    (record (world_of c.args.network.now c.args.self.now) {
+      early = false;
+      machines = slice_set c.args.self.now.machines.items c.args.device.0 c.act.new.self;
+      settled = map (settled_at c.args.network.now c.args.self.now.time) c.put_both.new.settled.items;
+    }) notes
+    × (old.mark ≡ old.cursor → IfSome c.outcomes_of-outcomes.result.first (λ z. 6 < rank z.body)
+    → StandsFrom g.C.Clock.reading g.M.Machine.stands s
+    (record (world_of c.args.network.now c.args.self.now) {
+      early = false;
+      machines = slice_set c.args.self.now.machines.items c.args.device.0 c.act.new.self;
+      settled = map (settled_at c.args.network.now c.args.self.now.time) c.put_both.new.settled.items;
+    }) notes (part_place c.args.part c.args.self.now.time c.args.device))
+stood g c s notes old first read acted =
     let w = c.args.self.now in
     let lt = c.requires.there in
     let many = c.requires.sound.sized.machines in
@@ -151,7 +173,6 @@ returns-clause-stands g c = λ s notes old first.
     let stands = g.M.Machine.stands in
     let machine = c.index_mut.result.now in
     let after = c.act.new.self in
-    let read = held g (goal.at.returns-clause-stands g c).After-outcomes_of-outcomes in
     let was = slice_get_read w.machines.items (length w.machines.items) device.0 c.index.result.now refl (omega (arith, lt, many)) c.index.ensures in
     let set = is_set w.machines.items device.0 after (omega (arith, lt, many)) in
     let of = shows_of network w old in
@@ -164,12 +185,23 @@ returns-clause-stands g c = λ s notes old first.
     acted_once K.reading stands network w c.args.part device machine lt read c.requires.due c.requires.above after c.shown-was.result.state c.shown-is.result.state
     c.shown-was.result.adjustment c.shown-is.result.adjustment c.in-Some.act
     c.outcomes_of-outcomes.result put.0 c.put_both.new.settled.items _ set put.1 put.2 s notes old first
-    (acted_at g (goal.at.returns-clause-stands g c).After-outcomes_of-outcomes s notes old)
+    acted
     (subst (λ m. IsStateOf (keeps stands) s.network device m c.shown-was.result.state c.shown-was.result.adjustment) same
     (c.shown-was.ensures s.network device))
     (subst (λ m. IsStateOf (keeps stands) s.network device m c.shown-is.result.state c.shown-is.result.adjustment) now_is
     (c.shown-is.ensures s.network device))
     (c.outcomes_of-outcomes.ensures s (record { same = of.same; clocks = of.clocks; broken = of.broken; ways = of.ways }))
+
+pub returns-clause-gives : goal.returns-clause-gives
+returns-clause-gives g c = λ s notes old first.
+    let here = (goal.at.returns-clause-gives g c).After-outcomes_of-outcomes in
+    (stood g (goal.at.returns-clause-gives g c).After-put_both s notes old first (held g here) (acted_at g here s notes old)).0
+
+pub returns-clause-stands : goal.returns-clause-stands
+returns-clause-stands g c = λ no s notes old one first.
+    let here = (goal.at.returns-clause-stands g c).After-outcomes_of-outcomes in
+    (stood g (goal.at.returns-clause-stands g c).After-put_both s notes old first (held g here) (acted_at g here s notes old)).1 one
+    (c.is_at_source-gives.ensures.no no)
 
 pub returns-clause-acted : goal.returns-clause-acted
 returns-clause-acted g c = λ s notes machine old there.

@@ -1,5 +1,5 @@
 use Rattle.drift_world.proofs.ActTurns.{IsTurn, comes_at, comes_first, left_later, others_then, same_then, turn_begun, turn_on, turn_with}
-use Rattle.drift_world.{proofs.Words.{◌+◌, ◌<◌, ◌∙◌, ◌≡◌, IsOf, Scenario, ap, arith, length, moment_of, numbers_end, subst, sym}, specs.{Acting.{IsDueAt, IsLeft}, declared.state.State.State}}
+use Rattle.drift_world.{proofs.Words.{◌+◌, ◌<◌, ◌∙◌, ◌≡◌, IsOf, Scenario, ap, arith, length, moment_of, numbers_end, refl, subst, sym}, specs.{Acting.{IsDueAt, IsLeft}, declared.state.State.State}}
 use Rattle.drift_world.proofs.state.State.act_part.Goals.{After-reserve_two, In-Ok}
 use Rattle.drift_world.proofs.state.State.act_part.Given as given
 use Rattle.drift_world.proofs.state.State.act_part.Goals as goal
@@ -44,7 +44,11 @@ pub returns-then-not-is_due-clause-sound : goal.returns-then-not-is_due-clause-s
 returns-then-not-is_due-clause-sound g c = c.acts.invariant.sound
 
 pub returns-then-not-is_due-clause-stands : goal.returns-then-not-is_due-clause-stands
-returns-then-not-is_due-clause-stands g c = λ s notes old first. (c.acts.invariant.still s notes old first).new
+returns-then-not-is_due-clause-stands g c = λ s notes old one first. (c.acts.invariant.still s notes old one first).new
+
+pub returns-then-not-is_due-clause-one : goal.returns-then-not-is_due-clause-one
+returns-then-not-is_due-clause-one g c = λ apart s notes old one first.
+    let it = c.acts.invariant.still s notes old one first in (it.new, it.one)
 
 pub returns-then-not-is_due-clause-left : goal.returns-then-not-is_due-clause-left
 returns-then-not-is_due-clause-left g c = (
@@ -56,7 +60,13 @@ pub returns-in-Err-clause-sound : goal.returns-in-Err-clause-sound
 returns-in-Err-clause-sound g c = (turn g (goal.at.returns-in-Err-clause-sound g c).After-reserve_two).sound
 
 pub returns-in-Err-clause-stands : goal.returns-in-Err-clause-stands
-returns-in-Err-clause-stands g c = λ s notes old first. ((turn g (goal.at.returns-in-Err-clause-stands g c).After-reserve_two).still s notes old first).new
+returns-in-Err-clause-stands g c = λ s notes old one first.
+    ((turn g (goal.at.returns-in-Err-clause-stands g c).After-reserve_two).still s notes old one first).new
+
+pub returns-in-Err-clause-err : goal.returns-in-Err-clause-err
+returns-in-Err-clause-err g c = λ s notes old one first.
+    let it = (turn g (goal.at.returns-in-Err-clause-err g c).After-reserve_two).still s notes old one first in
+    (it.new, it.one)
 
 pub act_once-requires-clause-sound : goal.act_once-requires-clause-sound
 act_once-requires-clause-sound g c = (turn g (goal.at.act_once-requires-clause-sound g c).After-reserve_two).sound
@@ -99,12 +109,15 @@ returns-then-act_once-clause-others g c =
     (λ i ne. c.act_once.ensures.machines i ne ∙ turn_is.machines i ne)
 
 pub returns-then-act_once-clause-stands : goal.returns-then-act_once-clause-stands
-returns-then-act_once-clause-stands g c = λ s notes old first.
+returns-then-act_once-clause-stands g c = λ s notes old one first.
     let here = (goal.at.returns-then-act_once-clause-stands g c).After-reserve_two in
     let turn_is = turn g here in
-    (c.act_once.ensures.stands s notes (turn_is.still s notes old first).new
+    c.act_once.ensures.gives s notes (turn_is.still s notes old one first).new
     (comes_first g.C.Clock.last_step g.C.Clock.reading g.M.Machine.stands c.args.network.now c.args.part c.args.device c.args.self.now c.reserve_two.new.self
-    c.acts.left c.acts.acts turn_is (numbered g (goal.at.returns-then-act_once-clause-stands g c).In-Ok) s notes old first)).0
+    c.acts.left c.acts.acts turn_is (numbered g (goal.at.returns-then-act_once-clause-stands g c).In-Ok) s notes old one first)
+
+pub returns-then-act_once-clause-one : goal.returns-then-act_once-clause-one
+returns-then-act_once-clause-one g c = λ apart. absurd (apart refl)
 
 pub returns-then-act_once-clause-left : goal.returns-then-act_once-clause-left
 returns-then-act_once-clause-left g c = (tt, c.act_once.ensures.own c.if-act_once.true)
@@ -131,7 +144,7 @@ acts-preserved g c =
       same = once.same;
       machines = once.machines;
       above = once.above c.if-act_once.false;
-      then_stands = once.stands;
+      then_stands = once.stands c.if-act_once.false;
       later = once.later;
       acted = once.acted;
     })

@@ -6,7 +6,7 @@ pub give_next-requires-clause-first : goal.give_next-requires-clause-first
 give_next-requires-clause-first g c =
     let source = c.source_by-source in
     may_give_first g.C.Clock.last_step g.C.Clock.reading g.M.Machine.stands c.args.network.now c.args.self.now source.result
-    source.ensures.foremost (c.if-has_first.ensures.yes refl)
+    c.requires.may.well source.ensures.foremost (c.if-has_first.ensures.yes refl)
 
 pub pass_on-requires-clause-empty : goal.pass_on-requires-clause-empty
 pass_on-requires-clause-empty g c =

@@ -1,9 +1,10 @@
 use Rattle.drift_world.proofs.{Fits.{below_without, have_octets, sized_so}, state.State.hear_wire.Goals.{After-index_mut-machine, After-read}}
 use Rattle.{drift_world.proofs.Hears.{as_sent, heard_octets, heard_stands, may_come, moment_is}, tte_units.proofs.general_lemmas.Lists.{set_aside, set_same}}
-use Rattle.{drift_world.proofs.{OwnPlaces.{arrived_device, arrived_own}, Words.{subst, sym, world_of}}, world_state.proofs.UnderWays.sound_without}
+use Rattle.{drift_world.proofs.{OwnPlaces.{arrived_device, arrived_late, arrived_own}, Words.{false, subst, sym, world_of}}, world_state.proofs.UnderWays.sound_without}
 use Rattle.drift_world.proofs.Words.{◌+◌, ◌<◌, ◌≡◌, DeviceId, IsPutAt, List, Moment, Network, Note, Scenario, Settled, Some, Stands, arith, changed_device}
 use Rattle.drift_world.proofs.Words.{keeps, length, length-set, length_permutation, moment_of, numbers_of, place_of, rank, refl, settled_at, slice_get_read}
 use Rattle.{std.proofs.Common.{set, slice_get}, world_law.proofs.giving.GivenParts.some_same}
+use Rattle.world_law.specs.world.World.{is_at_source}
 use Rattle.drift_world.proofs.state.State.hear_wire.Given as given
 use Rattle.drift_world.proofs.state.State.hear_wire.Goals as goal
 
@@ -91,6 +92,11 @@ pub returns-clause-device : goal.returns-clause-device
 returns-clause-device g c = λ two.
     subst (λ (r : Settled). rank r.body ≡ 2 → changed_device r.body ≡ c.args.place.device) (sym c.arrived.ensures)
     (arrived_device c.args.place c.hear_signal-arrival.result c.take_wire-signal.result) two
+
+pub returns-clause-late : goal.returns-clause-late
+returns-clause-late g c = λ not.
+    subst (λ (r : Settled). (rank r.body ≡ 2 → ⊥) → is_at_source r.body ≡ false) (sym c.arrived.ensures)
+    (arrived_late c.args.place c.hear_signal-arrival.result c.take_wire-signal.result) not
 
 pub returns-clause-stands : goal.returns-clause-stands
 returns-clause-stands g c = λ settled index put s notes old first.

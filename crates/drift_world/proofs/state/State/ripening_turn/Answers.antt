@@ -3,9 +3,10 @@ use Rattle.drift_world.proofs.OwnPlaces.{judged_far, judged_first, judged_own, j
 use Rattle.{drift_world.{proofs.Fits.{all_put_some, have_octets, sound_same}, specs.declared.state.State.State}, world_state.specs.Ripening.{AreSettledSo, joined_record, ripe_record}}
 use Rattle.{drift_world.{proofs.Timings.rekeyed_by, specs.Stepping.StandsPast}, run_law.specs.declared.steps.Ripe.Ripe, world_law.proofs.giving.GivenParts.some_same}
 use Rattle.drift_world.{proofs.Turning.{comes_first, is_at, kept_timers, rekeyed_step, runs_on, step_kept}, specs.declared.source.Source.TheVariants.Ripening}
-use Rattle.drift_world.proofs.Words.{[], IsSomePut, Option, rank}
+use Rattle.drift_world.proofs.Words.{[], IsSomePut, Option, StandsOne, both_ways, inl, inr, rank}
+use Rattle.drift_world.proofs.{AtSource.{all_late, one_behind}, Ripenings.dropped_late, Turning.shaped}
 use Rattle.drift_world.proofs.Words.{◌++◌, ◌+◌, ◌<◌, ◌∙◌, ◌∷◌, ◌≡◌, ◌≤ℤ◌, ChangesOnly, DeviceId, IsPutAt, IsSound, List, Network, Node, Note, Scenario, Settled, Some}
-use Rattle.drift_world.proofs.Words.{Stands, Waits, ap, arith, changed_device, keeps, length, place_of, pos, refl, ripe_place, settled_at, subst, sym}
+use Rattle.drift_world.proofs.Words.{Waits, ap, arith, changed_device, keeps, length, place_of, pos, refl, ripe_place, settled_at, subst, sym}
 use Rattle.drift_world.proofs.Words.{waiting_as}
 use Rattle.{drift_world.{proofs.Words.{world_of, ℕ}, specs.Ripening.IsJudged}, std.proofs.Common.{is_some, slice_get}, world_state.specs.Frames.first_of}
 use Rattle.drift_world.{proofs.state.State.ripening_turn.Goals.{After-give_first, After-settle_ripe}, specs.Turns.{IsRipe, MayWork}}
@@ -129,8 +130,8 @@ give_first-requires-clause-running g c =
     c.ripen_waits-ripened.ensures.stands)
 
 given_so : (g : given.Over) (c : After-give_first g) (s : Scenario) (notes : List Note)
-    → Stands g.C.Clock.reading (keeps g.M.Machine.stands) s (world_of c.args.network.now c.args.self.now) notes
-    → Stands g.C.Clock.reading (keeps g.M.Machine.stands) s (world_of c.args.network.now c.give_first.new.self) (notes
+    → StandsOne g.C.Clock.reading (keeps g.M.Machine.stands) s (world_of c.args.network.now c.args.self.now) notes
+    → StandsOne g.C.Clock.reading (keeps g.M.Machine.stands) s (world_of c.args.network.now c.give_first.new.self) (notes
     ++ c.give_first.new.note ∷ [])
 given_so g c =
     let got = c.ripen_waits-ripened.result in
@@ -168,7 +169,7 @@ rekey_from-requires g c =
         there = may.foremost.there.of;
         few = may.range.few_devices;
         slots = ap length timers ∙ may.well.timed.sized;
-        running = record { s = run.s; notes = _; is = given_so g (goal.at.rekey_from-requires g c).After-give_first run.s run.notes run.is };
+        running = record { s = run.s; notes = _; is = (given_so g (goal.at.rekey_from-requires g c).After-give_first run.s run.notes (run.is, may.well.one)).0 };
       };
       before = due_stays g.C.Clock.reading g.M.Machine.stands c.args.network.now g.C.Clock.last_step c.args.self.now c.give_first.new.self
           (record { 0 = c.args.one.device.0 }) c.due_of-before.result may.well
@@ -192,7 +193,7 @@ returns-then-is_judged-clause-kept g c =
     let far = ap (λ (x : Settled). changed_device x.body) c.record_of-record.ensures ∙ judged_far got.waits got.ripe in
     let few = may.range.few_devices in
     let time = ap (λ (t : State _ _). t.time) give.same ∙ o.time in
-    kept_timers g.C.Clock.last_step g.C.Clock.reading g.M.Machine.stands c.args.network.now c.args.self.now gave c.rekey_from.new.self _ may.well.running
+    kept_timers g.C.Clock.last_step g.C.Clock.reading g.M.Machine.stands c.args.network.now c.args.self.now gave c.rekey_from.new.self _ may.well
     give.sound
     (record {
       clocks = ap (λ (t : State _ _). t.clocks) give.same ∙ o.clocks;
@@ -213,18 +214,27 @@ returns-then-is_judged-clause-kept g c =
 -- ---- its records are put in among others
 
 still : (g : given.Over) (c : After-settle_ripe g) (s : Scenario) (notes : List Note)
-    → Stands g.C.Clock.reading (keeps g.M.Machine.stands) s (world_of c.args.network.now c.args.self.now) notes
-    → Stands g.C.Clock.reading (keeps g.M.Machine.stands) s
+    → StandsOne g.C.Clock.reading (keeps g.M.Machine.stands) s (world_of c.args.network.now c.args.self.now) notes
+    → StandsOne g.C.Clock.reading (keeps g.M.Machine.stands) s
     (world_of c.args.network.now (record c.ripen_waits-ripened.new.self { settled = c.settle_ripe.new.settled })) notes
 still g c s notes old =
+    let K = g.C.Clock in
+    let S = g.M.Machine.stands in
+    let network = c.args.network.now in
+    let w = c.args.self.now in
     let got = c.ripen_waits-ripened.result in
     let rip = c.ripen_waits-ripened.ensures in
-    (rip.stands c.settle_ripe.new.settled.items
-    (subst (λ l. AreSettledSo (c.args.self.now.given + 1) got.waits got.ripe l c.settle_ripe.new.settled.items) (ap (λ (t : State _ _). t.settled.items) rip.same)
-    c.settle_ripe.ensures)
-    s notes old (comes_first g.C.Clock.last_step g.C.Clock.reading g.M.Machine.stands c.args.network.now c.args.self.now (Ripening got.waits) s notes
-    (first_ripe g.C.Clock.last_step g.C.Clock.reading g.M.Machine.stands c.args.network.now c.args.self.now c.args.one c.ripen_waits-ripened.result.waits
-    c.requires.may c.ripen_waits-ripened.ensures.is) tt old)).0
+    let new = c.settle_ripe.new.settled.items in
+    let may = first_ripe K.last_step K.reading S network w c.args.one got.waits c.requires.may rip.is in
+    let so : AreSettledSo (w.given + 1) got.waits got.ripe w.settled.items new =
+    subst (λ l. AreSettledSo (w.given + 1) got.waits got.ripe l new) (ap (λ (t : State _ _). t.settled.items) rip.same) c.settle_ripe.ensures in
+    let not : IsJudged got.ripe → ⊥ = λ judged. both_ways c.is_judged.result c.if-is_judged.false (c.is_judged.ensures.1 judged) in
+    let shape = shaped K.reading S network w (Ripening got.waits) may.foremost.there tt in
+    one_behind K.reading S network (record c.ripen_waits-ripened.new.self { settled = c.settle_ripe.new.settled }) w.time 3 shape.rest shape.place
+    (inr (inl refl))
+    (dropped_late (w.given + 1) got.waits got.ripe w.settled.items new not so (all_late K.reading S network w old))
+    (rip.stands new so s notes old.0
+    (comes_first K.last_step K.reading S network w (Ripening got.waits) s notes may tt old.0))
 
 sound_after : (g : given.Over) (c : After-settle_ripe g)
     → IsSound g.C.Clock.last_step c.args.network.now (record c.ripen_waits-ripened.new.self { settled = c.settle_ripe.new.settled })
@@ -247,7 +257,7 @@ rekey_from-requires-2 g c =
         there = may.foremost.there.of;
         few = may.range.few_devices;
         slots = ap length timers ∙ may.well.timed.sized;
-        running = runs_on g.C.Clock.last_step g.C.Clock.reading g.M.Machine.stands c.args.network.now c.args.self.now after may.well.running
+        running = runs_on g.C.Clock.last_step g.C.Clock.reading g.M.Machine.stands c.args.network.now c.args.self.now after may.well
             (still g (goal.at.rekey_from-requires-2 g c).After-settle_ripe);
       };
       before = due_stays g.C.Clock.reading g.M.Machine.stands c.args.network.now g.C.Clock.last_step c.args.self.now after (record { 0 = c.args.one.device.0 })
