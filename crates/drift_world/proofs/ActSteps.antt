@@ -352,27 +352,35 @@ module _ {C M : Type 0} (reading : C → ℕ → ℕ) (stands : M → Network �
       ahead : (cursor : List ℕ) → cursor ≡ behind place → IsBefore cursor (part_place part state.time device) → ⊥
       ahead cursor at b =
           not_before_own state.time (rank_of_act act) device.0 (act_more s.network act)
-          (chain (state.time ∷ rank_of_act act ∷ device.0 ∷ act_more s.network act) (behind place) (place_of_act state.time device act)
+          (chain (state.time ∷ rank_of_act act ∷ device.0 ∷ act_more s.network act) (behind place)
+          (place_of_act state.time device act)
           (subst (λ q. IsBefore q (behind place)) (act_stands s.network state.time device act) (before_behind place))
           (subst (λ q. IsBefore (behind place) q) (sym (of_part s notes old act after acted))
           (subst (λ q. IsBefore q (part_place part state.time device)) at b)))
 
       then_ : World C (Kept M)
-      then_ = record (world_of network state) { early = false; machines = machines; settled = map (settled_at network state.time) new }
+      then_ = record (world_of network state) {
+        early = false;
+        machines = machines;
+        settled = map (settled_at network state.time) new;
+      }
 
       -- none of its records stands where it is done
       turn : IfSome outcomes.first (λ z. 6 < rank z.body)
-          → IsTurn s notes (bodies_of outcomes) (record (world_of network state) { early = false; machines = machines }) then_ []
+          → IsTurn s notes (bodies_of outcomes)
+          (record (world_of network state) { early = false; machines = machines }) then_ []
       turn late =
           IsTurn.puts
-          (act_starts_late s (happenings s.network notes) state.time device was adjustment act (bodies_of outcomes) own.bodies
+          (act_starts_late s (happenings s.network notes) state.time device was adjustment act
+          (bodies_of outcomes) own.bodies
           (first_high outcomes.first outcomes.second late own.second_fine))
           (record { none = refl; put = puts; same = refl })
 
       from_there : old.mark ≡ old.cursor → IfSome outcomes.first (λ z. 6 < rank z.body)
           → StandsFrom reading stands s then_ notes (part_place part state.time device)
       from_there one late =
-          let it = acted_turn reading (keeps stands) s (world_of network state) then_ notes [] old.cursor device after (bodies_of outcomes) machines
+          let it = acted_turn reading (keeps stands) s (world_of network state) then_ notes [] old.cursor device after
+          (bodies_of outcomes) machines
           (old, one, refl) acts_are set (turn late) in
           let here = subst (λ l. StandsAt reading (keeps stands) s then_ l (behind place)) (append-nil notes) it in
           (here.0, here.1 ∙ sym here.2, ahead here.0.cursor here.2)

@@ -31,10 +31,12 @@ pub record IsTurn {C M : Type 0} (last_step : C → ℕ) (reading : C → ℕ �
   pub above : AreAbove (part_rank part) now
   pub begun : IsDueAt reading stands network now part device → IsDueAt reading stands network first part device
   pub still : (s : Scenario) (notes : List Note) (old : Stands reading (keeps stands) s (world_of network first) notes)
-      → old.mark ≡ old.cursor → ComesFirst reading (keeps stands) s (world_of network first) notes old (part_place part first.time device)
+      → old.mark ≡ old.cursor → ComesFirst reading (keeps stands) s (world_of network first) notes old
+      (part_place part first.time device)
       → IsStill reading stands network part device first.time now s notes
   pub times : (s : Scenario) (notes : List Note) (old : Stands reading (keeps stands) s (world_of network first) notes)
-      → old.mark ≡ old.cursor → ComesFirst reading (keeps stands) s (world_of network first) notes old (part_place part first.time device) → (machine last : Kept M)
+      → old.mark ≡ old.cursor → ComesFirst reading (keeps stands) s (world_of network first) notes old
+      (part_place part first.time device) → (machine last : Kept M)
       → slice_get first.machines.items device.0 ≡ Some machine → slice_get now.machines.items device.0 ≡ Some last
       → HasActedTimes (keeps stands) s.network device (moment_of s device first.time) acts machine last
 
@@ -46,7 +48,8 @@ pub record IsActed {C M : Type 0} (last_step : C → ℕ) (reading : C → ℕ �
   pub machines : (i : ℕ) → (i ≡ device.0 → ⊥) → slice_get new.machines.items i ≡ slice_get old.machines.items i
   pub above : AreAbove (part_rank part) new
   pub then_stands : (s : Scenario) (notes : List Note) (was : Stands reading (keeps stands) s (world_of network old) notes)
-      → was.mark ≡ was.cursor → ComesFirst reading (keeps stands) s (world_of network old) notes was (part_place part old.time device)
+      → was.mark ≡ was.cursor → ComesFirst reading (keeps stands) s (world_of network old) notes was
+      (part_place part old.time device)
       → StandsFrom reading stands s (world_of network new) notes (part_place part old.time device)
   pub later : (left : ToDo) → IsLeft reading stands network new device left → IsNoSoonerLeft part left
   pub acted : (s : Scenario) (notes : List Note) (machine : Kept M) → Stands reading (keeps stands) s (world_of network old) notes
@@ -192,7 +195,8 @@ module _ {C M : Type 0} (last_step : C → ℕ) (reading : C → ℕ → ℕ) (s
   -- where there are numbers, the device's acts come first
   pub comes_first : (now : State C M) (left : ToDo) (acts : ℕ) (turn : Turn now left acts) → now.given + length now.settled.items + 2 < numbers_end
       → (s : Scenario) (notes : List Note) (old : Old s notes) (one : old.mark ≡ old.cursor) (f : First s notes old)
-      → ComesFirst reading (keeps stands) s (world_of network now) notes (turn.still s notes old one f).new (part_place part now.time device)
+      → ComesFirst reading (keeps stands) s (world_of network now) notes (turn.still s notes old one f).new
+      (part_place part now.time device)
   comes_first now left acts turn numbers s notes old one f =
       let still = turn.still s notes old one f in
       let given = still.new.given in
@@ -244,7 +248,8 @@ module _ {C M : Type 0} (last_step : C → ℕ) (reading : C → ℕ → ℕ) (s
 
   times_then : (now new : State C M) (left : ToDo) (acts : ℕ) (turn : Turn now left acts) → Due now
       → IsActed last_step reading stands network part device now new
-      → device.0 < length network.device → (s : Scenario) (notes : List Note) (old : Old s notes) → old.mark ≡ old.cursor
+      → device.0 < length network.device → (s : Scenario) (notes : List Note) (old : Old s notes)
+      → old.mark ≡ old.cursor
       → (f : First s notes old) (machine last : Kept M)
       → slice_get first.machines.items device.0 ≡ Some machine → slice_get new.machines.items device.0 ≡ Some last
       → HasActedTimes (keeps stands) s.network device (moment_of s device first.time) (acts + 1) machine last

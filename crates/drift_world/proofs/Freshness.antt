@@ -57,7 +57,8 @@ module _ {C M : Type 0} (fresh : ℕ → C) (last_step : C → ℕ) (network : N
 
   module _ (after_step : C → ℕ → ℤ → C) (reading : C → ℕ → ℕ) (grain : C → ℕ) (count : C → ℕ → ℕ) (law : IsLawful fresh after_step reading grain count)
       (stands : M → Network → DeviceId → Node → Type 0) (are : AreFresh stands network machines) (range : IsInRange network) (rules : KeepsRules network) where
-    stood : Stands reading (keeps stands) (scenario network (reading_of fresh after_step reading network []) []) (world_of network state) []
+    stood : Stands reading (keeps stands) (scenario network (reading_of fresh after_step reading network []) [])
+        (world_of network state) []
     stood =
           begun reading (keeps stands) network (reading_of fresh after_step reading network []) (world_of network state)
           (record {

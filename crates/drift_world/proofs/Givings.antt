@@ -52,7 +52,8 @@ GivesOn {C} {M} reading stands s network =
     → NoSourceBefore s (happenings s.network notes) old.cursor (place_of (settled_at network state.time first))
     → MayBeGiven network first.body first.frame first.octets → IsGivenOut reading network state after first.body first.frame (length notes + 1) giving
     → IsPutOn (wire_entry network state.ups.items state.downs.items first.body first.frame first.octets state.time (length notes + 1))
-    after.under_way.entries entries → IsStoredBy first.body first.octets (length notes + 1) state.stored.items held → StandsAt reading stands s
+    after.under_way.entries entries → IsStoredBy first.body first.octets (length notes + 1) state.stored.items held
+    → StandsAt reading stands s
     (record (with_first network state first rest) {
       wires = filter_map (on_wire network) entries;
       ports = filter_map at_port entries;

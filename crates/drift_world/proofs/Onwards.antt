@@ -63,7 +63,8 @@ module _ {C M : Type 0} (fresh : ℕ → C) (after_step : C → ℕ → ℤ → 
   pub stands_again : (new : State C M) (more : List Note) → IsOfNetwork network event.what
       → ((device : DeviceId) (clock : C) → slice_get state.clocks.items device.0 ≡ Some clock
       → slice_get new.clocks.items device.0 ≡ Some (clock_after after_step device event.time event.what clock))
-      → StandsOne reading (keeps stands) (scenario network (reading_of fresh after_step reading network (events ++ event ∷ [])) (events ++ event ∷ []))
+      → StandsOne reading (keeps stands)
+      (scenario network (reading_of fresh after_step reading network (events ++ event ∷ [])) (events ++ event ∷ []))
       (world_of network new) more → StandsUnder fresh after_step reading stands network (world_of network new) (events ++ event ∷ []) more
   stands_again new more of_network clocks is = record {
     is = is.0;
@@ -90,7 +91,8 @@ module _ {C M E : Type 0} (fresh : ℕ → C) (after_step : C → ℕ → ℤ �
     (step : (f h : DeviceId → ℕ → ℕ) (past : List Event) (notes : List Note)
     → (old : Stands reading (keeps stands) (scenario network f past) (world_of network state) notes) → Follows after_step reading network f h past event state
     → FitsWorld (scenario network f past) (happenings network notes) state.time event.what → IfOk result (λ note. (note ≡ note_of_event notes past event)
-    × StandsOne reading (keeps stands) (scenario network h (past ++ event ∷ [])) (world_of network new) (notes ++ note ∷ []))) where
+    × StandsOne reading (keeps stands) (scenario network h (past ++ event ∷ [])) (world_of network new)
+    (notes ++ note ∷ []))) where
   pub goes_on : (events : List Event) (notes : List Note) → StandsUnder fresh after_step reading stands network (world_of network state) events notes
       → IsWithinHypothesis network events event
       → IfOk result (λ note. StandsUnder fresh after_step reading stands network (world_of network new) (events ++ event ∷ []) (notes ++ note ∷ []))
@@ -101,7 +103,8 @@ module _ {C M E : Type 0} (fresh : ℕ → C) (after_step : C → ℕ → ℤ �
       of_network in
       let goes = followed fresh after_step reading grain count law stands network state events notes event under time hold within many in
       more_ok (λ (note : Note). (note ≡ note_of_event notes events event)
-      × StandsOne reading (keeps stands) (scenario network h (events ++ event ∷ [])) (world_of network new) (notes ++ note ∷ []))
+      × StandsOne reading (keeps stands) (scenario network h (events ++ event ∷ [])) (world_of network new)
+      (notes ++ note ∷ []))
       (λ (note : Note). StandsUnder fresh after_step reading stands network (world_of network new) (events ++ event ∷ []) (notes ++ note ∷ []))
       _ result
       (λ known note it. stands_again fresh after_step reading grain count law stands network state events notes event under time hold within new (notes ++ note
@@ -130,7 +133,8 @@ module _ {C M : Type 0} (fresh : ℕ → C) (after_step : C → ℕ → ℤ → 
     (step : (f h : DeviceId → ℕ → ℕ) (past : List Event) (notes : List Note)
     → (old : Stands reading (keeps stands) (scenario network f past) (world_of network state) notes) → Follows after_step reading network f h past event state
     → FitsWorld (scenario network f past) (happenings network notes) state.time event.what → (note ≡ note_of_event notes past event)
-    × StandsOne reading (keeps stands) (scenario network h (past ++ event ∷ [])) (world_of network new) (notes ++ note ∷ [])) where
+    × StandsOne reading (keeps stands) (scenario network h (past ++ event ∷ [])) (world_of network new)
+    (notes ++ note ∷ [])) where
   -- it stands again
   pub befalls : (n : Network) (events : List Event) (notes : List Note) → StandsUnder fresh after_step reading stands n world events notes
       → IsWithinHypothesis n events event → StandsUnder fresh after_step reading stands n (world_of network new) (events ++ event ∷ []) (notes ++ note ∷ [])

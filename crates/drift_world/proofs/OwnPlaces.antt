@@ -200,7 +200,8 @@ module _ {C M : Type 0} (last_step : C → ℕ) (reading : C → ℕ → ℕ) (s
       → note ≡ record { number = mid.given + 1; time = units_of mid.time; body = one.body }
       → ((s : Scenario) (notes : List Note) (is : Stands reading (keeps stands) s (with_first network mid one mid.settled.items) notes)
       → NoSourceBefore s (happenings s.network notes) is.cursor (place_of (settled_at network mid.time one))
-      → StandsAt reading (keeps stands) s (world_of network new) (notes ++ note_of notes (settled_at network mid.time one) ∷ [])
+      → StandsAt reading (keeps stands) s (world_of network new)
+      (notes ++ note_of notes (settled_at network mid.time one) ∷ [])
       (behind (place_of (settled_at network mid.time one))))
       → (s : Scenario) (notes : List Note) → StandsOne reading (keeps stands) s (world_of network old) notes
       → StandsOne reading (keeps stands) s (world_of network new) (notes ++ note ∷ [])
@@ -210,4 +211,5 @@ module _ {C M : Type 0} (last_step : C → ℕ) (reading : C → ℕ → ℕ) (s
       is_note ∙ ap (λ (k : ℕ). let n : Note = record { number = k + 1; time = units_of mid.time; body = one.body } in n) h.0.given in
       subst (λ (n : Note). StandsOne reading (keeps stands) s (world_of network new) (notes ++ n ∷ [])) (sym same)
       (one_of (gives s notes h.0
-      (none_before_last s (happenings s.network notes) h.0.cursor (source_place old.time source) (place_of (settled_at network mid.time one)) h.1 at)))
+      (none_before_last s (happenings s.network notes) h.0.cursor (source_place old.time source)
+      (place_of (settled_at network mid.time one)) h.1 at)))

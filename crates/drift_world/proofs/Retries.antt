@@ -10,7 +10,8 @@ module _ {C M : Type 0} (reading : C → ℕ → ℕ) (stands : M → Network �
   try_again : (until : Units) (n : ℕ) → until.0 ≡ pos n → IsAfter old new → (run : IsRunning reading stands own old)
       → run.is.mark ≡ run.is.cursor
       → ((s : Scenario) (notes : List Note) → StandsOne reading (keeps stands) s (world_of own old) notes
-      → StandsOne reading (keeps stands) s (world_of own new) (notes ++ [])) → new.time < n → MayTryAgain (world_of own old) (world_of own new) until
+      → StandsOne reading (keeps stands) s (world_of own new) (notes ++ [])) → new.time < n
+      → MayTryAgain (world_of own old) (world_of own new) until
   try_again until n is after run one still lt =
       let a = run.is in
       let b = (still run.s run.notes (run.is, one)).0 in

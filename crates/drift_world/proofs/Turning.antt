@@ -176,7 +176,8 @@ module _ {C M : Type 0} (last_step : C → ℕ) (reading : C → ℕ → ℕ) (s
   pub gives_first : (state : State C M) (may : MayGive reading stands network state) (s : Scenario) (notes : List Note) → IsSound last_step network state
       → (old : Stands reading (keeps stands) s (world_of network state) notes)
       → NoSourceBefore s (happenings s.network notes) old.cursor (place_of (settled_at network state.time may.first))
-  gives_first state may s notes sound old = first_gives state may.first may.others s notes sound may.before may.whole old
+  gives_first state may s notes sound old = first_gives state may.first may.others s notes sound
+      may.before may.whole old
 
   -- where nothing is settled, and nothing under way before a later time, the records are the run up to it
   pub whole_run : (state : State C M) (s : Scenario) (notes : List Note) (until : ℕ) → IsSound last_step network state
@@ -193,7 +194,8 @@ module _ {C M : Type 0} (last_step : C → ℕ) (reading : C → ℕ → ℕ) (s
 
   -- ---- what steps keep
 
-  on_then : (old new : State C M) (well : IsWell last_step reading stands network old) → ((s : Scenario) (notes : List Note)
+  on_then : (old new : State C M) (well : IsWell last_step reading stands network old)
+      → ((s : Scenario) (notes : List Note)
       → StandsOne reading (keeps stands) s (world_of network old) notes
       → StandsOne reading (keeps stands) s (world_of network new) notes)
       → StandsOne reading (keeps stands) well.running.s (world_of network new) well.running.notes
@@ -209,9 +211,15 @@ module _ {C M : Type 0} (last_step : C → ℕ) (reading : C → ℕ → ℕ) (s
   pub plain_step : (old new : State C M) → IsWell last_step reading stands network old → IsSound last_step network new
       → ((n : ℕ) → ChangesOnly n old new) → new.timers ≡ old.timers → new.given ≡ old.given
       → ((s : Scenario) (notes : List Note) → StandsOne reading (keeps stands) s (world_of network old) notes
-      → StandsOne reading (keeps stands) s (world_of network new) notes) → IsStep last_step reading stands network old new
+      → StandsOne reading (keeps stands) s (world_of network new) notes)
+      → IsStep last_step reading stands network old new
   plain_step old new well sound changes timers given still = record {
-    well = record { sound = sound; running = runs_on old new well still; one = (on_then old new well still).1; timed = unchanged reading stands network old new well.timed changes timers };
+    well = record {
+      sound = sound;
+      running = runs_on old new well still;
+      one = (on_then old new well still).1;
+      timed = unchanged reading stands network old new well.timed changes timers;
+    };
     after = record { clocks = (changes 0).clocks; ended = (changes 0).ended; later = let same = (changes 0).time in omega (arith, same) };
     still = still;
     time = (changes 0).time;
@@ -248,8 +256,10 @@ module _ {C M : Type 0} (last_step : C → ℕ) (reading : C → ℕ → ℕ) (s
       }
 
   -- one that leaves a record put in where it was done
-  pub rekeyed_open : (device : DeviceId) (old mid new : State C M) → IsWell last_step reading stands network old → IsSound last_step network mid
-      → device.0 < length network.device → ChangesOnly device.0 old mid → mid.timers ≡ old.timers → mid.given ≡ old.given
+  pub rekeyed_open : (device : DeviceId) (old mid new : State C M) → IsWell last_step reading stands network old
+      → IsSound last_step network mid
+      → device.0 < length network.device → ChangesOnly device.0 old mid → mid.timers ≡ old.timers
+      → mid.given ≡ old.given
       → ((s : Scenario) (notes : List Note) → StandsOne reading (keeps stands) s (world_of network old) notes
       → Stands reading (keeps stands) s (world_of network mid) notes)
       → IsRekeyed reading stands network device mid new → IsOpen last_step reading stands network old new
@@ -282,7 +292,8 @@ module _ {C M : Type 0} (last_step : C → ℕ) (reading : C → ℕ → ℕ) (s
     well = step.well;
     after = step.after;
     stands_then = λ s notes is.
-        subst (λ l. StandsOne reading (keeps stands) s (world_of network new) l) (sym (append-nil notes)) (step.still s notes is);
+        subst (λ l. StandsOne reading (keeps stands) s (world_of network new) l) (sym (append-nil notes))
+        (step.still s notes is);
   }
 
   -- a turn behind a step
@@ -297,7 +308,8 @@ module _ {C M : Type 0} (last_step : C → ℕ) (reading : C → ℕ → ℕ) (s
   }
 
   -- records are given, and timers are set then
-  pub kept_timers : (old mid new : State C M) (more : List Note) → IsWell last_step reading stands network old → IsSound last_step network mid → IsAfter old mid
+  pub kept_timers : (old mid new : State C M) (more : List Note) → IsWell last_step reading stands network old
+      → IsSound last_step network mid → IsAfter old mid
       → ((s : Scenario) (notes : List Note) → StandsOne reading (keeps stands) s (world_of network old) notes
       → StandsOne reading (keeps stands) s (world_of network mid) (notes ++ more))
       → new ≡ record mid { timers = new.timers } → AreTimed reading stands network new → IsKept last_step reading stands network old new more
@@ -305,7 +317,8 @@ module _ {C M : Type 0} (last_step : C → ℕ) (reading : C → ℕ → ℕ) (s
       let run = well.running in
       let on : (s : Scenario) (notes : List Note) → StandsOne reading (keeps stands) s (world_of network old) notes
       → StandsOne reading (keeps stands) s (world_of network new) (notes ++ more) = λ s notes is.
-      subst (λ t. StandsOne reading (keeps stands) s (world_of network t) (notes ++ more)) (sym same) (stands_more s notes is) in
+      subst (λ t. StandsOne reading (keeps stands) s (world_of network t) (notes ++ more)) (sym same)
+      (stands_more s notes is) in
       let then_ = on run.s run.notes (run.is, well.one) in
       record {
         well = record {
@@ -325,8 +338,10 @@ module _ {C M : Type 0} (last_step : C → ℕ) (reading : C → ℕ → ℕ) (s
     well = passed.well;
     after = passed_after old new until turn passed;
     stands_then = λ s notes is.
-        subst (λ (l : List Note). StandsOne reading (keeps stands) s (world_of network new) (notes ++ l)) (sym (none_given turn passed.says))
-        (subst (λ (l : List Note). StandsOne reading (keeps stands) s (world_of network new) l) (sym (append-nil notes)) (passed.still s notes is));
+        subst (λ (l : List Note). StandsOne reading (keeps stands) s (world_of network new) (notes ++ l))
+        (sym (none_given turn passed.says))
+        (subst (λ (l : List Note). StandsOne reading (keeps stands) s (world_of network new) l) (sym (append-nil notes))
+        (passed.still s notes is));
   }
     where
       none_given : (turn : Turn) → PassSays old new until turn → given_in {E = E} (Ok turn) note ≡ []

@@ -17,7 +17,8 @@ first : (g : given.Over) (c : After-act_part g) (s : Scenario) (notes : List Not
     → ComesFirst g.C.Clock.reading (keeps g.M.Machine.stands) s (world_of c.args.network.now c.args.self.now) notes is
     (part_place c.args.part c.args.self.now.time c.args.device)
 first g c s notes is =
-    comes_first g.C.Clock.last_step g.C.Clock.reading g.M.Machine.stands c.args.network.now c.args.self.now (Act c.args.part c.args.device) s notes
+    comes_first g.C.Clock.last_step g.C.Clock.reading g.M.Machine.stands c.args.network.now c.args.self.now
+    (Act c.args.part c.args.device) s notes
     c.requires.may tt is
 
 -- whether it acts to the end or memory runs out, it stands
@@ -76,7 +77,8 @@ opened g c new timed sets =
     let there = c.requires.may.foremost.there.of in
     let step = c.act_part.ensures in
     let timers = ap (λ (t : State _ _). t.timers) step.same in
-    rekeyed_open g.C.Clock.last_step g.C.Clock.reading g.M.Machine.stands c.args.network.now c.args.device c.args.self.now c.act_part.new.self new well
+    rekeyed_open g.C.Clock.last_step g.C.Clock.reading g.M.Machine.stands c.args.network.now c.args.device
+    c.args.self.now c.act_part.new.self new well
     step.sound there step.others timers
     (ap (λ (t : State _ _). t.given) step.same) (still g c)
     (set_act g.C.Clock.reading g.M.Machine.stands c.args.network.now c.args.self.now c.act_part.new.self new c.args.device there
@@ -126,7 +128,8 @@ returns-in-Ok-Give-clause-own g c = λ yes.
     )
 
 pub returns-in-Err-clause-err : goal.returns-in-Err-clause-err
-returns-in-Err-clause-err g c = stepped g (goal.at.returns-in-Err-clause-err g c).After-act_part c.in-Err.ensures.err c.rekey_act-in-Err.new.self c.rekey_act-in-Err.ensures.timed
+returns-in-Err-clause-err g c = stepped g (goal.at.returns-in-Err-clause-err g c).After-act_part c.in-Err.ensures.err
+    c.rekey_act-in-Err.new.self c.rekey_act-in-Err.ensures.timed
     c.rekey_act-in-Err.ensures.sets
 
 pub defer-requires-clause-may : goal.defer-requires-clause-may
@@ -139,7 +142,8 @@ pub returns-in-Ok-Now-clause-step : goal.returns-in-Ok-Now-clause-step
 returns-in-Ok-Now-clause-step g c = λ no.
     let here = (goal.at.returns-in-Ok-Now-clause-step g c).After-act_part in
     stepped g here
-    (subst (GoesBy g here) c.in-Ok-Now.field-0-is c.in-Ok-Now.ensures.one (λ e. let bad : Now c.in-Ok-Now.other ≡ Give = e in cc)) c.defer.new.self c.defer.ensures.timed c.defer.ensures.sets
+    (subst (GoesBy g here) c.in-Ok-Now.field-0-is c.in-Ok-Now.ensures.one
+    (λ e. let bad : Now c.in-Ok-Now.other ≡ Give = e in cc)) c.defer.new.self c.defer.ensures.timed c.defer.ensures.sets
 
 pub returns-in-Ok-Now-clause-less : goal.returns-in-Ok-Now-clause-less
 returns-in-Ok-Now-clause-less g c = λ no.
@@ -153,7 +157,9 @@ pub returns-in-Ok-Next-clause-step : goal.returns-in-Ok-Next-clause-step
 returns-in-Ok-Next-clause-step g c = λ no.
     let here = (goal.at.returns-in-Ok-Next-clause-step g c).After-act_part in
     stepped g here
-    (subst (GoesBy g here) c.in-Ok-Next.field-0-is c.in-Ok-Next.ensures.one (λ e. let bad : Next c.in-Ok-Next.due ≡ Give = e in cc)) c.rekey_act_at.new.self c.rekey_act_at.ensures.timed c.rekey_act_at.ensures.sets
+    (subst (GoesBy g here) c.in-Ok-Next.field-0-is c.in-Ok-Next.ensures.one
+    (λ e. let bad : Next c.in-Ok-Next.due ≡ Give = e in cc)) c.rekey_act_at.new.self c.rekey_act_at.ensures.timed
+    c.rekey_act_at.ensures.sets
 
 pub returns-in-Ok-Next-clause-less : goal.returns-in-Ok-Next-clause-less
 returns-in-Ok-Next-clause-less g c = λ no.

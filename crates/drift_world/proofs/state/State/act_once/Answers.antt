@@ -195,12 +195,14 @@ stood g c s notes old first read acted =
 pub returns-clause-gives : goal.returns-clause-gives
 returns-clause-gives g c = λ s notes old first.
     let here = (goal.at.returns-clause-gives g c).After-outcomes_of-outcomes in
-    (stood g (goal.at.returns-clause-gives g c).After-put_both s notes old first (held g here) (acted_at g here s notes old)).0
+    (stood g (goal.at.returns-clause-gives g c).After-put_both s notes old first (held g here)
+    (acted_at g here s notes old)).0
 
 pub returns-clause-stands : goal.returns-clause-stands
 returns-clause-stands g c = λ no s notes old one first.
     let here = (goal.at.returns-clause-stands g c).After-outcomes_of-outcomes in
-    (stood g (goal.at.returns-clause-stands g c).After-put_both s notes old first (held g here) (acted_at g here s notes old)).1 one
+    (stood g (goal.at.returns-clause-stands g c).After-put_both s notes old first (held g here)
+    (acted_at g here s notes old)).1 one
     (c.is_at_source-gives.ensures.no no)
 
 pub returns-clause-acted : goal.returns-clause-acted

@@ -114,7 +114,8 @@ returns-then-act_once-clause-stands g c = λ s notes old one first.
     let turn_is = turn g here in
     c.act_once.ensures.gives s notes (turn_is.still s notes old one first).new
     (comes_first g.C.Clock.last_step g.C.Clock.reading g.M.Machine.stands c.args.network.now c.args.part c.args.device c.args.self.now c.reserve_two.new.self
-    c.acts.left c.acts.acts turn_is (numbered g (goal.at.returns-then-act_once-clause-stands g c).In-Ok) s notes old one first)
+    c.acts.left c.acts.acts turn_is (numbered g (goal.at.returns-then-act_once-clause-stands g c).In-Ok) s
+    notes old one first)
 
 pub returns-then-act_once-clause-one : goal.returns-then-act_once-clause-one
 returns-then-act_once-clause-one g c = λ apart. absurd (apart refl)

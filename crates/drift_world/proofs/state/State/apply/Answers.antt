@@ -95,11 +95,13 @@ returns-clause-stands g c = λ f h past notes old follows may.
     ap (λ (n : ℕ). note n w.lines c.args.event.now.what) old.given ∙ ap (λ (n : ℕ). note (length notes) n c.args.event.now.what) old.lines
     in (
       note_is,
-      subst (λ (n : Note). StandsOne K.reading stands then_ (after (map befell_as c.keep_befallen.new.befell.items) c.ends-self.result) (notes ++ n ∷ []))
+      subst (λ (n : Note). StandsOne K.reading stands then_
+      (after (map befell_as c.keep_befallen.new.befell.items) c.ends-self.result) (notes ++ n ∷ []))
           (sym note_is)
           (subst (λ over. StandsOne K.reading stands then_ (after (map befell_as c.keep_befallen.new.befell.items) over)
           (notes ++ note_of_event notes past event ∷ [])) (sym c.ends-self.ensures)
-          (subst (λ l. StandsOne K.reading stands then_ (after l (ends_world event.what)) (notes ++ note_of_event notes past event ∷ []))
+          (subst (λ l. StandsOne K.reading stands then_ (after l (ends_world event.what))
+          (notes ++ note_of_event notes past event ∷ []))
           (sym befell_is) (one_of (raised step (λ z i b. none_early step c.requires.early z i))))),
     )
 

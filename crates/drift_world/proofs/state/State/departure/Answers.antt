@@ -21,7 +21,8 @@ pub returns-clause-late : goal.returns-clause-late
 returns-clause-late g c =
     let network = c.args.network.now in
     subst (λ (z : Settled). (rank z.body ≡ 8 → ⊥) → is_at_source z.body ≡ false) (sym c.departed.ensures)
-    (departed_late network c.reading_of-reading.result c.way_from-way.result.cut (port_entry c.args.place c.args.frame c.args.given))
+    (departed_late network c.reading_of-reading.result c.way_from-way.result.cut
+    (port_entry c.args.place c.args.frame c.args.given))
 
 pub returns-clause-none : goal.returns-clause-none
 returns-clause-none g c =

@@ -75,7 +75,8 @@ returns-then-rank_of-number-clause-kept g c =
     let few = may.range.few_devices in
     let changes : ChangesOnly other c.args.self.now gave = changes_both (left.others other) give.others in
     let time = changes.time in
-    kept_timers g.C.Clock.last_step g.C.Clock.reading g.M.Machine.stands c.args.network.now c.args.self.now gave gave _ may.well give.sound
+    kept_timers g.C.Clock.last_step g.C.Clock.reading g.M.Machine.stands c.args.network.now c.args.self.now gave gave _
+    may.well give.sound
     (record { clocks = changes.clocks; ended = changes.ended; later = omega (arith, time) })
     (stands_first g.C.Clock.last_step g.C.Clock.reading g.M.Machine.stands c.args.network.now c.args.self.now mid (Departure c.args.place) one may tt
     (ap (λ (t : State _ _). t.settled.items) left.same)
@@ -101,7 +102,8 @@ returns-clause-kept g c =
     let network = c.args.network.now in
     let w = c.args.self.now in
     let may = c.requires.may in
-    let late = left.late (λ eight. omega (arith, eight, c.rank_of.ensures, c.number.ensures, c.if-rank_of-number.false)) in
+    let late = left.late
+    (λ eight. omega (arith, eight, c.rank_of.ensures, c.number.ensures, c.if-rank_of-number.false)) in
     let shape = shaped K.reading S network w (Departure c.args.place) may.foremost.there tt in
     step_kept g.C.Clock.last_step g.C.Clock.reading g.M.Machine.stands c.args.network.now c.args.self.now after
     (plain_step g.C.Clock.last_step g.C.Clock.reading g.M.Machine.stands c.args.network.now c.args.self.now after c.requires.may.well

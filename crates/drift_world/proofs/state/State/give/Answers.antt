@@ -93,12 +93,14 @@ returns-clause-stands g c = λ s notes other rest is.
     (c.give_first.ensures.stands s notes) in
     let Gives = λ (f : Settled). (o : Stands K.reading stands s (world_of network w) notes)
     → NoSourceBefore s (happenings s.network notes) o.cursor (place_of (settled_at network w.time f)) → (note ≡ note_of notes (settled_at network w.time f))
-    × StandsAt K.reading stands s (world_of network new) (notes ++ note ∷ []) (behind (place_of (settled_at network w.time f))) in
+    × StandsAt K.reading stands s (world_of network new) (notes ++ note ∷ [])
+    (behind (place_of (settled_at network w.time f))) in
     let given : Gives first = λ o none.
     let same : note ≡ note_of notes z = c.give_first.ensures.note
     ∙ ap (λ (k : ℕ). let n : Note = record { number = k + 1; time = units_of w.time; body = first.body } in n) o.given in (
       same,
-      subst (λ (n : Note). StandsAt K.reading stands s (world_of network new) (notes ++ n ∷ []) (behind (place_of z))) (sym same) (step o none),
+      subst (λ (n : Note). StandsAt K.reading stands s (world_of network new) (notes ++ n ∷ []) (behind (place_of z)))
+      (sym same) (step o none),
     ) in
     subst Gives (heads first other c.pop_front.new.self.items rest (sym whole ∙ is)) given
 

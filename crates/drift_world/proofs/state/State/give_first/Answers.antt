@@ -98,7 +98,8 @@ returns-clause-stands g c = λ s notes old none.
     none
     (may_give K.reading g.M.Machine.stands network w first c.requires.running c.requires.octets) out sent held in
     let last = gave_all g (goal.at.returns-clause-stands g c).After-launch_octets in
-    subst (λ q. StandsAt K.reading stands s (world_of network q) (notes ++ note_of notes z ∷ []) (behind (place_of z))) (sym last)
+    subst (λ q. StandsAt K.reading stands s (world_of network q) (notes ++ note_of notes z ∷ []) (behind (place_of z)))
+    (sym last)
     step
 
 pub returns-clause-others : goal.returns-clause-others

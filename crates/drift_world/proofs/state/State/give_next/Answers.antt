@@ -8,7 +8,8 @@ use Rattle.drift_world.proofs.state.State.give_next.Goals as goal
 given_so : (g : given.Over) (c : In-Ok g) (s : Scenario) (notes : List Note)
     → Stands g.C.Clock.reading (keeps g.M.Machine.stands) s (world_of c.args.network.now c.args.self.now) notes
     → (c.give.new.note ≡ note_of notes (settled_at c.args.network.now c.args.self.now.time c.requires.first.first))
-    × StandsOne g.C.Clock.reading (keeps g.M.Machine.stands) s (world_of c.args.network.now c.give.new.self) (notes ++ c.give.new.note ∷ [])
+    × StandsOne g.C.Clock.reading (keeps g.M.Machine.stands) s (world_of c.args.network.now c.give.new.self)
+    (notes ++ c.give.new.note ∷ [])
 given_so g c s notes old =
     let f = c.requires.first in
     let step = c.in-Ok.ensures.stands s notes f.first f.others f.whole old
@@ -42,7 +43,8 @@ returns-in-Ok-clause-kept g c =
     kept_timers g.C.Clock.last_step g.C.Clock.reading g.M.Machine.stands c.args.network.now c.args.self.now mid c.rekey_after.new.self (c.give.new.note
     ∷ []) well E.sound
     (record { clocks = ap (λ (t : State _ _). t.clocks) E.same; ended = ap (λ (t : State _ _). t.ended) E.same; later = omega (arith, time) })
-    (λ s notes old. (given_so g (goal.at.returns-in-Ok-clause-kept g c).In-Ok s notes old.0).1) c.rekey_after.ensures.same
+    (λ s notes old. (given_so g (goal.at.returns-in-Ok-clause-kept g c).In-Ok s notes old.0).1)
+    c.rekey_after.ensures.same
     (c.rekey_after.ensures.timed c.args.self.now well.timed
     (subst (λ b. ChangesOnly (changed_device b) c.args.self.now mid) (sym c.body.ensures) E.others)
     (ap (λ (t : State _ _). t.machines) E.same) (ap (λ (t : State _ _). t.timers) E.same))

@@ -60,7 +60,8 @@ give_first-requires-clause-place g c =
     no_shelf c.unwrap-own.result.body c.args.self.now.stored (λ taken. omega (arith, taken, most))
 
 -- what has changed then
-changed : (g : given.Over) (c : After-give_first g) → ChangesOnly (changed_device c.unwrap-own.result.body) c.args.self.now c.give_first.new.self
+changed : (g : given.Over) (c : After-give_first g) → ChangesOnly (changed_device c.unwrap-own.result.body)
+    c.args.self.now c.give_first.new.self
 changed g c = changes_since c.args.self.now refl refl refl refl refl c.give_first.ensures.others
 
 pub returns-clause-after : goal.returns-clause-after
@@ -75,7 +76,8 @@ returns-clause-timed g c =
     let least = (ranked g (goal.at.returns-clause-timed g c).After-unwrap-own).0 in
     let far = no_change first.body (λ two. omega (arith, two, least)) in
     let few = c.requires.range.few_devices in
-    aside g.C.Clock.reading g.M.Machine.stands c.args.network.now (changed_device first.body) c.args.self.now c.give_first.new.self c.requires.timed
+    aside g.C.Clock.reading g.M.Machine.stands c.args.network.now (changed_device first.body) c.args.self.now
+    c.give_first.new.self c.requires.timed
     (omega (arith, far, few)) (changed g (goal.at.returns-clause-timed g c).After-give_first)
     (ap (λ (t : State _ _). t.timers) c.give_first.ensures.same)
 
@@ -97,9 +99,11 @@ returns-clause-stands g c = λ s notes old.
     let z = settled_at network w.time first in
     let Steps = λ (q : World _ _). (o : Stands K.reading (keeps g.M.Machine.stands) s q notes)
     → NoSourceBefore s (happenings s.network notes) o.cursor (place_of z)
-    → StandsAt K.reading (keeps g.M.Machine.stands) s (world_of network new) (notes ++ note_of notes z ∷ []) (behind (place_of z)) in
+    → StandsAt K.reading (keeps g.M.Machine.stands) s (world_of network new) (notes ++ note_of notes z ∷ [])
+    (behind (place_of z)) in
     let step : Steps (world_of network w) = subst Steps (popped_world network w popped first refl refl refl whole refl) (give.stands s notes) in
     let same : c.give_first.new.note ≡ note_of notes z = give.note
     ∙ ap (λ (k : ℕ). let n : Note = record { number = k + 1; time = units_of w.time; body = first.body } in n) old.given in
-    subst (λ (n : Note). StandsOne K.reading (keeps g.M.Machine.stands) s (world_of network new) (notes ++ n ∷ [])) (sym same)
+    subst (λ (n : Note). StandsOne K.reading (keeps g.M.Machine.stands) s (world_of network new) (notes ++ n ∷ []))
+    (sym same)
     (one_of (step old (own_gives g.M.Machine.stands network w first c.pop_front.new.self.items own whole old)))

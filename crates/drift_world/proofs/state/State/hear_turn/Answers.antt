@@ -53,7 +53,8 @@ arriving g c = omega (arith, c.rank_of.ensures, c.number.ensures, c.if-rank_of-n
 
 given_so : (g : given.Over) (c : After-give_first g) (s : Scenario) (notes : List Note)
     → StandsOne g.C.Clock.reading (keeps g.M.Machine.stands) s (world_of c.args.network.now c.args.self.now) notes
-    → StandsOne g.C.Clock.reading (keeps g.M.Machine.stands) s (world_of c.args.network.now c.give_first.new.self) (notes
+    → StandsOne g.C.Clock.reading (keeps g.M.Machine.stands) s (world_of c.args.network.now c.give_first.new.self)
+    (notes
     ++ c.give_first.new.note ∷ [])
 given_so g c =
     let one = c.hear_wire-record.result in
@@ -80,7 +81,11 @@ rekey_from-requires g c =
         there = may.foremost.there.device;
         few = may.range.few_devices;
         slots = ap length timers ∙ may.well.timed.sized;
-        running = record { s = run.s; notes = _; is = (given_so g (goal.at.rekey_from-requires g c).After-give_first run.s run.notes (run.is, may.well.one)).0 };
+        running = record {
+          s = run.s;
+          notes = _;
+          is = (given_so g (goal.at.rekey_from-requires g c).After-give_first run.s run.notes (run.is, may.well.one)).0;
+        };
       };
       before = due_stays g.C.Clock.reading g.M.Machine.stands c.args.network.now g.C.Clock.last_step c.args.self.now c.give_first.new.self
           (record { 0 = c.args.place.device }) c.due_of-before.result may.well
@@ -103,7 +108,8 @@ returns-then-rank_of-number-clause-kept g c =
     (subst (λ d. ChangesOnly d mid gave) (hear.device (arriving g (goal.at.returns-then-rank_of-number-clause-kept g c).After-give_first))
     give.others) in
     let time = changes.time in
-    kept_timers g.C.Clock.last_step g.C.Clock.reading g.M.Machine.stands c.args.network.now c.args.self.now gave c.rekey_from.new.self _ may.well
+    kept_timers g.C.Clock.last_step g.C.Clock.reading g.M.Machine.stands c.args.network.now c.args.self.now gave
+    c.rekey_from.new.self _ may.well
     give.sound
     (record { clocks = changes.clocks; ended = changes.ended; later = omega (arith, time) })
     (given_so g (goal.at.returns-then-rank_of-number-clause-kept g c).After-give_first) c.rekey_from.ensures.sets.same
@@ -136,10 +142,12 @@ still g c s notes old =
     let put = c.put_in.ensures.is in
     let hear = c.hear_wire-record.ensures in
     let own : IsPutAt one w.settled.items c.put_in.new.settled.items put.0 =
-    subst (λ l. IsPutAt one l c.put_in.new.settled.items put.0) (ap (λ (t : State _ _). t.settled.items) hear.same) put.1 in
+    subst (λ l. IsPutAt one l c.put_in.new.settled.items put.0)
+    (ap (λ (t : State _ _). t.settled.items) hear.same) put.1 in
     let late = hear.late (λ two. omega (arith, two, c.rank_of.ensures, c.number.ensures, c.if-rank_of-number.false)) in
     let shape = shaped K.reading S network w (Arrival c.args.place) may.foremost.there tt in
-    one_behind K.reading S network (record c.hear_wire-record.new.self { settled = c.put_in.new.settled }) w.time 2 shape.rest shape.place (inl refl)
+    one_behind K.reading S network (record c.hear_wire-record.new.self { settled = c.put_in.new.settled }) w.time 2
+    shape.rest shape.place (inl refl)
     (all_put IsLate one w.settled.items c.put_in.new.settled.items put.0 own late (all_late K.reading S network w old))
     (hear.stands c.put_in.new.settled.items put.0 own s notes old.0
     (comes_first K.last_step K.reading S network w (Arrival c.args.place) s notes may tt old.0))
@@ -156,7 +164,8 @@ rekey_act_from-requires g c =
         there = may.foremost.there.device;
         few = may.range.few_devices;
         slots = ap length timers ∙ may.well.timed.sized;
-        running = runs_on g.C.Clock.last_step g.C.Clock.reading g.M.Machine.stands c.args.network.now c.args.self.now after may.well
+        running = runs_on g.C.Clock.last_step g.C.Clock.reading g.M.Machine.stands c.args.network.now
+            c.args.self.now after may.well
             (still g (goal.at.rekey_act_from-requires g c).After-put_in);
       };
       before = due_stays g.C.Clock.reading g.M.Machine.stands c.args.network.now g.C.Clock.last_step c.args.self.now after (record { 0 = c.args.place.device })

@@ -80,7 +80,8 @@ turns-preserved g c =
       well = kept.well;
       after = after_then before.after kept.after;
       still = λ s notes is.
-          subst (λ l. StandsOne g.C.Clock.reading (keeps g.M.Machine.stands) s (world_of c.args.network.now c.turn.new.self) l) (append-nil notes)
+          subst (λ l. StandsOne g.C.Clock.reading (keeps g.M.Machine.stands) s
+          (world_of c.args.network.now c.turn.new.self) l) (append-nil notes)
           (kept.stands_then s notes (before.still s notes is));
       early = says.0;
       given = says.1 ∙ before.given;

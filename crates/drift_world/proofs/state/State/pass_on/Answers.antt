@@ -18,11 +18,13 @@ still : (g : given.Over) (c : After-pass_to g) (s : Scenario) (notes : List Note
 still g c s notes old =
     let sound = c.requires.may.well.sound in
     one_of (c.pass_to.ensures.stands c.args.network.now s notes old.0
-    (of_world g.C.Clock.last_step g.C.Clock.reading g.M.Machine.stands s c.args.network.now c.args.self.now notes old.0 sound.sized (c.args.time
+    (of_world g.C.Clock.last_step g.C.Clock.reading g.M.Machine.stands s c.args.network.now c.args.self.now notes old.0
+    sound.sized (c.args.time
     ∷ []) sound.under_way c.requires.nothing))
 
 passed : (g : given.Over) (c : After-pass_to g) (turn : Turn) → PassSays c.args.self.now c.pass_to.new.self c.args.until turn
-    → ((s : Scenario) (notes : List Note) → StandsOne g.C.Clock.reading (keeps g.M.Machine.stands) s (world_of c.args.network.now c.args.self.now) notes
+    → ((s : Scenario) (notes : List Note) → StandsOne g.C.Clock.reading (keeps g.M.Machine.stands) s
+    (world_of c.args.network.now c.args.self.now) notes
     → IsWhole s notes c.args.until turn)
     → IsPassed g.C.Clock.last_step g.C.Clock.reading g.M.Machine.stands c.args.network.now c.args.until c.args.self.now c.pass_to.new.self turn
 passed g c turn says whole =

@@ -131,7 +131,8 @@ give_first-requires-clause-running g c =
 
 given_so : (g : given.Over) (c : After-give_first g) (s : Scenario) (notes : List Note)
     → StandsOne g.C.Clock.reading (keeps g.M.Machine.stands) s (world_of c.args.network.now c.args.self.now) notes
-    → StandsOne g.C.Clock.reading (keeps g.M.Machine.stands) s (world_of c.args.network.now c.give_first.new.self) (notes
+    → StandsOne g.C.Clock.reading (keeps g.M.Machine.stands) s (world_of c.args.network.now c.give_first.new.self)
+    (notes
     ++ c.give_first.new.note ∷ [])
 given_so g c =
     let got = c.ripen_waits-ripened.result in
@@ -169,7 +170,11 @@ rekey_from-requires g c =
         there = may.foremost.there.of;
         few = may.range.few_devices;
         slots = ap length timers ∙ may.well.timed.sized;
-        running = record { s = run.s; notes = _; is = (given_so g (goal.at.rekey_from-requires g c).After-give_first run.s run.notes (run.is, may.well.one)).0 };
+        running = record {
+          s = run.s;
+          notes = _;
+          is = (given_so g (goal.at.rekey_from-requires g c).After-give_first run.s run.notes (run.is, may.well.one)).0;
+        };
       };
       before = due_stays g.C.Clock.reading g.M.Machine.stands c.args.network.now g.C.Clock.last_step c.args.self.now c.give_first.new.self
           (record { 0 = c.args.one.device.0 }) c.due_of-before.result may.well
@@ -193,7 +198,8 @@ returns-then-is_judged-clause-kept g c =
     let far = ap (λ (x : Settled). changed_device x.body) c.record_of-record.ensures ∙ judged_far got.waits got.ripe in
     let few = may.range.few_devices in
     let time = ap (λ (t : State _ _). t.time) give.same ∙ o.time in
-    kept_timers g.C.Clock.last_step g.C.Clock.reading g.M.Machine.stands c.args.network.now c.args.self.now gave c.rekey_from.new.self _ may.well
+    kept_timers g.C.Clock.last_step g.C.Clock.reading g.M.Machine.stands c.args.network.now c.args.self.now gave
+    c.rekey_from.new.self _ may.well
     give.sound
     (record {
       clocks = ap (λ (t : State _ _). t.clocks) give.same ∙ o.clocks;
@@ -227,10 +233,13 @@ still g c s notes old =
     let new = c.settle_ripe.new.settled.items in
     let may = first_ripe K.last_step K.reading S network w c.args.one got.waits c.requires.may rip.is in
     let so : AreSettledSo (w.given + 1) got.waits got.ripe w.settled.items new =
-    subst (λ l. AreSettledSo (w.given + 1) got.waits got.ripe l new) (ap (λ (t : State _ _). t.settled.items) rip.same) c.settle_ripe.ensures in
-    let not : IsJudged got.ripe → ⊥ = λ judged. both_ways c.is_judged.result c.if-is_judged.false (c.is_judged.ensures.1 judged) in
+    subst (λ l. AreSettledSo (w.given + 1) got.waits got.ripe l new) (ap (λ (t : State _ _). t.settled.items) rip.same)
+    c.settle_ripe.ensures in
+    let not : IsJudged got.ripe → ⊥ = λ judged. both_ways c.is_judged.result c.if-is_judged.false
+    (c.is_judged.ensures.1 judged) in
     let shape = shaped K.reading S network w (Ripening got.waits) may.foremost.there tt in
-    one_behind K.reading S network (record c.ripen_waits-ripened.new.self { settled = c.settle_ripe.new.settled }) w.time 3 shape.rest shape.place
+    one_behind K.reading S network (record c.ripen_waits-ripened.new.self { settled = c.settle_ripe.new.settled })
+    w.time 3 shape.rest shape.place
     (inr (inl refl))
     (dropped_late (w.given + 1) got.waits got.ripe w.settled.items new not so (all_late K.reading S network w old))
     (rip.stands new so s notes old.0
@@ -257,7 +266,8 @@ rekey_from-requires-2 g c =
         there = may.foremost.there.of;
         few = may.range.few_devices;
         slots = ap length timers ∙ may.well.timed.sized;
-        running = runs_on g.C.Clock.last_step g.C.Clock.reading g.M.Machine.stands c.args.network.now c.args.self.now after may.well
+        running = runs_on g.C.Clock.last_step g.C.Clock.reading g.M.Machine.stands c.args.network.now
+            c.args.self.now after may.well
             (still g (goal.at.rekey_from-requires-2 g c).After-settle_ripe);
       };
       before = due_stays g.C.Clock.reading g.M.Machine.stands c.args.network.now g.C.Clock.last_step c.args.self.now after (record { 0 = c.args.one.device.0 })

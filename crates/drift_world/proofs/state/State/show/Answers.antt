@@ -47,7 +47,8 @@ returns-clause-kept g c =
     let few = may.range.few_devices in
     let changes : ChangesOnly other w gave = changes_both (shown.others other) give.others in
     let time = changes.time in
-    kept_timers g.C.Clock.last_step g.C.Clock.reading g.M.Machine.stands c.args.network.now w gave gave _ may.well give.sound
+    kept_timers g.C.Clock.last_step g.C.Clock.reading g.M.Machine.stands c.args.network.now w gave gave _
+    may.well give.sound
     (record { clocks = changes.clocks; ended = changes.ended; later = omega (arith, time) })
     (stands_first g.C.Clock.last_step g.C.Clock.reading g.M.Machine.stands c.args.network.now w mid (Clock c.args.device) one may tt
     (ap (λ (t : State _ _). t.settled.items) shown.same)

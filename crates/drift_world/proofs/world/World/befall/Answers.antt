@@ -40,7 +40,8 @@ invariant_of-self g c =
     let well = c.self.invariant in
     let kept = c.in-Err.ensures.kept in
     let view = subst (λ n. world_of n new ≡ world_of n state) c.network-network.ensures.value c.in-Err.ensures.err in
-    let then_ = subst (λ w. StandsOne K.reading (keeps g.M.Machine.stands) well.running.s w well.running.notes) (sym view)
+    let then_ = subst (λ w. StandsOne K.reading (keeps g.M.Machine.stands) well.running.s w well.running.notes)
+    (sym view)
     (well.running.is, well.one) in
     record {
       sound = subst (λ n. IsSound K.last_step n new) c.network-network.ensures.value c.apply.ensures.sound;

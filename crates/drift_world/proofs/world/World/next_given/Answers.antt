@@ -23,7 +23,8 @@ returns-clause-stands g c = λ network events notes under.
     let S = g.M.Machine.stands in
     let s = scenario network (reading_of K.fresh K.after_step K.reading network events) events in
     let old = subst (λ w. StandsUnder K.fresh K.after_step K.reading S network w events notes) (sym (viewed g c)) under in
-    let new = subst (λ n. StandsOne K.reading (keeps S) s (world_of n c.next.new.self) (notes ++ given_by (next_of c.next.result c.next.new.note)))
+    let new = subst (λ n. StandsOne K.reading (keeps S) s (world_of n c.next.new.self)
+    (notes ++ given_by (next_of c.next.result c.next.new.note)))
     c.network.ensures.value (c.next.ensures.kept.stands_then s notes (old.is, old.one)) in
     record {
       is = new.0;
@@ -80,8 +81,10 @@ returns-clause-reached g c =
     let own = c.self.inside.accepted.now in
     let state = c.self.inside.state in
     let new = c.next.new.self in
-    let Steps = λ (n : Network). (s : Scenario) (notes : List Note) → StandsOne K.reading (keeps S) s (world_of n state) notes
+    let Steps = λ (n : Network). (s : Scenario) (notes : List Note) → StandsOne K.reading (keeps S) s
+    (world_of n state) notes
     → StandsOne K.reading (keeps S) s (world_of n new) (notes ++ given_by (next_of c.next.result c.next.new.note)) in
     subst (λ w. ComesUpTo w (world_of own new) c.args.until (next_of c.next.result c.next.new.note)) c.self.view_is
     (comes_up_to K.reading S own state new _ c.next.result c.next.new.note c.args.until c.amount.result c.amount.ensures.whole c.next.ensures.kept.after
-    c.self.invariant.running c.self.invariant.one (subst Steps c.network.ensures.value c.next.ensures.kept.stands_then) c.next.ensures.says)
+    c.self.invariant.running c.self.invariant.one (subst Steps c.network.ensures.value c.next.ensures.kept.stands_then)
+    c.next.ensures.says)
