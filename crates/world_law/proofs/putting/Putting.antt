@@ -1,10 +1,10 @@
 -- What is settled once a record that bears on no device is put in, and the cursor goes by its source.
-use Rattle.world_law.proofs.Words.{◌++◌, ◌∙◌, ◌∷◌, ◌≡◌, ◌≤◌, AllBefore, AreOfNetwork, AreSettled, DeviceId, Happening}
-use Rattle.world_law.proofs.Words.{IsBefore, IsFounded, IsHeld, IsIn, IsOwnSource, IsSource, IsDue, List, Network, Node, NoneBefore, NoteBody, Scenario}
-use Rattle.world_law.proofs.Words.{ap, arith, behind, cause_of, in_left, in_parts, in_right, inl, inr}
-use Rattle.world_law.proofs.Words.{length, members_in, place_of, rank, refl, subst, sym, time_of, true, [], ℕ}
-use Rattle.world_law.proofs.{devices.Borne.moves_no_other, rows.AtHand.idle_taking, runs.TaskPlaces.second}
-use Rattle.world_law.proofs.putting.{Bearing.{frames_aside, held_aside, known_aside}, Idle.{IsIdle, idle_bears, idle_rank}, Moving.IsMoving}
+use Rattle.world_law.proofs.Words.{◌++◌, ◌∙◌, ◌∷◌, ◌≡◌, ◌≤◌, AreOfNetwork, AreSettled, DeviceId, Happening}
+use Rattle.world_law.proofs.Words.{IsHeld, IsIn, IsOwnSource, List, Network, Node, NoteBody, Scenario}
+use Rattle.world_law.proofs.Words.{arith, behind, cause_of, in_left, in_parts, in_right, inl, inr}
+use Rattle.world_law.proofs.Words.{length, members_in, place_of, rank, refl, subst, sym, time_of, true, ℕ}
+use Rattle.world_law.proofs.{devices.Borne.moves_no_other, rows.AtHand.idle_taking}
+use Rattle.world_law.proofs.putting.{Bearing.{frames_aside, held_aside, known_aside}, Idle.{IsIdle, idle_bears, idle_rank}}
 use Rattle.world_law.proofs.putting.{Moving.IsAllOfIt, PutIn.{known_cause, own_time}, PutOne.{IsOne, is_last, last_unfollowed, one_by}}
 use Rattle.world_law.proofs.runs.Firsts.{at_least}
 use Rattle.world_law.specs.world.World.{IsDueAs}
@@ -13,18 +13,9 @@ use Rattle.run_law.specs.declared.note.NoteBody.TheVariants as notes
 -- what a step that puts in a record starts from: the record is due at its place among those to come, and whatever comes
 -- from the source is at that place
 pub record IsPutting (s : Scenario) (hs front back : List Happening) (mark cursor : List ℕ) (now r : ℕ) (more : List ℕ) (w : Happening) : Type 0 where
-  pub moving : IsMoving s hs (front ++ back) mark cursor now r more
+  pub one : IsOne s hs front back mark cursor now r more w
   pub late : 8 ≤ r
-  pub marked : (p : List ℕ) → IsBefore p (now ∷ []) → IsBefore p mark
-  pub founded : IsFounded place_of (IsDue s) hs
   pub idle : IsIdle w.note.body
-  pub at : time_of w ≡ now
-  pub due : IsDueAs s (hs ++ front) w
-  pub before : AllBefore place_of front (place_of w)
-  pub none : NoneBefore place_of back (place_of w)
-  pub fresh : (y : Happening) → IsIn y back → place_of w ≡ place_of y → ⊥
-  pub mine : IsOwnSource s (hs ++ front) (time_of w) (members_in w) w.note.body (now ∷ r ∷ more)
-  pub here : IsSource s (hs ++ front) (now ∷ r ∷ more)
   pub own : (zs : List Happening) (y : Happening) → IsDueAs s (hs ++ zs) y → cause_of y.note.body ≤ length hs → time_of y ≡ now
       → IsOwnSource s (hs ++ zs) (time_of y) (members_in y) y.note.body (now ∷ r ∷ more) → place_of w ≡ place_of y
 
@@ -39,8 +30,8 @@ module _ {s : Scenario} {hs front back : List Happening} {mark cursor : List ℕ
     (p : IsPutting s hs front back mark cursor now r more w) where
   was_late : (y : Happening) → IsIn y (front ++ back) → (time_of y ≡ now) × (8 ≤ rank y.note.body)
   was_late y i =
-      let at = p.moving.are.of_now y i in
-      let low = at_least y now r more at (p.moving.after y i) in
+      let at = p.one.moving.are.of_now y i in
+      let low = at_least y now r more at (p.one.moving.after y i) in
       let late = p.late in
       (at, omega (arith, low, late))
 
@@ -48,25 +39,10 @@ module _ {s : Scenario} {hs front back : List Happening} {mark cursor : List ℕ
   put_late y i =
       elim (in_parts y front (w ∷ back) i) [
         | inl f ↦ was_late y (in_left y front back f)
-        | inr (inl e) ↦ subst (λ (h : Happening). (time_of h ≡ now) × (8 ≤ rank h.note.body)) (sym e) (p.at, idle_rank w.note.body p.idle)
+        | inr (inl e) ↦ subst (λ (h : Happening). (time_of h ≡ now) × (8 ≤ rank h.note.body)) (sym e)
+            (p.one.at, idle_rank w.note.body p.idle)
         | inr (inr b) ↦ was_late y (in_right y front back b)
       ]
-
-  one_of : IsOne s hs front back mark cursor now r more w
-  one_of = record {
-    moving = p.moving;
-    later = let late = p.late in inr (refl, inl (omega (arith, late)));
-    marked = p.marked;
-    given = p.founded;
-    at = p.at;
-    due = p.due;
-    before = p.before;
-    none = p.none;
-    fresh = p.fresh;
-    mine = p.mine;
-    here = p.here;
-    aside = λ x i device e yes_it. let six : r ≡ 6 = ap second e in let late = p.late in omega (arith, six, late);
-  }
 
   all_of_it : IsAllOfIt s hs (front ++ w ∷ back) (now ∷ r ∷ more)
   all_of_it f rest y e before none due own =
@@ -77,12 +53,12 @@ module _ {s : Scenario} {hs front back : List Happening} {mark cursor : List ℕ
       let late = p.late in
       let low = at.3 in
       let high : 8 ≤ rank y.note.body = omega (arith, same, late, low) in
-      let few = known_cause s hs f y.note.time y.note.body p.moving.forward p.founded
+      let few = known_cause s hs f y.note.time y.note.body p.one.moving.forward p.one.given
       (λ h i. let it = put_late h (subst (λ l. IsIn h l) (sym e) (in_left h f rest i)) in (it.0 ∙ now_is, it.1)) high due.cause in
       (w, in_right w front (w ∷ back) (inl refl), p.own f y due few (sym now_is) own)
 
   pub settled_put : AreSettled s hs (front ++ w ∷ back) mark (behind (now ∷ r ∷ more)) now
-  settled_put = one_by one_of (last_unfollowed s hs now w.note.body (idle_last w.note.body p.idle)) all_of_it
+  settled_put = one_by p.one (last_unfollowed s hs now w.note.body (idle_last w.note.body p.idle)) all_of_it
 
 -- ---- a device stands with the record as without it
 

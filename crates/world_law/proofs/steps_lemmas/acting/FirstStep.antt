@@ -9,7 +9,7 @@ use Rattle.world_law.proofs.steps_lemmas.Words.{IsOfThisTime, IsOwnSource, IsSet
 use Rattle.world_law.proofs.steps_lemmas.Words.{Stands, StandsBehind, State, Synchronised, Units, World, [], ap}
 use Rattle.world_law.proofs.steps_lemmas.Words.{arith, bears_on, behind, both_ways, correcting, doing, false, frames_taken}
 use Rattle.world_law.proofs.steps_lemmas.Words.{happenings, held_aside, if◌then◌else◌, in_left, in_parts, in_right, inl, inr}
-use Rattle.world_law.proofs.steps_lemmas.Words.{is_joined_by, is_turned_on_at, known_aside, length}
+use Rattle.world_law.proofs.steps_lemmas.Words.{is_turned_on_at, known_aside, length}
 use Rattle.world_law.proofs.steps_lemmas.Words.{moment_of, moves, moves_no_other, ne_eqb, none_in, numbers_end, place_of}
 use Rattle.world_law.proofs.steps_lemmas.Words.{point_number, rank, record_of, refl}
 use Rattle.world_law.proofs.steps_lemmas.Words.{Why, put_length, state_after, subst, sym, time_of, true, two_shown, units_of}
@@ -200,8 +200,3 @@ first_goes_by {reading} {stands} {s} {world} {notes} {old} {device} {machine} {a
     st.calm.falls (corrected_worked act.0 heard by (changed_at (hs ++ new) device (now + 1)) st is) st.reach
     (inl (out_by_acts s hs now device
     (none_at_point s hs world.settled now device node cycle old.range old.rules st.steady st.work point.pending point.due)))) x.set
-  where
-    joins_move : (device : DeviceId) (body : NoteBody) → is_joined_by device body ≡ true → moves device body ≡ true
-    joins_move device (kinds.Corrected other c b d) e = absurd cc
-    joins_move device (kinds.State other st c y) e = absurd cc
-    joins_move device other e = e

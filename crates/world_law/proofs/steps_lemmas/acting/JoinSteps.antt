@@ -89,14 +89,6 @@ pub record IsJoining {C M : Type 0} (reading : C → ℕ → ℕ) (stands : M �
   pub put : ArePutIn s.network (happenings s.network notes) world.now (emission_body device sent judgements.Integrates
       ∷ kinds.State device Joining (length (happenings s.network notes) + 1) whys.Frame ∷ []) world.settled settled
 
-no_correction : (s : Scenario) (device : DeviceId) (now cycle : ℕ) (h : Happening) (by adjustment : _) → IsAtRest s device now h.note.body
-    → h.note.body ≡ kinds.Corrected device cycle by adjustment → ⊥
-no_correction s device now cycle h by adjustment rest e = from (subst (IsAtRest s device now) e rest)
-  where
-    from : IsAtRest s device now (kinds.Corrected device cycle by adjustment) → ⊥
-    from (inl still) = both_ways _ still (eq-eqb device.0 device.0 refl)
-    from (inr on) = let bad : false ≡ true = on.0 in cc
-
 -- a change of state whose cause is given stands before that which the frame brings
 early_change : (n now : ℕ) {device : DeviceId} {z : Happening} (v : Happening) (c : ChangesIt device (now + 1) z)
     → time_of z ≡ now → c.cause ≤ n → place_of v ≡ now ∷ 7 ∷ device.0 ∷ (n + 1) ∷ []

@@ -169,7 +169,7 @@ pub quiet_for : {M : Type 0} (stands : M → Network → DeviceId → Node → T
 quiet_for stands {hs} {front} {back} {e} {is} a r device = record {
   bears = ap (bears_on device) r.body ∙ quiet_body device e.device e.link e.cause is;
   sooner = λ h i.
-      let at = r.at in
+      let at = r.one.at in
       elim (in_parts h hs (front ++ back) i) [
         | inl old ↦ let le = given_by_now a h old in omega (arith, le, at)
         | inr new ↦ let is_now = a.moving.are.of_now h new in omega (arith, is_now, at)
@@ -241,11 +241,11 @@ module _ {M : Type 0} (stands : M → Network → DeviceId → Node → Type 0) 
       ≡ record { vl = vl; cycle = cycle; at = z } ∷ []) → IsTakingBy s hs front back now w e.device vl cycle
   taking_by {is} {w} vl cycle a r high takes = record {
     quiet = quiet_for stands a r e.device;
-    at = r.at;
+    at = r.one.at;
     takes = λ z. ap (taken_in e.device z) r.body ∙ takes z;
     behind = λ h i.
         no_taking a h (in_right h front back i) (rank (arrival_body e.device e.link e.cause is))
-        (subst (λ q. IsBefore (place_of h) q → ⊥) (placed_at now e is w r.at r.body) (r.none h i)) high;
+        (subst (λ q. IsBefore (place_of h) q → ⊥) (placed_at now e is w r.one.at r.body) (r.one.none h i)) high;
   }
 
 abbrev frame_of : VlId → ℕ → ℤ → TakenFrame
@@ -276,16 +276,16 @@ module _ {M : Type 0} (stands : M → Network → DeviceId → Node → Type 0) 
       (taking_by stands s hs front back mark cursor now e vl cycle h.given r (delivered_high s.network e.device)
       (self_takes e.device vl cycle)) h.steady h.precise k is
   kept_there (arrivals.Dropped reason) h r so k is =
-      plain_there e heard h.moving (quiet_for stands h.given r e.device) r.at
+      plain_there e heard h.moving (quiet_for stands h.given r e.device) r.one.at
       (λ at. ap (taken_in e.device at) r.body) k is
   kept_there (arrivals.Waits frame point) h r so k is =
-      plain_there e heard h.moving (quiet_for stands h.given r e.device) r.at
+      plain_there e heard h.moving (quiet_for stands h.given r e.device) r.one.at
       (λ at. ap (taken_in e.device at) r.body) k is
   kept_there (arrivals.Passes frame way) h r so k is =
-      plain_there e heard h.moving (quiet_for stands h.given r e.device) r.at
+      plain_there e heard h.moving (quiet_for stands h.given r e.device) r.one.at
       (λ at. ap (taken_in e.device at) r.body) k is
   kept_there (arrivals.PassesAndWaits frame way point) h r so k is =
-      plain_there e heard h.moving (quiet_for stands h.given r e.device) r.at
+      plain_there e heard h.moving (quiet_for stands h.given r e.device) r.one.at
       (λ at. ap (taken_in e.device at) r.body) k is
 
   -- a broken device takes nothing, and is kept
@@ -305,7 +305,7 @@ module _ {M : Type 0} (stands : M → Network → DeviceId → Node → Type 0) 
   held_there {w} h r so (inr k) =
       let quiet = quiet_for stands h.given r e.device in
       let dropped = so ∙ broken_drops s (hs ++ (front ++ back)) e.device now e.link e.cause e.signal k.broken in
-      held_aside s hs front back w e.device quiet.bears r.at
+      held_aside s hs front back w e.device quiet.bears r.one.at
       (frames_aside s hs front back w e.device quiet.bears
       (λ at. ap (taken_in e.device at) (r.body ∙ ap (arrival_body e.device e.link e.cause) dropped)))
       (inr (out_heard stands s hs (front ++ back) mark cursor now e machine heard octets result h k).1)
@@ -358,7 +358,7 @@ heard_step {C} {M} reading stands s world notes e machine heard octets result ma
     (ap (λ (l : List Happening). arrival_of s (hs ++ l) e.device now e.link e.cause e.signal) r.whole)
     (subst (λ l. IsHeld stands s hs l old.cursor now e.device machine) r.whole held))
     (λ device k not kept.
-    held_aside s hs r.front r.back r.w device (quiet device).bears r.it.at
+    held_aside s hs r.front r.back r.w device (quiet device).bears r.it.one.at
     (frames_aside s hs r.front r.back r.w device (quiet device).bears
     (λ z. ap (taken_in device z) r.it.body
     ∙ others_take device e.device e.link e.cause is (ne_eqb device.0 e.device.0 not) z))

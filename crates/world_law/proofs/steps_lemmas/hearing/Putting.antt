@@ -1,11 +1,10 @@
 -- The record of an arrival is put in among those to come.
-use Rattle.world_law.proofs.steps_lemmas.Words.{◌++◌, ◌+◌, ◌∙◌, ◌∷◌, ◌≡◌, ◌≤◌, ◌⊎◌, AllBefore, Arrival, DeviceId, Happening, IsBefore, IsDue, IsFounded, IsIn}
+use Rattle.world_law.proofs.steps_lemmas.Words.{◌++◌, ◌+◌, ◌∙◌, ◌∷◌, ◌≡◌, ◌≤◌, ◌⊎◌, Arrival, DeviceId, Happening, IsBefore, IsDue, IsFounded, IsIn}
 use Rattle.world_law.proofs.steps_lemmas.Words.{IsMoving, IsOnWire, IsOwnSource, IsPutIn, IsSource, List, Network, NoneBefore, OnWire, Scenario}
-use Rattle.world_law.proofs.steps_lemmas.Words.{Signal, [], ap, append-nil, arith, arrival_body, arrival_of, cause_of, chain}
+use Rattle.world_law.proofs.steps_lemmas.Words.{Signal, [], ap, append-nil, arith, arrival_body, arrival_of, cause_of, chain, inr, IsOne}
 use Rattle.world_law.proofs.steps_lemmas.Words.{control, due_of, if◌then◌else◌, in_right, is_end, length, members_in, one_shown, parted, place_of, put_length}
 use Rattle.world_law.proofs.steps_lemmas.Words.{rank, record_of, refl, second, settled_as, subst, sym, time_of, timed, units_of, ℕ}
 use Rattle.world_law.proofs.steps_lemmas.hearing.Receptions.{arrives_now, body_cause, body_caused, body_key, body_own, few_cause, own_there}
-use Rattle.world_law.specs.world.World.{IsDueAs}
 
 -- ---- no record to come is from the place of the arrival on
 
@@ -34,17 +33,8 @@ IsHeardAs s hs coming now e is =
 -- the record is due at its place among those to come, and says what becomes of the frame by any of those before its place
 pub record IsReceiving (s : Scenario) (hs front back : List Happening) (mark cursor : List ℕ) (now : ℕ) (e : OnWire) (is : Arrival)
     (w : Happening) : Type 0 where
-  pub moving : IsMoving s hs (front ++ back) mark cursor now 2 (e.device.0 ∷ e.link.0 ∷ e.cause ∷ [])
-  pub marked : (p : List ℕ) → IsBefore p (now ∷ []) → IsBefore p mark
-  pub founded : IsFounded place_of (IsDue s) hs
+  pub one : IsOne s hs front back mark cursor now 2 (e.device.0 ∷ e.link.0 ∷ e.cause ∷ []) w
   pub body : w.note.body ≡ arrival_body e.device e.link e.cause is
-  pub at : time_of w ≡ now
-  pub due : IsDueAs s (hs ++ front) w
-  pub before : AllBefore place_of front (place_of w)
-  pub none : NoneBefore place_of back (place_of w)
-  pub fresh : (y : Happening) → IsIn y back → place_of w ≡ place_of y → ⊥
-  pub mine : IsOwnSource s (hs ++ front) (time_of w) (members_in w) w.note.body (now ∷ 2 ∷ e.device.0 ∷ e.link.0 ∷ e.cause ∷ [])
-  pub here : IsSource s (hs ++ front) (now ∷ 2 ∷ e.device.0 ∷ e.link.0 ∷ e.cause ∷ [])
   pub wire : IsOnWire s hs e
   pub arrives : e.at ≡ now
   pub so : IsHeardAs s hs (front ++ back) now e is
@@ -94,19 +84,41 @@ received {s} {hs} {coming} {mark} {cursor} {now} {e} is m marked founded it at s
       w = w;
       whole = shown.parts;
       it = record {
-        moving = moving;
-        marked = marked;
-        founded = founded;
+        one = record {
+          moving = moving;
+          later = inr (refl, inr (refl, tt));
+          marked = marked;
+          given = founded;
+          at = refl;
+          due = due_of s hs front now body (body_caused (units_of now) is arrives);
+          before = shown.before;
+          none = shown.none;
+          fresh = grind (
+            arith,
+            never_from,
+            front,
+            back,
+            more,
+            moving,
+            in_right,
+            own_there,
+            time_of,
+            members_in,
+            key_is,
+          );
+          mine = body_own (members_in w) is arrives;
+          here =
+              IsSource.arriving now e.device e.link e.cause
+              (record {
+                putting = arrives.putting;
+                there = arrives.there;
+                signal = arrives.signal;
+                arrives =
+                    arrives.arrives;
+              });
+          aside = λ x i device same hears. let six : 2 ≡ 6 = ap second same in omega (arith, six);
+        };
         body = refl;
-        at = refl;
-        due = due_of s hs front now body (body_caused (units_of now) is arrives);
-        before = shown.before;
-        none = shown.none;
-        fresh = grind (arith, never_from, front, back, more, moving, in_right, own_there, time_of, members_in, key_is);
-        mine = body_own (members_in w) is arrives;
-        here =
-            IsSource.arriving now e.device e.link e.cause
-            (record { putting = arrives.putting; there = arrives.there; signal = arrives.signal; arrives = arrives.arrives });
         wire = it;
         arrives = at;
         so = λ f rest rank_ whole none_ high. so f rest rank_ (shown.parts ∙ whole) none_ high;

@@ -1,8 +1,8 @@
 -- The record of an arrival is put in, and the cursor goes by it: what is to come is settled.
 use Rattle.run_law.proofs.runs.SameSteps.{same_arrival}
-use Rattle.world_law.proofs.steps_lemmas.Words.{no_task_at, ◌++◌, ◌∙◌, ◌∷◌, ◌≡◌, ◌≤◌, AreSettled, Arrival, DeviceId, Happening, IsAllOfIt, IsIn}
-use Rattle.world_law.proofs.steps_lemmas.Words.{IsOne, LinkId, List, NoneBefore, OnWire, Scenario, [], ap, append_assoc, arith, arrival_body, arrival_of, behind}
-use Rattle.world_law.proofs.steps_lemmas.Words.{correcting, doing, in_right, inl, inr, is_last, last_unfollowed, members_in, never_self}
+use Rattle.world_law.proofs.steps_lemmas.Words.{◌++◌, ◌∙◌, ◌∷◌, ◌≡◌, ◌≤◌, AreSettled, Arrival, DeviceId, Happening, IsAllOfIt, IsIn}
+use Rattle.world_law.proofs.steps_lemmas.Words.{LinkId, List, NoneBefore, OnWire, Scenario, [], ap, append_assoc, arrival_body, arrival_of, behind}
+use Rattle.world_law.proofs.steps_lemmas.Words.{in_right, inl, inr, is_last, last_unfollowed, members_in, never_self}
 use Rattle.world_law.proofs.steps_lemmas.Words.{one_by, place_of, rank, refl, subst, sym, time_of, true, ℕ}
 use Rattle.world_law.proofs.putting.{Bearing.in_placed, Near.arrival_near, Placing.{two_at, well_of}, PutIn.split_two, PutOne.placing_one}
 use Rattle.world_law.proofs.steps_lemmas.hearing.{Putting.{IsReceiving, least_rank}, Ranked.rank_is}
@@ -16,31 +16,13 @@ last_body device link cause other = refl
 
 module _ (s : Scenario) (hs front back : List Happening) (mark cursor : List ℕ) (now : ℕ) (e : OnWire) (is : Arrival) (w : Happening)
     (p : IsReceiving s hs front back mark cursor now e is w) where
-  one_arrival : IsOne s hs front back mark cursor now 2 (e.device.0 ∷ e.link.0 ∷ e.cause ∷ []) w
-  one_arrival =
-      record {
-        moving = p.moving;
-        later = inr (refl, inr (refl, tt));
-        marked = p.marked;
-        given = p.founded;
-        at = p.at;
-        due = p.due;
-        before = p.before;
-        none = p.none;
-        fresh = p.fresh;
-        mine = p.mine;
-        here = p.here;
-        aside = λ x i device same hears.
-            no_task_at s.network now device 2 (e.device.0 ∷ e.link.0 ∷ e.cause ∷ []) (inl (omega arith)) (doing (correcting 0)) (sym same);
-      }
-
   -- the frame is judged with it as without it
   judged_put : (c d : List Happening) → back ≡ c ++ d → arrival_of s (hs ++ (front ++ c)) e.device now e.link e.cause e.signal
       ≡ arrival_of s (hs ++ (front ++ w ∷ c)) e.device now e.link e.cause e.signal
   judged_put c d whole =
       let more = e.device.0 ∷ e.link.0 ∷ e.cause ∷ [] in
-      let near = two_at (well_of p.moving)
-      (placing_one one_arrival) now c d whole refl in
+      let near = two_at (well_of p.one.moving)
+      (placing_one p.one) now c d whole refl in
       arrival_near s (hs ++ (front ++ c)) (hs ++ (front ++ w ∷ c)) now e.device e.link e.cause e.signal near.before
       (λ vl. near.taken e.device e.link e.cause vl (never_self (now ∷ 2 ∷ more)))
 
@@ -67,12 +49,12 @@ module _ (s : Scenario) (hs front back : List Happening) (mark cursor : List ℕ
       ] in (
         w,
         in_right w front (w ∷ back) (inl refl),
-        placed_at now e is w p.at p.body ∙ outcome_at f is p.wire p.arrives so c,
+        placed_at now e is w p.one.at p.body ∙ outcome_at f is p.wire p.arrives so c,
       )
 
   pub arrival_put : AreSettled s hs (front ++ w ∷ back) mark (behind (now ∷ 2 ∷ e.device.0 ∷ e.link.0 ∷ e.cause ∷ [])) now
   arrival_put =
       let more = e.device.0 ∷ e.link.0 ∷ e.cause ∷ [] in
-      one_by one_arrival
+      one_by p.one
       (last_unfollowed s hs now w.note.body (ap is_last p.body ∙ last_body e.device e.link e.cause is))
       all_of_arrival

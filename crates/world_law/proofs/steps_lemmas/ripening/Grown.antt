@@ -28,7 +28,6 @@ pub record IsFirst (s : Scenario) (zs : List Happening) (device : DeviceId) (t :
   pub mere : (z : Happening) → IsIn z zs → IsMere device z.note.body
   pub open_ : is_cm s.network device ≡ true → (z : Happening) → IsIn z zs → ends_stretch device z.note.body ≡ false
   pub still : moves device w.note.body ≡ false
-  pub unchanged : changes_adjustment device w.note.body ≡ false
   pub goes_on : ends_stretch device w.note.body ≡ false
 
 abbrev keep : Scenario → List Happening → DeviceId → ℕ → Happening → Bool

@@ -350,7 +350,6 @@ next_by_role {stands} {s} {hs} {coming} {now} {e} {machine} w verdict r k hears 
         | inr over ↦ absurd (both_ways (is_cm s.network device) over.1.just.other cm)
       ];
       still = quiet.1;
-      unchanged = quiet.2;
       goes_on = quiet.3;
     } in
     let new = called (moment_of s device now) ripening (after_permanence k.node (moment_of s device now) (channel_of_link s.network e.link) e.frame e.point

@@ -5,7 +5,7 @@ use Rattle.world_law.proofs.steps_lemmas.Words.{◌++◌, ◌+◌, ◌<◌, ◌�
 use Rattle.world_law.proofs.steps_lemmas.Words.{IsMoving, IsOwnSource, IsSource, List, Network, Node, NoteBody, Scenario, [], no_task_at, adjustment_after}
 use Rattle.world_law.proofs.steps_lemmas.Words.{ap, arith, at_least, behind, cases_lt, chain, clock_place, comes_first, either_way, false}
 use Rattle.world_law.proofs.steps_lemmas.Words.{happenings, held_moves, inl, inr, is_at_source, key, members_in, place_of}
-use Rattle.world_law.proofs.steps_lemmas.Words.{rank, refl, settled_as, some_same, stands_on, state_after, subst, sym}
+use Rattle.world_law.proofs.steps_lemmas.Words.{rank, refl, settled_as, some_same, stands_on, state_after, subst, sym, second}
 use Rattle.world_law.proofs.steps_lemmas.Words.{StandsBehind, due_of, record_of, time_of, true, units_of, up_to, ℕ, ports_still, waiting_still, wires_still}
 use Rattle.world_law.{proofs.putting.PutShown.same_record, specs.world.World.IsDueAs}
 use Rattle.run_law.specs.declared.judgement.Why.TheVariants as whys
@@ -95,18 +95,22 @@ clock_step {C} {M} reading stands s world notes device machine state adjustment 
       in_state = is.0 ∙ shows.2.state ∙ ap (λ (l : List Happening). state_after s (up_to now (hs ++ l)) device) empty;
     }) in
     let p : IsPutting s hs [] [] old.mark old.cursor now 14 more w = record {
-      moving = moving;
+      one = record {
+        moving = moving;
+        later = inr (refl, inl (omega arith));
+        marked = old.of_now;
+        given = old.run.founded;
+        at = refl;
+        due = due;
+        before = λ y i. absurd i;
+        none = λ y i b. i;
+        fresh = λ y i same. i;
+        mine = refl;
+        here = IsSource.ending (units_of now) device at_end.0 at_end.1 ((old.ended (units_of now)).1 (ended, refl));
+        aside = λ x j other same hears. let six : 14 ≡ 6 = ap second same in omega (arith, six);
+      };
       late = omega arith;
-      marked = old.of_now;
-      founded = old.run.founded;
       idle = tt;
-      at = refl;
-      due = due;
-      before = λ y i. absurd i;
-      none = λ y i b. i;
-      fresh = λ y i same. i;
-      mine = refl;
-      here = IsSource.ending (units_of now) device at_end.0 at_end.1 ((old.ended (units_of now)).1 (ended, refl));
       own = λ zs y y_due few at own.
           let it = clock_own s (hs ++ zs) (time_of y) (members_in y) y.note.body device now own in
           ap (λ (l : List ℕ). now ∷ l) (sym it.1) ∙ ap (λ (n : ℕ). n ∷ rank y.note.body ∷ key (members_in y) y.note.body) (sym it.0);

@@ -7,7 +7,7 @@ use Rattle.world_law.proofs.steps_lemmas.Words.{ComesFirst, DeviceId, Happening,
 use Rattle.world_law.proofs.steps_lemmas.Words.{Node, Note, Scenario, Stands, StandsBehind, World, [], no_task_at, ap}
 use Rattle.world_law.proofs.steps_lemmas.Words.{append_assoc, arith, behind, cases_Bool, cause_of, comes_first}
 use Rattle.world_law.proofs.steps_lemmas.Words.{false, happenings, held_moves, if◌then◌else◌, in_left, in_right, inl, inr}
-use Rattle.world_law.proofs.steps_lemmas.Words.{is_broken, length, members_in, numbers_end, parted}
+use Rattle.world_law.proofs.steps_lemmas.Words.{is_broken, length, members_in, numbers_end, parted, second}
 use Rattle.world_law.proofs.steps_lemmas.Words.{place_of, port_place, ports_move, rank, refl, stands_on, subst, sym, time_of}
 use Rattle.world_law.{proofs.steps_lemmas.Words.{true, units_of, ℕ}, specs.world.Outcomes.departure_body}
 use Rattle.world_law.proofs.steps_lemmas.steps.Outcomes.{body_cause, body_caused, body_idle, body_key, body_own, departs_now, few_cause}
@@ -117,33 +117,37 @@ module _ {C M : Type 0} (reading : C → ℕ → ℕ) (stands : M → Network �
       let key_is : place_of w ≡ now ∷ rank body ∷ more =
       ap (λ (l : List ℕ). now ∷ rank body ∷ l) (body_key (members_in w) e is) in
       let p : IsPutting s hs front back old.mark old.cursor now 8 more w = record {
-        moving = moving;
+        one = record {
+          moving = moving;
+          later = inr (refl, inl (omega arith));
+          marked = old.of_now;
+          given = old.run.founded;
+          at = refl;
+          due = due_of s hs front now body (body_caused (units_of now) e is departs);
+          before = q.before;
+          none = q.none;
+          fresh = λ y there same.
+              let split = parted y back there in
+              let whole : front ++ back ≡ (front ++ split.0) ++ y ∷ split.1 =
+              ap (λ (l : List Happening). front ++ l) split.2
+              ∙ sym (append_assoc front split.0 (y ∷ split.1)) in
+              let by = moving.are.by (front ++ split.0) split.1 y whole in
+              let y_now = moving.are.of_now y (in_right y front back there) in
+              let from = own_there (front ++ split.0) now (members_in w) is it old.run.founded (time_of y)
+              (members_in y) y.note.body by.0
+              (λ z inside. let z_now = moving.are.of_now z
+              (subst (λ l. IsIn z l) (sym whole)
+              (in_left z (front ++ split.0) (y ∷ split.1) inside)) in omega (arith, y_now, z_now)) same
+              by.1 in
+              moving.waits (subst (λ q. IsBefore q old.cursor) from by.3);
+          mine = body_own (members_in w) e is departs;
+          here =
+              IsSource.departing now e.device e.link e.cause
+              (record { giving = departs.giving; there = departs.there; gives = departs.gives; held = departs.held });
+          aside = λ x j device same hears. let six : 8 ≡ 6 = ap second same in omega (arith, six);
+        };
         late = omega arith;
-        marked = old.of_now;
-        founded = old.run.founded;
         idle = idle;
-        at = refl;
-        due = due_of s hs front now body (body_caused (units_of now) e is departs);
-        before = q.before;
-        none = q.none;
-        fresh = λ y there same.
-            let split = parted y back there in
-            let whole : front ++ back ≡ (front ++ split.0) ++ y ∷ split.1 =
-            ap (λ (l : List Happening). front ++ l) split.2
-            ∙ sym (append_assoc front split.0 (y ∷ split.1)) in
-            let by = moving.are.by (front ++ split.0) split.1 y whole in
-            let y_now = moving.are.of_now y (in_right y front back there) in
-            let from = own_there (front ++ split.0) now (members_in w) is it old.run.founded (time_of y)
-            (members_in y) y.note.body by.0
-            (λ z inside. let z_now = moving.are.of_now z
-            (subst (λ l. IsIn z l) (sym whole)
-            (in_left z (front ++ split.0) (y ∷ split.1) inside)) in omega (arith, y_now, z_now)) same
-            by.1 in
-            moving.waits (subst (λ q. IsBefore q old.cursor) from by.3);
-        mine = body_own (members_in w) e is departs;
-        here =
-            IsSource.departing now e.device e.link e.cause
-            (record { giving = departs.giving; there = departs.there; gives = departs.gives; held = departs.held });
         own = λ zs y y_due y_few y_now own.
             outcome_at zs now (members_in w) it at sound (time_of y) (members_in y) y.note.body here refl own
             y.note.time refl y_due.cause;
