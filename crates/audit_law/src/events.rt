@@ -7,7 +7,7 @@ mod laws;
 mod memory;
 mod settings;
 
-pub use history::EventHistory;
+pub use history::{EventHistory, has_come};
 pub use laws::reading_law;
 pub use memory::OutOfMemory;
 pub use settings::{Change, Settings};

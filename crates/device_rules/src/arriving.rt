@@ -10,10 +10,10 @@ ghost use Rattle.run_law.specs.{device.Standpoints.offset_in_cycle, scenario.Dev
 
 use crate::Standpoint;
 use crate::frames::member_of;
-use crate::network::{is_end, is_parent_of, is_relay, place_in_cycle, precision, wire_of};
+use crate::network::{is_end, is_parent_of, is_relay, precision, wire_of};
 use net_plan::{DeviceId, LinkId, Network, Way};
 use pcf_codec::PcfRefusal;
-use run_law::{Arrival, Reason};
+use run_law::{Arrival, Reason, place_in_cycle};
 use sync_state::membership::one;
 use tte_units::Units;
 use tte_units::frames::{Members, Pcf, PcfKind};

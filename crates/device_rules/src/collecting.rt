@@ -4,10 +4,10 @@ ghost use Rattle.std.specs.Prelude.{◌≡◌, ◌*◌, int_lt, pos};
 ghost use Rattle.{device_rules.specs.Widths.IsWide, net_plan.specs.Ranges.IsInRange, tte_units.specs.Amount.amount};
 ghost use Rattle.run_law.specs.control.Collections.{dispatch_value, is_number, point_fault};
 
-use crate::network::{cycle_of, dmax, place_in_cycle, precision};
+use crate::network::{cycle_of, dmax, precision};
 use crate::standpoint::{is_synchronised, shown};
 use net_plan::Network;
-use run_law::Reason;
+use run_law::{Reason, place_in_cycle};
 use sync_state::State;
 
 /// Why a compression master in this state and with this adjustment drops a frame of the cycle at its point, if it does:
@@ -58,7 +58,7 @@ fn is_far(network: &Network, place: i128) -> bool
 }
 
 /// Is the whole number this one?
-fn is_number(z: i128, n: u32) -> bool
+pub fn is_number(z: i128, n: u32) -> bool
     ensures { result ≡ is_number z n }
 {
     let n = i128::from(n);

@@ -5,12 +5,12 @@ ghost use Rattle.device_rules.specs.Entering.{AreEntrances, AreRows, HasPeriod, 
 ghost use Rattle.device_rules.specs.{Entering.{entering_by, entrance_cmp, entrance_of, is_of}, Headings.heading_of};
 ghost use Rattle.net_plan.specs.{Ranges.IsInRange, declared.tables.{Row.Row, Way.TheVariants.{Down, Up}}};
 ghost use Rattle.net_plan.specs.declared.network.Network.{Network as NetworkValue};
-ghost use Rattle.{run_law.specs.scenario.Ways.is_way, schedule_tables.specs.Entries.{IsEntry, IsEntryInRange}};
+ghost use Rattle.schedule_tables.specs.Entries.{IsEntry, IsEntryInRange};
 
 use crate::network::way_to;
 use crate::{Heading, Standpoint};
 use net_plan::{DeviceId, Link, LinkId, Network, RowId, VlId, Way};
-use run_law::Reason;
+use run_law::{Reason, is_way};
 use schedule_tables::{Entry, OutOfMemory, Window, entry_of, window_of};
 use std::alloc::Global;
 use std::collections::BTreeMap;
@@ -165,16 +165,6 @@ fn comes_by(way: Way, link: &Link, device: DeviceId) -> bool
     match way {
         Way::Up => link.parent.0 == device.0,
         Way::Down => link.parent.0 != device.0 && link.child.0 == device.0,
-    }
-}
-
-/// Are the two ways one?
-pub fn is_way(way: Way, other: Way) -> bool
-    ensures { result ≡ is_way way other }
-{
-    match (way, other) {
-        (Way::Up, Way::Up) | (Way::Down, Way::Down) => true,
-        (Way::Up, Way::Down) | (Way::Down, Way::Up) => false,
     }
 }
 

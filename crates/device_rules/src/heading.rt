@@ -3,11 +3,10 @@
 ghost use Rattle.std.specs.Prelude.{◌≡◌, ◌≤◌, ◌<◌, ◌+◌, None, ℕ, length};
 ghost use Rattle.{device_rules.specs.Headings.{heading_fault, heading_of}, run_law.specs.records.Frames.tt_frame};
 ghost use Rattle.{net_plan.specs.Ranges.IsInRange, sync_state.specs.declared.state.State.TheVariants.Synchronised};
-ghost use Rattle.pcf_codec.specs.Fields.{field};
 
 use crate::standpoint::is_synchronised;
-use byteorder::{BigEndian, ByteOrder};
 use net_plan::{Network, VlId};
+use pcf_codec::{four_octets, two_octets};
 use run_law::Reason;
 use sync_state::State;
 
@@ -72,20 +71,4 @@ impl Heading {
             None
         }
     }
-}
-
-/// The number in two octets from an offset on.
-fn two_octets(octets: &[u8], at: usize) -> u16
-    requires { at + 2 ≤ length octets.now }
-    ensures { result ≡ field at 2 octets.now }
-{
-    BigEndian::read_u16(octets.split_at(at).1)
-}
-
-/// The number in the first four octets.
-fn four_octets(octets: &[u8]) -> u32
-    requires { 4 ≤ length octets.now }
-    ensures { result ≡ field 0 4 octets.now }
-{
-    BigEndian::read_u32(octets)
 }

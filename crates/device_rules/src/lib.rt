@@ -20,14 +20,17 @@ mod standpoint;
 mod timed;
 
 pub use arriving::{control_arrival, is_cold_start, refused};
-pub use collecting::point_fault;
+pub use collecting::{is_number, point_fault};
 pub use correcting::{PointStanding, PointVerdict, correction_value, joined_adjustment, verdict};
-pub use entrances::{EnteringRow, Entrances, is_way};
+pub use entrances::{EnteringRow, Entrances};
 pub use first_kind::{TaskKind, TellsKind};
 pub use heading::Heading;
 pub use hearing::heard_as;
 pub use intake::Intake;
 pub use leaving::{Departed, departure};
-pub use network::{is_cm, is_end, is_master, is_parent_of, is_relay, waits_for, way_to};
-pub use standpoint::Standpoint;
+pub use network::{
+    cycle_at, is_cm, is_end, is_master, is_parent_of, is_relay, start_of, waits_for, way_from,
+    way_to,
+};
+pub use standpoint::{Standpoint, is_off, is_synchronised};
 pub use timed::TimedArrival;

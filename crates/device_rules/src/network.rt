@@ -1,14 +1,15 @@
 //! What the network says of a device and of its times.
 
-ghost use Rattle.std.specs.{Int.int_div_euclid, Prelude.{◌*◌, ◌+◌, ◌<◌, ◌^◌, ◌≡◌, ◌≤ℤ◌, ◌≤◌, pos}};
-ghost use Rattle.{device_rules.specs.Widths.IsLocal, run_law.specs.device.Standpoints.{cycle_at, offset_in_cycle}};
+ghost use Rattle.std.specs.{Int.int_div_euclid, Prelude.{◌*◌, ◌+◌, ◌<◌, ◌^◌, ◌≡◌, ◌≤ℤ◌, ◌≤◌, IfSome, pos}};
+ghost use Rattle.{device_rules.specs.Widths.IsLocal, run_law.specs.device.Standpoints.cycle_at};
 ghost use Rattle.run_law.specs.control.Permanence.{waits_for};
-ghost use Rattle.{net_plan.specs.{Places.is_master, Ranges.IsInRange}, sync_state.specs.Plan.expected_at};
+ghost use Rattle.{net_plan.specs.{Places.is_master, Ranges.{IsInRange, IsWithin}}, sync_state.specs.Plan.expected_at};
 ghost use Rattle.tte_units.specs.Amount.{amount};
 ghost use Rattle.run_law.specs.scenario.Devices.{expected_by, has_role, is_cm, is_cm_role, is_end, is_parent_of};
-ghost use Rattle.run_law.specs.scenario.{Devices.{is_relay, is_relay_role, plan_of}, Ways.{way_to, wire_of}};
+ghost use Rattle.run_law.specs.scenario.{Devices.{is_relay, is_relay_role, plan_of, start_of}, Ways.{way_from, way_to, wire_of}};
 
 use net_plan::{DeviceId, LinkId, Network, Role, Way};
+use tte_units::Units;
 
 /// Is the device a compression master?
 pub fn is_cm(network: &Network, device: DeviceId) -> bool
@@ -68,6 +69,14 @@ pub fn is_end(network: &Network, device: DeviceId) -> bool
     }
 }
 
+/// Where the device's clock begins. It is None for one that begins off.
+pub fn start_of(network: &Network, device: DeviceId) -> Option<Units>
+    ensures value { result ≡ start_of network.now device }
+    ensures range { IsInRange network.now → IfSome result (IsWithin 0 (2 ^ 40)) }
+{
+    network.device.as_slice().get(device.0 as usize)?.start
+}
+
 /// Is the device the parent of the link?
 pub fn is_parent_of(network: &Network, device: DeviceId, link: LinkId) -> bool
     ensures { result ≡ is_parent_of network.now device link }
@@ -83,6 +92,17 @@ pub fn waits_for(network: &Network, device: DeviceId, link: LinkId) -> bool
     ensures { result ≡ waits_for network.now device link }
 {
     !is_relay(network, device) || !is_parent_of(network, device, link)
+}
+
+/// The way on which the device sends on the link.
+pub fn way_from(network: &Network, device: DeviceId, link: LinkId) -> Way
+    ensures { result ≡ way_from network.now device link }
+{
+    if is_parent_of(network, device, link) {
+        Way::Down
+    } else {
+        Way::Up
+    }
 }
 
 /// The way on which the device receives by the link.
@@ -158,16 +178,8 @@ pub(crate) fn expected_at(network: &Network, device: DeviceId, cycle: u64) -> i1
     (begun(network, cycle) + u128::from(expected_by(network, device))) as i128
 }
 
-/// The place of a local value in its cycle.
-pub(crate) fn place_in_cycle(network: &Network, value: i128) -> i128
-    requires { IsInRange network.now }
-    ensures { result ≡ offset_in_cycle network.now value }
-{
-    value.rem_euclid(i128::from(network.cycle.0))
-}
-
 /// The cycle of a local value, which is 0 before the first cycle.
-pub(crate) fn cycle_at(network: &Network, value: i128) -> u64
+pub fn cycle_at(network: &Network, value: i128) -> u64
     requires range { IsInRange network.now }
     requires value { IsLocal value }
     ensures { result ≡ cycle_at network.now value }

@@ -1,5 +1,5 @@
 ghost use Rattle.std.specs.Prelude.{◌+ℤ◌, ◌≡◌, pos};
-ghost use Rattle.run_law.specs.device.{Standpoints.clock_of, States.is_synchronised};
+ghost use Rattle.run_law.specs.device.{Standpoints.clock_of, States.{is_off, is_synchronised}};
 ghost use Rattle.device_rules.specs.Widths.{IsLocal, IsWide};
 
 use std::marker::Model;
@@ -96,8 +96,18 @@ impl Standpoint {
     }
 }
 
+/// Is the device off?
+pub fn is_off(state: State) -> bool
+    ensures { result ≡ is_off state }
+{
+    match state {
+        State::Off => true,
+        State::Integrating | State::Joining | State::Synchronised => false,
+    }
+}
+
 /// Is it the state of a device that has the common time?
-pub(crate) fn is_synchronised(state: State) -> bool
+pub fn is_synchronised(state: State) -> bool
     ensures { result ≡ is_synchronised state }
 {
     match state {

@@ -5,10 +5,10 @@ ghost use Rattle.device_rules.specs.{Answers.arrival_as, Entering.{HasPeriod, en
 ghost use Rattle.{net_plan.specs.Ranges.IsInRange, schedule_tables.specs.declared.entry.Entry.Entry};
 ghost use Rattle.run_law.specs.timed.Arrivals.{is_taken_in, row_fault, taken_by, taken_or_fault};
 
-use crate::network::{cycle_at, is_end, place_in_cycle};
+use crate::network::{cycle_at, is_end};
 use crate::{EnteringRow, Standpoint};
 use net_plan::{DeviceId, Network, VlId};
-use run_law::Reason;
+use run_law::{Reason, place_in_cycle};
 
 /// What becomes of a time-triggered frame that arrives.
 #[derive(Clone, Copy, PartialEq, Eq)]

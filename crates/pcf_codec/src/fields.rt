@@ -19,3 +19,19 @@ pub fn read_mac(octets: &[u8], at: usize) -> Mac
 {
     Mac::from_number(BigEndian::read_u48(from(octets, at)))
 }
+
+/// The number in two octets from an offset on.
+pub fn two_octets(octets: &[u8], at: usize) -> u16
+    requires { at + 2 ≤ length octets.now }
+    ensures { result ≡ field at 2 octets.now }
+{
+    BigEndian::read_u16(from(octets, at))
+}
+
+/// The number in the first four octets.
+pub fn four_octets(octets: &[u8]) -> u32
+    requires { 4 ≤ length octets.now }
+    ensures { result ≡ field 0 4 octets.now }
+{
+    BigEndian::read_u32(octets)
+}

@@ -11,6 +11,7 @@ mod refusal;
 mod tt;
 
 pub use ethertype::is_pcf;
+pub use fields::{four_octets, two_octets};
 pub use law::spelling_law;
 pub use pcf::{PCF_LENGTH, decode, encode};
 pub use reader::PcfReader;

@@ -2,6 +2,7 @@
 //! and what holds of all runs.
 #![tactic(auto)]
 
+mod cycles;
 mod first_laws;
 mod judgement;
 mod laws;
@@ -11,7 +12,9 @@ mod note;
 mod outside;
 pub mod plain;
 mod steps;
+mod ways;
 
+pub use cycles::place_in_cycle;
 pub use first_laws::{broken_are_still, deliveries_begin, sent_frames_come};
 pub use judgement::{Judgement, Reason, Why};
 pub use laws::{earlier_run_is_front, hypothesis_is_decided, run_goes_on, run_is_one};
@@ -20,3 +23,4 @@ pub use machine::Machine;
 pub use note::{Note, NoteBody, cause_of};
 pub use outside::Outside;
 pub use steps::{Act, Arrival, Moment, Ripe};
+pub use ways::{is_way, is_way_of};

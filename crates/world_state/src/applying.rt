@@ -15,10 +15,9 @@ use crate::contents::{Befallen, WayState};
 use crate::frames::Frames;
 use crate::kept::Kept;
 use crate::packets::{Happened, Happening, Packet};
-use device_rules::is_way;
 use drift_clock::Clock;
 use net_plan::{DeviceId, Network, Octets, Way, What};
-use run_law::Machine;
+use run_law::{Machine, is_way};
 use tte_units::Units;
 
 /// Sets the rate of a device's clock, where that is what befalls the network.

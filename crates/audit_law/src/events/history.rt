@@ -142,7 +142,7 @@ impl EventHistory {
             → result ≡ is_broken (scenario_under network befallen) device time }
     {
         match self.devices.get(device.0 as usize) {
-            Some(told) => told.is_broken(time),
+            Some(told) => has_come(told.broken, time),
             None => false,
         }
     }
@@ -286,14 +286,13 @@ impl EventHistory {
     }
 }
 
-impl DeviceHistory {
-    fn is_broken(&self, time: u64) -> bool
-        ensures { result ≡ has_come self.now.broken time }
-    {
-        match self.broken {
-            Some(from) => from <= time,
-            None => false,
-        }
+/// Has the time come by then?
+pub fn has_come(from: Option<u64>, time: u64) -> bool
+    ensures { result ≡ has_come from time }
+{
+    match from {
+        Some(from) => from <= time,
+        None => false,
     }
 }
 

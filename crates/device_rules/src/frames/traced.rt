@@ -10,6 +10,7 @@ mod octets;
 mod showing;
 mod trace;
 
+pub use keeping::frame_in;
 pub use law::delivery_law;
 pub use memory::OutOfMemory;
 pub use octets::Octets;

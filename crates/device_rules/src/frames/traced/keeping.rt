@@ -1,6 +1,6 @@
 //! What is kept of a further record, given what is kept of those before it.
 
-ghost use Rattle.std.specs.{List.All, Prelude.{if◌then◌else◌, ◌==◌, ◌≡◌, ◌≤◌, IfOk, List, length, map, option_map, ℕ}};
+ghost use Rattle.std.specs.{List.All, Prelude.{if◌then◌else◌, ◌<◌, ◌==◌, ◌^◌, ◌≡◌, ◌≤◌, IfOk, List, length, map, option_map, ℕ}};
 ghost use Rattle.net_plan.specs.{Ranges.IsInRange, declared.network.Network.Network as NetworkValue};
 ghost use Rattle.pcf_codec.specs.Decoding.{decoded};
 ghost use Rattle.run_law.specs.{declared.note.NoteBody.TheVariants.Event, records.Frames.tt_frame};
@@ -42,11 +42,11 @@ pub(crate) fn piece_in(pool: &[u8], piece: Piece) -> &[u8]
 }
 
 /// The control frame that octets spell, if they do.
-fn frame_spelt(pool: &[u8], piece: Piece) -> Option<Pcf>
-    requires { IsPieceOf pool.now piece }
-    ensures { result ≡ frame_in (decoded (piece_in pool.now piece)) }
+pub fn frame_in(octets: &[u8]) -> Option<Pcf>
+    requires { length octets.now < 2 ^ 32 }
+    ensures { result ≡ frame_in (decoded octets.now) }
 {
-    match decode(piece_in(pool, piece)) {
+    match decode(octets) {
         Ok(frame) => Some(frame),
         Err(_) => None,
     }
@@ -59,7 +59,7 @@ fn frame_of(pool: &[u8], kept: Kept) -> Option<Pcf>
 {
     match kept {
         Kept::Control(frame) | Kept::Silent(frame) => Some(frame),
-        Kept::Send(piece) => frame_spelt(pool, piece),
+        Kept::Send(piece) => frame_in(piece_in(pool, piece)),
         Kept::Nothing | Kept::Made(_, _) | Kept::Came(_) => None,
     }
 }
