@@ -4,13 +4,14 @@ ghost use Rattle.end_system.specs.Agendas.{IsAgenda, IsAt, IsCorrection, IsDispa
 ghost use Rattle.end_system.specs.{Agendas.{IsLeastReading, IsLocal, IsSending}, Owns.{HasOwnRange, IsOwnOf}};
 ghost use Rattle.end_system.specs.{Deeds.IsNextSending, RowSlots.{AreRowsOf, AreSomeRows, IsAtSlot}};
 ghost use Rattle.net_plan.specs.declared.{ids.DeviceId.DeviceId, network.Network.Network};
-ghost use Rattle.{run_law.specs.device.States.is_synchronised, sync_state.specs.correction.Deviation.IsSmall};
+ghost use Rattle.sync_state.specs.correction.Deviation.{IsSmall};
 ghost use Rattle.{run_law.specs.machines.Nodes.sending, sync_state.specs.Standing.next_point};
 ghost use Rattle.tte_units.specs.Amount.{amount};
 
 use crate::own::Own;
 use crate::rows::{Dispatch, Rows};
-use sync_state::{State, Sync};
+use device_rules::is_synchronised;
+use sync_state::Sync;
 use tte_units::Units;
 
 /// What a device does in a cycle of its own, and the reading at which it does it.
@@ -111,16 +112,6 @@ pub fn agenda_from(own: &Own, rows: &Rows, sync: &Sync, local: Units) -> Agenda
     }
 }
 
-/// Whether the device has the common time.
-fn is_synchronised(sync: &Sync) -> bool
-    ensures { result ≡ is_synchronised sync.now.state }
-{
-    match sync.state() {
-        State::Synchronised => true,
-        _ => false,
-    }
-}
-
 /// The next sending, of a synchronised master.
 fn sending_from(own: &Own, sync: &Sync, local: Units) -> Option<Appointment>
     requires range { HasOwnRange own.now }
@@ -129,7 +120,7 @@ fn sending_from(own: &Own, sync: &Sync, local: Units) -> Option<Appointment>
     ensures { (network : Network) (device : DeviceId) → IsOwnOf network device own.now
         → IsSending network device sync.now local.0 [] result }
 {
-    if own.is_master && is_synchronised(sync) {
+    if own.is_master && is_synchronised(sync.state()) {
         Some(sending_behind(own, sync, local))
     } else {
         None
@@ -146,7 +137,7 @@ fn dispatch_from(own: &Own, rows: &Rows, sync: &Sync, local: Units) -> Option<Di
     ensures next { (network : Network) (device : DeviceId) → IsOwnOf network device own.now
         → AreRowsOf network device rows.now → IsDispatch network device sync.now local.0 [] result }
 {
-    if is_synchronised(sync) {
+    if is_synchronised(sync.state()) {
         rows.first_behind(own, sync.adjustment(), local)
     } else {
         None

@@ -1,7 +1,7 @@
 ghost use Rattle.std.specs.Prelude.{◌+ℤ◌, ◌+◌, ◌<◌, ◌^◌, ◌≡◌, ◌≤ℤ◌, ◌≤◌, IfOk, IfSome, [], pos};
 ghost use Rattle.net_plan.specs.{Places.IsEndSystem, declared.ids.DeviceId.{DeviceId as DeviceIdValue}};
 ghost use Rattle.net_plan.specs.{Ranges.{IsInRange, IsWithin}, declared.network.Network.{Network as NetworkValue}};
-ghost use Rattle.run_law.specs.{device.States.is_off, machines.Nodes.begun_node, scenario.Devices.start_of};
+ghost use Rattle.run_law.specs.machines.Nodes.{begun_node};
 ghost use Rattle.end_system.specs.{Acting.{CanPlan, Does, MayDo}, Standing.StandsAsEnd, declared.agenda.Due.Due};
 ghost use Rattle.end_system.specs.{Agendas.{IsAgenda, IsAgendaAfter}, Arriving.{HearsControl, HearsTimed, MayHearNow}};
 ghost use Rattle.end_system.specs.{Owns.IsOwnOf, Ripening.{Joins, Keeps, MayJoin}, RowSlots.{AreRowsOf, IsAtSlot}};
@@ -11,7 +11,7 @@ use crate::agenda::{Agenda, Appointment, Due, agenda_from, in_next_cycle};
 use crate::control::{arrival, heard_as, local_at};
 use crate::own::Own;
 use crate::rows::{Dispatch, Rows};
-use device_rules::{Heading, Intake, TaskKind, TellsKind};
+use device_rules::{Heading, Intake, TaskKind, TellsKind, is_off, start_of};
 use net_plan::{DeviceId, LinkId, Network};
 use pcf_codec::{decode, is_pcf};
 use run_law::{Act, Arrival, Machine, Moment, Reason, Ripe};
@@ -67,16 +67,6 @@ impl EndSystem {
                 reading: Units(0),
             },
         })
-    }
-
-    /// Whether it takes no part.
-    fn is_off(&self) -> bool
-        ensures { result ≡ is_off self.now.sync.state }
-    {
-        match self.sync.state() {
-            State::Off => true,
-            _ => false,
-        }
     }
 
     /// Sends the frame that is due.
@@ -197,16 +187,6 @@ impl EndSystem {
     }
 }
 
-/// Where the clock of an end system begins. It is None for one that begins off.
-fn start_of(network: &Network, device: DeviceId) -> Option<Units>
-    requires range { IsInRange network.now }
-    requires end { IsEndSystem network.now device }
-    ensures value { result ≡ start_of network.now device }
-    ensures range { IfSome result (IsWithin 0 (2 ^ 40)) }
-{
-    network.device.as_slice()[device.0 as usize].start
-}
-
 impl Machine for EndSystem {
     ghost use Rattle.end_system.specs.Standing.{StandsAsEnd};
 
@@ -226,7 +206,7 @@ impl Machine for EndSystem {
     }
 
     fn hear(&mut self, moment: Moment, link: LinkId, octets: &[u8]) -> Arrival {
-        if self.is_off() {
+        if is_off(self.sync.state()) {
             self.last = moment;
             return Arrival::Dropped(Reason::Off);
         }
@@ -238,7 +218,7 @@ impl Machine for EndSystem {
     }
 
     fn ripen(&mut self, moment: Moment, link: LinkId, frame: &Pcf, point: Units) -> Ripe {
-        if self.is_off() {
+        if is_off(self.sync.state()) {
             return Ripe::Ignored;
         }
         match heard_as(&self.own, &self.sync, frame, point) {
@@ -262,7 +242,7 @@ impl Machine for EndSystem {
     }
 
     fn turn_on(&mut self) {
-        if self.is_off() {
+        if is_off(self.sync.state()) {
             self.sync.on();
         }
     }

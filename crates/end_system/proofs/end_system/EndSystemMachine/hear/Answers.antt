@@ -1,5 +1,5 @@
 use Rattle.end_system.proofs.{Arrive.{is_control, is_timed, off_arrival}, Ripe.{is_on, stands_later}, Words.{◌∙◌, ap, arith, sym}}
-use Rattle.run_law.specs.{control.Wires.signal_of, machines.Answers.arrival_at}
+use Rattle.run_law.specs.{control.Wires.signal_of, device.States.is_off, machines.Answers.arrival_at}
 use Rattle.end_system.proofs.end_system.EndSystemMachine.hear.Goals as goal
 
 pub is_pcf-requires : goal.is_pcf-requires
@@ -14,14 +14,14 @@ hear_timed-requires c = (c.requires.0, c.requires.1, c.requires.2, c.requires.3,
 pub returns-then-is_off : goal.returns-then-is_off
 returns-then-is_off c = λ network device node stands may arrives. (
   off_arrival network device c.args.moment c.args.link (signal_of c.args.octets.now) stands
-      (sym c.is_off.ensures ∙ c.if-is_off.true),
+      (sym (c.is_off.ensures ∙ ap is_off c.state.ensures) ∙ c.if-is_off.true),
   stands_later _ stands may.later,
 )
 
 pub returns-then-is_pcf : goal.returns-then-is_pcf
 returns-then-is_pcf c = λ network device node stands may arrives.
     let h = c.hear_control.ensures network device node stands may arrives
-    (is_on stands (sym c.is_off.ensures ∙ c.if-is_off.false)) in (
+    (is_on stands (sym (c.is_off.ensures ∙ ap is_off c.state.ensures) ∙ c.if-is_off.false)) in (
       h.0 ∙ ap (λ s. arrival_at network device node c.args.moment c.args.link s)
           (sym (is_control c.args.octets.now (c.is_pcf.ensures.0 c.if-is_pcf.true))),
       h.1,
@@ -30,7 +30,7 @@ returns-then-is_pcf c = λ network device node stands may arrives.
 pub returns-else-is_pcf : goal.returns-else-is_pcf
 returns-else-is_pcf c = λ network device node stands may arrives.
     let h = c.hear_timed.ensures network device node stands may arrives
-    (is_on stands (sym c.is_off.ensures ∙ c.if-is_off.false)) in (
+    (is_on stands (sym (c.is_off.ensures ∙ ap is_off c.state.ensures) ∙ c.if-is_off.false)) in (
       h.0 ∙ ap (λ s. arrival_at network device node c.args.moment c.args.link s)
           (sym (is_timed c.args.octets.now c.is_pcf.result arrives.least c.if-is_pcf.false c.is_pcf.ensures)),
       h.1,

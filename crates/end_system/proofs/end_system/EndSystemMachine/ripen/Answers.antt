@@ -1,5 +1,5 @@
-use Rattle.end_system.proofs.{Ripe.{is_ignored, is_not_on, is_on, point_high, point_low, ripe_at, small_now, stands_later}, Words.{◌∙◌, sym}}
-use Rattle.run_law.specs.machines.Calls.{IsHearing}
+use Rattle.end_system.proofs.{Ripe.{is_ignored, is_not_on, is_on, point_high, point_low, ripe_at, small_now, stands_later}, Words.{◌∙◌, ap, sym}}
+use Rattle.run_law.specs.{device.States.is_off, machines.Calls.IsHearing}
 use Rattle.end_system.proofs.end_system.EndSystemMachine.ripen.Goals as goal
 
 pub heard_as-requires : goal.heard_as-requires
@@ -7,7 +7,11 @@ heard_as-requires c =
     let node = c.requires.2 in
     let stands = c.requires.3 in
     let hearing : IsHearing c.requires.0 c.requires.1 node =
-    record { linked = stands.own.linked; on = is_on stands (sym c.is_off.ensures ∙ c.if-is_off.false); sound = stands.sound }
+    record {
+      linked = stands.own.linked;
+      on = is_on stands (sym (c.is_off.ensures ∙ ap is_off c.state.ensures) ∙ c.if-is_off.false);
+      sound = stands.sound;
+    }
     in
     let ripens = c.requires.4.ripens hearing in
     record {
@@ -22,7 +26,11 @@ join-requires c =
     let node = c.requires.2 in
     let stands = c.requires.3 in
     let hearing : IsHearing c.requires.0 c.requires.1 node =
-    record { linked = stands.own.linked; on = is_on stands (sym c.is_off.ensures ∙ c.if-is_off.false); sound = stands.sound }
+    record {
+      linked = stands.own.linked;
+      on = is_on stands (sym (c.is_off.ensures ∙ ap is_off c.state.ensures) ∙ c.if-is_off.false);
+      sound = stands.sound;
+    }
     in (
       c.requires.0,
       c.requires.1,
@@ -33,7 +41,7 @@ join-requires c =
 
 pub returns-then-is_off : goal.returns-then-is_off
 returns-then-is_off c = λ network device node stands may hearing ripens.
-    absurd (is_not_on stands (sym c.is_off.ensures ∙ c.if-is_off.true) hearing.on)
+    absurd (is_not_on stands (sym (c.is_off.ensures ∙ ap is_off c.state.ensures) ∙ c.if-is_off.true) hearing.on)
 
 pub returns-in-Within : goal.returns-in-Within
 returns-in-Within c = λ network device node stands may hearing ripens. (
