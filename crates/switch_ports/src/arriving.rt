@@ -10,7 +10,7 @@ ghost use Rattle.{run_law.specs.device.Standpoints.clock_of, tte_units.specs.Amo
 ghost use Rattle.switch_ports.specs.{Sites.IsSiteOf, Standpoints.{IsAlive, IsSiteInRange, standpoint_of}};
 
 use crate::{Site, Standpoint};
-use device_rules::{is_cold_start, refused};
+use device_rules::{is_cold_start, is_off, is_synchronised, refused};
 use drift_clock::transparent::{arrive, permanence};
 use net_plan::{LinkId, Way};
 use pcf_codec::decode;
@@ -28,7 +28,7 @@ impl Site {
     {
         match decode(octets) {
             Ok(frame) => self.frame_arrival(at, link, &frame),
-            Err(_) if at.is_off() => Arrival::Dropped(Reason::Off),
+            Err(_) if is_off(at.state) => Arrival::Dropped(Reason::Off),
             Err(refusal) => Arrival::Dropped(refused(refusal)),
         }
     }
@@ -71,7 +71,7 @@ impl Site {
         ensures is { (network : Network) (device : DeviceId) → IsInRange network → IsSiteOf network device self.now
             → IsGrownSo network device link (standpoint_of at.now) frame.now result }
     {
-        if at.is_off() {
+        if is_off(at.state) {
             return Err(Reason::Off);
         }
         if is_cold_start(frame.kind) {
@@ -122,7 +122,7 @@ impl Site {
         ensures { (network : Network) (device : DeviceId) → IsInRange network → IsSiteOf network device self.now
             → result ≡ is_gate_shut network device (standpoint_of at.now) }
     {
-        if !self.is_relay || !at.is_synchronised() {
+        if !self.is_relay || !is_synchronised(at.state) {
             return false;
         }
         is_behind(self.gate_end(), self.place_in_cycle(self.gate_value(at)))

@@ -3,7 +3,7 @@ ghost use Rattle.{net_plan.specs.declared.ids.DeviceId.DeviceId, switch_ports.sp
 ghost use Rattle.{net_plan.specs.declared.network.Network.Network, run_law.specs.records.Frames.integration_frame};
 
 use crate::{Site, Switch};
-use device_rules::{TaskKind, TellsKind};
+use device_rules::{TaskKind, TellsKind, is_off};
 use net_plan::LinkId;
 use pcf_codec::is_pcf;
 use run_law::{Act, Arrival, Machine, Moment, Ripe};
@@ -53,7 +53,7 @@ impl Machine for Switch {
             self.hear_frame(moment, channel, frame, point)
         } else {
             let at = self.standpoint(moment);
-            if at.is_off() {
+            if is_off(at.state) {
                 return Ripe::Ignored;
             }
             match self.site.point_fault(&at, frame.cycle, point) {

@@ -1,11 +1,12 @@
 ghost use Rattle.std.specs.{Int.int_div_euclid, Prelude.{◌&&◌, ◌*◌, ◌+ℤ◌, ◌-ℤ◌, ◌≡◌, int_lt, pos, ℕ}};
 ghost use Rattle.net_plan.specs.{Ranges.IsInRange, declared.{ids.DeviceId.DeviceId, network.Network.Network}};
-ghost use Rattle.run_law.specs.control.Collections.{dispatch_value, is_number, point_fault};
+ghost use Rattle.run_law.specs.control.Collections.{dispatch_value, point_fault};
 ghost use Rattle.switch_ports.specs.{Sites.IsSiteOf, Standpoints.{IsAlive, IsPoint, IsSiteInRange}};
 ghost use Rattle.{sync_state.specs.correction.Deviation.IsSmall, tte_units.specs.Amount.{amount, units_of}};
 
 use crate::hearing::shown;
 use crate::{Site, Standpoint};
+use device_rules::{is_number, is_synchronised};
 use run_law::Reason;
 use tte_units::Units;
 
@@ -18,13 +19,13 @@ impl Site {
         ensures { (network : Network) (device : DeviceId) → IsInRange network → IsSiteOf network device self.now
             → result ≡ point_fault network at.now.state at.now.adjustment.0 point.0 cycle }
     {
-        if !at.is_synchronised() {
+        if !is_synchronised(at.state) {
             return None;
         }
         let value = self.dispatch_value(point, at.adjustment);
         if self.is_far(self.place_in_cycle(value)) {
             Some(Reason::Gate)
-        } else if !self.is_of_cycle(value, cycle) {
+        } else if !is_number(i128::from(self.cycle_of(value)), cycle) {
             Some(Reason::Cycle)
         } else {
             None
@@ -50,11 +51,11 @@ impl Site {
         4 * self.precision.0 < place.0
     }
 
-    /// Is the value one of this cycle?
-    fn is_of_cycle(&self, value: Units, cycle: u32) -> bool
+    /// The cycle of the value, of which those before the first are below 0.
+    fn cycle_of(&self, value: Units) -> i64
         requires { IsSiteInRange self.now }
-        ensures { result ≡ is_number (int_div_euclid value.0 self.now.plan.cycle_length.0) cycle }
+        ensures { result ≡ int_div_euclid value.0 self.now.plan.cycle_length.0 }
     {
-        value.0.div_euclid(self.plan.cycle_length.0) == i64::from(cycle)
+        value.0.div_euclid(self.plan.cycle_length.0)
     }
 }

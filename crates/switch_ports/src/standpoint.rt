@@ -1,6 +1,6 @@
 ghost use Rattle.std.specs.Prelude.{◌≡◌, ◌+◌, ◌^◌, ◌+ℤ◌};
 ghost use Rattle.net_plan.specs.Ranges.{IsWithin};
-ghost use Rattle.{run_law.specs.device.States.{is_off, is_synchronised}, sync_state.specs.correction.Deviation.IsSmall};
+ghost use Rattle.sync_state.specs.correction.Deviation.{IsSmall};
 
 use sync_state::State;
 use tte_units::Units;
@@ -22,26 +22,6 @@ impl Standpoint {
         ensures { result.0 ≡ self.now.reading.0 +ℤ self.now.adjustment.0 }
     {
         local(self.reading, self.adjustment)
-    }
-
-    /// Is it off?
-    pub(crate) fn is_off(&self) -> bool
-        ensures { result ≡ is_off self.now.state }
-    {
-        match self.state {
-            State::Off => true,
-            State::Integrating | State::Joining | State::Synchronised => false,
-        }
-    }
-
-    /// Has it the common time?
-    pub(crate) fn is_synchronised(&self) -> bool
-        ensures { result ≡ is_synchronised self.now.state }
-    {
-        match self.state {
-            State::Synchronised => true,
-            State::Off | State::Integrating | State::Joining => false,
-        }
     }
 }
 

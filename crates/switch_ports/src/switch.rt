@@ -5,7 +5,7 @@ ghost use Rattle.sync_state.specs.correction.Deviation.{IsSmall};
 ghost use Rattle.compression.specs.{Collecting.emissions, Role.{has_point_of, open_at}};
 ghost use Rattle.net_plan.specs.Ranges.{IsInRange, IsWithin};
 ghost use Rattle.run_law.specs.control.{Collections.master_of, Hearing.{heard_as, last_cycle}, Permanence.ripe_as};
-ghost use Rattle.run_law.specs.{machines.Nodes.begun_node, scenario.Devices.start_of};
+ghost use Rattle.run_law.specs.machines.Nodes.{begun_node};
 ghost use Rattle.schedule_tables.specs.Schedule.{IsSwitch};
 ghost use Rattle.sync_state.specs.{Integration.Integrates, Standing.next_point, Verdicts.IsNear};
 ghost use Rattle.switch_ports.specs.{Corrections.correction_at, Standing.StandsAs, Steps.{IsClearedSo, Joins}};
@@ -16,7 +16,7 @@ use crate::departures::Departures;
 use crate::standpoint::local;
 use crate::{Site, Standpoint};
 use compression::{Collector, Taken};
-use device_rules::Intake;
+use device_rules::{Intake, is_synchronised, start_of};
 use net_plan::{DeviceId, Network};
 use run_law::{Act, Moment, Reason, Ripe};
 use schedule_tables::{Accepted, OutOfMemory};
@@ -182,7 +182,7 @@ impl Switch {
         requires ready { IsReady self.old.departures }
         ensures { Corrects self.old moment result self.new }
     {
-        let was_synchronised = self.standpoint(moment).is_synchronised();
+        let was_synchronised = is_synchronised(self.standpoint(moment).state);
         let verdict = self.sync.at_correction(&self.heard);
         self.heard.clear();
         self.follow(moment, verdict, was_synchronised);
@@ -258,14 +258,4 @@ impl Switch {
         self.departures.close(next.place, self.sync.adjustment());
         Act::Dispatch(next.row, next.cycle)
     }
-}
-
-/// Where the device's local clock begins, if it begins on.
-fn start_of(network: &Network, device: DeviceId) -> Option<Units>
-    requires range { IsInRange network.now }
-    requires switch { IsSwitch network.now device }
-    ensures value { result ≡ start_of network.now device }
-    ensures range { IfSome result (IsWithin 0 (2 ^ 40)) }
-{
-    network.device.as_slice()[device.0 as usize].start
 }

@@ -9,7 +9,7 @@ ghost use Rattle.{switch_ports.specs.Sites.IsSiteOf, tte_units.specs.Amount.amou
 
 use crate::departures::Taking;
 use crate::{Standpoint, Switch};
-use device_rules::Heading;
+use device_rules::{Heading, is_off};
 use net_plan::LinkId;
 use run_law::Arrival;
 
@@ -30,7 +30,7 @@ impl Switch {
             × IsTakenSo network device taken self.new.intake result }
     {
         let heading = Heading::of(octets);
-        if let Some(reason) = heading.fault(!at.is_off(), at.state, self.site.marker) {
+        if let Some(reason) = heading.fault(!is_off(at.state), at.state, self.site.marker) {
             return Arrival::Dropped(reason);
         }
         let length = self.site.plan.cycle_length;

@@ -1,5 +1,6 @@
 use Rattle.{run_law.specs.scenario.Devices.start_of, switch_ports.proofs.{Beginning.begun_stands, Ranges.{calc_short, site_in_range}}}
-use Rattle.switch_ports.proofs.Words.{◌^◌, ◌∙◌, ◌≡◌, HasTaken, IfSome, IsBegun, IsSiteOf, IsWithin, Option, Units, [], ap, arith, ints, subst}
+use Rattle.switch_ports.proofs.Words.{◌^◌, ◌∙◌, ◌≡◌, HasTaken, IfSome, IsBegun, IsSiteOf, IsWithin}
+use Rattle.{net_plan.specs.Ranges.IsInRange, switch_ports.proofs.Words.{Option, Units, [], ap, arith, ints, subst, sym}}
 use Rattle.sync_state.specs.Standing.{begun}
 use Rattle.switch_ports.proofs.switch.Switch.new.Goals as goal
 
@@ -25,7 +26,8 @@ returns c =
     (subst (λ n. HasTaken n c.args.device c.in_ok-intake.intake []) e.value c.in_ok-intake.ensures)
     (subst (λ n. IsBegun n c.args.device c.in_ok-departures.departures) e.value c.in_ok-departures.ensures)
     (c.new-sync.ensures.value ∙ ap (begun c.in_ok-site.site.plan) start)
-    (subst (λ (o : Option Units). IfSome o (IsWithin 0 (2 ^ 40))) start c.start_of.ensures.range)
+    (subst (λ (o : Option Units). IfSome o (IsWithin 0 (2 ^ 40))) start
+    (c.start_of.ensures.range (subst IsInRange (sym e.value) e.range)))
     c.new-4.ensures.value c.new-collector.ensures.value c.adjustment-changed.ensures c.next_correction_at-corrects_at.ensures
 
 pub new-sync-requires : goal.new-sync-requires
