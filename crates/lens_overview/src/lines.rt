@@ -4,7 +4,7 @@ ghost use Rattle.lens_overview.specs.Lines.{apart_text, bar_line, bar_part, capt
 ghost use Rattle.lens_overview.specs.Lines.{extent_line, greatest_text, label_text, name_line, name_part, piece_line, rail_part, records_part};
 ghost use Rattle.lens_overview.specs.Lines.{ribbon_line, shade_part, spread_line, stroke_part, tick_line, tick_part};
 ghost use Rattle.lens_overview.specs.Lines.{title_part};
-ghost use Rattle.net_plan.specs.{Belonging.{device_name, link_name, vl_name}, Ranges.IsInRange};
+ghost use Rattle.net_plan.specs.Ranges.{IsInRange};
 ghost use Rattle.tte_io.specs.Line.{line_limit};
 
 use crate::grid::{Grid, Pen};
@@ -13,47 +13,12 @@ use crate::pieces::{Piece, Ribbon};
 use crate::shade::shade_word;
 use itoa::Buffer;
 use lens_svg::{
-    Element, Title, make_element_line, make_heading_line, make_title_line, push_micros,
+    Element, Title, make_element_line, make_heading_line, make_title_line, push_device, push_link,
+    push_micros, push_vl,
 };
-use net_plan::{DeviceId, LinkId, Network, VlId};
+use net_plan::Network;
 use trace_text::way_text;
 use tte_io::LineText;
-
-/// Adds a device's name: at most 16 octets.
-fn push_device(line: &mut LineText, network: &Network, device: DeviceId)
-    requires range { IsInRange network.now }
-    requires room { length line.old + 16 ≤ line_limit }
-    ensures text { line.new ≡ line.old ++ device_name network.now device }
-    ensures grows { length line.new ≤ length line.old + 16 }
-{
-    if (device.0 as usize) < network.device.as_slice().len() {
-        line.append(network.device_name(device));
-    }
-}
-
-/// Adds a link's name: at most 16 octets.
-fn push_link(line: &mut LineText, network: &Network, link: LinkId)
-    requires range { IsInRange network.now }
-    requires room { length line.old + 16 ≤ line_limit }
-    ensures text { line.new ≡ line.old ++ link_name network.now link }
-    ensures grows { length line.new ≤ length line.old + 16 }
-{
-    if (link.0 as usize) < network.link.as_slice().len() {
-        line.append(network.link_name(link));
-    }
-}
-
-/// Adds a virtual link's name: at most 16 octets.
-fn push_vl(line: &mut LineText, network: &Network, vl: VlId)
-    requires range { IsInRange network.now }
-    requires room { length line.old + 16 ≤ line_limit }
-    ensures text { line.new ≡ line.old ++ vl_name network.now vl }
-    ensures grows { length line.new ≤ length line.old + 16 }
-{
-    if (vl.0 as usize) < network.vl.as_slice().len() {
-        line.append(network.vl_name(vl));
-    }
-}
 
 /// Adds what a row shows: at most 80 octets.
 #[tactic(auto, unfolding(crate::specs::Lines::label_text))]

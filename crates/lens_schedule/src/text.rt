@@ -8,13 +8,13 @@ ghost use Rattle.lens_schedule.specs.Lines.{place_text, rail_text, role_of, row_
 ghost use Rattle.lens_schedule.specs.Lines.{stretch_word, time_text, times_text, twig_line};
 ghost use Rattle.lens_schedule.specs.Lines.{zone_begin, zone_end, zone_line};
 ghost use Rattle.tte_io.specs.Line.{line_limit};
-ghost use Rattle.net_plan.specs.{Belonging.{device_name, link_name, vl_name}, Ranges.IsInRange};
+ghost use Rattle.net_plan.specs.Ranges.{IsInRange};
 
 use crate::frames::{height_of, seat_of};
 use crate::{Frame, Lane, Part, Stretch, Stroke, Twig, Zone};
 use lens_svg::{
-    Element, Point, Title, make_element_line, make_heading_line, make_title_line, push_micros,
-    role_word,
+    Element, Point, Title, make_element_line, make_heading_line, make_title_line, push_device,
+    push_link, push_micros, push_vl, role_word,
 };
 use net_plan::{DeviceId, LinkId, Network, VlId};
 use trace_text::way_text;
@@ -94,42 +94,6 @@ fn role_of(network: &Network, device: DeviceId) -> &'static str
     match network.device.as_slice().get(device.0 as usize) {
         Some(found) => role_word(found.role),
         None => "",
-    }
-}
-
-/// Adds a device's name, where the network has the device.
-fn push_device(line: &mut LineText, network: &Network, device: DeviceId)
-    requires range { IsInRange network.now }
-    requires room { length line.old + 16 ≤ line_limit }
-    ensures text { line.new ≡ line.old ++ device_name network.now device }
-    ensures grows { length line.new ≤ length line.old + 16 }
-{
-    if (device.0 as usize) < network.device.as_slice().len() {
-        line.append(network.device_name(device));
-    }
-}
-
-/// Adds a link's name, where the network has the link.
-fn push_link(line: &mut LineText, network: &Network, link: LinkId)
-    requires range { IsInRange network.now }
-    requires room { length line.old + 16 ≤ line_limit }
-    ensures text { line.new ≡ line.old ++ link_name network.now link }
-    ensures grows { length line.new ≤ length line.old + 16 }
-{
-    if (link.0 as usize) < network.link.as_slice().len() {
-        line.append(network.link_name(link));
-    }
-}
-
-/// Adds a virtual link's name, where the network has the virtual link.
-fn push_vl(line: &mut LineText, network: &Network, vl: VlId)
-    requires range { IsInRange network.now }
-    requires room { length line.old + 16 ≤ line_limit }
-    ensures text { line.new ≡ line.old ++ vl_name network.now vl }
-    ensures grows { length line.new ≤ length line.old + 16 }
-{
-    if (vl.0 as usize) < network.vl.as_slice().len() {
-        line.append(network.vl_name(vl));
     }
 }
 
