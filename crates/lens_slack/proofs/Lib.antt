@@ -13,5 +13,4 @@ pub mod FirstShort
 pub mod Refusing
 pub mod OneSlack
 pub mod Named
-pub mod Listed
 pub mod least_lemmas

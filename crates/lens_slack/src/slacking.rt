@@ -1,7 +1,7 @@
 ghost use Rattle.std.specs.Prelude.{◌≡◌, ◌≢◌, All, List};
 ghost use Rattle.lens_slack.specs.declared.spot.Finding.{Finding as FindingValue};
 ghost use Rattle.lens_slack.specs.Answer.{IsFileAnswer, IsSlackAnswer, IsSlackAnswerOf, IsSlackOf, broken_answer};
-ghost use Rattle.lens_slack.specs.{Answer.{ending_answer, ending_status, found_answer, told_of}, Finds.shorts_of};
+ghost use Rattle.lens_slack.specs.{Answer.{ending_answer, ending_status, found_answer, told_of}, Finds.shorts_of, Lines.finding_line};
 ghost use Rattle.lens_slack.specs.{Writing.{HasEndingPlace, HasPlace, IsWritable}, Inequalities.IsInequality};
 ghost use Rattle.{net_plan.specs.Ranges.IsInRange, tte_forms.specs.Faults.{HasCause, IsWanted, PutFailed, ReadFailed}};
 ghost use Rattle.tte_forms.specs.{Answering.{AnswersOne, Gives, GivesAnswer}, Putting.Over, Taking.TakesUpTo};
@@ -16,7 +16,9 @@ use net_plan::Network;
 use schedule_checker::RuleBroken;
 use schedule_tables::Rule;
 use std::alloc::Global;
-use tte_forms::{Status, make_rule_line, put_last, put_no_network, read_unjudged};
+use tte_forms::{
+    LineMaker, Status, make_rule_line, put_each, put_last, put_no_network, read_unjudged,
+};
 use tte_io::{LineText, Sink, Source};
 
 /// Tells of the network of a file, for each rule that is an inequality, what it has at its tightest place, what the
@@ -85,6 +87,24 @@ fn put_slack_of<K: Sink>(alloc: Global, network: &Network, steps: &[Step], out: 
     }
 }
 
+/// The lines of findings.
+#[derive(Drop)]
+struct FindingLines<'a> {
+    network: &'a Network,
+}
+
+impl LineMaker<Finding> for FindingLines<'_> {
+    ghost fit = { λ lines. IsInRange lines.network.now };
+
+    ghost takes = { λ lines finding. IsWritable lines.network.now finding };
+
+    ghost text = { λ lines finding. finding_line lines.network.now finding };
+
+    fn make(&self, line: &mut LineText, thing: &Finding) {
+        make_finding_line(line, self.network, thing);
+    }
+}
+
 /// Puts the lines of what was found, and passes them on.
 fn put_slack<K: Sink>(network: &Network, slack: &Slack, out: &mut K) -> Status
     requires range { IsInRange network.now }
@@ -97,14 +117,11 @@ fn put_slack<K: Sink>(network: &Network, slack: &Slack, out: &mut K) -> Status
 {
     let findings = slack.findings.as_slice();
     let shorts = shorts_of(findings);
-    let mut line = LineText::new();
-    'findings: for finding in findings {
-        make_finding_line(&mut line, network, finding);
-        match out.put(line.as_slice()) {
-            Ok(()) => (),
-            Err(_) => return Status::WriteFault,
-        }
+    match put_each(&FindingLines { network }, findings, out) {
+        Ok(()) => (),
+        Err(_) => return Status::WriteFault,
     }
+    let mut line = LineText::new();
     put_ending(network, slack.ending, shorts, &mut line, out)
 }
 

@@ -8,6 +8,10 @@ pub record Answer : Type 0 where
   pub status : Status
   pub lines : List (List ℕ)
 
+-- a status and these lines
+abbrev pub lines_answer : Status → List (List ℕ) → Answer
+lines_answer status lines = record { status = status; lines = lines }
+
 -- a status and one line
 abbrev pub line_answer : Status → List ℕ → Answer
 line_answer status line = record { status = status; lines = line ∷ [] }

@@ -1,7 +1,7 @@
 -- What a sink shows of the lines that were put.
-use Rattle.std.specs.{Io.KnownBytes.Appends, List.concat}
-use Rattle.std.specs.Prelude.{◌++◌, ◌∷◌, ◌≡◌, ◌⊎◌, List, Option, length, suc, zero, ℕ}
-use Rattle.tte_io.specs.{Faults.next_count, Told.AppendsFront, declared.ends.Sink.Ghosts}
+use Rattle.std.specs.{Io.KnownBytes.Appends, List.concat, declared.result.Result.Result}
+use Rattle.std.specs.Prelude.{◌++◌, ◌∷◌, ◌≡◌, ◌⊎◌, List, MatchResult, Option, length, suc, zero, ℕ}
+use Rattle.tte_io.specs.{Faults.next_count, Told.AppendsFront, declared.ends.{Sink.Ghosts, SinkFailed.SinkFailed}}
 
 -- the octets that were put and those that were passed on, where they are told, and the count of puts
 pub record Shown : Type 0 where
@@ -52,6 +52,10 @@ pub record PutFails (lines : List (List ℕ)) (old new : Shown) : Type 0 where
   pub puts : PutsLines done old before
   pub front : AppendsFront before.written new.written line
   pub counted : new.puts ≡ next_count before.puts
+
+-- these lines were put, each in one put, or the put of one of them failed
+abbrev pub Puts : List (List ℕ) → Result (Unit {0}) SinkFailed → Shown → Shown → Type 0
+Puts lines result old new = MatchResult result (λ _. PutsLines lines old new) (λ _. PutFails lines old new)
 
 -- these lines were to be written: the put of one failed; or all were put, and passing them on failed
 abbrev pub StopsWriting : List (List ℕ) → Shown → Shown → Type 0

@@ -4,6 +4,7 @@
 
 mod accepting;
 mod checking;
+mod each_line;
 mod form;
 mod put_line;
 mod showing;
@@ -14,6 +15,7 @@ mod words;
 pub use accepting::network_line::make_rule_line;
 pub use accepting::{NoNetwork, accept, accept_text, put_no_network, read_unjudged};
 pub use checking::check_network;
+pub use each_line::{LineMaker, put_each, put_lines};
 pub use form::{Form, cycles_spelled, number_up_to, read_form};
 pub use put_line::{end_with, put_last};
 pub use showing::{push_frame, push_refusal, show, show_law};
