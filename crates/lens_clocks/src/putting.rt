@@ -1,16 +1,37 @@
 //! The lines of a cycle, put one after another.
 
 ghost use Rattle.std.specs.Prelude.{◌≡◌, All, MatchResult, map};
-ghost use Rattle.lens_clocks.specs.{Lines.{clock_line, lines_between, told_lines}, Putting.Puts, Telling.IsWritable};
+ghost use Rattle.lens_clocks.specs.{Lines.{clock_line, lines_between, told_lines}, Telling.IsWritable};
 ghost use Rattle.{device_rules.specs.Widths.IsLocal, net_plan.specs.Ranges.IsInRange};
 ghost use Rattle.{lens_clocks.specs.declared.spread.Ends.{Ends as EndsValue}, tte_forms.specs.Faults.PutFailed};
-ghost use Rattle.{std.specs.declared.option.Option.TheVariants.Some, tte_forms.specs.Putting.Over};
+ghost use Rattle.{std.specs.declared.option.Option.TheVariants.Some, tte_forms.specs.Putting.{Over, Puts}};
 
 use crate::lines::{make_clock_line, make_spread_line};
 use crate::spread::ends_of;
 use crate::{Clock, Ends};
 use net_plan::Network;
+use tte_forms::{LineMaker, put_each};
 use tte_io::{LineText, Sink, SinkFailed};
+
+/// The lines of clocks at the end of a cycle.
+#[derive(Drop)]
+struct ClockLines<'a> {
+    network: &'a Network,
+    number: u64,
+    least: i128,
+}
+
+impl LineMaker<Clock> for ClockLines<'_> {
+    ghost fit = { λ lines. IsInRange lines.network.now × IsLocal lines.least };
+
+    ghost takes = { λ lines clock. IsWritable lines.network.now clock };
+
+    ghost text = { λ lines clock. clock_line lines.network.now lines.number lines.least clock };
+
+    fn make(&self, line: &mut LineText, thing: &Clock) {
+        make_clock_line(line, self.network, self.number, self.least, thing);
+    }
+}
 
 /// Puts the line of each clock.
 fn put_clocks<K: Sink>(
@@ -18,7 +39,6 @@ fn put_clocks<K: Sink>(
     number: u64,
     least: i128,
     clocks: &[Clock],
-    line: &mut LineText,
     out: &mut K,
 ) -> Result<(), SinkFailed>
     requires range { IsInRange network.now }
@@ -28,14 +48,12 @@ fn put_clocks<K: Sink>(
     ensures faults { MatchResult result (λ _. K.faults out.new ≡ K.faults out.old)
         (λ _. PutFailed K.Sink out.old out.new) }
 {
-    'clocks: for clock in clocks {
-        make_clock_line(line, network, number, least, clock);
-        match out.put(line.as_slice()) {
-            Ok(()) => (),
-            Err(cause) => return Err(cause),
-        }
-    }
-    Ok(())
+    let lines = ClockLines {
+        network,
+        number,
+        least,
+    };
+    put_each(&lines, clocks, out)
 }
 
 /// Puts the lines of clocks that lie between these ends.
@@ -56,7 +74,7 @@ fn put_between<K: Sink>(
     ensures faults { MatchResult result (λ _. K.faults out.new ≡ K.faults out.old)
         (λ _. PutFailed K.Sink out.old out.new) }
 {
-    match put_clocks(network, number, ends.least, clocks, line, out) {
+    match put_clocks(network, number, ends.least, clocks, out) {
         Ok(()) => (),
         Err(cause) => return Err(cause),
     }

@@ -1,6 +1,6 @@
-use Rattle.lens_clocks.{proofs.Tables.puts_last, specs.{Lines.{clock_line, spread_line}, Putting.Puts}}
+use Rattle.lens_clocks.specs.Lines.{clock_line, spread_line}
 use Rattle.std.{proofs.{Common.{◌++◌, ◌∙◌, ◌∷◌, List, Some, [], map, rules, subst, ℕ, ℤ}, lemmas.Int.to_z-of_z}, specs.Int.w128}
-use Rattle.tte_forms.{proofs.Puts.PutFails-more, specs.Putting.{PutFails, PutsLines, shown_by}}
+use Rattle.tte_forms.{proofs.Puts.{PutFails-more, puts_last}, specs.Putting.{PutFails, Puts, PutsLines, shown_by}}
 use Rattle.lens_clocks.proofs.putting.put_between.Goals as goal
 
 pub returns-in-Err-clause-puts : goal.returns-in-Err-clause-puts

@@ -1,6 +1,6 @@
-use Rattle.lens_clocks.{proofs.{Extremes.ends_fit, Tables.puts_last}, specs.{Lines.lines_between, Putting.Puts}}
+use Rattle.lens_clocks.{proofs.Extremes.ends_fit, specs.Lines.lines_between}
 use Rattle.std.proofs.Common.{◌∙◌, ◌∷◌, List, [], subst, sym, ℕ}
-use Rattle.tte_forms.{proofs.Puts.PutsLines-none, specs.Putting.shown_by}
+use Rattle.tte_forms.{proofs.Puts.{PutsLines-none, puts_last}, specs.Putting.{Puts, shown_by}}
 use Rattle.lens_clocks.proofs.putting.put_told.Goals as goal
 
 pub put_between-requires-clause-least : goal.put_between-requires-clause-least
