@@ -5,7 +5,6 @@ pub mod Givings
 pub mod Departures
 pub mod Followings
 pub mod SeenTimes
-pub mod Listed
 pub mod OneAnswer
 pub mod OneReport
 pub mod Rows

@@ -1,6 +1,7 @@
 ghost use Rattle.std.specs.Prelude.{◌≡◌, ◌≢◌, All};
 ghost use Rattle.lens_latency.specs.Answer.{IsLatencyAnswer, IsLatencyOf, IsLatencyReport, latency_answer, told_answer};
-ghost use Rattle.{lens_latency.specs.Comings.HasNames, net_plan.specs.Ranges.IsInRange, tte_forms.specs.Putting.Over};
+ghost use Rattle.lens_latency.specs.{Comings.HasNames, Lines.{latency_line, told_line}};
+ghost use Rattle.{net_plan.specs.Ranges.IsInRange, tte_forms.specs.Putting.Over};
 ghost use Rattle.tte_forms.specs.{Answering.{AnswersOne, Gives, GivesAnswer}, networks.Checking.IsCheckStatus};
 ghost use Rattle.tte_forms.specs.{Taking.TakesUpTo, frames.Answer.file_limit};
 ghost use Rattle.tte_forms.specs.Faults.{HasCause, IsWanted, PutFailed, ReadFailed};
@@ -13,7 +14,7 @@ use crate::{Coming, Told};
 use net_plan::Network;
 use schedule_tables::Accepted;
 use std::alloc::Global;
-use tte_forms::{Status, accept, end_with, put_no_network};
+use tte_forms::{LineMaker, Status, accept, put_lines, put_no_network};
 use tte_io::{LineText, Sink, Source};
 use tte_reports::{AuditedReport, ReportCommand};
 
@@ -49,6 +50,36 @@ fn put_latency_of<K: Sink>(alloc: Global, accepted: &Accepted, out: &mut K) -> S
     }
 }
 
+/// The lines of the virtual links and receivers of a network.
+#[derive(Drop)]
+struct LatencyLines<'a> {
+    network: &'a Network,
+}
+
+impl LineMaker<Coming> for LatencyLines<'_> {
+    ghost fit = { λ lines. IsInRange lines.network.now };
+
+    ghost takes = { λ lines coming. HasNames lines.network.now coming };
+
+    ghost text = { λ lines coming. latency_line lines.network.now coming };
+
+    fn make(&self, line: &mut LineText, thing: &Coming) {
+        make_latency_line(line, self.network, thing);
+    }
+}
+
+impl LineMaker<Told> for LatencyLines<'_> {
+    ghost fit = { λ lines. IsInRange lines.network.now };
+
+    ghost takes = { λ lines told. HasNames lines.network.now told.coming };
+
+    ghost text = { λ lines told. told_line lines.network.now told };
+
+    fn make(&self, line: &mut LineText, thing: &Told) {
+        make_told_line(line, self.network, thing);
+    }
+}
+
 /// Puts a line for each, and passes them on.
 fn put_comings<K: Sink>(network: &Network, comings: &[Coming], out: &mut K) -> Status
     requires range { IsInRange network.now }
@@ -56,15 +87,7 @@ fn put_comings<K: Sink>(network: &Network, comings: &[Coming], out: &mut K) -> S
     ensures gives { Over K.Sink out.old out.new (Gives (latency_answer network.now comings.now) result) }
     ensures status { IsWanted Status.Done result (PutFailed K.Sink out.old out.new) }
 {
-    let mut line = LineText::new();
-    'comings: for coming in comings {
-        make_latency_line(&mut line, network, coming);
-        match out.put(line.as_slice()) {
-            Ok(()) => (),
-            Err(_) => return Status::WriteFault,
-        }
-    }
-    end_with(Status::Done, out)
+    put_lines(&LatencyLines { network }, comings, out)
 }
 
 /// Tells the same, and of each line how many frames of a report go back to the sender's dispatch, and the least and the
@@ -93,13 +116,5 @@ fn put_told<K: Sink>(network: &Network, told: &[Told], out: &mut K) -> Status
     ensures gives { Over K.Sink out.old out.new (Gives (told_answer network.now told.now) result) }
     ensures status { IsWanted Status.Done result (PutFailed K.Sink out.old out.new) }
 {
-    let mut line = LineText::new();
-    'lines: for one in told {
-        make_told_line(&mut line, network, one);
-        match out.put(line.as_slice()) {
-            Ok(()) => (),
-            Err(_) => return Status::WriteFault,
-        }
-    }
-    end_with(Status::Done, out)
+    put_lines(&LatencyLines { network }, told, out)
 }
