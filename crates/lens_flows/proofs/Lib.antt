@@ -3,7 +3,6 @@ pub mod counts_lemmas
 pub mod Summing
 pub mod Missing
 pub mod AllTold
-pub mod Listed
 pub mod Reading
 pub mod OneAnswer
 pub mod Certain

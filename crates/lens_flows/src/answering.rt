@@ -1,5 +1,5 @@
 ghost use Rattle.std.specs.Prelude.{All};
-ghost use Rattle.lens_flows.specs.{Answer.{IsFlowsAnswer, told_answer}, Writing.IsWritable};
+ghost use Rattle.lens_flows.specs.{Answer.{IsFlowsAnswer, told_answer}, Lines.flow_line, Writing.IsWritable};
 ghost use Rattle.{net_plan.specs.Ranges.IsInRange, tte_forms.specs.Faults.{IsWanted, PutFailed}};
 ghost use Rattle.{tte_forms.specs.{Answering.Gives, Putting.Over}, tte_reports.specs.Answer.IsAuditStatus};
 
@@ -9,7 +9,7 @@ use crate::seeing::flows_told;
 use crate::sums::make_sum_line;
 use net_plan::Network;
 use std::alloc::Global;
-use tte_forms::{Status, put_last};
+use tte_forms::{LineMaker, Status, put_each, put_last};
 use tte_io::{LineText, Sink};
 use tte_reports::{AuditedReport, ReportCommand};
 
@@ -34,6 +34,24 @@ impl<K: Sink> ReportCommand<K> for Flows {
     }
 }
 
+/// The lines of flows that miss nothing.
+#[derive(Drop)]
+struct FlowLines<'a> {
+    network: &'a Network,
+}
+
+impl LineMaker<FlowTold> for FlowLines<'_> {
+    ghost fit = { λ lines. IsInRange lines.network.now };
+
+    ghost takes = { λ lines told. IsWritable lines.network.now told };
+
+    ghost text = { λ lines told. flow_line lines.network.now told 0 };
+
+    fn make(&self, line: &mut LineText, thing: &FlowTold) {
+        make_flow_line(line, self.network, thing, 0);
+    }
+}
+
 /// Puts the lines of what was told and of the sums, and passes them on.
 fn put_told<K: Sink>(network: &Network, told: &[FlowTold], out: &mut K) -> Status
     requires range { IsInRange network.now }
@@ -41,14 +59,11 @@ fn put_told<K: Sink>(network: &Network, told: &[FlowTold], out: &mut K) -> Statu
     ensures gives { Over K.Sink out.old out.new (Gives (told_answer network.now told.now) result) }
     ensures status { IsWanted Status.Done result (PutFailed K.Sink out.old out.new) }
 {
-    let mut line = LineText::new();
-    'flows: for one in told {
-        make_flow_line(&mut line, network, one, 0);
-        match out.put(line.as_slice()) {
-            Ok(()) => (),
-            Err(_) => return Status::WriteFault,
-        }
+    match put_each(&FlowLines { network }, told, out) {
+        Ok(()) => (),
+        Err(_) => return Status::WriteFault,
     }
+    let mut line = LineText::new();
     make_sum_line(&mut line, told, 0);
     put_last(line.as_slice(), Status::Done, out)
 }
