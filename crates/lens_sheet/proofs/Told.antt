@@ -1,13 +1,11 @@
--- The lines of a sheet name what is the network's, and are put one after another.
+-- The lines of a sheet name what is the network's.
 use Rattle.lens_latency.{proofs.{Names.part_names, Parts.all_in_parts}, specs.declared.comings.Coming.Coming}
-use Rattle.lens_sheet.specs.{Lines.numbers, Loading.HasLink, Sheet.{AreLinesOf, AreVlLines, IsWritable, line_text}}
-use Rattle.lens_sheet.specs.declared.{loads.Load.Load, sheet.{Number.Number, SheetLine.SheetLine}, weights.Weights.Weights}
+use Rattle.lens_sheet.specs.{Lines.numbers, Loading.HasLink, Sheet.{AreLinesOf, AreVlLines, IsWritable}}
+use Rattle.lens_sheet.specs.declared.{loads.Load.Load, sheet.{Number.Number, SheetLine.SheetLine}}
 use Rattle.lens_sheet.specs.declared.sheet.SheetLine.TheVariants as lines
 use Rattle.net_plan.specs.declared.network.Network.{Network}
-use Rattle.std.proofs.Common.{◌++◌, ◌+◌, ◌<◌, ◌∷◌, ◌≡◌, List, [], arith, drop, get_or, length, map, subst, sym, take, ℕ}
-use Rattle.std.{proofs.lemmas.List.{Elements.{All-append, All-cons, All-map}, at_drop_more, take_more}, specs.List.All}
-
--- ---- names
+use Rattle.std.proofs.Common.{◌++◌, ◌<◌, List, arith, length, map, subst, sym, ℕ}
+use Rattle.std.{proofs.lemmas.List.Elements.{All-append, All-cons, All-map}, specs.List.All}
 
 vl_names : {n : Network} {vl : ℕ} {ls : List SheetLine} → vl < length n.vl → AreLinesOf n vl ls
     → All (IsWritable n) ls
@@ -28,17 +26,3 @@ sheet_names n loads vls links are =
     (All-map (IsWritable n) (λ (k : Number). lines.Number k) numbers (λ k d within. tt))
     (All-append (IsWritable n) (map (λ (l : Load). lines.Load l) loads) vls (All-map (IsWritable n) (λ (l : Load). lines.Load l) loads links)
     (vls_names n vls are))
-
--- ---- puts
-
--- the line of this number, and its text
-pub record IsNext (network : Network) (w : Weights) (all : List SheetLine) (n : ℕ) (text : List ℕ) : Type 0 where
-  pub told : SheetLine
-  pub line : text ≡ line_text network w told
-  pub front : take (n + 1) all ≡ take n all ++ told ∷ []
-  pub rest : drop n all ≡ told ∷ drop (n + 1) all
-
-pub next_line : (network : Network) (w : Weights) (all : List SheetLine) (d : SheetLine) (n : ℕ) (text : List ℕ) → n < length all
-    → text ≡ line_text network w (get_or all n d) → IsNext network w all n text
-next_line network w all d n text within is =
-    record { told = get_or all n d; line = is; front = take_more all n d within; rest = at_drop_more (λ (xs : List SheetLine). xs) all n d within }

@@ -1,6 +1,6 @@
 ghost use Rattle.std.specs.Prelude.{◌≡◌, ◌≢◌, All};
 ghost use Rattle.lens_sheet.specs.Answer.{IsSheetAnswer, IsSheetOf, sheet_answer};
-ghost use Rattle.lens_sheet.specs.{Sheet.IsWritable, Weights.AreSmall};
+ghost use Rattle.lens_sheet.specs.{Sheet.{IsWritable, line_text}, Weights.AreSmall};
 ghost use Rattle.{net_plan.specs.Ranges.IsInRange, tte_forms.specs.Putting.Over};
 ghost use Rattle.tte_forms.specs.{Answering.{AnswersOne, Gives, GivesAnswer}, networks.Checking.IsCheckStatus};
 ghost use Rattle.tte_forms.specs.{Taking.TakesUpTo, frames.Answer.file_limit};
@@ -13,7 +13,7 @@ use crate::{SheetLine, Weights};
 use net_plan::Network;
 use schedule_tables::Accepted;
 use std::alloc::Global;
-use tte_forms::{Status, accept, end_with, put_no_network};
+use tte_forms::{LineMaker, Status, accept, put_lines, put_no_network};
 use tte_io::{LineText, Sink, Source};
 
 /// Tells of the network of a file its numbers and what they are made of, the loads of the ways by which rows go,
@@ -48,6 +48,25 @@ fn put_sheet_of<K: Sink>(alloc: Global, accepted: &Accepted, out: &mut K) -> Sta
     }
 }
 
+/// The lines of a sheet.
+#[derive(Drop)]
+struct SheetLines<'a> {
+    network: &'a Network,
+    weights: &'a Weights,
+}
+
+impl LineMaker<SheetLine> for SheetLines<'_> {
+    ghost fit = { λ lines. IsInRange lines.network.now × AreSmall lines.weights.now };
+
+    ghost takes = { λ lines told. IsWritable lines.network.now told };
+
+    ghost text = { λ lines told. line_text lines.network.now lines.weights.now told };
+
+    fn make(&self, line: &mut LineText, thing: &SheetLine) {
+        make_sheet_line(line, self.network, self.weights, thing);
+    }
+}
+
 /// Puts the lines of a sheet, and passes them on.
 fn put_sheet<K: Sink>(
     network: &Network,
@@ -61,13 +80,5 @@ fn put_sheet<K: Sink>(
     ensures gives { Over K.Sink out.old out.new (Gives (sheet_answer network.now weights.now sheet.now) result) }
     ensures status { IsWanted Status.Done result (PutFailed K.Sink out.old out.new) }
 {
-    let mut line = LineText::new();
-    'lines: for told in sheet {
-        make_sheet_line(&mut line, network, weights, told);
-        match out.put(line.as_slice()) {
-            Ok(()) => (),
-            Err(_) => return Status::WriteFault,
-        }
-    }
-    end_with(Status::Done, out)
+    put_lines(&SheetLines { network, weights }, sheet, out)
 }
