@@ -1,19 +1,5 @@
--- The line of the next part.
-use Rattle.lens_schedule.specs.{Lines.part_line, declared.part.Part.Part}
-use Rattle.{net_plan.specs.declared.network.Network.Network, std.proofs.lemmas.List.{at_drop_more, map-append, take_more}}
-use Rattle.std.proofs.Common.{◌++◌, ◌+◌, ◌<◌, ◌∙◌, ◌∷◌, ◌≡◌, List, [], ap, append_assoc, drop, get_or, length, map, sym, take, ℕ}
-
--- the part of this number, and its line
-pub record IsNext (network : Network) (title : List ℕ) (all : List Part) (n : ℕ) (text : List ℕ) : Type 0 where
-  pub part : Part
-  pub line : text ≡ part_line network title part
-  pub front : take (n + 1) all ≡ take n all ++ part ∷ []
-  pub rest : drop n all ≡ part ∷ drop (n + 1) all
-
-pub next_line : (network : Network) (title : List ℕ) (all : List Part) (d : Part) (n : ℕ) (text : List ℕ) → n < length all
-    → text ≡ part_line network title (get_or all n d) → IsNext network title all n text
-next_line network title all d n text within is =
-    record { part = get_or all n d; line = is; front = take_more all n d within; rest = at_drop_more (λ (xs : List Part). xs) all n d within }
+-- The next part of a picture.
+use Rattle.std.proofs.{Common.{◌++◌, ◌+◌, ◌<◌, ◌∙◌, ◌∷◌, ◌≡◌, List, [], ap, append_assoc, get_or, length, map, sym, take, ℕ}, lemmas.List.{map-append, take_more}}
 
 -- one more of a list is added
 pub map_next : {X Y : Type 0} (f : X → Y) (xs : List X) (n : ℕ) (d : X) (old m p : List Y) (y : Y) → n < length xs

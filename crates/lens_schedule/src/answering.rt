@@ -1,5 +1,5 @@
 ghost use Rattle.std.specs.Prelude.{◌≡◌, ◌≢◌};
-ghost use Rattle.lens_schedule.specs.Answer.{IsScheduleAnswer, IsScheduleOf, picture_answer};
+ghost use Rattle.lens_schedule.specs.{Answer.{IsScheduleAnswer, IsScheduleOf, picture_answer}, Lines.part_line};
 ghost use Rattle.{net_plan.specs.Ranges.IsInRange, tte_forms.specs.Putting.Over};
 ghost use Rattle.tte_forms.specs.{Answering.{AnswersOne, Gives, GivesAnswer}, networks.Checking.IsCheckStatus};
 ghost use Rattle.tte_forms.specs.Faults.{HasCause, IsWanted, PutFailed, ReadFailed};
@@ -12,7 +12,7 @@ use lens_svg::Title;
 use net_plan::Network;
 use schedule_tables::{Accepted, entries_law, entries_of};
 use std::alloc::Global;
-use tte_forms::{Status, Words, accept, end_with, put_no_network};
+use tte_forms::{LineMaker, Status, Words, accept, put_lines, put_no_network};
 use tte_io::{LineText, Sink, Source};
 
 /// Draws the network of a file: the tree of each channel, and below it the cycle, with a lane for each port that has
@@ -61,19 +61,30 @@ fn put_schedule_of<K: Sink>(
     }
 }
 
+/// The lines of a picture's parts.
+#[derive(Drop)]
+struct PartLines<'a> {
+    network: &'a Network,
+    title: &'a Title,
+}
+
+impl LineMaker<Part> for PartLines<'_> {
+    ghost fit = { λ lines. IsInRange lines.network.now };
+
+    ghost takes = { λ lines part. Unit {0} };
+
+    ghost text = { λ lines part. part_line lines.network.now lines.title.now part };
+
+    fn make(&self, line: &mut LineText, thing: &Part) {
+        make_part_line(line, self.network, self.title, thing);
+    }
+}
+
 /// Puts the line of each part, and passes them on.
 fn put_parts<K: Sink>(network: &Network, title: &Title, parts: &[Part], out: &mut K) -> Status
     requires { IsInRange network.now }
     ensures gives { Over K.Sink out.old out.new (Gives (picture_answer network.now title.now parts.now) result) }
     ensures status { IsWanted Status.Done result (PutFailed K.Sink out.old out.new) }
 {
-    let mut line = LineText::new();
-    'parts: for part in parts {
-        make_part_line(&mut line, network, title, part);
-        match out.put(line.as_slice()) {
-            Ok(()) => (),
-            Err(_) => return Status::WriteFault,
-        }
-    }
-    end_with(Status::Done, out)
+    put_lines(&PartLines { network, title }, parts, out)
 }
