@@ -4,7 +4,6 @@ pub mod Skipping
 pub mod Laying
 pub mod NoneMissed
 pub mod OneAnswer
-pub mod Listed
 pub mod Joins
 pub mod Drawing
 pub mod LawTexts

@@ -1,7 +1,7 @@
 ghost use Rattle.std.specs.Prelude.{◌≡◌, IfOk, List, []};
 ghost use Rattle.lens_flows.specs.counts.FlowLists.{AreFlows};
 ghost use Rattle.lens_flows.specs.declared.judge.flow.Flow.{Flow as FlowValue};
-ghost use Rattle.lens_overview.specs.{Answer.{IsOverviewAnswer, picture_for, pieces_answer}};
+ghost use Rattle.lens_overview.specs.{Answer.{IsOverviewAnswer, picture_for, pieces_answer}, Lines.piece_line};
 ghost use Rattle.net_plan.specs.Ranges.{IsInRange};
 ghost use Rattle.{run_law.specs.declared.note.Note.{Note as NoteValue}, tte_audit.specs.Named.IsNamed};
 ghost use Rattle.tte_forms.specs.{Answering.Gives, Faults.{IsWanted, PutFailed}, Putting.Over};
@@ -19,7 +19,7 @@ use lens_flows::counts::flows_of;
 use lens_svg::Title;
 use net_plan::Network;
 use std::alloc::Global;
-use tte_forms::{Status, Words, end_with};
+use tte_forms::{LineMaker, Status, Words, put_lines};
 use tte_io::{LineText, OutOfMemory, Sink};
 use tte_reports::{AuditedReport, ReportCommand};
 
@@ -83,19 +83,30 @@ fn drawn(
     Ok(pieces)
 }
 
+/// The lines of a picture's pieces.
+#[derive(Drop)]
+struct PieceLines<'a> {
+    network: &'a Network,
+    title: &'a Title,
+}
+
+impl LineMaker<Piece> for PieceLines<'_> {
+    ghost fit = { λ lines. IsInRange lines.network.now };
+
+    ghost takes = { λ lines piece. Unit {0} };
+
+    ghost text = { λ lines piece. piece_line lines.network.now lines.title.now piece };
+
+    fn make(&self, line: &mut LineText, thing: &Piece) {
+        make_piece(line, self.network, self.title, thing);
+    }
+}
+
 /// Puts the lines of the pieces, and passes them on.
 fn put_pieces<K: Sink>(network: &Network, title: &Title, pieces: &[Piece], out: &mut K) -> Status
     requires { IsInRange network.now }
     ensures gives { Over K.Sink out.old out.new (Gives (pieces_answer network.now title.now pieces.now) result) }
     ensures status { IsWanted Status.Done result (PutFailed K.Sink out.old out.new) }
 {
-    let mut line = LineText::new();
-    'pieces: for piece in pieces {
-        make_piece(&mut line, network, title, piece);
-        match out.put(line.as_slice()) {
-            Ok(()) => (),
-            Err(_) => return Status::WriteFault,
-        }
-    }
-    end_with(Status::Done, out)
+    put_lines(&PieceLines { network, title }, pieces, out)
 }
