@@ -26,7 +26,6 @@ pub mod IdLists
 pub mod InTime
 pub mod Texts
 pub mod Plans
-pub mod PutLines
 pub mod Meanings
 pub mod Tellable
 pub mod GoodPlans

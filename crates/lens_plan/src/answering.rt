@@ -1,9 +1,9 @@
 ghost use Rattle.std.specs.Prelude.{◌≡◌, ◌≢◌, ◌≤◌, ◌⊎◌, All, Err, IfErr, IfOk, length};
 ghost use Rattle.net_plan.specs.{Paths.IsTree, Ranges.IsInRange};
 ghost use Rattle.lens_plan.specs.Answer.{ArePlanLines, IsJoinedAnswer, IsPlanAnswer, IsPlanFor, IsPlanOf, IsPlanStatus};
-ghost use Rattle.lens_plan.specs.Answer.{IsNoJoinTold, IsToldBy, TellsOf, lines_answer};
+ghost use Rattle.lens_plan.specs.Answer.{IsNoJoinTold, IsToldBy, TellsOf};
 ghost use Rattle.lens_plan.specs.{joining.Joined.joined, places.{Fitting.IsAsked, Placing.IsOrdered, Planning.{IsNoPlan, IsPlaceOf}}};
-ghost use Rattle.lens_plan.specs.text.Refusals.{HasExcess, excess_line, short_line};
+ghost use Rattle.lens_plan.specs.text.{Lines.plan_line, Refusals.{HasExcess, excess_line, short_line}};
 ghost use Rattle.tte_forms.specs.Answering.{ForOctets, Gives, GivesAnswer, line_answer};
 ghost use Rattle.tte_forms.specs.Faults.{HasCause, IsWanted, PutFailed, ReadFailed};
 ghost use Rattle.tte_forms.specs.{Putting.Over, Taking.TakesUpTo, frames.Answer.file_limit};
@@ -18,7 +18,7 @@ use crate::text::{
 use crate::{Message, PlanLine};
 use net_plan::Network;
 use std::alloc::Global;
-use tte_forms::{Status, end_with, put_last, put_no_network};
+use tte_forms::{LineMaker, Status, put_last, put_lines, put_no_network};
 use tte_io::{LineText, OutOfMemory, Sink, Source};
 
 /// Plans virtual links and rows for the messages of the second file, behind the rows of the network of the first.
@@ -179,26 +179,26 @@ fn put_judged<K: Sink>(
     ensures cause { HasCause result ⊥ (PutFailed K.Sink out.old out.new) }
 {
     match means_planned(alloc, octets, file.accepted.network(), messages) {
-        Ok(true) => put_lines(lines, out),
+        Ok(true) => put_lines(&PlanLines, lines, out),
         Ok(false) => put_last(b"refused network closed\n", Status::NetworkRefused, out),
         Err(OutOfMemory) => Status::OutOfMemory,
     }
 }
 
-/// Puts the lines, and passes them on.
-fn put_lines<K: Sink>(lines: &[PlanLine], out: &mut K) -> Status
-    ensures gives { Over K.Sink out.old out.new (Gives (lines_answer lines.now) result) }
-    ensures status { IsWanted Status.Done result (PutFailed K.Sink out.old out.new) }
-{
-    let mut line = LineText::new();
-    'lines: for of in lines {
-        make_plan_line(&mut line, *of);
-        match out.put(line.as_slice()) {
-            Ok(()) => (),
-            Err(_) => return Status::WriteFault,
-        }
+/// The lines of a plan.
+#[derive(Drop)]
+struct PlanLines;
+
+impl LineMaker<PlanLine> for PlanLines {
+    ghost fit = { λ lines. Unit {0} };
+
+    ghost takes = { λ lines of. Unit {0} };
+
+    ghost text = { λ lines of. plan_line of };
+
+    fn make(&self, line: &mut LineText, thing: &PlanLine) {
+        make_plan_line(line, *thing);
     }
-    end_with(Status::Done, out)
 }
 
 /// Answers that there is no plan: the line that says why, where there is one, and the status.
