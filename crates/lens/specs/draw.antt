@@ -1,5 +1,4 @@
 pub mod Spans
-pub mod Putting
 pub mod Keeping
 pub mod Naming
 pub mod Signs

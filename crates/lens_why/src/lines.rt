@@ -4,7 +4,7 @@ ghost use Rattle.lens_why.specs.Lines.{against_text, best_text, collection_text,
 ghost use Rattle.lens_why.specs.Lines.{number_refused_line, off_text, outside_text, told_lines, told_text, window_text};
 ghost use Rattle.{net_plan.specs.Ranges.IsInRange, tte_io.specs.Line.line_limit};
 ghost use Rattle.{report_text.specs.{NoteWords.members_text, Ranges.IsNoteOf}, tte_forms.specs.Faults.PutFailed};
-ghost use Rattle.{sync_state.specs.membership.Members.count_of, tte_forms.specs.Putting.{Over, PutFails, PutsLines}};
+ghost use Rattle.{sync_state.specs.membership.Members.count_of, tte_forms.specs.Putting.{Over, Puts}};
 
 use crate::{Best, Collection, Ground, Told};
 use itoa::Buffer;
@@ -426,9 +426,7 @@ pub(crate) fn put_record<K: Sink>(
 ) -> Result<(), SinkFailed>
     requires range { IsInRange network.now }
     requires of_network { IsNoteOf network.now note.now }
-    ensures puts { Over K.Sink out.old out.new (λ old new. MatchResult result
-        (λ _. PutsLines (told_lines network.now note.now said) old new)
-        (λ _. PutFails (told_lines network.now note.now said) old new)) }
+    ensures puts { Over K.Sink out.old out.new (Puts (told_lines network.now note.now said) result) }
     ensures faults { MatchResult result (λ _. K.faults out.new ≡ K.faults out.old)
         (λ _. PutFailed K.Sink out.old out.new) }
 {

@@ -1,6 +1,6 @@
 -- The draft of a picture, and the marks of records put one after another.
 use Rattle.{lens.specs.{declared.draw.drawing.Draft.Draft, draw.Drafts.IsDraftOf}, std.proofs.lemmas.List.Sums.fold_push}
-use Rattle.{lens.proofs.draw_lemmas.Parts.{fails_before, fails_between}, lens_svg.specs.{Clocks.{Clocks, clocks_in, clocks_with, no_clocks}, Views.View}}
+use Rattle.{lens.proofs.draw_lemmas.Parts.fails_between, tte_forms.proofs.Puts.PutFails-more, lens_svg.specs.{Clocks.{Clocks, clocks_in, clocks_with, no_clocks}, Views.View}}
 use Rattle.{lens.specs.draw.Answer.{back_answer, draw_answer, fitting_answer}, lens_svg.specs.{Plan.Plan, Sketching.{begun, fits, plan_behind, plan_of, took}}}
 use Rattle.lens.specs.draw.{Picture.{back_lines, front_lines, mark_lines, marks_behind, marks_of, picture_lines, windows_of}, Signs.close_line}
 use Rattle.{lens_svg.proofs.Painting.view_behind, std.{proofs.Common.{true, ℕ}, specs.List.concat}, tte_reports.specs.Reports.AreLeft}
@@ -92,7 +92,7 @@ module _ (network : Network) (view : View) (all : List Mark) (notes : List Note)
       inr (inl (
         refl,
         inl (subst (λ ls. PutFails ls old new) (sym lines)
-            (fails_before (close_line ∷ []) (fails_between others h.puts fails))),
+            (PutFails-more (close_line ∷ []) (fails_between others h.puts fails))),
       ))
 
   pub marked_all : (status : Status) (new : Shown) → h.rest ≡ [] → Gives (line_answer Done close_line) status now new
@@ -150,7 +150,7 @@ module _ (network : Network) (plan : Plan) (windows : List Came) (clocks : Clock
   pub front_fails : {old new : Shown} → PutFails (front_lines network plan windows clocks) old new
       → Gives (fitting_answer network plan windows clocks notes) WriteFault old new
   front_fails fails =
-      inr (inl (refl, inl (fails_before (back_lines network plan.view plan.marks notes) fails)))
+      inr (inl (refl, inl (PutFails-more (back_lines network plan.view plan.marks notes) fails)))
 
   -- the lines below the marks were put, and then those from the marks on
   pub front_given : (status : Status) {old now new : Shown}

@@ -1,33 +1,19 @@
 -- Parts of a picture put one after another.
-use Rattle.{lens.specs.draw.Picture.lines_from, tte_forms.proofs.Puts.{PutFails-behind, PutsLines-append, PutsLines-fails, PutsLines-more, PutsLines-none}}
-use Rattle.{lens.specs.draw.Putting.Draws, std.{proofs.Common.{zero, ℕ}, specs.Io.KnownBytes.Appends}, tte_io.specs.{Faults.next_count, Told.AppendsFront}}
+use Rattle.{lens.specs.draw.Picture.lines_from, tte_forms.proofs.Puts.{PutFails-behind, PutFails-more, PutsLines-append, PutsLines-none, puts_last}}
+use Rattle.{std.{proofs.Common.{zero, ℕ}, specs.Io.KnownBytes.Appends}, tte_io.specs.{Faults.next_count, Told.AppendsFront}}
 use Rattle.std.proofs.Common.{◌++◌, ◌+◌, ◌-◌, ◌<◌, ◌∙◌, ◌∷◌, ◌≡◌, ◌≤◌, List, [], ap, append_assoc, arith, drop, get_or, length, refl, subst, suc, sym, take}
-use Rattle.{std.proofs.lemmas.{Grind.flat_map-append, List.{at_drop_more, append-nil, take-append-drop, take_more}}, tte_forms.specs.Putting.{PutFails, PutsLines, Shown}}
+use Rattle.{std.proofs.lemmas.{Grind.flat_map-append, List.{at_drop_more, append-nil, take-append-drop, take_more}}, tte_forms.specs.Putting.{PutFails, Puts, PutsLines, Shown}}
 use Rattle.{std.specs.{Prelude.{Err, Ok, OnErr, OnOk, flat_map}, declared.result.Result.Result}, tte_io.specs.declared.ends.SinkFailed.SinkFailed}
 
 -- one line, in one put
 pub draws_one : (line : List ℕ) (result : Result (Unit {0}) SinkFailed) (old new : Shown) → OnOk result (Appends old.written new.written line)
-    → OnErr result (AppendsFront old.written new.written line) → new.puts ≡ next_count old.puts → Draws (line ∷ []) result old new
-draws_one line (Ok done) old new all front counted = PutsLines-more line new (PutsLines-none old) all counted
-draws_one line (Err cause) old new all front counted = PutsLines-fails line [] new (PutsLines-none old) front counted
-
--- a put that failed failed among more lines
-pub fails_before : {xs : List (List ℕ)} (ys : List (List ℕ)) {a b : Shown} → PutFails xs a b → PutFails (xs ++ ys) a b
-fails_before ys p = record {
-  done = p.done;
-  line = p.line;
-  left = p.left ++ ys;
-  order = ap (λ (ls : List (List ℕ)). ls ++ ys) p.order ∙ append_assoc p.done (p.line ∷ p.left) ys;
-  before = p.before;
-  puts = p.puts;
-  front = p.front;
-  counted = p.counted;
-}
+    → OnErr result (AppendsFront old.written new.written line) → new.puts ≡ next_count old.puts → Puts (line ∷ []) result old new
+draws_one line result old new all front counted = puts_last line result new (PutsLines-none old) all front counted
 
 -- a put failed behind lines that were put, and others were to come
 pub fails_between : {xs ys : List (List ℕ)} (zs : List (List ℕ)) {a b c : Shown} → PutsLines xs a b → PutFails ys b c
     → PutFails (xs ++ (ys ++ zs)) a c
-fails_between {xs} {ys} zs {a} {b} {c} p q = PutFails-behind (ys ++ zs) c p (fails_before zs q)
+fails_between {xs} {ys} zs {a} {b} {c} p q = PutFails-behind (ys ++ zs) c p (PutFails-more zs q)
 
 -- ---- lists
 

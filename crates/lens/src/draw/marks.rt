@@ -2,7 +2,7 @@
 ghost use Rattle.std.specs.Prelude.{◌≡◌, List, MatchResult};
 ghost use Rattle.{lens.specs.draw.Answer.back_answer, net_plan.specs.Ranges.IsInRange, tte_forms.specs.Answering.Gives};
 ghost use Rattle.{lens.specs.draw.Picture.{first_line, marks_behind, marks_of}, run_law.specs.declared.note.Note.{Note as NoteValue}};
-ghost use Rattle.{lens.specs.draw.Putting.Draws, tte_audit.specs.Named.IsNamed, tte_forms.specs.Putting.Over};
+ghost use Rattle.{tte_audit.specs.Named.IsNamed, tte_forms.specs.Putting.{Over, Puts}};
 ghost use Rattle.tte_reports.specs.{Answer.IsAuditStatus, Reports.AreLeft};
 ghost use Rattle.{report_text.specs.Ranges.{IsNoteInRange, IsNoteOf}, tte_forms.specs.Faults.{HasCause, PutFailed}};
 
@@ -38,7 +38,7 @@ fn put_first<K: Sink>(
     requires range { IsInRange network.now }
     requires of_network { IsNoteOf network.now note.now }
     requires in_range { IsNoteInRange note.now }
-    ensures draws { Over K.Sink out.old out.new (Draws (first_line network.now marks.now note.now) result) }
+    ensures draws { Over K.Sink out.old out.new (Puts (first_line network.now marks.now note.now) result) }
     ensures faults { MatchResult result (λ _. K.faults out.new ≡ K.faults out.old)
         (λ _. PutFailed K.Sink out.old out.new) }
 {
@@ -63,7 +63,7 @@ fn put_mark<K: Sink>(
     requires range { IsInRange network.now }
     requires of_network { IsNoteOf network.now note.now }
     requires in_range { IsNoteInRange note.now }
-    ensures draws { Over K.Sink out.old out.new (Draws (marks_of network.now sketch.now.view marks.now note.now) result) }
+    ensures draws { Over K.Sink out.old out.new (Puts (marks_of network.now sketch.now.view marks.now note.now) result) }
     ensures faults { MatchResult result (λ _. K.faults out.new ≡ K.faults out.old)
         (λ _. PutFailed K.Sink out.old out.new) }
 {

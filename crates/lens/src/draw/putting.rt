@@ -2,8 +2,8 @@
 ghost use Rattle.std.specs.Prelude.{◌≡◌, ◌<◌, ◌∷◌, [], IfSome, MatchResult, length};
 ghost use Rattle.lens.specs.draw.Picture.{front_lines, gauges_lines, lanes_lines, layer_lines, marks_lines, some_line};
 ghost use Rattle.{lens.specs.draw.{Picture.windows_lines, Signs.sign_line}, lens_svg.specs.Elements.HasNames};
-ghost use Rattle.{lens.specs.draw.Putting.Draws, net_plan.specs.Ranges.IsInRange, tte_forms.specs.Faults.PutFailed};
-ghost use Rattle.{lens_svg.specs.Titles.{heading_line, title_line}, tte_forms.specs.Putting.Over};
+ghost use Rattle.{net_plan.specs.Ranges.IsInRange, tte_forms.specs.Faults.PutFailed};
+ghost use Rattle.{lens_svg.specs.Titles.{heading_line, title_line}, tte_forms.specs.Putting.{Over, Puts}};
 
 use crate::draw::signs::Sign;
 use lens_svg::{
@@ -73,7 +73,7 @@ fn put_some<K: Sink>(
 ) -> Result<(), SinkFailed>
     requires range { IsInRange network.now }
     requires names { IfSome element (HasNames network.now) }
-    ensures draws { Over K.Sink out.old out.new (Draws (some_line network.now element) result) }
+    ensures draws { Over K.Sink out.old out.new (Puts (some_line network.now element) result) }
     ensures faults { MatchResult result (λ _. K.faults out.new ≡ K.faults out.old)
         (λ _. PutFailed K.Sink out.old out.new) }
 {
@@ -88,7 +88,7 @@ fn put_some<K: Sink>(
 
 /// Puts a line that each picture has.
 fn put_shared<K: Sink>(sign: Sign, out: &mut K) -> Result<(), SinkFailed>
-    ensures draws { Over K.Sink out.old out.new (Draws (sign_line sign ∷ []) result) }
+    ensures draws { Over K.Sink out.old out.new (Puts (sign_line sign ∷ []) result) }
     ensures faults { MatchResult result (λ _. K.faults out.new ≡ K.faults out.old)
         (λ _. PutFailed K.Sink out.old out.new) }
 {
@@ -97,7 +97,7 @@ fn put_shared<K: Sink>(sign: Sign, out: &mut K) -> Result<(), SinkFailed>
 
 /// Puts the line by which the picture is named.
 fn put_title<K: Sink>(sketch: &Sketch, line: &mut LineText, out: &mut K) -> Result<(), SinkFailed>
-    ensures draws { Over K.Sink out.old out.new (Draws (title_line sketch.now.view.title ∷ []) result) }
+    ensures draws { Over K.Sink out.old out.new (Puts (title_line sketch.now.view.title ∷ []) result) }
     ensures faults { MatchResult result (λ _. K.faults out.new ≡ K.faults out.old)
         (λ _. PutFailed K.Sink out.old out.new) }
 {
@@ -107,7 +107,7 @@ fn put_title<K: Sink>(sketch: &Sketch, line: &mut LineText, out: &mut K) -> Resu
 
 /// Puts the name of the picture at its head.
 fn put_heading<K: Sink>(sketch: &Sketch, line: &mut LineText, out: &mut K) -> Result<(), SinkFailed>
-    ensures draws { Over K.Sink out.old out.new (Draws (heading_line sketch.now.view.title ∷ []) result) }
+    ensures draws { Over K.Sink out.old out.new (Puts (heading_line sketch.now.view.title ∷ []) result) }
     ensures faults { MatchResult result (λ _. K.faults out.new ≡ K.faults out.old)
         (λ _. PutFailed K.Sink out.old out.new) }
 {
@@ -124,7 +124,7 @@ fn put_lanes<K: Sink>(
     out: &mut K,
 ) -> Result<(), SinkFailed>
     requires { IsInRange network.now }
-    ensures draws { Over K.Sink out.old out.new (Draws (lanes_lines network.now sketch.now layer) result) }
+    ensures draws { Over K.Sink out.old out.new (Puts (lanes_lines network.now sketch.now layer) result) }
     ensures faults { MatchResult result (λ _. K.faults out.new ≡ K.faults out.old)
         (λ _. PutFailed K.Sink out.old out.new) }
 {
@@ -147,7 +147,7 @@ fn put_marks<K: Sink>(
     out: &mut K,
 ) -> Result<(), SinkFailed>
     requires { IsInRange network.now }
-    ensures draws { Over K.Sink out.old out.new (Draws (marks_lines network.now sketch.now layer) result) }
+    ensures draws { Over K.Sink out.old out.new (Puts (marks_lines network.now sketch.now layer) result) }
     ensures faults { MatchResult result (λ _. K.faults out.new ≡ K.faults out.old)
         (λ _. PutFailed K.Sink out.old out.new) }
 {
@@ -170,7 +170,7 @@ fn put_windows<K: Sink>(
     out: &mut K,
 ) -> Result<(), SinkFailed>
     requires { IsInRange network.now }
-    ensures draws { Over K.Sink out.old out.new (Draws (windows_lines network.now windows.now) result) }
+    ensures draws { Over K.Sink out.old out.new (Puts (windows_lines network.now windows.now) result) }
     ensures faults { MatchResult result (λ _. K.faults out.new ≡ K.faults out.old)
         (λ _. PutFailed K.Sink out.old out.new) }
 {
@@ -193,7 +193,7 @@ fn put_gauges<K: Sink>(
     out: &mut K,
 ) -> Result<(), SinkFailed>
     requires { IsInRange network.now }
-    ensures draws { Over K.Sink out.old out.new (Draws (gauges_lines network.now sketch.now clocks.now) result) }
+    ensures draws { Over K.Sink out.old out.new (Puts (gauges_lines network.now sketch.now clocks.now) result) }
     ensures faults { MatchResult result (λ _. K.faults out.new ≡ K.faults out.old)
         (λ _. PutFailed K.Sink out.old out.new) }
 {
@@ -220,7 +220,7 @@ fn put_layer<K: Sink>(
 ) -> Result<(), SinkFailed>
     requires { IsInRange network.now }
     ensures draws { Over K.Sink out.old out.new
-        (Draws (layer_lines network.now sketch.now windows.now clocks.now layer) result) }
+        (Puts (layer_lines network.now sketch.now windows.now clocks.now layer) result) }
     ensures faults { MatchResult result (λ _. K.faults out.new ≡ K.faults out.old)
         (λ _. PutFailed K.Sink out.old out.new) }
 {
@@ -254,7 +254,7 @@ pub(crate) fn put_front<K: Sink>(
 ) -> Result<(), SinkFailed>
     requires { IsInRange network.now }
     ensures draws { Over K.Sink out.old out.new
-        (Draws (front_lines network.now sketch.now windows.now clocks.now) result) }
+        (Puts (front_lines network.now sketch.now windows.now clocks.now) result) }
     ensures faults { MatchResult result (λ _. K.faults out.new ≡ K.faults out.old)
         (λ _. PutFailed K.Sink out.old out.new) }
 {

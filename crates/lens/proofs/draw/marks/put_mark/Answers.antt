@@ -1,4 +1,4 @@
-use Rattle.{lens.specs.draw.{Picture.{first_line, marks_of}, Putting.Draws}, tte_forms.specs.Putting.shown_by}
+use Rattle.{lens.specs.draw.Picture.{first_line, marks_of}, tte_forms.specs.Putting.{Puts, shown_by}}
 use Rattle.std.{proofs.Common.{◌≡◌, Bool, [], ap, subst, sym}, specs.Prelude.if◌then◌else◌}
 use Rattle.lens.proofs.draw.marks.put_mark.Goals as goal
 
@@ -9,4 +9,4 @@ returns-then-draws-clause-draws g c =
     let own = first_line c.args.network.now c.args.marks.now c.args.note.now in
     let marks : marks_of c.args.network.now c.args.sketch.now.view c.args.marks.now c.args.note.now ≡ own =
     ap (λ (b : Bool). if b then own else []) (sym c.if-draws.ensures) in
-    subst (λ ls. Draws ls c.put_first.result old new) (sym marks) c.put_first.ensures.draws
+    subst (λ ls. Puts ls c.put_first.result old new) (sym marks) c.put_first.ensures.draws

@@ -1,4 +1,4 @@
-use Rattle.{lens.{proofs.draw_lemmas.Parts.draws_one, specs.draw.Putting.Draws}, lens_svg.specs.Titles.heading_line, tte_forms.specs.Putting.shown_by}
+use Rattle.{lens.proofs.draw_lemmas.Parts.draws_one, lens_svg.specs.Titles.heading_line, tte_forms.specs.Putting.{Puts, shown_by}}
 use Rattle.std.proofs.Common.{◌∙◌, ◌∷◌, ◌≡◌, List, [], ap, subst, ℕ}
 use Rattle.lens.proofs.draw.putting.put_heading.Goals as goal
 
@@ -8,5 +8,5 @@ returns-clause-draws g c =
     let new = shown_by g.K.Sink c.put.new.self in
     let line : c.as_slice.result.now ≡ heading_line c.args.sketch.now.view.title =
     c.as_slice.ensures ∙ c.make_heading_line.ensures ∙ ap (λ t. heading_line t) c.title.ensures in
-    subst (λ (bytes : List ℕ). Draws (bytes ∷ []) c.put.result old new) line
+    subst (λ (bytes : List ℕ). Puts (bytes ∷ []) c.put.result old new) line
     (draws_one c.as_slice.result.now c.put.result old new c.put.ensures.all c.put.ensures.front c.put.ensures.counted)
