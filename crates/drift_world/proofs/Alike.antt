@@ -10,52 +10,51 @@ module _ {C M : Type 0} (reading : C → ℕ → ℕ) (stands : M → Network �
       → (it : Stands reading stands s world notes)
       → (new : Stands reading stands s (record world { wires = wires; ports = ports }) notes)
       × (new.mark ≡ it.mark) × (new.cursor ≡ it.cursor)
-  with_lists wires ports on at it =
-      (
-        record {
-          same = it.same;
-          range = it.range;
-          rules = it.rules;
-          forward = it.forward;
-          steady = it.steady;
-          precise = it.precise;
-          mark = it.mark;
-          cursor = it.cursor;
-          run = it.run;
-          ahead = it.ahead;
-          of_now = it.of_now;
-          not_later = it.not_later;
-          limit = it.limit;
-          lines = it.lines;
-          given = it.given;
-          ended = it.ended;
-          befallen = it.befallen;
-          clocks = it.clocks;
-          broken = it.broken;
-          ways = it.ways;
-          room = it.room;
-          known = it.known;
-          devices = it.devices;
-          early = it.early;
-          untold = it.untold;
-          wires = record {
-            real = λ e there. it.wires.real e ((on e).0 there);
-            all = λ t device link cause a late waits. let found = it.wires.all t device link cause a late waits in
-                (found.0, (on found.0).1 found.1, found.2);
-          };
-          ports = record {
-            real = λ e there. it.ports.real e ((at e).0 there);
-            all = λ t device link cause d waits. let found = it.ports.all t device link cause d waits in
-                (found.0, (at found.0).1 found.1, found.2);
-          };
-          waiting = it.waiting;
-          stored = it.stored;
-          are = it.are;
-          shown = it.shown;
-        },
-        refl,
-        refl,
-      )
+  with_lists wires ports on at it = (
+    record {
+      same = it.same;
+      range = it.range;
+      rules = it.rules;
+      forward = it.forward;
+      steady = it.steady;
+      precise = it.precise;
+      mark = it.mark;
+      cursor = it.cursor;
+      run = it.run;
+      ahead = it.ahead;
+      of_now = it.of_now;
+      not_later = it.not_later;
+      limit = it.limit;
+      lines = it.lines;
+      given = it.given;
+      ended = it.ended;
+      befallen = it.befallen;
+      clocks = it.clocks;
+      broken = it.broken;
+      ways = it.ways;
+      room = it.room;
+      known = it.known;
+      devices = it.devices;
+      early = it.early;
+      untold = it.untold;
+      wires = record {
+        real = λ e there. it.wires.real e ((on e).0 there);
+        all = λ t device link cause a late waits. let found = it.wires.all t device link cause a late waits in
+            (found.0, (on found.0).1 found.1, found.2);
+      };
+      ports = record {
+        real = λ e there. it.ports.real e ((at e).0 there);
+        all = λ t device link cause d waits. let found = it.ports.all t device link cause d waits in
+            (found.0, (at found.0).1 found.1, found.2);
+      };
+      waiting = it.waiting;
+      stored = it.stored;
+      are = it.are;
+      shown = it.shown;
+    },
+    refl,
+    refl,
+  )
 
   pub with_wires : (wires : List OnWire) (p : List ℕ) → ((e : OnWire) → IsIn e wires ↔ IsIn e world.wires)
       → StandsBehind reading stands s world notes p → StandsBehind reading stands s

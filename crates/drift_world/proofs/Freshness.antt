@@ -60,39 +60,39 @@ module _ {C M : Type 0} (fresh : ℕ → C) (last_step : C → ℕ) (network : N
     stood : Stands reading (keeps stands) (scenario network (reading_of fresh after_step reading network []) [])
         (world_of network state) []
     stood =
-          begun reading (keeps stands) network (reading_of fresh after_step reading network []) (world_of network state)
-          (record {
-            of_it = refl;
-            clocks = λ device lt. (fresh (amount network.grain), ap (λ cs. slice_get cs device.0) first.clocks ∙ found_in _ _ _ lt, λ t late. refl);
-            machines = λ device lt. let of = found machines device.0 (subst (λ n. device.0 < n) (sym are.each) lt) in (
-              sound_one of.0,
-              ap (λ ms. slice_get ms device.0) first.machines ∙ slice_get-map sound_one machines device.0 ∙ ap (option_map sound_one) of.1,
-              (are.begun device of.0 of.1, refl),
-            );
-            broken = λ device lt. ap (λ bs. slice_get bs device.0) first.broken ∙ found_in _ _ _ lt;
-            ways = subst (λ l. AreWays (scenario network (reading_of fresh after_step reading network []) []) 0 (map way_as l) (map way_as state.downs.items))
-                (sym first.ups)
-                (subst (λ l. AreWays (scenario network (reading_of fresh after_step reading network []) []) 0 (map way_as (map first_way network.link))
-                (map way_as l)) (sym first.downs) (first_ways_are network (reading_of fresh after_step reading network [])));
-            wires = ap (filter_map (on_wire network)) first.under_way;
-            ports = ap (filter_map at_port) first.under_way;
-            waiting = ap (map _) first.waiting;
-            stored = ap (map _) first.stored;
-            settled = ap (map _) first.settled;
-            early = first.early;
-            pending = first.pending;
-            befell = ap (map _) first.befell;
-            now = first.time;
-            lines = first.lines;
-            given = first.given;
-            ended = first.ended;
-            shown = first.shown;
-          })
-          (forward (reading_of fresh after_step reading network []) [] range (none_within network))
-          (λ device. steady fresh after_step reading (keeps_clock_laws fresh after_step reading grain count law)
-          (begins_at_zero fresh after_step reading grain count law) [] device range rules (none_within network) (λ e i. absurd i))
-          (λ device. begins_at_zero fresh after_step reading grain count law (amount network.grain) [])
-          (let least = range.precision.least in omega (arith, ints, least)) range rules
+        begun reading (keeps stands) network (reading_of fresh after_step reading network []) (world_of network state)
+        (record {
+          of_it = refl;
+          clocks = λ device lt. (fresh (amount network.grain), ap (λ cs. slice_get cs device.0) first.clocks ∙ found_in _ _ _ lt, λ t late. refl);
+          machines = λ device lt. let of = found machines device.0 (subst (λ n. device.0 < n) (sym are.each) lt) in (
+            sound_one of.0,
+            ap (λ ms. slice_get ms device.0) first.machines ∙ slice_get-map sound_one machines device.0 ∙ ap (option_map sound_one) of.1,
+            (are.begun device of.0 of.1, refl),
+          );
+          broken = λ device lt. ap (λ bs. slice_get bs device.0) first.broken ∙ found_in _ _ _ lt;
+          ways = subst (λ l. AreWays (scenario network (reading_of fresh after_step reading network []) []) 0 (map way_as l) (map way_as state.downs.items))
+              (sym first.ups)
+              (subst (λ l. AreWays (scenario network (reading_of fresh after_step reading network []) []) 0 (map way_as (map first_way network.link))
+              (map way_as l)) (sym first.downs) (first_ways_are network (reading_of fresh after_step reading network [])));
+          wires = ap (filter_map (on_wire network)) first.under_way;
+          ports = ap (filter_map at_port) first.under_way;
+          waiting = ap (map _) first.waiting;
+          stored = ap (map _) first.stored;
+          settled = ap (map _) first.settled;
+          early = first.early;
+          pending = first.pending;
+          befell = ap (map _) first.befell;
+          now = first.time;
+          lines = first.lines;
+          given = first.given;
+          ended = first.ended;
+          shown = first.shown;
+        })
+        (forward (reading_of fresh after_step reading network []) [] range (none_within network))
+        (λ device. steady fresh after_step reading (keeps_clock_laws fresh after_step reading grain count law)
+        (begins_at_zero fresh after_step reading grain count law) [] device range rules (none_within network) (λ e i. absurd i))
+        (λ device. begins_at_zero fresh after_step reading grain count law (amount network.grain) [])
+        (let least = range.precision.least in omega (arith, ints, least)) range rules
 
     pub first_stands : StandsUnder fresh after_step reading stands network (world_of network state) [] []
     first_stands = record {

@@ -96,7 +96,7 @@ returns-clause-stands g c = λ f h past notes old follows may.
     in (
       note_is,
       subst (λ (n : Note). StandsOne K.reading stands then_
-      (after (map befell_as c.keep_befallen.new.befell.items) c.ends-self.result) (notes ++ n ∷ []))
+          (after (map befell_as c.keep_befallen.new.befell.items) c.ends-self.result) (notes ++ n ∷ []))
           (sym note_is)
           (subst (λ over. StandsOne K.reading stands then_ (after (map befell_as c.keep_befallen.new.befell.items) over)
           (notes ++ note_of_event notes past event ∷ [])) (sym c.ends-self.ensures)

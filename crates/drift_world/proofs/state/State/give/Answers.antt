@@ -100,7 +100,7 @@ returns-clause-stands g c = λ s notes other rest is.
     ∙ ap (λ (k : ℕ). let n : Note = record { number = k + 1; time = units_of w.time; body = first.body } in n) o.given in (
       same,
       subst (λ (n : Note). StandsAt K.reading stands s (world_of network new) (notes ++ n ∷ []) (behind (place_of z)))
-      (sym same) (step o none),
+          (sym same) (step o none),
     ) in
     subst Gives (heads first other c.pop_front.new.self.items rest (sym whole ∙ is)) given
 
