@@ -194,18 +194,27 @@ module _ {C M : Type 0} (last_step : C → ℕ) (reading : C → ℕ → ℕ) (s
 
   -- ---- what steps keep
 
-  on_then : (old new : State C M) (well : IsWell last_step reading stands network old)
-      → ((s : Scenario) (notes : List Note)
-      → StandsOne reading (keeps stands) s (world_of network old) notes
-      → StandsOne reading (keeps stands) s (world_of network new) notes)
-      → StandsOne reading (keeps stands) well.running.s (world_of network new) well.running.notes
-  on_then old new well still = still well.running.s well.running.notes (well.running.is, well.one)
-
   pub runs_on : (old new : State C M) → IsWell last_step reading stands network old
       → ((s : Scenario) (notes : List Note) → StandsOne reading (keeps stands) s (world_of network old) notes
       → StandsOne reading (keeps stands) s (world_of network new) notes) → IsRunning reading stands network new
   runs_on old new well still =
-      record { s = well.running.s; notes = well.running.notes; is = (on_then old new well still).0 }
+      let run = well.running in
+      record { s = run.s; notes = run.notes; is = (still run.s run.notes (run.is, well.one)).0 }
+
+  -- where one frontier stays, the state stays well
+  well_on : (old new : State C M) → IsWell last_step reading stands network old
+      → ((s : Scenario) (notes : List Note) → StandsOne reading (keeps stands) s (world_of network old) notes
+      → StandsOne reading (keeps stands) s (world_of network new) notes) → IsSound last_step network new
+      → AreTimed reading stands network new → IsWell last_step reading stands network new
+  well_on old new well still sound timed =
+      let run = well.running in
+      let then_ = still run.s run.notes (run.is, well.one) in
+      record {
+        sound = sound;
+        running = record { s = run.s; notes = run.notes; is = then_.0 };
+        one = then_.1;
+        timed = timed;
+      }
 
   -- a step that changes no device
   pub plain_step : (old new : State C M) → IsWell last_step reading stands network old → IsSound last_step network new
@@ -214,12 +223,7 @@ module _ {C M : Type 0} (last_step : C → ℕ) (reading : C → ℕ → ℕ) (s
       → StandsOne reading (keeps stands) s (world_of network new) notes)
       → IsStep last_step reading stands network old new
   plain_step old new well sound changes timers given still = record {
-    well = record {
-      sound = sound;
-      running = runs_on old new well still;
-      one = (on_then old new well still).1;
-      timed = unchanged reading stands network old new well.timed changes timers;
-    };
+    well = well_on old new well still sound (unchanged reading stands network old new well.timed changes timers);
     after = record { clocks = (changes 0).clocks; ended = (changes 0).ended; later = let same = (changes 0).time in omega (arith, same) };
     still = still;
     time = (changes 0).time;
@@ -239,12 +243,8 @@ module _ {C M : Type 0} (last_step : C → ℕ) (reading : C → ℕ → ℕ) (s
       subst (λ t. StandsOne reading (keeps stands) s (world_of network t) notes) (sym same) (still s notes is) in
       let at : new.time ≡ old.time = ap (λ (t : State C M). t.time) same ∙ changes.time in
       record {
-        well = record {
-          sound = sound_timers last_step network mid new same sound;
-          running = runs_on old new well on;
-          one = (on_then old new well on).1;
-          timed = rekeyed reading stands network device old mid new well.timed there changes timers keyed;
-        };
+        well = well_on old new well on (sound_timers last_step network mid new same sound)
+            (rekeyed reading stands network device old mid new well.timed there changes timers keyed);
         after = record {
           clocks = ap (λ (t : State C M). t.clocks) same ∙ changes.clocks;
           ended = ap (λ (t : State C M). t.ended) same ∙ changes.ended;
@@ -428,14 +428,11 @@ module _ {C M : Type 0} (last_step : C → ℕ) (reading : C → ℕ → ℕ) (s
       → new ≡ record old { time = time; early = true } → IsSound last_step network new
       → ((s : Scenario) (notes : List Note) → StandsOne reading (keeps stands) s (world_of network old) notes
       → StandsOne reading (keeps stands) s (world_of network new) notes) → IsWell last_step reading stands network new
-  passes old new time well none later limit same sound still = record {
-    sound = sound;
-    running = runs_on old new well still;
-    one = (on_then old new well still).1;
-    timed = subst (AreTimed reading stands network) (sym same)
-        (passed reading stands network old time true well.timed (omega (arith, later))
-        (timers_later reading stands network old well.running time (omega (arith, limit)) well.timed none));
-  }
+  passes old new time well none later limit same sound still =
+      well_on old new well still sound
+      (subst (AreTimed reading stands network) (sym same)
+      (passed reading stands network old time true well.timed (omega (arith, later))
+      (timers_later reading stands network old well.running time (omega (arith, limit)) well.timed none)))
 
 -- ---- results
 
