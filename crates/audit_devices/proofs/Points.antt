@@ -48,25 +48,25 @@ counted false q n m a b e = absurd cc
 not_counted : (p q : Bool) (m : ℕ) → (p && q) ≡ false → 0 ≡ (if p && q then m + 1 else 0)
 not_counted p q m e = sym (ap (λ (b : Bool). if b then m + 1 else 0) e)
 
-module _ (network : Network) (shown : Shown) (before first : ℕ) where
+module _ (network : Network) (shown : Shown) (before : ℕ) (first : ℤ) where
   -- where the clock was below the first correction point's value, and is not now
-  pub then_comes : (n r : ℕ) → pos first ≡ correction_value network shown.cycle → shown.at_change <ℤ pos first
-      → pos first ≤ℤ (pos before +ℤ shown.adjustment) → pos n ≡ ((pos before +ℤ shown.adjustment) -ℤ pos first)
+  pub then_comes : (n r : ℕ) → first ≡ correction_value network shown.cycle → shown.at_change <ℤ first
+      → first ≤ℤ (pos before +ℤ shown.adjustment) → pos n ≡ ((pos before +ℤ shown.adjustment) -ℤ first)
       → r ≡ natural (int_div_euclid (pos n) network.cycle.0) → r + 1 ≡ points_by network shown before
   then_comes n r is below reached apart value = grind (arith, counted, int_lt-from, int_le-from)
 
   -- where it has passed that value at the change
-  pub has_passed : pos first ≡ correction_value network shown.cycle → pos first ≤ℤ shown.at_change
+  pub has_passed : first ≡ correction_value network shown.cycle → first ≤ℤ shown.at_change
       → 0 ≡ points_by network shown before
   has_passed is passed = grind (arith, not_below, not_counted)
 
   -- where it has not come to it
-  pub not_come : pos first ≡ correction_value network shown.cycle → (pos before +ℤ shown.adjustment) <ℤ pos first
+  pub not_come : first ≡ correction_value network shown.cycle → (pos before +ℤ shown.adjustment) <ℤ first
       → 0 ≡ points_by network shown before
   not_come is below =
       let v : ℤ = correction_value network shown.cycle in
       let local : ℤ = pos before +ℤ shown.adjustment in
-      let no = subst (λ (z : ℤ). int_le z local ≡ false) is (int_le-false (pos first) local below) in
+      let no = subst (λ (z : ℤ). int_le z local ≡ false) is (int_le-false first local below) in
       not_counted (int_lt shown.at_change v) (int_le v local) (natural (int_div_euclid (local -ℤ v) network.cycle.0))
       (ap (λ (b : Bool). int_lt shown.at_change v && b) no ∙ none_shorter (int_lt shown.at_change v))
 

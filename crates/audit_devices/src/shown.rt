@@ -1,11 +1,11 @@
 ghost use Rattle.std.specs.Int.{int_div_euclid};
 ghost use Rattle.std.specs.Prelude.{◌++◌, ◌+ℤ◌, ◌+◌, ◌-ℤ◌, ◌-◌, ◌^◌, ◌∷◌, ◌≡◌, ◌≤ℤ◌, ◌≤◌, List, [], neg_ℤ, pos, ℕ};
-ghost use Rattle.{net_plan.specs.Ranges.IsInRange, run_law.specs.scenario.Devices.start_of};
-ghost use Rattle.run_law.specs.{control.Corrections.correction_value, device.Standpoints.natural};
+ghost use Rattle.net_plan.specs.Ranges.{IsInRange};
+ghost use Rattle.run_law.specs.device.Standpoints.{natural};
 
 use crate::Carried;
 use crate::effect::{Effect, effect_of};
-use device_rules::joined_adjustment;
+use device_rules::{correction_value, joined_adjustment, start_of};
 use net_plan::{DeviceId, Network};
 use run_law::NoteBody;
 use std::marker::Model;
@@ -135,7 +135,7 @@ impl Shown {
         ensures value { result ≡ points_by network.now self.now before }
         ensures few { result ≤ 2 ^ 50 }
     {
-        let first = first_value(network, self.cycle) as i128;
+        let first = correction_value(network, self.cycle);
         let local = i128::from(before) + self.adjustment;
         if self.at_change < first && first <= local {
             cycles_in((local - first) as u128, network) + 1
@@ -340,24 +340,6 @@ impl Shown {
         self.heard = heard;
         self.come = points;
     }
-}
-
-/// Where the device's clock begins, unless it begins off.
-fn start_of(network: &Network, device: DeviceId) -> Option<Units>
-    ensures { result ≡ start_of network.now device }
-{
-    network.device.as_slice().get(device.0 as usize)?.start
-}
-
-/// Where the clock stands at the correction point of the cycle.
-fn first_value(network: &Network, cycle: u64) -> u128
-    requires range { IsInRange network.now }
-    requires few { cycle ≤ 2 ^ 32 }
-    ensures value { pos result ≡ correction_value network.now cycle }
-    ensures most { result ≤ 2 ^ 73 }
-{
-    let begin = u128::from(cycle) * u128::from(network.cycle.amount());
-    begin + u128::from(network.correction.amount())
 }
 
 /// How many whole cycles are in the time.
