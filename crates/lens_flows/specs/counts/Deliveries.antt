@@ -23,7 +23,7 @@ delivery_by time body = None
 abbrev pub delivered_by : ℕ → Kept → Option Delivery
 delivered_by time (kepts.Delivered device link vl) =
     Some (record { time = time; device = device; link = link; vl = vl })
-delivered_by time other = None
+delivered_by time kept = None
 
 abbrev pub delivery_kept : KeptRecord → Option Delivery
 delivery_kept r = delivered_by r.time r.kept
