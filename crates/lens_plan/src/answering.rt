@@ -18,7 +18,7 @@ use crate::text::{
 use crate::{Message, PlanLine};
 use net_plan::Network;
 use std::alloc::Global;
-use tte_forms::{LineMaker, Status, put_last, put_lines, put_no_network};
+use tte_forms::{LineMaker, Status, end_with, put_last, put_lines, put_no_network};
 use tte_io::{LineText, OutOfMemory, Sink, Source};
 
 /// Plans virtual links and rows for the messages of the second file, behind the rows of the network of the first.
