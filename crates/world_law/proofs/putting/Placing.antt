@@ -1,11 +1,11 @@
 -- What is to come with a record put in at its place, whichever source of the instant it comes from.
 use Rattle.world_law.proofs.Words.{◌++◌, ◌+◌, ◌<◌, ◌∙◌, ◌∷◌, ◌≡◌, ◌≤◌, ◌⊎◌, AllBefore, AreSettled, DeviceId, Happening, IsBefore, IsDue, IsForward, IsFounded, IsIn}
 use Rattle.world_law.proofs.Words.{IsOwnSource, IsSource, LinkId, List, NoneBefore, NoteBody, Scenario, VlId, [], rows_place, ap, append_assoc, arith, bears_on}
-use Rattle.world_law.proofs.Words.{before_behind, before_later, behind, cases_Bool, cases_order, cause_of, chain, either_way, eqb-true, false, in_left}
+use Rattle.world_law.proofs.Words.{before_behind, behind, cases_Bool, cases_lt, cases_order, cause_of, chain, either_way, eqb-true, false, in_left}
 use Rattle.world_law.proofs.Words.{in_parts, in_right, inl, inr, is_at_source, is_taken_before, key, length, length-append, members_in, never_self}
 use Rattle.world_law.proofs.{Words.{place_of, rank, refl, subst, sym, time_of, true, ℕ}, putting.PutIn.{own_time, split_three, split_two}}
-use Rattle.world_law.proofs.{giving.GivenParts.up_to_place, putting.NearPut.{IsPlaced, two_placed}, runs.Firsts.{at_least, no_higher}}
-use Rattle.world_law.proofs.{putting.Bearing.in_placed, putting.Moving.{IsAllOfIt, IsMoving, off_source, worked_or_here}, runs.Firsts.numbered_parts}
+use Rattle.world_law.proofs.{giving.GivenParts.up_to_place, putting.NearPut.{IsPlaced, two_placed}, runs.Firsts.{at_least}}
+use Rattle.world_law.proofs.{putting.Bearing.in_placed, putting.Moving.{IsAllOfIt, IsMoving, not_far, off_source, stays}, runs.Firsts.numbered_parts}
 use Rattle.world_law.proofs.putting.Near.{AreFrom, AreNear, AsFollower, IsAsideOf, due_aside, follower_or_not, hears, is_follower, is_following, known_near}
 use Rattle.world_law.proofs.putting.Near.{near_back, own_aside, own_source}
 use Rattle.world_law.proofs.Words.{ChangesState, IsCaused, State, Units, Why, amount, is_joined_by, numbered, numbered_within, parted, Some}
@@ -114,32 +114,28 @@ IsFound new y = (z : Happening) × IsIn z new × (place_of z ≡ place_of y)
 -- what is to come is of the instant and not before the source at this place; each stands after those before it, is due
 -- given them, and comes from a source that is before this one or is this one; and each that is due by a source before
 -- this one is at its place, or is to be put in yet
-pub record IsWell (s : Scenario) (hs coming : List Happening) (mark : List ℕ) (now r : ℕ) (more : List ℕ) (Yet : Happening → Type 0) : Type 0 where
+pub record IsWell (s : Scenario) (hs coming : List Happening) (now r : ℕ) (more : List ℕ) (Yet : Happening → Type 0) : Type 0 where
   pub of_now : (z : Happening) → IsIn z coming → time_of z ≡ now
   pub after : (z : Happening) → IsIn z coming → IsBefore (place_of z) (now ∷ r ∷ more) → ⊥
   pub stands : (f rest : List Happening) (z : Happening) → coming ≡ f ++ z ∷ rest → AllBefore place_of f (place_of z) × IsDueAs s (hs ++ f) z
   pub by : (f rest : List Happening) (z : Happening) → coming ≡ f ++ z ∷ rest → ComesUpTo s (hs ++ f) (now ∷ r ∷ more) z
   pub full : (f rest : List Happening) (y : Happening) → coming ≡ f ++ rest → AllBefore place_of f (place_of y) → NoneBefore place_of rest (place_of y)
-      → (IsBefore (place_of y) mark → ⊥) → IsDueAs s (hs ++ f) y → time_of y ≡ now → (p : List ℕ)
+      → (IsBefore (place_of y) (now ∷ r ∷ more) → ⊥) → IsDueAs s (hs ++ f) y → time_of y ≡ now → (p : List ℕ)
       → IsOwnSource s (hs ++ f) (time_of y) (members_in y) y.note.body p → IsSource s (hs ++ f) p → IsBefore p (now ∷ r ∷ more) → IsFound coming y ⊎ Yet y
 
 -- where the source comes first, what is to come is so
-pub well_of : {s : Scenario} {hs coming : List Happening} {mark cursor : List ℕ} {now r : ℕ} {more : List ℕ}
-    → IsMoving s hs coming mark cursor now r more → IsWell s hs coming mark now r more (λ y. ⊥)
-well_of {cursor} {now} {r} {more} m =
-    let at = now ∷ r ∷ more in
+pub well_of : {s : Scenario} {hs coming : List Happening} {now r : ℕ} {more : List ℕ}
+    → IsMoving s hs coming now r more → IsWell s hs coming now r more (λ y. ⊥)
+well_of m =
     record {
       of_now = m.are.of_now;
-      after = m.after;
+      after = m.are.behind_mark;
       stands = m.are.founded;
       by = λ f rest z e.
           let was = m.are.by f rest z e in
-          (was.0, was.1, was.2, inl (before_later was.0 at cursor was.3 m.waits));
+          (was.0, was.1, was.2, inl was.3);
       full = λ f rest y e before none not due now_is p own source under.
-          elim (worked_or_here f rest m e source (chain p at (behind at) under (before_behind at))) [
-            | inl yet ↦ inl (m.are.full f rest y e before none not due (p, own, source, yet))
-            | inr here ↦ absurd (never_self at (subst (λ q. IsBefore q at) here under))
-          ];
+          inl (m.are.full f rest y e before none not due (p, own, source, under));
     }
 
 -- ---- a record that is put in
@@ -147,11 +143,10 @@ well_of {cursor} {now} {r} {more} m =
 -- the record is due at its place among those to come, not before the source, and taken up; no arrival up to the source
 -- comes after it; and it bears on no device whose correction point is before it, nor on one of which what that brings is to
 -- come behind it
-pub record IsPlacing (s : Scenario) (hs front back : List Happening) (mark : List ℕ) (now r : ℕ) (more : List ℕ) (w : Happening) : Type 0 where
+pub record IsPlacing (s : Scenario) (hs front back : List Happening) (now r : ℕ) (more : List ℕ) (w : Happening) : Type 0 where
   pub forward : IsForward s
   pub late : 2 ≤ r
   pub given : IsFounded place_of (IsDue s) hs
-  pub up_to : IsBefore (now ∷ r ∷ more) mark → ⊥
   pub at : time_of w ≡ now
   pub due : IsDueAs s (hs ++ front) w
   pub before : AllBefore place_of front (place_of w)
@@ -236,15 +231,15 @@ no_cause s js device t state cause whys.SyncClique f c = let e = c.1 in omega (a
 no_cause s js device t state cause whys.AsyncClique f c = let e = c.1 in omega (arith, e)
 
 -- so the causes of the changes of state that are to come before a turn are given
-pub causes_given : {s : Scenario} {hs coming : List Happening} {mark cursor : List ℕ} {now r : ℕ} {more : List ℕ}
-    → IsMoving s hs coming mark cursor now r more → 2 ≤ r → (z : Happening) → IsIn z coming → (it : AsState z.note.body) → it.cause ≤ length hs
+pub causes_given : {s : Scenario} {hs coming : List Happening} {now r : ℕ} {more : List ℕ}
+    → IsMoving s hs coming now r more → 2 ≤ r → (z : Happening) → IsIn z coming → (it : AsState z.note.body) → it.cause ≤ length hs
 causes_given {s} {hs} {coming} {now} {r} {more} m some z i it =
     let split = parted z coming i in
     let due = (m.are.founded split.0 split.1 z split.2).1 in
     let inside : (h : Happening) → IsIn h split.0 → IsIn h coming = λ h j. subst (λ l. IsIn h l) (sym split.2)
     (in_left h split.0 (z ∷ split.1) j) in
     let late : (h : Happening) → IsIn h split.0 → (2 ≤ rank h.note.body) × (is_at_source h.note.body ≡ false) = λ h j.
-    let low = at_least h now r more (m.are.of_now h (inside h j)) (m.after h (inside h j)) in
+    let low = at_least h now r more (m.are.of_now h (inside h j)) (m.are.behind_mark h (inside h j)) in
     (omega (arith, low, some), off_source m h (inside h j)) in
     elim (follower_or_not z.note.body) [
       | inl f ↦
@@ -259,8 +254,8 @@ causes_given {s} {hs} {coming} {now} {r} {more} m some z i it =
 follows_it : (body : NoteBody) (k : ℕ) → ((rank body ≡ 7) × (cause_of body ≡ k)) ⊎ (rank body ≡ 7 → cause_of body ≡ k → ⊥)
 follows_it body k = grind (arith, cases_order, rank, cause_of)
 
-pub all_from : {s : Scenario} {hs coming : List Happening} {mark : List ℕ} {now r : ℕ} {more : List ℕ} {Yet : Happening → Type 0}
-    → IsWell s hs coming mark now r more Yet → AreFrom now r coming
+pub all_from : {s : Scenario} {hs coming : List Happening} {now r : ℕ} {more : List ℕ} {Yet : Happening → Type 0}
+    → IsWell s hs coming now r more Yet → AreFrom now r coming
 all_from {now} {r} {more} well z i = (well.of_now z i, at_least z now r more (well.of_now z i) (well.after z i))
 
 -- what was to be put in yet is found, or is to be put in still; and so is what follows the record that is put in
@@ -272,8 +267,8 @@ pub record IsCarried (s : Scenario) (hs front back : List Happening) (now : ℕ)
   pub new : (c d : List Happening) (y : Happening) → back ≡ c ++ d → IsDueAs s (hs ++ (front ++ w ∷ c)) y → time_of y ≡ now → rank y.note.body ≡ 7
       → cause_of y.note.body ≡ before_it hs front + 1 → IsFound (front ++ w ∷ back) y ⊎ Then y
 
-module _ {s : Scenario} {hs front back : List Happening} {mark : List ℕ} {now r : ℕ} {more : List ℕ} {w : Happening} {Yet : Happening → Type 0}
-    (well : IsWell s hs (front ++ back) mark now r more Yet) (p : IsPlacing s hs front back mark now r more w) where
+module _ {s : Scenario} {hs front back : List Happening} {now r : ℕ} {more : List ℕ} {w : Happening} {Yet : Happening → Type 0}
+    (well : IsWell s hs (front ++ back) now r more Yet) (p : IsPlacing s hs front back now r more w) where
   over_it : (y : Happening) → IsIn y back → IsBefore (place_of w) (place_of y)
   over_it y i =
       elim (either_way (place_of w) (place_of y)) [ inl lt ↦ lt | inr (inl e) ↦ absurd (p.fresh y i e) | inr (inr gt) ↦ absurd (p.none y i gt) ]
@@ -423,7 +418,7 @@ module _ {s : Scenario} {hs front back : List Happening} {mark : List ℕ} {now 
   -- ---- and nothing else is due
 
   full_at : (Then : Happening → Type 0) → IsCarried s hs front back now w Yet Then → (f rest : List Happening) (y : Happening)
-      → front ++ w ∷ back ≡ f ++ rest → AllBefore place_of f (place_of y) → NoneBefore place_of rest (place_of y) → (IsBefore (place_of y) mark → ⊥)
+      → front ++ w ∷ back ≡ f ++ rest → AllBefore place_of f (place_of y) → NoneBefore place_of rest (place_of y) → (IsBefore (place_of y) (now ∷ r ∷ more) → ⊥)
       → IsDueAs s (hs ++ f) y → time_of y ≡ now → (q : List ℕ) → IsOwnSource s (hs ++ f) (time_of y) (members_in y) y.note.body q
       → IsSource s (hs ++ f) q → IsBefore q (now ∷ r ∷ more) → IsFound (front ++ w ∷ back) y ⊎ Then y
   full_at Then carry f rest y e before none not due now_is q own source under =
@@ -465,7 +460,7 @@ module _ {s : Scenario} {hs front back : List Happening} {mark : List ℕ} {now 
       ]
 
   -- what is to come is well with the record put in
-  pub placed_well : {Then : Happening → Type 0} → IsCarried s hs front back now w Yet Then → IsWell s hs (front ++ w ∷ back) mark now r more Then
+  pub placed_well : {Then : Happening → Type 0} → IsCarried s hs front back now w Yet Then → IsWell s hs (front ++ w ∷ back) now r more Then
   placed_well {Then} carry = record {
     of_now = λ z i. (put_from z i).0;
     after = λ z i. (put_from z i).1;
@@ -474,28 +469,30 @@ module _ {s : Scenario} {hs front back : List Happening} {mark : List ℕ} {now 
     full = full_at Then carry;
   }
 
--- ---- and so it is settled, as the cursor goes by the source
+-- ---- and so it is settled, as the frontier goes by the source
 
-of_the_instant : (s : Scenario) (js : List Happening) (mark : List ℕ) (now r : ℕ) (more : List ℕ) (y : Happening) (q : List ℕ)
-    → ((p : List ℕ) → IsBefore p (now ∷ []) → IsBefore p mark) → IsOwnSource s js (time_of y) (members_in y) y.note.body q
-    → IsBefore q (now ∷ r ∷ more) → (IsBefore (place_of y) mark → ⊥) → time_of y ≡ now
-of_the_instant s js mark now r more y q marked own under not = grind (arith, own_time, time_of, members_in, no_higher, place_of)
+of_the_instant : (s : Scenario) (js : List Happening) (now r : ℕ) (more : List ℕ) (y : Happening) (q : List ℕ)
+    → IsOwnSource s js (time_of y) (members_in y) y.note.body q → IsBefore q (now ∷ r ∷ more)
+    → (IsBefore (place_of y) (now ∷ r ∷ more) → ⊥) → time_of y ≡ now
+of_the_instant s js now r more y q own under not =
+    let at = own_time s js (time_of y) (members_in y) y.note.body q own in
+    let low : time_of y ≤ now = elim (subst (λ p. IsBefore p (now ∷ r ∷ more)) at.2 under) [
+      | inl lt ↦ omega (arith, lt)
+      | inr same ↦ let e = same.0 in omega (arith, e)
+    ] in
+    elim (cases_lt (time_of y) now) [ inl lt ↦ absurd (not (inl lt)) | inr ge ↦ omega (arith, low, ge) ]
 
 -- all that is due from the source itself is there too
-pub settled_by : {s : Scenario} {hs coming : List Happening} {mark : List ℕ} {now r : ℕ} {more : List ℕ}
-    → IsWell s hs coming mark now r more (λ y. ⊥) → ((p : List ℕ) → IsBefore p (now ∷ []) → IsBefore p mark)
-    → (IsBefore (now ∷ r ∷ more) mark → ⊥) → IsBefore (now ∷ 2 ∷ []) (now ∷ r ∷ more)
+pub settled_by : {s : Scenario} {hs coming : List Happening} {now r : ℕ} {more : List ℕ}
+    → IsWell s hs coming now r more (λ y. ⊥) → IsBefore (now ∷ 2 ∷ []) (now ∷ r ∷ more)
     → ((z : Happening) → IsIn z coming → is_at_source z.note.body ≡ true
     → IsBefore (place_of z) (behind (now ∷ r ∷ more))) → IsAllOfIt s hs coming (now ∷ r ∷ more)
-    → AreSettled s hs coming mark (behind (now ∷ r ∷ more)) now
-settled_by {s} {hs} {mark} {now} {r} {more} well marked up_to begun worked all =
+    → AreSettled s hs coming (now ∷ r ∷ more) (behind (now ∷ r ∷ more)) now
+settled_by {s} {hs} {now} {r} {more} well later worked all =
     let at = now ∷ r ∷ more in
     record {
       of_now = well.of_now;
-      behind_mark = λ z i lt. elim (at_or_behind at (place_of z) (well.after z i)) [
-        | inl e ↦ up_to (subst (λ q. IsBefore q mark) (sym e) lt)
-        | inr far ↦ up_to (chain at (place_of z) mark far lt)
-      ];
+      behind_mark = well.after;
       founded = well.stands;
       by = λ f rest z e.
           let was = well.by f rest z e in (
@@ -503,7 +500,7 @@ settled_by {s} {hs} {mark} {now} {r} {more} well marked up_to begun worked all =
             was.1,
             was.2,
             elim was.3 [
-              | inl lt ↦ chain was.0 at (behind at) lt (before_behind at)
+              | inl lt ↦ stays at was.0 lt
               | inr same ↦ subst (λ q. IsBefore q (behind at)) (sym same) (before_behind at)
             ],
           );
@@ -511,18 +508,10 @@ settled_by {s} {hs} {mark} {now} {r} {more} well marked up_to begun worked all =
         | inl here ↦ all f rest y e before none due
             (subst (λ u. IsOwnSource s (hs ++ f) (time_of y) (members_in y) y.note.body u) here off.1)
         | inr under ↦
-            elim (well.full f rest y e before none not due (of_the_instant s (hs ++ f) mark now r more y off.0 marked off.1 under not) off.0 off.1 off.2 under)
+            elim (well.full f rest y e before none not due (of_the_instant s (hs ++ f) now r more y off.0 off.1 under not) off.0 off.1 off.2 under)
             [ inl found ↦ found | inr never ↦ absurd never ]
       ];
-      not_past = λ z i q lt.
-          let far : IsBefore at (behind (place_of z)) = elim (at_or_behind at (place_of z) (well.after z i)) [
-            | inl e ↦ subst (λ u. IsBefore u (behind (place_of z))) (sym e) (before_behind (place_of z))
-            | inr less ↦ chain at (place_of z) (behind (place_of z)) less (before_behind (place_of z))
-          ] in
-          elim (up_to_place q at lt) [
-            | inl e ↦ subst (λ u. IsBefore u (behind (place_of z))) (sym e) far
-            | inr under ↦ chain q at (behind (place_of z)) under far
-          ];
+      not_past = λ z i. not_far at (place_of z) (well.after z i);
       worked = worked;
-      begun = λ z i. chain (now ∷ 2 ∷ []) at (behind at) begun (before_behind at);
+      begun = λ z i. stays at (now ∷ 2 ∷ []) later;
     }

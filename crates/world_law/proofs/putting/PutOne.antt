@@ -142,10 +142,8 @@ at_number hs front c w = ap (λ l. numbered l (suc (before_it hs front))) (sym (
 
 -- the first source of the instant is worked off, and brings a record that is due at its place among those to come. No
 -- record of its own device that rests on what that hears is to come behind it, if the source is the device's correction point
-pub record IsOne (s : Scenario) (hs front back : List Happening) (mark cursor : List ℕ) (now r : ℕ) (more : List ℕ) (w : Happening) : Type 0 where
-  pub moving : IsMoving s hs (front ++ back) mark cursor now r more
-  pub later : IsBefore (now ∷ 2 ∷ []) (now ∷ r ∷ more)
-  pub marked : (p : List ℕ) → IsBefore p (now ∷ []) → IsBefore p mark
+pub record IsOne (s : Scenario) (hs front back : List Happening) (now r : ℕ) (more : List ℕ) (w : Happening) : Type 0 where
+  pub moving : IsMoving s hs (front ++ back) now r more
   pub given : IsFounded place_of (IsDue s) hs
   pub at : time_of w ≡ now
   pub due : IsDueAs s (hs ++ front) w
@@ -161,13 +159,9 @@ from_two now r more (inl lt) = absurd (omega (arith, lt))
 from_two now r more (inr (e, inl lt)) = omega (arith, lt)
 from_two now r more (inr (e, inr b)) = omega (arith, b.0)
 
-pub unmarked : {s : Scenario} {hs coming : List Happening} {mark cursor : List ℕ} {now r : ℕ} {more : List ℕ}
-    → IsMoving s hs coming mark cursor now r more → IsBefore (now ∷ r ∷ more) mark → ⊥
-unmarked {now} {r} {more} m b = m.waits (m.ahead (now ∷ r ∷ more) b)
-
 -- what hears at the instant is aside of what comes from another source
-pub hears_aside : {s : Scenario} {hs coming : List Happening} (f rest : List Happening) {mark cursor : List ℕ}
-    {now r : ℕ} {more : List ℕ} (x : Happening) (device : DeviceId) → IsMoving s hs coming mark cursor now r more
+pub hears_aside : {s : Scenario} {hs coming : List Happening} (f rest : List Happening) {now r : ℕ} {more : List ℕ} (x : Happening)
+    (device : DeviceId) → IsMoving s hs coming now r more
     → coming ≡ f ++ x ∷ rest → hears device x.note.body ≡ true
     → IsBefore (rows_place now device) (now ∷ r ∷ more) ⊎ (now ∷ r ∷ more ≡ rows_place now device)
 hears_aside {s} {hs} {coming} f rest {now} {r} {more} x device m e yes_it =
@@ -181,16 +175,16 @@ hears_aside {s} {hs} {coming} f rest {now} {r} {more} x device m e yes_it =
       | inr same ↦ inr (sym same ∙ act)
     ]
 
-pub placing_one : {s : Scenario} {hs front back : List Happening} {mark cursor : List ℕ} {now r : ℕ} {more : List ℕ}
-    {w : Happening} → IsOne s hs front back mark cursor now r more w → IsPlacing s hs front back mark now r more w
+pub placing_one : {s : Scenario} {hs front back : List Happening} {now r : ℕ} {more : List ℕ} {w : Happening} → IsOne s hs front back now r more w → IsPlacing s hs front back now r more w
 placing_one {s} {hs} {front} {back} {now} {r} {more} {w} p =
     let mine : IsOwnSource s (hs ++ front) now (members_in w) w.note.body (now ∷ r ∷ more) = subst
     (λ t. IsOwnSource s (hs ++ front) t (members_in w) w.note.body (now ∷ r ∷ more)) p.at p.mine in
+    let longer : now ∷ 2 ∷ [] ≡ now ∷ r ∷ more → ⊥ = λ e.
+    never_self (now ∷ r ∷ more) (subst (λ q. IsBefore q (now ∷ r ∷ more)) e p.moving.later) in
     record {
       forward = p.moving.forward;
-      late = from_two now r more p.later;
+      late = from_two now r more p.moving.later;
       given = p.given;
-      up_to = unmarked p.moving;
       at = p.at;
       due = p.due;
       before = p.before;
@@ -201,19 +195,18 @@ placing_one {s} {hs} {front} {back} {now} {r} {more} {w} p =
       takes = λ device vl link cause under.
           subst (λ t. is_taken_before device vl now link cause t w.note.body ≡ false) (sym p.at)
           (takes_not s (hs ++ front) now (members_in w) w.note.body (now ∷ r ∷ more) mine device vl link cause under);
-      apart = apart_of s (hs ++ front) now (members_in w) r more w.note.body mine p.moving.longer;
+      apart = apart_of s (hs ++ front) now (members_in w) r more w.note.body mine longer;
       aside = λ x i device yes_it.
           let split = Rattle.run_law.proofs.runs.Places.parted x back i in
           let whole : front ++ back ≡ (front ++ split.0) ++ x ∷ split.1 = ap (λ (l : List Happening). front ++ l) split.2
           ∙ sym (append_assoc front split.0 (x ∷ split.1)) in
           elim (hears_aside (front ++ split.0) split.1 x device p.moving whole yes_it) [
-            | inl lt ↦ apart_of s (hs ++ front) now (members_in w) r more w.note.body mine p.moving.longer device lt
+            | inl lt ↦ apart_of s (hs ++ front) now (members_in w) r more w.note.body mine longer device lt
             | inr own ↦ absurd (p.aside x i device own yes_it)
           ];
     }
 
-module _ {s : Scenario} {hs front back : List Happening} {mark cursor : List ℕ} {now r : ℕ} {more : List ℕ}
-    {w : Happening} (p : IsOne s hs front back mark cursor now r more w) where
+module _ {s : Scenario} {hs front back : List Happening} {now r : ℕ} {more : List ℕ} {w : Happening} (p : IsOne s hs front back now r more w) where
   pub put_now : (c d : List Happening) → back ≡ c ++ d → (z : Happening) → IsIn z (front ++ w ∷ c) → time_of z ≡ now
   put_now c d e z i =
       elim (in_parts z front (w ∷ c) i) [
@@ -243,13 +236,13 @@ module _ {s : Scenario} {hs front back : List Happening} {mark cursor : List ℕ
         ]);
   }
 
-  pub one_well : IsUnfollowed s hs now w.note.body → IsWell s hs (front ++ w ∷ back) mark now r more (λ y. ⊥)
+  pub one_well : IsUnfollowed s hs now w.note.body → IsWell s hs (front ++ w ∷ back) now r more (λ y. ⊥)
   one_well last =
       placed_well (well_of p.moving) (placing_one p) (none_follows last)
 
 -- what may stand at its source was worked off, or is this record
-pub worked_then : {s : Scenario} {hs front back : List Happening} {mark cursor : List ℕ} (then_ : List ℕ) {now r : ℕ} {more : List ℕ} {w : Happening}
-    → IsOne s hs front back mark cursor now r more w → ((p : List ℕ) → IsBefore p cursor → IsBefore p then_)
+pub worked_then : {s : Scenario} {hs front back : List Happening} (then_ : List ℕ) {now r : ℕ} {more : List ℕ} {w : Happening}
+    → IsOne s hs front back now r more w → ((p : List ℕ) → IsBefore p (now ∷ r ∷ more) → IsBefore p then_)
     → (is_at_source w.note.body ≡ true → IsBefore (place_of w) then_)
     → (z : Happening) → IsIn z (front ++ w ∷ back) → is_at_source z.note.body ≡ true → IsBefore (place_of z) then_
 worked_then {front} {back} then_ {w} p on at z i is =
@@ -259,15 +252,14 @@ worked_then {front} {back} then_ {w} p on at z i is =
       | inr (inr b) ↦ on (place_of z) (p.moving.are.worked z (in_right z front back b) is)
     ]
 
--- THE RECORD IS PUT IN, AND THE CURSOR GOES BEHIND ITS SOURCE (all sources but events and their outcomes). All that is
+-- THE RECORD IS PUT IN, AND THE FRONTIER GOES BEHIND ITS SOURCE (all sources but events and their outcomes). All that is
 -- due from the source is at the record's place, whatever else is to come
-pub one_by : {s : Scenario} {hs front back : List Happening} {mark cursor : List ℕ} {now r : ℕ} {more : List ℕ}
-    {w : Happening} → IsOne s hs front back mark cursor now r more w → IsUnfollowed s hs now w.note.body
+pub one_by : {s : Scenario} {hs front back : List Happening} {now r : ℕ} {more : List ℕ} {w : Happening} → IsOne s hs front back now r more w → IsUnfollowed s hs now w.note.body
     → IsAllOfIt s hs (front ++ w ∷ back) (now ∷ r ∷ more)
-    → AreSettled s hs (front ++ w ∷ back) mark (behind (now ∷ r ∷ more)) now
+    → AreSettled s hs (front ++ w ∷ back) (now ∷ r ∷ more) (behind (now ∷ r ∷ more)) now
 one_by {s} {hs} {front} {now} {r} {more} {w} p last all =
     let at = now ∷ r ∷ more in
-    settled_by (one_well p last) p.marked (unmarked p.moving) p.later
-    (worked_then (behind at) p (stays p.moving)
+    settled_by (one_well p last) p.moving.later
+    (worked_then (behind at) p (stays at)
     (λ is. subst (λ q. IsBefore q (behind at))
     (own_here s (hs ++ front) (time_of w) (members_in w) w.note.body at is p.mine) (before_behind at))) all

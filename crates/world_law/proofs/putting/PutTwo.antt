@@ -7,7 +7,7 @@ use Rattle.world_law.proofs.Words.{IsOfThisTime, append-nil, inl, inr, is_at_sou
 use Rattle.world_law.proofs.{Words.{refl, subst, suc, sym, time_of, true, ℕ}, giving.GivenParts.some_same, putting.Moving.{IsAllOfIt, stays}}
 use Rattle.world_law.proofs.putting.PutShown.{numbered_here, seven}
 use Rattle.world_law.specs.world.World.{IsDueAs}
-use Rattle.world_law.proofs.putting.PutOne.{Follows, IsOne, at_number, due_follows, hears_aside, placing_one, unmarked, worked_then}
+use Rattle.world_law.proofs.putting.PutOne.{Follows, IsOne, at_number, due_follows, hears_aside, placing_one, worked_then}
 use Rattle.world_law.proofs.putting.PutShown.{IsShownPair, change_of, due_of, pair_put, record_of}
 use Rattle.world_law.proofs.putting.Placing.{IsCarried, IsPlacing, IsWell, before_it, own_here, placed_well, settled_by, well_of}
 use Rattle.run_law.specs.declared.judgement.Judgement.TheVariants as judgements
@@ -41,11 +41,11 @@ due_there k due of_rank cause = grind (arith, seven, cause_of, cause_there, amou
 -- ---- the two records
 
 -- the first is one that is put in, as before, and comes first of all; the change of state of its device follows it
-pub record IsPair (s : Scenario) {hs coming settled : List Happening} (mark cursor : List ℕ) {now : ℕ} (r : ℕ)
+pub record IsPair (s : Scenario) {hs coming settled : List Happening} {now : ℕ} (r : ℕ)
     (more : List ℕ) {body : NoteBody}
     {device : DeviceId} {state : State} {why : Why}
     (q : IsShownPair s.network hs now body device state why coming settled) : Type 0 where
-  pub one : IsOne s hs [] coming mark cursor now r more (record_of s.network hs [] now body)
+  pub one : IsOne s hs [] coming now r more (record_of s.network hs [] now body)
   pub no_event : rank body ≡ 1 → ⊥
   pub low : r ≤ 6
   pub acts : 6 ≡ r → now ∷ r ∷ more ≡ rows_place now device
@@ -63,11 +63,10 @@ own_of_change s js t m device state cause why (inr e) = subst (λ (y : Why). IsO
 six_or_less : (r : ℕ) → r ≤ 6 → (6 ≡ r) ⊎ (r < 6)
 six_or_less r le = elim (cases_lt r 6) [ inl lt ↦ inr lt | inr ge ↦ inl (omega (arith, le, ge)) ]
 
-module _ {s : Scenario} {hs coming settled : List Happening} {mark cursor : List ℕ} {now r : ℕ} {more : List ℕ}
-    {body : NoteBody}
+module _ {s : Scenario} {hs coming settled : List Happening} {now r : ℕ} {more : List ℕ} {body : NoteBody}
     {device : DeviceId} {state : State} {why : Why}
     {q : IsShownPair s.network hs now body device state why coming settled}
-    (p : IsPair s mark cursor r more q) where
+    (p : IsPair s r more q) where
   abbrev leader : Happening
   leader = record_of s.network hs [] now body
 
@@ -146,7 +145,7 @@ module _ {s : Scenario} {hs coming settled : List Happening} {mark cursor : List
     ])
   ]
 
-  placing_two : IsPlacing s hs (leader ∷ q.mid) q.back mark now r more change
+  placing_two : IsPlacing s hs (leader ∷ q.mid) q.back now r more change
   placing_two =
       let low = p.low in
       let first = placing_one p.one in
@@ -154,7 +153,6 @@ module _ {s : Scenario} {hs coming settled : List Happening} {mark cursor : List
         forward = first.forward;
         late = first.late;
         given = first.given;
-        up_to = first.up_to;
         at = refl;
         due = due_of s hs (leader ∷ q.mid) now (notes.State device state (length hs + 1) why)
             (p.changes (record { there = numbered_next hs q.mid leader (length hs + 1) refl; same_time = refl }));
@@ -171,7 +169,7 @@ module _ {s : Scenario} {hs coming settled : List Happening} {mark cursor : List
           own_of_change s (hs ++ leader ∷ q.mid) now (members_in change) device state (length hs + 1) why p.follows,
           IsSource.following now (suc (length hs)) leader
               (record { there = numbered_here hs q.mid leader; same_time = refl }),
-          inl p.one.later,
+          inl p.one.moving.later,
         );
         takes = λ other vl link cause under. refl;
         apart = apart_two;
@@ -187,25 +185,25 @@ module _ {s : Scenario} {hs coming settled : List Happening} {mark cursor : List
             ];
       }
 
-  pub two_well : IsWell s hs both mark now r more (λ y. ⊥)
+  pub two_well : IsWell s hs both now r more (λ y. ⊥)
   two_well =
       placed_well {front = leader ∷ q.mid} {back = q.back}
-      (subst (λ l. IsWell s hs (leader ∷ l) mark now r more Yet) q.parts
+      (subst (λ l. IsWell s hs (leader ∷ l) now r more Yet) q.parts
       (placed_well {front = []} {back = coming} (well_of p.one.moving) (placing_one p.one) first_carried))
       placing_two second_carried
 
-  -- THE TWO ARE PUT IN, AND THE CURSOR GOES BEHIND THEIR SOURCE
+  -- THE TWO ARE PUT IN, AND THE FRONTIER GOES BEHIND THEIR SOURCE
   pub two_by : IsAllOfIt s hs both (now ∷ r ∷ more)
-      → AreSettled s hs both mark (behind (now ∷ r ∷ more)) now
+      → AreSettled s hs both (now ∷ r ∷ more) (behind (now ∷ r ∷ more)) now
   two_by all =
       let at = now ∷ r ∷ more in
       let before : (x : Happening) → IsIn x (leader ∷ (q.mid ++ q.back)) → is_at_source x.note.body ≡ true
       → IsBefore (place_of x) (behind at) = λ x there.
-      worked_then {front = []} {back = coming} (behind at) p.one (stays p.one.moving)
+      worked_then {front = []} {back = coming} (behind at) p.one (stays at)
       (λ is. subst (λ p_at. IsBefore p_at (behind at))
       (own_here s (hs ++ []) now (members_in leader) body at is p.one.mine) (before_behind at))
       x (subst (λ l. IsIn x (leader ∷ l)) (sym q.parts) there) in
-      settled_by two_well p.one.marked (unmarked p.one.moving) p.one.later
+      settled_by two_well p.one.moving.later
       (λ z i is. elim (in_parts z (leader ∷ q.mid) (change ∷ q.back) i) [
         | inl f ↦ before z (in_left z (leader ∷ q.mid) q.back f) is
         | inr (inl e) ↦ absurd (let bad : false ≡ true = ap (λ (h : Happening). is_at_source h.note.body)

@@ -1,4 +1,4 @@
--- What is settled once a record that bears on no device is put in, and the cursor goes by its source.
+-- What is settled once a record that bears on no device is put in, and the frontier goes by its source.
 use Rattle.world_law.proofs.Words.{◌++◌, ◌∙◌, ◌∷◌, ◌≡◌, ◌≤◌, AreOfNetwork, AreSettled, DeviceId, Happening}
 use Rattle.world_law.proofs.Words.{IsHeld, IsIn, IsOwnSource, List, Network, Node, NoteBody, Scenario}
 use Rattle.world_law.proofs.Words.{arith, behind, cause_of, in_left, in_parts, in_right, inl, inr}
@@ -12,8 +12,8 @@ use Rattle.run_law.specs.declared.note.NoteBody.TheVariants as notes
 
 -- what a step that puts in a record starts from: the record is due at its place among those to come, and whatever comes
 -- from the source is at that place
-pub record IsPutting (s : Scenario) (hs front back : List Happening) (mark cursor : List ℕ) (now r : ℕ) (more : List ℕ) (w : Happening) : Type 0 where
-  pub one : IsOne s hs front back mark cursor now r more w
+pub record IsPutting (s : Scenario) (hs front back : List Happening) (now r : ℕ) (more : List ℕ) (w : Happening) : Type 0 where
+  pub one : IsOne s hs front back now r more w
   pub late : 8 ≤ r
   pub idle : IsIdle w.note.body
   pub own : (zs : List Happening) (y : Happening) → IsDueAs s (hs ++ zs) y → cause_of y.note.body ≤ length hs → time_of y ≡ now
@@ -26,12 +26,12 @@ idle_last (notes.Dropped device link cause reason) i = refl
 idle_last (notes.Clock device reading adjustment state) i = refl
 idle_last other i = absurd i
 
-module _ {s : Scenario} {hs front back : List Happening} {mark cursor : List ℕ} {now r : ℕ} {more : List ℕ} {w : Happening}
-    (p : IsPutting s hs front back mark cursor now r more w) where
+module _ {s : Scenario} {hs front back : List Happening} {now r : ℕ} {more : List ℕ} {w : Happening}
+    (p : IsPutting s hs front back now r more w) where
   was_late : (y : Happening) → IsIn y (front ++ back) → (time_of y ≡ now) × (8 ≤ rank y.note.body)
   was_late y i =
       let at = p.one.moving.are.of_now y i in
-      let low = at_least y now r more at (p.one.moving.after y i) in
+      let low = at_least y now r more at (p.one.moving.are.behind_mark y i) in
       let late = p.late in
       (at, omega (arith, low, late))
 
@@ -57,7 +57,7 @@ module _ {s : Scenario} {hs front back : List Happening} {mark cursor : List ℕ
       (λ h i. let it = put_late h (subst (λ l. IsIn h l) (sym e) (in_left h f rest i)) in (it.0 ∙ now_is, it.1)) high due.cause in
       (w, in_right w front (w ∷ back) (inl refl), p.own f y due few (sym now_is) own)
 
-  pub settled_put : AreSettled s hs (front ++ w ∷ back) mark (behind (now ∷ r ∷ more)) now
+  pub settled_put : AreSettled s hs (front ++ w ∷ back) (now ∷ r ∷ more) (behind (now ∷ r ∷ more)) now
   settled_put = one_by p.one (last_unfollowed s hs now w.note.body (idle_last w.note.body p.idle)) all_of_it
 
 -- ---- a device stands with the record as without it

@@ -1,100 +1,195 @@
 -- The source that comes first is worked off: the world stands behind it.
 use Rattle.std.proofs.{Common.◌↔◌, lemmas.Bool.cases_eq}
-use Rattle.world_law.{proofs.giving.GivenParts.up_to_place, proofs.runs.Firsts.no_higher, specs.world.World.AreUntold}
-use Rattle.world_law.proofs.Words.{◌++◌, ◌+◌, ◌<◌, ◌∙◌, ◌∷◌, ◌≡◌, ◌≤◌, AreAtPorts, AreOfNetwork, AreOnWires, AreSettled, AreWaiting, AtPort, DeviceId}
-use Rattle.world_law.proofs.Words.{Happening, IsBefore, IsHeld, IsSource, List, Network, NoSourceBefore, Node, Note, OnWire, Scenario, Some, Task}
-use Rattle.world_law.proofs.Words.{Stands, Waiting, World, [], ap, arith, before_behind, before_next_time, behind, cases_Bool, chain, clock_place, false}
-use Rattle.world_law.proofs.Words.{happenings, inl, inr, length, never_self, numbers_end, place_of, port_place, refl, slice_get}
+use Rattle.world_law.proofs.Words.{IsIn, ◌++◌, ◌+◌, ◌<◌, ◌∙◌, ◌∷◌, ◌≡◌, ◌≤◌, AreAtPorts, AreOfNetwork, AreOnWires, AreSettled, AreWaiting, AtPort, DeviceId}
+use Rattle.world_law.proofs.Words.{Happening, HaveBefallen, IsBefore, IsHeld, IsScenarioRun, IsSource, List, Network, NoSourceBefore, Node, Note, OnWire, Scenario, Some, Task}
+use Rattle.world_law.proofs.Words.{Stands, Waiting, World, [], ap, append-nil, arith, before_behind, before_later, before_next_time, before_or_not, behind, cases_Bool, chain, clock_place, false}
+use Rattle.world_law.proofs.Words.{happenings, in_left, inl, inr, length, never_self, numbers_end, place_of, port_place, refl, slice_get}
 use Rattle.world_law.{proofs.{Words.{subst, sym, task_place, true, wire_place, ℕ}, runs.TaskPlaces.second}, specs.world.{Calls.IsSet, Moves.{ComesFirst, StandsBehind}}}
-use Rattle.world_law.proofs.putting.Moving.{IsMoving, all_without, held_moves, ports_move, stays, waiting_moves, wires_move}
+use Rattle.world_law.proofs.putting.Moving.{IsGoing, IsMoving, all_without, goes_by, held_moves, not_there, ports_move, stays, waiting_moves, wires_move}
+use Rattle.world_law.{proofs.{giving.GivenParts.up_to_place, runs.{Firsts.{no_higher, source_back}, Worlds.run_to}}, specs.world.World.AreUntold}
+
+-- a world that stands so that its frontier is at the source that comes first, at this place of the instant
+pub record StandsHere {C M : Type 0} (reading : C → ℕ → ℕ) (stands : M → Network → DeviceId → Node → Type 0)
+    (s : Scenario) (world : World C M) (notes : List Note) (r : ℕ) (more : List ℕ) : Type 0 where
+  pub old : Stands reading stands s world notes
+  pub on : (p : List ℕ) → IsBefore p old.cursor → IsBefore p (world.now ∷ r ∷ more)
+  pub moving : IsMoving s (happenings s.network notes) world.settled world.now r more
+  pub run : IsScenarioRun s (world.now ∷ r ∷ more) notes
+  pub befallen : HaveBefallen s (world.now ∷ r ∷ more) world.now
+  pub devices : (device : DeviceId) → device.0 < length s.network.device → (machine : M)
+      × (slice_get world.machines device.0 ≡ Some machine)
+      × IsHeld stands s (happenings s.network notes) world.settled (world.now ∷ r ∷ more) world.now device machine
+  pub told : world.pending ≡ false
+  pub wires : AreOnWires s (happenings s.network notes) (world.now ∷ r ∷ more) world.now false world.wires
+  pub ports : AreAtPorts s (happenings s.network notes) (world.now ∷ r ∷ more) world.ports
+  pub waiting : AreWaiting s (happenings s.network notes) (world.now ∷ r ∷ more) world.now world.waiting
+
+-- the source at a place is one that comes later than the events of the instant, and none is before it, nor anything to come
+pub record IsNext {C M : Type 0} {reading : C → ℕ → ℕ} {stands : M → Network → DeviceId → Node → Type 0}
+    {s : Scenario} {world : World C M} {notes : List Note} (old : Stands reading stands s world notes)
+    (at : List ℕ) : Type 0 where
+  pub later : IsBefore (world.now ∷ 2 ∷ []) at
+  pub waits : IsBefore at old.cursor → ⊥
+  pub first : NoSourceBefore s (happenings s.network notes) old.cursor at
+  pub after : (z : Happening) → IsIn z world.settled → IsBefore (place_of z) at → ⊥
 
 module _ {C M : Type 0} {reading : C → ℕ → ℕ} {stands : M → Network → DeviceId → Node → Type 0} {s : Scenario}
     {world : World C M} {notes : List Note} (old : Stands reading stands s world notes) (r : ℕ) (more : List ℕ) where
+  abbrev hs_of : List Happening
+  hs_of = happenings s.network notes
+
+  abbrev at_it : List ℕ
+  at_it = world.now ∷ r ∷ more
+
+  pub up_on : IsNext old at_it → (p : List ℕ) → IsBefore p old.cursor → IsBefore p at_it
+  up_on x p b = before_later p at_it old.cursor b x.waits
+
+  -- a source before it, by those given, is worked off
+  by_given : IsNext old at_it → (w : List ℕ) → IsSource s hs_of w → IsBefore w at_it → IsBefore w old.cursor
+  by_given x w source lt = elim (before_or_not w old.cursor) [ inl yet ↦ yet | inr not ↦ absurd (x.first w source not lt) ]
+
+  -- and by some of those to come too
+  by_coming : IsNext old at_it → (front back : List Happening) → world.settled ≡ front ++ back → (w : List ℕ)
+      → IsSource s (hs_of ++ front) w → IsBefore w at_it → IsBefore w old.cursor
+  by_coming x [] back e w source lt = by_given x w (subst (λ l. IsSource s l w) (append-nil hs_of) source) lt
+  by_coming x (f ∷ front) back e w source lt =
+      let inside : (y : Happening) → IsIn y (f ∷ front) → IsIn y world.settled =
+      λ y i. subst (λ l. IsIn y l) (sym e) (in_left y (f ∷ front) back i) in
+      elim (source_back hs_of (f ∷ front) world.now r more old.forward (λ y i. old.are.of_now y (inside y i))
+      (λ y i. x.after y (inside y i)) source (inr lt)) [
+        | inl old_one ↦ by_given x w old_one lt
+        | inr (inl early) ↦ old.ahead w (old.of_now w early)
+        | inr (inr same) ↦ subst (λ p. IsBefore p old.cursor) (sym same) (old.are.begun f (inside f (inl refl)))
+      ]
+
+  goes_up : IsNext old at_it → IsGoing s hs_of old.cursor at_it (λ p. ⊥)
+  goes_up x = record {
+    on = up_on x;
+    own = λ p never. absurd never;
+    each = λ {p} source b. inl (by_given x p source b);
+  }
+
+  -- no event is pending where another source comes first
+  told_first : IsNext old at_it → world.pending ≡ false
+  told_first x = elim (cases_Bool world.pending) [
+    | inr told ↦ told
+    | inl open_ ↦
+        let it = old.untold.waits open_ in
+        absurd (x.first (world.now ∷ 2 ∷ []) (IsSource.following world.now it.0 it.1 it.2)
+        (λ b. never_self (world.now ∷ 2 ∷ []) (old.untold.early open_ (world.now ∷ 2 ∷ []) b)) x.later)
+  ]
+
+  settled_up : IsNext old at_it → AreSettled s hs_of world.settled at_it at_it world.now
+  settled_up x =
+      let on = up_on x in
+      record {
+        of_now = old.are.of_now;
+        behind_mark = x.after;
+        founded = old.are.founded;
+        by = λ front rest z e. let was = old.are.by front rest z e in (was.0, was.1, was.2, on was.0 was.3);
+        full = λ front back y e before none not due off.
+            old.are.full front back y e before none (λ b. not (on (place_of y) (old.ahead (place_of y) b))) due
+            (off.0, off.1, off.2, by_coming x front back e off.0 off.2 off.3);
+        not_past = λ z i p b. not_far_at (place_of z) (x.after z i) p b;
+        worked = λ z i is. absurd (x.after z i (on (place_of z) (old.are.worked z i is)));
+        begun = λ z i. on (world.now ∷ 2 ∷ []) (old.are.begun z i);
+      }
+    where
+      not_far_at : (q : List ℕ) → (IsBefore q at_it → ⊥) → (p : List ℕ) → IsBefore p at_it → IsBefore p (behind q)
+      not_far_at q not p b = chain p q (behind q) (before_later p q at_it b not) (before_behind q)
+
+  -- the frontier goes up to the source that comes first
+  pub stands_here : IsNext old at_it → StandsHere reading stands s world notes r more
+  stands_here x =
+      let on = up_on x in
+      let g = goes_up x in
+      let told = told_first x in
+      record {
+        old = old;
+        on = on;
+        moving = record { forward = old.forward; later = x.later; are = settled_up x };
+        run = run_to notes at_it old.run old.are x.first x.after (λ p b. on p (old.ahead p b));
+        befallen = record {
+          past = old.befallen.past;
+          told = λ i e at. on _ (old.ahead _ (old.befallen.told i e at));
+          begun = old.befallen.begun;
+          sent = old.befallen.sent;
+        };
+        devices = λ device lt.
+            let k = old.devices device lt in
+            (k.0, k.1, held_moves g stands (λ never. never) (λ task never. never) k.2);
+        told = told;
+        wires = wires_move g world.wires (subst (λ b. AreOnWires s hs_of old.cursor world.now b world.wires) told old.wires)
+            (λ e. (λ i. (i, λ never. never), λ both. both.0));
+        ports = ports_move g world.ports old.ports (λ e. (λ i. (i, λ never. never), λ both. both.0));
+        waiting = waiting_moves g (λ t ws never. never) old.waiting;
+      }
+
+  pub comes_first : {place : List ℕ} → IsBefore (world.now ∷ 2 ∷ []) at_it → place ≡ at_it
+      → (IsBefore place old.cursor → ⊥) → ComesFirst reading stands s world notes old place
+      → StandsHere reading stands s world notes r more
+  comes_first later at waits first = stands_here (record {
+    later = later;
+    waits = λ b. waits (subst (λ q. IsBefore q old.cursor) (sym at) b);
+    first = subst (NoSourceBefore s hs_of old.cursor) at first.none;
+    after = λ z there b. first.after z there (subst (λ q. IsBefore (place_of z) q) (sym at) b);
+  })
+
+module _ {C M : Type 0} {reading : C → ℕ → ℕ} {stands : M → Network → DeviceId → Node → Type 0} {s : Scenario}
+    {world : World C M} {notes : List Note} {r : ℕ} {more : List ℕ}
+    (c : StandsHere reading stands s world notes r more) where
   abbrev hs : List Happening
   hs = happenings s.network notes
 
   abbrev here : List ℕ
   here = world.now ∷ r ∷ more
 
-  abbrev Moves : Type 0
-  Moves = IsMoving s hs world.settled old.mark old.cursor world.now r more
-
-  -- ---- the source is first
-
-  pub comes_first : {place : List ℕ} → (world.now ∷ 2 ∷ [] ≡ here → ⊥) → place ≡ here → (IsBefore place old.cursor → ⊥)
-      → ComesFirst reading stands s world notes old place → Moves
-  comes_first longer at waits first = record {
-    longer = longer;
-    forward = old.forward;
-    are = old.are;
-    waits = λ b. waits (subst (λ q. IsBefore q old.cursor) (sym at) b);
-    first = subst (NoSourceBefore s hs old.cursor) at first.none;
-    after = λ z there b. first.after z there (subst (λ q. IsBefore (place_of z) q) (sym at) b);
-    past = λ p b. old.ahead p (old.of_now p b);
-    ahead = old.ahead;
-  }
-
   -- ---- what is shown at the end, where the source is of a lower rank
 
-  pub shown_still : r < 14 → Moves → (device : DeviceId) → device.0 < length s.network.device → world.ended ≡ true
+  pub shown_still : r < 14 → (device : DeviceId) → device.0 < length s.network.device → world.ended ≡ true
       → IsBefore (clock_place world.now device) (behind here) ↔ (device.0 < world.shown)
-  shown_still low m device lt ended = (
+  shown_still low device lt ended = (
     λ b.
         absurd (elim (no_higher world.now 14 world.now r (device.0 ∷ []) more
         (up_to_place (clock_place world.now device) here b)) [
           | inl less ↦ omega (arith, less)
           | inr same ↦ omega (arith, same.1, low)
         ]),
-    λ less. stays m (clock_place world.now device) ((old.shown device lt ended).1 less),
+    λ less. let place = clock_place world.now device in stays here place (c.on place ((c.old.shown device lt ended).1 less)),
   )
 
-  -- ---- no event is pending where another source comes first
-
-  pub source_told : Moves → IsBefore (world.now ∷ 2 ∷ []) here → world.pending ≡ false
-  source_told m later = elim (cases_Bool world.pending) [
-    | inr told ↦ told
-    | inl open_ ↦
-        let it = old.untold.waits open_ in
-        absurd (m.first (world.now ∷ 2 ∷ []) (IsSource.following world.now it.0 it.1 it.2)
-        (λ b. never_self (world.now ∷ 2 ∷ []) (old.untold.early open_ (world.now ∷ 2 ∷ []) b)) later)
-  ]
-
-  pub told_wires : Moves → IsBefore (world.now ∷ 2 ∷ []) here → AreOnWires s hs old.cursor world.now false world.wires
-  told_wires m later =
-      subst (λ b. AreOnWires s hs old.cursor world.now b world.wires)
-      (source_told m later) old.wires
-
-  untold_on : Moves → world.pending ≡ false → IsBefore (world.now ∷ 2 ∷ []) here
-      → AreUntold hs (behind here) world.now world.pending world.befell
-  untold_on m told later = record {
-    done = λ same number h it. chain (world.now ∷ 2 ∷ []) here (behind here) later (before_behind here);
-    none = old.untold.none;
-    waits = λ open_. absurd (let bad : false ≡ true = sym told ∙ open_ in cc);
-    early = λ open_. absurd (let bad : false ≡ true = sym told ∙ open_ in cc);
-    real = old.untold.real;
-    all = λ open_. absurd (let bad : false ≡ true = sym told ∙ open_ in cc);
-    in_order = old.untold.in_order;
+  untold_on : AreUntold hs (behind here) world.now world.pending world.befell
+  untold_on = record {
+    done = λ same number h it. stays here (world.now ∷ 2 ∷ []) c.moving.later;
+    none = c.old.untold.none;
+    waits = λ open_. absurd (let bad : false ≡ true = sym c.told ∙ open_ in cc);
+    early = λ open_. absurd (let bad : false ≡ true = sym c.told ∙ open_ in cc);
+    real = c.old.untold.real;
+    all = λ open_. absurd (let bad : false ≡ true = sym c.told ∙ open_ in cc);
+    in_order = c.old.untold.in_order;
   }
 
   -- ---- what is under way stays as it was, where the source is of another kind
 
-  pub wires_still : (2 ≡ r → ⊥) → Moves → IsBefore (world.now ∷ 2 ∷ []) here
-      → AreOnWires s hs (behind here) world.now false world.wires
-  wires_still not m later =
-      wires_move s hs world.settled old.mark old.cursor world.now r more world.wires m (told_wires m later)
-      (all_without wire_place here world.wires (λ e same. not (ap second same)))
+  pub wires_still : (2 ≡ r → ⊥) → AreOnWires s hs (behind here) world.now false world.wires
+  wires_still not =
+      wires_move (goes_by s hs here) world.wires c.wires (all_without wire_place here world.wires (λ e same. not (ap second same)))
 
-  pub ports_still : (8 ≡ r → ⊥) → Moves → AreAtPorts s hs (behind here) world.ports
-  ports_still not m =
-      ports_move s hs world.settled old.mark old.cursor world.now r more world.ports m old.ports
-      (all_without port_place here world.ports (λ e same. not (ap second same)))
+  pub ports_still : (8 ≡ r → ⊥) → AreAtPorts s hs (behind here) world.ports
+  ports_still not =
+      ports_move (goes_by s hs here) world.ports c.ports (all_without port_place here world.ports (λ e same. not (ap second same)))
 
-  pub waiting_still : (3 ≡ r → ⊥) → Moves → AreWaiting s hs (behind here) world.now world.waiting
-  waiting_still not m = waiting_moves s hs world.settled old.mark old.cursor world.now r more m not old.waiting
+  pub waiting_still : (3 ≡ r → ⊥) → AreWaiting s hs (behind here) world.now world.waiting
+  waiting_still not = waiting_moves (goes_by s hs here) (λ t ws same. not (ap second same)) c.waiting
 
   -- ---- the device whose source it is, and the others
 
-  pub devices_then : (device : DeviceId) {after : M} {machines : List M} {settled : List Happening} → Moves
+  pub device_still : {device : DeviceId} {machine : M} → ((task : Task) → task_place s.network world.now device task ≡ here → ⊥)
+      → IsHeld stands s hs world.settled here world.now device machine
+      → IsHeld stands s hs world.settled (behind here) world.now device machine
+  device_still other held = held_moves (goes_by s hs here) stands (not_there c.moving) other held
+
+  pub devices_then : (device : DeviceId) {after : M} {machines : List M} {settled : List Happening}
       → ((other : DeviceId) → (other.0 ≡ device.0 → ⊥) → (task : Task)
       → task_place s.network world.now other task ≡ here → ⊥)
       → IsSet device.0 after world.machines machines
@@ -105,28 +200,25 @@ module _ {C M : Type 0} {reading : C → ℕ → ℕ} {stands : M → Network �
       → (other : DeviceId) → other.0 < length s.network.device
       → (machine : M) × (slice_get machines other.0 ≡ Some machine)
       × IsHeld stands s hs settled (behind here) world.now other machine
-  devices_then device {after} {machines} {settled} m own set held others other lt = elim (cases_eq other.0 device.0) [
+  devices_then device {after} {machines} {settled} own set held others other lt = elim (cases_eq other.0 device.0) [
     | inl e ↦
         let same : device ≡ other = ap (λ (k : ℕ). let d : DeviceId = record { 0 = k } in d) (sym e) in
         subst (λ (d : DeviceId). (x : M) × (slice_get machines d.0 ≡ Some x)
         × IsHeld stands s hs settled (behind here) world.now d x) same (after, set.there, held)
     | inr not ↦
-        let k = old.devices other lt in (
-          k.0,
-          set.same other.0 not ∙ k.1,
-          others other k.0 not (held_moves stands s hs world.settled m (own other not) k.2),
-        )
+        let k = c.devices other lt in
+        (k.0, set.same other.0 not ∙ k.1, others other k.0 not (device_still (own other not) k.2))
   ]
 
   -- ---- and the world stands behind it
 
   pub stands_on : (place : List ℕ) (machines : List M) {wires : List OnWire} {ports : List AtPort}
-      {waiting : List Waiting} {settled : List Happening} (shown : ℕ) → Moves
+      {waiting : List Waiting} {settled : List Happening} (shown : ℕ)
       → place ≡ here → length notes + length settled < numbers_end
-      → AreSettled s hs settled old.mark (behind here) world.now → AreOfNetwork s (hs ++ settled)
+      → AreSettled s hs settled here (behind here) world.now → AreOfNetwork s (hs ++ settled)
       → ((device : DeviceId) → device.0 < length s.network.device
       → (machine : M) × (slice_get machines device.0 ≡ Some machine)
-      × IsHeld stands s hs settled (behind here) world.now device machine) → IsBefore (world.now ∷ 2 ∷ []) here
+      × IsHeld stands s hs settled (behind here) world.now device machine)
       → AreOnWires s hs (behind here) world.now false wires → AreAtPorts s hs (behind here) ports
       → AreWaiting s hs (behind here) world.now waiting
       → ((device : DeviceId) → device.0 < length s.network.device → world.ended ≡ true
@@ -142,9 +234,8 @@ module _ {C M : Type 0} {reading : C → ℕ → ℕ} {stands : M → Network �
             settled;
         shown = shown;
       }) notes (behind place)
-  stands_on place machines {wires} {ports} {waiting} shown m at room are known devices later on_wires
-      at_ports awaited shown_so =
-      let told = source_told m later in (
+  stands_on place machines {wires} {ports} {waiting} shown at room are known devices on_wires at_ports awaited shown_so =
+      let old = c.old in (
         record {
           same = old.same;
           range = old.range;
@@ -152,17 +243,17 @@ module _ {C M : Type 0} {reading : C → ℕ → ℕ} {stands : M → Network �
           forward = old.forward;
           steady = old.steady;
           precise = old.precise;
-          mark = old.mark;
+          mark = here;
           cursor = behind here;
-          run = old.run;
-          ahead = λ p b. stays m p (old.ahead p b);
-          of_now = old.of_now;
+          run = c.run;
+          ahead = stays here;
+          of_now = λ p b. c.on p (old.ahead p (old.of_now p b));
           not_later = λ p b. before_next_time p world.now (r ∷ (more ++ 0 ∷ [])) b;
           limit = old.limit;
           lines = old.lines;
           given = old.given;
           ended = old.ended;
-          befallen = old.befallen;
+          befallen = c.befallen;
           clocks = old.clocks;
           broken = old.broken;
           ways = old.ways;
@@ -170,8 +261,8 @@ module _ {C M : Type 0} {reading : C → ℕ → ℕ} {stands : M → Network �
           known = known;
           devices = devices;
           early = λ fresh. absurd (let bad : false ≡ true = fresh in cc);
-          untold = untold_on m told later;
-          wires = subst (λ b. AreOnWires s hs (behind here) world.now b wires) (sym told) on_wires;
+          untold = untold_on;
+          wires = subst (λ b. AreOnWires s hs (behind here) world.now b wires) (sym c.told) on_wires;
           ports = at_ports;
           waiting = awaited;
           stored = old.stored;
@@ -182,18 +273,17 @@ module _ {C M : Type 0} {reading : C → ℕ → ℕ} {stands : M → Network �
       )
 
   -- where a device acts
-  pub acts_on : {machines : List M} {settled : List Happening} → 4 ≤ r → r ≤ 6 → Moves
-      → length notes + length settled < numbers_end → AreSettled s hs settled old.mark (behind here) world.now
+  pub acts_on : {machines : List M} {settled : List Happening} → 4 ≤ r → r ≤ 6
+      → length notes + length settled < numbers_end → AreSettled s hs settled here (behind here) world.now
       → AreOfNetwork s (hs ++ settled)
       → ((device : DeviceId) → device.0 < length s.network.device
       → (machine : M) × (slice_get machines device.0 ≡ Some machine)
       × IsHeld stands s hs settled (behind here) world.now device machine)
       → StandsBehind reading stands s (record world { early = false; machines = machines; settled = settled }) notes
       (behind here)
-  acts_on {machines} high low m room are known devices =
-      let later : IsBefore (world.now ∷ 2 ∷ []) here = inr (refl, inl (omega (arith, high))) in
-      stands_on here machines world.shown m refl room are known devices later
-      (wires_still (λ two. omega (arith, two, high)) m later)
-      (ports_still (λ eight. omega (arith, eight, low)) m)
-      (waiting_still (λ three. omega (arith, three, high)) m)
-      (shown_still (omega (arith, low)) m)
+  acts_on {machines} high low room are known devices =
+      stands_on here machines world.shown refl room are known devices
+      (wires_still (λ two. omega (arith, two, high)))
+      (ports_still (λ eight. omega (arith, eight, low)))
+      (waiting_still (λ three. omega (arith, three, high)))
+      (shown_still (omega (arith, low)))

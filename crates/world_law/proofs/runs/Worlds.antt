@@ -72,38 +72,27 @@ first_settled_is_next s notes z rest mark cursor now run settled none =
     subst (λ p. IsScenarioRun s (behind p) (notes ++ note_of notes z ∷ [])) place
     (run_goes_on s mark notes (note_of notes z) x run refl (is_next (IsDue s) x run not due free))
 
+-- where no source that is not worked off is before a place, and nothing to come, the records given are the run up to there
+pub run_to : {s : Scenario} (notes : List Note) {coming : List Happening} {mark cursor : List ℕ} {now : ℕ} (to : List ℕ)
+    → IsScenarioRun s mark notes → AreSettled s (happenings s.network notes) coming mark cursor now
+    → NoSourceBefore s (happenings s.network notes) cursor to
+    → ((z : Happening) → IsIn z coming → IsBefore (place_of z) to → ⊥)
+    → ((p : List ℕ) → IsBefore p mark → IsBefore p to) → IsScenarioRun s to notes
+run_to {s} notes {coming} {mark} {cursor} to run settled none after up_to =
+    let hs = happenings s.network notes in
+    let free : NoneDueBefore place_of (IsDue s) mark hs to = λ y due not here.
+    let from = sourced s hs y due in
+    let worked : IsBefore from.place cursor = elim (before_or_not from.place cursor) [
+      | inl yet ↦ yet
+      | inr waits ↦ absurd (none from.place from.source waits (source_before from.place (place_of y) to from.no_later here))
+    ] in
+    let found = settled.full [] coming y refl (λ n i. absurd i)
+    (λ o i b. after o i (chain (place_of o) (place_of y) to b here)) not (due_now due)
+    (worked_now {s = s} {hs = hs} cursor y (from.place, from.own, from.source, worked)) in
+    after found.0 found.1 (subst (λ q. IsBefore q to) (sym found.2) here) in
+    move_mark (IsDue s) run (λ n i. up_to (place_of n) (run.within n i))
+    (none_due place_of (IsDue s) mark hs to run.within free)
+
 pub nothing_settled_is_all : NothingSettledIsAll
 nothing_settled_is_all s notes mark cursor now until run settled within none =
-    let hs = happenings s.network notes in
-    let free : NoneDueBefore place_of (IsDue s) mark hs (until ∷ []) = λ y due not here.
-    let from = sourced s hs y due in
-    elim (before_or_not from.place cursor) [
-      | inl worked ↦ absurd (settled.full [] [] y refl (λ n i. absurd i) (λ n i. absurd i) not (due_now due)
-          (worked_now {s = s} {hs = hs} cursor y (from.place, from.own, from.source, worked))).1
-      | inr waits ↦ none from.place from.source waits (source_before from.place (place_of y) (until ∷ []) from.no_later here)
-    ] in
-    move_mark (IsDue s) run (λ n i. within (place_of n) (run.within n i))
-    (none_due place_of (IsDue s) mark hs (until ∷ []) run.within free)
-
--- where nothing to come is before the place up to which all is worked off, the records given are the run up to there
-pub given_up_to : {s : Scenario} (notes : List Note) {coming : List Happening} {mark cursor : List ℕ} {now : ℕ}
-    → IsScenarioRun s mark notes
-    → AreSettled s (happenings s.network notes) coming mark cursor now
-    → ((z : Happening) → IsIn z coming → IsBefore (place_of z) cursor → ⊥)
-    → ((p : List ℕ) → IsBefore p mark → IsBefore p cursor) → IsScenarioRun s cursor notes
-given_up_to {s} notes {coming} {mark} {cursor} run settled ahead up_to =
-    let hs = happenings s.network notes in
-    let free : NoneDueBefore place_of (IsDue s) mark hs cursor = λ y due not here.
-    let from = sourced s hs y due in
-    let found = settled.full [] coming y refl (λ n i. absurd i)
-    (λ o i b. ahead o i (chain (place_of o) (place_of y) cursor b here)) not (due_now due)
-    (worked_now {s = s} {hs = hs} cursor y (
-      from.place,
-      from.own,
-      from.source,
-      source_before from.place
-          (place_of y) cursor from.no_later here,
-    )) in
-    ahead found.0 found.1 (subst (λ q. IsBefore q cursor) (sym found.2) here) in
-    move_mark (IsDue s) run (λ n i. up_to (place_of n) (run.within n i))
-    (none_due place_of (IsDue s) mark hs cursor run.within free)
+    run_to notes (until ∷ []) run settled none (λ z i. absurd i) within

@@ -62,11 +62,11 @@ pub use Rattle.world_law.proofs.lists.{Lists.{behind_no, behind_yes, filter_no, 
 pub use Rattle.world_law.proofs.putting.Bearing.{held_aside, known_aside, turned_aside}
 pub use Rattle.world_law.proofs.putting.PutShown.{AsState}
 pub use Rattle.world_law.proofs.putting.Idle.{numbered_prefix}
-pub use Rattle.world_law.proofs.putting.{Moving.{IsAllOfIt, IsMoving, all_without, held_moves, ports_move, turned_moves, waiting_moves, wires_move}, Near.hears}
+pub use Rattle.world_law.proofs.putting.{Moving.{IsAllOfIt, IsMoving, all_without, goes_by, ports_move, stays, turned_by, wires_move}, Near.hears}
 pub use Rattle.world_law.proofs.putting.{Placing.before_it, PutIn.own_time}
 pub use Rattle.world_law.proofs.putting.PutOne.{IsOne, IsUnfollowed, is_last, last_unfollowed, one_by}
 pub use Rattle.world_law.proofs.putting.PutShown.{IsShownPut, due_of, one_shown, put_length, record_of, two_shown}
-pub use Rattle.world_law.proofs.putting.StandsOn.{acts_on, comes_first, devices_then, ports_still, stands_on, told_wires, waiting_still, wires_still}
+pub use Rattle.world_law.proofs.putting.StandsOn.{StandsHere, acts_on, comes_first, device_still, devices_then, ports_still, shown_still, stands_here, stands_on, waiting_still, wires_still}
 pub use Rattle.world_law.proofs.rows.AtHand.{IsNoTaking, value_is}
 pub use Rattle.world_law.proofs.rows.Dispatching.{IsLawful}
 pub use Rattle.world_law.proofs.runs.{Agreement.changed_before, Foremost.not_on_after}

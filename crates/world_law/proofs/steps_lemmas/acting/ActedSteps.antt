@@ -1,4 +1,4 @@
--- A device acts: the cursor goes behind the place of what it does.
+-- A device acts: the frontier goes behind the place of what it does.
 use Rattle.run_law.specs.control.Hearing.{heard_by_schedule, heard_enough, is_in_schedule, last_cycle}
 use Rattle.{run_law.specs.records.{Order.behind, Ranks.rank}, sync_state.specs.membership.Members.count_of}
 use Rattle.world_law.proofs.steps_lemmas.Words.{◌&&◌, ◌<◌, Act, ArePutIn, ComesFirst, Compressed, DeviceId, Happening, HasActed, Integrating, IsIn, IsSet}
@@ -46,7 +46,7 @@ pub heard_by_it : {C M : Type 0} {reading : C → ℕ → ℕ} {stands : M → N
 heard_by_it {reading} {stands} {s} {world} {notes} {device} {after} {old} a sent heard first apart acted =
     let stage = stage_of reading stands s world notes old device a.machine after (acts.Emit sent heard) a.of_it first apart a.there a.due acted in
     let node = stage.0 in
-    let st = stage.1 in
+    let st = stage.2 in
     let x = acted node st.is (may_act_now s device node world.now st.work.ready st.steady st.limit) st.task in
     subst IsHeardSo (sym x.1.1)
     (heard_so (plan_of s.network device) (observation_window s.network) node.standing.state node.standing.adjustment.0 sent.at.0 sent.cycle sent.members)

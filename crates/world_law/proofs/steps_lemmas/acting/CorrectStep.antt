@@ -17,7 +17,7 @@ module _ {C M : Type 0} {reading : C → ℕ → ℕ} {stands : M → Network �
       let stage = stage_of reading stands s world notes old device machine after (acts.Correct cycle verdict) x.of_it
       x.first x.apart x.there x.due x.acted in
       let node = stage.0 in
-      let st = stage.1 in
+      let st = stage.2 in
       let act = x.acted node st.is (may_act_now s device node world.now st.work.ready st.steady st.limit) st.task in
       ap is_timed (x.stood node st.is).0 ∙ (point_number node.standing.state node.standing.number cycle
       act.1.0.pending.1.own).0

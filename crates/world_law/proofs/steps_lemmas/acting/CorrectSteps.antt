@@ -2,14 +2,14 @@
 use Rattle.{run_law.specs.machines.Answers.after_correction, world_law.proofs.steps_lemmas.acting.Sending.{as_put, taken_then, turned_then}}
 use Rattle.world_law.{proofs.putting.Moving.{settled_moves, stays}, specs.{steps.Acting.{correction_bodies, place_of_act}, world.Calls.IsStateOf}}
 use Rattle.world_law.proofs.{putting.PutOne.corrected_unfollowed, steps_lemmas.Words.{with_clique, ℕ}}
-use Rattle.world_law.proofs.steps_lemmas.Words.{◌++◌, ◌+ℤ◌, ◌+◌, ◌<◌, ◌∙◌, ◌∷◌, ◌≡◌, ◌≤◌, ArePutIn, AsyncClique, Cleared, ComesFirst, Corrected, DeviceId}
+use Rattle.world_law.proofs.steps_lemmas.Words.{StandsHere, turned_by, ◌++◌, ◌+ℤ◌, ◌+◌, ◌<◌, ◌∙◌, ◌∷◌, ◌≡◌, ◌≤◌, ArePutIn, AsyncClique, Cleared, ComesFirst, Corrected, DeviceId}
 use Rattle.world_law.proofs.steps_lemmas.Words.{Happening, HasActed, HasCleared, Integrating, IsBefore, IsDueNow, IsIn, IsNoTaking, IsReadyAt, IsSet}
 use Rattle.world_law.proofs.steps_lemmas.Words.{IsShownPut, IsUnfollowed, Joining, List, Network, Node, Note, NoteBody, Scenario, Some, Stands, StandsBehind}
 use Rattle.world_law.proofs.steps_lemmas.Words.{State, Summary, SyncClique, Synchronised, Units, Verdict, Why, World, [], acting, adjustment_by}
 use Rattle.world_law.proofs.steps_lemmas.Words.{ap, arith, behind, called, correcting, doing, earlier_still, ends_stretch}
 use Rattle.world_law.proofs.steps_lemmas.Words.{false, happenings, if◌then◌else◌, in_right, inl, inr, is_turned_on_at, length}
 use Rattle.world_law.proofs.steps_lemmas.Words.{moment_of, none_in, numbers_end, one_shown, place_of, point_number, rank, acts_on, devices_then}
-use Rattle.world_law.proofs.steps_lemmas.Words.{record_of, refl, slice_get, state_after, state_by, subst, sym, true, turned_moves}
+use Rattle.world_law.proofs.steps_lemmas.Words.{record_of, refl, slice_get, state_after, state_by, subst, sym, true}
 use Rattle.world_law.proofs.steps_lemmas.acting.Correcting.{clique_change, clique_over, corrected_over, still_now}
 use Rattle.world_law.proofs.steps_lemmas.acting.Points.{HasOutcome, IsAtPoint, all_point, grown_none, grown_one}
 use Rattle.world_law.proofs.steps_lemmas.acting.{Clearing.{cleared_more, cleared_over}, Kept.{IsBare, bare_act, kept_over, may_act_now, out_by_acts, ready_after}}
@@ -56,10 +56,9 @@ pub record IsThen {M : Type 0} (stands : M → Network → DeviceId → Node →
 -- ---- with one record
 
 one_point_step : {C M : Type 0} {reading : C → ℕ → ℕ} {stands : M → Network → DeviceId → Node → Type 0}
-    {s : Scenario} {world : World C M} {notes : List Note} (old : Stands reading stands s world notes)
-    {device : DeviceId} {machine after : M} {node then_ : Node} {machines : List M} {settled : List Happening}
-    {body : NoteBody} {cycle : ℕ} {heard : Summary} {verdict : Verdict}
-    → StageAt stands s (happenings s.network notes) world.settled old.mark old.cursor world.now device machine node 6
+    {s : Scenario} {world : World C M} {notes : List Note} {device : DeviceId} {machine after : M} {node then_ : Node}
+    {machines : List M} {settled : List Happening} {body : NoteBody} {cycle : ℕ} {heard : Summary} {verdict : Verdict}
+    (c : StandsHere reading stands s world notes 6 (device.0 ∷ [])) → StageAt stands s (happenings s.network notes) world.settled world.now device machine node 6
     (device.0 ∷ []) → (p : IsShownPut s.network (happenings s.network notes) world.now body world.settled settled)
     → length notes + length world.settled + 2 < numbers_end → 5 ≤ rank body
     → IsActRecordAt s (happenings s.network notes) p.front p.back world.now device body (rows_place world.now device)
@@ -70,26 +69,25 @@ one_point_step : {C M : Type 0} {reading : C → ℕ → ℕ} {stands : M → Ne
     ∷ p.back) world.now device after node then_ → IsSet device.0 after world.machines machines
     → StandsBehind reading stands s (record world { early = false; machines = machines; settled = settled }) notes
     (behind (rows_place world.now device))
-one_point_step {stands} {s} {world} {notes} old {device} {machine} {after} {node} {body} {cycle} st p room late a
+one_point_step {stands} {s} {world} {notes} {device} {machine} {after} {node} {body} {cycle} c st p room late a
     takes point out it
     set =
     let hs = happenings s.network notes in
     let now = world.now in
     let w = record_of s.network hs p.front now body in
     let new = p.front ++ w ∷ p.back in
-    let st2 : StageAt stands s hs (p.front ++ p.back) old.mark old.cursor now device machine node 6 (device.0 ∷ []) =
-    subst (λ l. StageAt stands s hs l old.mark old.cursor now device machine node 6 (device.0 ∷ [])) p.parts st in
+    let st2 : StageAt stands s hs (p.front ++ p.back) now device machine node 6 (device.0 ∷ []) =
+    subst (λ l. StageAt stands s hs l now device machine node 6 (device.0 ∷ [])) p.parts st in
     let put = as_put now w refl (omega (arith, late)) in
     let here = behind (rows_place now device) in
-    let none = none_at_point s hs (p.front ++ p.back) now device node cycle old.range old.rules st2.steady st2.work point.pending point.due in
-    one_goes_by old st p (omega (arith, room)) a
+    let none = none_at_point s hs (p.front ++ p.back) now device node cycle c.old.range c.old.rules st2.steady st2.work point.pending point.due in
+    one_goes_by c st p (omega (arith, room)) a
     (all_point st2.work point
     (grown_one p.front p.back st2.work put late) out) set
     (kept_over stands {hs = hs} {new = new} {cursor = here} after it.is st2.work.sound it.over it.ready it.cleared
-    (it.taken ∙ taken_then stands s hs p.front p.back old.mark old.cursor now device machine node w st2 refl takes)
+    (it.taken ∙ taken_then stands s hs p.front p.back now device machine node w st2 refl takes)
     it.bare
-    (turned_then stands s hs p.front p.back old.mark old.cursor now device machine node here st2 put
-    (λ t. turned_moves s hs (p.front ++ p.back) old.mark old.cursor now 6 (device.0 ∷ []) st2.moving t)) it.phase
+    (turned_then stands s hs p.front p.back now device machine node st2 put) it.phase
     st.calm.falls it.worked st.reach
     (inl (out_by_acts s hs now device none)))
 
@@ -108,9 +106,9 @@ corrected_done node moment heard by (doing deed) has = absurd (none_in deed has)
 
 -- so it had come to it sooner, or that is worked off
 pub corrected_worked : {M : Type 0} {stands : M → Network → DeviceId → Node → Type 0} {s : Scenario}
-    {hs coming : List Happening} {mark cursor : List ℕ} {now : ℕ} {device : DeviceId} {machine : M} {node : Node}
+    {hs coming : List Happening} {now : ℕ} {device : DeviceId} {machine : M} {node : Node}
     (after : Node) (heard : Summary) (by : Units) (changed : ℕ)
-    → StageAt stands s hs coming mark cursor now device machine node 6 (device.0 ∷ []) → after
+    → StageAt stands s hs coming now device machine node 6 (device.0 ∷ []) → after
     ≡ called (moment_of s device now) acting (after_correction node (moment_of s device now) heard 0 (Corrected by))
     → (task : Task) → HasDoneTask after task → HadComeTo s device after changed now task
     ⊎ IsBefore (task_place s.network now device task) (behind (rows_place now device))
@@ -119,7 +117,7 @@ corrected_worked {s} {now} {device} {node} after heard by changed st is task has
     subst (λ t. HadComeTo s device after changed now t ⊎ IsBefore (task_place s.network now device t) (behind (rows_place now device))) (sym x.1)
     (elim (st.worked (emitting x.0) x.2) [
       | inl sooner ↦ inl sooner
-      | inr gone ↦ inr (stays st.moving (task_place s.network now device (emitting x.0)) gone)
+      | inr gone ↦ inr (stays (rows_place now device) (task_place s.network now device (emitting x.0)) gone)
     ])
 
 -- a device that clears what it has heard, has done that too
@@ -140,15 +138,15 @@ clique_done node moment heard verdict (doing deed) has = has
 
 -- what it had done is so still
 still_worked : {M : Type 0} {stands : M → Network → DeviceId → Node → Type 0} {s : Scenario}
-    {hs coming : List Happening} {mark cursor : List ℕ} {now : ℕ} {device : DeviceId} {machine : M} {node : Node}
-    (after : Node) (changed : ℕ) → StageAt stands s hs coming mark cursor now device machine node 6 (device.0 ∷ [])
+    {hs coming : List Happening} {now : ℕ} {device : DeviceId} {machine : M} {node : Node}
+    (after : Node) (changed : ℕ) → StageAt stands s hs coming now device machine node 6 (device.0 ∷ [])
     → after.standing.adjustment ≡ node.standing.adjustment → changed_at (hs ++ coming) device now ≡ changed
     → (task : Task) → HasDoneTask node task → HadComeTo s device after changed now task
     ⊎ IsBefore (task_place s.network now device task) (behind (rows_place now device))
 still_worked {s} {hs} {coming} {now} {device} {node} after changed st adjustment same task has =
     elim (st.worked task has) [
       | inl sooner ↦ inl (still_came s device node after (changed_at (hs ++ coming) device now) changed now task adjustment same sooner)
-      | inr gone ↦ inr (stays st.moving (task_place s.network now device task) gone)
+      | inr gone ↦ inr (stays (rows_place now device) (task_place s.network now device task) gone)
     ]
 
 -- ---- with none: a joiner clears what it has heard
@@ -168,7 +166,8 @@ module _ {C M : Type 0} {reading : C → ℕ → ℕ} {stands : M → Network �
       let stage = stage_of reading stands s world notes old device machine after (acts.Correct cycle Cleared) x.of_it
       x.first x.apart x.there x.due x.acted in
       let node = stage.0 in
-      let st = stage.1 in
+      let c = stage.1 in
+      let st = stage.2 in
       let may = may_act_now s device node now st.work.ready st.steady st.limit in
       let act = x.acted node st.is may st.task in
       let first = act.1.0 in
@@ -200,7 +199,7 @@ module _ {C M : Type 0} {reading : C → ℕ → ℕ} {stands : M → Network �
       let kept = kept_over stands {hs = hs} {new = world.settled} {cursor = behind here} after act.2 st.work.sound
       over ready cleared (ap (λ (n : Node). n.taken) is ∙ st.taken)
       (bare_act s.network device node (moment_of s device now) (acts.Correct cycle Cleared) act.0 act.1 st.bare)
-      (λ on. turned_moves s hs world.settled old.mark old.cursor now 6 more st.moving (st.turned on))
+      (λ on. turned_by st.moving (st.turned on))
       (ap (λ (n : Node). n.phase) is) st.calm.falls
       (λ task has. elim (cleared_done s now device node (moment_of s device now) heard cycle task
       (subst (λ n. HasDoneTask n task) is has)) [
@@ -214,12 +213,12 @@ module _ {C M : Type 0} {reading : C → ℕ → ℕ} {stands : M → Network �
       subst (λ (l : List Happening). StandsBehind reading stands s
       (record world { early = false; machines = machines; settled = l }) notes (behind here))
       (sym x.put)
-      (acts_on old 6 more (omega arith) (omega arith) st.moving old.room
-      (settled_moves s hs world.settled old.mark old.cursor now 6 more st.moving
+      (acts_on c (omega arith) (omega arith) old.room
+      (settled_moves st.moving
       (all_point st.work point
       (grown_none s hs world.settled now device (λ z i. (st.work.of_now z i).0)) tt))
       old.known
-      (devices_then old 6 more device st.moving (λ other not task same. not (st.own other task same)) x.set (inl kept)
+      (devices_then c device (λ other not task same. not (st.own other task same)) x.set (inl kept)
       (λ other m not held. held)))
 
   -- ---- it finds itself outside the others
@@ -244,7 +243,8 @@ module _ {C M : Type 0} {reading : C → ℕ → ℕ} {stands : M → Network �
       let stage = stage_of reading stands s world notes old device machine after (acts.Correct cycle verdict) x.of_it
       x.first x.apart x.there x.due x.acted in
       let node = stage.0 in
-      let st = stage.1 in
+      let c = stage.1 in
+      let st = stage.2 in
       let may = may_act_now s device node now st.work.ready st.steady st.limit in
       let act = x.acted node st.is may st.task in
       let first = act.1.0 in
@@ -263,8 +263,8 @@ module _ {C M : Type 0} {reading : C → ℕ → ℕ} {stands : M → Network �
       (one_shown s.network hs now body (omega arith) put.1) in
       let w = record_of s.network hs p.front now body in
       let new = p.front ++ w ∷ p.back in
-      let st2 : StageAt stands s hs (p.front ++ p.back) old.mark old.cursor now device machine node 6 (device.0 ∷ []) =
-      subst (λ l. StageAt stands s hs l old.mark old.cursor now device machine
+      let st2 : StageAt stands s hs (p.front ++ p.back) now device machine node 6 (device.0 ∷ []) =
+      subst (λ l. StageAt stands s hs l now device machine
       node 6 (device.0 ∷ [])) p.parts st in
       let as_it = as_put now w refl (omega arith) in
       let over : IsOver s (hs ++ new) now device act.0 =
@@ -274,8 +274,8 @@ module _ {C M : Type 0} {reading : C → ℕ → ℕ} {stands : M → Network �
       as_it p.none (lost node.standing.state) (kept node.standing.adjustment) refl ends) in
       let cleared : HasCleared act.0 =
       subst HasCleared (sym is) (λ n there. let less = st.cleared n there in omega (arith, less)) in
-      one_point_step old {then_ = act.0} st p room (omega arith)
-      (clique_record stands s hs p.front p.back old.mark old.cursor now device machine node cycle verdict why st2 off
+      one_point_step {then_ = act.0} c st p room (omega arith)
+      (clique_record stands s hs p.front p.back now device machine node cycle verdict why st2 off
       point clique p.none) (λ at. refl)
       point
       (outcome new w (in_right w p.front (w ∷ p.back) (inl refl)) refl)
@@ -334,7 +334,8 @@ corrected_goes_by {reading} {stands} {s} {world} {notes} {old} {device} {machine
     let now = world.now in
     let stage = stage_of reading stands s world notes old device machine after (acts.Correct cycle (Corrected by)) x.of_it x.first x.apart x.there x.due x.acted in
     let node = stage.0 in
-    let st = stage.1 in
+    let c = stage.1 in
+    let st = stage.2 in
     let may = may_act_now s device node now st.work.ready st.steady st.limit in
     let act = x.acted node st.is may st.task in
     let first = act.1.0 in
@@ -356,8 +357,8 @@ corrected_goes_by {reading} {stands} {s} {world} {notes} {old} {device} {machine
     (one_shown s.network hs now body (omega arith) x.put.1) in
     let w = record_of s.network hs p.front now body in
     let new = p.front ++ w ∷ p.back in
-    let st2 : StageAt stands s hs (p.front ++ p.back) old.mark old.cursor now device machine node 6 (device.0 ∷ []) =
-    subst (λ l. StageAt stands s hs l old.mark old.cursor now device machine node 6 (device.0 ∷ [])) p.parts st in
+    let st2 : StageAt stands s hs (p.front ++ p.back) now device machine node 6 (device.0 ∷ []) =
+    subst (λ l. StageAt stands s hs l now device machine node 6 (device.0 ∷ [])) p.parts st in
     let so : IsCorrectedSo s device (now + 1) node w cycle by adjustment (moment_of s device now) =
     record { body = refl; before = omega arith; timed = point_is.0; number = point_is.1; sum = sym sum_is; reads = refl } in
     let quiet = no_frames s device now node cycle heard (Corrected by) first.pending.0 point in
@@ -369,8 +370,8 @@ corrected_goes_by {reading} {stands} {s} {world} {notes} {old} {device} {machine
     let same = earlier_still now hs world.settled (λ z i. let at = (st.work.of_now z i).0 in omega (arith, at)) in
     not_joining (sym synchronised ∙ st.work.left.state
     ∙ ap (λ l. if is_turned_on_at s device now then Integrating else state_after s l device) same ∙ joining)) in
-    one_point_step old {then_ = act.0} st p room (omega arith)
-    (corrected_record stands s hs p.front p.back old.mark old.cursor now device machine node cycle by adjustment st2
+    one_point_step {then_ = act.0} c st p room (omega arith)
+    (corrected_record stands s hs p.front p.back now device machine node cycle by adjustment st2
     off point sum_is p.none lone)
     (λ at. refl) point
     (w, in_right w p.front (w ∷ p.back) (inl refl), refl)

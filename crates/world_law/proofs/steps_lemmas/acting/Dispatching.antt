@@ -3,7 +3,7 @@ use Rattle.net_plan.proofs.SameIds.{same_link, same_vl}
 use Rattle.run_law.proofs.{law.FirstPlaces.{in_filter, numbered_front}, timed.Rows.at_hand_by}
 use Rattle.schedule_tables.{proofs.EntryLemmas.one_entry, specs.Dispatches.dispatch_order, specs.Entries.{IsEntry, source_of}, specs.Windows.OccursIn}
 use Rattle.std.proofs.Common.{◌*◌}
-use Rattle.world_law.proofs.steps_lemmas.Words.{Dispatches, Entry, Happening, HasActed, HasAtHand, HasCleared, Hearing, IsActOf, IsActing, IsDue}
+use Rattle.world_law.proofs.steps_lemmas.Words.{never_self, Dispatches, Entry, Happening, HasActed, HasAtHand, HasCleared, Hearing, IsActOf, IsActing, IsDue}
 use Rattle.world_law.proofs.steps_lemmas.Words.{IsFirstTask, IsFounded, IsIn, IsLawful, IsPending, IsReadyAt, IsSet, IsSource, LinkId, List, Moment}
 use Rattle.world_law.proofs.steps_lemmas.Words.{Network, Node, None, Note, NoteBody, Option, Reaches, RowId, Scenario, Stands, VlId, World, ℕ, [], acting}
 use Rattle.world_law.proofs.steps_lemmas.Words.{amount, ap, append-nil, arith, by_number, called, cause_of, changed_before, correcting, dispatch_body}
@@ -146,13 +146,13 @@ row_record {s} {hs} {front} {now} {device} {link} {cause} {vl} {cycle} false is 
     }
 
 -- where a row is not worked off, no record to come tells of its dispatch
-no_row_told : {s : Scenario} {hs coming : List Happening} {mark cursor : List ℕ} {now : ℕ} {device : DeviceId}
-    → AreSettled s hs coming mark cursor now → IsFounded place_of (IsDue s) hs → IsLawful s (hs ++ coming) device
+no_row_told : {s : Scenario} {hs coming : List Happening} {frontier : List ℕ} {now : ℕ} {device : DeviceId}
+    → AreSettled s hs coming frontier frontier now → IsFounded place_of (IsDue s) hs → IsLawful s (hs ++ coming) device
     → (z : Happening) → IsIn z coming → {link : LinkId} {cause : ℕ} {vl : VlId} {cycle : ℕ}
     (d : Dispatches s (hs ++ coming) device now link cause vl cycle)
-    → (IsBefore (now ∷ 6 ∷ device.0 ∷ dispatch_order s.network (record { 0 = d.place })) cursor → ⊥)
+    → (IsBefore (now ∷ 6 ∷ device.0 ∷ dispatch_order s.network (record { 0 = d.place })) frontier → ⊥)
     → z.note.body ≡ dispatch_body s device now link cause vl cycle → ⊥
-no_row_told {s} {hs} {coming} {cursor} {now} {device} are founded law z i {link} {cause} {vl} {cycle} d waits e =
+no_row_told {s} {hs} {coming} {frontier} {now} {device} are founded law z i {link} {cause} {vl} {cycle} d waits e =
     let split = parted z coming i in
     let by = are.by split.0 split.1 z split.2 in
     let inside : (h : Happening) → IsIn h split.0 → IsIn h coming = λ h j. subst (λ l. IsIn h l) (sym split.2)
@@ -167,15 +167,15 @@ no_row_told {s} {hs} {coming} {cursor} {now} {device} are founded law z i {link}
     λ other number x is.
     (let y = dispatches_same s (hs ++ split.0) (hs ++ coming) now device link cause other number same x in
     let one = one_row link cause vl cycle law refl y.0 d in
-    waits (subst (λ q. IsBefore q cursor) (is ∙ ap place (sym y.1 ∙ one.0)) by.3)) in
+    waits (subst (λ q. IsBefore q frontier) (is ∙ ap place (sym y.1 ∙ one.0)) by.3)) in
     elim (dispatch_told s device now link cause vl cycle z.note.body e) [
       | inr sent ↦
           let it = subst (λ b. IsOwnSource s (hs ++ split.0) now (members_in z) b by.0) sent own in none vl cycle it.0 it.1
       | inl lost ↦
           elim (subst (λ b. IsOwnSource s (hs ++ split.0) now (members_in z) b by.0) lost own) [
             | inl leaves ↦
-                waits (chain (place d.place) (now ∷ 8 ∷ device.0 ∷ link.0 ∷ cause ∷ []) cursor (inr (refl, inl (omega arith)))
-                (subst (λ q. IsBefore q cursor) leaves.0 by.3))
+                waits (chain (place d.place) (now ∷ 8 ∷ device.0 ∷ link.0 ∷ cause ∷ []) frontier (inr (refl, inl (omega arith)))
+                (subst (λ q. IsBefore q frontier) leaves.0 by.3))
             | inr other ↦ elim other [
               | inl mine ↦ none mine.0 mine.1 mine.2 mine.4
               | inr sends ↦
@@ -187,17 +187,18 @@ no_row_told {s} {hs} {coming} {cursor} {now} {device} are founded law z i {link}
     ]
 
 pub dispatching_record : {M : Type 0} {stands : M → Network → DeviceId → Node → Type 0} {s : Scenario}
-    {hs : List Happening} (front back : List Happening) {mark cursor : List ℕ} {now : ℕ} {device : DeviceId}
+    {hs : List Happening} (front back : List Happening) {now : ℕ} {device : DeviceId}
     {machine : M} {node : Node} (row : RowId) {entry : Entry} {cause cycle : ℕ}
-    → StageAt stands s hs (front ++ back) mark cursor now device machine node 6
+    → StageAt stands s hs (front ++ back) now device machine node 6
     (device.0 ∷ dispatch_order s.network row) → IsPending s.network device node (doing (dispatching row cycle))
     → reading_for s.network node (doing (dispatching row cycle)) ≤ℤ pos (s.reading device now)
     → IsEntry s.network row.0 entry → HasAtHand s.network hs device entry now cause cycle
     → IsActRecordAt s hs front back now device (dispatch_body s device now entry.row.link cause entry.row.vl cycle)
     (task_place s.network now device (doing (dispatching row cycle)))
-dispatching_record {s} {hs} front back {cursor} {now} {device} row {entry} {cause} {cycle} st pending due is hand =
+dispatching_record {s} {hs} front back {now} {device} row {entry} {cause} {cycle} st pending due is hand =
     let link = entry.row.link in
     let vl = entry.row.vl in
+    let at = task_place s.network now device (doing (dispatching row cycle)) in
     let here = dispatches_it front row st.work (λ z i. (st.work.of_now z (in_left z front back i)).0)
     pending due is hand in
     let whole = dispatches_it (front ++ back) row st.work (λ z i. (st.work.of_now z i).0) pending due is hand in
@@ -206,7 +207,7 @@ dispatching_record {s} {hs} front back {cursor} {now} {device} row {entry} {caus
       place = here.1;
       new = λ y i e.
           no_row_told st.moving.are st.given st.lawful y (in_right y front back i) whole.0
-          (λ b. st.moving.waits (subst (λ (n : ℕ). IsBefore (now ∷ 6 ∷ device.0 ∷ dispatch_order s.network (let r : RowId = record { 0 = n } in r)) cursor)
+          (λ b. never_self at (subst (λ (n : ℕ). IsBefore (now ∷ 6 ∷ device.0 ∷ dispatch_order s.network (let r : RowId = record { 0 = n } in r)) at)
           whole.1 b)) e;
     })
 
@@ -247,10 +248,10 @@ dispatches_on {s} {hs} front back {now} {device} {node} row cycle moment work p 
     (changed_before (hs ++ (front ++ back)) device now) due) (sent_alike after refl refl work.sent) ready
 
 module _ {M : Type 0} (stands : M → Network → DeviceId → Node → Type 0) (s : Scenario)
-    (hs front back : List Happening) (mark cursor : List ℕ) (now : ℕ) (device : DeviceId) (machine : M) where
+    (hs front back : List Happening) (now : ℕ) (device : DeviceId) (machine : M) where
   -- its record tells of the row
   pub row_told : {node : Node} (row : RowId) {entry : Entry} {cause cycle : ℕ}
-      → StageAt stands s hs (front ++ back) mark cursor now device machine node 6
+      → StageAt stands s hs (front ++ back) now device machine node 6
       (device.0 ∷ dispatch_order s.network row) → IsPending s.network device node (doing (dispatching row cycle))
       → reading_for s.network node (doing (dispatching row cycle)) ≤ℤ pos (s.reading device now)
       → IsEntry s.network row.0 entry → HasAtHand s.network hs device entry now cause cycle → (order : List ℕ)
@@ -278,7 +279,7 @@ module _ {M : Type 0} (stands : M → Network → DeviceId → Node → Type 0) 
 
   -- the node that has dispatched, among the records with its own
   pub has_dispatched_it : (then_ : M) {node : Node} (after : Node) (row : RowId) {entry : Entry} {cause cycle : ℕ}
-      → StageAt stands s hs (front ++ back) mark cursor now device machine node 6
+      → StageAt stands s hs (front ++ back) now device machine node 6
       (device.0 ∷ dispatch_order s.network row) → IsFirstTask s.network device node
       (moment_of s device now).reading.0 (doing (dispatching row cycle))
       → IsActOf s.network device node (moment_of s device now) (acts.Dispatch row cycle) after
@@ -315,7 +316,7 @@ module _ {M : Type 0} (stands : M → Network → DeviceId → Node → Type 0) 
         work = subst (λ n. IsAtWork s hs new now device n) (sym is) work;
         cleared = subst HasCleared (sym is) cleared;
         taken = ap (λ (n : Node). n.taken) is
-            ∙ taken_then stands s hs front back mark cursor now device machine node w
+            ∙ taken_then stands s hs front back now device machine node w
             st refl (none_taken s device device now link cause vl cycle);
         phase = ap (λ (n : Node). n.phase) is;
       }
@@ -342,7 +343,8 @@ dispatches_one {reading} {stands} {s} {world} {notes} {old} {device} {after} set
     let now = world.now in
     let stage = stage_of reading stands s world notes old device a.machine after (acts.Dispatch row cycle) a.of_it first_of above a.there a.due acted in
     let node = stage.0 in
-    let st = stage.1 in
+    let c = stage.1 in
+    let st = stage.2 in
     let may = may_act_now s device node now st.work.ready st.steady st.limit in
     let act = acted node st.is may st.task in
     let first = act.1.0 in
@@ -354,6 +356,7 @@ dispatches_one {reading} {stands} {s} {world} {notes} {old} {device} {after} set
       node = node;
       then_ = act.0;
       stood = act.2;
+      c = c;
       st = st;
       apart = λ x. x;
       acted = act.1;
@@ -366,12 +369,12 @@ dispatches_one {reading} {stands} {s} {world} {notes} {old} {device} {after} set
       set = set;
       put = put;
       makes = λ front back parts st2 none.
-          let it = has_dispatched_it stands s hs front back old.mark old.cursor now device a.machine after act.0 row
+          let it = has_dispatched_it stands s hs front back now device a.machine after act.0 row
           st2 first act.1
           act.1.1 act.2 is hand in
           record {
             so = dispatching_record front back row st2 first.pending first.due is hand;
-            told = row_told stands s hs front back old.mark old.cursor now device a.machine row st2 first.pending
+            told = row_told stands s hs front back now device a.machine row st2 first.pending
                 first.due is hand;
             it = it;
           };

@@ -55,13 +55,13 @@ abbrev pub emission_rest : DeviceId → Compressed → List ℕ
 emission_rest device c = device.0 ∷ amount c.opened ∷ amount c.at ∷ c.cycle ∷ c.members.0 ∷ sign c.opened.0 ∷ sign c.at.0 ∷ []
 
 emission_record : {M : Type 0} {stands : M → Network → DeviceId → Node → Type 0} {s : Scenario} {hs : List Happening}
-    (front back : List Happening) {mark cursor : List ℕ} {now : ℕ} {device : DeviceId} {machine : M} {node : Node}
-    (sent : Compressed) → StageAt stands s hs (front ++ back) mark cursor now device machine node 4
+    (front back : List Happening) {now : ℕ} {device : DeviceId} {machine : M} {node : Node}
+    (sent : Compressed) → StageAt stands s hs (front ++ back) now device machine node 4
     (emission_rest device sent) → IsPending s.network device node (emitting sent)
     → sent.at.0 ≤ℤ pos (s.reading device now) → StaysBy (own_judgement s.network device node sent)
     → IsActRecordAt s hs front back now device (emission_body device sent (own_judgement s.network device node sent))
     (now ∷ 4 ∷ emission_rest device sent)
-emission_record {stands} {s} {hs} front back {mark} {cursor} {now} {device} {machine} {node} sent st pending due stays =
+emission_record {stands} {s} {hs} front back {now} {device} {machine} {node} sent st pending due stays =
     let v = own_judgement s.network device node sent in
     let body = emission_body device sent v in
     let e = emits front back sent st.work refl pending due in
@@ -70,7 +70,7 @@ emission_record {stands} {s} {hs} front back {mark} {cursor} {now} {device} {mac
       here = IsSource.acting now device (emitting sent)
           (IsActing.emits sent v e);
       caused = e;
-      fresh = fresh_above stands s hs front back mark cursor now device machine node st
+      fresh = fresh_above stands s hs front back now device machine node st
           (record_of s.network hs front now body)
           (omega arith);
       apart = λ other not. (ne_eqb other.0 device.0 not, λ at. refl);
@@ -84,9 +84,9 @@ hears_none s device y (kinds.Compressed other opened at cycle members verdict) l
 hears_none s device y other late = refl
 
 has_emitted_it : {M : Type 0} {stands : M → Network → DeviceId → Node → Type 0} {s : Scenario} {hs : List Happening}
-    (front back : List Happening) {mark cursor : List ℕ} {now : ℕ} {device : DeviceId} {machine : M} (then_ : M)
+    (front back : List Happening) {now : ℕ} {device : DeviceId} {machine : M} (then_ : M)
     {node : Node} (after : Node) (sent : Compressed) (heard : Ripe)
-    → StageAt stands s hs (front ++ back) mark cursor now device machine node 4 (emission_rest device sent)
+    → StageAt stands s hs (front ++ back) now device machine node 4 (emission_rest device sent)
     → IsFirstTask s.network device node (moment_of s device now).reading.0 (emitting sent)
     → IsActOf s.network device node (moment_of s device now) (acts.Emit sent heard) after
     → after ≡ node_emitted s.network device node (moment_of s device now) sent
@@ -95,7 +95,7 @@ has_emitted_it : {M : Type 0} {stands : M → Network → DeviceId → Node → 
     (front
     ++ (record_of s.network hs front now (emission_body device sent (own_judgement s.network device node sent)))
     ∷ back) now device then_ node after
-has_emitted_it {stands} {s} {hs} front back {mark} {cursor} {now} {device} {machine} then_ {node} after sent heard st
+has_emitted_it {stands} {s} {hs} front back {now} {device} {machine} then_ {node} after sent heard st
     first act is stays stood =
     let v = own_judgement s.network device node sent in
     let w = record_of s.network hs front now (emission_body device sent v) in
@@ -112,7 +112,7 @@ has_emitted_it {stands} {s} {hs} front back {mark} {cursor} {now} {device} {mach
       work = emits_on front back st.work p x
           (λ z i. hears_none s device z z.note.body (st.above z (in_right z front back i))) first.due ready;
       cleared = λ n has. subst (λ st2. n < st2.number) (sym x.but.standing) (st.cleared n (subst (λ l. Contains l (correcting n)) x.done has));
-      taken = x.taken ∙ taken_then stands s hs front back mark cursor now device machine node w st refl (λ at. refl);
+      taken = x.taken ∙ taken_then stands s hs front back now device machine node w st refl (λ at. refl);
       phase = ap (λ (n : Node). n.phase) is ∙ called_phase s.network device node moment sent v;
     }
   where
@@ -155,7 +155,8 @@ emits_one {reading} {stands} {s} {world} {notes} {old} {device} {after} settled 
     let now = world.now in
     let stage = stage_of reading stands s world notes old device a.machine after (acts.Emit sent heard) a.of_it first_of above a.there a.due acted in
     let node = stage.0 in
-    let st = stage.1 in
+    let c = stage.1 in
+    let st = stage.2 in
     let may = may_act_now s device node now st.work.ready st.steady st.limit in
     let act = acted node st.is may st.task in
     let first = act.1.0 in
@@ -172,6 +173,7 @@ emits_one {reading} {stands} {s} {world} {notes} {old} {device} {after} settled 
       node = node;
       then_ = act.0;
       stood = act.2;
+      c = c;
       st = st;
       apart = λ x. x;
       acted = act.1;

@@ -31,7 +31,7 @@ point_ends : {C M : Type 0} {reading : C → ℕ → ℕ} {stands : M → Networ
 point_ends {reading} {stands} {s} {world} {notes} {device} {after} {old} a cycle (Corrected by) first apart acted due =
     let stage = stage_of reading stands s world notes old device a.machine after (acts.Correct cycle (Corrected by)) a.of_it first apart a.there a.due acted in
     let node = stage.0 in
-    let st = stage.1 in
+    let st = stage.2 in
     let now = world.now in
     let x = acted node st.is (may_act_now s device node now st.work.ready st.steady st.limit) st.task in
     let heard = x.1.1.0 in
@@ -45,7 +45,7 @@ point_ends {reading} {stands} {s} {world} {notes} {device} {after} {old} a cycle
 point_ends {reading} {stands} {s} {world} {notes} {device} {after} {old} a cycle SyncClique first apart acted due =
     let stage = stage_of reading stands s world notes old device a.machine after (acts.Correct cycle SyncClique) a.of_it first apart a.there a.due acted in
     let node = stage.0 in
-    let st = stage.1 in
+    let st = stage.2 in
     let now = world.now in
     let x = acted node st.is (may_act_now s device node now st.work.ready st.steady st.limit) st.task in
     let task = subst (λ n. HasTaskBy s device n now) x.1.1.2 (due x.0 x.2) in
@@ -53,7 +53,7 @@ point_ends {reading} {stands} {s} {world} {notes} {device} {after} {old} a cycle
 point_ends {reading} {stands} {s} {world} {notes} {device} {after} {old} a cycle AsyncClique first apart acted due =
     let stage = stage_of reading stands s world notes old device a.machine after (acts.Correct cycle AsyncClique) a.of_it first apart a.there a.due acted in
     let node = stage.0 in
-    let st = stage.1 in
+    let st = stage.2 in
     let now = world.now in
     let x = acted node st.is (may_act_now s device node now st.work.ready st.steady st.limit) st.task in
     let task = subst (λ n. HasTaskBy s device n now) x.1.1.2 (due x.0 x.2) in
@@ -62,7 +62,7 @@ point_ends {reading} {stands} {s} {world} {notes} {device} {after} {old} a cycle
     let hs = happenings s.network notes in
     let stage = stage_of reading stands s world notes old device a.machine after (acts.Correct cycle Cleared) a.of_it first apart a.there a.due acted in
     let node = stage.0 in
-    let st = stage.1 in
+    let st = stage.2 in
     let now = world.now in
     let x = acted node st.is (may_act_now s device node now st.work.ready st.steady st.limit) st.task in
     let task = x.1.0 in

@@ -4,11 +4,12 @@ use Rattle.world_law.proofs.growing.Growing.{place_first}
 use Rattle.world_law.proofs.acts.{Dues.{act_due, came_not, done_or}, NoActs.present}
 use Rattle.world_law.proofs.devices.Working.{came_sooner}
 use Rattle.world_law.specs.{device.Growing.IsFromZero, steps.Acting.{place_of_act, rank_of_act, task_of}}
-use Rattle.world_law.proofs.steps_lemmas.Words.{◌++◌, ◌<◌, ◌∙◌, ◌∷◌, ◌≡◌, ◌≤◌, Act, AreSettled, ComesFirst, DeviceId, HadComeTo, Happening, IsActOf}
-use Rattle.world_law.proofs.steps_lemmas.Words.{IsActing, IsBefore, IsFirstTask, IsIn, IsKept, IsLawful, IsMoving, IsSource, List, Moment, Network, Node, Note}
+use Rattle.world_law.proofs.steps_lemmas.Words.{◌++◌, ◌<◌, ◌∙◌, ◌∷◌, ◌≡◌, ◌≤◌, Act, ComesFirst, DeviceId, HadComeTo, Happening, IsActOf}
+use Rattle.world_law.proofs.steps_lemmas.Words.{IsActing, IsBefore, IsFirstTask, IsIn, IsKept, IsLawful, IsSource, List, Moment, Network, Node, Note}
 use Rattle.world_law.proofs.steps_lemmas.Words.{Pcf, Scenario, Stands, Task, World, [], amount, ap, arith, changed_at, doing, earlier, earlier_still, happenings}
 use Rattle.world_law.proofs.steps_lemmas.Words.{in_right, inl, inr, placed_so, points_of, points_same, pos, quiet_rest, rank, refl}
-use Rattle.world_law.proofs.steps_lemmas.Words.{same_device, second, sending, subst, sym, task_place, time_of, ℕ}
+use Rattle.world_law.proofs.steps_lemmas.Words.{same_device, sending, subst, sym, task_place, time_of, ℕ}
+use Rattle.world_law.proofs.putting.StandsOn.{IsNext}
 use Rattle.{run_law.specs.records.Ranks.sign, schedule_tables.specs.Dispatches.dispatch_order}
 use Rattle.run_law.specs.declared.steps.Act.TheVariants as acts
 
@@ -69,30 +70,30 @@ between t now k r d ws more v is b not =
     at (w ∷ ws) (inr (e, inr (f, inr (same, b)))) not = (e, f, (ws, ap (λ (n : ℕ). n ∷ ws) same))
 
 -- what a step starts from by which a device that is kept does its first task
-pub record IsActFirst {M : Type 0} (stands : M → Network → DeviceId → Node → Type 0) (s : Scenario) (hs coming : List Happening) (mark cursor : List ℕ)
-    (now : ℕ) (device : DeviceId) (machine : M) (task : Task) : Type 0 where
-  pub kept : IsKept stands s hs coming cursor now device machine
+pub record IsActFirst {M : Type 0} (stands : M → Network → DeviceId → Node → Type 0) (s : Scenario) (hs coming : List Happening)
+    (frontier : List ℕ) (now : ℕ) (device : DeviceId) (machine : M) (task : Task) : Type 0 where
+  pub kept : IsKept stands s hs coming frontier now device machine
   pub up : kept.up ≡ now
   pub first : IsFirstTask s.network device kept.node (pos (s.reading device now)) task
   pub zero : IsFromZero s.network device kept.node
   pub lawful : IsLawful s (hs ++ coming) device
-  pub are : AreSettled s hs coming mark cursor now
+  pub of_now : (z : Happening) → IsIn z coming → time_of z ≡ now
   pub past : (h : Happening) → IsIn h (hs ++ coming) → time_of h ≤ now
   pub late : (z : Happening) → IsIn z coming → 4 ≤ rank z.note.body
 
 module _ {M : Type 0} (stands : M → Network → DeviceId → Node → Type 0) (s : Scenario) (hs coming : List Happening)
-    (mark cursor : List ℕ) (now : ℕ) (device : DeviceId) (machine : M) (task : Task) where
+    (frontier : List ℕ) (now : ℕ) (device : DeviceId) (machine : M) (task : Task) where
   -- no act of the device that is not worked off stands before it
-  act_none : {other : Task} → IsActFirst stands s hs coming mark cursor now device machine task
+  act_none : {other : Task} → IsActFirst stands s hs coming frontier now device machine task
       → IsActing s hs now device other → IsBefore (task_place s.network now device other)
-      (task_place s.network now device task) → (IsBefore (task_place s.network now device other) cursor → ⊥) → ⊥
+      (task_place s.network now device task) → (IsBefore (task_place s.network now device other) frontier → ⊥) → ⊥
   act_none {other} x a b not =
       let js = hs ++ coming in
       let k = x.kept in
       let same : earlier now hs ≡ earlier now js =
-      sym (earlier_still now hs coming (λ z i. let at = x.are.of_now z i in omega (arith, at))) in
+      sym (earlier_still now hs coming (λ z i. let at = x.of_now z i in omega (arith, at))) in
       let points : points_of hs device ≡ points_of js device = sym (points_same coming hs device
-      (λ z i. (quiet_rest s device now z.note.body (k.still x.up z (in_right z hs coming i) (x.are.of_now z i)), x.late z i))) in
+      (λ z i. (quiet_rest s device now z.note.body (k.still x.up z (in_right z hs coming i) (x.of_now z i)), x.late z i))) in
       let w = present k x.up in
       elim (done_or k.node other) [
         | inr undone ↦
@@ -105,9 +106,9 @@ module _ {M : Type 0} (stands : M → Network → DeviceId → Node → Type 0) 
       ]
 
   -- no source is between, that is not worked off
-  act_sources : (r : ℕ) (more : List ℕ) → IsActFirst stands s hs coming mark cursor now device machine task
+  act_sources : (r : ℕ) (more : List ℕ) → IsActFirst stands s hs coming frontier now device machine task
       → task_place s.network now device task ≡ now ∷ r ∷ device.0 ∷ more → 4 ≤ r → r ≤ 6 → {v : List ℕ}
-      → IsSource s hs v → (IsBefore v cursor → ⊥) → IsBefore v (now ∷ r ∷ device.0 ∷ more)
+      → IsSource s hs v → (IsBefore v frontier → ⊥) → IsBefore v (now ∷ r ∷ device.0 ∷ more)
       → (IsBefore v (now ∷ r ∷ device.0 ∷ []) → ⊥) → ⊥
   act_sources r more x place late low {v} (IsSource.arriving t d link cause a) not b from =
       let at = between t now 2 r device.0 _ more v refl b from in let two = at.1 in omega (arith, two, late)
@@ -134,30 +135,27 @@ module _ {M : Type 0} (stands : M → Network → DeviceId → Node → Type 0) 
       act_none x here
       (subst (λ q. IsBefore (task_place s.network now device other) q) (sym place)
       (subst (λ q. IsBefore q (now ∷ r ∷ device.0 ∷ more)) there b))
-      (subst (λ q. IsBefore q cursor → ⊥) there not)
+      (subst (λ q. IsBefore q frontier → ⊥) there not)
 
 -- so it comes first
-pub act_moving : {C M : Type 0} {reading : C → ℕ → ℕ} {stands : M → Network → DeviceId → Node → Type 0}
+pub act_next : {C M : Type 0} {reading : C → ℕ → ℕ} {stands : M → Network → DeviceId → Node → Type 0}
     {s : Scenario} {world : World C M} {notes : List Note} {old : Stands reading stands s world notes}
     {device : DeviceId} {machine : M} (act : Act) → ComesFirst reading stands s world notes old
     (place_of_act world.now device act) → ((z : Happening) → IsIn z world.settled
     → rank_of_act act < rank z.note.body) → IsActFirst stands s
-    (happenings s.network notes) world.settled old.mark old.cursor world.now device machine (task_of act)
+    (happenings s.network notes) world.settled old.cursor world.now device machine (task_of act)
     → (IsBefore (world.now ∷ rank_of_act act ∷ act_rest s.network device act) old.cursor → ⊥)
-    → IsMoving s (happenings s.network notes) world.settled old.mark old.cursor world.now (rank_of_act act)
-    (act_rest s.network device act)
-act_moving {stands} {s} {world} {notes} {old} {device} {machine} act first apart x waits =
+    → IsNext old (world.now ∷ rank_of_act act ∷ act_rest s.network device act)
+act_next {stands} {s} {world} {notes} {old} {device} {machine} act first apart x waits =
     let high = late_rank act in
     record {
-      longer = λ same. (let two : 2 ≡ rank_of_act act = ap second same in omega (arith, two, high));
-      forward = old.forward;
-      are = old.are;
+      later = inr (refl, inl (omega (arith, high)));
       waits = waits;
       first = λ v source not b.
           elim (Rattle.run_law.proofs.runs.Places.before_or_not v (place_of_act world.now device act)) [
             | inl sooner ↦ first.none v source not sooner
             | inr from ↦
-                act_sources stands s (happenings s.network notes) world.settled old.mark old.cursor world.now device machine (task_of act) (rank_of_act act)
+                act_sources stands s (happenings s.network notes) world.settled old.cursor world.now device machine (task_of act) (rank_of_act act)
                 (act_more s.network act) x (act_stands s.network world.now device act) high (low_rank act) source not
                 b from
           ];
@@ -168,6 +166,4 @@ act_moving {stands} {s} {world} {notes} {old} {device} {machine} act first apart
             | inl lt ↦ omega (arith, lt, at)
             | inr c ↦ elim c.1 [ inl less ↦ omega (arith, less, more) | inr d ↦ let same = d.0 in omega (arith, same, more) ]
           ];
-      past = λ p b. old.ahead p (old.of_now p b);
-      ahead = old.ahead;
     }

@@ -2,7 +2,7 @@
 use Rattle.world_law.proofs.putting.{Bearing.frames_aside, PutShown.{IsShownPair, change_of, pair_put}}
 use Rattle.world_law.proofs.{putting.Placing.causes_given, steps_lemmas.acting.Work.{all_earlier, at_correction}}
 use Rattle.world_law.proofs.{putting.PutTwo.{IsPair, two_by}, steps_lemmas.acting.{CorrectSteps.{IsCorrecting, corrected_worked}, Correcting.joiner_over, Moves.IsCorrectedSo, Over.IsOver}}
-use Rattle.world_law.proofs.steps_lemmas.Words.{IsSource}
+use Rattle.world_law.proofs.steps_lemmas.Words.{StandsHere, IsSource}
 use Rattle.world_law.proofs.steps_lemmas.Words.{◌++◌, ◌+ℤ◌, ◌+◌, ◌<◌, ◌∙◌, ◌∷◌, ◌≡◌, ◌≤◌, ◌⊎◌, AreOfNetwork, ChangesState, Corrected, DeviceId, Happening}
 use Rattle.world_law.proofs.steps_lemmas.Words.{HasCleared, Integrating, IsActing, IsAllOfIt, IsCaused, IsHeld, IsIn, IsKept, IsNoTaking}
 use Rattle.world_law.proofs.steps_lemmas.Words.{IsOfThisTime, IsOwnSource, IsSet, Joining, List, Network, Node, NoneBefore, Note, NoteBody, Scenario, Some}
@@ -43,10 +43,10 @@ pub record IsActPair (s : Scenario) (hs mid : List Happening) (now r : ℕ) (mor
       → ChangesState s (hs ++ record_of s.network hs [] now body ∷ mid) device now state (length hs + 1) why
 
 pub two_go_by : {C M : Type 0} {reading : C → ℕ → ℕ} {stands : M → Network → DeviceId → Node → Type 0} {s : Scenario}
-    {world : World C M} {notes : List Note} (old : Stands reading stands s world notes) {device : DeviceId}
-    {machine after : M} {node : Node} {machines : List M} {settled : List Happening} {body : NoteBody}
-    {state : State} {why : Why} {r : ℕ} {more : List ℕ} → StageAt stands s
-    (happenings s.network notes) world.settled old.mark old.cursor world.now device machine node r more
+    {world : World C M} {notes : List Note} {device : DeviceId} {machine after : M} {node : Node} {machines : List M}
+    {settled : List Happening} {body : NoteBody} {state : State} {why : Why} {r : ℕ} {more : List ℕ}
+    (c : StandsHere reading stands s world notes r more) → StageAt stands s
+    (happenings s.network notes) world.settled world.now device machine node r more
     → (q : IsShownPair s.network (happenings s.network notes) world.now body device state why world.settled settled)
     → length notes + length world.settled + 2 < numbers_end
     → IsActPair s (happenings s.network notes) q.mid world.now r more device body state why
@@ -59,7 +59,7 @@ pub two_go_by : {C M : Type 0} {reading : C → ℕ → ℕ} {stands : M → Net
     → IsSet device.0 after world.machines machines
     → StandsBehind reading stands s (record world { early = false; machines = machines; settled = settled }) notes
     (behind (world.now ∷ r ∷ more))
-two_go_by {C} {M} {reading} {stands} {s} {world} {notes} old {device} {machine} {after} {node} {machines} {settled} {body} {state} {why} {r} {more} st q room a all kept set =
+two_go_by {C} {M} {reading} {stands} {s} {world} {notes} {device} {machine} {after} {node} {machines} {settled} {body} {state} {why} {r} {more} c st q room a all kept set =
     let hs = happenings s.network notes in
     let now = world.now in
     let coming = world.settled in
@@ -69,10 +69,10 @@ two_go_by {C} {M} {reading} {stands} {s} {world} {notes} old {device} {machine} 
     let high = st.late in
     let low = st.low in
     let ranks : rank body ≡ r = ap second a.stands in
-    let pair : IsPair s old.mark old.cursor r more q = record {
-      one = one_caused stands s hs [] coming old.mark old.cursor now device machine node st
+    let pair : IsPair s r more q = record {
+      one = one_caused stands s hs [] coming now device machine node st
           (λ z i. absurd i) q.first a.caused a.own a.here
-          (fresh_above stands s hs [] coming old.mark old.cursor now device machine node st w (omega (arith, ranks)));
+          (fresh_above stands s hs [] coming now device machine node st w (omega (arith, ranks)));
       no_event = λ one. omega (arith, one, ranks, high);
       low = low;
       acts = a.acts;
@@ -86,12 +86,12 @@ two_go_by {C} {M} {reading} {stands} {s} {world} {notes} old {device} {machine} 
     let apart_v : (other : DeviceId) → (other.0 ≡ device.0 → ⊥) → bears_on other v.note.body ≡ false = λ other not. ne_eqb other.0 device.0 not in
     subst (λ (l : List Happening). StandsBehind reading stands s (record world { early = false; machines = machines; settled = l }) notes (behind here))
     (sym q.shows)
-    (acts_on old r more high low st.moving (omega (arith, long, between, one_more, room)) (two_by pair all)
+    (acts_on c high low (omega (arith, long, between, one_more, room)) (two_by pair all)
     (known_aside hs (w ∷ q.mid) q.back v (λ other le. moves_no_other other v.note.body
     (apart_v other (λ e. let lt = st.of_it in omega (arith, e, lt, le))))
     (subst (λ (l : List Happening). AreOfNetwork s (hs ++ w ∷ l)) q.parts
-    (known_aside hs [] coming w (λ other le. no_row_of s device other body st.of_it a.apart le) old.known)))
-    (devices_then old r more device st.moving (λ other not task same. not (st.own other task same)) set (inl kept)
+    (known_aside hs [] coming w (λ other le. no_row_of s device other body st.of_it a.apart le) c.old.known)))
+    (devices_then c device (λ other not task same. not (st.own other task same)) set (inl kept)
     (λ other m not held.
     let y = a.apart other not in
     held_aside s hs (w ∷ q.mid) q.back v other (apart_v other not) refl
@@ -113,7 +113,8 @@ first_goes_by {reading} {stands} {s} {world} {notes} {old} {device} {machine} {a
     let now = world.now in
     let stage = stage_of reading stands s world notes old device machine after (acts.Correct cycle (Corrected by)) x.of_it x.first x.apart x.there x.due x.acted in
     let node = stage.0 in
-    let st = stage.1 in
+    let c = stage.1 in
+    let st = stage.2 in
     let may = may_act_now s device node now st.work.ready st.steady st.limit in
     let act = x.acted node st.is may st.task in
     let first = act.1.0 in
@@ -135,13 +136,13 @@ first_goes_by {reading} {stands} {s} {world} {notes} {old} {device} {machine} {a
     let q : IsShownPair s.network hs now body device Synchronised whys.Correction world.settled settled = subst
     (λ l. IsShownPair s.network hs now body device Synchronised whys.Correction world.settled l) (sym x.put.2.2)
     (two_shown s.network hs now body device Synchronised whys.Correction (omega arith) (omega arith)
-    (λ z i b. st.moving.after z i b) (causes_given st.moving (omega arith)) x.put.1 x.put.2.1) in
+    st.moving.are.behind_mark (causes_given st.moving (omega arith)) x.put.1 x.put.2.1) in
     let w = record_of s.network hs [] now body in
     let v = change_of s.network hs now body q.mid device Synchronised whys.Correction in
     let new1 = w ∷ world.settled in
     let new = pair_put s.network hs now body q.mid device Synchronised whys.Correction q.back in
-    let st3 : StageAt stands s hs (q.mid ++ q.back) old.mark old.cursor now device machine node 6 (device.0 ∷ []) =
-    subst (λ l. StageAt stands s hs l old.mark old.cursor now device machine node 6 (device.0 ∷ [])) q.parts st in
+    let st3 : StageAt stands s hs (q.mid ++ q.back) now device machine node 6 (device.0 ∷ []) =
+    subst (λ l. StageAt stands s hs l now device machine node 6 (device.0 ∷ [])) q.parts st in
     let so : IsCorrectedSo s device (now + 1) node w cycle by adjustment (moment_of s device now) = record {
       body = refl;
       before = omega arith;
@@ -164,14 +165,14 @@ first_goes_by {reading} {stands} {s} {world} {notes} {old} {device} {machine} {a
     (as_put now v refl (omega arith)) (omega arith) in
     let mid_now : (z : Happening) → IsIn z (w ∷ q.mid) → time_of z ≡ now = λ z i.
     g1.of_now z (subst (λ l. IsIn z (w ∷ l)) (sym q.parts) (in_left z (w ∷ q.mid) q.back i)) in
-    let c = corrected_cause stands s hs [] world.settled old.mark old.cursor now device machine node cycle by
+    let due = corrected_cause stands s hs [] world.settled now device machine node cycle by
     adjustment st point sum_is q.first in
-    two_go_by old st q x.first.room
+    two_go_by c st q x.first.room
     (record {
       own = λ m. refl;
       here = IsSource.acting now device (doing (correcting cycle))
           (IsActing.corrects cycle (at_correction s hs world.settled [] now device node cycle st.work (λ z i. absurd i) point.pending point.due));
-      caused = c;
+      caused = due;
       stands = refl;
       acts = λ six. refl;
       apart = λ other not. (ne_eqb other.0 device.0 not, λ at. refl);
@@ -187,7 +188,7 @@ first_goes_by {reading} {stands} {s} {world} {notes} {old} {device} {machine} {a
     (all_point st.work point g2 (w, inl refl, refl))
     (kept_over stands {hs = hs} {new = new} {cursor = behind (rows_place now device)} after act.2 st.work.sound over
     ready cleared
-    (ap (λ (m : Node). m.taken) is ∙ taken_then stands s hs [] world.settled old.mark old.cursor now device machine
+    (ap (λ (m : Node). m.taken) is ∙ taken_then stands s hs [] world.settled now device machine
     node w st refl
     (λ at. refl) ∙ ap (λ (l : List Happening). frames_taken s (hs ++ w ∷ l) device) q.parts
     ∙ frames_put s hs (w ∷ q.mid) q.back now v device

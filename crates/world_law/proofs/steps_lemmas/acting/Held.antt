@@ -26,12 +26,12 @@ stored_of : {hs : List Happening} {stored : List Stored} (device : DeviceId) (vl
 stored_of device vl taking e are last there of_device of_vl = grind arith
 
 -- a switch that has to dispatch a row of which it is not the sender holds its frame
-pub held_frame : {M : Type 0} (stands : M → Network → DeviceId → Node → Type 0) (s : Scenario) (hs coming : List Happening) (mark cursor : List ℕ) (now : ℕ)
+pub held_frame : {M : Type 0} (stands : M → Network → DeviceId → Node → Type 0) (s : Scenario) (hs coming : List Happening) (now : ℕ)
     (device : DeviceId) (machine : M) (node : Node) (row : RowId) (cycle : ℕ) (stored : List Stored) (r : ℕ) (more : List ℕ)
-    → StageAt stands s hs coming mark cursor now device machine node r more → AreStored hs stored → (p : IsPending s.network device node (doing (dispatching row cycle)))
+    → StageAt stands s hs coming now device machine node r more → AreStored hs stored → (p : IsPending s.network device node (doing (dispatching row cycle)))
     → reading_for s.network node (doing (dispatching row cycle)) ≤ℤ pos (s.reading device now)
     → (p.1.own.1.entry.vl.sender ≡ device → ⊥) → IsHeldFrame s hs stored now device p.1.own.1.entry cycle
-held_frame stands s hs coming mark cursor now device machine node row cycle stored r more st are p due other =
+held_frame stands s hs coming now device machine node row cycle stored r more st are p due other =
     let has : HasFrame s.network device node row cycle = p.1.own.1 in
     let entry = has.entry in
     let reached : Reaches s (hs ++ coming) device (pos (cycle * amount s.network.cycle + amount entry.row.offset)) now =

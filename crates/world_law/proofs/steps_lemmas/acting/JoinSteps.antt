@@ -1,6 +1,6 @@
--- A compression master emits a frame that tells it the time itself, and the cursor goes by.
+-- A compression master emits a frame that tells it the time itself, and the frontier goes by.
 use Rattle.run_law.proofs.control.Verdicts.{heard_integrates}
-use Rattle.world_law.proofs.steps_lemmas.Words.{HasActed, HasCleared, HasDoneTask, HasTurnedOn, Integrating, IsActing, IsAtRest, IsBefore, IsDueNow, IsIn}
+use Rattle.world_law.proofs.steps_lemmas.Words.{turned_by, HasActed, HasCleared, HasDoneTask, HasTurnedOn, Integrating, IsActing, IsAtRest, IsBefore, IsDueNow, IsIn}
 use Rattle.world_law.proofs.steps_lemmas.Words.{IsSet, IsSource, Joining, Judgement, List, Moment, Network, Node, Note, NoteBody, Scenario, Some, Stands}
 use Rattle.world_law.proofs.steps_lemmas.Words.{StandsBehind, Task, World, ℕ, [], ap, append-nil, arith, bears_on, behind, both_ways, cases_Bool}
 use Rattle.world_law.proofs.steps_lemmas.Words.{correcting, doing, earlier, emitting, eq-eqb, eqb-true, false, frames_taken, happenings, if◌then◌else◌}
@@ -10,7 +10,7 @@ use Rattle.world_law.proofs.steps_lemmas.Words.{◌++◌, ◌+◌, ◌<◌, ◌�
 use Rattle.world_law.proofs.steps_lemmas.acting.{EmitSteps.{emission_body, emission_rest}, GoesOn.{earlier_put, node_emitted, put_now}, OneAct.all_one}
 use Rattle.world_law.proofs.steps_lemmas.acting.{Kept.{bare_act, frames_put, kept_over, may_act_now, ready_after}, Over.IsOver, Sending.{as_put, taken_then}}
 use Rattle.world_law.proofs.steps_lemmas.acting.{Stage.stage_of, Work.{IsAtWork, all_earlier, emits, own_judgement}}
-use Rattle.world_law.proofs.steps_lemmas.{Words.{subst, sym, time_of, true, turned_aside, turned_moves, two_shown}, acting.JoinsBy.{ChangesIt, joined_over}}
+use Rattle.world_law.proofs.steps_lemmas.{Words.{subst, sym, time_of, true, turned_aside, two_shown}, acting.JoinsBy.{ChangesIt, joined_over}}
 use Rattle.world_law.proofs.{putting.Placing.causes_given, putting.PutShown.{IsShownPair, change_of, pair_put}, steps_lemmas.acting.FirstStep.two_go_by}
 use Rattle.world_law.specs.steps.Acting.{place_of_act}
 use Rattle.run_law.specs.declared.judgement.Judgement.TheVariants as judgements
@@ -117,7 +117,8 @@ join_goes_by {reading} {stands} {s} {world} {notes} {old} {device} {machine} {af
     let now = world.now in
     let stage = stage_of reading stands s world notes old device machine after (acts.Emit sent ripe.Integrates) x.of_it x.first x.apart x.there x.due x.acted in
     let node = stage.0 in
-    let st = stage.1 in
+    let c = stage.1 in
+    let st = stage.2 in
     let moment = moment_of s device now in
     let may = may_act_now s device node now st.work.ready st.steady st.limit in
     let act = x.acted node st.is may st.task in
@@ -136,7 +137,7 @@ join_goes_by {reading} {stands} {s} {world} {notes} {old} {device} {machine} {af
     let q : IsShownPair s.network hs now body device Joining whys.Frame world.settled settled = subst
     (λ l. IsShownPair s.network hs now body device Joining whys.Frame world.settled l) (sym x.put.2.2)
     (two_shown s.network hs now body device Joining whys.Frame (omega arith) (omega arith)
-    (λ z i b. st.moving.after z i b) sole x.put.1 x.put.2.1) in
+    st.moving.are.behind_mark sole x.put.1 x.put.2.1) in
     let n = length hs in
     let w = record_of s.network hs [] now body in
     let v = change_of s.network hs now body q.mid device Joining whys.Frame in
@@ -187,11 +188,11 @@ join_goes_by {reading} {stands} {s} {world} {notes} {old} {device} {machine} {af
     turned_aside s hs (w ∷ q.mid) q.back v device
     (subst (λ l. HasTurnedOn s hs (w ∷ l) here device now) q.parts
     (turned_aside s hs [] world.settled w device
-    (turned_moves s hs world.settled old.mark old.cursor now 4 more st.moving (st.turned on))
+    (turned_by st.moving (st.turned on))
     (ap (λ l. state_after s l device)
     (earlier_put s hs [] world.settled now device node st.work put1))))
     (ap (λ l. state_after s l device) earlier2) in
-    two_go_by old st q x.first.room
+    two_go_by c st q x.first.room
     (record {
       own = λ m. refl;
       here = IsSource.acting now device (emitting sent) (IsActing.emits sent judgements.Integrates e);
@@ -205,7 +206,7 @@ join_goes_by {reading} {stands} {s} {world} {notes} {old} {device} {machine} {af
     })
     (all_one s hs new now 4 more w (omega arith) (omega arith) there refl)
     (kept_over stands {hs = hs} {new = new} {cursor = here} after act.2 st.work.sound over ready cleared
-    (ap (λ (m : Node). m.taken) is ∙ taken_then stands s hs [] world.settled old.mark old.cursor now device machine
+    (ap (λ (m : Node). m.taken) is ∙ taken_then stands s hs [] world.settled now device machine
     node w st refl none_w
     ∙ ap (λ (l : List Happening). frames_taken s (hs ++ w ∷ l) device) q.parts
     ∙ frames_put s hs (w ∷ q.mid) q.back now v device

@@ -1,15 +1,15 @@
--- A device acts, and puts one record: how it stands then, as the cursor goes by.
+-- A device acts, and puts one record: how it stands then, as the frontier goes by.
 use Rattle.world_law.proofs.acts.Dues.{IsDueTask, act_due, done_or}
 use Rattle.world_law.proofs.growing.Growing.{IsCorrection, what_is_left}
 use Rattle.world_law.proofs.putting.{Moving.stays, Placing.own_here}
 use Rattle.{run_law.proofs.runs.Places.nothing_between, schedule_tables.specs.Dispatches.dispatch_order}
-use Rattle.world_law.proofs.steps_lemmas.Words.{◌++◌, ◌+◌, ◌-ℤ◌, ◌<◌, ◌∙◌, ◌∷◌, ◌≡◌, ◌≤ℤ◌, ◌≤◌, ◌⊎◌, Act, ArePutIn, DeviceId, HadComeTo, Happening}
+use Rattle.world_law.proofs.steps_lemmas.Words.{StandsHere, ◌++◌, ◌+◌, ◌-ℤ◌, ◌<◌, ◌∙◌, ◌∷◌, ◌≡◌, ◌≤ℤ◌, ◌≤◌, ◌⊎◌, Act, ArePutIn, DeviceId, HadComeTo, Happening}
 use Rattle.world_law.proofs.steps_lemmas.Words.{HasDoneTask, HasTurnedOn, IsActOf, IsActing, IsAllOfIt, IsBefore, IsIn, IsLawful, IsOwnSource}
 use Rattle.world_law.proofs.steps_lemmas.Words.{IsSet, IsShownPut, List, Network, Node, NoneBefore, Note, NoteBody, Scenario, Stands, StandsBehind, Task, Units}
 use Rattle.world_law.proofs.steps_lemmas.Words.{World, [], ap, arith, before_behind, behind, cause_of, changed_at, doing, earlier}
 use Rattle.world_law.proofs.steps_lemmas.Words.{earlier_still, emitting, happenings, in_right, inl, inr, is_at_source, is_turned_on_at, length}
 use Rattle.world_law.proofs.steps_lemmas.Words.{members_in, moment_of, numbers_end, one_shown, place_of, points_of, points_same, pos, quiet_rest, rank}
-use Rattle.world_law.proofs.steps_lemmas.Words.{record_of, refl, second, subst, sym, task_place, time_of, true, turned_moves, value_of, ℕ}
+use Rattle.world_law.proofs.steps_lemmas.Words.{record_of, refl, second, subst, sym, task_place, time_of, true, value_of, ℕ}
 use Rattle.world_law.specs.{device.Told.change_in, steps.Acting.{rank_of_act, task_of}}
 use Rattle.world_law.proofs.steps_lemmas.acting.{Dispatches.{TellsRow, all_row}, First.{act_rest, act_stands}, GoesOn.earlier_put, Kept.{bare_act, kept_on, may_act_now}}
 use Rattle.world_law.proofs.steps_lemmas.acting.{Sending.{HasSentIt, as_put, turned_then}, Stage.{IsActRecordAt, StageOf, lawful_then, one_goes_by}}
@@ -35,7 +35,8 @@ pub record IsOneAct {C M : Type 0} (reading : C → ℕ → ℕ) (stands : M →
   pub node : Node
   pub then_ : Node
   pub stood : stands after s.network device then_
-  pub st : StageOf stands s (happenings s.network notes) world.settled old.mark old.cursor world.now device machine node act
+  pub c : StandsHere reading stands s world notes (rank_of_act act) (act_rest s.network device act)
+  pub st : StageOf stands s (happenings s.network notes) world.settled world.now device machine node act
   pub apart : IsCorrection (task_of act) → ⊥
   pub acted : IsActOf s.network device node (moment_of s device world.now) act then_
   pub adjustment : then_.standing.adjustment ≡ node.standing.adjustment
@@ -49,7 +50,7 @@ pub record IsOneAct {C M : Type 0} (reading : C → ℕ → ℕ) (stands : M →
   pub set : IsSet device.0 after world.machines machines
   pub put : ArePutIn s.network (happenings s.network notes) world.now (body ∷ []) world.settled settled
   pub makes : (front back : List Happening) → world.settled ≡ front ++ back
-      → StageOf stands s (happenings s.network notes) (front ++ back) old.mark old.cursor world.now device machine node act
+      → StageOf stands s (happenings s.network notes) (front ++ back) world.now device machine node act
       → NoneBefore place_of back (place_of (record_of s.network (happenings s.network notes) front world.now body))
       → IsMadeSo stands s (happenings s.network notes) front back world.now device after node then_ body
       (world.now ∷ rank_of_act act ∷ act_rest s.network device act)
@@ -155,7 +156,7 @@ still_came s device node then_ changed again now (doing deed) adjustment same x 
 
 -- ---- the steps
 
--- it acts, and the cursor goes by
+-- it acts, and the frontier goes by
 pub act_goes_by : {C M : Type 0} {reading : C → ℕ → ℕ} {stands : M → Network → DeviceId → Node → Type 0}
     {s : Scenario} {world : World C M} {notes : List Note} {old : Stands reading stands s world notes}
     {device : DeviceId} {machine after : M} {machines : List M} {settled : List Happening} {act : Act}
@@ -173,14 +174,14 @@ act_goes_by {C} {M} {stands} {s} {world} {notes} {old} {device} {machine} {after
     let p = shown_act x in
     let w = record_of s.network hs p.front now x.body in
     let new = p.front ++ w ∷ p.back in
-    let st2 : StageOf stands s hs (p.front ++ p.back) old.mark old.cursor now device machine x.node act =
-    subst (λ l. StageOf stands s hs l old.mark old.cursor now device machine x.node act) p.parts x.st in
+    let st2 : StageOf stands s hs (p.front ++ p.back) now device machine x.node act =
+    subst (λ l. StageOf stands s hs l now device machine x.node act) p.parts x.st in
     let made = x.makes p.front p.back p.parts st2 p.none in
     let it = made.it in
     let put = as_put now w refl x.late in
     let earlier_same = earlier_put s hs p.front p.back now device x.node st2.work put in
-    let law = lawful_then stands s hs p.front p.back old.mark old.cursor now device machine x.node st2 p.before
-    p.none made.so old.run.within in
+    let law = lawful_then stands s hs p.front p.back now device machine x.node st2 p.before
+    p.none made.so in
     let may = may_act_now s device x.node now x.st.work.ready x.st.steady x.st.limit in
     let none_due : (task : Task) → IsDueTask s device x.then_ now task → IsBefore (task_place s.network now device task) here → ⊥ = λ task due b.
     let far = what_is_left s.network now device x.then_ act task old.range old.rules x.st.zero may x.acted x.apart
@@ -189,8 +190,7 @@ act_goes_by {C} {M} {stands} {s} {world} {notes} {old} {device} {machine} {after
     nothing_between at (task_place s.network now device task)
     (subst (λ q. IsBefore q (task_place s.network now device task)) (act_stands s.network now device act) far) b in
     let turned : is_turned_on_at s device now ≡ true → HasTurnedOn s hs new here device now =
-    turned_then stands s hs p.front p.back old.mark old.cursor now device machine x.node here st2 put
-    (λ t. turned_moves s hs (p.front ++ p.back) old.mark old.cursor now r more st2.moving t) in
+    turned_then stands s hs p.front p.back now device machine x.node st2 put in
     let same : earlier now hs ≡ earlier now (hs ++ new) = sym (earlier_still now hs new (λ z i. let t = (it.work.of_now z i).0 in omega (arith, t))) in
     let points : points_of hs device ≡ points_of (hs ++ new) device = sym (points_same new hs device (λ z i. let t = it.work.of_now z i in
     (quiet_rest s device now z.note.body (it.work.still z (in_right z hs new i) t.0), t.1))) in
@@ -203,11 +203,11 @@ act_goes_by {C} {M} {stands} {s} {world} {notes} {old} {device} {machine} {after
       | inr e ↦ inr (subst (λ q. IsBefore q here) (sym e) (before_behind at))
       | inl before ↦ elim (st2.worked task before) [
         | inl sooner ↦ inl (still_came s device x.node x.then_ _ _ now task x.adjustment (ap (change_in device) earlier_same) sooner)
-        | inr gone ↦ inr (stays st2.moving _ gone)
+        | inr gone ↦ inr (stays at (task_place s.network now device task) gone)
       ]
     ] in
     let there : IsIn w new = in_right w p.front (w ∷ p.back) (inl refl) in
-    one_goes_by old x.st p (omega (arith, room)) made.so
+    one_goes_by x.c x.st p (omega (arith, room)) made.so
     (all_of_act hs new now x.node x.then_ act w x.acted law (λ z i. (it.work.of_now z i).0) made.told x.apart there
     (λ low. x.at_place low p.front))
     x.set

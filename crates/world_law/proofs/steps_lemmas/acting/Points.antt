@@ -247,11 +247,11 @@ not_moved s device now body off (inr on) e = let bad : false ≡ true = sym off 
 -- ---- the records
 
 module _ {M : Type 0} (stands : M → Network → DeviceId → Node → Type 0) (s : Scenario)
-    (hs front back : List Happening) (mark cursor : List ℕ) (now : ℕ) (device : DeviceId) (machine : M) (node : Node)
+    (hs front back : List Happening) (now : ℕ) (device : DeviceId) (machine : M) (node : Node)
     (cycle : ℕ) where
   -- what causes it
   pub corrected_cause : {heard : Summary} (by adjustment : Units)
-      → StageAt stands s hs (front ++ back) mark cursor now device machine node 6 (device.0 ∷ [])
+      → StageAt stands s hs (front ++ back) now device machine node 6 (device.0 ∷ [])
       → IsAtPoint s device now node cycle heard (Corrected by) → adjustment.0 ≡ (node.standing.adjustment.0 +ℤ by.0)
       → NoneBefore place_of back
       (place_of (record_of s.network hs front now (kinds.Corrected device cycle by adjustment)))
@@ -273,7 +273,7 @@ module _ {M : Type 0} (stands : M → Network → DeviceId → Node → Type 0) 
 
   -- a correction
   pub corrected_record : {heard : Summary} (by adjustment : Units)
-      → StageAt stands s hs (front ++ back) mark cursor now device machine node 6 (device.0 ∷ [])
+      → StageAt stands s hs (front ++ back) now device machine node 6 (device.0 ∷ [])
       → is_turned_on_at s device now ≡ false → IsAtPoint s device now node cycle heard (Corrected by)
       → adjustment.0 ≡ (node.standing.adjustment.0 +ℤ by.0) → NoneBefore place_of back
       (place_of (record_of s.network hs front now (kinds.Corrected device cycle by adjustment)))
@@ -297,7 +297,7 @@ module _ {M : Type 0} (stands : M → Network → DeviceId → Node → Type 0) 
             (IsActing.corrects cycle (at_correction s hs (front ++ back) front now device node cycle st.work also
             p.pending p.due));
         caused = record { corrected = c; sum = sum ∙ ap (λ (a : Units). a.0 +ℤ by.0) stood };
-        fresh = fresh_above stands s hs front back mark cursor now device machine node st w (omega arith);
+        fresh = fresh_above stands s hs front back now device machine node st w (omega arith);
         apart = λ other not. (ne_eqb other.0 device.0 not, λ at. refl);
         lone = lone;
       }
@@ -308,10 +308,10 @@ pub data IsClique : Verdict → Why → Type 0 where
   outnumbered : IsClique AsyncClique whys.AsyncClique
 
 module _ {M : Type 0} (stands : M → Network → DeviceId → Node → Type 0) (s : Scenario)
-    (hs front back : List Happening) (mark cursor : List ℕ) (now : ℕ) (device : DeviceId) (machine : M) (node : Node)
+    (hs front back : List Happening) (now : ℕ) (device : DeviceId) (machine : M) (node : Node)
     (cycle : ℕ) where
   pub clique_record : {heard : Summary} (verdict : Verdict) (why : Why)
-      → StageAt stands s hs (front ++ back) mark cursor now device machine node 6 (device.0 ∷ [])
+      → StageAt stands s hs (front ++ back) now device machine node 6 (device.0 ∷ [])
       → is_turned_on_at s device now ≡ false → IsAtPoint s device now node cycle heard verdict → IsClique verdict why
       → NoneBefore place_of back (place_of (record_of s.network hs front now (kinds.State device Integrating 0 why)))
       → IsActRecordAt s hs front back now device (kinds.State device Integrating 0 why) (rows_place now device)

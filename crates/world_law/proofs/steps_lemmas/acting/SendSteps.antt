@@ -25,7 +25,8 @@ sends_one {reading} {stands} {s} {world} {notes} {old} {device} {after} settled 
     let now = world.now in
     let stage = stage_of reading stands s world notes old device a.machine after (acts.Send frame) a.of_it first_of apart a.there a.due acted in
     let node = stage.0 in
-    let st = stage.1 in
+    let c = stage.1 in
+    let st = stage.2 in
     let may = may_act_now s device node now st.work.ready st.steady st.limit in
     let act = acted node st.is may st.task in
     let cycle = act.1.0 in
@@ -36,6 +37,7 @@ sends_one {reading} {stands} {s} {world} {notes} {old} {device} {after} settled 
       node = node;
       then_ = act.0;
       stood = act.2;
+      c = c;
       st = st;
       apart = λ x. x;
       acted = act.1;
@@ -51,11 +53,11 @@ sends_one {reading} {stands} {s} {world} {notes} {old} {device} {after} settled 
       set = set;
       put = subst (λ (n : ℕ). ArePutIn s.network hs now (kinds.Sent device n ∷ []) world.settled settled) same_cycle put;
       makes = λ front back parts st2 none.
-          let st3 : StageAt stands s hs (front ++ back) old.mark old.cursor now device a.machine node 5 (device.0 ∷ cycle ∷ []) =
-          subst (λ (n : ℕ). StageAt stands s hs (front ++ back) old.mark old.cursor now device a.machine node 5 (device.0 ∷ n ∷ [])) same_cycle st2 in
+          let st3 : StageAt stands s hs (front ++ back) now device a.machine node 5 (device.0 ∷ cycle ∷ []) =
+          subst (λ (n : ℕ). StageAt stands s hs (front ++ back) now device a.machine node 5 (device.0 ∷ n ∷ [])) same_cycle st2 in
           record {
             so = subst (λ (n : ℕ). IsActRecordAt s hs front back now device (kinds.Sent device cycle) (now ∷ 5 ∷ device.0 ∷ n ∷ [])) (sym same_cycle)
-                (sending_record stands s hs front back old.mark old.cursor now device a.machine node cycle st3 first.pending first.due);
+                (sending_record stands s hs front back now device a.machine node cycle st3 first.pending first.due);
             told = λ order e. (let five : 5 ≡ 6 = ap second e in absurd (omega (arith, five)));
             it = has_sent_it front back after act.0 frame cycle st3 first act.1 act.1.3 act.2;
           };

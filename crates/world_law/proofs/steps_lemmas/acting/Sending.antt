@@ -1,6 +1,6 @@
 -- A device sends the frame of a cycle.
 use Rattle.std.proofs.Common.{Contains}
-use Rattle.world_law.proofs.steps_lemmas.Words.{◌⊎◌, ClockTask, HasDoneTask, Moment, Task, emitting, task_place}
+use Rattle.world_law.proofs.steps_lemmas.Words.{turned_by, behind, ◌⊎◌, ClockTask, HasDoneTask, Moment, Task, emitting, task_place}
 use Rattle.world_law.proofs.steps_lemmas.Words.{IsSource}
 use Rattle.world_law.proofs.steps_lemmas.Words.{◌++◌, ◌∙◌, ◌∷◌, ◌≡◌, ◌≤ℤ◌, ◌≤◌, Contains-push_cases, DeviceId, Happening}
 use Rattle.world_law.proofs.steps_lemmas.Words.{HasCleared, HasTurnedOn, IsActOf, IsActing, IsFirstTask, IsNoTaking, IsPending}
@@ -19,26 +19,25 @@ pub as_put : (now : ℕ) (w : Happening) → time_of w ≡ now → 4 ≤ rank w.
 as_put now w at late = record { at = at; late = late }
 
 module _ {M : Type 0} (stands : M → Network → DeviceId → Node → Type 0) (s : Scenario)
-    (hs front back : List Happening) (mark cursor : List ℕ) (now : ℕ) (device : DeviceId) (machine : M)
+    (hs front back : List Happening) (now : ℕ) (device : DeviceId) (machine : M)
     (node : Node) where
   -- what it took, and that it was turned on, are told by the records with the new one
   pub taken_then : (w : Happening) {r : ℕ} {more : List ℕ}
-      → StageAt stands s hs (front ++ back) mark cursor now device machine node r more → time_of w ≡ now
+      → StageAt stands s hs (front ++ back) now device machine node r more → time_of w ≡ now
       → IsNoTaking device w.note.body → node.taken ≡ frames_taken s (hs ++ (front ++ w ∷ back)) device
   taken_then w st at none =
       st.taken ∙ frames_put s hs front back now w device st.work.past at none
 
-  pub turned_then : {w : Happening} (then_ : List ℕ) {r : ℕ} {more : List ℕ}
-      → StageAt stands s hs (front ++ back) mark cursor now device machine node r more → IsPutAs now w
-      → (HasTurnedOn s hs (front ++ back) cursor device now → HasTurnedOn s hs (front ++ back) then_ device now)
-      → is_turned_on_at s device now ≡ true → HasTurnedOn s hs (front ++ w ∷ back) then_ device now
-  turned_then {w} then_ st p goes on =
-      turned_aside s hs front back w device (goes (st.turned on))
+  pub turned_then : {w : Happening} {r : ℕ} {more : List ℕ}
+      → StageAt stands s hs (front ++ back) now device machine node r more → IsPutAs now w
+      → is_turned_on_at s device now ≡ true → HasTurnedOn s hs (front ++ w ∷ back) (behind (now ∷ r ∷ more)) device now
+  turned_then {w} st p on =
+      turned_aside s hs front back w device (turned_by st.moving (st.turned on))
       (ap (λ l. state_after s l device) (earlier_put s hs front back now device node st.work p))
 
   -- ---- it sends
 
-  pub sending_record : (cycle : ℕ) → StageAt stands s hs (front ++ back) mark cursor now device machine node 5
+  pub sending_record : (cycle : ℕ) → StageAt stands s hs (front ++ back) now device machine node 5
       (device.0 ∷ cycle ∷ []) → IsPending s.network device node (doing (sending cycle))
       → reading_for s.network node (doing (sending cycle)) ≤ℤ pos (s.reading device now)
       → IsActRecordAt s hs front back now device (kinds.Sent device cycle) (now ∷ 5 ∷ device.0 ∷ cycle ∷ [])
@@ -50,7 +49,7 @@ module _ {M : Type 0} (stands : M → Network → DeviceId → Node → Type 0) 
         here = IsSource.acting now device (doing (sending cycle))
             (IsActing.sends cycle d);
         caused = d;
-        fresh = fresh_above stands s hs front back mark cursor now device machine node st
+        fresh = fresh_above stands s hs front back now device machine node st
             (record_of s.network hs front now (kinds.Sent device cycle)) (omega arith);
         apart = λ other not. (refl, λ at. refl);
         lone = last_unfollowed s hs now (kinds.Sent device cycle) refl;
@@ -66,15 +65,15 @@ pub record HasSentIt {M : Type 0} (stands : M → Network → DeviceId → Node 
   pub phase : after.phase ≡ acting
 
 pub has_sent_it : {M : Type 0} {stands : M → Network → DeviceId → Node → Type 0} {s : Scenario} {hs : List Happening}
-    (front back : List Happening) {mark cursor : List ℕ} {now : ℕ} {device : DeviceId} {machine : M} (then_ : M)
+    (front back : List Happening) {now : ℕ} {device : DeviceId} {machine : M} (then_ : M)
     {node : Node} (after : Node) (frame : Pcf) (cycle : ℕ)
-    → StageAt stands s hs (front ++ back) mark cursor now device machine node 5 (device.0 ∷ cycle ∷ [])
+    → StageAt stands s hs (front ++ back) now device machine node 5 (device.0 ∷ cycle ∷ [])
     → IsFirstTask s.network device node (moment_of s device now).reading.0 (doing (sending cycle))
     → IsActOf s.network device node (moment_of s device now) (acts.Send frame) after
     → after ≡ called (moment_of s device now) acting (with_done node (sending cycle))
     → stands then_ s.network device after → HasSentIt stands s hs
     (front ++ (record_of s.network hs front now (kinds.Sent device cycle)) ∷ back) now device then_ node after
-has_sent_it {stands} {s} {hs} front back {mark} {cursor} {now} {device} {machine} then_ {node} after frame cycle st
+has_sent_it {stands} {s} {hs} front back {now} {device} {machine} then_ {node} after frame cycle st
     first act is stood =
     let w = record_of s.network hs front now (kinds.Sent device cycle) in
     let new = front ++ w ∷ back in
@@ -94,7 +93,7 @@ has_sent_it {stands} {s} {hs} front back {mark} {cursor} {now} {device} {machine
       is = stood;
       work = subst (λ n. IsAtWork s hs new now device n) (sym is) work;
       cleared = subst HasCleared (sym is) cleared;
-      taken = ap (λ (n : Node). n.taken) is ∙ taken_then stands s hs front back mark cursor now device machine node w
+      taken = ap (λ (n : Node). n.taken) is ∙ taken_then stands s hs front back now device machine node w
           st refl (λ at. refl);
       phase = ap (λ (n : Node). n.phase) is;
     }

@@ -6,12 +6,12 @@ use Rattle.world_law.proofs.steps_lemmas.Words.{IsSource, IsSteady, IsAtRest, In
 use Rattle.world_law.proofs.steps_lemmas.Words.{StandsBehind, Task, World, [], act_place, amount, ap, are_past, arith, bears_on, before_behind}
 use Rattle.world_law.proofs.steps_lemmas.Words.{Act, HadComeTo, HasActed, HasDoneTask, acts_first, changed_at, correcting, doing, in_right, of_device, same_device}
 use Rattle.world_law.proofs.steps_lemmas.Words.{second, task_place}
-use Rattle.world_law.proofs.steps_lemmas.{acting.First.{act_more, act_moving, act_rest, act_stands, first_of, late_rank, low_rank}, growing.FromZero.kept_from_zero}
+use Rattle.world_law.proofs.steps_lemmas.{acting.First.{act_more, act_next, act_rest, act_stands, first_of, late_rank, low_rank}, growing.FromZero.kept_from_zero}
 use Rattle.world_law.{proofs.devices.Working.came_sooner, specs.{device.Growing.IsFromZero, steps.Acting.{place_of_act, rank_of_act, task_of}}}
-use Rattle.world_law.proofs.{putting.PutOne.{one_well, unmarked}, rows.Dispatching.founded_with}
+use Rattle.world_law.proofs.{putting.PutOne.one_well, rows.Dispatching.founded_with}
 use Rattle.run_law.proofs.runs.Places.{before_or_not}
-use Rattle.world_law.proofs.steps_lemmas.Words.{◌⊎◌, both_ways, chain, either_way}
-use Rattle.world_law.proofs.steps_lemmas.Words.{before_later, behind, due_of, false, frames_taken, happenings}
+use Rattle.world_law.proofs.steps_lemmas.Words.{◌⊎◌, both_ways, chain}
+use Rattle.world_law.proofs.steps_lemmas.Words.{behind, due_of, false, frames_taken, happenings}
 use Rattle.world_law.proofs.steps_lemmas.Words.{hears, held_aside, in_parts, inl, inr, ints}
 use Rattle.world_law.proofs.steps_lemmas.Words.{is_turned_on_at, known_aside, length, members_in, moment_of, moves, moves_no_other, natural}
 use Rattle.world_law.proofs.steps_lemmas.Words.{no_later_breaks, numbers_end, not_on_after, one_by, place_of, pos, put_length}
@@ -21,32 +21,31 @@ use Rattle.{schedule_tables.specs.declared.rule.Rule.TheVariants.ScheduleStart, 
 use Rattle.run_law.specs.declared.judgement.Why.TheVariants as whys
 use Rattle.run_law.specs.declared.note.NoteBody.TheVariants as kinds
 use Rattle.{std.proofs.lemmas.Option.same_Some, world_law.proofs.putting.Bearing.frames_aside}
-use Rattle.world_law.proofs.{putting.StandsOn.{source_told}, steps_lemmas.acting.Kept.{IsBare, may_act_now}}
+use Rattle.world_law.proofs.{putting.StandsOn.{StandsHere, stands_here, up_on}, steps_lemmas.acting.Kept.{IsBare, may_act_now}}
 use Rattle.world_law.proofs.{rows.Dispatching.lawful, steps_lemmas.{acting.{Over.IsCalm, Work.IsAtWork}, steps.Passed.no_task}}
 
 -- a device that has something due at the source that comes first, which stands at this place: all that is to come has a
 -- higher rank
-pub record StageAt {M : Type 0} (stands : M → Network → DeviceId → Node → Type 0) (s : Scenario) (hs coming : List Happening) (mark cursor : List ℕ) (now : ℕ)
+pub record StageAt {M : Type 0} (stands : M → Network → DeviceId → Node → Type 0) (s : Scenario) (hs coming : List Happening) (now : ℕ)
     (device : DeviceId) (machine : M) (node : Node) (r : ℕ) (more : List ℕ) : Type 0 where
   pub of_it : device.0 < length s.network.device
   pub is : stands machine s.network device node
   pub task : HasTaskBy s device node now
   pub taken : node.taken ≡ frames_taken s (hs ++ coming) device
-  pub turned : is_turned_on_at s device now ≡ true → HasTurnedOn s hs coming cursor device now
+  pub turned : is_turned_on_at s device now ≡ true → HasTurnedOn s hs coming (now ∷ r ∷ more) device now
   pub cleared : HasCleared node
   pub bare : IsBare s.network device node
-  pub moving : IsMoving s hs coming mark cursor now r more
+  pub moving : IsMoving s hs coming now r more
   pub above : (z : Happening) → IsIn z coming → r < rank z.note.body
   pub late : 4 ≤ r
   pub low : r ≤ 6
   pub reach : IsBefore (act_place now device) (behind (now ∷ r ∷ more))
   pub own : (other : DeviceId) (task : Task) → task_place s.network now other task ≡ now ∷ r ∷ more → other.0 ≡ device.0
-  pub marked : (p : List ℕ) → IsBefore p (now ∷ []) → IsBefore p mark
   pub given : IsFounded place_of (IsDue s) hs
   pub before : AllBefore place_of hs (now ∷ r ∷ more)
   pub work : IsAtWork s hs coming now device node
   pub worked : (task : Task) → HasDoneTask node task
-      → HadComeTo s device node (changed_at (hs ++ coming) device now) now task ⊎ IsBefore (task_place s.network now device task) cursor
+      → HadComeTo s device node (changed_at (hs ++ coming) device now) now task ⊎ IsBefore (task_place s.network now device task) (now ∷ r ∷ more)
   pub zero : IsFromZero s.network device node
   pub calm : IsCalm s hs coming now device
   pub steady : IsSteady (s.reading device) (amount s.network.precision)
@@ -56,10 +55,10 @@ pub record StageAt {M : Type 0} (stands : M → Network → DeviceId → Node �
   pub limit : now ≤ 2 ^ 60
 
 -- where the act stands
-abbrev pub StageOf : {M : Type 0} → (M → Network → DeviceId → Node → Type 0) → Scenario → List Happening → List Happening → List ℕ → List ℕ → ℕ → DeviceId
+abbrev pub StageOf : {M : Type 0} → (M → Network → DeviceId → Node → Type 0) → Scenario → List Happening → List Happening → ℕ → DeviceId
     → M → Node → Act → Type 0
-StageOf stands s hs coming mark cursor now device machine node act =
-    StageAt stands s hs coming mark cursor now device machine node (rank_of_act act) (act_rest s.network device act)
+StageOf stands s hs coming now device machine node act =
+    StageAt stands s hs coming now device machine node (rank_of_act act) (act_rest s.network device act)
 
 reaches_acts : (network : Network) (now : ℕ) (device : DeviceId) (act : Act)
     → IsBefore (act_place now device) (behind (now ∷ rank_of_act act ∷ act_rest network device act))
@@ -76,7 +75,8 @@ pub stage_of : {C M : Type 0} (reading : C → ℕ → ℕ) (stands : M → Netw
     → ((z : Happening) → IsIn z world.settled → rank_of_act act < rank z.note.body) → slice_get world.machines device.0 ≡ Some machine
     → IsDueNow stands s.network device (moment_of s device world.now) machine
     → HasActed stands s.network device (moment_of s device world.now) act machine after
-    → (node : Node) × StageOf stands s (happenings s.network notes) world.settled old.mark old.cursor world.now device machine node act
+    → (node : Node) × StandsHere reading stands s world notes (rank_of_act act) (act_rest s.network device act)
+    × StageOf stands s (happenings s.network notes) world.settled world.now device machine node act
 stage_of {C} {M} reading stands s world notes old device machine after act lt first apart there due acted =
     let hs = happenings s.network notes in
     let m = old.devices device lt in
@@ -95,7 +95,8 @@ stage_of {C} {M} reading stands s world notes old device machine after act lt fi
         ]
 
     held : IsHeld stands s (happenings s.network notes) world.settled old.cursor world.now device machine
-        → (node : Node) × StageOf stands s (happenings s.network notes) world.settled old.mark old.cursor world.now device machine node act
+        → (node : Node) × StandsHere reading stands s world notes (rank_of_act act) (act_rest s.network device act)
+        × StageOf stands s (happenings s.network notes) world.settled world.now device machine node act
     held (inr out) = absurd (let task = due out.node out.is in no_task s.network device out.node task.0 out.shows task.1)
     held (inl k) =
         let hs = happenings s.network notes in
@@ -114,41 +115,49 @@ stage_of {C} {M} reading stands s world notes old device machine after act lt fi
         let waits : IsBefore at old.cursor → ⊥ = λ b.
         acts_wait k (task_of act) law old.not_later old.are.of_now upto late first_task.pending
         first_task.due (subst (λ q. IsBefore q old.cursor) (sym place) b) in
-        let m = act_moving {device = device} {machine = machine} act first apart (record {
+        let next = act_next {device = device} {machine = machine} act first apart (record {
           kept = k;
           up = up.0;
           first = first_task;
           zero = zero;
           lawful = law;
-          are = old.are;
+          of_now = old.are.of_now;
           past = upto;
           late = late;
         }) waits in
-        let told = source_told old (rank_of_act act) (act_rest s.network device act) m
-        (inr (refl, inl (omega (arith, high)))) in
+        let c = stands_here old (rank_of_act act) (act_rest s.network device act) next in
         let whole = natural s.network.precision.0 old.precise in
         let ends = (old.rules ScheduleStart 0).ends in (
           k.node,
+          c,
           record {
             of_it = lt;
             is = k.is;
             task = task;
             taken = k.taken;
-            turned = k.turned;
+            turned = λ on.
+                let was = k.turned on in
+                record {
+                  off = was.off;
+                  number = was.number;
+                  event = was.event;
+                  befell = was.befell;
+                  turned = λ b. was.turned (old.untold.done c.told was.number was.event was.befell);
+                };
             cleared = k.cleared;
             bare = k.bare;
-            moving = m;
+            moving = c.moving;
             above = apart;
             late = high;
             low = low_rank act;
             own = λ other u e. of_device s.network now other u device.0 (rank_of_act act) (act_more s.network act) e;
             reach = reaches_acts s.network now device act;
-            marked = old.of_now;
             given = old.run.founded;
-            before = λ h i. before_later (place_of h) at old.cursor (old.ahead (place_of h) (old.run.within h i)) waits;
+            before = c.run.within;
             work = at_work stands s hs world.settled old.cursor now device machine k old.not_later old.are.of_now upto late up.0;
             worked = λ other has. elim (before_or_not (task_place s.network now device other) old.cursor) [
-              | inl gone ↦ inr gone
+              | inl gone ↦ inr (up_on old (rank_of_act act) (act_rest s.network device act) next
+                  (task_place s.network now device other) gone)
               | inr not ↦ inl (subst (λ n. HadComeTo s device k.node (changed_at (hs ++ world.settled) device n) now other) up.0
                   (came_sooner now k.worked other has not))
             ];
@@ -157,7 +166,7 @@ stage_of {C} {M} reading stands s world notes old device machine after act lt fi
               falls = (old.steady device).never_falls;
               off = not_on_after (now + 1) device old.befallen (omega arith);
               broken = no_later_breaks s old.mark now (now + 1) device old.befallen (omega arith);
-              turned = λ on. let was = k.turned on in was.turned (old.untold.done told was.number was.event was.befell);
+              turned = λ on. let was = k.turned on in was.turned (old.untold.done c.told was.number was.event was.befell);
             };
             steady = old.steady device;
             precise = old.precise;
@@ -192,11 +201,11 @@ pub record IsActRecordAt (s : Scenario) (hs front back : List Happening) (now : 
   pub lone : IsUnfollowed s hs now body
 
 module _ {M : Type 0} (stands : M → Network → DeviceId → Node → Type 0) (s : Scenario)
-    (hs front back : List Happening) (mark cursor : List ℕ) (now : ℕ) (device : DeviceId) (machine : M)
+    (hs front back : List Happening) (now : ℕ) (device : DeviceId) (machine : M)
     (node : Node) where
   -- nothing to come stands where a record of the act's own rank does
   pub fresh_above : {r : ℕ} {more : List ℕ} → StageAt stands s hs
-      (front ++ back) mark cursor now device machine node r more → (w : Happening) → rank w.note.body ≤ r
+      (front ++ back) now device machine node r more → (w : Happening) → rank w.note.body ≤ r
       → (y : Happening) → IsIn y back → place_of w ≡ place_of y → ⊥
   fresh_above st w le y i e =
       let high = st.above y (in_right y front back i) in
@@ -205,7 +214,7 @@ module _ {M : Type 0} (stands : M → Network → DeviceId → Node → Type 0) 
 
   -- nothing to come rests on what the device hears
   pub nothing_heard : {r : ℕ} {more : List ℕ} → StageAt stands s hs
-      (front ++ back) mark cursor now device machine node r more → (y : Happening) → IsIn y back
+      (front ++ back) now device machine node r more → (y : Happening) → IsIn y back
       → hears device y.note.body ≡ true → ⊥
   nothing_heard st y i e =
       let there = in_right y front back i in
@@ -215,18 +224,16 @@ module _ {M : Type 0} (stands : M → Network → DeviceId → Node → Type 0) 
       (st.work.still y (in_right y hs (front ++ back) there) (st.work.of_now y there).0) e
 
   pub one_caused : {body : NoteBody} {r : ℕ} {more : List ℕ} → StageAt stands s hs
-      (front ++ back) mark cursor now device machine node r more
+      (front ++ back) now device machine node r more
       → AllBefore place_of front (place_of (record_of s.network hs front now body))
       → NoneBefore place_of back (place_of (record_of s.network hs front now body))
       → IsCaused s (hs ++ front) (units_of now) body
       → ((m : ℕ) → IsOwnSource s (hs ++ front) now m body (now ∷ r ∷ more))
       → IsSource s (hs ++ front) (now ∷ r ∷ more)
       → ((y : Happening) → IsIn y back → place_of (record_of s.network hs front now body) ≡ place_of y → ⊥)
-      → IsOne s hs front back mark cursor now r more (record_of s.network hs front now body)
+      → IsOne s hs front back now r more (record_of s.network hs front now body)
   one_caused {body} st before none caused own here fresh = record {
     moving = st.moving;
-    later = let high = st.late in inr (refl, inl (omega (arith, high)));
-    marked = st.marked;
     given = st.given;
     at = refl;
     due = due_of s hs front now body caused;
@@ -241,21 +248,21 @@ module _ {M : Type 0} (stands : M → Network → DeviceId → Node → Type 0) 
   }
 
   one_act : {body : NoteBody} {r : ℕ} {more : List ℕ} → StageAt stands s hs
-      (front ++ back) mark cursor now device machine node r more
+      (front ++ back) now device machine node r more
       → AllBefore place_of front (place_of (record_of s.network hs front now body))
       → NoneBefore place_of back (place_of (record_of s.network hs front now body))
       → IsActRecordAt s hs front back now device body (now ∷ r ∷ more)
-      → IsOne s hs front back mark cursor now r more (record_of s.network hs front now body)
+      → IsOne s hs front back now r more (record_of s.network hs front now body)
   one_act st before none a = one_caused st before none a.caused a.own a.here a.fresh
 
   -- the records with it are founded
   pub lawful_then : {body : NoteBody} {r : ℕ} {more : List ℕ}
-      → StageAt stands s hs (front ++ back) mark cursor now device machine node r more
+      → StageAt stands s hs (front ++ back) now device machine node r more
       → AllBefore place_of front (place_of (record_of s.network hs front now body))
       → NoneBefore place_of back (place_of (record_of s.network hs front now body))
-      → IsActRecordAt s hs front back now device body (now ∷ r ∷ more) → AllBefore place_of hs mark
+      → IsActRecordAt s hs front back now device body (now ∷ r ∷ more)
       → IsLawful s (hs ++ (front ++ record_of s.network hs front now body ∷ back)) device
-  lawful_then {body} {r} {more} st before none a within =
+  lawful_then {body} {r} {more} st before none a =
       let at = now ∷ r ∷ more in
       let one = one_act st before none a in
       let well = one_well one a.lone in
@@ -263,17 +270,9 @@ module _ {M : Type 0} (stands : M → Network → DeviceId → Node → Type 0) 
         range = st.lawful.range;
         rules = st.lawful.rules;
         steady = st.lawful.steady;
-        founded = founded_with s hs (front ++ record_of s.network hs front now body ∷ back) mark st.given within
-            well.stands (λ z i b.
-            unmarked st.moving (before_later_than at (place_of z) mark (well.after z i) b));
+        founded = founded_with s hs (front ++ record_of s.network hs front now body ∷ back) at st.given st.before
+            well.stands well.after;
       }
-    where
-      before_later_than : (at p mark : List ℕ) → (IsBefore p at → ⊥) → IsBefore p mark → IsBefore at mark
-      before_later_than at p mark not b = elim (either_way at p) [
-        | inl lt ↦ chain at p mark lt b
-        | inr (inl e) ↦ subst (λ q. IsBefore q mark) (sym e) b
-        | inr (inr gt) ↦ absurd (not gt)
-      ]
 
 -- ---- the world with the record put in
 
@@ -283,10 +282,10 @@ pub no_row_of : (s : Scenario) (device other : DeviceId) (body : NoteBody) → d
 no_row_of s device other body lt apart le = moves_no_other other body (apart other (λ e. omega (arith, e, lt, le))).0
 
 pub one_goes_by : {C M : Type 0} {reading : C → ℕ → ℕ} {stands : M → Network → DeviceId → Node → Type 0}
-    {s : Scenario} {world : World C M} {notes : List Note} (old : Stands reading stands s world notes)
-    {device : DeviceId} {machine after : M} {node : Node} {machines : List M} {settled : List Happening}
-    {body : NoteBody} {r : ℕ} {more : List ℕ} → StageAt stands s
-    (happenings s.network notes) world.settled old.mark old.cursor world.now device machine node r more
+    {s : Scenario} {world : World C M} {notes : List Note} {device : DeviceId} {machine after : M} {node : Node}
+    {machines : List M} {settled : List Happening} {body : NoteBody} {r : ℕ} {more : List ℕ}
+    (c : StandsHere reading stands s world notes r more) → StageAt stands s
+    (happenings s.network notes) world.settled world.now device machine node r more
     → (p : IsShownPut s.network (happenings s.network notes) world.now body world.settled settled)
     → length notes + length world.settled + 1 < numbers_end
     → IsActRecordAt s (happenings s.network notes) p.front p.back world.now device body (world.now ∷ r ∷ more)
@@ -297,24 +296,24 @@ pub one_goes_by : {C M : Type 0} {reading : C → ℕ → ℕ} {stands : M → N
     (behind (world.now ∷ r ∷ more)) world.now device after
     → StandsBehind reading stands s (record world { early = false; machines = machines; settled = settled }) notes
     (behind (world.now ∷ r ∷ more))
-one_goes_by {C} {M} {reading} {stands} {s} {world} {notes} old {device} {machine} {after} {node} {machines} {settled} {body} {r} {more} st p room a all set kept =
+one_goes_by {C} {M} {reading} {stands} {s} {world} {notes} {device} {machine} {after} {node} {machines} {settled} {body} {r} {more} c st p room a all set kept =
     let hs = happenings s.network notes in
     let now = world.now in
     let front = p.front in
     let back = p.back in
     let w = record_of s.network hs front now body in
     let here = now ∷ r ∷ more in
-    let st2 : StageAt stands s hs (front ++ back) old.mark old.cursor now device machine node r more =
-    subst (λ l. StageAt stands s hs l old.mark old.cursor now device machine node r more) p.parts st in
-    let one = one_act stands s hs front back old.mark old.cursor now device machine node st2 p.before p.none a in
+    let st2 : StageAt stands s hs (front ++ back) now device machine node r more =
+    subst (λ l. StageAt stands s hs l now device machine node r more) p.parts st in
+    let one = one_act stands s hs front back now device machine node st2 p.before p.none a in
     let long = put_length front back w in
     let same_long : length world.settled ≡ length (front ++ back) = ap length p.parts in
     subst (λ (l : List Happening). StandsBehind reading stands s (record world { early = false; machines = machines; settled = l }) notes (behind here))
     (sym p.shows)
-    (acts_on old r more st.late st.low st.moving (omega (arith, long, same_long, room)) (one_by one a.lone all)
+    (acts_on c st.late st.low (omega (arith, long, same_long, room)) (one_by one a.lone all)
     (known_aside hs front back w (λ other le. no_row_of s device other body st.of_it a.apart le)
-    (subst (λ (l : List Happening). AreOfNetwork s (hs ++ l)) p.parts old.known))
-    (devices_then old r more device st.moving (λ other not task same. not (st.own other task same)) set (inl kept)
+    (subst (λ (l : List Happening). AreOfNetwork s (hs ++ l)) p.parts c.old.known))
+    (devices_then c device (λ other not task same. not (st.own other task same)) set (inl kept)
     (λ other m not held.
     let x = a.apart other not in
     held_aside s hs front back w other x.0 refl (frames_aside s hs front back w other x.0 x.1)

@@ -1,18 +1,18 @@
 -- A frame on a wire arrives, and its device's machine hears it.
 use Rattle.run_law.specs.machines.{Answers.after_arrival, Calls.MayArrive}
-use Rattle.world_law.proofs.steps_lemmas.Words.{ComesFirst, DeviceId, Happening, IsBefore, IsHeld, IsIn, IsKept, IsMoving, IsNoTaking, IsOut, IsPutIn}
+use Rattle.world_law.proofs.steps_lemmas.Words.{ComesFirst, DeviceId, Happening, IsBefore, IsHeld, IsIn, IsKept, IsNoTaking, IsOut, IsPutIn}
 use Rattle.world_law.proofs.steps_lemmas.Words.{IsSteady, IsWithout, LinkId, List, Network, Node, Note, OnWire, Scenario, Some, Stands, StandsBehind}
 use Rattle.world_law.proofs.steps_lemmas.Words.{TakenFrame, VlId, World, ℕ, ℤ, [], amount, ap, arith, arrival_at, arrival_body, arrival_of, arriving}
 use Rattle.world_law.proofs.steps_lemmas.Words.{bears_on, behind, called, chain, comes_first, devices_then, eq-eqb, false, happenings, held_aside}
 use Rattle.world_law.proofs.steps_lemmas.Words.{if◌then◌else◌, in_parts, in_right, inl, inr, is_end, known_aside, length, moment_of, moves_no_other, ne_eqb}
-use Rattle.world_law.proofs.steps_lemmas.Words.{no_task_at, place_of, ports_still, pos, rank, refl, settled_as, signal_of, slice_get, some_same, stands_on}
-use Rattle.world_law.proofs.steps_lemmas.Words.{subst, sym, taken_in, time_of, told_wires, waiting_still, wire_place, wires_move}
+use Rattle.world_law.proofs.steps_lemmas.Words.{never_self, no_task_at, place_of, ports_still, pos, rank, refl, settled_as, signal_of, slice_get, some_same, stands_on}
+use Rattle.world_law.proofs.steps_lemmas.Words.{subst, sym, taken_in, time_of, waiting_still, wire_place, wires_move}
 use Rattle.world_law.proofs.steps_lemmas.Words.{◌++◌, ◌+◌, ◌<◌, ◌==◌, ◌^◌, ◌∙◌, ◌∷◌, ◌≡◌, ◌≤ℤ◌, ◌≤◌, AreOfNetwork, ArePutIn, AreSettled, Arrival, Bool}
 use Rattle.world_law.proofs.steps_lemmas.hearing.Timed.{IsAfterGiven, given_by_now, heard_as_all, kept_judges, no_taking}
 use Rattle.world_law.proofs.steps_lemmas.hearing.{Called.{After, kept_by, kept_called, out_called}, Calling.may_call, Judging.{broken_drops, out_drops}}
 use Rattle.world_law.proofs.steps_lemmas.hearing.{Putting.{IsHeardAs, IsReceived, IsReceiving, least_rank, received}, Receptions.{device_there, placed_at}}
 use Rattle.world_law.proofs.steps_lemmas.hearing.{Ranked.{accepted_high, delivered_high, rank_is}, Settling.arrival_put, Took.took}
-use Rattle.world_law.proofs.{devices.Working.rested, putting.Bearing.frames_aside, putting.Moving.kept_moves, putting.StandsOn.shown_still}
+use Rattle.world_law.proofs.{devices.Working.rested, putting.Bearing.frames_aside, putting.Moving.{goes_by, kept_moves}, putting.StandsOn.{StandsHere, shown_still}}
 use Rattle.world_law.{proofs.steps_lemmas.hearing.Takings.{IsQuiet, IsTakingBy, kept_taking}, specs.steps.Arriving.HeardStep, specs.world.Calls.HasHeard}
 use Rattle.run_law.specs.declared.steps.Arrival.TheVariants as arrivals
 
@@ -21,26 +21,22 @@ use Rattle.run_law.specs.declared.steps.Arrival.TheVariants as arrivals
 wire_at : (e : OnWire) (now : ℕ) → e.at ≡ now → wire_place e ≡ now ∷ 2 ∷ e.device.0 ∷ e.link.0 ∷ e.cause ∷ []
 wire_at e now at = ap (λ (t : ℕ). t ∷ 2 ∷ e.device.0 ∷ e.link.0 ∷ e.cause ∷ []) at
 
-longer_place : (now a b c : ℕ) → now ∷ 2 ∷ [] ≡ now ∷ 2 ∷ a ∷ b ∷ c ∷ [] → ⊥
-longer_place now a b c e = cc
-
 module _ {C M : Type 0} (reading : C → ℕ → ℕ) (stands : M → Network → DeviceId → Node → Type 0) (s : Scenario)
     (world : World C M) (notes : List Note) (e : OnWire) where
   -- the frame is the first source
   pub arriving_first : {old : Stands reading stands s world notes} → IsIn e world.wires → e.at ≡ world.now
       → ComesFirst reading stands s world notes old (wire_place e)
-      → IsMoving s (happenings s.network notes) world.settled old.mark old.cursor world.now 2
-      (e.device.0 ∷ e.link.0 ∷ e.cause ∷ [])
+      → StandsHere reading stands s world notes 2 (e.device.0 ∷ e.link.0 ∷ e.cause ∷ [])
   arriving_first {old} i at first =
-      comes_first old 2 (e.device.0 ∷ e.link.0 ∷ e.cause ∷ [])
-      (longer_place world.now e.device.0 e.link.0 e.cause) (wire_at e world.now at) (old.wires.real e i).2 first
+      comes_first old 2 (e.device.0 ∷ e.link.0 ∷ e.cause ∷ []) (inr (refl, inr (refl, tt))) (wire_at e world.now at)
+      (old.wires.real e i).2 first
 
   -- the world stands behind it, where what is settled then and its devices do
   pub heard_behind : (machines : List M) (wires : List OnWire) {settled : List Happening}
       {old : Stands reading stands s world notes} → IsIn e world.wires → e.at ≡ world.now
       → ComesFirst reading stands s world notes old (wire_place e)
       → IsWithout wire_place (wire_place e) world.wires wires → length settled ≡ length world.settled + 1
-      → AreSettled s (happenings s.network notes) settled old.mark
+      → AreSettled s (happenings s.network notes) settled (world.now ∷ 2 ∷ e.device.0 ∷ e.link.0 ∷ e.cause ∷ [])
       (behind (world.now ∷ 2 ∷ e.device.0 ∷ e.link.0 ∷ e.cause ∷ [])) world.now
       → AreOfNetwork s (happenings s.network notes ++ settled)
       → ((device : DeviceId) → device.0 < length s.network.device
@@ -54,16 +50,12 @@ module _ {C M : Type 0} (reading : C → ℕ → ℕ) (stands : M → Network �
       let more = e.device.0 ∷ e.link.0 ∷ e.cause ∷ [] in
       let here = world.now ∷ 2 ∷ more in
       let place = wire_at e world.now at in
-      let m = arriving_first {old = old} i at first in
-      let later : IsBefore (world.now ∷ 2 ∷ []) here = inr (refl, inr (refl, tt)) in
+      let c = arriving_first {old = old} i at first in
       let room = first.room in
-      stands_on old 2 more (wire_place e) machines
-      world.shown m place (omega (arith, long, room)) are known devices later
-      (wires_move s hs world.settled old.mark old.cursor world.now 2 more wires m (told_wires old 2 more m later)
-      (subst (λ q. IsWithout wire_place q world.wires wires) place without))
-      (ports_still old 2 more (λ eight. omega (arith, eight)) m)
-      (waiting_still old 2 more (λ three. omega (arith, three)) m)
-      (shown_still old 2 more (omega arith) m)
+      stands_on c (wire_place e) machines world.shown place (omega (arith, long, room)) are known devices
+      (wires_move (goes_by s hs here) wires c.wires (subst (λ q. IsWithout wire_place q world.wires wires) place without))
+      (ports_still c (λ eight. omega (arith, eight))) (waiting_still c (λ three. omega (arith, three)))
+      (shown_still c (omega arith))
 
   -- its record is put in
   pub heard_put : (settled : List Happening) (is : Arrival) {old : Stands reading stands s world notes}
@@ -73,10 +65,10 @@ module _ {C M : Type 0} (reading : C → ℕ → ℕ) (stands : M → Network �
       → least_rank s.network e.device e.signal ≤ rank (arrival_body e.device e.link e.cause (arrival_of s js e.device
       world.now e.link e.cause e.signal))) → ArePutIn s.network (happenings s.network notes) world.now
       (arrival_body e.device e.link e.cause is ∷ []) world.settled settled
-      → IsReceived s (happenings s.network notes) world.settled old.mark old.cursor world.now e is settled
+      → IsReceived s (happenings s.network notes) world.settled world.now e is settled
   heard_put settled is {old} i at first so least (mid, put, last) =
       received is {settled = settled}
-      (arriving_first {old = old} i at first) old.of_now old.run.founded (old.wires.real e i).0 at so least
+      (arriving_first {old = old} i at first).moving old.run.founded (old.wires.real e i).0 at so least
       (subst (λ l. IsPutIn
       (settled_as s.network (happenings s.network notes) world.now (arrival_body e.device e.link e.cause is))
       world.settled l)
@@ -91,11 +83,10 @@ after_here : (s : Scenario) (now : ℕ) (e : OnWire) (p : List ℕ) → IsBefore
 after_here s now e p b = chain p (now ∷ 2 ∷ []) (behind (now ∷ 2 ∷ e.device.0 ∷ e.link.0 ∷ e.cause ∷ [])) b (inr (refl, inr (refl, tt)))
 
 -- what a call of the device ensures
-pub record IsHearingIt {M : Type 0} (stands : M → Network → DeviceId → Node → Type 0) (s : Scenario) (hs coming : List Happening) (mark cursor : List ℕ)
+pub record IsHearingIt {M : Type 0} (stands : M → Network → DeviceId → Node → Type 0) (s : Scenario) (hs coming : List Happening) 
     (now : ℕ)
     (e : OnWire) (machine heard : M) (octets : List ℕ) (result : Arrival) : Type 0 where
-  pub moving : IsMoving s hs coming mark cursor now 2 (e.device.0 ∷ e.link.0 ∷ e.cause ∷ [])
-  pub given : IsAfterGiven s hs coming mark cursor now e
+  pub given : IsAfterGiven s hs coming now e
   pub precise : pos 0 ≤ℤ s.network.precision.0
   pub steady : IsSteady (s.reading e.device) (amount s.network.precision)
   pub limit : now ≤ 2 ^ 60
@@ -104,33 +95,35 @@ pub record IsHearingIt {M : Type 0} (stands : M → Network → DeviceId → Nod
   pub hears : HasHeard stands s.network e.device (moment_of s e.device now) e.link octets result machine heard
 
 module _ {M : Type 0} (stands : M → Network → DeviceId → Node → Type 0) (s : Scenario) (hs coming : List Happening)
-    (mark cursor : List ℕ) (now : ℕ) (e : OnWire) (machine heard : M) (octets : List ℕ) (result : Arrival) where
+    (now : ℕ) (e : OnWire) (machine heard : M) (octets : List ℕ) (result : Arrival) where
   -- a broken device drops it, as the records say, and is kept
-  pub out_heard : IsHearingIt stands s hs coming mark cursor now e machine heard octets result
-      → IsOut stands s hs coming cursor now e.device machine
+  pub out_heard : IsHearingIt stands s hs coming now e machine heard octets result
+      → IsOut stands s hs coming (now ∷ 2 ∷ e.device.0 ∷ e.link.0 ∷ e.cause ∷ []) now e.device machine
       → (result ≡ arrival_of s (hs ++ coming) e.device now e.link e.cause e.signal)
       × IsOut stands s hs coming (behind (now ∷ 2 ∷ e.device.0 ∷ e.link.0 ∷ e.cause ∷ [])) now e.device heard
   out_heard h k =
       let more = e.device.0 ∷ e.link.0 ∷ e.cause ∷ [] in
       let m = moment_of s e.device now in
-      let call = may_call s cursor now e.device k.node arriving more k.ready k.phase h.steady h.limit h.moving.waits in
+      let here = now ∷ 2 ∷ more in
+      let call = may_call s here now e.device k.node arriving more k.ready k.phase h.steady h.limit (never_self here) in
       let so = h.hears k.node k.is call h.may in
       let drops = so.0 ∙ out_drops s.network e.device k.node m e.link (signal_of octets) k.shows in
       let is : stands heard s.network e.device (called m arriving k.node) = subst
       (λ a. stands heard s.network e.device (called m arriving (after_arrival k.node m a))) drops so.1 in (
         drops ∙ sym (broken_drops s (hs ++ coming) e.device now e.link e.cause e.signal k.broken),
-        out_called stands s hs coming cursor (behind (now ∷ 2 ∷ more)) heard arriving k is (after_here s now e),
+        out_called stands s hs coming here (behind here) heard arriving k is (after_here s now e),
       )
 
   -- a sound device judges it as the records say
-  pub kept_answers : IsHearingIt stands s hs coming mark cursor now e machine heard octets result
-      → (k : IsKept stands s hs coming cursor now e.device machine)
+  pub kept_answers : IsHearingIt stands s hs coming now e machine heard octets result
+      → (k : IsKept stands s hs coming (now ∷ 2 ∷ e.device.0 ∷ e.link.0 ∷ e.cause ∷ []) now e.device machine)
       → (result ≡ arrival_of s (hs ++ coming) e.device now e.link e.cause e.signal) × stands heard s.network e.device
       (called (moment_of s e.device now) arriving (after_arrival k.node (moment_of s e.device now) result))
   kept_answers h k =
       let m = moment_of s e.device now in
-      let call = may_call s cursor now e.device k.node arriving (e.device.0 ∷ e.link.0 ∷ e.cause ∷ []) k.ready
-      k.phase h.steady h.limit h.moving.waits in
+      let here = now ∷ 2 ∷ e.device.0 ∷ e.link.0 ∷ e.cause ∷ [] in
+      let call = may_call s here now e.device k.node arriving (e.device.0 ∷ e.link.0 ∷ e.cause ∷ []) k.ready
+      k.phase h.steady h.limit (never_self here) in
       let so = h.hears k.node k.is call h.may in (
         so.0
             ∙ ap (λ x. arrival_at s.network e.device k.node m e.link x) h.octets_of
@@ -139,8 +132,8 @@ module _ {M : Type 0} (stands : M → Network → DeviceId → Node → Type 0) 
       )
 
   -- and so does each that is held
-  pub held_answers : IsHearingIt stands s hs coming mark cursor now e machine heard octets result
-      → IsHeld stands s hs coming cursor now e.device machine
+  pub held_answers : IsHearingIt stands s hs coming now e machine heard octets result
+      → IsHeld stands s hs coming (now ∷ 2 ∷ e.device.0 ∷ e.link.0 ∷ e.cause ∷ []) now e.device machine
       → result ≡ arrival_of s (hs ++ coming) e.device now e.link e.cause e.signal
   held_answers h (inl k) =
       (kept_answers h k).0
@@ -163,8 +156,8 @@ module _ (device of : DeviceId) (link : LinkId) (cause : ℕ) where
   others_take other e = λ at. refl
 
 pub quiet_for : {M : Type 0} (stands : M → Network → DeviceId → Node → Type 0) {s : Scenario}
-    {hs front back : List Happening} {mark cursor : List ℕ} {now : ℕ} {e : OnWire} {is : Arrival} {w : Happening}
-    → IsAfterGiven s hs (front ++ back) mark cursor now e → IsReceiving s hs front back mark cursor now e is w
+    {hs front back : List Happening} {now : ℕ} {e : OnWire} {is : Arrival} {w : Happening}
+    → IsAfterGiven s hs (front ++ back) now e → IsReceiving s hs front back now e is w
     → (device : DeviceId) → IsQuiet hs front back w device
 quiet_for stands {hs} {front} {back} {e} {is} a r device = record {
   bears = ap (bears_on device) r.body ∙ quiet_body device e.device e.link e.cause is;
@@ -184,24 +177,26 @@ four_after now d more (inl lt) = omega (arith, lt)
 four_after now d more (inr (e, inl lt)) = omega (arith, lt)
 four_after now d more (inr (e, inr (f, b))) = omega (arith, f)
 
+longer_place : (now a b c : ℕ) → now ∷ 2 ∷ [] ≡ now ∷ 2 ∷ a ∷ b ∷ c ∷ [] → ⊥
+longer_place now a b c e = cc
+
 -- it takes nothing
 plain_there : {M : Type 0} {stands : M → Network → DeviceId → Node → Type 0} {s : Scenario}
-    {hs front back : List Happening} {mark cursor : List ℕ} {now : ℕ} (e : OnWire) {machine : M} (heard : M)
-    {w : Happening} → IsMoving s hs (front ++ back) mark cursor now 2 (e.device.0 ∷ e.link.0 ∷ e.cause ∷ [])
-    → IsQuiet hs front back w e.device → time_of w ≡ now → IsNoTaking e.device w.note.body
-    → (k : IsKept stands s hs (front ++ back) cursor now e.device machine)
+    {hs front back : List Happening} {now : ℕ} (e : OnWire) {machine : M} (heard : M)
+    {w : Happening} → IsQuiet hs front back w e.device → time_of w ≡ now → IsNoTaking e.device w.note.body
+    → (k : IsKept stands s hs (front ++ back) (now ∷ 2 ∷ e.device.0 ∷ e.link.0 ∷ e.cause ∷ []) now e.device machine)
     → stands heard s.network e.device (called (moment_of s e.device now) arriving k.node)
     → IsHeld stands s hs (front ++ w ∷ back) (behind (now ∷ 2 ∷ e.device.0 ∷ e.link.0 ∷ e.cause
     ∷ [])) now e.device heard
-plain_there {stands} {s} {hs} {front} {back} {now} e heard {w} moving quiet at none k is =
+plain_there {stands} {s} {hs} {front} {back} {now} e heard {w} quiet at none k is =
     let more = e.device.0 ∷ e.link.0 ∷ e.cause ∷ [] in
     let by = After stands heard (called (moment_of s e.device now) arriving) in
-    let on = kept_moves by s hs (front ++ back) moving (no_task_at s.network now e.device 2 more (inl (omega arith)))
-    (kept_by by k is) in
+    let on = kept_moves (goes_by s hs (now ∷ 2 ∷ more)) by (longer_place now e.device.0 e.link.0 e.cause)
+    (no_task_at s.network now e.device 2 more (inl (omega arith))) (kept_by by k is) in
     held_aside s hs front back w e.device quiet.bears at (frames_aside s hs front back w e.device quiet.bears none)
     (inl (kept_called stands s hs (front ++ back) (behind (now ∷ 2 ∷ more)) heard arriving on (after_here s now e)))
 
--- no place behind it, and before what acts, is before the cursor
+-- no place behind it, and before what acts, is before the frontier
 not_over : (now d : ℕ) (more : List ℕ) → IsBefore (now ∷ 2 ∷ (d + 1) ∷ []) (now ∷ 2 ∷ d ∷ more) → ⊥
 not_over now d more (inl lt) = omega (arith, lt)
 not_over now d more (inr (e, inl lt)) = omega (arith, lt)
@@ -209,21 +204,20 @@ not_over now d more (inr (e, inr (f, inl lt))) = omega (arith, lt)
 not_over now d more (inr (e, inr (f, inr (g, b)))) = omega (arith, g)
 
 module _ {M : Type 0} (stands : M → Network → DeviceId → Node → Type 0) (s : Scenario)
-    (hs front back : List Happening) (mark cursor : List ℕ) (now : ℕ) (e : OnWire) where
+    (hs front back : List Happening) (now : ℕ) (e : OnWire) where
   -- it takes a frame
   taken_there : {machine : M} (heard : M) {w : Happening} {vl : VlId} {cycle : ℕ}
-      → IsMoving s hs (front ++ back) mark cursor now 2 (e.device.0 ∷ e.link.0 ∷ e.cause ∷ [])
       → IsTakingBy s hs front back now w e.device vl cycle
       → IsSteady (s.reading e.device) (amount s.network.precision) → pos 0 ≤ℤ s.network.precision.0
-      → (k : IsKept stands s hs (front ++ back) cursor now e.device machine)
+      → (k : IsKept stands s hs (front ++ back) (now ∷ 2 ∷ e.device.0 ∷ e.link.0 ∷ e.cause ∷ []) now e.device machine)
       → stands heard s.network e.device (took (moment_of s e.device now) vl cycle k.node)
       → IsHeld stands s hs (front ++ w ∷ back) (behind (now ∷ 2 ∷ e.device.0 ∷ e.link.0 ∷ e.cause
       ∷ [])) now e.device heard
-  taken_there heard {vl} {cycle} moving taking steady precise k is =
+  taken_there heard {vl} {cycle} taking steady precise k is =
       let more = e.device.0 ∷ e.link.0 ∷ e.cause ∷ [] in
       let over = e.link.0 ∷ e.cause ∷ 0 ∷ [] in
       let by = After stands heard (took (moment_of s e.device now) vl cycle) in
-      let on = kept_moves by s hs (front ++ back) moving
+      let on = kept_moves (goes_by s hs (now ∷ 2 ∷ more)) by (longer_place now e.device.0 e.link.0 e.cause)
       (no_task_at s.network now e.device 2 more (inl (omega arith))) (kept_by by k is) in
       let up : on.up ≡ now = elim on.acted [
         | inl still ↦ still.0
@@ -235,7 +229,7 @@ module _ {M : Type 0} (stands : M → Network → DeviceId → Node → Type 0) 
       rests)
 
   taking_by : {is : Arrival} {w : Happening} (vl : VlId) (cycle : ℕ)
-      → IsAfterGiven s hs (front ++ back) mark cursor now e → IsReceiving s hs front back mark cursor now e is w
+      → IsAfterGiven s hs (front ++ back) now e → IsReceiving s hs front back now e is w
       → (if is_end s.network e.device then 12 else 11) ≤ rank (arrival_body e.device e.link e.cause is)
       → ((z : _) → taken_in e.device z (arrival_body e.device e.link e.cause is)
       ≡ record { vl = vl; cycle = cycle; at = z } ∷ []) → IsTakingBy s hs front back now w e.device vl cycle
@@ -255,50 +249,50 @@ self_takes : (device : DeviceId) (vl : VlId) (cycle : ℕ) (z : ℤ) → (if dev
 self_takes device vl cycle z = ap (λ (b : Bool). if b then frame_of vl cycle z ∷ [] else []) (eq-eqb device.0 device.0 refl)
 
 module _ {M : Type 0} (stands : M → Network → DeviceId → Node → Type 0) (s : Scenario)
-    (hs front back : List Happening) (mark cursor : List ℕ) (now : ℕ) (e : OnWire) (machine heard : M)
+    (hs front back : List Happening) (now : ℕ) (e : OnWire) (machine heard : M)
     (octets : List ℕ) (result : Arrival) where
   kept_there : (is : Arrival) {w : Happening} → IsHearingIt stands s hs
-      (front ++ back) mark cursor now e machine heard octets result
-      → IsReceiving s hs front back mark cursor now e is w
+      (front ++ back) now e machine heard octets result
+      → IsReceiving s hs front back now e is w
       → is ≡ arrival_of s (hs ++ (front ++ back)) e.device now e.link e.cause e.signal
-      → (k : IsKept stands s hs (front ++ back) cursor now e.device machine) → stands heard s.network e.device
+      → (k : IsKept stands s hs (front ++ back) (now ∷ 2 ∷ e.device.0 ∷ e.link.0 ∷ e.cause ∷ []) now e.device machine) → stands heard s.network e.device
       (called (moment_of s e.device now) arriving (after_arrival k.node (moment_of s e.device now) is))
       → IsHeld stands s hs (front ++ w ∷ back) (behind (now ∷ 2 ∷ e.device.0 ∷ e.link.0 ∷ e.cause
       ∷ [])) now e.device heard
   kept_there (arrivals.Accepted vl cycle) h r so k is =
-      taken_there stands s hs front back mark cursor now e heard h.moving
-      (taking_by stands s hs front back mark cursor now e vl cycle h.given r
+      taken_there stands s hs front back now e heard
+      (taking_by stands s hs front back now e vl cycle h.given r
       (accepted_high s e.device now e.link e.cause e.signal (hs ++ (front ++ back)) vl cycle (sym so))
       (self_takes e.device vl cycle))
       h.steady h.precise k is
   kept_there (arrivals.Delivered vl cycle) h r so k is =
-      taken_there stands s hs front back mark cursor now e heard h.moving
-      (taking_by stands s hs front back mark cursor now e vl cycle h.given r (delivered_high s.network e.device)
+      taken_there stands s hs front back now e heard
+      (taking_by stands s hs front back now e vl cycle h.given r (delivered_high s.network e.device)
       (self_takes e.device vl cycle)) h.steady h.precise k is
   kept_there (arrivals.Dropped reason) h r so k is =
-      plain_there e heard h.moving (quiet_for stands h.given r e.device) r.one.at
+      plain_there e heard (quiet_for stands h.given r e.device) r.one.at
       (λ at. ap (taken_in e.device at) r.body) k is
   kept_there (arrivals.Waits frame point) h r so k is =
-      plain_there e heard h.moving (quiet_for stands h.given r e.device) r.one.at
+      plain_there e heard (quiet_for stands h.given r e.device) r.one.at
       (λ at. ap (taken_in e.device at) r.body) k is
   kept_there (arrivals.Passes frame way) h r so k is =
-      plain_there e heard h.moving (quiet_for stands h.given r e.device) r.one.at
+      plain_there e heard (quiet_for stands h.given r e.device) r.one.at
       (λ at. ap (taken_in e.device at) r.body) k is
   kept_there (arrivals.PassesAndWaits frame way point) h r so k is =
-      plain_there e heard h.moving (quiet_for stands h.given r e.device) r.one.at
+      plain_there e heard (quiet_for stands h.given r e.device) r.one.at
       (λ at. ap (taken_in e.device at) r.body) k is
 
   -- a broken device takes nothing, and is kept
   pub held_there : {is : Arrival} {w : Happening} → IsHearingIt stands s hs
-      (front ++ back) mark cursor now e machine heard octets result
-      → IsReceiving s hs front back mark cursor now e is w
+      (front ++ back) now e machine heard octets result
+      → IsReceiving s hs front back now e is w
       → is ≡ arrival_of s (hs ++ (front ++ back)) e.device now e.link e.cause e.signal
-      → IsHeld stands s hs (front ++ back) cursor now e.device machine
+      → IsHeld stands s hs (front ++ back) (now ∷ 2 ∷ e.device.0 ∷ e.link.0 ∷ e.cause ∷ []) now e.device machine
       → IsHeld stands s hs (front ++ w ∷ back) (behind (now ∷ 2 ∷ e.device.0 ∷ e.link.0 ∷ e.cause
       ∷ [])) now e.device heard
   held_there {is} h r so (inl k) =
       let m = moment_of s e.device now in
-      let it = kept_answers stands s hs (front ++ back) mark cursor now e machine heard octets result h k in
+      let it = kept_answers stands s hs (front ++ back) now e machine heard octets result h k in
       kept_there is h r so k
       (subst (λ a. stands heard s.network e.device (called m arriving (after_arrival k.node m a)))
       (it.0 ∙ sym so) it.1)
@@ -308,7 +302,7 @@ module _ {M : Type 0} (stands : M → Network → DeviceId → Node → Type 0) 
       held_aside s hs front back w e.device quiet.bears r.one.at
       (frames_aside s hs front back w e.device quiet.bears
       (λ at. ap (taken_in e.device at) (r.body ∙ ap (arrival_body e.device e.link e.cause) dropped)))
-      (inr (out_heard stands s hs (front ++ back) mark cursor now e machine heard octets result h k).1)
+      (inr (out_heard stands s hs (front ++ back) now e machine heard octets result h k).1)
 
 -- where a world stands and the first frame on a wire arrives, it stands again once its device has heard it
 pub heard_step : {C M : Type 0} (reading : C → ℕ → ℕ) (stands : M → Network → DeviceId → Node → Type 0) → HeardStep reading stands
@@ -318,16 +312,15 @@ heard_step {C} {M} reading stands s world notes e machine heard octets result ma
     let now = world.now in
     let more = e.device.0 ∷ e.link.0 ∷ e.cause ∷ [] in
     let here = now ∷ 2 ∷ more in
-    let m = arriving_first reading stands s world notes e {old = old} i at first in
-    let a : IsAfterGiven s hs world.settled old.mark old.cursor now e =
-    record { moving = m; within = old.run.within; not_later = old.not_later } in
+    let c = arriving_first reading stands s world notes e {old = old} i at first in
+    let a : IsAfterGiven s hs world.settled now e =
+    record { moving = c.moving; within = c.run.within } in
     let is = arrival_of s (hs ++ world.settled) e.device now e.link e.cause e.signal in
-    let own = old.devices e.device (device_there s hs e old.range (old.wires.real e i).0) in
+    let own = c.devices e.device (device_there s hs e old.range (old.wires.real e i).0) in
     let one : own.0 ≡ machine = some_same own.0 machine _ own.1 got in
-    let held : IsHeld stands s hs world.settled old.cursor now e.device machine =
-    subst (λ x. IsHeld stands s hs world.settled old.cursor now e.device x) one own.2 in
-    let h : IsHearingIt stands s hs world.settled old.mark old.cursor now e machine heard octets result = record {
-      moving = m;
+    let held : IsHeld stands s hs world.settled (now ∷ 2 ∷ e.device.0 ∷ e.link.0 ∷ e.cause ∷ []) now e.device machine =
+    subst (λ x. IsHeld stands s hs world.settled (now ∷ 2 ∷ e.device.0 ∷ e.link.0 ∷ e.cause ∷ []) now e.device x) one own.2 in
+    let h : IsHearingIt stands s hs world.settled now e machine heard octets result = record {
       given = a;
       precise = old.precise;
       steady = old.steady e.device;
@@ -336,27 +329,27 @@ heard_step {C} {M} reading stands s world notes e machine heard octets result ma
       may = may;
       hears = hears;
     } in
-    let answer : result ≡ is = held_answers stands s hs world.settled old.mark old.cursor now e machine heard octets result h held in
+    let answer : result ≡ is = held_answers stands s hs world.settled now e machine heard octets result h held in
     let r = heard_put reading stands s world notes e settled is {old = old} i at first
     (heard_as_all a) (rank_is s e.device now e.link e.cause e.signal)
     (subst (λ x. ArePutIn s.network hs now (arrival_body e.device e.link e.cause x ∷ []) world.settled settled) answer
     put) in
-    let a2 : IsAfterGiven s hs (r.front ++ r.back) old.mark old.cursor now e =
-    subst (λ l. IsAfterGiven s hs l old.mark old.cursor now e) r.whole a in
+    let a2 : IsAfterGiven s hs (r.front ++ r.back) now e =
+    subst (λ l. IsAfterGiven s hs l now e) r.whole a in
     let quiet = quiet_for stands a2 r.it in
     let then_ = r.front ++ r.w ∷ r.back in
     subst (λ (l : List Happening).
     StandsBehind reading stands s (record world { early = false; machines = machines; wires = wires; settled = l }) notes
     (behind (wire_place e))) (sym r.shows)
     (heard_behind reading stands s world notes e machines wires {settled = then_} {old = old} i at first without r.long
-    (arrival_put s hs r.front r.back old.mark old.cursor now e is r.w r.it)
+    (arrival_put s hs r.front r.back now e is r.w r.it)
     (known_aside hs r.front r.back r.w (λ device le. moves_no_other device r.w.note.body (quiet device).bears)
     (subst (λ (l : List Happening). AreOfNetwork s (hs ++ l)) r.whole old.known))
-    (devices_then old 2 more e.device m (λ other not. no_task_at s.network now other 2 more (inl (omega arith))) set
-    (held_there stands s hs r.front r.back old.mark old.cursor now e machine heard octets result
-    (subst (λ l. IsHearingIt stands s hs l old.mark old.cursor now e machine heard octets result) r.whole h) r.it
+    (devices_then c e.device (λ other not. no_task_at s.network now other 2 more (inl (omega arith))) set
+    (held_there stands s hs r.front r.back now e machine heard octets result
+    (subst (λ l. IsHearingIt stands s hs l now e machine heard octets result) r.whole h) r.it
     (ap (λ (l : List Happening). arrival_of s (hs ++ l) e.device now e.link e.cause e.signal) r.whole)
-    (subst (λ l. IsHeld stands s hs l old.cursor now e.device machine) r.whole held))
+    (subst (λ l. IsHeld stands s hs l (now ∷ 2 ∷ e.device.0 ∷ e.link.0 ∷ e.cause ∷ []) now e.device machine) r.whole held))
     (λ device k not kept.
     held_aside s hs r.front r.back r.w device (quiet device).bears r.it.one.at
     (frames_aside s hs r.front r.back r.w device (quiet device).bears

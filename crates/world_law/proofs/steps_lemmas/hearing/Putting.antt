@@ -1,7 +1,7 @@
 -- The record of an arrival is put in among those to come.
 use Rattle.world_law.proofs.steps_lemmas.Words.{◌++◌, ◌+◌, ◌∙◌, ◌∷◌, ◌≡◌, ◌≤◌, ◌⊎◌, Arrival, DeviceId, Happening, IsBefore, IsDue, IsFounded, IsIn}
 use Rattle.world_law.proofs.steps_lemmas.Words.{IsMoving, IsOnWire, IsOwnSource, IsPutIn, IsSource, List, Network, NoneBefore, OnWire, Scenario}
-use Rattle.world_law.proofs.steps_lemmas.Words.{Signal, [], ap, append-nil, arith, arrival_body, arrival_of, cause_of, chain, inr, IsOne}
+use Rattle.world_law.proofs.steps_lemmas.Words.{Signal, [], ap, append-nil, arith, arrival_body, arrival_of, cause_of, chain, IsOne}
 use Rattle.world_law.proofs.steps_lemmas.Words.{control, due_of, if◌then◌else◌, in_right, is_end, length, members_in, one_shown, parted, place_of, put_length}
 use Rattle.world_law.proofs.steps_lemmas.Words.{rank, record_of, refl, second, settled_as, subst, sym, time_of, timed, units_of, ℕ}
 use Rattle.world_law.proofs.steps_lemmas.hearing.Receptions.{arrives_now, body_cause, body_caused, body_key, body_own, few_cause, own_there}
@@ -9,8 +9,8 @@ use Rattle.world_law.proofs.steps_lemmas.hearing.Receptions.{arrives_now, body_c
 -- ---- no record to come is from the place of the arrival on
 
 -- the own source of what is to come is before the arrival
-never_from : {s : Scenario} {hs coming : List Happening} {mark cursor : List ℕ} {now : ℕ} {more : List ℕ}
-    → IsMoving s hs coming mark cursor now 2 more → (z : Happening) → IsIn z coming
+never_from : {s : Scenario} {hs coming : List Happening} {now : ℕ} {more : List ℕ}
+    → IsMoving s hs coming now 2 more → (z : Happening) → IsIn z coming
     → ((js : List Happening) (w : List ℕ) → IsOwnSource s js (time_of z) (members_in z) z.note.body w
     → (w ≡ now ∷ 2 ∷ more) ⊎ IsBefore (now ∷ 2 ∷ more) w) → ⊥
 never_from m z i from = grind (arith, parted, second, chain)
@@ -31,35 +31,34 @@ IsHeardAs s hs coming now e is =
 -- ---- what a step that puts in its record starts from
 
 -- the record is due at its place among those to come, and says what becomes of the frame by any of those before its place
-pub record IsReceiving (s : Scenario) (hs front back : List Happening) (mark cursor : List ℕ) (now : ℕ) (e : OnWire) (is : Arrival)
+pub record IsReceiving (s : Scenario) (hs front back : List Happening) (now : ℕ) (e : OnWire) (is : Arrival)
     (w : Happening) : Type 0 where
-  pub one : IsOne s hs front back mark cursor now 2 (e.device.0 ∷ e.link.0 ∷ e.cause ∷ []) w
+  pub one : IsOne s hs front back now 2 (e.device.0 ∷ e.link.0 ∷ e.cause ∷ []) w
   pub body : w.note.body ≡ arrival_body e.device e.link e.cause is
   pub wire : IsOnWire s hs e
   pub arrives : e.at ≡ now
   pub so : IsHeardAs s hs (front ++ back) now e is
 
 -- the record that is put in, and what is settled then
-pub record IsReceived (s : Scenario) (hs coming : List Happening) (mark cursor : List ℕ) (now : ℕ) (e : OnWire) (is : Arrival)
+pub record IsReceived (s : Scenario) (hs coming : List Happening) (now : ℕ) (e : OnWire) (is : Arrival)
     (settled : List Happening) : Type 0 where
   pub front : List Happening
   pub back : List Happening
   pub w : Happening
   pub whole : coming ≡ front ++ back
-  pub it : IsReceiving s hs front back mark cursor now e is w
+  pub it : IsReceiving s hs front back now e is w
   pub shows : settled ≡ front ++ w ∷ back
   pub long : length (front ++ w ∷ back) ≡ length coming + 1
 
-pub received : {s : Scenario} {hs coming : List Happening} {mark cursor : List ℕ} {now : ℕ} {e : OnWire}
-    (is : Arrival) {settled : List Happening} → IsMoving s hs coming mark cursor now 2
-    (e.device.0 ∷ e.link.0 ∷ e.cause ∷ []) → ((p : List ℕ) → IsBefore p (now ∷ []) → IsBefore p mark)
-    → IsFounded place_of (IsDue s) hs → IsOnWire s hs e → e.at ≡ now → IsHeardAs s hs coming now e is →
+pub received : {s : Scenario} {hs coming : List Happening} {now : ℕ} {e : OnWire}
+    (is : Arrival) {settled : List Happening} → IsMoving s hs coming now 2
+    (e.device.0 ∷ e.link.0 ∷ e.cause ∷ []) → IsFounded place_of (IsDue s) hs → IsOnWire s hs e → e.at ≡ now → IsHeardAs s hs coming now e is →
     ((js : List Happening)
     → least_rank s.network e.device e.signal ≤ rank (arrival_body e.device e.link e.cause (arrival_of s js e.device
     now e.link e.cause e.signal)))
     → IsPutIn (settled_as s.network hs now (arrival_body e.device e.link e.cause is)) coming settled
-    → IsReceived s hs coming mark cursor now e is settled
-received {s} {hs} {coming} {mark} {cursor} {now} {e} is m marked founded it at so least_is put =
+    → IsReceived s hs coming now e is settled
+received {s} {hs} {coming} {now} {e} is m founded it at so least_is put =
     let more = e.device.0 ∷ e.link.0 ∷ e.cause ∷ [] in
     let body = arrival_body e.device e.link e.cause is in
     let few : cause_of body ≤ length hs =
@@ -68,8 +67,8 @@ received {s} {hs} {coming} {mark} {cursor} {now} {e} is m marked founded it at s
     let front = shown.front in
     let back = shown.back in
     let w = record_of s.network hs front now body in
-    let moving : IsMoving s hs (front ++ back) mark cursor now 2 more =
-    subst (λ l. IsMoving s hs l mark cursor now 2 more) shown.parts m in
+    let moving : IsMoving s hs (front ++ back) now 2 more =
+    subst (λ l. IsMoving s hs l now 2 more) shown.parts m in
     let key_is : place_of w ≡ now ∷ rank body ∷ more = ap (λ (l : List ℕ). now ∷ rank body ∷ l) (body_key (members_in w) e.device e.link e.cause is) in
     let all : is ≡ arrival_of s (hs ++ coming) e.device now e.link e.cause e.signal =
     so coming [] (least_rank s.network e.device e.signal) (sym (append-nil coming)) (λ y none_. absurd none_) (omega arith) in
@@ -86,26 +85,14 @@ received {s} {hs} {coming} {mark} {cursor} {now} {e} is m marked founded it at s
       it = record {
         one = record {
           moving = moving;
-          later = inr (refl, inr (refl, tt));
-          marked = marked;
           given = founded;
           at = refl;
           due = due_of s hs front now body (body_caused (units_of now) is arrives);
           before = shown.before;
           none = shown.none;
-          fresh = grind (
-            arith,
-            never_from,
-            front,
-            back,
-            more,
-            moving,
-            in_right,
-            own_there,
-            time_of,
-            members_in,
-            key_is,
-          );
+          fresh = λ y i same.
+              never_from moving y (in_right y front back i)
+              (λ js u own. own_there s js now e is (time_of y) (members_in y) y.note.body u (sym key_is ∙ same) own);
           mine = body_own (members_in w) is arrives;
           here =
               IsSource.arriving now e.device e.link e.cause

@@ -1,4 +1,4 @@
--- The record of an arrival is put in, and the cursor goes by it: what is to come is settled.
+-- The record of an arrival is put in, and the frontier goes by it: what is to come is settled.
 use Rattle.run_law.proofs.runs.SameSteps.{same_arrival}
 use Rattle.world_law.proofs.steps_lemmas.Words.{◌++◌, ◌∙◌, ◌∷◌, ◌≡◌, ◌≤◌, AreSettled, Arrival, DeviceId, Happening, IsAllOfIt, IsIn}
 use Rattle.world_law.proofs.steps_lemmas.Words.{LinkId, List, NoneBefore, OnWire, Scenario, [], ap, append_assoc, arrival_body, arrival_of, behind}
@@ -14,8 +14,8 @@ last_body : (device : DeviceId) (link : LinkId) (cause : ℕ) (is : Arrival) →
 last_body device link cause (arrivals.Dropped reason) = refl
 last_body device link cause other = refl
 
-module _ (s : Scenario) (hs front back : List Happening) (mark cursor : List ℕ) (now : ℕ) (e : OnWire) (is : Arrival) (w : Happening)
-    (p : IsReceiving s hs front back mark cursor now e is w) where
+module _ (s : Scenario) (hs front back : List Happening) (now : ℕ) (e : OnWire) (is : Arrival) (w : Happening)
+    (p : IsReceiving s hs front back now e is w) where
   -- the frame is judged with it as without it
   judged_put : (c d : List Happening) → back ≡ c ++ d → arrival_of s (hs ++ (front ++ c)) e.device now e.link e.cause e.signal
       ≡ arrival_of s (hs ++ (front ++ w ∷ c)) e.device now e.link e.cause e.signal
@@ -52,7 +52,8 @@ module _ (s : Scenario) (hs front back : List Happening) (mark cursor : List ℕ
         placed_at now e is w p.one.at p.body ∙ outcome_at f is p.wire p.arrives so c,
       )
 
-  pub arrival_put : AreSettled s hs (front ++ w ∷ back) mark (behind (now ∷ 2 ∷ e.device.0 ∷ e.link.0 ∷ e.cause ∷ [])) now
+  pub arrival_put : AreSettled s hs (front ++ w ∷ back) (now ∷ 2 ∷ e.device.0 ∷ e.link.0 ∷ e.cause ∷ [])
+      (behind (now ∷ 2 ∷ e.device.0 ∷ e.link.0 ∷ e.cause ∷ [])) now
   arrival_put =
       let more = e.device.0 ∷ e.link.0 ∷ e.cause ∷ [] in
       one_by p.one

@@ -3,9 +3,9 @@ use Rattle.{run_law.proofs.runs.Places.earlier_time, world_law.proofs.{putting.{
 use Rattle.world_law.proofs.steps_lemmas.Words.{◌&&◌, ◌++◌, ◌+◌, ◌<◌, ◌==◌, ◌||◌, ◌∙◌, ◌∷◌, ◌≡◌, ◌≤◌, ◌⊎◌, AllBefore, Bool, DeviceId, Happening, IsBefore}
 use Rattle.world_law.proofs.steps_lemmas.Words.{IsCaused, IsIn, IsKept, IsLeft, IsMoving, IsNoTaking, IsOwnSource, LinkId, List, Network, Node, None}
 use Rattle.world_law.proofs.steps_lemmas.Words.{NoneBefore, NoteBody, OnWire, Scenario, Signal, VlId, [], ap, append-nil, append_assoc, arith}
-use Rattle.world_law.proofs.steps_lemmas.Words.{arrival_at, arrival_of, before_later, cases_Bool, cases_lt, chain, comes_before, control, eqb-true, false}
+use Rattle.world_law.proofs.steps_lemmas.Words.{arrival_at, arrival_of, cases_Bool, cases_lt, comes_before, control, eqb-true, false}
 use Rattle.world_law.proofs.steps_lemmas.Words.{filter, filter-append, if◌then◌else◌, in_left, in_parts, in_right, inl, inr, is_end, is_taken_before, key}
-use Rattle.world_law.proofs.steps_lemmas.Words.{last_or, last_taken, last_taken_by, members_in, moment_of, nat_lt, option_and_then, parted, place_of, rank}
+use Rattle.world_law.proofs.steps_lemmas.Words.{last_or, last_taken, last_taken_by, members_in, moment_of, nat_lt, option_and_then, parted, never_self, place_of, rank}
 use Rattle.world_law.proofs.steps_lemmas.Words.{refl, standpoint, subst, sym, taken_cycle, time_of, timed, timed_arrival, true, ℕ}
 use Rattle.world_law.proofs.steps_lemmas.hearing.{Called.not_yet_acted, Putting.{IsHeardAs, least_rank}, Ranked.{control_still, standpoint_still}}
 use Rattle.world_law.proofs.steps_lemmas.hearing.{Judging.{control_judged, same_standpoint}, Takings.{IsBefore2, IsSooner, taken_last, taking_is}}
@@ -13,28 +13,27 @@ use Rattle.run_law.specs.declared.note.NoteBody.TheVariants as notes
 
 -- ---- what the device took comes before the arrival
 
--- what a step that hears a frame starts from, with what is before the mark
-pub record IsAfterGiven (s : Scenario) (hs coming : List Happening) (mark cursor : List ℕ) (now : ℕ) (e : OnWire) : Type 0 where
-  pub moving : IsMoving s hs coming mark cursor now 2 (e.device.0 ∷ e.link.0 ∷ e.cause ∷ [])
-  pub within : AllBefore place_of hs mark
-  pub not_later : (p : List ℕ) → IsBefore p cursor → IsBefore p ((now + 1) ∷ [])
+-- what a step that hears a frame starts from, with what is before the frontier
+pub record IsAfterGiven (s : Scenario) (hs coming : List Happening) (now : ℕ) (e : OnWire) : Type 0 where
+  pub moving : IsMoving s hs coming now 2 (e.device.0 ∷ e.link.0 ∷ e.cause ∷ [])
+  pub within : AllBefore place_of hs (now ∷ 2 ∷ e.device.0 ∷ e.link.0 ∷ e.cause ∷ [])
 
-given_time : {s : Scenario} {hs coming : List Happening} {mark cursor : List ℕ} {now : ℕ} {e : OnWire}
-    → IsAfterGiven s hs coming mark cursor now e → (h : Happening) → IsIn h hs → 2 < rank h.note.body
+given_time : {s : Scenario} {hs coming : List Happening} {now : ℕ} {e : OnWire}
+    → IsAfterGiven s hs coming now e → (h : Happening) → IsIn h hs → 2 < rank h.note.body
     → time_of h < now
-given_time {cursor} {now} {e} a h i high =
+given_time {now} {e} a h i high =
     let here = now ∷ 2 ∷ e.device.0 ∷ e.link.0 ∷ e.cause ∷ [] in
-    let under = a.moving.ahead (place_of h) (a.within h i) in
-    let by = earlier_time (time_of h) (now + 1) (rank h.note.body ∷ key (members_in h) h.note.body) (a.not_later (place_of h) under) in
     elim (cases_lt (time_of h) now) [
       | inl lt ↦ lt
-      | inr ge ↦
-          let same : now ≡ time_of h = omega (arith, by, ge) in
-          absurd (a.moving.waits (chain here (place_of h) cursor (inr (same, inl high)) under))
+      | inr ge ↦ elim (a.within h i) [
+        | inl lt ↦ absurd (omega (arith, lt, ge))
+        | inr (same, inl low) ↦ absurd (omega (arith, low, high))
+        | inr (same, inr (e, b)) ↦ absurd (omega (arith, e, high))
+      ]
     ]
 
-module _ {s : Scenario} {hs coming : List Happening} {mark cursor : List ℕ} {now : ℕ} {e : OnWire}
-    (a : IsAfterGiven s hs coming mark cursor now e) (h : Happening) (i : IsIn h hs) where
+module _ {s : Scenario} {hs coming : List Happening} {now : ℕ} {e : OnWire}
+    (a : IsAfterGiven s hs coming now e) (h : Happening) (i : IsIn h hs) where
   -- no record that is given is later
   pub given_by_now : time_of h ≤ now
   given_by_now = grind (arith, place_of, earlier_time, time_of, rank, key, members_in)
@@ -54,8 +53,8 @@ source_sooner now t device other link by cause from at same (inr (e, inr (f, inr
 source_sooner now t device other link by cause from at same (inr (e, inr (f, inr (g, inr (h, inl lt))))) = inr (h, lt)
 source_sooner now t device other link by cause from at same (inr (e, inr (f, inr (g, inr (h, inr (k, none)))))) = absurd none
 
-module _ {s : Scenario} {hs coming : List Happening} {mark cursor : List ℕ} {now : ℕ} {e : OnWire}
-    (a : IsAfterGiven s hs coming mark cursor now e) where
+module _ {s : Scenario} {hs coming : List Happening} {now : ℕ} {e : OnWire}
+    (a : IsAfterGiven s hs coming now e) where
   coming_sooner : (z : Happening) → IsIn z coming → (other : DeviceId) (by : LinkId) (from : ℕ)
       → ((js : List Happening) (w : List ℕ) → IsOwnSource s js (time_of z) (members_in z) z.note.body w
       → w ≡ time_of z ∷ 2 ∷ other.0 ∷ by.0 ∷ from ∷ []) → e.device ≡ other → IsBefore2 by from e.link e.cause
@@ -67,7 +66,7 @@ module _ {s : Scenario} {hs coming : List Happening} {mark cursor : List ℕ} {n
       let at = a.moving.are.of_now z i in
       source_sooner now (time_of z) e.device.0 other.0 e.link.0 by.0 e.cause
       from at (ap (λ (d : DeviceId). d.0) (sym same))
-      (subst (λ q. IsBefore q here) w_is (before_later off.0 here cursor off.3 a.moving.waits))
+      (subst (λ q. IsBefore q here) w_is off.3)
 
   come_sooner : (z : Happening) → IsIn z coming → (body : NoteBody) → z.note.body ≡ body
       → IsSooner e.device now e.link e.cause z body
@@ -95,12 +94,13 @@ module _ {s : Scenario} {hs coming : List Happening} {mark cursor : List ℕ} {n
 -- ---- a sound device judges it as the records say
 
 pub kept_judges : {M : Type 0} {stands : M → Network → DeviceId → Node → Type 0} {s : Scenario}
-    {hs coming : List Happening} {mark cursor : List ℕ} {now : ℕ} {e : OnWire} {machine : M} (signal : Signal)
-    → IsAfterGiven s hs coming mark cursor now e → (k : IsKept stands s hs coming cursor now e.device machine)
+    {hs coming : List Happening} {now : ℕ} {e : OnWire} {machine : M} (signal : Signal)
+    → IsAfterGiven s hs coming now e → (k : IsKept stands s hs coming (now ∷ 2 ∷ e.device.0 ∷ e.link.0 ∷ e.cause ∷ []) now e.device machine)
     → arrival_at s.network e.device k.node (moment_of s e.device now) e.link signal
     ≡ arrival_of s (hs ++ coming) e.device now e.link e.cause signal
-kept_judges {stands} {s} {hs} {coming} {cursor} {now} {e} signal a k =
-    let up = not_yet_acted stands s hs coming cursor (e.device.0 ∷ e.link.0 ∷ e.cause ∷ []) k a.moving.waits in
+kept_judges {stands} {s} {hs} {coming} {now} {e} signal a k =
+    let here = now ∷ 2 ∷ e.device.0 ∷ e.link.0 ∷ e.cause ∷ [] in
+    let up = not_yet_acted stands s hs coming here (e.device.0 ∷ e.link.0 ∷ e.cause ∷ []) k (never_self here) in
     let left : IsLeft s (hs ++ coming) e.device now k.node = subst (λ n. IsLeft s (hs ++ coming) e.device n k.node) up k.left in
     by left signal
   where
@@ -132,8 +132,8 @@ IsApart device (notes.Accepted other by from vl cycle) = (device.0 == other.0) �
 IsApart device (notes.Delivered other by from vl cycle) = (device.0 == other.0) ≡ false
 IsApart device other = Unit {0}
 
-apart : {s : Scenario} {hs coming : List Happening} {mark cursor : List ℕ} {now : ℕ} {e : OnWire}
-    → IsAfterGiven s hs coming mark cursor now e → (z : Happening) → IsIn z coming → (r : ℕ)
+apart : {s : Scenario} {hs coming : List Happening} {now : ℕ} {e : OnWire}
+    → IsAfterGiven s hs coming now e → (z : Happening) → IsIn z coming → (r : ℕ)
     → (IsBefore (place_of z) (now ∷ r ∷ e.device.0 ∷ e.link.0 ∷ e.cause ∷ []) → ⊥)
     → (if is_end s.network e.device then 12 else 11) ≤ r → (body : NoteBody) → z.note.body ≡ body
     → IsApart e.device body
@@ -184,8 +184,8 @@ takes_not device (notes.Accepted other by from of_vl cycle) e = λ at. ap (λ (b
 takes_not device (notes.Delivered other by from of_vl cycle) e = λ at. ap (λ (b : Bool). if b then record { vl = of_vl; cycle = cycle; at = at } ∷ [] else []) e
 takes_not device other e = λ at. refl
 
-module _ {s : Scenario} {hs coming : List Happening} {mark cursor : List ℕ} {now : ℕ} {e : OnWire}
-    (a : IsAfterGiven s hs coming mark cursor now e) where
+module _ {s : Scenario} {hs coming : List Happening} {now : ℕ} {e : OnWire}
+    (a : IsAfterGiven s hs coming now e) where
   -- so it takes none by what is left
   pub no_taking : (z : Happening) → IsIn z coming → (r : ℕ)
       → (IsBefore (place_of z) (now ∷ r ∷ e.device.0 ∷ e.link.0 ∷ e.cause ∷ []) → ⊥)

@@ -1,7 +1,7 @@
 -- The machine answers, and its device is kept, whatever becomes of the frame.
 use Rattle.run_law.{proofs.device.States.joined_or, specs.machines.Calls.{IsHearing, MayRipen, order_of_phase}}
 use Rattle.std.proofs.Common.{Contains}
-use Rattle.world_law.proofs.steps_lemmas.Words.{Happening, HasSentFrom, HasTurnedOn, IsBefore, IsIn, IsKept, IsLeft, IsNoTaking, IsOfMaster, IsParentOf}
+use Rattle.world_law.proofs.steps_lemmas.Words.{never_self, chain, Happening, HasSentFrom, HasTurnedOn, IsBefore, IsIn, IsKept, IsLeft, IsNoTaking, IsOfMaster, IsParentOf}
 use Rattle.world_law.proofs.steps_lemmas.Words.{IsPermanenceOutcomeAt, IsSteady, Joining, Judgement, List, MayCall, Network, Node, NoneBefore, NoteBody}
 use Rattle.world_law.proofs.steps_lemmas.Words.{Phase, Point, Reason, Ripe, Scenario, Some, State, Waiting, ℕ, [], after_permanence, all_up_to, amount, ap}
 use Rattle.world_law.proofs.steps_lemmas.Words.{append_assoc, arith, behind, both_ways, called, cases_Bool, cases_lt, channel_of_link, earlier}
@@ -74,14 +74,13 @@ both_flags false true e = absurd cc
 both_flags true b e = absurd cc
 
 pub hears_now : {M : Type 0} {stands : M → Network → DeviceId → Node → Type 0} {s : Scenario}
-    {hs coming : List Happening} {mark cursor : List ℕ} {now : ℕ} {e : Waiting} {machine : M}
-    (r : IsRipe s hs coming mark cursor now e) (k : IsKept stands s hs coming cursor now e.device machine)
+    {hs coming : List Happening} {now : ℕ} {e : Waiting} {machine : M}
+    (r : IsRipe s hs coming now e) (k : IsKept stands s hs coming (now ∷ 3 ∷ ripe_more e) now e.device machine)
     → Hears s hs e.device now k.node
 hears_now {stands} {s} {hs} {coming} {e} {machine} r k =
     let yet = is_yet stands machine r k in
     elim yet.stands [
-      | inl here ↦ hears_before r (subst (λ t. IsLeft s (hs ++ coming) e.device t k.node) here.0 k.left)
-          (k.still here.0)
+      | inl here ↦ hears_before r (subst (λ t. IsLeft s (hs ++ coming) e.device t k.node) here k.left) (k.still here)
       | inr over ↦ hears_told over.1 (subst (λ t. IsLeft s (hs ++ coming) e.device t k.node) over.0 k.left)
     ]
 
@@ -93,9 +92,9 @@ pub record IsAsked (s : Scenario) (hs : List Happening) (now : ℕ) (e : Waiting
   pub ripens : MayRipen s.network e.device node (moment_of s e.device now) e.link e.frame e.point
 
 module _ {M : Type 0} (stands : M → Network → DeviceId → Node → Type 0) (s : Scenario) (hs coming : List Happening)
-    (mark cursor : List ℕ) (now : ℕ) (e : Waiting) (machine : M) where
-  pub may_be_asked : (r : IsRipe s hs coming mark cursor now e)
-      (k : IsKept stands s hs coming cursor now e.device machine)
+    (now : ℕ) (e : Waiting) (machine : M) where
+  pub may_be_asked : (r : IsRipe s hs coming now e)
+      (k : IsKept stands s hs coming (now ∷ 3 ∷ ripe_more e) now e.device machine)
       → (IsParentOf s.network e.device e.link → IsOfMaster s.network e.device e.link e.frame.members)
       → IsAsked s hs now e k.node
   may_be_asked r k master =
@@ -113,11 +112,11 @@ module _ {M : Type 0} (stands : M → Network → DeviceId → Node → Type 0) 
       let inside : (h : Happening) → IsIn h c.front → IsIn h hs =
       λ h i. subst (λ l. IsIn h l) (sym c.whole)
       (in_left h c.front (arrival ∷ c.rest) i) in
-      let on = still_on c.front t0 device r.run r.of_now r.befallen le inside flags.0 flags.1 in
+      let on = still_on c.front t0 device r.run (λ p b. chain p (now ∷ []) (now ∷ 3 ∷ ripe_more e) b (inr (refl, tt))) r.befallen le inside flags.0 flags.1 in
       let late = all_late r.moving r.run.within in
       let broken : k.node.broken ≡ false = k.left.counted.broken ∙ elim yet.stands [
-        | inl here ↦ ap (is_broken s device) here.0 ∙ k.sound
-        | inr over ↦ ap (is_broken s device) over.0 ∙ no_later_breaks s mark now (now + 1) device r.befallen
+        | inl here ↦ ap (is_broken s device) here ∙ k.sound
+        | inr over ↦ ap (is_broken s device) over.0 ∙ no_later_breaks s _ now (now + 1) device r.befallen
             (omega arith) ∙ k.sound
       ] in
       let hearing : IsHearing s.network device k.node = record {
@@ -125,27 +124,27 @@ module _ {M : Type 0} (stands : M → Network → DeviceId → Node → Type 0) 
         on = ap is_off hears.state ∙ joined_or (has_joined_at hs device now) (state_before s hs device now) on;
         sound = broken;
       } in
-      let call = may_call ripening (ripe_more e) k r.steady r.limit r.moving.waits in
+      let call = may_call ripening (ripe_more e) k r.steady r.limit (never_self (now ∷ 3 ∷ ripe_more e)) in
       let points : (p : Point) → IsIn p k.node.points → p.reading ≤ℤ e.point.0 =
       λ p i. elim (cases_Bool (is_cm s.network device)) [
-        | inl cm ↦ points_no_later s hs coming mark cursor now r late p
+        | inl cm ↦ points_no_later s hs coming now r late p
             (subst (λ l. IsIn p l) (k.left.points cm) i)
         | inr other ↦ absurd (subst (λ l. IsIn p l) (k.bare other).0 i)
       ] in
       let emitted : (x : Compressed) → Contains k.node.emitted x → x.at.0 ≤ℤ e.point.0 =
       λ x there. elim (cases_Bool (is_cm s.network device)) [
         | inl cm ↦ elim yet.stands [
-          | inl here ↦ emitted_no_later s hs coming mark cursor now r
-              (subst (λ n. HasSentFrom s device k.node k.up n) here.0 (rests_yet stands machine r k).sent) x there
+          | inl here ↦ emitted_no_later s hs coming now r
+              (subst (λ n. HasSentFrom s device k.node k.up n) here (rests_yet stands machine r k).sent) x there
           | inr over ↦ absurd (both_ways (is_cm s.network device) over.1.just.other cm)
         ]
         | inr other ↦ absurd (Rattle.compression.proofs.Elements.in_none x
             (subst (λ (l : List Compressed). Contains l x) (k.bare other).1 there))
       ] in
-      record { hears = hears; call = call; hearing = hearing; ripens = may_ripen s hs coming mark cursor now r k.ready master points emitted }
+      record { hears = hears; call = call; hearing = hearing; ripens = may_ripen s hs coming now r k.ready master points emitted }
 
-  pub answered : (after : M) (result : Ripe) (r : IsRipe s hs coming mark cursor now e)
-      (k : IsKept stands s hs coming cursor now e.device machine)
+  pub answered : (after : M) (result : Ripe) (r : IsRipe s hs coming now e)
+      (k : IsKept stands s hs coming (now ∷ 3 ∷ ripe_more e) now e.device machine)
       → (IsParentOf s.network e.device e.link → IsOfMaster s.network e.device e.link e.frame.members)
       → HasRipened stands s.network e.device (moment_of s e.device now) e.link e.frame e.point result machine after
       → IsAnswered stands s hs now e k.node after result
@@ -165,38 +164,38 @@ pub placed_high : (now : ℕ) (front back : List Happening) (w : Happening)
     → (z : Happening) → IsIn z (front ++ w ∷ back) → (z ≡ w) ⊎ ((time_of z ≡ now) × (4 ≤ rank z.note.body))
 placed_high now front back w high z i = elim (placed_back [] front back w z i) [ inl same ↦ inl same | inr was ↦ inr (high z was) ]
 
-pub high_now : {s : Scenario} {hs coming : List Happening} {mark cursor : List ℕ} {now : ℕ} {e : Waiting}
-    → IsRipe s hs coming mark cursor now e → (z : Happening) → IsIn z coming
+pub high_now : {s : Scenario} {hs coming : List Happening} {now : ℕ} {e : Waiting}
+    → IsRipe s hs coming now e → (z : Happening) → IsIn z coming
     → (time_of z ≡ now) × (4 ≤ rank z.note.body)
-high_now {s} {hs} {coming} {mark} {cursor} {now} r z i =
-    (r.moving.are.of_now z i, all_high s hs coming mark cursor now r z i)
+high_now {s} {hs} {coming} {now} r z i =
+    (r.moving.are.of_now z i, all_high s hs coming now r z i)
 
 -- ---- the frame is collected, or heard
 
 pub quiet_kept : {M : Type 0} {stands : M → Network → DeviceId → Node → Type 0} {s : Scenario} {hs : List Happening}
-    (front back : List Happening) {mark cursor : List ℕ} {now : ℕ} {e : Waiting} {machine after : M} (w : Happening)
-    (verdict : Judgement) (r : IsRipe s hs (front ++ back) mark cursor now e)
-    (k : IsKept stands s hs (front ++ back) cursor now e.device machine)
+    (front back : List Happening) {now : ℕ} {e : Waiting} {machine after : M} (w : Happening)
+    (verdict : Judgement) (r : IsRipe s hs (front ++ back) now e)
+    (k : IsKept stands s hs (front ++ back) (now ∷ 3 ∷ ripe_more e) now e.device machine)
     → IsAnswered stands s hs now e k.node after (ripe_as verdict) → IsByRole (is_cm s.network e.device) verdict
     → w.note.body ≡ kinds.Permanent e.device e.link e.cause e.point verdict → w.frame ≡ Some e.frame
     → time_of w ≡ now → place_of w ≡ now ∷ 3 ∷ ripe_more e → AllBefore place_of front (place_of w)
     → IsKept stands s hs (front ++ w ∷ back) (behind (now ∷ 3 ∷ ripe_more e)) now e.device after
-quiet_kept {s} {hs} [] back {mark} {cursor} {now} {e} {after} w verdict r k a role body of_frame at place before =
+quiet_kept {s} {hs} [] back {now} {e} {after} w verdict r k a role body of_frame at place before =
     kept_next after
     (after_permanence k.node (moment_of s e.device now) (channel_of_link s.network e.link) e.frame e.point (ripe_as verdict)) r k a.is
-    (carried_by_role s hs back mark cursor now e k.node verdict r role (λ cm q i.
-    points_no_later s hs back mark cursor now r (all_late r.moving r.run.within) q
+    (carried_by_role s hs back now e k.node verdict r role (λ cm q i.
+    points_no_later s hs back now r (all_late r.moving r.run.within) q
     (subst (λ l. IsIn q l) (k.left.points cm) i)))
     (next_by_role w verdict r k a.hears role body of_frame at)
 quiet_kept (f ∷ front) back w verdict r k a role body of_frame at place before =
-    absurd (r.moving.after f (inl refl) (subst (λ q. IsBefore (place_of f) q) place (before f (inl refl))))
+    absurd (r.moving.are.behind_mark f (inl refl) (subst (λ q. IsBefore (place_of f) q) place (before f (inl refl))))
 
 -- ---- it is dropped
 
 pub dropped_kept : {M : Type 0} {stands : M → Network → DeviceId → Node → Type 0} {s : Scenario}
-    {hs : List Happening} (front back : List Happening) {mark cursor : List ℕ} {now : ℕ} {e : Waiting}
-    {machine after : M} (w : Happening) (reason : Reason) (r : IsRipe s hs (front ++ back) mark cursor now e)
-    (k : IsKept stands s hs (front ++ back) cursor now e.device machine)
+    {hs : List Happening} (front back : List Happening) {now : ℕ} {e : Waiting}
+    {machine after : M} (w : Happening) (reason : Reason) (r : IsRipe s hs (front ++ back) now e)
+    (k : IsKept stands s hs (front ++ back) (now ∷ 3 ∷ ripe_more e) now e.device machine)
     → IsAnswered stands s hs now e k.node after (ripe.Dropped reason)
     → Rattle.world_law.specs.device.Own.bears_on e.device w.note.body ≡ false → IsNoTaking e.device w.note.body
     → IsKept stands s hs (front ++ w ∷ back) (behind (now ∷ 3 ∷ ripe_more e)) now e.device after
@@ -216,9 +215,9 @@ stirs_state device (kinds.Corrected other cycle by adjustment) late e = absurd l
 stirs_state device other late e = absurd cc
 
 pub joined_kept : {M : Type 0} {stands : M → Network → DeviceId → Node → Type 0} {s : Scenario}
-    {hs back : List Happening} (f2 back2 : List Happening) {mark cursor : List ℕ} {now : ℕ} {e : Waiting}
-    {machine after : M} (w v : Happening) (r : IsRipe s hs back mark cursor now e)
-    (k : IsKept stands s hs back cursor now e.device machine)
+    {hs back : List Happening} (f2 back2 : List Happening) {now : ℕ} {e : Waiting}
+    {machine after : M} (w v : Happening) (r : IsRipe s hs back now e)
+    (k : IsKept stands s hs back (now ∷ 3 ∷ ripe_more e) now e.device machine)
     → IsAnswered stands s hs now e k.node after ripe.Integrates → pos 0 ≤ℤ s.network.precision.0
     → w.note.body ≡ kinds.Permanent e.device e.link e.cause e.point judgements.Integrates → w.frame ≡ Some e.frame
     → time_of w ≡ now → back ≡ f2 ++ back2 → v.note.body ≡ kinds.State e.device Joining (length hs + 1) whys.Frame

@@ -18,9 +18,10 @@ pub may_ask : {C M : Type 0} (reading : C → ℕ → ℕ) (stands : M → Netwo
     → ComesFirst reading stands s world notes old (ripe_place world.now e) → MayAsk stands s world notes e
 may_ask reading stands s world notes e old i reached first =
     let hs = happenings s.network notes in
-    let r = ripening_first e i reached first in
+    let start = ripening_first e i reached first in
+    let r = start.1 in
     let within = in_network r in
-    let held = old.devices e.device within in
+    let held = (start.0).devices e.device within in
     let it = old.waiting.real e i in
     elim held.2 [
       | inr out ↦ absurd (both_ways (is_broken s e.device world.now) r.sound out.broken)
@@ -30,7 +31,7 @@ may_ask reading stands s world notes e old i reached first =
         there = held.1;
         node = k.node;
         is = k.is;
-        asked = may_be_asked stands s hs world.settled old.mark old.cursor world.now e held.0 r k (λ parent.
+        asked = may_be_asked stands s hs world.settled world.now e held.0 r k (λ parent.
             of_master s hs it.arrival e.device e.link it.awaited.from it.awaited.clock e.frame old.range old.rules old.befallen.sent old.run.founded
             (numbered_in hs e.cause it.arrival it.there) it.awaited.arrived it.awaited.of_frame parent);
       }

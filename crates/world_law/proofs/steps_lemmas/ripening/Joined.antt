@@ -1,7 +1,7 @@
 -- The device that a frame tells the time is kept.
 use Rattle.run_law.{proofs.control.Verdicts.looking_ripe, specs.{declared.judgement.Judgement.TheVariants.Integrates, device.States.joined_adjustment}}
 use Rattle.{sync_state.specs.Integration.joined_by, world_law.specs.device.Told.change_in}
-use Rattle.world_law.proofs.steps_lemmas.Words.{◌&&◌, ◌++◌, ◌+ℤ◌, ◌+◌, ◌-ℤ◌, ◌-◌, ◌<ℤ◌, ◌||◌, ◌∙◌, ◌∷◌, ◌≡◌, ◌≤ℤ◌, ◌≤◌, ◌⊎◌, Bool, DeviceId, Happening}
+use Rattle.world_law.proofs.steps_lemmas.Words.{turned_by, ◌&&◌, ◌++◌, ◌+ℤ◌, ◌+◌, ◌-ℤ◌, ◌-◌, ◌<ℤ◌, ◌||◌, ◌∙◌, ◌∷◌, ◌≡◌, ◌≤ℤ◌, ◌≤◌, ◌⊎◌, Bool, DeviceId, Happening}
 use Rattle.world_law.proofs.steps_lemmas.Words.{HasTurnedOn, Integrating, IsIn, IsKept, IsLeft, IsPending, Joining, LinkId, List, Moment, Network, Node, None}
 use Rattle.world_law.proofs.steps_lemmas.Words.{Option, Pcf, Phase, Scenario, Some, State, Task, Units, Waiting, [], adjustment_after}
 use Rattle.world_law.proofs.steps_lemmas.Words.{adjustment_with, after_last, and_right, ap, append_assoc, arith, before_behind, behind, both_ways, called}
@@ -12,7 +12,7 @@ use Rattle.world_law.proofs.steps_lemmas.Words.{is_broken, is_cm, is_integration
 use Rattle.world_law.proofs.steps_lemmas.Words.{nat_lt, next_in, no_later_breaks, none_in, not, not_on_after, not_turned_on, observation_window, option_map_or}
 use Rattle.world_law.proofs.steps_lemmas.Words.{plan_of, pos, reading_for, recorded_cycle, refl, ripening, self, state_after, state_before, subst, sym, time_of}
 use Rattle.world_law.proofs.steps_lemmas.{Words.{true, value_of, with_joined, ℕ, ℤ}, ripening.Judged.{Hears, last_behind, not_yet}}
-use Rattle.world_law.proofs.steps_lemmas.ripening.{Kept.{before_place, turned_on}, Merely.{mere_hears, mere_joins}, Ripens.{IsRipe, ripe_more}}
+use Rattle.world_law.proofs.steps_lemmas.ripening.{Kept.before_place, Merely.{mere_hears, mere_joins}, Ripens.{IsRipe, ripe_more}}
 use Rattle.world_law.proofs.steps_lemmas.ripening.Merely.{IsMere, behind_it, filter_rest, fold_rest, maps_rest, mere_adjustment, mere_changes, mere_cycle}
 use Rattle.run_law.specs.declared.note.NoteBody.TheVariants as kinds
 use Rattle.run_law.specs.declared.steps.Ripe.TheVariants as ripe
@@ -124,9 +124,9 @@ was_looking e hears other so =
 -- ---- it is kept
 
 pub kept_joined : {M : Type 0} {stands : M → Network → DeviceId → Node → Type 0} {s : Scenario}
-    {hs coming zs : List Happening} {mark cursor : List ℕ} {now : ℕ} {e : Waiting} {machine : M} (after : M)
-    {w : Happening} (r : IsRipe s hs coming mark cursor now e)
-    (k : IsKept stands s hs coming cursor now e.device machine) → stands after s.network e.device
+    {hs coming zs : List Happening} {now : ℕ} {e : Waiting} {machine : M} (after : M)
+    {w : Happening} (r : IsRipe s hs coming now e)
+    (k : IsKept stands s hs coming (now ∷ 3 ∷ ripe_more e) now e.device machine) → stands after s.network e.device
     (called (moment_of s e.device now) ripening (with_joined k.node (moment_of s e.device now) e.frame e.point))
     → is_cm s.network e.device ≡ false → pos 0 ≤ℤ s.network.precision.0
     → state_before s hs e.device now ≡ Integrating → IsJoin s hs zs e.device now w e.link e.cause e.point e.frame
@@ -135,7 +135,7 @@ pub kept_joined : {M : Type 0} {stands : M → Network → DeviceId → Node →
     → HasTurnedOn s hs (w ∷ zs) cursor2 e.device now) → frames_taken s (hs ++ coming) e.device
     ≡ frames_taken s (hs ++ w ∷ zs) e.device → IsKept stands s hs (w ∷ zs)
     (behind (now ∷ 3 ∷ ripe_more e)) now e.device after
-kept_joined {s} {hs} {zs} {mark} {now} {e} after {w} r k is other precise looking j times turns frames =
+kept_joined {s} {hs} {zs} {now} {e} after {w} r k is other precise looking j times turns frames =
     let device = e.device in
     let moment = moment_of s device now in
     let new = called moment ripening (with_joined k.node moment e.frame e.point) in
@@ -177,13 +177,13 @@ kept_joined {s} {hs} {zs} {mark} {now} {e} after {w} r k is other precise lookin
         in_time = λ task p. let late = later_task task p now (omega arith) in omega (arith, ints, late, precise);
       };
       still = λ same_up. absurd (too_soon now same_up);
-      turned = λ on. turns (behind here) (turned_on r.moving (k.turned on));
+      turned = λ on. turns (behind here) (turned_by r.moving (k.turned on));
       cleared = λ cycle there. absurd (none_in (correcting cycle) there);
       phase = λ at p b. chain p here (behind here) (before_place p now (ripe_more e) b) (before_behind here);
     }
   where
     same_breaks : (up : ℕ) → (up ≡ now) ⊎ (up ≡ now + 1) → is_broken s e.device up ≡ is_broken s e.device (now + 1)
-    same_breaks up (inl at) = ap (is_broken s e.device) at ∙ sym (no_later_breaks s mark now (now + 1) e.device r.befallen (omega arith))
+    same_breaks up (inl at) = ap (is_broken s e.device) at ∙ sym (no_later_breaks s _ now (now + 1) e.device r.befallen (omega arith))
     same_breaks up (inr at) = ap (is_broken s e.device) at
 
     too_soon : (now : ℕ) → now + 1 ≡ now → ⊥

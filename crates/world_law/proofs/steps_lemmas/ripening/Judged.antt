@@ -8,7 +8,7 @@ use Rattle.world_law.proofs.steps_lemmas.Words.{◌&&◌, ◌++◌, ◌+◌, ◌
 use Rattle.world_law.proofs.steps_lemmas.Words.{IsLeft, IsPermanenceOutcomeAt, Joining, List, Members, Network, Node, None, Off, Option, Pcf, Point, Reason}
 use Rattle.world_law.proofs.steps_lemmas.Words.{Ripe, Scenario, Some, State, SyncPlan, Synchronised, Units, Waiting, [], adjustment_after}
 use Rattle.world_law.proofs.steps_lemmas.Words.{adjustment_at_hearing, adjustment_before, after_last, after_more, all_up_to, amount, and_parts, and_right}
-use Rattle.world_law.proofs.steps_lemmas.Words.{any_in, ap, append-nil, arith, before_later, both_ways, cases_Bool, changed_at, changes_adjustment}
+use Rattle.world_law.proofs.steps_lemmas.Words.{any_in, ap, append-nil, arith, both_ways, cases_Bool, changed_at, changes_adjustment}
 use Rattle.world_law.proofs.steps_lemmas.Words.{correction_value, earlier, earlier_still, ends_stretch, eqb-true, false, filter, filter-append, filter_map}
 use Rattle.world_law.proofs.steps_lemmas.Words.{has_cleared, has_joined_at, heard_as, if◌then◌else◌, in_left, in_parts, in_right, inl, inr, int_le, int_lt}
 use Rattle.world_law.proofs.steps_lemmas.Words.{is_cm, is_integration_cycle, is_joined_by, is_timed, is_turned_on_at, last_or, master_of, next_is_up_to}
@@ -22,15 +22,15 @@ use Rattle.run_law.specs.declared.steps.Ripe.TheVariants as ripe
 -- ---- places as tests
 
 -- the records given are all those before the place
-pub judged_all : {s : Scenario} {hs coming : List Happening} (front : List Happening) {mark cursor : List ℕ}
-    {now : ℕ} {e : Waiting} → IsRipe s hs coming mark cursor now e
+pub judged_all : {s : Scenario} {hs coming : List Happening} (front : List Happening) 
+    {now : ℕ} {e : Waiting} → IsRipe s hs coming now e
     → ((h : Happening) → IsIn h front → IsBefore (place_of h) (now ∷ 3 ∷ ripe_more e) → ⊥)
     → before_permanence (hs ++ front) e.device now e.link e.cause e.frame e.point ≡ hs
-judged_all {hs} front {cursor} {now} {e} r after =
+judged_all {hs} front {now} {e} r after =
     let here = now ∷ 3 ∷ ripe_more e in
     let q = λ (h : Happening). is_before (place_of h) (now ∷ 3 ∷ e.device.0 ∷ amount e.point ∷ e.frame.members.0 ∷ e.link.0 ∷ e.cause ∷ []) in
     let given : filter q hs ≡ hs = all_kept q hs (λ h i. before_is (place_of h) here
-    (before_later (place_of h) here cursor (r.moving.ahead (place_of h) (r.run.within h i)) r.moving.waits)) in
+    (r.run.within h i)) in
     let none : filter q front ≡ [] = none_kept q front (λ h i. not_is (place_of h) here (after h i)) in
     filter-append q hs front ∙ ap (λ (l : List Happening). filter q hs ++ l) none ∙ append-nil (filter q hs) ∙ given
 
@@ -52,8 +52,8 @@ pub points_given : (s : Scenario) (hs coming : List Happening) (device : DeviceI
 points_given s hs coming device late open_ = grind (arith, filter_map, point_by, after_more, ends_stretch, maps_rest, after_last, mere_point, late_mere)
 
 -- where no frame has told it the time
-pub hears_before : {s : Scenario} {hs coming : List Happening} {mark cursor : List ℕ} {now : ℕ} {e : Waiting}
-    {node : Node} → IsRipe s hs coming mark cursor now e → IsLeft s (hs ++ coming) e.device now node
+pub hears_before : {s : Scenario} {hs coming : List Happening} {now : ℕ} {e : Waiting}
+    {node : Node} → IsRipe s hs coming now e → IsLeft s (hs ++ coming) e.device now node
     → ((h : Happening) → IsIn h (hs ++ coming) → time_of h ≡ now → IsAtRest s e.device now h.note.body)
     → Hears s hs e.device now node
 hears_before {s} {hs} {coming} {now} {e} r left still =
@@ -80,8 +80,8 @@ hears_before {s} {hs} {coming} {now} {e} r left still =
     }
 
 -- all records are earlier than the next time
-pub all_earlier : {s : Scenario} {hs coming : List Happening} {mark cursor : List ℕ} {now : ℕ} {e : Waiting}
-    → IsRipe s hs coming mark cursor now e → earlier (now + 1) (hs ++ coming) ≡ hs ++ coming
+pub all_earlier : {s : Scenario} {hs coming : List Happening} {now : ℕ} {e : Waiting}
+    → IsRipe s hs coming now e → earlier (now + 1) (hs ++ coming) ≡ hs ++ coming
 all_earlier {hs} {coming} {now} r =
     next_is_up_to now (hs ++ coming) ∙ all_up_to now (hs ++ coming) (λ h i. elim (in_parts h hs coming i) [
       | inl given ↦ r.past h given
@@ -89,8 +89,8 @@ all_earlier {hs} {coming} {now} r =
     ])
 
 -- where one has
-pub hears_told : {s : Scenario} {hs coming : List Happening} {mark cursor : List ℕ} {now : ℕ} {e : Waiting}
-    {node : Node} → IsTold s hs coming mark cursor now e → IsLeft s (hs ++ coming) e.device (now + 1) node
+pub hears_told : {s : Scenario} {hs coming : List Happening} {now : ℕ} {e : Waiting}
+    {node : Node} → IsTold s hs coming now e → IsLeft s (hs ++ coming) e.device (now + 1) node
     → Hears s hs e.device now node
 hears_told told left =
     grind (arith, all_earlier, not_turned_on, not_on_after, state_after, state_now, adjustment_after, adjustment_now, both_ways, is_cm)
@@ -139,10 +139,10 @@ outcome_kind network device state adjustment points frame point is so =
 
 -- ---- so the record is due
 
-abbrev pub becomes_now : (s : Scenario) (hs coming front : List Happening) (mark cursor : List ℕ) (now : ℕ) (e : Waiting) (node : Node) (is : Ripe)
-    → IsRipe s hs coming mark cursor now e → ((h : Happening) → IsIn h front → IsBefore (place_of h) (now ∷ 3 ∷ ripe_more e) → ⊥) → Hears s hs e.device now node
+abbrev pub becomes_now : (s : Scenario) (hs coming front : List Happening) (now : ℕ) (e : Waiting) (node : Node) (is : Ripe)
+    → IsRipe s hs coming now e → ((h : Happening) → IsIn h front → IsBefore (place_of h) (now ∷ 3 ∷ ripe_more e) → ⊥) → Hears s hs e.device now node
     → IsPermanenceOutcomeAt s.network e.device node e.frame e.point is → BecomesPermanent s (hs ++ front) e.device now e.link e.cause e.point is
-becomes_now s hs coming front mark cursor now e node is r after hears so = record {
+becomes_now s hs coming front now e node is r after hears so = record {
   frame = e.frame;
   permanent = record {
     arrival = r.it.arrival;
@@ -172,8 +172,8 @@ last_time : (now : ℕ) (x : Happening) (ys : List Happening) → time_of x ≡ 
 last_time now x [] at all = at
 last_time now x (y ∷ ys) at all = last_time now y ys (all y (inl refl)) (λ z i. all z (inr i))
 
-changed_now : {s : Scenario} {hs coming : List Happening} {mark cursor : List ℕ} {now : ℕ} {e : Waiting}
-    → IsRipe s hs coming mark cursor now e → has_joined_at hs e.device now ≡ true
+changed_now : {s : Scenario} {hs coming : List Happening} {now : ℕ} {e : Waiting}
+    → IsRipe s hs coming now e → has_joined_at hs e.device now ≡ true
     → changed_at (hs ++ coming) e.device (now + 1) ≡ now
 changed_now {s} {hs} {coming} {now} {e} r joined =
     let device = e.device in
@@ -216,8 +216,8 @@ pub timed_joined : (s : Scenario) (hs : List Happening) (device : DeviceId) (now
     → state_before s hs device now ≡ Integrating → is_timed state ≡ true → has_joined_at hs device now ≡ true
 timed_joined s hs device now state is looking timed = grind (arith, cases_Bool, has_joined_at, both_ways, is_timed, state_before)
 
-pub cleared_told : {s : Scenario} {hs coming : List Happening} {mark cursor : List ℕ} {now : ℕ} {e : Waiting}
-    {node : Node} → IsTold s hs coming mark cursor now e → Hears s hs e.device now node
+pub cleared_told : {s : Scenario} {hs coming : List Happening} {now : ℕ} {e : Waiting}
+    {node : Node} → IsTold s hs coming now e → Hears s hs e.device now node
     → is_timed node.standing.state ≡ true → has_cleared s (hs ++ coming) e.device (now + 1) (now + 1) ≡ false
 cleared_told {s} {hs} {coming} {now} {e} {node} told hears timed =
     let r = told.ripe in

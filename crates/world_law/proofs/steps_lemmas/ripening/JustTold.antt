@@ -5,7 +5,7 @@ use Rattle.world_law.proofs.{devices.TurnedOn.{IsInTime, looking_on, turning_sta
 use Rattle.world_law.proofs.steps_lemmas.Words.{◌&&◌, ◌++◌, ◌<◌, ◌==◌, ◌||◌, ◌∙◌, ◌∷◌, ◌≡◌, ◌≤◌, ◌⊎◌, AllBefore, Bool, DeviceId, Happening, Integrating}
 use Rattle.world_law.proofs.steps_lemmas.Words.{IsBefore, IsCaused, IsDue, IsFounded, IsIn, IsMoving, IsOfThisTime, IsSource, IsTurnedOnBy, Joining, List}
 use Rattle.world_law.proofs.steps_lemmas.Words.{NoneBefore, NoteBody, Scenario, Some, State, Units, Waiting, Why, [], adjustment_after}
-use Rattle.world_law.proofs.steps_lemmas.Words.{adjustment_at_hearing, adjustment_with, amount, and_parts, any_in, ap, append_assoc, arith, before_later}
+use Rattle.world_law.proofs.steps_lemmas.Words.{adjustment_at_hearing, adjustment_with, amount, and_parts, any_in, ap, append_assoc, arith}
 use Rattle.world_law.proofs.steps_lemmas.Words.{both_ways, by_number, cases_Bool, cases_lt, chain, cycle_in, due_of, earlier, earlier_still, eq-eqb, eqb-true, false}
 use Rattle.world_law.proofs.steps_lemmas.Words.{filter, fold, fold-append, founded_at, has_joined_at, if◌then◌else◌, in_left, in_right, inl, inr}
 use Rattle.world_law.proofs.steps_lemmas.Words.{is_joined_by, is_turned_on_at, is_turning, keeps_adjustment, key, le-ltb, lt-ltb, members_in}
@@ -17,9 +17,8 @@ use Rattle.run_law.specs.declared.judgement.Why.TheVariants as whys
 use Rattle.run_law.specs.declared.note.NoteBody.TheVariants as kinds
 
 -- what is known of such a device
-pub record IsTold (s : Scenario) (hs coming : List Happening) (mark cursor : List ℕ) (now : ℕ) (e : Waiting) : Type 0 where
-  pub ripe : IsRipe s hs coming mark cursor now e
-  pub over : (p : List ℕ) → IsBefore p (now ∷ 3 ∷ []) → IsBefore p cursor
+pub record IsTold (s : Scenario) (hs coming : List Happening) (now : ℕ) (e : Waiting) : Type 0 where
+  pub ripe : IsRipe s hs coming now e
   pub just : IsJustTold s (hs ++ coming) e.device now
   pub turned : is_turned_on_at s e.device now ≡ true → IsTurnedOnBy (hs ++ coming) e.device now
 
@@ -104,13 +103,13 @@ fold_filter {B} f q z (h ∷ hs) same =
           ∙ sym (ap (λ (b : Bool). fold f z (if b then h ∷ filter q hs else filter q hs)) left)
     ]
 
-pub adjustment_now : {s : Scenario} {hs coming : List Happening} {mark cursor : List ℕ} {now : ℕ} {e : Waiting}
-    → IsRipe s hs coming mark cursor now e → adjustment_after s (hs ++ coming) e.device
+pub adjustment_now : {s : Scenario} {hs coming : List Happening} {now : ℕ} {e : Waiting}
+    → IsRipe s hs coming now e → adjustment_after s (hs ++ coming) e.device
     ≡ adjustment_at_hearing s hs e.device now
 adjustment_now {s} {hs} {coming} {now} {e} r =
     let f = λ (adjustment : Units) (h : Happening). adjustment_with s e.device (cycle_in h) adjustment h.note.body in
     let late = all_late r.moving r.run.within in
-    let low = given_low r.moving r.run.within in
+    let low = given_low hs (ripe_more e) r.run.within in
     fold_rest f _ hs coming (λ h i old. mere_adjustment s e.device (cycle_in h) old h.note.body (late_mere e.device h.note.body (late h i)))
     ∙ fold_filter f (λ h. nat_lt (time_of h) now || is_joined_by e.device h.note.body) _ hs (λ h i out old.
     let parts = or_parts (nat_lt (time_of h) now) (is_joined_by e.device h.note.body) out in
@@ -181,13 +180,13 @@ said_by s hs front device now time (kinds.Compressed other opened at_ cycle memb
 said_by s hs front device now time (kinds.Corrected other cycle by adjustment) late high kind at c = absurd kind
 said_by s hs front device now time other late high kind at c = inl refl
 
-module _ (s : Scenario) (hs coming : List Happening) (mark cursor : List ℕ) (now : ℕ) where
-  high_rank : {more : List ℕ} → IsMoving s hs coming mark cursor now 3 more
-      → ((h : Happening) → IsIn h hs → IsBefore (place_of h) mark) → (y : Happening) → IsIn y coming
+module _ (s : Scenario) (hs coming : List Happening) (now : ℕ) where
+  high_rank : {more : List ℕ} → IsMoving s hs coming now 3 more
+      → ((h : Happening) → IsIn h hs → IsBefore (place_of h) (now ∷ 3 ∷ more)) → (y : Happening) → IsIn y coming
       → 4 ≤ rank y.note.body
   high_rank {more} m within y i =
       by_kind y.note.body (all_late m within y i)
-      (Rattle.world_law.proofs.runs.Firsts.at_least y now 3 more (m.are.of_now y i) (m.after y i))
+      (Rattle.world_law.proofs.runs.Firsts.at_least y now 3 more (m.are.of_now y i) (m.are.behind_mark y i))
     where
       by_kind : (body : NoteBody) → IsLateKind body → 3 ≤ rank body → 4 ≤ rank body
       by_kind (kinds.Permanent device link cause point verdict) late le = absurd late
@@ -195,11 +194,11 @@ module _ (s : Scenario) (hs coming : List Happening) (mark cursor : List ℕ) (n
       by_kind (kinds.Arrived device link cause clock) late le = absurd (omega (arith, le))
       by_kind other late le = omega arith
 
-  pub all_high : {e : Waiting} → IsRipe s hs coming mark cursor now e → (y : Happening) → IsIn y coming
+  pub all_high : {e : Waiting} → IsRipe s hs coming now e → (y : Happening) → IsIn y coming
       → 4 ≤ rank y.note.body
   all_high r = high_rank r.moving r.run.within
 
-  said : {e : Waiting} → IsRipe s hs coming mark cursor now e → (z : Happening) → IsIn z coming
+  said : {e : Waiting} → IsRipe s hs coming now e → (z : Happening) → IsIn z coming
       → IsSaid hs e.device now z.note.body
   said {e} r z i =
       let at = parted z coming i in
@@ -311,10 +310,10 @@ joined_rank device (kinds.Permanent other link cause point verdict) e = omega ar
 joined_rank device (kinds.Compressed other opened at cycle members verdict) e = omega arith
 joined_rank device other e = absurd cc
 
-told_joining : {s : Scenario} {hs coming : List Happening} {mark cursor : List ℕ} {now : ℕ} {e : Waiting} (z : State)
-    → IsTold s hs coming mark cursor now e → has_joined_at hs e.device now ≡ true
+told_joining : {s : Scenario} {hs coming : List Happening} {now : ℕ} {e : Waiting} (z : State)
+    → IsTold s hs coming now e → has_joined_at hs e.device now ≡ true
     → fold (λ state h. state_with e.device state h.note.body) z coming ≡ Joining
-told_joining {s} {hs} {coming} {mark} {cursor} {now} {e} z told joined =
+told_joining {s} {hs} {coming} {now} {e} z told joined =
     let r = told.ripe in
     let m = r.moving in
     let device = e.device in
@@ -329,19 +328,19 @@ told_joining {s} {hs} {coming} {mark} {cursor} {now} {e} z told joined =
     let body = kinds.State device Joining n whys.Frame in
     let y = record_of s.network hs cut.0 now body in
     let of_time : IsOfThisTime (hs ++ cut.0) now n j = record { there = numbered_front hs cut.0 n j at_n; same_time = j_now } in
-    let not_marked : IsBefore place mark → ⊥ = λ b.
-    elim (no_higher now 7 now 3 (device.0 ∷ n ∷ []) (ripe_more e) (inr (before_later place (now ∷ 3 ∷ ripe_more e) cursor (m.ahead place b) m.waits))) [
+    let not_marked : IsBefore place (now ∷ 3 ∷ ripe_more e) → ⊥ = λ b.
+    elim (no_higher now 7 now 3 (device.0 ∷ n ∷ []) (ripe_more e) (inr b)) [
       | inl lt ↦ omega (arith, lt)
       | inr same ↦ let le = same.1 in omega (arith, le)
     ] in
     let there = m.are.full cut.0 cut.1 y cut.2 cut.3 cut.4 not_marked (due_of s hs cut.0 now body (refl, (j, of_time, flags.1)))
-    (now ∷ 2 ∷ [], refl, IsSource.following now n j of_time, told.over (now ∷ 2 ∷ []) (inr (refl, inl (omega arith)))) in
+    (now ∷ 2 ∷ [], refl, IsSource.following now n j of_time, m.later) in
     let g = there.0 in
     let shape = place_state (time_of g) (members_in g) now device.0 n g.note.body there.2 in
     let own : (device.0 == (shape.0).0) ≡ true = eq-eqb device.0 (shape.0).0 (sym shape.5) in
     let at = parted g coming there.1 in
     let sets : (old : State) → state_with device old g.note.body ≡ Joining =
-    λ old. elim (said s hs coming mark cursor now r g there.1) [
+    λ old. elim (said s hs coming now r g there.1) [
       | inl quiet ↦ absurd (both_ways (stirs device g.note.body) quiet (ap (stirs device) shape.4 ∙ own))
       | inr (inl on) ↦
           let by = on.1 in
@@ -359,7 +358,7 @@ told_joining {s} {hs} {coming} {mark} {cursor} {now} {e} z told joined =
     ] in
     let rest : (h : Happening) → IsIn h at.1 → state_with device Joining h.note.body ≡ Joining = λ h i.
     let inside : IsIn h coming = subst (λ l. IsIn h l) (sym at.2) (in_right h at.0 (g ∷ at.1) (inr i)) in
-    elim (said s hs coming mark cursor now r h inside) [
+    elim (said s hs coming now r h inside) [
       | inl quiet ↦ was_on device Joining h.note.body quiet
       | inr (inr frame) ↦ ap (state_with device Joining) frame.3 ∙ if_same (device.0 == (frame.0).0) Joining
       | inr (inl on) ↦
@@ -388,8 +387,8 @@ told_joining {s} {hs} {coming} {mark} {cursor} {now} {e} z told joined =
 
 -- ---- no frame has
 
-module _ {s : Scenario} {hs coming : List Happening} {mark cursor : List ℕ} {now : ℕ} {e : Waiting}
-    (told : IsTold s hs coming mark cursor now e) where
+module _ {s : Scenario} {hs coming : List Happening} {now : ℕ} {e : Waiting}
+    (told : IsTold s hs coming now e) where
   told_looking : has_joined_at hs e.device now ≡ false
       → fold (λ state h. state_with e.device state h.note.body) (state_after s (earlier now hs) e.device) coming
       ≡ Integrating
@@ -400,7 +399,7 @@ module _ {s : Scenario} {hs coming : List Happening} {mark cursor : List ℕ} {n
       let late = all_late m r.run.within in
       let quiet : (h : Happening) → IsIn h coming → Rattle.world_law.proofs.devices.TurnedOn.IsQuiet device
       h.note.body = λ h i.
-      elim (said s hs coming mark cursor now r h i) [
+      elim (said s hs coming now r h i) [
         | inl still ↦ inl (late_still device h.note.body (late h i) still)
         | inr (inl on) ↦ inr on.0
         | inr (inr frame) ↦
@@ -424,7 +423,7 @@ module _ {s : Scenario} {hs coming : List Happening} {mark cursor : List ℕ} {n
             let seven : rank by.by.note.body ≡ 7 = turning_rank device by.by.note.body by.turning in
             let there : IsIn by.by coming = elim (Rattle.run_law.proofs.runs.Places.in_parts by.by hs coming by.there) [
               | inr more ↦ more
-              | inl given ↦ (let low = given_low m r.run.within by.by given by.at in absurd (omega (arith, low, seven)))
+              | inl given ↦ (let low = given_low hs (ripe_more e) r.run.within by.by given by.at in absurd (omega (arith, low, seven)))
             ] in
             let at = parted by.by coming there in
             ap (fold (λ state h. state_with device state h.note.body) (state_after s (earlier now hs) device)) at.2
@@ -446,7 +445,7 @@ module _ {s : Scenario} {hs coming : List Happening} {mark cursor : List ℕ} {n
       let r = told.ripe in
       let device = e.device in
       let f = λ (state : State) (h : Happening). state_with device state h.note.body in
-      let low = given_low r.moving r.run.within in
+      let low = given_low hs (ripe_more e) r.run.within in
       let given : state_after s hs device ≡ (if has_joined_at hs device now then Joining else state_after s
       (earlier now hs) device) =
       given_states device now _ hs (in_time_of s hs r.run.founded) r.past low in

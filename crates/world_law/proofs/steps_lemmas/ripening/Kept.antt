@@ -1,20 +1,19 @@
 -- The device of a frame that is permanent, and tells it no time, is kept.
-use Rattle.world_law.proofs.devices.Working.{HasRested, rested}
+use Rattle.world_law.proofs.{devices.Working.{HasRested, rested}, giving.GivenParts.up_to_place}
 use Rattle.world_law.specs.world.World.{is_at_source}
-use Rattle.run_law.specs.records.Ranks.{place_of}
 use Rattle.world_law.proofs.steps_lemmas.Words.{HasDoneTask, no_task_at, ◌++◌, ◌+ℤ◌, ◌+◌, ◌-ℤ◌, ◌<ℤ◌, ◌<◌, ◌||◌, ◌∙◌, ◌∷◌, ◌≡◌, ◌≤ℤ◌, ◌≤◌, ◌⊎◌, AllByRecursion, AreClusters, Bool}
 use Rattle.world_law.proofs.steps_lemmas.Words.{ClockTask, Compressed, DeviceId, Happening, HasDoneFrom, HasSentFrom, HasTurnedOn, IsAlike, IsAtRest, IsBefore}
-use Rattle.world_law.proofs.steps_lemmas.Words.{IsIn, IsKept, IsLeft, IsMoving, IsNoTaking, IsPending, IsSource, IsWaiting, Judgement, List, Network, Node}
+use Rattle.world_law.proofs.steps_lemmas.Words.{IsIn, IsKept, IsLeft, IsNoTaking, IsPending, IsWaiting, Judgement, List, Network, Node}
 use Rattle.world_law.proofs.steps_lemmas.Words.{NoteBody, Point, Scenario, Task, Units, Waiting, [], act_place, after_permanence, amount, ap, arith}
 use Rattle.world_law.proofs.steps_lemmas.Words.{before_behind, behind, both_ways, called, chain, changed_at, changes_adjustment, channel_of_link, correcting}
 use Rattle.world_law.proofs.steps_lemmas.Words.{doing, earlier, earlier_still, emitting, false, frames_taken, has_cleared}
 use Rattle.world_law.proofs.steps_lemmas.Words.{if◌then◌else◌, inl, inr, ints, is_cm, is_joined_by, is_timed, is_turned_on_at, length, master_of, moment_of}
-use Rattle.world_law.proofs.steps_lemmas.Words.{moves, natural, not, observation_window, point_at, pos, rank}
+use Rattle.world_law.proofs.steps_lemmas.Words.{moves, natural, not, observation_window, point_at, never_self, pos, rank}
 use Rattle.world_law.proofs.steps_lemmas.Words.{reading_for, refl, ripe_as, ripening, state_after, state_before, subst, sym, taken_in, task_place, time_of}
 use Rattle.compression.proofs.Times.{one_list_of_clusters}
 use Rattle.{std.proofs.Common.Contains, sync_state.specs.Standing.Standing, world_law.proofs.devices.Borne.tell_owned}
 use Rattle.world_law.proofs.steps_lemmas.{hearing.Takings.frames_placed, ripening.Merely.own_skip}
-use Rattle.world_law.proofs.putting.{Bearing.{before_aside, changed_aside, earlier_aside, frames_aside, left_aside, still_aside}, Moving.{stays, worked_or_here}}
+use Rattle.world_law.proofs.putting.{Bearing.{before_aside, changed_aside, earlier_aside, frames_aside, left_aside, still_aside}, Moving.{stays, turned_by}}
 use Rattle.world_law.proofs.steps_lemmas.{Words.{true, turned_aside, undone_alike, value_of, waiting_alike, ℕ}, ripening.Clustered.{old_or_open, open_later}}
 use Rattle.world_law.proofs.steps_lemmas.ripening.{Judged.{Hears, cleared_told}, JustTold.IsTold}
 use Rattle.world_law.proofs.steps_lemmas.ripening.Ripens.{IsRipe, all_late, in_time, late_mere, not_beyond, rest_ends, ripe_more, sooner_of}
@@ -24,58 +23,51 @@ use Rattle.run_law.specs.declared.note.NoteBody.TheVariants as kinds
 -- ---- where it stands before the call
 
 -- a device that stands at this instant: it has not acted, or a frame has told it the time
-pub record IsYet (s : Scenario) (hs coming : List Happening) (mark cursor : List ℕ) (now up : ℕ) (e : Waiting) : Type 0 where
-  pub stands : ((up ≡ now) × (IsBefore (act_place now e.device) cursor → ⊥)) ⊎ ((up ≡ now + 1) × IsTold s hs coming mark cursor now e)
+pub record IsYet (s : Scenario) (hs coming : List Happening) (now up : ℕ) (e : Waiting) : Type 0 where
+  pub stands : (up ≡ now) ⊎ ((up ≡ now + 1) × IsTold s hs coming now e)
 
 under_act : (now d : ℕ) (more : List ℕ) → IsBefore (now ∷ 3 ∷ more) (now ∷ 4 ∷ d ∷ [])
 under_act now d more = inr (refl, inl (omega arith))
 
 module _ {M : Type 0} (stands : M → Network → DeviceId → Node → Type 0) {s : Scenario} {hs coming : List Happening}
-    {mark cursor : List ℕ} {now : ℕ} {e : Waiting} (machine : M) (r : IsRipe s hs coming mark cursor now e) where
-  pub is_yet : (k : IsKept stands s hs coming cursor now e.device machine) → IsYet s hs coming mark cursor now k.up e
+    {now : ℕ} {e : Waiting} (machine : M) (r : IsRipe s hs coming now e) where
+  pub is_yet : (k : IsKept stands s hs coming (now ∷ 3 ∷ ripe_more e) now e.device machine) → IsYet s hs coming now k.up e
   is_yet k =
       let here = now ∷ 3 ∷ ripe_more e in
-      let not_acted : IsBefore (act_place now e.device) cursor → ⊥ = λ b.
-      r.moving.waits (chain here (act_place now e.device) cursor (under_act now e.device.0 (ripe_more e)) b) in
+      let not_acted : IsBefore (act_place now e.device) here → ⊥ = λ b.
+      never_self here (chain here (act_place now e.device) here (under_act now e.device.0 (ripe_more e)) b) in
       record {
         stands = elim k.acted [
-          | inl yet ↦ inl (yet.0, not_acted)
+          | inl yet ↦ inl yet.0
           | inr over ↦ elim (k.told over.0) [
             | inl out ↦ absurd (not_acted out.past)
             | inr (inl just) ↦ inr (
               over.0,
               record {
                 ripe = r;
-                over = over.1;
                 just = just;
-                turned = λ on. let was = k.turned on in was.turned
-                    (over.1 (now ∷ 2 ∷ []) (inr (refl, inl (omega arith))));
+                turned = λ on. let was = k.turned on in was.turned r.moving.later;
               },
             )
-            | inr (inr joining) ↦ absurd (r.moving.waits (chain here (place_of joining.by) cursor
-                (frame_later now e joining.by (r.moving.are.of_now joining.by joining.there) joining.sent)
-                (r.moving.are.worked joining.by joining.there (frame_source joining.by.note.body joining.sent))))
+            | inr (inr joining) ↦ absurd (r.moving.are.behind_mark joining.by joining.there
+                (r.moving.are.worked joining.by joining.there (frame_source joining.by.note.body joining.sent)))
           ]
         ];
       }
     where
-      frame_later : (now : ℕ) (e : Waiting) (h : Happening) → time_of h ≡ now → rank h.note.body ≡ 4 → IsBefore
-          (now ∷ 3 ∷ ripe_more e) (place_of h)
-      frame_later now e h at four = inr (sym at, inl (omega (arith, four)))
-
       frame_source : (body : NoteBody) → rank body ≡ 4 → is_at_source body ≡ true
       frame_source (kinds.Compressed other opened out cycle members verdict) four = refl
       frame_source other four = absurd (omega (arith, four))
 
   -- and rests
-  pub rests_yet : (k : IsKept stands s hs coming cursor now e.device machine)
+  pub rests_yet : (k : IsKept stands s hs coming (now ∷ 3 ∷ ripe_more e) now e.device machine)
       → HasRested s e.device k.node (changed_at (hs ++ coming) e.device k.up) k.up
   rests_yet k =
       let le : now ≤ k.up =
       elim k.acted [ inl yet ↦ (let same = yet.0 in omega (arith, same)) | inr over ↦ (let next = over.0 in omega (arith, next)) ] in
       rested now k.worked le
-      (λ b. r.moving.waits (chain (now ∷ 3 ∷ ripe_more e) (act_place now e.device) cursor
-      (under_act now e.device.0 (ripe_more e)) b))
+      (λ b. let here = now ∷ 3 ∷ ripe_more e in
+      never_self here (chain here (act_place now e.device) here (under_act now e.device.0 (ripe_more e)) b))
 
 done_alike : (node new : Node) (task : Task) → new.done ≡ node.done → new.emitted ≡ node.emitted → HasDoneTask node task → HasDoneTask new task
 done_alike node new (emitting sent) done emitted did = subst (λ (l : List Compressed). Contains l sent) (sym emitted) did
@@ -114,36 +106,19 @@ pub record IsNext (s : Scenario) (hs coming coming2 : List Happening) (now up : 
   pub before : state_before s (hs ++ coming) device now ≡ state_before s (hs ++ coming2) device now
   pub still : ((h : Happening) → IsIn h (hs ++ coming) → time_of h ≡ now → IsAtRest s device now h.note.body)
       → (h : Happening) → IsIn h (hs ++ coming2) → time_of h ≡ now → IsAtRest s device now h.note.body
-  pub turned : (cursor : List ℕ) → HasTurnedOn s hs coming cursor device now → HasTurnedOn s hs coming2 cursor device now
+  pub turned : (frontier : List ℕ) → HasTurnedOn s hs coming frontier device now
+      → HasTurnedOn s hs coming2 frontier device now
   pub frames : frames_taken s (hs ++ coming) device ≡ frames_taken s (hs ++ coming2) device
 
-pub turned_on : {s : Scenario} {hs coming : List Happening} {mark cursor : List ℕ} {now : ℕ} {more : List ℕ}
-    {device : DeviceId} → IsMoving s hs coming mark cursor now 3 more → HasTurnedOn s hs coming cursor device now
-    → HasTurnedOn s hs coming (behind (now ∷ 3 ∷ more)) device now
-turned_on {s} {hs} {coming} {now} m it = record {
-  off = it.off;
-  number = it.number;
-  event = it.event;
-  befell = it.befell;
-  turned = λ b.
-      elim (worked_or_here [] coming m refl
-      (subst (λ l. IsSource s l (now ∷ 2 ∷ [])) (sym (Rattle.std.proofs.lemmas.List.append-nil hs))
-      (IsSource.following now it.number it.event it.befell)) b) [
-        | inl yet ↦ it.turned yet
-        | inr here ↦ absurd (m.longer here)
-      ];
-}
-
 pub kept_next : {M : Type 0} {stands : M → Network → DeviceId → Node → Type 0} {s : Scenario}
-    {hs coming coming2 : List Happening} {mark cursor : List ℕ} {now : ℕ} {e : Waiting} {machine : M} (after : M)
-    (new : Node) (r : IsRipe s hs coming mark cursor now e)
-    (k : IsKept stands s hs coming cursor now e.device machine)
+    {hs coming coming2 : List Happening} {now : ℕ} {e : Waiting} {machine : M} (after : M)
+    (new : Node) (r : IsRipe s hs coming now e)
+    (k : IsKept stands s hs coming (now ∷ 3 ∷ ripe_more e) now e.device machine)
     → stands after s.network e.device (called (moment_of s e.device now) ripening new)
     → IsCarriedOn s e k.node (called (moment_of s e.device now) ripening new)
     → IsNext s hs coming coming2 now k.up e.device (called (moment_of s e.device now) ripening new)
     → IsKept stands s hs coming2 (behind (now ∷ 3 ∷ ripe_more e)) now e.device after
 kept_next {stands} {s} {hs} {coming} {coming2} {now} {e} {machine} after base r k is c n =
-    let m = r.moving in
     let more = ripe_more e in
     let new = called (moment_of s e.device now) ripening base in
     let here = now ∷ 3 ∷ more in
@@ -170,7 +145,7 @@ kept_next {stands} {s} {hs} {coming} {coming2} {now} {e} {machine} after base r 
         | inl old ↦ rests.sent.unsent sent old x lt
         | inr later ↦ elim yet.stands [
           | inl now_is ↦
-              let under = not_beyond r x (let at = now_is.0 in omega (arith, lt, at)) in
+              let under = not_beyond r x (omega (arith, lt, now_is)) in
               omega (arith, ints, under, later)
           | inr over ↦ absurd (both_ways (is_cm s.network e.device) over.1.just.other w.cm)
         ]
@@ -184,21 +159,19 @@ kept_next {stands} {s} {hs} {coming} {coming2} {now} {e} {machine} after base r 
       sound = k.sound;
       up = k.up;
       acted = elim k.acted [
-        | inr over ↦ inr (over.0, λ p b. stays m p (over.1 p b))
+        | inr over ↦ inr (over.0, λ p b. stays here p (over.1 p b))
         | inl still ↦
             inl (
               still.0,
               λ task b acts.
-                  elim (worked_or_here [] coming m refl
-                  (subst (λ l. IsSource s l (task_place s.network now e.device task)) (sym (Rattle.std.proofs.lemmas.List.append-nil hs))
-                  (IsSource.acting now e.device task acts)) b) [
-                    | inl was ↦ did_then task (still.1 task was acts)
-                    | inr at ↦ absurd (no_task_at s.network now e.device 3 more (inl (omega arith)) task at)
+                  elim (up_to_place (task_place s.network now e.device task) here b) [
+                    | inr was ↦ did_then task (still.1 task was acts)
+                    | inl at ↦ absurd (no_task_at s.network now e.device 3 more (inl (omega arith)) task at)
                   ],
             )
       ];
       told = λ over. elim yet.stands [
-        | inl still ↦ (let same = still.0 in absurd (omega (arith, same, over)))
+        | inl same ↦ absurd (omega (arith, same, over))
         | inr told ↦ inr (inl (record { looking = sym n.before ∙ told.1.just.looking; other = told.1.just.other }))
       ];
       left = n.left;
@@ -209,13 +182,13 @@ kept_next {stands} {s} {hs} {coming} {coming2} {now} {e} {machine} after base r 
             let x = k.worked.done deed (subst (λ (l : List ClockTask). Contains l deed) c.same.done there) in (
               x.0,
               omega (arith, x.1, change),
-              stays m (task_place s.network x.0 e.device (doing deed)) x.2,
+              stays here (task_place s.network x.0 e.device (doing deed)) x.2,
               subst (λ (z : Units). (value_of s.network deed -ℤ z.0) ≤ℤ pos (s.reading e.device x.0)) (sym adjusted) x.3,
             );
         unsent = sent_so.unsent;
         sent = λ sent there.
             let x = k.worked.sent sent (subst (λ (l : List Compressed). Contains l sent) c.same.emitted there) in
-            (x.0, stays m (task_place s.network x.0 e.device (emitting sent)) x.1, x.2);
+            (x.0, stays here (task_place s.network x.0 e.device (emitting sent)) x.1, x.2);
       };
       bare = λ other. (c.bare other ∙ (k.bare other).0, c.same.emitted ∙ (k.bare other).1);
       ready = record {
@@ -232,7 +205,7 @@ kept_next {stands} {s} {hs} {coming} {coming2} {now} {e} {machine} after base r 
         ];
       };
       still = λ same. n.still (k.still same);
-      turned = λ on. n.turned (behind here) (turned_on m (k.turned on));
+      turned = λ on. n.turned (behind here) (turned_by r.moving (k.turned on));
       cleared = λ cycle there.
           subst (λ (x : Standing). cycle < x.number) (sym c.same.standing)
           (k.cleared cycle (subst (λ (l : List ClockTask). Contains l (correcting cycle)) c.same.done there));
@@ -291,11 +264,11 @@ with_point_waiting s e node p {sent} at points emitted some no_later w =
           inr (subst (λ (c : Compressed). (e.point.0 +ℤ pos 1) ≤ℤ c.at.0) (sym w.is) (omega (arith, ints, later, at, some)))
     ]
 
-module _ (s : Scenario) (hs coming : List Happening) (mark cursor : List ℕ) (now : ℕ) (e : Waiting) where
-  calc_some : IsRipe s hs coming mark cursor now e → pos 1 ≤ℤ pos (amount s.network.calc)
+module _ (s : Scenario) (hs coming : List Happening) (now : ℕ) (e : Waiting) where
+  calc_some : IsRipe s hs coming now e → pos 1 ≤ℤ pos (amount s.network.calc)
   calc_some r = grind (arith, natural, ints)
 
-  pub carried_by_role : (node : Node) (verdict : Judgement) → IsRipe s hs coming mark cursor now e
+  pub carried_by_role : (node : Node) (verdict : Judgement) → IsRipe s hs coming now e
       → IsByRole (is_cm s.network e.device) verdict → (is_cm s.network e.device ≡ true → (q : Point)
       → IsIn q node.points → q.reading ≤ℤ e.point.0) → IsCarriedOn s e node
       (called (moment_of s e.device now) ripening (after_permanence node (moment_of s e.device now) (channel_of_link
@@ -329,9 +302,9 @@ role_still : (cm : Bool) (device : DeviceId) (body : NoteBody) (link : _) (cause
 role_still cm device body link cause point verdict e role = grind (arith, is_joined_by, moves, changes_adjustment)
 
 pub next_by_role : {M : Type 0} {stands : M → Network → DeviceId → Node → Type 0} {s : Scenario}
-    {hs coming : List Happening} {mark cursor : List ℕ} {now : ℕ} {e : Waiting} {machine : M} (w : Happening)
-    (verdict : Judgement) (r : IsRipe s hs coming mark cursor now e)
-    (k : IsKept stands s hs coming cursor now e.device machine) → Hears s hs e.device now k.node
+    {hs coming : List Happening} {now : ℕ} {e : Waiting} {machine : M} (w : Happening)
+    (verdict : Judgement) (r : IsRipe s hs coming now e)
+    (k : IsKept stands s hs coming (now ∷ 3 ∷ ripe_more e) now e.device machine) → Hears s hs e.device now k.node
     → IsByRole (is_cm s.network e.device) verdict → w.note.body
     ≡ kinds.Permanent e.device e.link e.cause e.point verdict → w.frame ≡ Rattle.std.proofs.Common.Some e.frame
     → time_of w ≡ now → IsNext s hs coming (w ∷ coming) now k.up e.device
@@ -346,7 +319,7 @@ next_by_role {stands} {s} {hs} {coming} {now} {e} {machine} w verdict r k hears 
       mere = λ z i. late_mere device z.note.body (late z i);
       open_ = λ cm z i. elim yet.stands [
         | inl now_is ↦ rest_ends s device now z.note.body (late z i)
-            (k.still now_is.0 z (Rattle.run_law.proofs.runs.Places.in_right z hs coming i) (r.moving.are.of_now z i))
+            (k.still now_is z (Rattle.run_law.proofs.runs.Places.in_right z hs coming i) (r.moving.are.of_now z i))
         | inr over ↦ absurd (both_ways (is_cm s.network device) over.1.just.other cm)
       ];
       still = quiet.1;

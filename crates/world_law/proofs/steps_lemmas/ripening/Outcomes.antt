@@ -1,7 +1,7 @@
 -- What comes of the source of a frame that is permanent: one record, at its place.
-use Rattle.world_law.proofs.steps_lemmas.Words.{◌++◌, ◌<◌, ◌∙◌, ◌∷◌, ◌≡◌, ◌⊎◌, DeviceId, Happening, IsAllOfIt, IsBefore, IsIn, IsOwnSource}
+use Rattle.world_law.proofs.steps_lemmas.Words.{never_self, ◌++◌, ◌<◌, ◌∙◌, ◌∷◌, ◌≡◌, ◌⊎◌, DeviceId, Happening, IsAllOfIt, IsBefore, IsIn, IsOwnSource}
 use Rattle.world_law.proofs.steps_lemmas.Words.{IsPermanenceOutcomeAt, IsPermanent, Judgement, LinkId, List, Node, NoteBody, Pcf, Reason, Ripe, Scenario, Units}
-use Rattle.world_law.proofs.steps_lemmas.Words.{Waiting, [], amount, ap, arith, before_later, in_left, inl, inr, key, members_in, no_higher}
+use Rattle.world_law.proofs.steps_lemmas.Words.{Waiting, [], amount, ap, arith, in_left, inl, inr, key, members_in, no_higher}
 use Rattle.world_law.proofs.steps_lemmas.Words.{numbered_front, parted, place_of, rank, refl, ripe_as, some_same, subst, sym, time_of, ℕ}
 use Rattle.world_law.proofs.steps_lemmas.ripening.{Judged.{Hears, becomes_now}, Ripens.{IsRipe, ripe_more}}
 use Rattle.run_law.{proofs.{control.Verdicts.never_dropped, runs.SameSteps.{no_launch, same_ripening}}, specs.control.Permanence.BecomesPermanent}
@@ -76,22 +76,22 @@ moved_here : {s : Scenario} {js : List Happening} {now t : ℕ} {e : Waiting} {d
     → BecomesPermanent s js device t link cause point is → BecomesPermanent s js e.device now e.link e.cause point is
 moved_here h b = grind arith
 
-pub one_outcome : {s : Scenario} {hs coming : List Happening} (f : List Happening) {mark cursor : List ℕ} {now t : ℕ}
+pub one_outcome : {s : Scenario} {hs coming : List Happening} (f : List Happening) {now t : ℕ}
     {e : Waiting} {node : Node} {device : DeviceId} {link : LinkId} {cause : ℕ} {point : Units} (is : Ripe)
-    {other : Ripe} → IsRipe s hs coming mark cursor now e → Hears s hs e.device now node
+    {other : Ripe} → IsRipe s hs coming now e → Hears s hs e.device now node
     → IsPermanenceOutcomeAt s.network e.device node e.frame e.point is
     → ((h : Happening) → IsIn h f → IsBefore (place_of h) (now ∷ 3 ∷ ripe_more e) → ⊥)
     → IsHere now t e device link cause → BecomesPermanent s (hs ++ f) device t link cause point other → other ≡ is
-one_outcome {s} {hs} {coming} f {mark} {cursor} {now} {e} {node} {point} is {other} r hears so after h b =
+one_outcome {s} {hs} {coming} f {now} {e} {node} {point} is {other} r hears so after h b =
     same_ripening s (hs ++ f) now e.device e.link e.cause (moved_here h b)
-    (becomes_now s hs coming f mark cursor now e node is r after hears so)
+    (becomes_now s hs coming f now e node is r after hears so)
 
 -- ---- so its record is at the place
 
-module _ (s : Scenario) (hs coming coming2 : List Happening) (mark cursor : List ℕ) (now : ℕ) (e : Waiting)
+module _ (s : Scenario) (hs coming coming2 : List Happening) (now : ℕ) (e : Waiting)
     (node : Node) where
   -- where it is permanent
-  pub permanent_all : (w : Happening) (verdict : Judgement) → IsRipe s hs coming mark cursor now e
+  pub permanent_all : (w : Happening) (verdict : Judgement) → IsRipe s hs coming now e
       → Hears s hs e.device now node → IsPermanenceOutcomeAt s.network e.device node e.frame e.point
       (ripe_as verdict) → ((h : Happening) → IsIn h coming2 → IsBefore (place_of h) (now ∷ 3 ∷ ripe_more e) → ⊥)
       → (z : Happening) → IsIn z coming2 → place_of z ≡ now ∷ 3 ∷ ripe_more e
@@ -114,7 +114,7 @@ module _ (s : Scenario) (hs coming coming2 : List Happening) (mark cursor : List
       ]
 
   -- where it is dropped
-  pub dropped_all : (reason : Reason) → IsRipe s hs coming mark cursor now e → Hears s hs e.device now node
+  pub dropped_all : (reason : Reason) → IsRipe s hs coming now e → Hears s hs e.device now node
       → IsPermanenceOutcomeAt s.network e.device node e.frame e.point (ripe.Dropped reason)
       → ((h : Happening) → IsIn h coming2 → IsBefore (place_of h) (now ∷ 3 ∷ ripe_more e) → ⊥) → (z : Happening)
       → IsIn z coming2 → place_of z ≡ now ∷ 13 ∷ e.device.0 ∷ e.link.0 ∷ e.cause ∷ []
@@ -148,11 +148,11 @@ same_place : {s : Scenario} {js : List Happening} {t : ℕ} {device : DeviceId} 
 same_place x y = grind (arith, some_same)
 
 -- a drop at the place of this frame's would come from this very source, which is not worked off
-pub drop_fresh : {s : Scenario} {hs coming : List Happening} {mark cursor : List ℕ} {now : ℕ} {e : Waiting}
-    (r : IsRipe s hs coming mark cursor now e) (permanent : (f : List Happening)
+pub drop_fresh : {s : Scenario} {hs coming : List Happening} {now : ℕ} {e : Waiting}
+    (r : IsRipe s hs coming now e) (permanent : (f : List Happening)
     → IsPermanent s (hs ++ f) e.device now e.link e.cause e.frame e.point) (y : Happening) → IsIn y coming
     → now ∷ 13 ∷ e.device.0 ∷ e.link.0 ∷ e.cause ∷ [] ≡ place_of y → ⊥
-drop_fresh {s} {hs} {coming} {cursor} {now} {e} r permanent y i at =
+drop_fresh {s} {hs} {coming} {now} {e} r permanent y i at =
     let here = now ∷ 3 ∷ ripe_more e in
     let of = place_drop (time_of y) (members_in y) now e.device.0 e.link.0 e.cause y.note.body at in
     let device : of.0 ≡ e.device = ap (λ (n : ℕ). let x : DeviceId = record { 0 = n } in x) of.5 in
@@ -163,7 +163,7 @@ drop_fresh {s} {hs} {coming} {cursor} {now} {e} r permanent y i at =
     let part = parted y coming i in
     let by = r.moving.are.by part.0 part.1 y part.2 in
     let y_now = r.moving.are.of_now y i in
-    let under : IsBefore by.0 here = before_later by.0 here cursor by.3 r.moving.waits in
+    let under : IsBefore by.0 here = by.3 in
     let own = subst (λ t. IsOwnSource s (hs ++ part.0) t (members_in y) (kinds.Dropped e.device e.link e.cause of.3) by.0) y_now
     (subst (λ b. IsOwnSource s (hs ++ part.0) (time_of y) (members_in y) b by.0) body by.1) in
     elim own [
@@ -175,6 +175,6 @@ drop_fresh {s} {hs} {coming} {cursor} {now} {e} r permanent y i at =
           let both = same_place p.1.permanent (permanent part.0) in
           let is_here : by.0 ≡ here = p.2 ∙ ap (λ u. now ∷ 3 ∷ e.device.0 ∷ amount u ∷ p.1.frame.members.0 ∷ e.link.0 ∷ e.cause ∷ []) both.1
           ∙ ap (λ (f : Pcf). now ∷ 3 ∷ e.device.0 ∷ amount e.point ∷ f.members.0 ∷ e.link.0 ∷ e.cause ∷ []) both.0 in
-          r.moving.waits (subst (λ q. IsBefore q cursor) is_here by.3)
+          never_self here (subst (λ q. IsBefore q here) is_here by.3)
       | inr (inr d) ↦ grind (arith, under, no_higher, ripe_more, here)
     ]

@@ -1,17 +1,18 @@
 -- A frame that waits is permanent.
 use Rattle.{net_plan.specs.Ranges.IsLinkInRange, run_law.proofs.runs.Determined.same_units, world_law.specs.source.Sources.IsRipening}
 use Rattle.run_law.specs.records.Happenings.{frame_from}
+use Rattle.world_law.proofs.giving.GivenParts.{up_to_place}
 use Rattle.tte_units.proofs.general_lemmas.Lists.{in_all}
 use Rattle.world_law.proofs.frames.{Masters.of_master, Proper.{IsReceiver, received}}
-use Rattle.world_law.proofs.putting.{Bearing.{frames_aside, placed_back}, Moving.{stays, worked_or_here}, Placing.causes_given}
-use Rattle.world_law.proofs.putting.{PutShown.{change_of, pair_put, same_record}, PutTwo.{IsPair, two_by}, StandsOn.shown_still}
+use Rattle.world_law.proofs.putting.{Bearing.{frames_aside, placed_back}, Moving.stays, Placing.causes_given}
+use Rattle.world_law.proofs.putting.{PutShown.{change_of, pair_put, same_record}, PutTwo.{IsPair, two_by}, StandsOn.{StandsHere, shown_still}}
 use Rattle.world_law.proofs.steps_lemmas.Words.{no_task_at, ◌++◌, ◌+◌, ◌<◌, ◌∙◌, ◌∷◌, ◌≡◌, ◌≤ℤ◌, ◌≤◌, ◌⊎◌, AreOfNetwork}
 use Rattle.world_law.proofs.steps_lemmas.Words.{ArePutIn, AreSettled, AreWaiting, Bool, ComesFirst, DeviceId, Down, Happening}
 use Rattle.world_law.proofs.steps_lemmas.Words.{IsAllOfIt, IsBefore, IsDue, IsFounded, IsHeld, IsIn, IsInRange, IsKept, IsNoTaking}
 use Rattle.world_law.proofs.steps_lemmas.Words.{IsOfMaster, IsOne, IsParentOf, IsPermanent, IsPutIn, IsSet, IsSource, IsUnfollowed}
 use Rattle.world_law.proofs.steps_lemmas.Words.{IsWaitingFor, IsWithout, Joining, Judgement, LinkId, List, Network, Node, Note}
 use Rattle.world_law.proofs.steps_lemmas.Words.{NoteBody, Option, Pcf, Reason, Ripe, Scenario, Some, Stands, StandsBehind, Units}
-use Rattle.world_law.proofs.steps_lemmas.Words.{Up, Waiting, Way, World, [], amount, ap, append-nil, are_past, arith}
+use Rattle.world_law.proofs.steps_lemmas.Words.{Up, Waiting, Way, World, [], amount, ap, are_past, arith}
 use Rattle.world_law.proofs.steps_lemmas.Words.{bears_on, before_behind, behind, both_ways, comes_first, due_of, eq-eqb}
 use Rattle.world_law.proofs.steps_lemmas.Words.{false, happenings, held_aside, in_left, in_right, inl, inr}
 use Rattle.world_law.proofs.steps_lemmas.Words.{is_broken, is_cm, is_last, key, known_aside}
@@ -38,7 +39,7 @@ pub ripening_first : {C M : Type 0} {reading : C → ℕ → ℕ} {stands : M �
     {s : Scenario} {world : World C M} {notes : List Note} (e : Waiting) {old : Stands reading stands s world notes}
     → IsIn e world.waiting → e.point.0 ≤ℤ pos (s.reading e.device world.now)
     → ComesFirst reading stands s world notes old (ripe_place world.now e)
-    → IsRipe s (happenings s.network notes) world.settled old.mark old.cursor world.now e
+    → StandsHere reading stands s world notes 3 (ripe_more e) × IsRipe s (happenings s.network notes) world.settled world.now e
 ripening_first {s} {world} {notes} e {old} i reached first =
     let hs = happenings s.network notes in
     let now = world.now in
@@ -47,22 +48,21 @@ ripening_first {s} {world} {notes} e {old} i reached first =
     let le = past it.arrival (numbered_in hs e.cause it.arrival it.there) in
     let sound = old.waiting.sound e i in
     let reach = reach_by old.cursor now it first.none (old.waiting.later e i) sound le reached in
-    record {
-      moving = comes_first old 3 (ripe_more e)
-          (λ same. omega (arith, rank_at _ _ _ _ _ (sym same))) refl (old.waiting.later e i now
-          (ripening_at s hs e now it reach sound)) first;
-      run = old.run;
-      of_now = old.of_now;
+    let c = comes_first old 3 (ripe_more e) (inr (refl, inl (omega arith))) refl
+    (old.waiting.later e i now (ripening_at s hs e now it reach sound)) first in
+    (c, record {
+      moving = c.moving;
+      run = c.run;
       past = past;
-      befallen = old.befallen;
+      befallen = c.befallen;
       range = old.range;
       steady = old.steady e.device;
       limit = old.limit;
       it = it;
       reached = reached;
-      later = old.waiting.later e i;
+      later = c.waiting.later e i;
       sound = sound;
-    }
+    })
 
 -- ---- what waits then
 
@@ -94,37 +94,27 @@ ripens_too {s} {hs} {now} e {f} p it at =
     ∙ sym it.awaited.at_point) in
     record { frame = e.frame; permanent = subst (λ u. IsPermanent s hs f.device now f.link f.cause e.frame u) point q }
 
-pub waiting_ripe : {s : Scenario} {hs coming : List Happening} {mark cursor : List ℕ} {now : ℕ} {e : Waiting}
-    {waiting : List Waiting} (new : List Waiting) → IsRipe s hs coming mark cursor now e
-    → AreWaiting s hs cursor now waiting → IsWithout (ripe_place now) (ripe_place now e) waiting new
+pub waiting_ripe : {s : Scenario} {hs coming : List Happening} {now : ℕ} {e : Waiting}
+    {waiting : List Waiting} (new : List Waiting) → IsRipe s hs coming now e
+    → AreWaiting s hs (now ∷ 3 ∷ ripe_more e) now waiting → IsWithout (ripe_place now) (ripe_place now e) waiting new
     → AreWaiting s hs (behind (now ∷ 3 ∷ ripe_more e)) now new
-waiting_ripe {s} {hs} {coming} {cursor} {now} {e} new r are without =
+waiting_ripe {s} {hs} {now} {e} new r are without =
     let here = now ∷ 3 ∷ ripe_more e in
     let permanent = permanent_at s hs e now r.it (reach_now r) r.sound in
     record {
       real = λ f i. are.real f ((without f).0 i).0;
       later = λ f i t x b.
           let was = (without f).0 i in
-          let it = are.real f was.0 in
-          let p = x.permanent in
-          let arrival : it.arrival ≡ p.arrival = some_same it.arrival p.arrival _ it.there p.there in
-          let frame : x.frame ≡ f.frame = some_same x.frame f.frame _ p.of_frame (ap (λ (h : Happening). h.frame) (sym arrival) ∙ it.awaited.of_frame) in
-          let at : t ∷ 3 ∷ f.device.0 ∷ amount f.point ∷ x.frame.members.0 ∷ f.link.0 ∷ f.cause ∷ [] ≡ ripe_place t f =
-          ap (λ (g : Pcf). t ∷ 3 ∷ f.device.0 ∷ amount f.point ∷ g.members.0 ∷ f.link.0 ∷ f.cause ∷ []) frame in
-          elim (worked_or_here [] coming r.moving refl
-          (subst (λ l. IsSource s l (t ∷ 3 ∷ f.device.0 ∷ amount f.point ∷ x.frame.members.0 ∷ f.link.0 ∷ f.cause ∷ []))
-          (sym (append-nil hs))
-          (IsSource.ripening t f.device f.link f.cause f.point x)) (subst (λ q. IsBefore q (behind here)) (sym at) b)) [
-            | inl yet ↦ are.later f was.0 t x (subst (λ q. IsBefore q cursor) at yet)
-            | inr same ↦
-                let place : ripe_place t f ≡ ripe_place now e = sym at ∙ same in
+          elim (up_to_place (ripe_place t f) here b) [
+            | inr yet ↦ are.later f was.0 t x yet
+            | inl place ↦
                 let time : t ≡ now = (same_places place).0 in
                 was.1 (subst (λ n. ripe_place n f ≡ ripe_place now e) time place)
           ];
       sound = λ f i. are.sound f ((without f).0 i).0;
       all = λ f it sound not.
           (without f).1 (
-            are.all f it sound (λ t x b. not t x (stays r.moving (ripe_place t f) b)),
+            are.all f it sound (λ t x b. not t x (stays here (ripe_place t f) b)),
             λ at. not now (ripens_too e permanent it at)
                 (subst (λ q. IsBefore q (behind here)) (sym at) (before_behind here)),
           );
@@ -134,11 +124,12 @@ waiting_ripe {s} {hs} {coming} {cursor} {now} {e} new r are without =
 
 ripened_behind : {C M : Type 0} {reading : C → ℕ → ℕ} {stands : M → Network → DeviceId → Node → Type 0}
     {s : Scenario} {world : World C M} {notes : List Note} {e : Waiting} {after : M} {machines : List M}
-    (waiting : List Waiting) {settled : List Happening} (old : Stands reading stands s world notes)
-    → IsRipe s (happenings s.network notes) world.settled old.mark old.cursor world.now e
+    (waiting : List Waiting) {settled : List Happening} (c : StandsHere reading stands s world notes 3 (ripe_more e))
+    → IsRipe s (happenings s.network notes) world.settled world.now e
     → IsSet e.device.0 after world.machines machines → IsWithout (ripe_place world.now)
     (ripe_place world.now e) world.waiting waiting → length notes + length settled < numbers_end
-    → AreSettled s (happenings s.network notes) settled old.mark (behind (world.now ∷ 3 ∷ ripe_more e)) world.now
+    → AreSettled s (happenings s.network notes) settled (world.now ∷ 3 ∷ ripe_more e)
+    (behind (world.now ∷ 3 ∷ ripe_more e)) world.now
     → AreOfNetwork s (happenings s.network notes ++ settled) → IsKept stands s (happenings s.network notes) settled
     (behind (world.now ∷ 3 ∷ ripe_more e)) world.now e.device after
     → ((device : DeviceId) (machine : M) → (device.0 ≡ e.device.0 → ⊥)
@@ -148,21 +139,17 @@ ripened_behind : {C M : Type 0} {reading : C → ℕ → ℕ} {stands : M → Ne
     ∷ ripe_more e)) world.now device machine) → StandsBehind reading stands s
     (record world { early = false; machines = machines; waiting = waiting; settled = settled }) notes
     (behind (ripe_place world.now e))
-ripened_behind {stands} {s} {world} {notes} {e} {after} {machines} waiting {settled} old r set without room are known
+ripened_behind {stands} {s} {world} {notes} {e} {after} {machines} waiting {settled} c r set without room are known
     kept others =
     let hs = happenings s.network notes in
     let now = world.now in
     let more = ripe_more e in
-    let here = now ∷ 3 ∷ more in
-    let m = r.moving in
-    let over : IsBefore (now ∷ 2 ∷ []) here = inr (refl, inl (omega arith)) in
-    stands_on old 3 more (ripe_place now e) machines world.shown m refl room are known
-    (devices_then old 3 more e.device m (λ other not. no_task_at s.network now other 3 more (inl (omega arith))) set
+    stands_on c (ripe_place now e) machines world.shown refl room are known
+    (devices_then c e.device (λ other not. no_task_at s.network now other 3 more (inl (omega arith))) set
     (inl kept)
     others)
-    over (wires_still old 3 more (λ two. omega (arith, two)) m over)
-    (ports_still old 3 more (λ eight. omega (arith, eight)) m)
-    (waiting_ripe waiting r old.waiting without) (shown_still old 3 more (omega arith) m)
+    (wires_still c (λ two. omega (arith, two))) (ports_still c (λ eight. omega (arith, eight)))
+    (waiting_ripe waiting r c.waiting without) (shown_still c (omega arith))
 
 -- ---- its device is one of the network
 
@@ -181,24 +168,24 @@ waits_within s hs e it founded range =
         subst (λ (d : DeviceId). d.0 < length s.network.device) v.is
         (in_all (IsLinkInRange s.network) s.network.link e.link.0 v.joint range.links v.there).child
 
-pub in_network : {s : Scenario} {hs coming : List Happening} {mark cursor : List ℕ} {now : ℕ} {e : Waiting}
-    → IsRipe s hs coming mark cursor now e → e.device.0 < length s.network.device
+pub in_network : {s : Scenario} {hs coming : List Happening} {now : ℕ} {e : Waiting}
+    → IsRipe s hs coming now e → e.device.0 < length s.network.device
 in_network {s} {hs} {e} r = waits_within s hs e r.it r.run.founded r.range
 
 -- ---- the record
 
 frame_is : {s : Scenario} {hs : List Happening} (front : List Happening) {coming : List Happening}
-    {mark cursor : List ℕ} {now : ℕ} {e : Waiting} → IsRipe s hs coming mark cursor now e
+    {now : ℕ} {e : Waiting} → IsRipe s hs coming now e
     → frame_from (hs ++ front) e.cause ≡ Some e.frame
 frame_is {hs} front {e} r =
     ap (λ (o : Option Happening). Rattle.std.proofs.Common.option_and_then (λ h. h.frame) o) (numbered_front hs front e.cause r.it.arrival r.it.there)
     ∙ r.it.awaited.of_frame
 
-module _ (s : Scenario) (hs coming : List Happening) (mark cursor : List ℕ) (now : ℕ) (e : Waiting) where
-  few_cause : IsRipe s hs coming mark cursor now e → e.cause ≤ length hs
+module _ (s : Scenario) (hs coming : List Happening) (now : ℕ) (e : Waiting) where
+  few_cause : IsRipe s hs coming now e → e.cause ≤ length hs
   few_cause r = let lt = numbered_within hs e.cause r.it.arrival r.it.there in omega (arith, lt)
 
-  permanent_in : (r : IsRipe s hs coming mark cursor now e) (f : List Happening)
+  permanent_in : (r : IsRipe s hs coming now e) (f : List Happening)
       → IsPermanent s (hs ++ f) e.device now e.link e.cause e.frame e.point
   permanent_in r f = record {
     arrival = r.it.arrival;
@@ -254,9 +241,10 @@ rank_not a b now more at high same = grind (arith, time_of, rank, key, members_i
 pub record IsStep {C M : Type 0} (reading : C → ℕ → ℕ) (stands : M → Network → DeviceId → Node → Type 0) (s : Scenario)
     (world : World C M) (notes : List Note) (e : Waiting) (machine after : M) (result : Ripe) (machines : List M)
     (waiting : List Waiting) : Type 0 where
-  pub old : Stands reading stands s world notes
-  pub r : IsRipe s (happenings s.network notes) world.settled old.mark old.cursor world.now e
-  pub k : IsKept stands s (happenings s.network notes) world.settled old.cursor world.now e.device machine
+  pub c : StandsHere reading stands s world notes 3 (ripe_more e)
+  pub r : IsRipe s (happenings s.network notes) world.settled world.now e
+  pub k : IsKept stands s (happenings s.network notes) world.settled (world.now ∷ 3 ∷ ripe_more e) world.now
+      e.device machine
   pub master : IsParentOf s.network e.device e.link → IsOfMaster s.network e.device e.link e.frame.members
   pub has : HasRipened stands s.network e.device (moment_of s e.device world.now) e.link e.frame e.point result machine after
   pub set : IsSet e.device.0 after world.machines machines
@@ -273,7 +261,7 @@ module _ {C M : Type 0} (reading : C → ℕ → ℕ) (stands : M → Network �
 
   one_behind : {result : Ripe} (x : IsStep reading stands s world notes e machine after result machines waiting)
       (front back : List Happening) (w : Happening) → world.settled ≡ front ++ back
-      → IsOne s (happenings s.network notes) front back x.old.mark x.old.cursor world.now 3 (ripe_more e) w
+      → IsOne s (happenings s.network notes) front back world.now 3 (ripe_more e) w
       → IsUnfollowed s (happenings s.network notes) world.now w.note.body
       → IsAllOfIt s (happenings s.network notes) (front ++ w ∷ back) (world.now ∷ 3 ∷ ripe_more e)
       → ((device : DeviceId) → (device.0 ≡ e.device.0 → ⊥) → bears_on device w.note.body ≡ false)
@@ -283,12 +271,12 @@ module _ {C M : Type 0} (reading : C → ℕ → ℕ) (stands : M → Network �
   one_behind x front back w parts one last all misses none kept =
       let hs = happenings s.network notes in
       let now = world.now in
-      let old = x.old in
+      let old = x.c.old in
       let long = put_length front back w in
       let parts_length : length world.settled ≡ length (front ++ back) = ap length parts in
       let room = x.room in
       let is_in = in_network x.r in
-      ripened_behind waiting old x.r x.set x.without
+      ripened_behind waiting x.c x.r x.set x.without
       (omega (arith, long, parts_length, room))
       (one_by one last all)
       (known_aside hs front back w
@@ -308,19 +296,19 @@ module _ {C M : Type 0} (reading : C → ℕ → ℕ) (stands : M → Network �
   quiet_step verdict settled x last (mid, put, done) =
       let hs = happenings s.network notes in
       let now = world.now in
-      let old = x.old in
+      let old = x.c.old in
       let here = now ∷ 3 ∷ ripe_more e in
       let body = kinds.Permanent e.device e.link e.cause e.point verdict in
-      let shown = one_shown s.network hs now body (few_cause s hs world.settled old.mark old.cursor now e x.r)
+      let shown = one_shown s.network hs now body (few_cause s hs world.settled now e x.r)
       put in
       let front = shown.front in
       let back = shown.back in
       let w = record_of s.network hs front now body in
-      let r : IsRipe s hs (front ++ back) old.mark old.cursor now e =
-      subst (λ l. IsRipe s hs l old.mark old.cursor now e) shown.parts x.r in
-      let k : IsKept stands s hs (front ++ back) old.cursor now e.device machine =
-      subst (λ l. IsKept stands s hs l old.cursor now e.device machine) shown.parts x.k in
-      let a = answered stands s hs (front ++ back) old.mark old.cursor now e machine after (ripe_as verdict) r k x.master x.has in
+      let r : IsRipe s hs (front ++ back) now e =
+      subst (λ l. IsRipe s hs l now e) shown.parts x.r in
+      let k : IsKept stands s hs (front ++ back) (now ∷ 3 ∷ ripe_more e) now e.device machine =
+      subst (λ l. IsKept stands s hs l here now e.device machine) shown.parts x.k in
+      let a = answered stands s hs (front ++ back) now e machine after (ripe_as verdict) r k x.master x.has in
       let kind = outcome_kind s.network e.device k.node.standing.state k.node.standing.adjustment.0 k.node.points e.frame
       e.point.0 (ripe_as verdict) a.outcome in
       let role = role_by (is_cm s.network e.device) verdict kind last in
@@ -330,15 +318,13 @@ module _ {C M : Type 0} (reading : C → ℕ → ℕ) (stands : M → Network �
       let place : place_of w ≡ here = here_place now now (members_in w) e verdict body refl members refl in
       let high = high_now r in
       let under : (z : Happening) → IsIn z front → IsBefore (place_of z) here → ⊥ = λ z i.
-      r.moving.after z (in_left z front back i) in
-      let becomes = becomes_now s hs (front ++ back) front old.mark old.cursor now e k.node (ripe_as verdict) r under a.hears
+      r.moving.are.behind_mark z (in_left z front back i) in
+      let becomes = becomes_now s hs (front ++ back) front now e k.node (ripe_as verdict) r under a.hears
       a.outcome in
       let not_under : IsBefore (place_of w) here → ⊥ = λ b.
       never_self here (subst (λ q. IsBefore q here) place b) in
-      let one : IsOne s hs front back old.mark old.cursor now 3 (ripe_more e) w = record {
+      let one : IsOne s hs front back now 3 (ripe_more e) w = record {
         moving = r.moving;
-        later = inr (refl, inl (omega arith));
-        marked = old.of_now;
         given = old.run.founded;
         at = refl;
         due = due_of s hs front now body becomes;
@@ -348,7 +334,7 @@ module _ {C M : Type 0} (reading : C → ℕ → ℕ) (stands : M → Network �
         mine = sym (here_place now now (members_in w) e verdict body refl members refl);
         here =
             IsSource.ripening now e.device e.link e.cause e.point
-            (record { frame = e.frame; permanent = permanent_in s hs (front ++ back) old.mark old.cursor now e r front });
+            (record { frame = e.frame; permanent = permanent_in s hs (front ++ back) now e r front });
         aside = λ z i device same hears. omega (arith, rank_at _ _ _ _ _ same);
       } in
       let after_all : (z : Happening) → IsIn z (front ++ w ∷ back) → IsBefore (place_of z) here → ⊥ = λ z i b.
@@ -359,7 +345,7 @@ module _ {C M : Type 0} (reading : C → ℕ → ℕ) (stands : M → Network �
       subst Behind (sym (done ∙ shown.shows))
       (one_behind x front back w shown.parts one
       (last_unfollowed s hs now body (last_by e.device e.link e.cause e.point verdict last))
-      (permanent_all s hs (front ++ back) (front ++ w ∷ back) old.mark old.cursor now e k.node w verdict r a.hears a.outcome
+      (permanent_all s hs (front ++ back) (front ++ w ∷ back) now e k.node w verdict r a.hears a.outcome
       after_all w (in_right w front (w ∷ back) (inl refl)) place)
       (λ device ne. bears_not device e verdict body ne refl) (λ device z. refl)
       (quiet_kept front back w verdict r k a role refl of_frame refl place
@@ -374,29 +360,27 @@ module _ {C M : Type 0} (reading : C → ℕ → ℕ) (stands : M → Network �
   dropped_step reason settled x (mid, put, done) =
       let hs = happenings s.network notes in
       let now = world.now in
-      let old = x.old in
+      let old = x.c.old in
       let here = now ∷ 3 ∷ ripe_more e in
       let body = kinds.Dropped e.device e.link e.cause reason in
-      let shown = one_shown s.network hs now body (few_cause s hs world.settled old.mark old.cursor now e x.r)
+      let shown = one_shown s.network hs now body (few_cause s hs world.settled now e x.r)
       put in
       let front = shown.front in
       let back = shown.back in
       let w = record_of s.network hs front now body in
-      let r : IsRipe s hs (front ++ back) old.mark old.cursor now e =
-      subst (λ l. IsRipe s hs l old.mark old.cursor now e) shown.parts x.r in
-      let k : IsKept stands s hs (front ++ back) old.cursor now e.device machine =
-      subst (λ l. IsKept stands s hs l old.cursor now e.device machine) shown.parts x.k in
-      let a = answered stands s hs (front ++ back) old.mark old.cursor now e machine after (ripe.Dropped reason) r k x.master
+      let r : IsRipe s hs (front ++ back) now e =
+      subst (λ l. IsRipe s hs l now e) shown.parts x.r in
+      let k : IsKept stands s hs (front ++ back) (now ∷ 3 ∷ ripe_more e) now e.device machine =
+      subst (λ l. IsKept stands s hs l here now e.device machine) shown.parts x.k in
+      let a = answered stands s hs (front ++ back) now e machine after (ripe.Dropped reason) r k x.master
       x.has in
       let high = high_now r in
       let under : (z : Happening) → IsIn z front → IsBefore (place_of z) here → ⊥ = λ z i.
-      r.moving.after z (in_left z front back i) in
-      let becomes = becomes_now s hs (front ++ back) front old.mark old.cursor now e k.node (ripe.Dropped reason) r under a.hears
+      r.moving.are.behind_mark z (in_left z front back i) in
+      let becomes = becomes_now s hs (front ++ back) front now e k.node (ripe.Dropped reason) r under a.hears
       a.outcome in
-      let one : IsOne s hs front back old.mark old.cursor now 3 (ripe_more e) w = record {
+      let one : IsOne s hs front back now 3 (ripe_more e) w = record {
         moving = r.moving;
-        later = inr (refl, inl (omega arith));
-        marked = old.of_now;
         given = old.run.founded;
         at = refl;
         due = due_of s hs front now body (inr (inl (e.point, becomes)));
@@ -404,11 +388,11 @@ module _ {C M : Type 0} (reading : C → ℕ → ℕ) (stands : M → Network �
         none = shown.none;
         fresh = λ y i same.
             drop_fresh r
-            (λ f. permanent_in s hs (front ++ back) old.mark old.cursor now e r f) y (in_right y front back i) same;
+            (λ f. permanent_in s hs (front ++ back) now e r f) y (in_right y front back i) same;
         mine = inr (inl (e.point, becomes, refl));
         here =
             IsSource.ripening now e.device e.link e.cause e.point
-            (record { frame = e.frame; permanent = permanent_in s hs (front ++ back) old.mark old.cursor now e r front });
+            (record { frame = e.frame; permanent = permanent_in s hs (front ++ back) now e r front });
         aside = λ z i device same hears. omega (arith, rank_at _ _ _ _ _ same);
       } in
       let after_all : (z : Happening) → IsIn z (front ++ w ∷ back) → IsBefore (place_of z) here → ⊥ = λ z i b.
@@ -419,7 +403,7 @@ module _ {C M : Type 0} (reading : C → ℕ → ℕ) (stands : M → Network �
       ] in
       subst Behind (sym (done ∙ shown.shows))
       (one_behind x front back w shown.parts one (last_unfollowed s hs now body refl)
-      (dropped_all s hs (front ++ back) (front ++ w ∷ back) old.mark old.cursor now e k.node reason r a.hears a.outcome after_all w
+      (dropped_all s hs (front ++ back) (front ++ w ∷ back) now e k.node reason r a.hears a.outcome after_all w
       (in_right w front (w ∷ back) (inl refl)) refl)
       (λ device ne. refl) (λ device z. refl)
       (dropped_kept front back w reason r k a refl (λ z. refl)))
@@ -434,14 +418,14 @@ module _ {C M : Type 0} (reading : C → ℕ → ℕ) (stands : M → Network �
   joined_step settled x put =
       let hs = happenings s.network notes in
       let now = world.now in
-      let old = x.old in
+      let old = x.c.old in
       let r = x.r in
       let k = x.k in
       let here = now ∷ 3 ∷ ripe_more e in
       let n = length hs + 1 in
       let body = kinds.Permanent e.device e.link e.cause e.point judgements.Integrates in
       let v_body = kinds.State e.device Joining n whys.Frame in
-      let few = few_cause s hs world.settled old.mark old.cursor now e r in
+      let few = few_cause s hs world.settled now e r in
       let w = record_of s.network hs [] now body in
       let of_frame : w.frame ≡ Some e.frame = frame_is [] r in
       let members : members_in w ≡ e.frame.members.0 =
@@ -450,21 +434,19 @@ module _ {C M : Type 0} (reading : C → ℕ → ℕ) (stands : M → Network �
       let shown_at : place_of (settled_as s.network hs now body) ≡ here =
       ap place_of (sym (same_record s.network hs [] now body few)) ∙ place in
       let q = two_shown s.network hs now body e.device Joining whys.Frame few (omega arith)
-      (λ z i b. r.moving.after z i (subst (λ q. IsBefore (place_of z) q) shown_at b))
+      (λ z i b. r.moving.are.behind_mark z i (subst (λ q. IsBefore (place_of z) q) shown_at b))
       (causes_given r.moving (omega arith)) put.1
       (subst (λ c. IsPutIn (settled_as s.network hs now (kinds.State e.device Joining (c + 1) whys.Frame)) put.0 put.2.0)
       (length_is s notes) put.2.1) in
       let v = change_of s.network hs now body q.mid e.device Joining whys.Frame in
-      let a = answered stands s hs world.settled old.mark old.cursor now e machine after ripe.Integrates r k x.master x.has in
+      let a = answered stands s hs world.settled now e machine after ripe.Integrates r k x.master x.has in
       let high = high_now r in
-      let becomes = becomes_now s hs world.settled [] old.mark old.cursor now e k.node ripe.Integrates r (λ z i. absurd i) a.hears
+      let becomes = becomes_now s hs world.settled [] now e k.node ripe.Integrates r (λ z i. absurd i) a.hears
       a.outcome in
       let not_under : IsBefore (place_of w) here → ⊥ = λ b.
       never_self here (subst (λ q. IsBefore q here) place b) in
-      let one : IsOne s hs [] world.settled old.mark old.cursor now 3 (ripe_more e) w = record {
+      let one : IsOne s hs [] world.settled now 3 (ripe_more e) w = record {
         moving = r.moving;
-        later = inr (refl, inl (omega arith));
-        marked = old.of_now;
         given = old.run.founded;
         at = refl;
         due = due_of s hs [] now body becomes;
@@ -474,10 +456,10 @@ module _ {C M : Type 0} (reading : C → ℕ → ℕ) (stands : M → Network �
         mine = sym (here_place now now (members_in w) e judgements.Integrates body refl members refl);
         here =
             IsSource.ripening now e.device e.link e.cause e.point
-            (record { frame = e.frame; permanent = permanent_in s hs world.settled old.mark old.cursor now e r [] });
+            (record { frame = e.frame; permanent = permanent_in s hs world.settled now e r [] });
         aside = λ z i device same hears. omega (arith, rank_at _ _ _ _ _ same);
       } in
-      let p : IsPair s old.mark old.cursor 3 (ripe_more e) q = record {
+      let p : IsPair s 3 (ripe_more e) q = record {
         one = one;
         no_event = λ r1. omega (arith, r1);
         low = omega arith;
@@ -511,10 +493,10 @@ module _ {C M : Type 0} (reading : C → ℕ → ℕ) (stands : M → Network �
       let far_off : (device : DeviceId) → length s.network.device ≤ device.0 → device.0 ≡ e.device.0 → ⊥ = λ device le same.
       omega (arith, same, le, is_in) in
       subst Behind (sym (put.2.2 ∙ q.shows))
-      (ripened_behind waiting old r x.set x.without
+      (ripened_behind waiting x.c r x.set x.without
       (omega (arith, long, same_parts, one_more, room))
       (two_by p
-      (permanent_all s hs world.settled then_ old.mark old.cursor now e k.node w judgements.Integrates r a.hears a.outcome after_all
+      (permanent_all s hs world.settled then_ now e k.node w judgements.Integrates r a.hears a.outcome after_all
       w (inl refl) place))
       (known_aside hs (w ∷ q.mid) q.back v
       (λ device le. moves_no_other device v_body (stays_out device (far_off device le)))
@@ -548,17 +530,19 @@ ripened_step {C} {M} reading stands s world notes e machine after result machine
     put =
     let hs = happenings s.network notes in
     let it = old.waiting.real e i in
-    let r = ripening_first e i reached first in
+    let start = ripening_first e i reached first in
+    let c = start.0 in
+    let r = start.1 in
     let is_in = in_network r in
-    let held = old.devices e.device is_in in
+    let held = c.devices e.device is_in in
     let same : held.0 ≡ machine = some_same held.0 machine _ held.1 at in
-    let own : IsHeld stands s hs world.settled old.cursor world.now e.device machine =
-    subst (λ m. IsHeld stands s hs world.settled old.cursor world.now e.device m) same held.2 in
+    let own : IsHeld stands s hs world.settled (world.now ∷ 3 ∷ ripe_more e) world.now e.device machine =
+    subst (λ m. IsHeld stands s hs world.settled (world.now ∷ 3 ∷ ripe_more e) world.now e.device m) same held.2 in
     elim own [
       | inr out ↦ absurd (both_ways (is_broken s e.device world.now) r.sound out.broken)
       | inl k ↦
           by_result reading stands s world notes e machine after machines waiting result settled (record {
-            old = old;
+            c = c;
             r = r;
             k = k;
             master = λ parent.

@@ -5,7 +5,7 @@ use Rattle.std.proofs.Common.{Contains, get_or}
 use Rattle.world_law.proofs.steps_lemmas.Words.{HasSentFrom, HaveBefallen, IsAtRest, IsBefore, IsCaused, IsDue, IsIn, IsInRange, IsMoving, IsOfMaster}
 use Rattle.world_law.proofs.steps_lemmas.Words.{IsOfThisTime, IsOwnSource, IsParentOf, IsPermanent, IsReadyAt, IsRun, IsSource, IsSteady, IsWaitingFor}
 use Rattle.world_law.proofs.steps_lemmas.Words.{List, Node, None, NoteBody, Point, Scenario, Some, Units, Waiting, ℕ, ℤ, [], after_last, amount, ap, arith}
-use Rattle.world_law.proofs.steps_lemmas.Words.{before_later, cases_Bool, cases_int, cases_lt, cycle_in, ends_stretch, eqb-true, false, founded_at}
+use Rattle.world_law.proofs.steps_lemmas.Words.{cases_Bool, cases_int, cases_lt, cycle_in, ends_stretch, eqb-true, false, founded_at}
 use Rattle.world_law.proofs.steps_lemmas.Words.{in_parts, inl, inr, ints, is_broken, key, master_of, members_in, moment_of, natural, no_higher, numbered_in}
 use Rattle.world_law.proofs.steps_lemmas.Words.{numbered_parts, place_of, point_at, point_by, point_of, points_of, pos, rank, refl, ripe_place, same_device}
 use Rattle.world_law.proofs.steps_lemmas.Words.{◌++◌, ◌+ℤ◌, ◌+◌, ◌-◌, ◌<ℤ◌, ◌<◌, ◌^◌, ◌∙◌, ◌∷◌, ◌≡◌, ◌≤ℤ◌, ◌≤◌, Bool, Compressed, DeviceId, Happening}
@@ -29,12 +29,12 @@ IsLateKind (kinds.State device state cause why) = ⊥
 IsLateKind other = Unit {0}
 
 -- a record of the instant that is before the place has no higher rank
-pub given_low : {s : Scenario} {hs coming : List Happening} {mark cursor : List ℕ} {now : ℕ} {more : List ℕ}
-    → IsMoving s hs coming mark cursor now 3 more → ((h : Happening) → IsIn h hs → IsBefore (place_of h) mark)
+pub given_low : (hs : List Happening) {now : ℕ} (more : List ℕ)
+    → ((h : Happening) → IsIn h hs → IsBefore (place_of h) (now ∷ 3 ∷ more))
     → (h : Happening) → IsIn h hs → time_of h ≡ now → rank h.note.body ≤ 3
-given_low {cursor} {now} {more} m within h i at =
+given_low hs {now} more within h i at =
     elim (no_higher (time_of h) (rank h.note.body) now 3 (key (members_in h) h.note.body) more
-    (inr (before_later (place_of h) (now ∷ 3 ∷ more) cursor (m.ahead (place_of h) (within h i)) m.waits))) [
+    (inr (within h i))) [
       | inl lt ↦ absurd (omega (arith, lt, at))
       | inr same ↦ same.1
     ]
@@ -79,16 +79,16 @@ module _ (s : Scenario) (hs front : List Happening) where
       not_late t now 6 _ more w0 own.1 at (omega arith) b
   late_kind now t m more time other w0 low off here at same own c b = tt
 
-pub all_late : {s : Scenario} {hs coming : List Happening} {mark cursor : List ℕ} {now : ℕ} {more : List ℕ}
-    → IsMoving s hs coming mark cursor now 3 more → ((h : Happening) → IsIn h hs → IsBefore (place_of h) mark)
+pub all_late : {s : Scenario} {hs coming : List Happening} {now : ℕ} {more : List ℕ}
+    → IsMoving s hs coming now 3 more → ((h : Happening) → IsIn h hs → IsBefore (place_of h) (now ∷ 3 ∷ more))
     → (y : Happening) → IsIn y coming → IsLateKind y.note.body
-all_late {s} {hs} {coming} {cursor} {now} {more} m within y i =
+all_late {s} {hs} {coming} {now} {more} m within y i =
     let split = parted y coming i in
     let by = m.are.by split.0 split.1 y split.2 in
     let due = (m.are.founded split.0 split.1 y split.2).1 in
-    late_kind s hs split.0 now (time_of y) (members_in y) more y.note.time y.note.body by.0 (given_low m within)
+    late_kind s hs split.0 now (time_of y) (members_in y) more y.note.time y.note.body by.0 (given_low hs more within)
     (λ z j. off_source m z (subst (λ l. IsIn z l) (sym split.2) (in_left z split.0 (y ∷ split.1) j))) (off_source m y i)
-    (m.are.of_now y i) refl by.1 due.cause (before_later by.0 (now ∷ 3 ∷ more) cursor by.3 m.waits)
+    (m.are.of_now y i) refl by.1 due.cause by.3
 
 -- so it says nothing to a device but of its state
 pub late_mere : (device : DeviceId) (body : NoteBody) → IsLateKind body → IsMere device body
@@ -118,24 +118,23 @@ rest_ends s device now body late (inr on) = turning_stretch device body on.0
 abbrev pub ripe_more : Waiting → List ℕ
 ripe_more e = e.device.0 ∷ amount e.point ∷ e.frame.members.0 ∷ e.link.0 ∷ e.cause ∷ []
 
--- the frame waits, its point is reached, and no source that is not worked off is before it
-pub record IsRipe (s : Scenario) (hs coming : List Happening) (mark cursor : List ℕ) (now : ℕ) (e : Waiting) : Type 0 where
-  pub moving : IsMoving s hs coming mark cursor now 3 (ripe_more e)
-  pub run : IsRun place_of (IsDue s) mark hs
-  pub of_now : (p : List ℕ) → IsBefore p (now ∷ []) → IsBefore p mark
+-- the frame waits, its point is reached, and the frontier is at it
+pub record IsRipe (s : Scenario) (hs coming : List Happening) (now : ℕ) (e : Waiting) : Type 0 where
+  pub moving : IsMoving s hs coming now 3 (ripe_more e)
+  pub run : IsRun place_of (IsDue s) (now ∷ 3 ∷ ripe_more e) hs
   pub past : (h : Happening) → IsIn h hs → time_of h ≤ now
-  pub befallen : HaveBefallen s mark now
+  pub befallen : HaveBefallen s (now ∷ 3 ∷ ripe_more e) now
   pub range : IsInRange s.network
   pub steady : IsSteady (s.reading e.device) (amount s.network.precision)
   pub limit : now ≤ 2 ^ 60
   pub it : IsWaitingFor s hs e
   pub reached : e.point.0 ≤ℤ pos (s.reading e.device now)
-  pub later : (t : ℕ) → IsRipening s hs t e.device e.link e.cause e.point → IsBefore (ripe_place t e) cursor → ⊥
+  pub later : (t : ℕ) → IsRipening s hs t e.device e.link e.cause e.point → IsBefore (ripe_place t e) (now ∷ 3 ∷ ripe_more e) → ⊥
   pub sound : is_broken s e.device now ≡ false
 
 -- no record is later
-pub sooner_of : {s : Scenario} {hs coming : List Happening} {mark cursor : List ℕ} {now : ℕ} {e : Waiting}
-    → IsRipe s hs coming mark cursor now e → (w h : Happening) → time_of w ≡ now → IsIn h (hs ++ coming)
+pub sooner_of : {s : Scenario} {hs coming : List Happening} {now : ℕ} {e : Waiting}
+    → IsRipe s hs coming now e → (w h : Happening) → time_of w ≡ now → IsIn h (hs ++ coming)
     → time_of h ≤ time_of w
 sooner_of {hs} {coming} r w h at i = elim (in_parts h hs coming i) [
   | inl given ↦ let past = r.past h given in omega (arith, past, at)
@@ -223,10 +222,10 @@ abbrev pub ripening_at : (s : Scenario) (hs : List Happening) (e : Waiting) (t :
     → IsRipening s hs t e.device e.link e.cause e.point
 ripening_at s hs e t it reach sound = record { frame = e.frame; permanent = permanent_at s hs e t it reach sound }
 
-module _ {s : Scenario} {hs : List Happening} (cursor : List ℕ) (now : ℕ) {e : Waiting} (it : IsWaitingFor s hs e)
-    (first : NoSourceBefore s hs cursor (now ∷ 3 ∷ ripe_more e)) where
+module _ {s : Scenario} {hs : List Happening} (frontier : List ℕ) (now : ℕ) {e : Waiting} (it : IsWaitingFor s hs e)
+    (first : NoSourceBefore s hs frontier (now ∷ 3 ∷ ripe_more e)) where
   -- before now its reading had not come to its point
-  pub below_by : ((t : ℕ) → IsRipening s hs t e.device e.link e.cause e.point → IsBefore (ripe_place t e) cursor → ⊥)
+  pub below_by : ((t : ℕ) → IsRipening s hs t e.device e.link e.cause e.point → IsBefore (ripe_place t e) frontier → ⊥)
       → is_broken s e.device now ≡ false → (x : ℕ) → time_of it.arrival ≤ x → x < now
       → pos (s.reading e.device x) <ℤ e.point.0
   below_by later sound x from lt =
@@ -246,7 +245,7 @@ module _ {s : Scenario} {hs : List Happening} (cursor : List ℕ) (now : ℕ) {e
             (later reach.0 (ripening_at s hs e reach.0 it reach.1 correct)) (inl sooner))
       ]
 
-  pub reach_by : ((t : ℕ) → IsRipening s hs t e.device e.link e.cause e.point → IsBefore (ripe_place t e) cursor → ⊥)
+  pub reach_by : ((t : ℕ) → IsRipening s hs t e.device e.link e.cause e.point → IsBefore (ripe_place t e) frontier → ⊥)
       → is_broken s e.device now ≡ false → time_of it.arrival ≤ now → e.point.0 ≤ℤ pos (s.reading e.device now)
       → IsReach (s.reading e.device) (pos (time_of it.arrival)) e.point.0 (pos now)
   reach_by later sound le reached = record {
@@ -255,15 +254,15 @@ module _ {s : Scenario} {hs : List Happening} (cursor : List ℕ) (now : ℕ) {e
     not_before = λ x ge lt. below_by later sound x (omega (arith, ints, ge)) (omega (arith, ints, lt));
   }
 
-pub below : (s : Scenario) (hs coming : List Happening) (mark cursor : List ℕ) (now : ℕ) (e : Waiting) (r : IsRipe s hs coming mark cursor now e) (x : ℕ)
+pub below : (s : Scenario) (hs coming : List Happening) (now : ℕ) (e : Waiting) (r : IsRipe s hs coming now e) (x : ℕ)
     → time_of r.it.arrival ≤ x → x < now → pos (s.reading e.device x) <ℤ e.point.0
-below s hs coming mark cursor now e r x from lt = below_by cursor now r.it r.moving.first r.later r.sound x from lt
+below s hs coming now e r x from lt = below_by (now ∷ 3 ∷ ripe_more e) now r.it (λ w source waits b. waits b) r.later r.sound x from lt
 
-module _ {s : Scenario} {hs coming : List Happening} {mark cursor : List ℕ} {now : ℕ} {e : Waiting}
-    (r : IsRipe s hs coming mark cursor now e) where
+module _ {s : Scenario} {hs coming : List Happening} {now : ℕ} {e : Waiting}
+    (r : IsRipe s hs coming now e) where
   pub reach_now : IsReach (s.reading e.device) (pos (time_of r.it.arrival)) e.point.0 (pos now)
   reach_now =
-      reach_by cursor now r.it r.moving.first r.later r.sound
+      reach_by (now ∷ 3 ∷ ripe_more e) now r.it (λ w source waits b. waits b) r.later r.sound
       (r.past r.it.arrival (numbered_in hs e.cause r.it.arrival r.it.there)) r.reached
 
   -- before now its reading had not gone beyond its point
@@ -271,7 +270,7 @@ module _ {s : Scenario} {hs coming : List Happening} {mark cursor : List ℕ} {n
   not_beyond x lt =
       let t0 = time_of r.it.arrival in
       elim (cases_lt x t0) [
-        | inr from ↦ let under = below s hs coming mark cursor now e r x from lt in omega (arith, ints, under)
+        | inr from ↦ let under = below s hs coming now e r x from lt in omega (arith, ints, under)
         | inl sooner ↦
             let fell = r.steady.never_falls x t0 (omega (arith, sooner)) in
             let late = arrived_before r.it r.range r.run.founded in
@@ -286,7 +285,7 @@ module _ {s : Scenario} {hs coming : List Happening} {mark cursor : List ℕ} {n
       let le = r.past r.it.arrival (numbered_in hs e.cause r.it.arrival r.it.there) in
       elim (cases_lt (time_of r.it.arrival) now) [
         | inl lt ↦
-            let under = below s hs coming mark cursor now e r (now - 1) (omega (arith, lt)) (omega (arith, lt)) in
+            let under = below s hs coming now e r (now - 1) (omega (arith, lt)) (omega (arith, lt)) in
             let jump = r.steady.no_jump (now - 1) in
             let same : now - 1 + 1 ≡ now = omega (arith, lt) in
             let jumped : s.reading e.device now < s.reading e.device (now - 1) + amount s.network.precision =
@@ -339,8 +338,8 @@ points_before now a b xs ys d c e (inr (t, inr (r, inl lt))) = absurd (omega (ar
 points_before now a b xs ys d c e (inr (t, inr (r, inr (same, inl lt)))) = omega (arith, lt)
 points_before now a b xs ys d c e (inr (t, inr (r, inr (same, inr (eq, more))))) = omega (arith, eq)
 
-module _ (s : Scenario) (hs coming : List Happening) (mark cursor : List ℕ) (now : ℕ) where
-  pub points_no_later : {e : Waiting} (r : IsRipe s hs coming mark cursor now e)
+module _ (s : Scenario) (hs coming : List Happening) (now : ℕ) where
+  pub points_no_later : {e : Waiting} (r : IsRipe s hs coming now e)
       → ((z : Happening) → IsIn z coming → IsLateKind z.note.body) → (p : Point)
       → IsIn p (points_of (hs ++ coming) e.device) → p.reading ≤ℤ e.point.0
   points_no_later {e} r late p i =
@@ -364,9 +363,7 @@ module _ (s : Scenario) (hs coming : List Happening) (mark cursor : List ℕ) (n
               | inl lt ↦ let under = not_beyond r (time_of h) lt in omega (arith, ints, is, reached, under)
               | inr ge ↦
                   let at : time_of h ≡ now = omega (arith, le, ge) in
-                  let before : IsBefore (place_of h) (now ∷ 3 ∷ ripe_more e) =
-                  before_later (place_of h) (now ∷ 3 ∷ ripe_more e) cursor
-                  (r.moving.ahead (place_of h) (r.run.within h given)) r.moving.waits in
+                  let before : IsBefore (place_of h) (now ∷ 3 ∷ ripe_more e) = r.run.within h given in
                   let placed : IsBefore (now ∷ 3 ∷ of.0.0 ∷ amount of.3 ∷ members_in h ∷ of.1.0 ∷ of.2 ∷ [])
                   (now ∷ 3 ∷ ripe_more e) =
                   grind (arith, key, members_in, h, of.5, h.note.body, before) in
@@ -378,7 +375,7 @@ module _ (s : Scenario) (hs coming : List Happening) (mark cursor : List ℕ) (n
             ]
       ]
 
-  pub emitted_no_later : {up : ℕ} {e : Waiting} {node : Node} (r : IsRipe s hs coming mark cursor now e)
+  pub emitted_no_later : {up : ℕ} {e : Waiting} {node : Node} (r : IsRipe s hs coming now e)
       → HasSentFrom s e.device node up now → (c : Compressed) → Contains node.emitted c → c.at.0 ≤ℤ e.point.0
   emitted_no_later r sent c there =
       let x = sent.sent c there in
@@ -388,7 +385,7 @@ module _ (s : Scenario) (hs coming : List Happening) (mark cursor : List ℕ) (n
 
   -- ---- so it may be permanent
 
-  pub may_ripen : {e : Waiting} {node : Node} (r : IsRipe s hs coming mark cursor now e)
+  pub may_ripen : {e : Waiting} {node : Node} (r : IsRipe s hs coming now e)
       → IsReadyAt (s.reading e.device) s.network e.device node now
       → (IsParentOf s.network e.device e.link → IsOfMaster s.network e.device e.link e.frame.members)
       → ((p : Point) → IsIn p node.points → p.reading ≤ℤ e.point.0)

@@ -1,10 +1,10 @@
 -- The clock of a device is shown at the end.
 use Rattle.world_law.proofs.{devices.Shown.{all_past, held_shows}, giving.GivenParts.up_to_place, putting.Putting.{IsPutting, held_put, known_put, settled_put}}
-use Rattle.world_law.{proofs.{giving.Given.device_in, putting.StandsOn.source_told}, specs.steps.Steps.ClockStep}
+use Rattle.world_law.{proofs.giving.Given.device_in, specs.steps.Steps.ClockStep}
 use Rattle.world_law.proofs.steps_lemmas.Words.{◌++◌, ◌+◌, ◌<◌, ◌↔◌, ◌∙◌, ◌∷◌, ◌≡◌, ◌≤◌, AreOfNetwork, ArePutIn, DeviceId, Happening, IsBefore, IsHeld}
 use Rattle.world_law.proofs.steps_lemmas.Words.{IsMoving, IsOwnSource, IsSource, List, Network, Node, NoteBody, Scenario, [], no_task_at, adjustment_after}
-use Rattle.world_law.proofs.steps_lemmas.Words.{ap, arith, at_least, behind, cases_lt, chain, clock_place, comes_first, either_way, false}
-use Rattle.world_law.proofs.steps_lemmas.Words.{happenings, held_moves, inl, inr, is_at_source, key, members_in, place_of}
+use Rattle.world_law.proofs.steps_lemmas.Words.{ap, arith, at_least, behind, cases_lt, clock_place, comes_first, false}
+use Rattle.world_law.proofs.steps_lemmas.Words.{device_still, happenings, inl, inr, is_at_source, key, members_in}
 use Rattle.world_law.proofs.steps_lemmas.Words.{rank, refl, settled_as, some_same, stands_on, state_after, subst, sym, second}
 use Rattle.world_law.proofs.steps_lemmas.Words.{StandsBehind, due_of, record_of, time_of, true, units_of, up_to, ℕ, ports_still, waiting_still, wires_still}
 use Rattle.world_law.{proofs.putting.PutShown.same_record, specs.world.World.IsDueAs}
@@ -41,17 +41,13 @@ last_rank (kinds.Clock other reading adjustment state) late = refl
 last_rank other late = absurd (omega (arith, late))
 
 -- so nothing is to come where a clock comes first
-none_coming : {s : Scenario} {hs : List Happening} (coming : List Happening) {mark cursor : List ℕ} {now : ℕ}
-    (device : DeviceId) → IsMoving s hs coming mark cursor now 14 (device.0 ∷ []) → coming ≡ []
+none_coming : {s : Scenario} {hs : List Happening} (coming : List Happening) {now : ℕ}
+    (device : DeviceId) → IsMoving s hs coming now 14 (device.0 ∷ []) → coming ≡ []
 none_coming [] device m = refl
-none_coming (y ∷ coming) {cursor} {now} device m =
-    let late = at_least y now 14 (device.0 ∷ []) (m.are.of_now y (inl refl)) (m.after y (inl refl)) in
-    let past = m.are.worked y (inl refl) (last_rank y.note.body late) in
-    absurd (elim (either_way (now ∷ 14 ∷ device.0 ∷ []) (place_of y)) [
-      | inl lt ↦ m.waits (chain (now ∷ 14 ∷ device.0 ∷ []) (place_of y) cursor lt past)
-      | inr (inl e) ↦ m.waits (subst (λ q. IsBefore q cursor) (sym e) past)
-      | inr (inr gt) ↦ m.after y (inl refl) gt
-    ])
+none_coming (y ∷ coming) {now} device m =
+    let after = m.are.behind_mark y (inl refl) in
+    let late = at_least y now 14 (device.0 ∷ []) (m.are.of_now y (inl refl)) after in
+    absurd (after (m.are.worked y (inl refl) (last_rank y.note.body late)))
 
 pub nothing_put : (now : ℕ) (network : Network) (hs : List Happening) (body : NoteBody) (settled : List Happening)
     → ArePutIn network hs now (body ∷ []) [] settled → settled ≡ settled_as network hs now body ∷ []
@@ -73,16 +69,14 @@ clock_step {C} {M} reading stands s world notes device machine state adjustment 
     let more = device.0 ∷ [] in
     let here = now ∷ 14 ∷ more in
     let waits : IsBefore here old.cursor → ⊥ = λ b. let less = (old.shown device lt ended).0 b in omega (arith, less, shown) in
-    let m = comes_first old 14 more
-    (λ same. (let two : ◌≡◌ {A = ℕ} 2 14 = cc in omega (arith, two))) refl waits first in
-    let empty = none_coming world.settled device m in
-    let moving : IsMoving s hs [] old.mark old.cursor now 14 more = subst (λ l. IsMoving s hs l old.mark old.cursor now 14 more) empty m in
+    let c = comes_first old 14 more (inr (refl, inl (omega arith))) refl waits first in
+    let empty = none_coming world.settled device c.moving in
+    let moving : IsMoving s hs [] now 14 more = subst (λ l. IsMoving s hs l now 14 more) empty c.moving in
     let body : NoteBody = kinds.Clock device (units_of (s.reading device now)) adjustment state in
     let w = record_of s.network hs [] now body in
     let m2 = old.devices device lt in
     let machine_is : m2.0 ≡ machine = some_same m2.0 machine _ m2.1 there in
-    let shows = held_shows stands s hs world.settled old.mark old.cursor now device m2.0 m2.2
-    (old.untold.done (source_told old 14 more m (inr (refl, inl (omega arith)))))
+    let shows = held_shows stands s hs world.settled old.mark old.cursor now device m2.0 m2.2 (old.untold.done c.told)
     (all_past reading stands s world notes old) old.befallen in
     let is = stood shows.0 (subst (λ (x : M). stands x s.network device shows.0) machine_is shows.1) in
     let at_end = device_in s.network device lt in
@@ -94,11 +88,9 @@ clock_step {C} {M} reading stands s world notes device machine state adjustment 
       adjusted = is.1 ∙ shows.2.adjustment ∙ ap (λ (l : List Happening). adjustment_after s (up_to now (hs ++ l)) device) empty;
       in_state = is.0 ∙ shows.2.state ∙ ap (λ (l : List Happening). state_after s (up_to now (hs ++ l)) device) empty;
     }) in
-    let p : IsPutting s hs [] [] old.mark old.cursor now 14 more w = record {
+    let p : IsPutting s hs [] [] now 14 more w = record {
       one = record {
         moving = moving;
-        later = inr (refl, inl (omega arith));
-        marked = old.of_now;
         given = old.run.founded;
         at = refl;
         due = due;
@@ -119,22 +111,20 @@ clock_step {C} {M} reading stands s world notes device machine state adjustment 
     (subst (λ l. ArePutIn s.network hs now (body ∷ []) l settled) empty put)
     ∙ ap (λ (h : Happening). h ∷ []) (sym (same_record s.network hs [] now body (omega arith))) in
     let room = first.room in
-    let later : IsBefore (now ∷ 2 ∷ []) here = inr (refl, inl (omega arith)) in
     subst (λ (l : List Happening). StandsBehind reading stands s (record world { early = false; settled = l; shown = world.shown + 1 }) notes (behind here))
     (sym all)
-    (stands_on old 14 more here world.machines (world.shown + 1) m
-    refl (omega (arith, room))
+    (stands_on c here world.machines (world.shown + 1) refl (omega (arith, room))
     (settled_put p)
     (known_put hs [] [] w tt (subst (λ (l : List Happening). AreOfNetwork s (hs ++ l)) empty old.known))
     (λ d within.
-    let k = old.devices d within in (
+    let k = c.devices d within in (
       k.0,
       k.1,
       held_put [] [] w tt refl
-          (held_moves stands s hs [] moving (no_task_at s.network now d 14 more (inr (omega arith)))
-          (subst (λ l. IsHeld stands s hs l old.cursor now d k.0) empty k.2)),
+          (subst (λ l. IsHeld stands s hs l (behind here) now d k.0) empty
+          (device_still c (no_task_at s.network now d 14 more (inr (omega arith))) k.2)),
     ))
-    later (wires_still old 14 more (λ two. omega (arith, two)) m later)
-    (ports_still old 14 more (λ eight. omega (arith, eight)) m)
-    (waiting_still old 14 more (λ three. omega (arith, three)) m)
+    (wires_still c (λ two. omega (arith, two)))
+    (ports_still c (λ eight. omega (arith, eight)))
+    (waiting_still c (λ three. omega (arith, three)))
     (λ d within over. shown_more now world.shown device d shown))

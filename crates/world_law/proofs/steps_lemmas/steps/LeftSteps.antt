@@ -1,13 +1,13 @@
 -- A frame at a port leaves.
-use Rattle.world_law.proofs.putting.{Moving.settled_moves, Putting.{IsPutting, held_put, known_put, settled_put}, StandsOn.shown_still}
+use Rattle.world_law.proofs.putting.{Moving.{goes_by, settled_moves}, Putting.{IsPutting, held_put, known_put, settled_put}, StandsOn.{StandsHere, shown_still}}
 use Rattle.world_law.specs.steps.Steps.{LeftStep, departure_now}
 use Rattle.world_law.proofs.steps_lemmas.Words.{due_of, one_shown, put_length, record_of, waiting_still, wires_still}
 use Rattle.world_law.proofs.steps_lemmas.Words.{◌++◌, ◌+◌, ◌<◌, ◌∙◌, ◌∷◌, ◌≡◌, ◌≤◌, AreOfNetwork, ArePutIn, AreSettled, AtPort, Bool}
 use Rattle.world_law.proofs.steps_lemmas.Words.{ComesFirst, DeviceId, Happening, IsBefore, IsHeld, IsIn, IsMoving, IsSource, IsWithout, List, Network}
 use Rattle.world_law.proofs.steps_lemmas.Words.{Node, Note, Scenario, Stands, StandsBehind, World, [], no_task_at, ap}
 use Rattle.world_law.proofs.steps_lemmas.Words.{append_assoc, arith, behind, cases_Bool, cause_of, comes_first}
-use Rattle.world_law.proofs.steps_lemmas.Words.{false, happenings, held_moves, if◌then◌else◌, in_left, in_right, inl, inr}
-use Rattle.world_law.proofs.steps_lemmas.Words.{is_broken, length, members_in, numbers_end, parted, second}
+use Rattle.world_law.proofs.steps_lemmas.Words.{false, device_still, happenings, if◌then◌else◌, in_left, in_right, inl, inr}
+use Rattle.world_law.proofs.steps_lemmas.Words.{is_broken, length, members_in, never_self, numbers_end, parted, second}
 use Rattle.world_law.proofs.steps_lemmas.Words.{place_of, port_place, ports_move, rank, refl, stands_on, subst, sym, time_of}
 use Rattle.world_law.{proofs.steps_lemmas.Words.{true, units_of, ℕ}, specs.world.Outcomes.departure_body}
 use Rattle.world_law.proofs.steps_lemmas.steps.Outcomes.{body_cause, body_caused, body_idle, body_key, body_own, departs_now, few_cause}
@@ -22,11 +22,9 @@ module _ {C M : Type 0} (reading : C → ℕ → ℕ) (stands : M → Network �
     (world : World C M) (notes : List Note) (e : AtPort) where
   leaving : {old : Stands reading stands s world notes} → IsIn e world.ports → e.at ≡ world.now
       → ComesFirst reading stands s world notes old (port_place e)
-      → IsMoving s (happenings s.network notes) world.settled old.mark old.cursor world.now 8
-      (e.device.0 ∷ e.link.0 ∷ e.cause ∷ [])
+      → StandsHere reading stands s world notes 8 (e.device.0 ∷ e.link.0 ∷ e.cause ∷ [])
   leaving {old} i at first =
-      comes_first old 8 (e.device.0 ∷ e.link.0 ∷ e.cause ∷ [])
-      (λ same. (let two : ◌≡◌ {A = ℕ} 2 8 = cc in omega (arith, two))) (port_at e world.now at)
+      comes_first old 8 (e.device.0 ∷ e.link.0 ∷ e.cause ∷ []) (inr (refl, inl (omega arith))) (port_at e world.now at)
       (old.ports.real e i).1 first
 
   -- ---- the world stands behind it, with what is to come then
@@ -34,7 +32,7 @@ module _ {C M : Type 0} (reading : C → ℕ → ℕ) (stands : M → Network �
   left_behind : (ports : List AtPort) {settled : List Happening} {old : Stands reading stands s world notes}
       → IsIn e world.ports → e.at ≡ world.now → ComesFirst reading stands s world notes old (port_place e)
       → IsWithout port_place (port_place e) world.ports ports → length notes + length settled < numbers_end
-      → AreSettled s (happenings s.network notes) settled old.mark
+      → AreSettled s (happenings s.network notes) settled (world.now ∷ 8 ∷ e.device.0 ∷ e.link.0 ∷ e.cause ∷ [])
       (behind (world.now ∷ 8 ∷ e.device.0 ∷ e.link.0 ∷ e.cause ∷ [])) world.now
       → AreOfNetwork s (happenings s.network notes ++ settled) →
       ((device : DeviceId) (machine : M)
@@ -48,22 +46,18 @@ module _ {C M : Type 0} (reading : C → ℕ → ℕ) (stands : M → Network �
       let more = e.device.0 ∷ e.link.0 ∷ e.cause ∷ [] in
       let here = world.now ∷ 8 ∷ more in
       let place = port_at e world.now at in
-      let m = leaving {old = old} i at first in
+      let c = leaving {old = old} i at first in
       let less : IsWithout port_place here world.ports ports =
       subst (λ q. IsWithout port_place q world.ports ports) place without in
-      let later : IsBefore (world.now ∷ 2 ∷ []) here = inr (refl, inl (omega arith)) in
-      stands_on old 8 more (port_place e) world.machines world.shown m place room are known
+      stands_on c (port_place e) world.machines world.shown place room are known
       (λ device lt.
-      let k = old.devices device lt in (
+      let k = c.devices device lt in (
         k.0,
         k.1,
-        kept device k.0 (held_moves stands s hs world.settled m
-            (no_task_at s.network world.now device 8 more (inr (omega arith))) k.2),
+        kept device k.0 (device_still c (no_task_at s.network world.now device 8 more (inr (omega arith))) k.2),
       ))
-      later (wires_still old 8 more (λ two. omega (arith, two)) m later)
-      (ports_move s hs world.settled old.mark old.cursor world.now 8 more ports m old.ports less)
-      (waiting_still old 8 more (λ three. omega (arith, three)) m)
-      (shown_still old 8 more (omega arith) m)
+      (wires_still c (λ two. omega (arith, two))) (ports_move (goes_by s hs here) ports c.ports less)
+      (waiting_still c (λ three. omega (arith, three))) (shown_still c (omega arith))
 
   -- ---- nothing comes of it, where its device is broken
 
@@ -73,13 +67,12 @@ module _ {C M : Type 0} (reading : C → ℕ → ℕ) (stands : M → Network �
       → settled ≡ world.settled → StandsBehind reading stands s
       (record world { ports = ports; early = false; settled = settled }) notes (behind (port_place e))
   cut_off ports settled {old} i at first without broken same =
-      let m = leaving {old = old} i at first in
+      let c = leaving {old = old} i at first in
       subst (λ (l : List Happening). StandsBehind reading stands s
       (record world { ports = ports; early = false; settled = l }) notes (behind (port_place e)))
       (sym same)
       (left_behind ports {settled = world.settled} {old = old} i at first without old.room
-      (settled_moves s (happenings s.network notes) world.settled old.mark old.cursor
-      world.now 8 (e.device.0 ∷ e.link.0 ∷ e.cause ∷ []) m
+      (settled_moves c.moving
       (λ front back y whole before none due own. absurd (nothing_of_broken s (happenings s.network notes ++ front)
       world.now (time_of y) (members_in y) e
       y.note.body _ broken refl own y.note.time refl due.cause)))
@@ -103,24 +96,22 @@ module _ {C M : Type 0} (reading : C → ℕ → ℕ) (stands : M → Network �
       let it = (old.ports.real e i).0 in
       let is = departure_now s e now in
       let body = departure_body e is in
-      let m = leaving {old = old} i at first in
+      let c = leaving {old = old} i at first in
       let few : cause_of body ≤ length hs = subst (λ n. n ≤ length hs) (sym (body_cause e is)) (few_cause it) in
       let q = one_shown s.network hs now body few put in
       let front = q.front in
       let back = q.back in
       let w = record_of s.network hs front now body in
-      let moving : IsMoving s hs (front ++ back) old.mark old.cursor now 8 more =
-      subst (λ l. IsMoving s hs l old.mark old.cursor now 8 more)
-      q.parts m in
+      let moving : IsMoving s hs (front ++ back) now 8 more =
+      subst (λ l. IsMoving s hs l now 8 more)
+      q.parts c.moving in
       let idle = body_idle e is in
       let departs = departs_now front now it at sound in
       let key_is : place_of w ≡ now ∷ rank body ∷ more =
       ap (λ (l : List ℕ). now ∷ rank body ∷ l) (body_key (members_in w) e is) in
-      let p : IsPutting s hs front back old.mark old.cursor now 8 more w = record {
+      let p : IsPutting s hs front back now 8 more w = record {
         one = record {
           moving = moving;
-          later = inr (refl, inl (omega arith));
-          marked = old.of_now;
           given = old.run.founded;
           at = refl;
           due = due_of s hs front now body (body_caused (units_of now) e is departs);
@@ -139,7 +130,7 @@ module _ {C M : Type 0} (reading : C → ℕ → ℕ) (stands : M → Network �
               (subst (λ l. IsIn z l) (sym whole)
               (in_left z (front ++ split.0) (y ∷ split.1) inside)) in omega (arith, y_now, z_now)) same
               by.1 in
-              moving.waits (subst (λ q. IsBefore q old.cursor) from by.3);
+              never_self here (subst (λ q. IsBefore q here) from by.3);
           mine = body_own (members_in w) e is departs;
           here =
               IsSource.departing now e.device e.link e.cause

@@ -3,7 +3,7 @@ use Rattle.world_law.proofs.steps_lemmas.Words.{◌++◌, ◌+◌, ◌<◌, ◌�
 use Rattle.world_law.proofs.steps_lemmas.Words.{List, Network, NoneBefore, Node, Note, NoteBody, Scenario, Stands, StandsBehind, World, [], ap, append-nil, arith}
 use Rattle.world_law.proofs.steps_lemmas.Words.{before_behind, behind, cases_Bool, chain, false, happenings, in_left, in_parts, in_right, inl, inr, is_at_source}
 use Rattle.world_law.proofs.steps_lemmas.Words.{never_self, place_of, rank, refl, second, settled_as, subst, sym, true, ℕ}
-use Rattle.world_law.proofs.{giving.{Given.given_step, GivenParts.{source_kinds, up_to_place}}, runs.Worlds.given_up_to}
+use Rattle.world_law.proofs.{giving.{Given.given_step, GivenParts.{source_kinds, up_to_place}}, runs.Worlds.run_to}
 use Rattle.world_law.specs.steps.Turns.{EarlyAtOne, IsTurn, next_note, starts_there}
 use Rattle.world_law.specs.world.Moves.{StandsAt}
 
@@ -25,7 +25,7 @@ module _ {C M : Type 0} {reading : C → ℕ → ℕ} {stands : M → Network �
       precise = st.precise;
       mark = st.cursor;
       cursor = st.cursor;
-      run = given_up_to notes st.run st.are ahead st.ahead;
+      run = run_to notes st.cursor st.run st.are (λ w source waits b. waits b) ahead st.ahead;
       ahead = λ p b. b;
       of_now = λ p b. st.ahead p (st.of_now p b);
       not_later = st.not_later;
