@@ -197,14 +197,14 @@ of_held {s} {hs} stored {now} {device} was adjustment row {cycle} {entry} outcom
 
 -- a dispatch
 of_row : {M : Type 0} {stands : M → Network → DeviceId → Node → Type 0} {s : Scenario} {hs coming : List Happening}
-    {mark cursor : List ℕ} (stored : List Holding) {now : ℕ} {device : DeviceId} {machine : M} {node : Node}
+    (stored : List Holding) {now : ℕ} {device : DeviceId} {machine : M} {node : Node}
     (was : Standing) (adjustment : Units) (row : RowId) (cycle : ℕ) (outcomes : Outcomes) {r : ℕ} {more : List ℕ}
-    → StageAt stands s hs coming mark cursor now device machine node r more
+    → StageAt stands s hs coming now device machine node r more
     → AreStored hs (map (stored_as s.network) stored) → IsFirstTask s.network device node
     (moment_of s device now).reading.0 (doing (dispatching row cycle))
     → AreOutcomes s stored now (length hs + 1) device was adjustment (acts.Dispatch row cycle) outcomes
     → AreProper s hs now device was adjustment (acts.Dispatch row cycle) outcomes
-of_row {stands} {s} {hs} {coming} {mark} {cursor} stored {now} {device} {machine} {node} was adjustment row cycle
+of_row {stands} {s} {hs} {coming} stored {now} {device} {machine} {node} was adjustment row cycle
     outcomes {r} {more} st are first is =
     let p = first.pending in
     let entry = p.1.own.1.entry in
@@ -218,7 +218,7 @@ of_row {stands} {s} {hs} {coming} {mark} {cursor} stored {now} {device} {machine
           (d.0.is ∙ ap (λ (o : Option AtHand). option_map (dispatched_by cut device entry cycle) o) (d.0.of_hand.sender sender)) d.1
       | inr other ↦
           of_held stored was adjustment row outcomes d.0.hand p.1.own.1.is
-          (held_frame stands s hs coming mark cursor now device machine node row cycle (map (stored_as s.network) stored) r more st are p first.due other)
+          (held_frame stands s hs coming now device machine node row cycle (map (stored_as s.network) stored) r more st are p first.due other)
           (d.0.of_hand.held other) d.0.is d.1
     ]
 
@@ -232,10 +232,10 @@ same_outcomes {s} {hs} {now} {device} {was} {adjustment} {act} a same =
 
 -- the records of an act of a device of a world that stands
 pub proper : {M : Type 0} {stands : M → Network → DeviceId → Node → Type 0} {s : Scenario}
-    {hs coming : List Happening} {mark cursor : List ℕ} (stored : List Holding) {now : ℕ} {device : DeviceId}
+    {hs coming : List Happening} (stored : List Holding) {now : ℕ} {device : DeviceId}
     {machine : M} {node : Node} (after : Node) (was : Standing) (adjustment : Units) (act : Act)
     (outcomes : Outcomes) {r : ℕ} {more : List ℕ}
-    → StageAt stands s hs coming mark cursor now device machine node r more
+    → StageAt stands s hs coming now device machine node r more
     → AreStored hs (map (stored_as s.network) stored) → IsActOf s.network device node
     (moment_of s device now) act after → AreOutcomes s stored now (length hs + 1) device was adjustment act outcomes
     → AreProper s hs now device was adjustment act outcomes

@@ -207,12 +207,13 @@ module _ {C M : Type 0} (reading : C → ℕ → ℕ) (stands : M → Network �
 
   staged : (s : Scenario) (notes : List Note) (old : Old s notes) → First_ s notes old → (act : Act) (after : Kept M)
       → HasActed (keeps stands) s.network device (moment_of s device state.time) act machine after
-      → (node : Node) × StageAt (keeps stands) s (happenings s.network notes) (map (settled_at network state.time) state.settled.items) old.mark old.cursor state.time device machine node
+      → (node : Node) × StageAt (keeps stands) s (happenings s.network notes) (map (settled_at network state.time) state.settled.items) state.time device machine node
       (rank_of_act act) (act_rest s.network device act)
   staged s notes old first act after acted =
-      stage_of reading (keeps stands) s (world_of network state) notes old device machine after act
+      let at = stage_of reading (keeps stands) s (world_of network state) notes old device machine after act
       (subst (λ (n : Network). device.0 < length n.device) old.same lt)
-      (comes s notes old act after first acted) (parted s notes old act after acted) there (task_now s notes old) acted
+      (comes s notes old act after first acted) (parted s notes old act after acted) there (task_now s notes old) acted in
+      (at.0, at.2)
 
   -- its records are those of the law
   pub proper_at : (s : Scenario) (notes : List Note) (old : Old s notes) (first : First_ s notes old) (act : Act) (after : Kept M) (was : Standing)

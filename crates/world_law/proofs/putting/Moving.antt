@@ -102,11 +102,11 @@ module _ {s : Scenario} {hs : List Happening} {from to : List ℕ} {Own : List �
           it.0,
           λ open_. absurd cc,
           λ b. elim (g.each
-          (IsSource.arriving e.at e.device e.link e.cause
-          (record { putting = it.0.putting; there = it.0.there; signal = e.signal; arrives = it.0.arrives })) b) [
-            | inl yet ↦ it.2 yet
-            | inr here ↦ was.1 here
-          ],
+              (IsSource.arriving e.at e.device e.link e.cause
+              (record { putting = it.0.putting; there = it.0.there; signal = e.signal; arrives = it.0.arrives })) b) [
+                | inl yet ↦ it.2 yet
+                | inr here ↦ was.1 here
+              ],
         );
     all = λ t device link cause a told not.
         let found = are.all t device link cause a told (λ b. not (g.on _ b)) in
@@ -121,11 +121,11 @@ module _ {s : Scenario} {hs : List Happening} {from to : List ℕ} {Own : List �
         let it = are.real e was.0 in (
           it.0,
           λ b. elim (g.each
-          (IsSource.departing e.at e.device e.link e.cause
-          (record { giving = it.0.giving; there = it.0.there; gives = it.0.gave.gives; held = it.0.gave.held })) b) [
-            | inl yet ↦ it.1 yet
-            | inr here ↦ was.1 here
-          ],
+              (IsSource.departing e.at e.device e.link e.cause
+              (record { giving = it.0.giving; there = it.0.there; gives = it.0.gave.gives; held = it.0.gave.held })) b) [
+                | inl yet ↦ it.1 yet
+                | inr here ↦ was.1 here
+              ],
         );
     all = λ t device link cause d not.
         let found = are.all t device link cause d (λ b. not (g.on _ b)) in
@@ -183,10 +183,13 @@ module _ {s : Scenario} {hs : List Happening} {from to : List ℕ} {Own : List �
     up = k.up;
     acted = elim k.acted [
       | inr over ↦ inr (over.0, λ p b. g.on p (over.1 p b))
-      | inl still ↦ inl (still.0, λ task b a. elim (g.each (IsSource.acting now device task a) b) [
-        | inl yet ↦ still.1 task yet a
-        | inr here ↦ absurd (other task here)
-      ])
+      | inl still ↦ inl (
+        still.0,
+        λ task b a. elim (g.each (IsSource.acting now device task a) b) [
+          | inl yet ↦ still.1 task yet a
+          | inr here ↦ absurd (other task here)
+        ],
+      )
     ];
     told = λ over. elim (k.told over) [
       | inl past ↦ inl (out_on to g.on past)

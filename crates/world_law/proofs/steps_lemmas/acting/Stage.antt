@@ -3,7 +3,7 @@ use Rattle.world_law.proofs.steps_lemmas.Words.{◌++◌, ◌+◌, ◌<◌, ◌^
 use Rattle.world_law.proofs.steps_lemmas.Words.{Happening, HasCleared, HasTaskBy, HasTurnedOn, IsAllOfIt, IsBefore, IsCaused, IsDue, IsDueNow}
 use Rattle.world_law.proofs.steps_lemmas.Words.{IsFounded, IsHeld, IsIn, IsKept, IsLawful, IsMoving, IsNoTaking, IsOne, IsOwnSource, IsSet, IsShownPut}
 use Rattle.world_law.proofs.steps_lemmas.Words.{IsSource, IsSteady, IsAtRest, Integrating, IsUnfollowed, List, Network, Node, NoneBefore, Note, NoteBody, Scenario, Some, Stands}
-use Rattle.world_law.proofs.steps_lemmas.Words.{StandsBehind, Task, World, [], act_place, amount, ap, are_past, arith, bears_on, before_behind}
+use Rattle.world_law.proofs.steps_lemmas.Words.{StandsBehind, Task, World, act_place, amount, ap, are_past, arith, bears_on, before_behind}
 use Rattle.world_law.proofs.steps_lemmas.Words.{Act, HadComeTo, HasActed, HasDoneTask, acts_first, changed_at, correcting, doing, in_right, of_device, same_device}
 use Rattle.world_law.proofs.steps_lemmas.Words.{second, task_place}
 use Rattle.world_law.proofs.steps_lemmas.{acting.First.{act_more, act_next, act_rest, act_stands, first_of, late_rank, low_rank}, growing.FromZero.kept_from_zero}

@@ -83,7 +83,7 @@ after_here : (s : Scenario) (now : ℕ) (e : OnWire) (p : List ℕ) → IsBefore
 after_here s now e p b = chain p (now ∷ 2 ∷ []) (behind (now ∷ 2 ∷ e.device.0 ∷ e.link.0 ∷ e.cause ∷ [])) b (inr (refl, inr (refl, tt)))
 
 -- what a call of the device ensures
-pub record IsHearingIt {M : Type 0} (stands : M → Network → DeviceId → Node → Type 0) (s : Scenario) (hs coming : List Happening) 
+pub record IsHearingIt {M : Type 0} (stands : M → Network → DeviceId → Node → Type 0) (s : Scenario) (hs coming : List Happening)
     (now : ℕ)
     (e : OnWire) (machine heard : M) (octets : List ℕ) (result : Arrival) : Type 0 where
   pub given : IsAfterGiven s hs coming now e

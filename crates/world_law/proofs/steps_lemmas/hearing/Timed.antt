@@ -1,6 +1,6 @@
 -- A time-triggered frame that arrives is judged by what its device took before.
 use Rattle.{run_law.proofs.runs.Places.earlier_time, world_law.proofs.{putting.{NearPut.filter_none, Numberless.timed_by}, rows.Entered.delivered_end}}
-use Rattle.world_law.proofs.steps_lemmas.Words.{◌&&◌, ◌++◌, ◌+◌, ◌<◌, ◌==◌, ◌||◌, ◌∙◌, ◌∷◌, ◌≡◌, ◌≤◌, ◌⊎◌, AllBefore, Bool, DeviceId, Happening, IsBefore}
+use Rattle.world_law.proofs.steps_lemmas.Words.{◌&&◌, ◌++◌, ◌<◌, ◌==◌, ◌||◌, ◌∙◌, ◌∷◌, ◌≡◌, ◌≤◌, ◌⊎◌, AllBefore, Bool, DeviceId, Happening, IsBefore}
 use Rattle.world_law.proofs.steps_lemmas.Words.{IsCaused, IsIn, IsKept, IsLeft, IsMoving, IsNoTaking, IsOwnSource, LinkId, List, Network, Node, None}
 use Rattle.world_law.proofs.steps_lemmas.Words.{NoneBefore, NoteBody, OnWire, Scenario, Signal, VlId, [], ap, append-nil, append_assoc, arith}
 use Rattle.world_law.proofs.steps_lemmas.Words.{arrival_at, arrival_of, cases_Bool, cases_lt, comes_before, control, eqb-true, false}

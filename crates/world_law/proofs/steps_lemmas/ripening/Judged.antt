@@ -22,7 +22,7 @@ use Rattle.run_law.specs.declared.steps.Ripe.TheVariants as ripe
 -- ---- places as tests
 
 -- the records given are all those before the place
-pub judged_all : {s : Scenario} {hs coming : List Happening} (front : List Happening) 
+pub judged_all : {s : Scenario} {hs coming : List Happening} (front : List Happening)
     {now : ℕ} {e : Waiting} → IsRipe s hs coming now e
     → ((h : Happening) → IsIn h front → IsBefore (place_of h) (now ∷ 3 ∷ ripe_more e) → ⊥)
     → before_permanence (hs ++ front) e.device now e.link e.cause e.frame e.point ≡ hs

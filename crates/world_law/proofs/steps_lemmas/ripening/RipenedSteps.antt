@@ -49,20 +49,22 @@ ripening_first {s} {world} {notes} e {old} i reached first =
     let sound = old.waiting.sound e i in
     let reach = reach_by old.cursor now it first.none (old.waiting.later e i) sound le reached in
     let c = comes_first old 3 (ripe_more e) (inr (refl, inl (omega arith))) refl
-    (old.waiting.later e i now (ripening_at s hs e now it reach sound)) first in
-    (c, record {
-      moving = c.moving;
-      run = c.run;
-      past = past;
-      befallen = c.befallen;
-      range = old.range;
-      steady = old.steady e.device;
-      limit = old.limit;
-      it = it;
-      reached = reached;
-      later = c.waiting.later e i;
-      sound = sound;
-    })
+    (old.waiting.later e i now (ripening_at s hs e now it reach sound)) first in (
+      c,
+      record {
+        moving = c.moving;
+        run = c.run;
+        past = past;
+        befallen = c.befallen;
+        range = old.range;
+        steady = old.steady e.device;
+        limit = old.limit;
+        it = it;
+        reached = reached;
+        later = c.waiting.later e i;
+        sound = sound;
+      },
+    )
 
 -- ---- what waits then
 
