@@ -1,28 +1,30 @@
 -- A device acts once.
 use Rattle.world_law.proofs.runs.Worlds.{length_is}
-use Rattle.drift_world.proofs.{ActRecords.{AreProper, IsFine, IsOwn, both_put, order_then, proper}, Puts.is_put_in}
-use Rattle.drift_world.proofs.{AtSource.{each_of}, Rising.{InOrder, settled_in_order}, Parts.{act_place_is, act_rank_is, left_no_sooner, part_most, part_least}, Showings.shows_of}
+use Rattle.drift_world.proofs.{ActRecords.{AreProper, IsFine, IsOwn, both_put, proper}, OwnPlaces.{put_ahead, some_behind}}
+use Rattle.drift_world.proofs.{AtSource.{each_of}, Foremost.higher, Rising.{settled_in_order}, Parts.{act_place_is, act_rank_is, left_no_sooner, part_most}, Showings.shows_of}
 use Rattle.drift_world.proofs.Sources.{made_of}
 use Rattle.drift_world.specs.{Acting.{AreAbove, IsDueAt, IsIdle, IsLeft, StandsFrom}, Parts.{IsFirstPart, IsNoSoonerLeft, part_place, part_rank}, declared.state.State.State}
-use Rattle.drift_world.specs.declared.part.{Part.Part, ToDo.{ToDo, TheVariants.{Give, Next, Now}}}
+use Rattle.drift_world.specs.declared.part.{Part.Part, ToDo.{ToDo, TheVariants.{Next, Now}}}
 use Rattle.{drift_world.proofs.Fits.{all_put_some, have_octets}, world_state.specs.declared.outcomes.Outcomes.Outcomes}
 use Rattle.{run_law.specs.{declared.steps.Act.Act, machines.{Answers.IsActOf, Calls.MayAct}}, std.specs.List.slice_get}
 use Rattle.drift_world.proofs.Words.{◌+◌, ◌<◌, ◌≡◌, ◌≤◌, ArePutIn, ComesFirst, DeviceId, Happening, HasActed, IsAt, IsBefore, IsHeld, IsIn, IsOf, IsSomePut}
-use Rattle.drift_world.proofs.Words.{◌∙◌, ◌∷◌, IfSome, IsSomeAnd, Kept, List, Moment, Network, Node, None, Note, Option, Scenario, Settled, Some, Stands, StandsFor, Units, [], ap, arith}
-use Rattle.drift_world.proofs.Words.{cases_lt, chain, false, happenings, in_parts, in_right, inl, inr, keeps, length, map, moment_of, pos, rank, refl, same_Some}
-use Rattle.drift_world.proofs.Words.{◌++◌, NoteBody, StandsAt, World, append-nil}
+use Rattle.drift_world.proofs.Words.{◌∙◌, ◌∷◌, IfSome, Kept, List, Moment, Network, Node, None, Note, Option, Scenario, Settled, Some, Stands, StandsFor, Units, [], ap, arith}
+use Rattle.drift_world.proofs.Words.{chain, false, happenings, inl, inr, keeps, length, map, moment_of, pos, rank, refl, same_Some}
+use Rattle.drift_world.proofs.Words.{◌++◌, Bool, NoteBody, StandsAt, World, append-nil, if◌then◌else◌, is_cut, option_map_or, own_place, way_from}
 use Rattle.drift_world.proofs.Words.{settled_at, slice_get_within, stored_as, subst, sym, true, world_of, ℕ}
-use Rattle.run_law.{proofs.runs.Places.{before_behind, in_left}, specs.records.Order.behind}
+use Rattle.run_law.{proofs.runs.Places.before_behind, specs.records.{Order.behind, Ranks.key}}
 use Rattle.world_law.proofs.{rows.Dispatching.lawful, steps_lemmas.growing.FromZero.kept_from_zero}
 use Rattle.world_law.specs.world.{Calls.{IsSet, IsStateOf}, World.{AreStored, IsKept}}
-use Rattle.{std.specs.Prelude.All, world_law.specs.{source.Sources.task_place, steps.Acting.{Acts, place_of_act, rank_of_act, task_of}}}
+use Rattle.{std.specs.Prelude.All, world_law.specs.{source.Sources.task_place, steps.Acting.{Acts, AreActBodies, place_of_act, rank_of_act, task_of}}}
 use Rattle.{sync_state.specs.declared.state.State.{State as Standing}, world_state.specs.Acting.{AreOutcomes, HasItsRow, bodies_of, body_of}}
 use Rattle.world_law.proofs.steps_lemmas.acting.{ActedSteps.acted_step, First.{act_more, act_rest, act_stands}, Kept.may_act_now}
 use Rattle.world_law.proofs.steps_lemmas.{acting.Stage.{StageAt, stage_of}, steps.Passed.no_task}
 use Rattle.world_law.proofs.steps_lemmas.turns.ActTurns.{act_starts_late, acted_turn}
 use Rattle.world_law.specs.steps.Turns.{IsTurn}
 use Rattle.world_law.specs.device.Left.{HasTaskBy}
+use Rattle.run_law.specs.declared.note.NoteBody.TheVariants as kinds
 use Rattle.run_law.specs.declared.steps.Act.TheVariants as acts
+use Rattle.sync_state.specs.declared.answers.Verdict.TheVariants as verdicts
 
 -- a place behind another of one device is not before where its part begins
 not_before_own : (now r d : ℕ) (more : List ℕ) → IsBefore (now ∷ r ∷ d ∷ more) (now ∷ r ∷ d ∷ []) → ⊥
@@ -45,42 +47,40 @@ first_high None (Some z) late fine body others e =
     subst (λ b. 6 < rank b) same (omega (arith, high))
 first_high None None late fine body others e = absurd (let bad : [] ≡ body ∷ others = e in cc)
 
--- of records in their order, where one is of a low rank the first is
-abbrev pub IsLowFirst : ℕ → List Settled → Type 0
-IsLowFirst high settled = (first : Settled) × (others : List Settled) × (settled ≡ first ∷ others) × (rank first.body ≤ high)
+-- a record of a frame of the schedule is of a higher rank
+row_high : (cut : Bool) (body lost sent : NoteBody) → 6 < rank lost → 6 < rank sent → rank body ≤ 6
+    → body ≡ (if cut then lost else sent) → ⊥
+row_high true body lost sent high also low is = let same : rank body ≡ rank lost = ap rank is in omega
+    (arith, same, high, low)
+row_high false body lost sent high also low is = let same : rank body ≡ rank sent = ap rank is in omega
+    (arith, same, also, low)
 
-low_first : (network : Network) (now high : ℕ) (settled : List Settled) (z : Settled) → InOrder (map (settled_at network now) settled)
-    → IsIn (settled_at network now z) (map (settled_at network now) settled) → rank z.body ≤ high → IsLowFirst high settled
-low_first network now high [] z order there le = absurd there
-low_first network now high (x ∷ xs) z order (inl e) le = (x, xs, refl, subst (λ (h : Happening). rank h.note.body ≤ high) e le)
-low_first network now high (x ∷ xs) z order (inr i) le = (
-  x,
-  xs,
-  refl,
-  elim (cases_lt (rank z.body) (rank x.body)) [
-    | inr ge ↦ omega (arith, ge, le)
-    | inl lt ↦ absurd (order.0 (settled_at network now z) i (inr (refl, inl lt)))
-  ],
-)
+-- the first record of an act is of the rank of its source, or of a higher one than any act
+own_rank : (s : Scenario) (hs : List Happening) (now : ℕ) (device : DeviceId) (was : Standing) (adjustment : Units)
+    (act : Act) (body : NoteBody)
+    (others : List NoteBody) → AreActBodies s hs now device was adjustment act (body ∷ others) → rank body ≤ 6
+    → rank body ≡ rank_of_act act
+own_rank s hs now device was adjustment (acts.Send frame) body others are low = ap rank (head_is body _ others _ are)
+own_rank s hs now device was adjustment (acts.Emit sent heard) body others are low = ap rank
+    (head_is body _ others _ are)
+own_rank s hs now device was adjustment (acts.Correct cycle (verdicts.Corrected by)) body others are low =
+    ap rank (head_is body _ others _ are)
+own_rank s hs now device was adjustment (acts.Correct cycle verdicts.SyncClique) body others are low =
+    let same : rank body ≡ 7 = ap rank (head_is body _ others _ are) in absurd (omega (arith, same, low))
+own_rank s hs now device was adjustment (acts.Correct cycle verdicts.AsyncClique) body others are low =
+    let same : rank body ≡ 7 = ap rank (head_is body _ others _ are) in absurd (omega (arith, same, low))
+own_rank s hs now device was adjustment (acts.Correct cycle verdicts.Cleared) body others are low =
+    absurd (let bad : body ∷ others ≡ [] = are in cc)
+own_rank s hs now device was adjustment (acts.Dispatch row cycle) body others are low =
+    absurd (row_high (is_cut s are.0.row.link (way_from s.network device are.0.row.link) now) body
+    (kinds.Lost device are.0.row.link are.1) (kinds.TtSent device are.0.row.link are.1 are.0.row.vl cycle)
+    (omega arith) (omega arith) low (head_is body _ others _ are.4))
 
--- a record that is put in is there, and those that were stay
-put_stays : (network : Network) (now : ℕ) (o : Option Settled) (old new : List Settled) → IsSomePut o old new → InOrder (map (settled_at network now) old)
-    → (h : Happening) → IsIn h (map (settled_at network now) old) → IsIn h (map (settled_at network now) new)
-put_stays network now None old new put order h there = subst (λ (l : List Settled). IsIn h (map (settled_at network now) l)) (sym put) there
-put_stays network now (Some z) old new put order h there =
-    let p = is_put_in network now z old new put.0 put.1 order in
-    subst (λ l. IsIn h l) (sym p.is)
-    (elim (in_parts h p.front p.back (subst (λ l. IsIn h l) p.was there)) [
-      | inl a ↦ in_left h p.front (settled_at network now z ∷ p.back) a
-      | inr b ↦ in_right h p.front (settled_at network now z ∷ p.back) (inr b)
-    ])
-
-put_there : (network : Network) (now : ℕ) (z : Settled) (old new : List Settled) → IsSomePut (Some z) old new → InOrder (map (settled_at network now) old)
-    → IsIn (settled_at network now z) (map (settled_at network now) new)
-put_there network now z old new put order =
-    let p = is_put_in network now z old new put.0 put.1 order in
-    subst (λ l. IsIn (settled_at network now z) l) (sym p.is)
-    (in_right (settled_at network now z) p.front (settled_at network now z ∷ p.back) (inl refl))
+-- a second record stands behind it
+fine_behind : (own : Settled) (second : Option Settled) → rank own.body ≤ 6 → IsFine 7 second
+    → IfSome second (λ z. IsBefore (own_place own) (own_place z))
+fine_behind own None low fine = tt
+fine_behind own (Some z) low fine = let high = fine.1 in inl (omega (arith, low, high))
 
 -- what an act dispatches is a row of the network
 pub its_row : (network : Network) (device : DeviceId) (node : Node) (moment : Moment) (act : Act) (new : Node) → IsActOf network device node moment act new
@@ -92,7 +92,6 @@ its_row network device node moment other new is = tt
 
 -- this is what the device has to do then
 abbrev pub IsLeftIn : {M : Type 0} → (M → Network → DeviceId → Node → Type 0) → Scenario → ℕ → DeviceId → Kept M → ToDo → Type 0
-IsLeftIn stands s now device machine Give = Unit {0}
 IsLeftIn stands s now device machine (Now part) =
     (node : Node) → keeps stands machine s.network device node → IsFirstPart s.network device node (pos (s.reading device now)) part
 IsLeftIn stands s now device machine (Next due) = IsIdle stands s now device machine
@@ -102,7 +101,6 @@ pub left_in : {C M : Type 0} {reading : C → ℕ → ℕ} (stands : M → Netwo
     → IsLeft reading stands network state device left → {s : Scenario} (machine : Kept M)
     → IsOf reading s network state → slice_get state.machines.items device.0 ≡ Some machine
     → IsLeftIn stands s state.time device machine left
-left_in stands device Give left machine of there = tt
 left_in stands device (Now part) left {s} machine of there = λ node is. left s machine node of there is
 left_in stands device (Next due) left {s} machine of there = left.1 s machine of there
 
@@ -250,32 +248,33 @@ module _ {C M : Type 0} (reading : C → ℕ → ℕ) (stands : M → Network �
       let high : 6 < rank z.body = subst (λ (o : Option Settled). IfSome o (λ x. 6 < rank x.body)) e late in
       omega (arith, high, most)) above)
 
-  -- else the first of all that is settled then stands where its source does
-  pub own_then : (s : Scenario) (hs : List Happening) (was : Standing) (adjustment : Units) (act : Act) (outcomes : Outcomes) (mid new : List Settled)
-      → InOrder (map (settled_at network state.time) state.settled.items) → AreProper s hs state.time device was adjustment act outcomes
-      → IsSomeAnd outcomes.first (λ z. rank z.body ≤ 6) → IsSomePut outcomes.first state.settled.items mid → IsSomePut outcomes.second mid new
-      → (first : Settled) × (others : List Settled) × (new ≡ first ∷ others) × (4 ≤ rank first.body) × (rank first.body ≤ 6)
-  own_then s hs was adjustment act outcomes mid new order own early one two = by outcomes.first refl early
-    where
-      least : All (λ (z : Settled). 4 ≤ rank z.body) new
-      least =
-          all_put_some (λ (z : Settled). 4 ≤ rank z.body) outcomes.second mid new two
-          (λ z e. let fine = (subst (IsFine 7) e own.second_fine).1 in omega (arith, fine))
-          (all_put_some (λ (z : Settled). 4 ≤ rank z.body) outcomes.first state.settled.items mid one (λ z e. (subst (IsFine 4) e own.first_fine).1)
-          (λ k d lt. let high = above k d lt in let low = part_least part in omega (arith, high, low)))
-
-      by : (o : Option Settled) → outcomes.first ≡ o → IsSomeAnd o (λ z. rank z.body ≤ 6)
-          → (first : Settled) × (others : List Settled) × (new ≡ first ∷ others) × (4 ≤ rank first.body) × (rank first.body ≤ 6)
-      by None e early = absurd early
-      by (Some z) e early =
-          let put = subst (λ o. IsSomePut o state.settled.items mid) e one in
-          let then = order_then s.network network state.time hs outcomes.first state.settled.items mid one order in
-          let last = order_then s.network network state.time hs outcomes.second mid new two then in
-          let there = put_stays network state.time outcomes.second mid new two then (settled_at network state.time z)
-          (put_there network state.time z state.settled.items mid put order) in
-          let f = low_first network state.time 6 new z last there early in
-          let four = each_of (λ (x : Settled). 4 ≤ rank x.body) new f.0 least (subst (λ l. IsIn f.0 l) (sym f.2) (inl refl)) in
-          (f.0, f.1, f.2, four, f.3)
+  -- else it is put in before them all, and the second behind it
+  pub own_first : (s : Scenario) (notes : List Note) (old : Old s notes) (act : Act) (after : Kept M) (was : Standing)
+      (adjustment : Units)
+      (outcomes : Outcomes) (own : Settled) (rest : List Settled)
+      → HasActed (keeps stands) s.network device (moment_of s device state.time) act machine after
+      → AreProper s (happenings s.network notes) state.time device was adjustment act outcomes
+      → outcomes.first ≡ Some own → rank own.body ≤ 6 → IsSomePut outcomes.second state.settled.items rest
+      → IsSomePut outcomes.first state.settled.items (own ∷ state.settled.items)
+      × IsSomePut outcomes.second (own ∷ state.settled.items) (own ∷ rest)
+  own_first s notes old act after was adjustment outcomes own rest acted proper is low put =
+      let at = own_rank s (happenings s.network notes) state.time device was adjustment act own.body
+      (body_of outcomes.second)
+      (subst (λ o. AreActBodies s (happenings s.network notes) state.time device was adjustment act
+      (body_of o ++ body_of outcomes.second)) is
+      proper.bodies) low in
+      let of = of_rank s notes old act after acted in (
+        subst (λ o. IsSomePut o state.settled.items (own ∷ state.settled.items)) (sym is) (
+          0,
+          put_ahead own state.settled.items (λ d i before.
+              let high = each_of (λ (x : Settled). part_rank part < rank x.body) state.settled.items d above i in
+              higher (rank d.body) (rank own.body) (key (option_map_or (λ frame. frame.members.0) d.frame 0) d.body)
+              (key (option_map_or (λ frame. frame.members.0) own.frame 0) own.body)
+              (omega (arith, high, at, of)) before),
+        ),
+        some_behind own outcomes.second state.settled.items rest
+            (fine_behind own outcomes.second low proper.second_fine) put,
+      )
 
   -- what the device has to do then is of no earlier part
   no_sooner_then : (s : Scenario) (notes : List Note) (old : Old s notes) (act : Act) (after : Kept M) (new : Node)
@@ -294,7 +293,6 @@ module _ {C M : Type 0} (reading : C → ℕ → ℕ) (stands : M → Network �
   pub later_then : IsAt reading stands network state (part_place part state.time device) → (act : Act) (after : Kept M) (left : ToDo)
       → ((s : Scenario) (notes : List Note) → Old s notes → HasActed (keeps stands) s.network device (moment_of s device state.time) act machine after)
       → ((s : Scenario) (notes : List Note) → Old s notes → IsLeftIn stands s state.time device after left) → IsNoSoonerLeft part left
-  later_then at act after Give acted is = tt
   later_then at act after (Next due) acted is = tt
   later_then at act after (Now left) acted is =
       let new = acted_at at.s at.notes at.is act after (acted at.s at.notes at.is) in

@@ -1,13 +1,13 @@
 -- A device acts again and again at one instant.
-use Rattle.drift_world.{proofs.{Fits.{have_octets, sound_same}, Words.{subst, sym, world_of, ℕ}}, specs.Acting.{AreAbove, IsDueAt, IsFrom, IsLeft, StandsFrom}}
+use Rattle.drift_world.{proofs.{Fits.{have_octets, sound_same}, Words.{subst, sym, world_of, ℕ}}, specs.Acting.{ActsOn, AreAbove, IsDueAt, IsFrom, IsLeft, StandsFrom}}
 use Rattle.drift_world.proofs.{AtSource.each_of, Foremost.{higher, not_earlier}, Parts.{first_no_sooner, one_rank}, Showings.shows_of, Sources.made_of}
-use Rattle.drift_world.specs.{Parts.{IsLaterThan, IsNoSoonerLeft, part_place, part_rank}, declared.part.{Part.Part, ToDo.{ToDo, TheVariants.{Give, Next, Now}}}}
+use Rattle.drift_world.specs.{Parts.{IsLaterThan, IsNoSoonerLeft, part_place, part_rank}, declared.part.{Part.Part, ToDo.{ToDo, TheVariants.{Next, Now}}}}
 use Rattle.drift_world.proofs.Words.{◌+◌, ◌<◌, ◌↔◌, ◌∙◌, ◌≡◌, ◌≤◌, Bool, ChangesOnly, ComesFirst, DeviceId, Happening, HasActed, IsAt, IsBefore, IsDueNow, IsHeld, IsIn, IsSound, Kept}
 use Rattle.drift_world.proofs.Words.{List, Network, NoSourceBefore, Node, Note, Scenario, Settled, Some, Stands, World, [], ap, arith, cases_eq, chain}
 use Rattle.drift_world.proofs.Words.{◌∷◌, false, happenings, inl, inr, keeps, length, length-map, map, moment_of, numbers_end, option_map_or, own_place, place_of, rank}
 use Rattle.drift_world.proofs.Words.{refl, settled_at}
 use Rattle.run_law.specs.records.Ranks.{key}
-use Rattle.{drift_world.specs.declared.state.State.State, run_law.specs.declared.steps.Act.Act, world_law.proofs.giving.GivenParts.some_same}
+use Rattle.{drift_world.specs.declared.state.State.State, world_law.proofs.giving.GivenParts.some_same}
 use Rattle.{run_law.proofs.runs.Places.either_way, std.specs.{List.slice_get, Prelude.All}}
 use Rattle.world_law.{proofs.steps_lemmas.growing.Repeating.{acts_add_up, acts_are_bounded, no_act_yet}, specs.steps.Repeating.HasActedTimes}
 
@@ -39,22 +39,6 @@ pub record IsTurn {C M : Type 0} (last_step : C → ℕ) (reading : C → ℕ �
       (part_place part first.time device) → (machine last : Kept M)
       → slice_get first.machines.items device.0 ≡ Some machine → slice_get now.machines.items device.0 ≡ Some last
       → HasActedTimes (keeps stands) s.network device (moment_of s device first.time) acts machine last
-
--- what an act ensures
-pub record IsActed {C M : Type 0} (last_step : C → ℕ) (reading : C → ℕ → ℕ) (stands : M → Network → DeviceId → Node → Type 0) (network : Network)
-    (part : Part) (device : DeviceId) (old new : State C M) : Type 0 where
-  pub sound : IsSound last_step network new
-  pub same : new ≡ record old { machines = new.machines; early = false; settled = new.settled; spare = new.spare }
-  pub machines : (i : ℕ) → (i ≡ device.0 → ⊥) → slice_get new.machines.items i ≡ slice_get old.machines.items i
-  pub above : AreAbove (part_rank part) new
-  pub then_stands : (s : Scenario) (notes : List Note) (was : Stands reading (keeps stands) s (world_of network old) notes)
-      → was.mark ≡ was.cursor → ComesFirst reading (keeps stands) s (world_of network old) notes was
-      (part_place part old.time device)
-      → StandsFrom reading stands s (world_of network new) notes (part_place part old.time device)
-  pub later : (left : ToDo) → IsLeft reading stands network new device left → IsNoSoonerLeft part left
-  pub acted : (s : Scenario) (notes : List Note) (machine : Kept M) → Stands reading (keeps stands) s (world_of network old) notes
-      → slice_get old.machines.items device.0 ≡ Some machine → (act : Act) × (after : Kept M) × (slice_get new.machines.items device.0 ≡ Some after)
-      × HasActed (keeps stands) s.network device (moment_of s device old.time) act machine after
 
 -- after one
 pub same_then : {C M : Type 0} (first now new : State C M)
@@ -103,7 +87,6 @@ module _ {C M : Type 0} (last_step : C → ℕ) (reading : C → ℕ → ℕ) (s
   -- where nothing of an earlier part is due, what comes first is of none
   from_then : (left : ToDo) → IsLeft reading stands network first device left → IsFrom reading stands network first part device
       → IsAt reading stands network first (part_place part first.time device) → device.0 < length network.device → IsNoSoonerLeft part left
-  from_then Give is from at lt = tt
   from_then (Next due) is from at lt = tt
   from_then (Now other) is from at lt =
       let m = at.is.devices device (subst (λ (n : Network). device.0 < length n.device) at.is.same lt) in
@@ -156,7 +139,6 @@ module _ {C M : Type 0} (last_step : C → ℕ) (reading : C → ℕ → ℕ) (s
 
   left_with : (now mid : State C M) (left : ToDo) → mid.settled.items ≡ now.settled.items → IsLeft reading stands network now device left
       → IsLeft reading stands network (record now { settled = mid.settled; spare = mid.spare }) device left
-  left_with now mid Give same is = record { first = is.first; others = is.others; whole = same ∙ is.whole; least = is.least; most = is.most }
   left_with now mid (Now other) same is =
       λ s machine node of there kept.
       is s machine node (record { same = of.same; clocks = of.clocks; broken = of.broken; ways = of.ways }) there kept
@@ -215,7 +197,7 @@ module _ {C M : Type 0} (last_step : C → ℕ) (reading : C → ℕ → ℕ) (s
   }
 
   still_then : (now new : State C M) (left : ToDo) (acts : ℕ) (turn : Turn now left acts)
-      → now.given + length now.settled.items + 2 < numbers_end → IsActed last_step reading stands network part device now new → (s : Scenario)
+      → now.given + length now.settled.items + 2 < numbers_end → ActsOn reading stands network part device now new → (s : Scenario)
       (notes : List Note) (old : Old s notes) → old.mark ≡ old.cursor → First s notes old
       → IsStill reading stands network part device first.time new s notes
   still_then now new left acts turn numbers acted s notes old one f =
@@ -247,7 +229,7 @@ module _ {C M : Type 0} (last_step : C → ℕ) (reading : C → ℕ → ℕ) (s
       let f = (due s machine node (shows_of network now old) there is).is in (f.task, f.pending, f.due)
 
   times_then : (now new : State C M) (left : ToDo) (acts : ℕ) (turn : Turn now left acts) → Due now
-      → IsActed last_step reading stands network part device now new
+      → ActsOn reading stands network part device now new
       → device.0 < length network.device → (s : Scenario) (notes : List Note) (old : Old s notes)
       → old.mark ≡ old.cursor
       → (f : First s notes old) (machine last : Kept M)
@@ -267,7 +249,7 @@ module _ {C M : Type 0} (last_step : C → ℕ) (reading : C → ℕ → ℕ) (s
 
   -- it acts at most so often
   few_then : (now new : State C M) (left : ToDo) (acts : ℕ) (turn : Turn now left acts) → Due now
-      → IsActed last_step reading stands network part device now new
+      → ActsOn reading stands network part device now new
       → device.0 < length network.device → IsAt reading stands network first (part_place part first.time device) → acts + 1 ≤ 259
   few_then now new left acts turn due acted lt at =
       let s = at.s in
@@ -281,14 +263,16 @@ module _ {C M : Type 0} (last_step : C → ℕ) (reading : C → ℕ → ℕ) (s
       (times_then now new left acts turn due acted lt s at.notes at.is at.one at.first machine.0 act.1 machine.1 act.2)
 
   pub turn_on : (now new : State C M) (left then_left : ToDo) (acts : ℕ) → Turn now left acts → Due now
-      → now.given + length now.settled.items + 2 < numbers_end → IsActed last_step reading stands network part device now new
+      → now.given + length now.settled.items + 2 < numbers_end → ActsOn reading stands network part device now new
+      → IsSound last_step network new
+      → ((i : ℕ) → (i ≡ device.0 → ⊥) → slice_get new.machines.items i ≡ slice_get now.machines.items i)
       → IsLeft reading stands network new device then_left
       → device.0 < length network.device → IsAt reading stands network first (part_place part first.time device) → Turn new then_left (acts + 1)
-  turn_on now new left then_left acts turn due numbers acted is_left lt at = record {
+  turn_on now new left then_left acts turn due numbers acted sound machines is_left lt at = record {
     few = few_then now new left acts turn due acted lt at;
-    sound = acted.sound;
+    sound = sound;
     same = same_then first now new turn.same acted.same;
-    machines = λ i ne. acted.machines i ne ∙ turn.machines i ne;
+    machines = λ i ne. machines i ne ∙ turn.machines i ne;
     is_left = is_left;
     later = acted.later then_left is_left;
     above = acted.above;
@@ -299,7 +283,6 @@ module _ {C M : Type 0} (last_step : C → ℕ) (reading : C → ℕ → ℕ) (s
 
 -- where not this part comes first, what is left is of a later one
 pub left_later : (part : Part) (left : ToDo) → (left ≡ Now part → ⊥) → IsNoSoonerLeft part left → IsLaterThan part left
-left_later part Give not later = tt
 left_later part (Next at) not later = tt
 left_later part (Now other) not later = elim (cases_eq (part_rank part) (part_rank other)) [
   | inr apart ↦ omega (arith, apart, later)

@@ -105,17 +105,13 @@ one_behind reading stands network state now r rest {p} stood kind late behind_it
 -- ---- it may be given
 
 -- its source is worked off, so no other stands before it that is not
-pub own_gives : {C M : Type 0} {reading : C → ℕ → ℕ} (stands : M → Network → DeviceId → Node → Type 0)
-    (network : Network) (state : State C M) (z : Settled) (others : List Settled) {s : Scenario} {notes : List Note}
-    → is_at_source z.body ≡ true → state.settled.items ≡ z ∷ others
-    → (old : Stands reading (keeps stands) s (world_of network state) notes)
-    → NoSourceBefore s (happenings s.network notes) old.cursor (place_of (settled_at network state.time z))
-own_gives stands network state z others source whole old =
-    let shown = settled_at network state.time z in
-    let there : IsIn shown (map (settled_at network state.time) state.settled.items) =
-    subst (λ (l : List Settled). IsIn shown (map (settled_at network state.time) l)) (sym whole) (inl refl) in
-    let before = old.are.worked shown there source in
-    λ w of_w not_yet b. not_yet (chain w (place_of shown) old.cursor b before)
+pub own_gives : {C M : Type 0} {reading : C → ℕ → ℕ} {stands : M → Network → DeviceId → Node → Type 0} {s : Scenario}
+    {world : World C M} {notes : List Note} (z : Happening) (rest : List Happening) → world.settled ≡ z ∷ rest
+    → is_at_source z.note.body ≡ true → (old : Stands reading stands s world notes)
+    → NoSourceBefore s (happenings s.network notes) old.cursor (place_of z)
+own_gives z rest whole source old =
+    let before = old.are.worked z (subst (λ (l : List Happening). IsIn z l) (sym whole) (inl refl)) source in
+    λ w of_w not_yet b. not_yet (chain w (place_of z) old.cursor b before)
 
 -- where the first of what is settled is of a higher rank, all is
 each_above : (network : Network) (now low : ℕ) (settled : List Settled) → InOrder (map (settled_at network now) settled)

@@ -1,20 +1,29 @@
 -- The two timers of a device, each by itself.
-use Rattle.drift_world.proofs.Words.{◌+◌, ◌<◌, ◌∙◌, ◌≡◌, DeviceId, IsTimed, List, Network, Node, ap, arith, inl, inr, length, subst, sym, ℕ}
+use Rattle.drift_world.proofs.Words.{◌+◌, ◌<◌, ◌↔◌, ◌∙◌, ◌≡◌, DeviceId, IsIn, IsTimed, List, Network, Node, Waits, ap, arith, inl, inr, length, subst, sym, ℕ}
 use Rattle.drift_world.specs.{Stepping.{ActsAt, IsActTimed, IsRekeyed, IsRipeAt, IsRipeTimed, SetsOnly}, declared.state.State.State}
 use Rattle.{std.proofs.Common.slice_get, world_state.specs.declared.timers.Timer.Timer}
+
+-- the same frames wait
+pub waits_as : {C M : Type 0} (old new : State C M) → new.waiting ≡ old.waiting → (w : Waits)
+    → IsIn w new.waiting.items ↔ IsIn w old.waiting.items
+waits_as old new same w =
+    subst (λ (f : _). IsIn w f.items ↔ IsIn w old.waiting.items) (sym same) ((λ there. there), (λ there. there))
 
 module _ {C M : Type 0} (reading : C → ℕ → ℕ) (stands : M → Network → DeviceId → Node → Type 0) (network : Network) (old new : State C M)
     (device : DeviceId) where
   -- one stays right, where what it is for does
-  pub ripe_stays : IsRipeTimed reading old.timers old device → new.clocks ≡ old.clocks → new.time ≡ old.time → new.waiting ≡ old.waiting
+  pub ripe_stays : IsRipeTimed reading old.timers old device → new.clocks ≡ old.clocks → new.time ≡ old.time
+      → ((w : Waits) → w.device.0 ≡ device.0 → IsIn w new.waiting.items ↔ IsIn w old.waiting.items)
       → slice_get new.timers device.0 ≡ slice_get old.timers device.0 → IsRipeTimed reading new.timers new device
   ripe_stays is clocks time waiting slot = record {
     clock = is.clock;
     of_clock = ap (λ (c : _). slice_get c.items device.0) clocks ∙ is.of_clock;
     ripe = is.ripe;
     of_ripe = slot ∙ is.of_ripe;
-    ripens = subst (λ n. IsRipeAt reading is.clock new.waiting.items device.0 n is.ripe) (sym time)
-        (subst (λ (w : _). IsRipeAt reading is.clock w.items device.0 old.time is.ripe) (sym waiting) is.ripens);
+    ripens = subst (λ n. IsRipeAt reading is.clock new.waiting.items device.0 n is.ripe) (sym time) (record {
+      none = λ w there at u from most reached. is.ripens.none w ((waiting w at).0 there) at u from most reached;
+      one = λ true_time. let r = is.ripens.one true_time in (r.0, (waiting r.0 r.2).1 r.1, r.2, r.3);
+    });
   }
 
   pub act_stays : IsActTimed reading stands network old.timers old device → new.clocks ≡ old.clocks → new.time ≡ old.time → new.machines ≡ old.machines
@@ -46,21 +55,26 @@ module _ {C M : Type 0} (reading : C → ℕ → ℕ) (stands : M → Network �
     };
     timed = record {
       ripe = ripe_stays reading stands network mid new device ripe (ap (λ (t : State C M). t.clocks) then.same) (ap (λ (t : State C M). t.time) then.same)
-          (ap (λ (t : State C M). t.waiting) then.same) (then.others device.0 (λ e. omega (arith, e, there)));
+          (λ w at. waits_as mid new (ap (λ (t : State C M). t.waiting) then.same) w)
+          (then.others device.0 (λ e. omega (arith, e, there)));
       act = act;
     };
   }
 
   -- one alone is set, and the other was right
   pub set_act : device.0 < length network.device → IsTimed reading stands network old.timers old device → mid.clocks ≡ old.clocks
-      → mid.time ≡ old.time → mid.waiting ≡ old.waiting → mid.timers ≡ old.timers
-      → IsActTimed reading stands network new.timers new device → SetsOnly (λ slot. slot ≡ length network.device + device.0) mid new
+      → mid.time ≡ old.time
+      → ((w : Waits) → w.device.0 ≡ device.0 → IsIn w mid.waiting.items ↔ IsIn w old.waiting.items)
+      → mid.timers ≡ old.timers → IsActTimed reading stands network new.timers new device
+      → SetsOnly (λ slot. slot ≡ length network.device + device.0) mid new
       → IsRekeyed reading stands network device mid new
   set_act there was clocks time waiting timers act sets = record {
     sets = record { same = sets.same; sized = sets.sized; others = λ slot apart. sets.others slot (λ e. apart (inr e)); later = sets.later };
     timed = record {
       ripe = ripe_stays reading stands network old new device was.ripe (ap (λ (t : State C M). t.clocks) sets.same ∙ clocks)
-          (ap (λ (t : State C M). t.time) sets.same ∙ time) (ap (λ (t : State C M). t.waiting) sets.same ∙ waiting)
+          (ap (λ (t : State C M). t.time) sets.same ∙ time)
+          (λ w at. subst (λ (t : State C M). IsIn w t.waiting.items ↔ IsIn w old.waiting.items) (sym sets.same)
+          (waiting w at))
           (sets.others device.0 (λ e. omega (arith, e, there)) ∙ ap (λ (l : List Timer). slice_get l device.0) timers);
       act = act;
     };

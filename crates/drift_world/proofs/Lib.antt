@@ -1,3 +1,4 @@
+pub mod ActEnds
 pub mod ActRecords
 pub mod ActSteps
 pub mod ActTurns

@@ -5,7 +5,7 @@ use Rattle.drift_world.proofs.Words.{Accepted, Arrived, IsPutAt, IsSomePut, List
 use Rattle.drift_world.proofs.Words.{Network, NoSourceBefore, Node, None, Note, Option, Scenario, Settled, Some, Stands, Waits, []}
 use Rattle.drift_world.proofs.Words.{ap, arith, behind, chain, changed_device, departure_body, happenings, inl, inr, is_mapped, keeps, length}
 use Rattle.drift_world.proofs.Words.{numbers_of, option_map_or, own_place, place_of, rank, refl, ripe_place, settled_at, subst, suc, sym}
-use Rattle.drift_world.proofs.Words.{false, waiting_as, with_first, zero}
+use Rattle.drift_world.proofs.Words.{World, false, waiting_as, with_first, zero}
 use Rattle.drift_world.{proofs.Words.{world_of, ℕ}, specs.{Giving.IsRunningWith, Ripening.IsJudged, Stepping.StandsPast, declared.state.State.State}}
 use Rattle.std.{proofs.Common.slice_index_or, specs.Prelude.insert}
 use Rattle.world_state.specs.{Frames.{Waiting, room_of, waiter_of}, Shelves.{HasPlace, Shelved, spot_of}}
@@ -144,6 +144,13 @@ put_behind first z {old} at before put = record {
     none zero d le lt = absurd (omega (arith, le))
     none (suc k) d le lt = put.none k d (omega (arith, le)) (omega (arith, lt))
 
+-- so is one, if there is one
+pub some_behind : (first : Settled) (one : Option Settled) (old new : List Settled)
+    → IfSome one (λ z. IsBefore (own_place first) (own_place z)) → IsSomePut one old new
+    → IsSomePut one (first ∷ old) (first ∷ new)
+some_behind first None old new before put = ap (λ (l : List Settled). first ∷ l) put
+some_behind first (Some z) old new before put = (suc put.0, put_behind first z put.0 before put.1)
+
 -- where a frame is judged, its record is put in before them all, and a change of state behind it
 pub judged_first : (number : ℕ) (w : Waits) (is : Ripe) {settled rest : List Settled} → IsJudged is
     → IsPutAt (ripe_record w is) settled (ripe_record w is ∷ settled) 0
@@ -183,6 +190,18 @@ none_ahead {last_step} {reading} {stands} {network} {old} {source} one may now a
     first.after (settled_at network old.time d) (is_mapped (settled_at network old.time) old.settled.items d i)
     (subst (IsBefore (place_of (settled_at network old.time d))) at (inr (refl, before))))
 
+-- where a record is given, the note of it is the next
+pub given_so : {C M : Type 0} {reading : C → ℕ → ℕ} {stands : M → Network → DeviceId → Node → Type 0} {s : Scenario}
+    {world : World C M}
+    {p : List ℕ} {given : ℕ} (notes : List Note) (z : Happening) (note : Note) → given ≡ length notes
+    → note ≡ record { number = given + 1; time = z.note.time; body = z.note.body }
+    → StandsAt reading stands s world (notes ++ note_of notes z ∷ []) p → StandsOne reading stands s world
+    (notes ++ note ∷ [])
+given_so {reading} {stands} {s} {world} notes z note given is at =
+    subst (λ (n : Note). StandsOne reading stands s world (notes ++ n ∷ []))
+    (sym (is ∙ ap (λ (k : ℕ). let n : Note = record { number = k + 1; time = z.note.time; body = z.note.body } in n)
+    given)) (one_of at)
+
 module _ {C M : Type 0} (last_step : C → ℕ) (reading : C → ℕ → ℕ) (stands : M → Network → DeviceId → Node → Type 0) (network : Network)
     (old mid : State C M) (source : Source) (one : Settled) (may : MayWork last_step reading stands network old source) (now : IsNow source)
     {settled : List Settled} (rest : mid.settled.items ≡ settled)
@@ -207,9 +226,6 @@ module _ {C M : Type 0} (last_step : C → ℕ) (reading : C → ℕ → ℕ) (s
       → StandsOne reading (keeps stands) s (world_of network new) (notes ++ note ∷ [])
   stands_first new note at is_note gives s notes is =
       let h = past_it s notes is.0 (comes_first last_step reading stands network old source s notes may now is.0) in
-      let same : note ≡ note_of notes (settled_at network mid.time one) =
-      is_note ∙ ap (λ (k : ℕ). let n : Note = record { number = k + 1; time = units_of mid.time; body = one.body } in n) h.0.given in
-      subst (λ (n : Note). StandsOne reading (keeps stands) s (world_of network new) (notes ++ n ∷ [])) (sym same)
-      (one_of (gives s notes h.0
-      (none_before_last s (happenings s.network notes) h.0.cursor (source_place old.time source)
-      (place_of (settled_at network mid.time one)) h.1 at)))
+      let ahead = none_before_last s (happenings s.network notes) h.0.cursor (source_place old.time source)
+      (place_of (settled_at network mid.time one)) h.1 at in
+      given_so notes (settled_at network mid.time one) note h.0.given is_note (gives s notes h.0 ahead)

@@ -11,7 +11,7 @@ use Rattle.drift_world.proofs.Words.{Due, DueAt, Err, Happening, HasItsOctets, H
 use Rattle.drift_world.proofs.Words.{IsWell, List, Network, NoSourceBefore, Node, Note, Ok, OnErr, OnOk, Option, Result, Scenario, Settled, SourceFirst}
 use Rattle.run_law.specs.records.Ranks.{key}
 use Rattle.drift_world.proofs.Words.{Stands, Turn, [], ap, append-nil, arith, cases_lt, chain, happenings, inl, inr, keeps, length, length-map, map, never_self}
-use Rattle.drift_world.specs.Turns.{HasRoom, IsAfter, IsForemost, IsKept, IsNow, IsOpen, IsPassed, IsStep, IsThere, MayGive, MayWork, PassSays, SettledFirst, TurnSays, given_in}
+use Rattle.drift_world.specs.Turns.{HasRoom, IsAfter, IsForemost, IsKept, IsNow, IsPassed, IsStep, IsThere, MayGive, MayWork, PassSays, SettledFirst, TurnSays, given_in}
 use Rattle.drift_world.specs.{Turns.{source_place, source_rank}, declared.source.Source.TheVariants.{Act, Arrival, Clock, Departure, Events, Later, Ripening}}
 use Rattle.{drift_world.specs.declared.next.Turn.TheVariants.{Ends, Gives, GoesOn}, run_law.proofs.runs.Places.{before_later, before_later_time}}
 use Rattle.std.proofs.Common.{All, slice_get}
@@ -245,35 +245,6 @@ module _ {C M : Type 0} (last_step : C → ℕ) (reading : C → ℕ → ℕ) (s
       record {
         well = well_on old new well on (sound_timers last_step network mid new same sound)
             (rekeyed reading stands network device old mid new well.timed there changes timers keyed);
-        after = record {
-          clocks = ap (λ (t : State C M). t.clocks) same ∙ changes.clocks;
-          ended = ap (λ (t : State C M). t.ended) same ∙ changes.ended;
-          later = omega (arith, at);
-        };
-        still = on;
-        time = at;
-        given = ap (λ (t : State C M). t.given) same ∙ given;
-      }
-
-  -- one that leaves a record put in where it was done
-  pub rekeyed_open : (device : DeviceId) (old mid new : State C M) → IsWell last_step reading stands network old
-      → IsSound last_step network mid
-      → device.0 < length network.device → ChangesOnly device.0 old mid → mid.timers ≡ old.timers
-      → mid.given ≡ old.given
-      → ((s : Scenario) (notes : List Note) → StandsOne reading (keeps stands) s (world_of network old) notes
-      → Stands reading (keeps stands) s (world_of network mid) notes)
-      → IsRekeyed reading stands network device mid new → IsOpen last_step reading stands network old new
-  rekeyed_open device old mid new well sound there changes timers given still keyed =
-      let same = keyed.sets.same in
-      let run = well.running in
-      let on : (s : Scenario) (notes : List Note) → StandsOne reading (keeps stands) s (world_of network old) notes
-      → Stands reading (keeps stands) s (world_of network new) notes = λ s notes is.
-      subst (λ t. Stands reading (keeps stands) s (world_of network t) notes) (sym same) (still s notes is) in
-      let at : new.time ≡ old.time = ap (λ (t : State C M). t.time) same ∙ changes.time in
-      record {
-        sound = sound_timers last_step network mid new same sound;
-        running = record { s = run.s; notes = run.notes; is = on run.s run.notes (run.is, well.one) };
-        timed = rekeyed reading stands network device old mid new well.timed there changes timers keyed;
         after = record {
           clocks = ap (λ (t : State C M). t.clocks) same ∙ changes.clocks;
           ended = ap (λ (t : State C M). t.ended) same ∙ changes.ended;

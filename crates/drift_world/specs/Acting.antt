@@ -1,14 +1,16 @@
 -- What a device has to do, and where its acts lead.
-use Rattle.std.specs.Prelude.{◌<ℤ◌, ◌<◌, ◌∷◌, ◌≡◌, ◌≤◌, All, List, Option, Some, pos, slice_get, ℕ}
-use Rattle.drift_world.specs.{Parts.{IsFirstPart, IsNoSooner}, Showing.IsOf}
-use Rattle.drift_world.specs.declared.{part.{Part.Part, ToDo.{ToDo, TheVariants.{Give, Next, Now}}}, state.State.State}
+use Rattle.std.specs.Prelude.{◌++◌, ◌+◌, ◌<ℤ◌, ◌<◌, ◌^◌, ◌↔◌, ◌∷◌, ◌≡◌, ◌≤◌, All, List, Option, Some, [], false, pos}
+use Rattle.std.specs.Prelude.{slice_get, ℕ}
+use Rattle.drift_world.specs.{Parts.{IsFirstPart, IsNoSooner, IsNoSoonerLeft, part_place, part_rank}, Showing.IsOf}
+use Rattle.drift_world.specs.declared.{part.{Part.Part, ToDo.{ToDo, TheVariants.{Next, Now}}}, state.State.State}
 use Rattle.{run_law.specs.machines.Nodes.Node, world_state.specs.Keeping.keeps}
 use Rattle.{drift_world.specs.Views.world_of, net_plan.specs.declared.ids.DeviceId.DeviceId}
-use Rattle.world_law.specs.world.{Moves.{ComesFirst, StandsOne}, World.{Stands, World}}
-use Rattle.{net_plan.specs.declared.network.Network.Network, run_law.specs.records.Order.IsBefore}
-use Rattle.{run_law.specs.{declared.note.Note.Note, records.Ranks.rank}, world_state.specs.declared.kept.Kept.Kept}
-use Rattle.{run_law.specs.machines.Tasks.{IsDueReading, IsPending, Task, reading_for}, world_state.specs.declared.contents.Settled.Settled}
-use Rattle.{run_law.specs.scenario.Scenarios.Scenario, tte_units.specs.declared.units.Units.Units}
+use Rattle.world_law.specs.world.{Calls.{HasActed, moment_of}, Moves.{ComesFirst, StandsOne}, World.{Stands, World}}
+use Rattle.{net_plan.specs.declared.network.Network.Network, run_law.specs.records.Order.{IsBefore, IsIn}}
+use Rattle.run_law.specs.{declared.{note.Note.Note, steps.Act.Act}, records.Ranks.rank, scenario.Scenarios.Scenario}
+use Rattle.run_law.specs.machines.Tasks.{IsDueReading, IsPending, Task, reading_for}
+use Rattle.world_state.specs.declared.{contents.{Settled.Settled, Waits.Waits}, kept.Kept.Kept}
+use Rattle.tte_units.specs.{Amount.units_of, declared.units.Units.Units}
 
 -- in each scenario whose clocks, ways and broken devices the state shows, the device has something to do now, and the
 -- first of it is of the part
@@ -61,18 +63,9 @@ IsPartAt reading stands state device time part =
 abbrev pub AreAbove : {C M : Type 0} → ℕ → State C M → Type 0
 AreAbove low state = All (λ (z : Settled). low < rank z.body) state.settled.items
 
--- the first that is settled is of an act, and stands where it was done
-pub record HasOwn {C M : Type 0} (state : State C M) : Type 0 where
-  pub first : Settled
-  pub others : List Settled
-  pub whole : state.settled.items ≡ first ∷ others
-  pub least : 4 ≤ rank first.body
-  pub most : rank first.body ≤ 6
-
 -- this is what the device has to do
 abbrev pub IsLeft : {C M : Type 0} → (C → ℕ → ℕ) → (M → Network → DeviceId → Node → Type 0) → Network → State C M
     → DeviceId → ToDo → Type 0
-IsLeft reading stands network state device Give = HasOwn state
 IsLeft reading stands network state device (Now part) = IsDueAt reading stands network state part device
 IsLeft reading stands network state device (Next due) =
     IsNextDue stands state device due × IsIdleAt reading stands network state device
@@ -83,10 +76,38 @@ abbrev pub StandsFrom : {C M : Type 0} → (C → ℕ → ℕ) → (M → Networ
 StandsFrom reading stands s world notes p =
     (new : Stands reading (keeps stands) s world notes) × (new.mark ≡ new.cursor) × (IsBefore new.cursor p → ⊥)
 
--- where the source at the place comes first, and there is one frontier, there is one then
-abbrev pub GoesOnFrom : {C M : Type 0} → (C → ℕ → ℕ) → (M → Network → DeviceId → Node → Type 0) → Network → State C M
-    → State C M → List ℕ → Type 0
-GoesOnFrom reading stands network old new place =
-    (s : Scenario) (notes : List Note) (is : Stands reading (keeps stands) s (world_of network old) notes)
-    → is.mark ≡ is.cursor → ComesFirst reading (keeps stands) s (world_of network old) notes is place
-    → StandsOne reading (keeps stands) s (world_of network new) notes
+-- the device has acted, and none of the records of it stands where it did: all are put in
+pub record ActsOn {C M : Type 0} (reading : C → ℕ → ℕ) (stands : M → Network → DeviceId → Node
+    → Type 0) (network : Network) (part : Part) (device : DeviceId) (old new : State C M) : Type 0 where
+  pub same : new ≡ record old { machines = new.machines; early = false; settled = new.settled; spare = new.spare }
+  pub above : AreAbove (part_rank part) new
+  pub then_stands : (s : Scenario) (notes : List Note)
+      → (was : Stands reading (keeps stands) s (world_of network old) notes) → was.mark ≡ was.cursor
+      → ComesFirst reading (keeps stands) s (world_of network old) notes was (part_place part old.time device)
+      → StandsFrom reading stands s (world_of network new) notes (part_place part old.time device)
+  pub later : (left : ToDo) → IsLeft reading stands network new device left → IsNoSoonerLeft part left
+  pub acted : (s : Scenario) (notes : List Note) (machine : Kept M)
+      → Stands reading (keeps stands) s (world_of network old) notes
+      → slice_get old.machines.items device.0 ≡ Some machine
+      → (act : Act) × (after : Kept M) × (slice_get new.machines.items device.0 ≡ Some after)
+      × HasActed (keeps stands) s.network device (moment_of s device old.time) act machine after
+
+-- the device has acted, and the record that stands where it did is given
+pub record ActGives {C M : Type 0} (reading : C → ℕ → ℕ) (stands : M → Network → DeviceId → Node
+    → Type 0) (network : Network) (part : Part) (device : DeviceId) (old new : State C M) (note : Note) : Type 0 where
+  pub same : new ≡ record old {
+    machines = new.machines;
+    early = false;
+    settled = new.settled;
+    spare = new.spare;
+    under_way = new.under_way;
+    waiting = new.waiting;
+    stored = new.stored;
+    given = old.given + 1;
+  }
+  pub waiting : (w : Waits) → w.device.0 < 2 ^ 32 → IsIn w new.waiting.items ↔ IsIn w old.waiting.items
+  pub time : note.time ≡ units_of old.time
+  pub then_stands : (s : Scenario) (notes : List Note)
+      → (was : Stands reading (keeps stands) s (world_of network old) notes) → was.mark ≡ was.cursor
+      → ComesFirst reading (keeps stands) s (world_of network old) notes was (part_place part old.time device)
+      → StandsOne reading (keeps stands) s (world_of network new) (notes ++ note ∷ [])

@@ -2,7 +2,7 @@
 use Rattle.device_rules.specs.FirstKinds.{IsFirstKind, kind_of}
 use Rattle.device_rules.specs.declared.first_kind.TaskKind.{TaskKind, TheVariants.{Emission, Sending}}
 use Rattle.drift_world.specs.declared.part.Part.{Part, TheVariants.{Emissions, Late, Sendings}}
-use Rattle.drift_world.specs.declared.part.ToDo.{ToDo, TheVariants.{Give, Next, Now}}
+use Rattle.drift_world.specs.declared.part.ToDo.{ToDo, TheVariants.{Next, Now}}
 use Rattle.net_plan.specs.declared.{ids.DeviceId.DeviceId, network.Network.Network}
 use Rattle.run_law.specs.machines.{Nodes.Node, Tasks.{IsPending, Task, reading_for}}
 use Rattle.std.specs.Prelude.{◌<◌, ◌∷◌, ◌≡◌, ◌≤ℤ◌, ◌≤◌, List, [], ℕ, ℤ}
@@ -37,12 +37,10 @@ IsNoSooner network device node reading part =
 
 -- what is left to do is of a later part than this
 abbrev pub IsLaterThan : Part → ToDo → Type 0
-IsLaterThan part Give = Unit {0}
 IsLaterThan part (Next due) = Unit {0}
 IsLaterThan part (Now other) = part_rank part < part_rank other
 
 -- or of this
 abbrev pub IsNoSoonerLeft : Part → ToDo → Type 0
-IsNoSoonerLeft part Give = Unit {0}
 IsNoSoonerLeft part (Next due) = Unit {0}
 IsNoSoonerLeft part (Now other) = part_rank part ≤ part_rank other

@@ -2,8 +2,7 @@
 use Rattle.std.specs.Prelude.{◌++◌, ◌+◌, ◌-◌, ◌<◌, ◌^◌, ◌∷◌, ◌≡◌, ◌≤ℤ◌, ◌≤◌, ◌⊎◌, Bool, Err, List, Ok, Result}
 use Rattle.std.specs.{Prelude.{Some, [], false, length, pos, slice_get, true, ℕ}, VecDeque.{deque_capacity, deque_len}}
 use Rattle.{drift_world.specs.{Nearing.{IsLess, Nears}, Views.world_of}, tte_units.specs.Amount.units_of}
-use Rattle.drift_world.specs.{Sound.IsSound, Sourcing.{AreTimed, HasNothingBefore, IsRipePlace, due_place}}
-use Rattle.drift_world.specs.{Stepping.IsRunning, declared.source.Source.Source}
+use Rattle.drift_world.specs.{Sourcing.{HasNothingBefore, IsRipePlace, due_place}, declared.source.Source.Source}
 use Rattle.{drift_world.specs.{Wells.IsWell, declared.state.State.State}, world_state.specs.declared.queue.DueAt.DueAt}
 use Rattle.drift_world.specs.declared.{next.Turn.TheVariants.{Ends, Gives, GoesOn}, source.Source.TheVariants.Ripening}
 use Rattle.{drift_world.specs.declared.next.Turn.Turn, world_state.specs.declared.timers.Due.Due}
@@ -13,7 +12,7 @@ use Rattle.{drift_world.specs.Acting.IsFrom, run_law.specs.{declared.note.Note.N
 use Rattle.drift_world.specs.{Parts.{part_place, part_rank}, declared.part.Part.Part}
 use Rattle.{run_law.specs.machines.Nodes.Node, world_state.specs.{Frames.first_of, Keeping.keeps, Views.{settled_at, waiting_as}}}
 use Rattle.run_law.specs.{records.Order.IsIn, runs.DueRecords.IsScenarioRun, scenario.Scenarios.Scenario}
-use Rattle.world_law.specs.world.{Moves.StandsOne, World.{Stands, clock_place, ripe_place}}
+use Rattle.world_law.specs.world.{Moves.StandsOne, World.{clock_place, ripe_place}}
 use Rattle.world_state.specs.{declared.contents.{Settled.Settled, Waits.Waits}, queue.Places.{IsFirst, numbers_of}}
 
 -- the place of a source, at the present time
@@ -227,18 +226,6 @@ pub record IsStep {C M : Type 0} (last_step : C → ℕ) (reading : C → ℕ �
   pub after : IsAfter old new
   pub still : (s : Scenario) (notes : List Note) → StandsOne reading (keeps stands) s (world_of network old) notes
       → StandsOne reading (keeps stands) s (world_of network new) notes
-  pub time : new.time ≡ old.time
-  pub given : new.given ≡ old.given
-
--- a device has acted, and the record that stands where it was done is put in, and not given yet
-pub record IsOpen {C M : Type 0} (last_step : C → ℕ) (reading : C → ℕ → ℕ) (stands : M → Network → DeviceId → Node
-    → Type 0) (network : Network) (old new : State C M) : Type 0 where
-  pub sound : IsSound last_step network new
-  pub running : IsRunning reading stands network new
-  pub timed : AreTimed reading stands network new
-  pub after : IsAfter old new
-  pub still : (s : Scenario) (notes : List Note) → StandsOne reading (keeps stands) s (world_of network old) notes
-      → Stands reading (keeps stands) s (world_of network new) notes
   pub time : new.time ≡ old.time
   pub given : new.given ≡ old.given
 

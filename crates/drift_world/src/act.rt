@@ -1,25 +1,23 @@
 ghost use Rattle.std.specs.Prelude.{◌+◌, ◌-◌, ◌<ℤ◌, ◌<◌, ◌^◌, ◌≡◌, ◌≤ℤ◌, ◌≤◌, IfOk, IfSome, IsFalse, IsSomeAnd, IsTrue};
-ghost use Rattle.std.specs.Prelude.{List, OnErr, OnOk, Some, false, length, slice_get, true, vec_capacity, ℕ};
+ghost use Rattle.std.specs.Prelude.{OnErr, OnOk, Some, false, length, slice_get, true, vec_capacity, ℕ};
 ghost use Rattle.std.specs.VecDeque.{deque_capacity, deque_len};
-ghost use Rattle.drift_world.specs.Acting.{AreAbove, GoesOnFrom, HasOwn, IsDueAt, IsFrom, IsLeft, StandsFrom};
-ghost use Rattle.drift_world.specs.{Nearing.IsLess, Turns.{IsOpen, IsStep, MayWork}, declared.source.Source.Source};
-ghost use Rattle.drift_world.specs.Parts.{IsLaterThan, IsNoSoonerLeft, part_place, part_rank};
-ghost use Rattle.drift_world.specs.{Sound.{IsSized, IsSound}, Stepping.{ChangesOnly, IsAt}, Views.world_of};
-ghost use Rattle.drift_world.specs.declared.part.ToDo.{ToDo as ToDoOf, TheVariants.Give};
-ghost use Rattle.{drift_world.specs.Showing.IsOf, run_law.specs.records.Ranks.rank, world_state.specs.Keeping.keeps};
-ghost use Rattle.{net_plan.specs.Ranges.IsInRange, world_state.specs.declared.kept.Kept.{Kept as KeptValue}};
-ghost use Rattle.{net_plan.specs.declared.network.Network.Network, world_law.specs.world.World.Stands};
-ghost use Rattle.run_law.specs.{declared.{note.Note.Note, steps.Act.{Act as ActValue}}, scenario.Scenarios.Scenario};
-ghost use Rattle.world_state.specs.Acting.{AreOutcomes, HasItsRow, IsDispatched};
+ghost use Rattle.drift_world.specs.Acting.{ActGives, ActsOn, AreAbove, IsDueAt, IsLeft};
+ghost use Rattle.drift_world.specs.{Parts.{part_place, part_rank}, Showing.IsOf, Sound.{IsSized, IsSound}};
+ghost use Rattle.drift_world.specs.Stepping.{IsActTimed, IsAt, MayRekey, SetsOnly};
+ghost use Rattle.drift_world.specs.Turns.{IsKept, MayWork, WorkSays, given_in};
+ghost use Rattle.drift_world.specs.declared.{part.{Part.{Part as PartOf}, ToDo.TheVariants.Now}, source.Source.Source};
+ghost use Rattle.net_plan.specs.Ranges.{IsInRange};
+ghost use Rattle.run_law.specs.{records.Ranks.rank, scenario.Scenarios.Scenario};
 ghost use Rattle.schedule_tables.specs.{Entries.IsEntry, declared.entry.Entry.{Entry as EntryValue}};
-ghost use Rattle.world_law.specs.world.{Calls.{HasActed, moment_of}, Moves.ComesFirst};
+ghost use Rattle.{world_law.specs.world.Calls.moment_of, world_state.specs.Acting.{AreOutcomes, HasItsRow, IsDispatched}};
 
+use crate::next::Turn;
 use crate::part::{Part, ToDo, is_due};
 use crate::state::State;
 use device_rules::TellsKind;
 use drift_clock::Clock;
 use net_plan::{DeviceId, Network, RowId};
-use run_law::plain::Rank;
+use run_law::plain::{PlainNote, Rank};
 use run_law::{Act, Moment};
 use schedule_tables::entry_of;
 use std::mem::replace;
@@ -30,7 +28,7 @@ use world_state::contents::Settled;
 use world_state::hands::{at_hand, dispatched};
 use world_state::outcomes::{Outcomes, corrected, emitted, put_both, sent};
 use world_state::packets::MOST_OCTETS;
-use world_state::settled::rank_of;
+use world_state::settled::{put_some, rank_of};
 
 /// Takes the memory out.
 fn taken(room: &mut Vec<u8>) -> Vec<u8>
@@ -150,50 +148,34 @@ impl<C: Clock, M: TellsKind + Drop> State<C, M> {
         }
     }
 
-    /// The device does the first of all that is due, which is of the part. Is the first that is settled then to be given,
-    /// as it stands where it was done?
+    /// The device does the first of all that is due, which is of the part. Where its record stands where it was done, this
+    /// is given: is it?
     #[inline(always)]
-    fn act_once(&mut self, network: &Network, part: Part, device: DeviceId, moment: Moment) -> bool
+    fn act_once(
+        &mut self,
+        network: &Network,
+        part: Part,
+        device: DeviceId,
+        moment: Moment,
+        note: &mut PlainNote,
+    ) -> bool
         requires sound { IsSound C.last_step network.now self.old }
         requires range { IsInRange network.now }
         requires there { device.0 < length network.now.device }
         requires moment { (s : Scenario) → IsOf C.reading s network.now self.old
             → moment ≡ moment_of s device self.old.time }
         requires room { deque_len self.old.settled + 2 ≤ deque_capacity self.old.settled }
+        requires launches { length network.now.link < self.old.under_way.room }
         requires spare { 1514 ≤ vec_capacity self.old.spare }
         requires numbers { self.old.given + 1 < 2 ^ 64 }
         requires due { IsDueAt C.reading M.stands network.now self.old part device }
         requires above { AreAbove (part_rank part) self.old }
         requires comes { IsAt C.reading M.stands network.now self.old (part_place part self.old.time device) }
         ensures sound { IsSound C.last_step network.now self.new }
-        ensures same { self.new ≡ record self.old {
-          machines = self.new.machines;
-          early = false;
-          settled = self.new.settled;
-          spare = self.new.spare;
-        } }
         ensures machines { (i : ℕ) → (i ≡ device.0 → ⊥)
             → slice_get self.new.machines.items i ≡ slice_get self.old.machines.items i }
-        ensures own { result ≡ true → HasOwn self.new }
-        ensures above { result ≡ false → AreAbove (part_rank part) self.new }
-        ensures gives { (s : Scenario) (notes : List Note)
-            → (old : Stands C.reading (keeps M.stands) s (world_of network.now self.old) notes)
-            → ComesFirst C.reading (keeps M.stands) s (world_of network.now self.old) notes old
-            (part_place part self.old.time device)
-            → Stands C.reading (keeps M.stands) s (world_of network.now self.new) notes }
-        ensures stands { result ≡ false → (s : Scenario) (notes : List Note)
-            → (old : Stands C.reading (keeps M.stands) s (world_of network.now self.old) notes) → old.mark ≡ old.cursor
-            → ComesFirst C.reading (keeps M.stands) s (world_of network.now self.old) notes old
-            (part_place part self.old.time device)
-            → StandsFrom C.reading M.stands s (world_of network.now self.new) notes
-            (part_place part self.old.time device) }
-        ensures later { (left : ToDoOf) → IsLeft C.reading M.stands network.now self.new device left
-            → IsNoSoonerLeft part left }
-        ensures acted { (s : Scenario) (notes : List Note) (machine : KeptValue M)
-            → Stands C.reading (keeps M.stands) s (world_of network.now self.old) notes
-            → slice_get self.old.machines.items device.0 ≡ Some machine
-            → (act : ActValue) × (after : KeptValue M) × (slice_get self.new.machines.items device.0 ≡ Some after)
-            × HasActed (keeps M.stands) s.network device (moment_of s device self.old.time) act machine after }
+        ensures gives { result ≡ true → ActGives C.reading M.stands network.now part device self.old self.new note.new }
+        ensures goes_on { result ≡ false → ActsOn C.reading M.stands network.now part device self.old self.new }
     {
         let index = device.0 as usize;
         let was = self.machines[index].shown();
@@ -205,9 +187,15 @@ impl<C: Clock, M: TellsKind + Drop> State<C, M> {
         let outcomes = self.outcomes_of(network, device, was.state, is.adjustment, act, &mut room);
         self.spare = room;
         self.early = false;
-        let gives = is_at_source(&outcomes);
-        put_both(&mut self.settled, outcomes);
-        gives
+        if !is_at_source(&outcomes) {
+            put_both(&mut self.settled, outcomes);
+            return false;
+        }
+        let Outcomes { first, second } = outcomes;
+        put_some(&mut self.settled, second);
+        let own = first.unwrap();
+        self.give_first(network, own, note);
+        true
     }
 
     /// Makes place for two more records, for which there are numbers, and takes memory for the octets of a frame.
@@ -236,96 +224,59 @@ impl<C: Clock, M: TellsKind + Drop> State<C, M> {
         Ok(())
     }
 
+    /// Sets the timer of the device for what it has left to do.
+    fn put_off(&mut self, network: &Network, device: DeviceId, left: ToDo)
+        requires may { MayRekey C.last_step C.reading M.stands network.now self.old device }
+        requires left { IsLeft C.reading M.stands network.now self.old device left }
+        ensures sets { SetsOnly (λ slot. slot ≡ length network.now.device + device.0) self.old self.new }
+        ensures timed { IsActTimed C.reading M.stands network.now self.new.timers self.new device }
+        ensures put { (other : PartOf) → left ≡ Now other → slice_get self.new.timers
+            (length network.now.device + device.0) ≡ Some (record { time = self.new.time; rank = part_rank other }) }
+    {
+        match left {
+            ToDo::Now(part) => self.defer(network, device.0, part),
+            ToDo::Next(due) => self.rekey_act_at(network, device.0, due),
+        }
+    }
+
     /// The device does what is due of the part at the present instant, up to the first act whose record stands where it
-    /// is done. What is to be done then is answered: the record is to be given, or what is due is of a later part.
+    /// was done: this is given. What is due of a later part is put off behind what other devices do.
     ///
     /// On an error it may have done some of it, and more is due.
-    fn act_part(
+    #[inline(never)]
+    pub fn acting_turn(
         &mut self,
         network: &Network,
         part: Part,
         device: DeviceId,
-    ) -> Result<ToDo, OutOfMemory>
-        requires sound { IsSound C.last_step network.now self.old }
-        requires range { IsInRange network.now }
-        requires there { device.0 < length network.now.device }
-        requires from { IsFrom C.reading M.stands network.now self.old part device }
-        requires above { AreAbove (part_rank part) self.old }
-        requires comes { IsAt C.reading M.stands network.now self.old (part_place part self.old.time device) }
-        ensures sound { IsSound C.last_step network.now self.new }
-        ensures same { self.new ≡ record self.old {
-          machines = self.new.machines;
-          early = self.new.early;
-          settled = self.new.settled;
-          spare = self.new.spare;
-        } }
-        ensures others { ChangesOnly device.0 self.old self.new }
-        ensures stands { (s : Scenario) (notes : List Note)
-            → (old : Stands C.reading (keeps M.stands) s (world_of network.now self.old) notes) → old.mark ≡ old.cursor
-            → ComesFirst C.reading (keeps M.stands) s (world_of network.now self.old) notes old
-            (part_place part self.old.time device)
-            → Stands C.reading (keeps M.stands) s (world_of network.now self.new) notes }
-        ensures one { IfOk result (λ left. (left ≡ Give → ⊥)
-            → GoesOnFrom C.reading M.stands network.now self.old self.new (part_place part self.old.time device)) }
-        ensures err { OnErr result
-            (GoesOnFrom C.reading M.stands network.now self.old self.new (part_place part self.old.time device)) }
-        ensures left { IfOk result (λ left. IsLaterThan part left
-            × IsLeft C.reading M.stands network.now self.new device left) }
+        note: &mut PlainNote,
+    ) -> Result<Turn, OutOfMemory>
+        requires may { MayWork C.last_step C.reading M.stands network.now self.old (Source.Act part device) }
+        ensures kept { IsKept C.last_step C.reading M.stands network.now self.old self.new (given_in result note.new) }
+        ensures says { IfOk result (WorkSays network.now self.old self.new note.new) }
+        ensures err { OnErr result (self.new.time ≡ self.old.time) }
     {
         let moment = self.moment_at(network, device);
         let mut left = self.left_to_do(network, device, moment);
         let mut acts: u32 = 0;
         'acts: loop {
             if !is_due(left, part) {
-                return Ok(left);
+                self.put_off(network, device, left);
+                return Ok(Turn::GoesOn);
             }
             match self.reserve_two() {
                 Ok(()) => (),
-                Err(_) => return Err(OutOfMemory),
+                Err(error) => {
+                    self.rekey_act(network, device.0);
+                    return Err(error);
+                }
             }
-            if self.act_once(network, part, device, moment) {
-                return Ok(ToDo::Give);
+            if self.act_once(network, part, device, moment, note) {
+                self.rekey_act(network, device.0);
+                return Ok(Turn::Gives);
             }
             left = self.left_to_do(network, device, moment);
             acts += 1;
-        }
-    }
-
-    /// The device does what is due of the part. What is due of a later one is put off behind what other devices do. Is
-    /// the first that is settled then to be given at once, as it stands where it was done?
-    #[inline(always)]
-    pub fn act(
-        &mut self,
-        network: &Network,
-        part: Part,
-        device: DeviceId,
-    ) -> Result<bool, OutOfMemory>
-        requires may { MayWork C.last_step C.reading M.stands network.now self.old (Source.Act part device) }
-        ensures step { IfOk result (λ gives. gives ≡ false
-            → IsStep C.last_step C.reading M.stands network.now self.old self.new) }
-        ensures own { IfOk result (λ gives. gives ≡ true
-            → IsOpen C.last_step C.reading M.stands network.now self.old self.new × HasOwn self.new) }
-        ensures err { OnErr result (IsStep C.last_step C.reading M.stands network.now self.old self.new) }
-        ensures under_way { self.new.under_way ≡ self.old.under_way }
-        ensures less { IfOk result (λ gives. gives ≡ false → IsLess network.now self.old self.new) }
-    {
-        match self.act_part(network, part, device) {
-            Ok(ToDo::Give) => {
-                self.rekey_act(network, device.0);
-                Ok(true)
-            }
-            Ok(ToDo::Now(other)) => {
-                self.defer(network, device.0, other);
-                Ok(false)
-            }
-            Ok(ToDo::Next(due)) => {
-                self.rekey_act_at(network, device.0, due);
-                Ok(false)
-            }
-            Err(error) => {
-                self.rekey_act(network, device.0);
-                Err(error)
-            }
         }
     }
 }

@@ -278,11 +278,7 @@ impl<C: Clock, M: Machine + Drop> State<C, M> {
 
 impl<C: Clock, M: TellsKind + Drop> State<C, M> {
     ghost use Rattle.drift_world.specs.{Sourcing.AreTimed, Stepping.{ChangesOnly, MaySetTimers}, Wells.IsWell};
-    ghost use Rattle.drift_world.specs.{Acting.HasOwn, Sound.IsSound, Stepping.IsRunning, Views.world_of};
-    ghost use Rattle.drift_world.specs.Turns.{GivesAt, IsAfter, IsKept, MayGive, given_in};
-    ghost use Rattle.{world_law.specs.world.{Moves.StandsOne, World.Stands}, world_state.specs.Keeping.keeps};
-    ghost use Rattle.drift_world.specs.declared.next.Turn.TheVariants.{Gives};
-    ghost use Rattle.drift_world.specs.declared.state.State.{State as StateOf};
+    ghost use Rattle.drift_world.specs.{Turns.{GivesAt, IsKept, MayGive, given_in}, declared.state.State.{State as StateOf}};
     ghost use Rattle.world_state.specs.Giving.{ArrivedAt, changed_device};
 
     /// The first that is settled is given: nothing is to come before it.
@@ -304,29 +300,6 @@ impl<C: Clock, M: TellsKind + Drop> State<C, M> {
             }
             Err(error) => Err(error),
         }
-    }
-
-    /// The first that is settled is given, which is of an act and stands where it was done: then there is one frontier.
-    #[inline(always)]
-    pub fn give_own(&mut self, network: &Network, note: &mut PlainNote)
-        requires sound { IsSound C.last_step network.now self.old }
-        requires running { IsRunning C.reading M.stands network.now self.old }
-        requires timed { AreTimed C.reading M.stands network.now self.old }
-        requires range { IsInRange network.now }
-        requires own { HasOwn self.old }
-        requires some { 0 < length self.old.settled.items }
-        requires number { self.old.given + 1 < 2 ^ 64 }
-        requires room { length network.now.link < self.old.under_way.room }
-        ensures sound { IsSound C.last_step network.now self.new }
-        ensures timed { AreTimed C.reading M.stands network.now self.new }
-        ensures after { IsAfter self.old self.new }
-        ensures stands { (s : Scenario) (notes : List Note)
-            → Stands C.reading (keeps M.stands) s (world_of network.now self.old) notes
-            → StandsOne C.reading (keeps M.stands) s (world_of network.now self.new) (notes ++ note.new ∷ []) }
-        ensures says { GivesAt self.old self.new note.new Gives }
-    {
-        let own = self.settled.pop_front().unwrap();
-        self.give_first(network, own, note);
     }
 
     /// A frame that arrived may wait at its device: the timers of the device are set.

@@ -1,6 +1,6 @@
 //! The parts of what a device does by itself.
 
-ghost use Rattle.std.specs.Prelude.{◌≡◌, ◌≤◌, false, IsTrue};
+ghost use Rattle.std.specs.Prelude.{◌↔◌, ◌≡◌, ◌≤◌, IsTrue, false};
 ghost use Rattle.drift_world.specs.{Parts.{part_of, part_rank}, declared.part.ToDo.TheVariants.Now};
 ghost use Rattle.drift_world.specs.declared.part.Part.{Part as PartOf};
 ghost use Rattle.run_law.specs.plain.Places.{number_of};
@@ -59,17 +59,15 @@ impl Part {
 
     /// Does it stand at this rank, or behind it?
     pub fn is_from(self, rank: u8) -> bool
-        ensures { IsTrue result → rank ≤ part_rank self }
+        ensures { IsTrue result ↔ (rank ≤ part_rank self) }
     {
         rank <= self.rank().number()
     }
 }
 
-/// What a device has to do, or what is to be done for it.
+/// What a device has to do.
 #[derive(Clone, Copy)]
 pub enum ToDo {
-    /// It did something whose record stands where it was done, and is settled: this is to be given first.
-    Give,
     /// Something is due at the instant, and the first of it is of this part.
     Now(Part),
     /// Nothing is due. The reading at which it acts next, if it does.
@@ -83,6 +81,6 @@ pub fn is_due(left: ToDo, part: Part) -> bool
 {
     match left {
         ToDo::Now(other) => other == part,
-        ToDo::Next(_) | ToDo::Give => false,
+        ToDo::Next(_) => false,
     }
 }

@@ -1,17 +1,16 @@
 ghost use Rattle.std.specs.Prelude.{◌≡◌, IfOk, OnErr};
 
 use crate::next::Turn;
-use crate::part::Part;
 use crate::source::Source;
 use crate::state::State;
 use device_rules::TellsKind;
 use drift_clock::Clock;
-use net_plan::{DeviceId, Network};
+use net_plan::Network;
 use run_law::plain::PlainNote;
 use world_state::OutOfMemory;
 
 impl<C: Clock, M: TellsKind + Drop> State<C, M> {
-    ghost use Rattle.drift_world.specs.{Turns.{IsKept, IsNow, MayWork, WorkSays, given_in}, declared.source.Source.{Source as SourceOf}};
+    ghost use Rattle.drift_world.specs.Turns.{IsKept, IsNow, MayWork, WorkSays, given_in};
 
     /// The source of the present instant that comes first is worked off. A record that stands where it does is given.
     #[inline(always)]
@@ -40,30 +39,6 @@ impl<C: Clock, M: TellsKind + Drop> State<C, M> {
             Source::Ripening(one) => Ok(self.ripening_turn(network, one, note)),
             Source::Clock(device) => Ok(self.show(network, device, note)),
             Source::Later(_) => Ok(Turn::GoesOn),
-        }
-    }
-
-    /// The device does what is due of the part. A record that stands where it was done is given.
-    #[inline(always)]
-    fn acting_turn(
-        &mut self,
-        network: &Network,
-        part: Part,
-        device: DeviceId,
-        note: &mut PlainNote,
-    ) -> Result<Turn, OutOfMemory>
-        requires may { MayWork C.last_step C.reading M.stands network.now self.old (SourceOf.Act part device) }
-        ensures kept { IsKept C.last_step C.reading M.stands network.now self.old self.new (given_in result note.new) }
-        ensures says { IfOk result (WorkSays network.now self.old self.new note.new) }
-        ensures err { OnErr result (self.new.time ≡ self.old.time) }
-    {
-        match self.act(network, part, device) {
-            Ok(true) => {
-                self.give_own(network, note);
-                Ok(Turn::Gives)
-            }
-            Ok(false) => Ok(Turn::GoesOn),
-            Err(error) => Err(error),
         }
     }
 }

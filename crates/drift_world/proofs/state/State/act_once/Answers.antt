@@ -1,11 +1,13 @@
-use Rattle.drift_world.proofs.{ActRecords.AreProper, ActSteps.{above_then, acted_once, asked_to_act, later_then, left_in, never_broken, octets_then, own_then}}
-use Rattle.drift_world.proofs.{ActSteps.{proper_at, row_within}, Rising.{InOrder, settled_in_order}}
-use Rattle.{drift_world.proofs.{Fits.sized_so, Showings.shows_of}, world_law.{proofs.giving.GivenParts.some_same, specs.world.Calls.IsStateOf}}
-use Rattle.drift_world.proofs.Words.{◌<◌, ◌≡◌, ComesFirst, HasActed, IfSome, List, Note, Scenario, Some, Stands, arith, happenings, is_set, keeps, length, length-set}
-use Rattle.drift_world.proofs.{Words.{map, moment_of, refl, settled_at, slice_get_read, slice_set, subst, world_of}, state.State.act_once.Goals.{After-outcomes_of-outcomes, After-put_both}}
-use Rattle.drift_world.proofs.Words.{rank}
-use Rattle.std.proofs.Common.{false, slice_get}
-use Rattle.drift_world.specs.{Acting.StandsFrom, Parts.part_place}
+use Rattle.drift_world.proofs.{ActRecords.{AreProper, IsFine}, ActSteps.{above_then, acted_once, asked_to_act, later_then, left_in, never_broken}}
+use Rattle.drift_world.proofs.{ActSteps.{octets_then, own_first, proper_at, row_within}, AtSource.{at_rank, own_gives}, Fits.{all_put_some, have_octets, sized_so}}
+use Rattle.drift_world.proofs.{OwnPlaces.{given_so, no_change, no_shelf, no_waiter}, Showings.shows_of}
+use Rattle.world_law.{proofs.giving.GivenParts.some_same, specs.world.{Calls.IsStateOf, World.is_at_source}}
+use Rattle.drift_world.proofs.Words.{◌+◌, ◌<◌, ◌∙◌, ◌∷◌, ◌≡◌, ◌≤◌, ComesFirst, HasActed, HasItsOctets, IfSome, IsSomeAnd, IsSomePut, List, None, Option, Scenario, Settled}
+use Rattle.drift_world.proofs.Words.{Note, Some, Stands, ap, arith, happenings, inl, is_set, keeps, length, length-set, map, moment_of, rank, refl, settled_at}
+use Rattle.drift_world.proofs.Words.{slice_get_read, slice_set, subst, sym, true, world_of, ℕ}
+use Rattle.drift_world.proofs.state.State.act_once.Goals.{After-outcomes_of-outcomes}
+use Rattle.std.proofs.Common.{false, is_some, slice_get}
+use Rattle.drift_world.specs.{Acting.StandsFrom, Parts.part_place, declared.state.State.State}
 use Rattle.drift_world.proofs.state.State.act_once.Given as given
 use Rattle.drift_world.proofs.state.State.act_once.Goals as goal
 
@@ -71,99 +73,27 @@ own g c =
     c.act.new.self c.shown-was.result.state c.shown-is.result.adjustment c.outcomes_of-outcomes.result (acted_at g c at.s at.notes at.is)
     (c.outcomes_of-outcomes.ensures at.s (record { same = of.same; clocks = of.clocks; broken = of.broken; ways = of.ways }))
 
-pub returns-clause-sound : goal.returns-clause-sound
-returns-clause-sound g c =
-    let fit = c.requires.sound.fit in
-    let put = c.put_both.ensures in
-    record {
-      sized = sized_so g.C.Clock.last_step c.args.network.now c.args.self.now _ c.requires.sound.sized refl
-          (length-set c.args.self.now.machines.items c.args.device.0 c.act.new.self) refl refl refl refl refl;
-      under_way = c.requires.sound.under_way;
-      fit = record {
-        ups = fit.ups;
-        downs = fit.downs;
-        octets = octets_then g.C.Clock.reading g.M.Machine.stands c.args.network.now c.args.self.now c.args.part c.args.device c.index_mut.result.now c.requires.there
-            (held g (goal.at.returns-clause-sound g c).After-outcomes_of-outcomes) c.requires.due c.requires.above c.requires.comes.s _
-            c.shown-was.result.state c.shown-is.result.adjustment c.in-Some.act c.outcomes_of-outcomes.result put.0 c.put_both.new.settled.items
-            (own g (goal.at.returns-clause-sound g c).After-outcomes_of-outcomes)
-            put.1 put.2 fit.octets;
-        below = fit.below;
-        waits_below = fit.waits_below;
-        apart = fit.apart;
-      };
-    }
-
-pub returns-clause-machines : goal.returns-clause-machines
-returns-clause-machines g c =
-    let lt = c.requires.there in
-    let many = c.requires.sound.sized.machines in
-    (is_set c.args.self.now.machines.items c.args.device.0 c.act.new.self (omega (arith, lt, many))).same
-
--- all that is settled is in its order
-sorted : (g : given.Over) (c : After-outcomes_of-outcomes g)
-    → InOrder (map (settled_at c.args.network.now c.args.self.now.time) c.args.self.now.settled.items)
-sorted g c =
-    let at = c.requires.comes in
-    settled_in_order at.is
-
-pub returns-clause-own : goal.returns-clause-own
-returns-clause-own g c = λ yes.
-    let put = c.put_both.ensures in
-    let here = (goal.at.returns-clause-own g c).After-outcomes_of-outcomes in
-    let f = own_then g.C.Clock.reading g.M.Machine.stands c.args.network.now c.args.self.now c.args.part c.args.device c.index_mut.result.now c.requires.there
-    (held g here) c.requires.due c.requires.above c.requires.comes.s _ c.shown-was.result.state c.shown-is.result.adjustment c.in-Some.act
-    c.outcomes_of-outcomes.result put.0 c.put_both.new.settled.items (sorted g here) (own g here) (c.is_at_source-gives.ensures.yes yes) put.1 put.2 in
-    record { first = f.0; others = f.1; whole = f.2; least = f.3; most = f.4 }
-
-pub returns-clause-above : goal.returns-clause-above
-returns-clause-above g c = λ no.
-    let put = c.put_both.ensures in
-    let here = (goal.at.returns-clause-above g c).After-outcomes_of-outcomes in
-    above_then g.C.Clock.reading g.M.Machine.stands c.args.network.now c.args.self.now c.args.part c.args.device c.index_mut.result.now c.requires.there
-    (held g here) c.requires.due c.requires.above c.requires.comes.s _ c.shown-was.result.state c.shown-is.result.adjustment c.in-Some.act
-    c.outcomes_of-outcomes.result put.0 c.put_both.new.settled.items (own g here) (c.is_at_source-gives.ensures.no no) put.1 put.2
-
-pub returns-clause-later : goal.returns-clause-later
-returns-clause-later g c = λ left is_left.
-    let w = c.args.self.now in
-    let lt = c.requires.there in
-    let many = c.requires.sound.sized.machines in
-    let network = c.args.network.now in
-    let device = c.args.device in
-    let K = g.C.Clock in
-    let stands = g.M.Machine.stands in
-    let after = c.act.new.self in
-    let here = (goal.at.returns-clause-later g c).After-outcomes_of-outcomes in
-    let set = is_set w.machines.items device.0 after (omega (arith, lt, many)) in
-    later_then K.reading stands network w c.args.part device c.index_mut.result.now lt (held g here) c.requires.due c.requires.above c.requires.comes
-    c.in-Some.act after left (acted_at g here)
-    (λ s notes old.
-    let of = shows_of network w old in
-    left_in {reading = K.reading} stands {network = network} device left is_left {s = s} after
-    (record { same = of.same; clocks = of.clocks; broken = of.broken; ways = of.ways }) set.there)
-
--- the world stands again, and where none of its records stands where it is done, there is one frontier
-stood : (g : given.Over) (c : After-put_both g) (s : Scenario) (notes : List Note)
+-- the world stands again with its records, and where none of them stands where it is done, there is one frontier
+stood : (g : given.Over) (c : After-outcomes_of-outcomes g) (mid new : List Settled)
+    → IsSomePut c.outcomes_of-outcomes.result.first c.args.self.now.settled.items mid
+    → IsSomePut c.outcomes_of-outcomes.result.second mid new → (s : Scenario) (notes : List Note)
     → (old : Stands g.C.Clock.reading (keeps g.M.Machine.stands) s (world_of c.args.network.now c.args.self.now) notes)
     → ComesFirst g.C.Clock.reading (keeps g.M.Machine.stands) s (world_of c.args.network.now c.args.self.now) notes old
     (part_place c.args.part c.args.self.now.time c.args.device)
-    → slice_get c.args.self.now.machines.items c.args.device.0 ≡ Some c.index_mut.result.now
-    → HasActed (keeps g.M.Machine.stands) s.network c.args.device (moment_of s c.args.device c.args.self.now.time) c.in-Some.act c.index_mut.result.now
-    c.act.new.self
     → Stands g.C.Clock.reading (keeps g.M.Machine.stands) s
     (record (world_of c.args.network.now c.args.self.now) {
       early = false;
       machines = slice_set c.args.self.now.machines.items c.args.device.0 c.act.new.self;
-      settled = map (settled_at c.args.network.now c.args.self.now.time) c.put_both.new.settled.items;
+      settled = map (settled_at c.args.network.now c.args.self.now.time) new;
     }) notes
     × (old.mark ≡ old.cursor → IfSome c.outcomes_of-outcomes.result.first (λ z. 6 < rank z.body)
     → StandsFrom g.C.Clock.reading g.M.Machine.stands s
     (record (world_of c.args.network.now c.args.self.now) {
       early = false;
       machines = slice_set c.args.self.now.machines.items c.args.device.0 c.act.new.self;
-      settled = map (settled_at c.args.network.now c.args.self.now.time) c.put_both.new.settled.items;
+      settled = map (settled_at c.args.network.now c.args.self.now.time) new;
     }) notes (part_place c.args.part c.args.self.now.time c.args.device))
-stood g c s notes old first read acted =
+stood g c mid new one two s notes old first =
     let w = c.args.self.now in
     let lt = c.requires.there in
     let many = c.requires.sound.sized.machines in
@@ -176,49 +106,245 @@ stood g c s notes old first read acted =
     let was = slice_get_read w.machines.items (length w.machines.items) device.0 c.index.result.now refl (omega (arith, lt, many)) c.index.ensures in
     let set = is_set w.machines.items device.0 after (omega (arith, lt, many)) in
     let of = shows_of network w old in
-    let put = c.put_both.ensures in
-    let same : c.index.result.now ≡ machine = some_same _ _ _ was read in
+    let same : c.index.result.now ≡ machine = some_same _ _ _ was (held g c) in
     let longer = length-set w.machines.items device.0 after in
     let now_is : c.index-2.result.now ≡ after = some_same _ _ _
     (slice_get_read (slice_set w.machines.items device.0 after) (length (slice_set w.machines.items device.0 after)) device.0
     c.index-2.result.now refl (omega (arith, lt, many, longer)) c.index-2.ensures) set.there in
-    acted_once K.reading stands network w c.args.part device machine lt read c.requires.due c.requires.above after c.shown-was.result.state c.shown-is.result.state
-    c.shown-was.result.adjustment c.shown-is.result.adjustment c.in-Some.act
-    c.outcomes_of-outcomes.result put.0 c.put_both.new.settled.items _ set put.1 put.2 s notes old first
-    acted
+    acted_once K.reading stands network w c.args.part device machine lt (held g c) c.requires.due c.requires.above after
+    c.shown-was.result.state
+    c.shown-is.result.state c.shown-was.result.adjustment c.shown-is.result.adjustment c.in-Some.act
+    c.outcomes_of-outcomes.result mid new _ set one two s notes old first
+    (acted_at g c s notes old)
     (subst (λ m. IsStateOf (keeps stands) s.network device m c.shown-was.result.state c.shown-was.result.adjustment) same
     (c.shown-was.ensures s.network device))
     (subst (λ m. IsStateOf (keeps stands) s.network device m c.shown-is.result.state c.shown-is.result.adjustment) now_is
     (c.shown-is.ensures s.network device))
     (c.outcomes_of-outcomes.ensures s (record { same = of.same; clocks = of.clocks; broken = of.broken; ways = of.ways }))
 
-pub returns-clause-gives : goal.returns-clause-gives
-returns-clause-gives g c = λ s notes old first.
-    let here = (goal.at.returns-clause-gives g c).After-outcomes_of-outcomes in
-    (stood g (goal.at.returns-clause-gives g c).After-put_both s notes old first (held g here)
-    (acted_at g here s notes old)).0
+-- no other device's machine has changed
+others : (g : given.Over) (c : After-outcomes_of-outcomes g) (i : ℕ) → (i ≡ c.args.device.0 → ⊥)
+    → slice_get (slice_set c.args.self.now.machines.items c.args.device.0 c.act.new.self) i
+    ≡ slice_get c.args.self.now.machines.items i
+others g c =
+    let lt = c.requires.there in
+    let many = c.requires.sound.sized.machines in
+    (is_set c.args.self.now.machines.items c.args.device.0 c.act.new.self (omega (arith, lt, many))).same
 
-pub returns-clause-stands : goal.returns-clause-stands
-returns-clause-stands g c = λ no s notes old one first.
-    let here = (goal.at.returns-clause-stands g c).After-outcomes_of-outcomes in
-    (stood g (goal.at.returns-clause-stands g c).After-put_both s notes old first (held g here)
-    (acted_at g here s notes old)).1 one
-    (c.is_at_source-gives.ensures.no no)
+-- ---- none of its records stands where it is done
 
-pub returns-clause-acted : goal.returns-clause-acted
-returns-clause-acted g c = λ s notes machine old there.
+pub returns-then-not-is_at_source-clause-sound : goal.returns-then-not-is_at_source-clause-sound
+returns-then-not-is_at_source-clause-sound g c =
+    let fit = c.requires.sound.fit in
+    let put = c.put_both.ensures in
+    let here = (goal.at.returns-then-not-is_at_source-clause-sound g c).After-outcomes_of-outcomes in
+    record {
+      sized = sized_so g.C.Clock.last_step c.args.network.now c.args.self.now _ c.requires.sound.sized refl
+          (length-set c.args.self.now.machines.items c.args.device.0 c.act.new.self) refl refl refl refl refl;
+      under_way = c.requires.sound.under_way;
+      fit = record {
+        ups = fit.ups;
+        downs = fit.downs;
+        octets = octets_then g.C.Clock.reading g.M.Machine.stands c.args.network.now c.args.self.now c.args.part c.args.device c.index_mut.result.now c.requires.there
+            (held g here) c.requires.due c.requires.above c.requires.comes.s _
+            c.shown-was.result.state c.shown-is.result.adjustment c.in-Some.act c.outcomes_of-outcomes.result put.0 c.put_both.new.settled.items
+            (own g here) put.1 put.2 fit.octets;
+        below = fit.below;
+        waits_below = fit.waits_below;
+        apart = fit.apart;
+      };
+    }
+
+pub returns-then-not-is_at_source-clause-machines : goal.returns-then-not-is_at_source-clause-machines
+returns-then-not-is_at_source-clause-machines g c =
+    others g (goal.at.returns-then-not-is_at_source-clause-machines g c).After-outcomes_of-outcomes
+
+pub returns-then-not-is_at_source-clause-goes_on : goal.returns-then-not-is_at_source-clause-goes_on
+returns-then-not-is_at_source-clause-goes_on g c = λ no.
     let w = c.args.self.now in
     let lt = c.requires.there in
     let many = c.requires.sound.sized.machines in
     let network = c.args.network.now in
     let device = c.args.device in
+    let K = g.C.Clock in
     let stands = g.M.Machine.stands in
+    let machine = c.index_mut.result.now in
     let after = c.act.new.self in
-    let read = held g (goal.at.returns-clause-acted g c).After-outcomes_of-outcomes in
-    let same = some_same _ _ _ read there in (
-      c.in-Some.act,
-      after,
-      (is_set w.machines.items device.0 after (omega (arith, lt, many))).there,
-      subst (λ m. HasActed (keeps stands) s.network device (moment_of s device w.time) c.in-Some.act m after) same
-          (acted_at g (goal.at.returns-clause-acted g c).After-outcomes_of-outcomes s notes old),
-    )
+    let here = (goal.at.returns-then-not-is_at_source-clause-goes_on g c).After-outcomes_of-outcomes in
+    let put = c.put_both.ensures in
+    let late = c.is_at_source.ensures.no c.if-not-is_at_source.true in
+    let set = is_set w.machines.items device.0 after (omega (arith, lt, many)) in
+    record {
+      same = refl;
+      above = above_then K.reading stands network w c.args.part device machine lt (held g here) c.requires.due
+          c.requires.above c.requires.comes.s _
+          c.shown-was.result.state c.shown-is.result.adjustment c.in-Some.act c.outcomes_of-outcomes.result put.0
+          c.put_both.new.settled.items
+          (own g here) late put.1 put.2;
+      then_stands = λ s notes was one first.
+          (stood g here put.0 c.put_both.new.settled.items put.1 put.2 s notes was first).1 one late;
+      later = λ left is_left.
+          later_then K.reading stands network w c.args.part device machine lt (held g here) c.requires.due
+          c.requires.above c.requires.comes
+          c.in-Some.act after left (acted_at g here)
+          (λ s notes old.
+          let of = shows_of network w old in
+          left_in {reading = K.reading} stands {network = network} device left is_left {s = s} after
+          (record { same = of.same; clocks = of.clocks; broken = of.broken; ways = of.ways }) set.there);
+      acted = λ s notes kept old there. (
+        c.in-Some.act,
+        after,
+        set.there,
+        subst (λ m. HasActed (keeps stands) s.network device (moment_of s device w.time) c.in-Some.act m after)
+            (some_same _ _ _ (held g here) there) (acted_at g here s notes old),
+      );
+    }
+
+-- ---- its first record stands there, and is given
+
+some_of : (o : Option Settled) → IsSomeAnd o (λ z. rank z.body ≤ 6) → is_some o ≡ true
+some_of None none = absurd none
+some_of (Some z) low = refl
+
+-- it is of the rank of an act
+low_of : {o : Option Settled} {z : Settled} → o ≡ Some z → IsSomeAnd o (λ x. rank x.body ≤ 6) → rank z.body ≤ 6
+low_of is low = subst (λ o. IsSomeAnd o (λ x. rank x.body ≤ 6)) is low
+
+-- it has its octets, and stands where its source does
+fine_of : (g : given.Over) (c : After-outcomes_of-outcomes g) (one : Settled)
+    → c.outcomes_of-outcomes.result.first ≡ Some one
+    → HasItsOctets one.body one.octets × (4 ≤ rank one.body)
+fine_of g c one is = subst (IsFine 4) is (own g c).first_fine
+
+source_of : (one : Settled) → 4 ≤ rank one.body → rank one.body ≤ 6 → is_at_source one.body ≡ true
+source_of one least most =
+    at_rank one.body
+    (record {
+      least = omega (arith, least);
+      no_change = λ e. omega (arith, e, most);
+      either =
+          inl (omega (arith, most));
+    })
+
+-- the world stands with it before all that is settled
+stood_first : (g : given.Over) (c : After-outcomes_of-outcomes g) (one : Settled) (rest : List Settled)
+    → c.outcomes_of-outcomes.result.first ≡ Some one → rank one.body ≤ 6
+    → IsSomePut c.outcomes_of-outcomes.result.second c.args.self.now.settled.items rest
+    → (s : Scenario) (notes : List Note)
+    → (old : Stands g.C.Clock.reading (keeps g.M.Machine.stands) s (world_of c.args.network.now c.args.self.now) notes)
+    → ComesFirst g.C.Clock.reading (keeps g.M.Machine.stands) s (world_of c.args.network.now c.args.self.now) notes old
+    (part_place c.args.part c.args.self.now.time c.args.device)
+    → Stands g.C.Clock.reading (keeps g.M.Machine.stands) s
+    (record (world_of c.args.network.now c.args.self.now) {
+      early = false;
+      machines = slice_set c.args.self.now.machines.items c.args.device.0 c.act.new.self;
+      settled = map (settled_at c.args.network.now c.args.self.now.time) (one ∷ rest);
+    }) notes
+stood_first g c one rest is low put s notes old first =
+    let w = c.args.self.now in
+    let of = shows_of c.args.network.now w old in
+    let acted = acted_at g c s notes old in
+    let proper = proper_at g.C.Clock.reading g.M.Machine.stands c.args.network.now w c.args.part c.args.device
+    c.index_mut.result.now c.requires.there
+    (held g c) c.requires.due c.requires.above s notes old first c.in-Some.act
+    c.act.new.self c.shown-was.result.state c.shown-is.result.adjustment c.outcomes_of-outcomes.result acted
+    (c.outcomes_of-outcomes.ensures s
+    (record { same = of.same; clocks = of.clocks; broken = of.broken; ways = of.ways })) in
+    let both = own_first g.C.Clock.reading g.M.Machine.stands c.args.network.now w c.args.part c.args.device
+    c.index_mut.result.now c.requires.there
+    (held g c) c.requires.due c.requires.above s notes old c.in-Some.act c.act.new.self c.shown-was.result.state
+    c.shown-is.result.adjustment
+    c.outcomes_of-outcomes.result one rest acted proper is low put in
+    (stood g c (one ∷ w.settled.items) (one ∷ rest) both.0 both.1 s notes old first).0
+
+pub unwrap-own-requires : goal.unwrap-own-requires
+unwrap-own-requires g c = some_of c.outcomes_of-outcomes.result.first
+    (c.is_at_source.ensures.yes c.if-not-is_at_source.false)
+
+pub give_first-requires-clause-sound : goal.give_first-requires-clause-sound
+give_first-requires-clause-sound g c =
+    let fit = c.requires.sound.fit in
+    let proper = own g (goal.at.give_first-requires-clause-sound g c).After-outcomes_of-outcomes in
+    record {
+      sized = sized_so g.C.Clock.last_step c.args.network.now c.args.self.now _ c.requires.sound.sized refl
+          (length-set c.args.self.now.machines.items c.args.device.0 c.act.new.self) refl refl refl refl refl;
+      under_way = c.requires.sound.under_way;
+      fit = record {
+        ups = fit.ups;
+        downs = fit.downs;
+        octets = all_put_some have_octets c.outcomes_of-outcomes.result.second c.args.self.now.settled.items
+            c.put_some.new.settled.items
+            c.put_some.ensures.is (λ z e. (subst (IsFine 7) e proper.second_fine).0) fit.octets;
+        below = fit.below;
+        waits_below = fit.waits_below;
+        apart = fit.apart;
+      };
+    }
+
+pub give_first-requires-clause-running : goal.give_first-requires-clause-running
+give_first-requires-clause-running g c =
+    let at = c.requires.comes in
+    record {
+      s = at.s;
+      notes = at.notes;
+      is = stood_first g (goal.at.give_first-requires-clause-running g c).After-outcomes_of-outcomes c.unwrap-own.result
+          c.put_some.new.settled.items
+          c.unwrap-own.ensures (low_of c.unwrap-own.ensures (c.is_at_source.ensures.yes c.if-not-is_at_source.false))
+          c.put_some.ensures.is
+          at.s at.notes at.is at.first;
+    }
+
+pub give_first-requires-clause-octets : goal.give_first-requires-clause-octets
+give_first-requires-clause-octets g c =
+    (fine_of g (goal.at.give_first-requires-clause-octets g c).After-outcomes_of-outcomes c.unwrap-own.result
+    c.unwrap-own.ensures).0
+
+pub give_first-requires-clause-capacity : goal.give_first-requires-clause-capacity
+give_first-requires-clause-capacity g c =
+    let least =
+    (fine_of g (goal.at.give_first-requires-clause-capacity g c).After-outcomes_of-outcomes c.unwrap-own.result
+    c.unwrap-own.ensures).1 in
+    no_waiter c.unwrap-own.result.body c.args.self.now.waiting (λ two. omega (arith, two, least))
+
+pub give_first-requires-clause-place : goal.give_first-requires-clause-place
+give_first-requires-clause-place g c =
+    let most = low_of c.unwrap-own.ensures (c.is_at_source.ensures.yes c.if-not-is_at_source.false) in
+    no_shelf c.unwrap-own.result.body c.args.self.now.stored (λ taken. omega (arith, taken, most))
+
+pub returns-clause-machines : goal.returns-clause-machines
+returns-clause-machines g c = λ i apart.
+    ap (λ (t : State _ _). slice_get t.machines.items i) c.give_first.ensures.same
+    ∙ others g (goal.at.returns-clause-machines g c).After-outcomes_of-outcomes i apart
+
+pub returns-clause-gives : goal.returns-clause-gives
+returns-clause-gives g c = λ yes.
+    let w = c.args.self.now in
+    let here = (goal.at.returns-clause-gives g c).After-outcomes_of-outcomes in
+    let one = c.unwrap-own.result in
+    let rest = c.put_some.new.settled.items in
+    let give = c.give_first.ensures in
+    let new = c.give_first.new.self in
+    let least = (fine_of g here one c.unwrap-own.ensures).1 in
+    let most = low_of c.unwrap-own.ensures (c.is_at_source.ensures.yes c.if-not-is_at_source.false) in
+    let far = no_change one.body (λ two. omega (arith, two, least)) in
+    let z = settled_at c.args.network.now w.time one in
+    let rebuilt : State _ _ → State _ _ = λ q. record w {
+      machines = q.machines;
+      early = false;
+      settled = q.settled;
+      spare = q.spare;
+      under_way = new.under_way;
+      waiting = new.waiting;
+      stored = new.stored;
+      given = w.given + 1;
+    } in
+    record {
+      same = give.same ∙ sym (ap rebuilt give.same);
+      waiting = λ x lt. give.others.waiting x (λ e. omega (arith, e, far, lt));
+      time = ap (λ (n : Note). n.time) give.note;
+      then_stands = λ s notes was at_one first.
+          let is = stood_first g here one rest c.unwrap-own.ensures most c.put_some.ensures.is s notes was first in
+          given_so notes z c.give_first.new.note is.given give.note
+          (give.stands s notes is (own_gives z (map (settled_at c.args.network.now w.time) rest) refl
+          (source_of one least most) is));
+    }

@@ -2,7 +2,7 @@ use Rattle.drift_world.proofs.{Dues.due_stays, state.State.hear_turn.Goals.{Afte
 use Rattle.world_state.specs.Frames.{Waiting, room_of}
 use Rattle.drift_world.proofs.{Fits.{all_put, have_octets, sound_same}, Timings.rekeyed, Words.{length, place_of, rank, refl, settled_at, subst, sym}}
 use Rattle.drift_world.proofs.Words.{world_of}
-use Rattle.drift_world.{proofs.{Halves.set_act, OwnPlaces.{changes_both, no_shelf, none_ahead, runs_first, stands_first, waits_at}}, specs.declared.state.State.State}
+use Rattle.drift_world.{proofs.{Halves.{set_act, waits_as}, OwnPlaces.{changes_both, no_shelf, none_ahead, runs_first, stands_first, waits_at}}, specs.declared.state.State.State}
 use Rattle.drift_world.{proofs.Turning.{comes_first, is_at, kept_timers, rekeyed_step, runs_on, step_kept}, specs.declared.source.Source.TheVariants.Arrival}
 use Rattle.drift_world.proofs.Words.{◌++◌, ◌<◌, ◌∙◌, ◌∷◌, ◌≡◌, ChangesOnly, DeviceId, IsPutAt, IsSound, List, Note, Scenario, ap, arith, keeps}
 use Rattle.drift_world.proofs.Words.{StandsOne, [], inl}
@@ -190,5 +190,5 @@ returns-clause-kept g c =
     (record { clocks = o.clocks; time = o.time; ended = o.ended; machines = o.machines; waiting = o.waiting }) timers
     (ap (λ (t : State _ _). t.given) hear.same) (still g (goal.at.returns-clause-kept g c).After-put_in)
     (set_act g.C.Clock.reading g.M.Machine.stands c.args.network.now c.args.self.now after new device there (may.well.timed.each device there) o.clocks o.time
-    (ap (λ (t : State _ _). t.waiting) hear.same) timers
+    (λ w at. waits_as c.args.self.now after (ap (λ (t : State _ _). t.waiting) hear.same) w) timers
     keyed.timed keyed.sets))

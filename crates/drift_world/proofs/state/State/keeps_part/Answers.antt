@@ -17,7 +17,7 @@ returns g c = λ yes timer part at rank_is clock machine network d node own ther
     let here = c.get-timer.ensures in
     let same : c.get-timer.result ≡ timer = same_Some _ _ (sym here
     ∙ ap (λ n. slice_get c.args.self.now.timers (n + c.args.device)) (ap length c.as_slice-devices.ensures) ∙ at) in
-    let le : c.get-timer.result.rank ≤ part_rank c.part_at-part.result = c.is_from.ensures yes in
+    let le : c.get-timer.result.rank ≤ part_rank c.part_at-part.result = c.is_from.ensures.0 yes in
     let rank : c.get-timer.result.rank ≡ part_rank part = ap (λ (t : Timer). t.rank) same ∙ rank_is in
     let is = subst (λ (t : Timer). IsPartAt g.C.Clock.reading g.M.Machine.stands c.args.self.now (record { 0 = c.args.device }) t.time c.part_at-part.result) same
     c.part_at-part.ensures clock machine network d node own there kept task pending due in

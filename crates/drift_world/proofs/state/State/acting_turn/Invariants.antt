@@ -1,5 +1,5 @@
 use Rattle.drift_world.proofs.{ActTurns.IsTurn, Words.◌-◌}
-use Rattle.drift_world.proofs.state.State.act_part.Given as goal
+use Rattle.drift_world.proofs.state.State.acting_turn.Given as goal
 
 abbrev pub invariant-acts : goal.invariant-acts
 invariant-acts g l = IsTurn g.C.Clock.last_step g.C.Clock.reading g.M.Machine.stands l.fn.network l.fn.part l.fn.device l.fn.self l.self l.left l.acts
