@@ -1,13 +1,13 @@
 -- A device acts: the frontier goes behind the place of what it does.
 use Rattle.run_law.specs.control.Hearing.{heard_by_schedule, heard_enough, is_in_schedule, last_cycle}
-use Rattle.{run_law.specs.records.{Order.behind, Ranks.rank}, sync_state.specs.membership.Members.count_of}
-use Rattle.world_law.proofs.steps_lemmas.Words.{◌&&◌, ◌<◌, Act, ArePutIn, ComesFirst, Compressed, DeviceId, Happening, HasActed, Integrating, IsIn, IsSet}
+use Rattle.{run_law.specs.records.Order.behind, sync_state.specs.membership.Members.count_of}
+use Rattle.world_law.proofs.steps_lemmas.Words.{◌&&◌, Act, ArePutIn, Compressed, DeviceId, Happening, Integrating, IsSet}
 use Rattle.world_law.proofs.steps_lemmas.Words.{Joining, List, Members, Network, Node, Note, NoteBody, Off, Ripe, Scenario, Stands, StandsBehind, State, SyncPlan}
-use Rattle.world_law.proofs.steps_lemmas.Words.{Synchronised, World, false, happenings, heard_as, moment_of, nat_le, observation_window, plan_of, ripe_as}
+use Rattle.world_law.proofs.steps_lemmas.Words.{Synchronised, World, false, happenings, heard_as, nat_le, observation_window, plan_of, ripe_as}
 use Rattle.world_law.proofs.steps_lemmas.Words.{subst, sym, task_place, true, ℕ}
 use Rattle.world_law.proofs.steps_lemmas.acting.{CorrectStep.correct_goes_by, Dispatching.dispatches_one, EmitSteps.emits_one, JoinSteps.join_goes_by}
-use Rattle.world_law.proofs.steps_lemmas.acting.{Kept.may_act_now, OneAct.act_goes_by, SendSteps.sends_one, Stage.stage_of}
-use Rattle.world_law.specs.steps.Acting.{ActedStep, Acts, AreActBodies, place_of_act, rank_of_act, task_of}
+use Rattle.world_law.proofs.steps_lemmas.acting.{OneAct.act_goes_by, SendSteps.sends_one, Stage.{IsActOn, acts_on_it}}
+use Rattle.world_law.specs.steps.Acting.{ActedStep, Acts, AreActBodies, task_of}
 use Rattle.run_law.specs.declared.steps.Act.TheVariants as acts
 use Rattle.run_law.specs.declared.steps.Ripe.TheVariants as ripe
 
@@ -36,18 +36,13 @@ heard_so plan precision Synchronised adjustment point cycle members =
 
 -- how it heard its frame
 pub heard_by_it : {C M : Type 0} {reading : C → ℕ → ℕ} {stands : M → Network → DeviceId → Node → Type 0}
-    {s : Scenario} {world : World C M} {notes : List Note} {device : DeviceId} {after : M} {bodies : List NoteBody}
-    {old : Stands reading stands s world notes} (a : Acts reading stands s world notes old device after bodies)
-    (sent : _) (heard : Ripe) → ComesFirst reading stands s world notes old
-    (place_of_act world.now device (acts.Emit sent heard))
-    → ((z : Happening) → IsIn z world.settled → 4 < rank z.note.body)
-    → HasActed stands s.network device (moment_of s device world.now) (acts.Emit sent heard) a.machine after
-    → IsHeardSo heard
-heard_by_it {reading} {stands} {s} {world} {notes} {device} {after} {old} a sent heard first apart acted =
-    let stage = stage_of reading stands s world notes old device a.machine after (acts.Emit sent heard) a.of_it first apart a.there a.due acted in
-    let node = stage.0 in
-    let st = stage.2 in
-    let x = acted node st.is (may_act_now s device node world.now st.work.ready st.steady st.limit) st.task in
+    {s : Scenario} {world : World C M} {notes : List Note} {device : DeviceId} {machine after : M}
+    {old : Stands reading stands s world notes} {sent : Compressed} (heard : Ripe)
+    → IsActOn reading stands s world notes old device machine after (acts.Emit sent heard) → IsHeardSo heard
+heard_by_it {s} {device} {sent} heard on =
+    let node = on.node in
+    let st = on.st in
+    let x = on.did in
     subst IsHeardSo (sym x.1.1)
     (heard_so (plan_of s.network device) (observation_window s.network) node.standing.state node.standing.adjustment.0 sent.at.0 sent.cycle sent.members)
 
@@ -57,9 +52,7 @@ abbrev ActsBy : {C M : Type 0} → (C → ℕ → ℕ) → (M → Network → De
 ActsBy {C} {M} reading stands act =
     (s : Scenario) (world : World C M) (notes : List Note) (device : DeviceId) (after : M) (bodies : List NoteBody) (machines : List M)
     (settled : List Happening) (old : Stands reading stands s world notes) → (a : Acts reading stands s world notes old device after bodies)
-    → ComesFirst reading stands s world notes old (place_of_act world.now device act)
-    → ((z : Happening) → IsIn z world.settled → rank_of_act act < rank z.note.body)
-    → HasActed stands s.network device (moment_of s device world.now) act a.machine after
+    → IsActOn reading stands s world notes old device a.machine after act
     → AreActBodies s (happenings s.network notes) world.now device a.was a.adjustment act bodies
     → IsSet device.0 after world.machines machines → ArePutIn s.network (happenings s.network notes) world.now bodies world.settled settled
     → StandsBehind reading stands s (record world { early = false; machines = machines; settled = settled }) notes
@@ -67,71 +60,50 @@ ActsBy {C} {M} reading stands act =
 
 module _ {C M : Type 0} (reading : C → ℕ → ℕ) (stands : M → Network → DeviceId → Node → Type 0) where
   emission_by : (sent : Compressed) (heard : Ripe) → ActsBy reading stands (acts.Emit sent heard)
-  emission_by sent ripe.Within s world notes device after bodies machines settled old a first apart acted are set put =
+  emission_by sent ripe.Within s world notes device after bodies machines settled old a on are set put =
       act_goes_by
-      (emits_one settled sent ripe.Within tt a first apart acted set
-      (subst (λ l. ArePutIn s.network (happenings s.network notes) world.now l world.settled
-      settled) are put))
-  emission_by sent ripe.Outside s world notes device after bodies machines settled old a first apart acted are set put =
+      (emits_one settled sent ripe.Within tt on set
+      (subst (λ l. ArePutIn s.network (happenings s.network notes) world.now l world.settled settled) are put))
+  emission_by sent ripe.Outside s world notes device after bodies machines settled old a on are set put =
       act_goes_by
-      (emits_one settled sent ripe.Outside tt a first apart acted set
-      (subst (λ l. ArePutIn s.network (happenings s.network notes) world.now l world.settled
-      settled) are put))
-  emission_by sent ripe.Ignored s world notes device after bodies machines settled old a first apart acted are set put =
+      (emits_one settled sent ripe.Outside tt on set
+      (subst (λ l. ArePutIn s.network (happenings s.network notes) world.now l world.settled settled) are put))
+  emission_by sent ripe.Ignored s world notes device after bodies machines settled old a on are set put =
       act_goes_by
-      (emits_one settled sent ripe.Ignored tt a first apart acted set
-      (subst (λ l. ArePutIn s.network (happenings s.network notes) world.now l world.settled
-      settled) are put))
-  emission_by sent ripe.Integrates s world notes device after bodies machines settled old a first apart acted are set
-      put =
+      (emits_one settled sent ripe.Ignored tt on set
+      (subst (λ l. ArePutIn s.network (happenings s.network notes) world.now l world.settled settled) are put))
+  emission_by sent ripe.Integrates s world notes device after bodies machines settled old a on are set put =
       join_goes_by {reading = reading} {stands = stands} {s = s} {world = world} {notes = notes} {old = old} {device = device} {machine = a.machine} {after = after} {sent = sent} {machines = machines} {settled = settled} (record {
-        of_it = a.of_it;
-        first = first;
-        apart = apart;
-        there = a.there;
-        due = a.due;
-        acted = acted;
+        on = on;
         set = set;
-        put = subst (λ l. ArePutIn s.network (happenings s.network notes) world.now l world.settled
-            settled) are put;
+        put = subst (λ l. ArePutIn s.network (happenings s.network notes) world.now l world.settled settled) are put;
       })
-  emission_by sent heard s world notes device after bodies machines settled old a first apart acted are set put =
-      absurd (heard_by_it a sent heard first apart acted)
+  emission_by sent heard s world notes device after bodies machines settled old a on are set put =
+      absurd (heard_by_it heard on)
 
   acts_by : (act : Act) → ActsBy reading stands act
-  acts_by (acts.Send frame) s world notes device after bodies machines settled old a first apart acted are set put =
+  acts_by (acts.Send frame) s world notes device after bodies machines settled old a on are set put =
       act_goes_by
-      (sends_one settled frame a first apart acted set
-      (subst (λ l. ArePutIn s.network (happenings s.network notes) world.now l world.settled
-      settled) are put))
-  acts_by (acts.Emit sent heard) s world notes device after bodies machines settled old a first apart acted are set
-      put =
-      emission_by sent heard s world notes device after bodies machines settled old a first apart acted are set put
-  acts_by (acts.Correct cycle verdict) s world notes device after bodies machines settled old a first apart acted are
-      set put =
+      (sends_one settled frame on set
+      (subst (λ l. ArePutIn s.network (happenings s.network notes) world.now l world.settled settled) are put))
+  acts_by (acts.Emit sent heard) s world notes device after bodies machines settled old a on are set put =
+      emission_by sent heard s world notes device after bodies machines settled old a on are set put
+  acts_by (acts.Correct cycle verdict) s world notes device after bodies machines settled old a on are set put =
       correct_goes_by old device a.machine {after = after} {cycle = cycle} verdict
       a.was {adjustment = a.adjustment} {machines = machines} {settled = settled} (record {
-        of_it = a.of_it;
-        first = first;
-        apart = apart;
-        there = a.there;
-        due = a.due;
-        acted = acted;
+        on = on;
         before = a.before;
         stood = a.stood;
         state = a.is;
         stands_then = a.stands_then;
         set = set;
-        put = subst (λ l. ArePutIn s.network (happenings s.network notes) world.now l world.settled
-            settled) are put;
+        put = subst (λ l. ArePutIn s.network (happenings s.network notes) world.now l world.settled settled) are put;
       })
-  acts_by (acts.Dispatch row cycle) s world notes device after bodies machines settled old a first apart acted are
-      set put =
+  acts_by (acts.Dispatch row cycle) s world notes device after bodies machines settled old a on are set put =
       act_goes_by
-      (dispatches_one settled row a first apart acted are.2 are.3 set
-      (subst (λ l. ArePutIn s.network (happenings s.network notes) world.now l world.settled
-      settled) are.4 put))
+      (dispatches_one settled row on are.2 are.3 set
+      (subst (λ l. ArePutIn s.network (happenings s.network notes) world.now l world.settled settled) are.4 put))
 
   pub acted_step : ActedStep reading stands
   acted_step s world notes device after bodies machines settled old a set put =
-      acts_by a.act s world notes device after bodies machines settled old a a.first a.apart a.acted a.are set put
+      acts_by a.act s world notes device after bodies machines settled old a (acts_on_it a) a.are set put

@@ -1,8 +1,7 @@
 -- The step by which a device comes to its correction point, whatever it comes to: the instant is over for it.
-use Rattle.run_law.specs.declared.steps.Act.TheVariants as acts
 use Rattle.world_law.proofs.steps_lemmas.Words.{◌∙◌, ◌≡◌, AsyncClique, Cleared, Corrected, DeviceId, Happening, Integrating, Joining, List, Network, Node, Note, Off}
 use Rattle.world_law.proofs.steps_lemmas.Words.{Scenario, Stands, StandsBehind, State, SyncClique, Synchronised, Units, Verdict, World, ap, behind, rows_place}
-use Rattle.world_law.proofs.steps_lemmas.{Words.{false, is_timed, point_number, true, ℕ}, acting.{FirstStep.first_goes_by, Kept.may_act_now, Stage.stage_of}}
+use Rattle.world_law.proofs.steps_lemmas.{Words.{false, is_timed, point_number, true, ℕ}, acting.FirstStep.first_goes_by}
 use Rattle.world_law.proofs.steps_lemmas.acting.CorrectSteps.{IsCorrecting, alone_goes_by, cleared_goes_by, corrected_goes_by, outnumbered_goes_by}
 
 module _ {C M : Type 0} {reading : C → ℕ → ℕ} {stands : M → Network → DeviceId → Node → Type 0} {s : Scenario}
@@ -14,11 +13,10 @@ module _ {C M : Type 0} {reading : C → ℕ → ℕ} {stands : M → Network �
       → IsCorrecting reading stands s world notes old device machine after cycle verdict was adjustment machines
       settled → is_timed was ≡ true
   was_timed {after} {cycle} {verdict} x =
-      let stage = stage_of reading stands s world notes old device machine after (acts.Correct cycle verdict) x.of_it
-      x.first x.apart x.there x.due x.acted in
-      let node = stage.0 in
-      let st = stage.2 in
-      let act = x.acted node st.is (may_act_now s device node world.now st.work.ready st.steady st.limit) st.task in
+      let on = x.on in
+      let node = on.node in
+      let st = on.st in
+      let act = on.did in
       ap is_timed (x.stood node st.is).0 ∙ (point_number node.standing.state node.standing.number cycle
       act.1.0.pending.1.own).0
 

@@ -1,19 +1,19 @@
 -- The steps by which a device comes to its correction point.
 use Rattle.{run_law.specs.machines.Answers.after_correction, world_law.proofs.steps_lemmas.acting.Sending.{as_put, taken_then, turned_then}}
-use Rattle.world_law.{proofs.putting.Moving.{settled_moves, stays}, specs.{steps.Acting.{correction_bodies, place_of_act}, world.Calls.IsStateOf}}
+use Rattle.world_law.{proofs.putting.Moving.{settled_moves, stays}, specs.{steps.Acting.correction_bodies, world.Calls.IsStateOf}}
 use Rattle.world_law.proofs.{putting.PutOne.corrected_unfollowed, steps_lemmas.Words.{with_clique, ℕ}}
-use Rattle.world_law.proofs.steps_lemmas.Words.{StandsHere, turned_by, ◌++◌, ◌+ℤ◌, ◌+◌, ◌<◌, ◌∙◌, ◌∷◌, ◌≡◌, ◌≤◌, ArePutIn, AsyncClique, Cleared, ComesFirst, Corrected, DeviceId}
-use Rattle.world_law.proofs.steps_lemmas.Words.{Happening, HasActed, HasCleared, Integrating, IsBefore, IsDueNow, IsIn, IsNoTaking, IsReadyAt, IsSet}
-use Rattle.world_law.proofs.steps_lemmas.Words.{IsShownPut, IsUnfollowed, Joining, List, Network, Node, Note, NoteBody, Scenario, Some, Stands, StandsBehind}
+use Rattle.world_law.proofs.steps_lemmas.Words.{StandsHere, turned_by, ◌++◌, ◌+ℤ◌, ◌+◌, ◌<◌, ◌∙◌, ◌∷◌, ◌≡◌, ◌≤◌, ArePutIn, AsyncClique, Cleared, Corrected, DeviceId}
+use Rattle.world_law.proofs.steps_lemmas.Words.{Happening, HasCleared, Integrating, IsBefore, IsIn, IsNoTaking, IsReadyAt, IsSet}
+use Rattle.world_law.proofs.steps_lemmas.Words.{IsShownPut, IsUnfollowed, Joining, List, Network, Node, Note, NoteBody, Scenario, Stands, StandsBehind}
 use Rattle.world_law.proofs.steps_lemmas.Words.{State, Summary, SyncClique, Synchronised, Units, Verdict, Why, World, [], acting, adjustment_by}
 use Rattle.world_law.proofs.steps_lemmas.Words.{ap, arith, behind, called, correcting, doing, earlier_still, ends_stretch}
 use Rattle.world_law.proofs.steps_lemmas.Words.{false, happenings, if◌then◌else◌, in_right, inl, inr, is_turned_on_at, length}
 use Rattle.world_law.proofs.steps_lemmas.Words.{moment_of, none_in, numbers_end, one_shown, place_of, point_number, rank, acts_on, devices_then}
-use Rattle.world_law.proofs.steps_lemmas.Words.{record_of, refl, slice_get, state_after, state_by, subst, sym, true}
+use Rattle.world_law.proofs.steps_lemmas.Words.{record_of, refl, state_after, state_by, subst, sym, true}
 use Rattle.world_law.proofs.steps_lemmas.acting.Correcting.{clique_change, clique_over, corrected_over, still_now}
 use Rattle.world_law.proofs.steps_lemmas.acting.Points.{HasOutcome, IsAtPoint, all_point, grown_none, grown_one}
-use Rattle.world_law.proofs.steps_lemmas.acting.{Clearing.{cleared_more, cleared_over}, Kept.{IsBare, bare_act, kept_over, may_act_now, out_by_acts, ready_after}}
-use Rattle.world_law.proofs.steps_lemmas.acting.{Moves.IsCorrectedSo, Over.IsOver, OneAct.still_came, Stage.{IsActRecordAt, StageAt, one_goes_by, stage_of}}
+use Rattle.world_law.proofs.steps_lemmas.acting.{Clearing.{cleared_more, cleared_over}, Kept.{IsBare, bare_act, kept_over, out_by_acts, ready_after}}
+use Rattle.world_law.proofs.steps_lemmas.acting.{Moves.IsCorrectedSo, Over.IsOver, OneAct.still_came, Stage.{IsActRecordAt, StageAt, one_goes_by, IsActOn}}
 use Rattle.world_law.proofs.steps_lemmas.acting.Points.{IsClique, at_point, clique_record, corrected_record, no_frames, none_at_point, not_on}
 use Rattle.world_law.proofs.steps_lemmas.Words.{◌⊎◌, Bool, ClockTask, Compressed, Contains-push_cases, HadComeTo, HasDoneTask, Moment, Task, before_behind}
 use Rattle.world_law.proofs.steps_lemmas.Words.{change_still, changed_at, emitting, is_synchronised, rows_place, task_place}
@@ -25,12 +25,7 @@ use Rattle.run_law.specs.declared.steps.Act.TheVariants as acts
 pub record IsCorrecting {C M : Type 0} (reading : C → ℕ → ℕ) (stands : M → Network → DeviceId → Node → Type 0) (s : Scenario) (world : World C M)
     (notes : List Note) (old : Stands reading stands s world notes) (device : DeviceId) (machine after : M) (cycle : ℕ) (verdict : Verdict) (was : State)
     (adjustment : Units) (machines : List M) (settled : List Happening) : Type 0 where
-  pub of_it : device.0 < length s.network.device
-  pub first : ComesFirst reading stands s world notes old (place_of_act world.now device (acts.Correct cycle verdict))
-  pub apart : (z : Happening) → IsIn z world.settled → 6 < rank z.note.body
-  pub there : slice_get world.machines device.0 ≡ Some machine
-  pub due : IsDueNow stands s.network device (moment_of s device world.now) machine
-  pub acted : HasActed stands s.network device (moment_of s device world.now) (acts.Correct cycle verdict) machine after
+  pub on : IsActOn reading stands s world notes old device machine after (acts.Correct cycle verdict)
   pub before : Units
   pub stood : IsStateOf stands s.network device machine was before
   pub state : State
@@ -163,13 +158,10 @@ module _ {C M : Type 0} {reading : C → ℕ → ℕ} {stands : M → Network �
   cleared_goes_by {after} {cycle} {machines} {settled} x =
       let hs = happenings s.network notes in
       let now = world.now in
-      let stage = stage_of reading stands s world notes old device machine after (acts.Correct cycle Cleared) x.of_it
-      x.first x.apart x.there x.due x.acted in
-      let node = stage.0 in
-      let c = stage.1 in
-      let st = stage.2 in
-      let may = may_act_now s device node now st.work.ready st.steady st.limit in
-      let act = x.acted node st.is may st.task in
+      let on = x.on in
+      let node = on.node in
+      let st = on.st in
+      let act = on.did in
       let first = act.1.0 in
       let heard = act.1.1.0 in
       let to = act.1.1.1 in
@@ -179,7 +171,7 @@ module _ {C M : Type 0} {reading : C → ℕ → ℕ} {stands : M → Network �
       let point = at_point s device now node cycle heard Cleared first to in
       let sound : node.broken ≡ false = first.pending.0 in
       let quiet = no_frames s device now node cycle heard Cleared sound point in
-      let ready = ready_after s act.0 (acts.Correct cycle Cleared) st.work.ready st.steady st.precise st.wide may act.1
+      let ready = ready_after s act.0 (acts.Correct cycle Cleared) st.work.ready st.steady st.precise st.wide on.may act.1
       (ap (λ (n : Node). n.last) is) in
       let there = called (moment_of s device now) acting
       (after_correction node (moment_of s device now) heard cycle Cleared) in
@@ -213,12 +205,12 @@ module _ {C M : Type 0} {reading : C → ℕ → ℕ} {stands : M → Network �
       subst (λ (l : List Happening). StandsBehind reading stands s
       (record world { early = false; machines = machines; settled = l }) notes (behind here))
       (sym x.put)
-      (acts_on c (omega arith) (omega arith) old.room
+      (acts_on on.here (omega arith) (omega arith) old.room
       (settled_moves st.moving
       (all_point st.work point
       (grown_none s hs world.settled now device (λ z i. (st.work.of_now z i).0)) tt))
       old.known
-      (devices_then c device (λ other not task same. not (st.own other task same)) x.set (inl kept)
+      (devices_then on.here device (λ other not task same. not (st.own other task same)) x.set (inl kept)
       (λ other m not held. held)))
 
   -- ---- it finds itself outside the others
@@ -240,13 +232,10 @@ module _ {C M : Type 0} {reading : C → ℕ → ℕ} {stands : M → Network �
       =
       let hs = happenings s.network notes in
       let now = world.now in
-      let stage = stage_of reading stands s world notes old device machine after (acts.Correct cycle verdict) x.of_it
-      x.first x.apart x.there x.due x.acted in
-      let node = stage.0 in
-      let c = stage.1 in
-      let st = stage.2 in
-      let may = may_act_now s device node now st.work.ready st.steady st.limit in
-      let act = x.acted node st.is may st.task in
+      let on = x.on in
+      let node = on.node in
+      let st = on.st in
+      let act = on.did in
       let first = act.1.0 in
       let heard = act.1.1.0 in
       let to = act.1.1.1 in
@@ -254,9 +243,9 @@ module _ {C M : Type 0} {reading : C → ℕ → ℕ} {stands : M → Network �
       let timed = (point_number node.standing.state node.standing.number cycle first.pending.1.own).0 in
       let off = not_on s hs world.settled now device node st.work timed in
       let point = at_point s device now node cycle heard verdict first to in
-      let ready = ready_after s act.0 (acts.Correct cycle verdict) st.work.ready st.steady st.precise st.wide may act.1
+      let ready = ready_after s act.0 (acts.Correct cycle verdict) st.work.ready st.steady st.precise st.wide on.may act.1
       (ap (λ (n : Node). n.last) is) in
-      let room = x.first.room in
+      let room = on.room in
       let body = kinds.State device Integrating 0 why in
       let p : IsShownPut s.network hs now body world.settled settled =
       subst (λ l. IsShownPut s.network hs now body world.settled l) (sym put.2)
@@ -274,7 +263,7 @@ module _ {C M : Type 0} {reading : C → ℕ → ℕ} {stands : M → Network �
       as_it p.none (lost node.standing.state) (kept node.standing.adjustment) refl ends) in
       let cleared : HasCleared act.0 =
       subst HasCleared (sym is) (λ n there. let less = st.cleared n there in omega (arith, less)) in
-      one_point_step {then_ = act.0} c st p room (omega arith)
+      one_point_step {then_ = act.0} on.here st p room (omega arith)
       (clique_record stands s hs p.front p.back now device machine node cycle verdict why st2 off
       point clique p.none) (λ at. refl)
       point
@@ -332,12 +321,10 @@ pub corrected_goes_by : {C M : Type 0} {reading : C → ℕ → ℕ} {stands : M
 corrected_goes_by {reading} {stands} {s} {world} {notes} {old} {device} {machine} {after} {cycle} by {adjustment} {settled} x =
     let hs = happenings s.network notes in
     let now = world.now in
-    let stage = stage_of reading stands s world notes old device machine after (acts.Correct cycle (Corrected by)) x.of_it x.first x.apart x.there x.due x.acted in
-    let node = stage.0 in
-    let c = stage.1 in
-    let st = stage.2 in
-    let may = may_act_now s device node now st.work.ready st.steady st.limit in
-    let act = x.acted node st.is may st.task in
+    let on = x.on in
+    let node = on.node in
+    let st = on.st in
+    let act = on.did in
     let first = act.1.0 in
     let heard = act.1.1.0 in
     let to = act.1.1.1 in
@@ -349,9 +336,9 @@ corrected_goes_by {reading} {stands} {s} {world} {notes} {old} {device} {machine
     let off = not_on s hs world.settled now device node st.work point_is.0 in
     let point = at_point s device now node cycle heard (Corrected by) first to in
     let ready = ready_after s act.0 (acts.Correct cycle (Corrected by)) st.work.ready st.steady st.precise st.wide
-    may act.1
+    on.may act.1
     (ap (λ (n : Node). n.last) is) in
-    let room = x.first.room in
+    let room = on.room in
     let body = kinds.Corrected device cycle by adjustment in
     let p : IsShownPut s.network hs now body world.settled settled = subst (λ l. IsShownPut s.network hs now body world.settled l) (sym x.put.2)
     (one_shown s.network hs now body (omega arith) x.put.1) in
@@ -370,7 +357,7 @@ corrected_goes_by {reading} {stands} {s} {world} {notes} {old} {device} {machine
     let same = earlier_still now hs world.settled (λ z i. let at = (st.work.of_now z i).0 in omega (arith, at)) in
     not_joining (sym synchronised ∙ st.work.left.state
     ∙ ap (λ l. if is_turned_on_at s device now then Integrating else state_after s l device) same ∙ joining)) in
-    one_point_step {then_ = act.0} c st p room (omega arith)
+    one_point_step {then_ = act.0} on.here st p room (omega arith)
     (corrected_record stands s hs p.front p.back now device machine node cycle by adjustment st2
     off point sum_is p.none lone)
     (λ at. refl) point

@@ -3,7 +3,7 @@ use Rattle.net_plan.proofs.SameIds.{same_link, same_vl}
 use Rattle.run_law.proofs.{law.FirstPlaces.{in_filter, numbered_front}, timed.Rows.at_hand_by}
 use Rattle.schedule_tables.{proofs.EntryLemmas.one_entry, specs.Dispatches.dispatch_order, specs.Entries.{IsEntry, source_of}, specs.Windows.OccursIn}
 use Rattle.std.proofs.Common.{◌*◌}
-use Rattle.world_law.proofs.steps_lemmas.Words.{never_self, Dispatches, Entry, Happening, HasActed, HasAtHand, HasCleared, Hearing, IsActOf, IsActing, IsDue}
+use Rattle.world_law.proofs.steps_lemmas.Words.{never_self, Dispatches, Entry, Happening, HasAtHand, HasCleared, Hearing, IsActOf, IsActing, IsDue}
 use Rattle.world_law.proofs.steps_lemmas.Words.{IsFirstTask, IsFounded, IsIn, IsLawful, IsPending, IsReadyAt, IsSet, IsSource, LinkId, List, Moment}
 use Rattle.world_law.proofs.steps_lemmas.Words.{Network, Node, None, Note, NoteBody, Option, Reaches, RowId, Scenario, Stands, VlId, World, ℕ, [], acting}
 use Rattle.world_law.proofs.steps_lemmas.Words.{amount, ap, append-nil, arith, by_number, called, cause_of, changed_before, correcting, dispatch_body}
@@ -11,12 +11,12 @@ use Rattle.world_law.proofs.steps_lemmas.Words.{dispatch_late, dispatches_same, 
 use Rattle.world_law.proofs.steps_lemmas.Words.{if◌then◌else◌, in_left, in_right, inl, inr, is_accepted, is_cut, key, last_in, last_unfollowed, length}
 use Rattle.world_law.proofs.steps_lemmas.Words.{members_in, moment_of, moves, nat_lt, numbered_within, option_to_list, place_of, pos, rank, reaches_back}
 use Rattle.world_law.proofs.steps_lemmas.Words.{reading_for, record_of, refl, same_device, subst, sym, task_place, time_of, true, up_back, value_is}
-use Rattle.world_law.proofs.steps_lemmas.Words.{◌++◌, ◌+◌, ◌<◌, ◌∙◌, ◌∷◌, ◌≡◌, ◌≤ℤ◌, ◌≤◌, ArePutIn, Bool, ComesFirst, Contains-push_cases, DeviceId}
+use Rattle.world_law.proofs.steps_lemmas.Words.{◌++◌, ◌+◌, ◌∙◌, ◌∷◌, ◌≡◌, ◌≤ℤ◌, ◌≤◌, ArePutIn, Bool, Contains-push_cases, DeviceId}
 use Rattle.world_law.proofs.steps_lemmas.acting.{GoesOn.{IsPutAs, does, goes_on, left_on, put_now, sent_alike}, Kept.{may_act_now, ready_after}}
-use Rattle.world_law.proofs.steps_lemmas.acting.{OneAct.IsOneAct, Sending.{HasSentIt, as_put, did_deed, taken_then}, Stage.{IsActRecordAt, StageAt, stage_of}}
+use Rattle.world_law.proofs.steps_lemmas.acting.{OneAct.IsOneAct, Sending.{HasSentIt, as_put, did_deed, taken_then}, Stage.{IsActRecordAt, StageAt, IsActOn}}
 use Rattle.world_law.proofs.{Words.{AreSettled, IsBefore, IsOwnSource, Some, append_assoc, chain, numbered, parted}, rows.Dispatching.one_row}
 use Rattle.world_law.proofs.{acts.Dispatched.{dispatch_told, send_apart}, steps_lemmas.Words.{way_from, with_done}, steps_lemmas.acting.Dispatches.TellsRow}
-use Rattle.world_law.{proofs.steps_lemmas.acting.Work.{IsAtWork, all_earlier, reaches}, specs.steps.Acting.{Acts, place_of_act}}
+use Rattle.world_law.proofs.steps_lemmas.acting.Work.{IsAtWork, all_earlier, reaches}
 use Rattle.run_law.specs.declared.note.NoteBody.TheVariants as kinds
 use Rattle.run_law.specs.declared.steps.Act.TheVariants as acts
 
@@ -326,40 +326,28 @@ module _ {M : Type 0} (stands : M → Network → DeviceId → Node → Type 0) 
 -- the device dispatches a row
 pub dispatches_one : {C M : Type 0} {reading : C → ℕ → ℕ} {stands : M → Network → DeviceId → Node → Type 0}
     {s : Scenario} {world : World C M} {notes : List Note} {old : Stands reading stands s world notes}
-    {device : DeviceId} {after : M} {bodies : List NoteBody} {machines : List M} (settled : List Happening)
+    {device : DeviceId} {machine after : M} {machines : List M} (settled : List Happening)
     (row : RowId) {cycle : ℕ} {entry : Entry} {cause : ℕ}
-    (a : Acts reading stands s world notes old device after bodies)
-    → ComesFirst reading stands s world notes old (place_of_act world.now device (acts.Dispatch row cycle))
-    → ((z : Happening) → IsIn z world.settled → 6 < rank z.note.body)
-    → HasActed stands s.network device (moment_of s device world.now) (acts.Dispatch row cycle) a.machine after
+    (on : IsActOn reading stands s world notes old device machine after (acts.Dispatch row cycle))
     → IsEntry s.network row.0 entry → HasAtHand s.network
     (happenings s.network notes) device entry world.now cause cycle → IsSet device.0 after world.machines machines
     → ArePutIn s.network (happenings s.network notes) world.now
     (dispatch_body s device world.now entry.row.link cause entry.row.vl cycle ∷ []) world.settled settled
-    → IsOneAct reading stands s world notes old device a.machine after machines settled (acts.Dispatch row cycle)
-dispatches_one {reading} {stands} {s} {world} {notes} {old} {device} {after} settled
-    row {cycle} {entry} {cause} a first_of above acted is hand set put =
+    → IsOneAct reading stands s world notes old device machine after machines settled (acts.Dispatch row cycle)
+dispatches_one {reading} {stands} {s} {world} {notes} {old} {device} {machine} {after} settled
+    row {cycle} {entry} {cause} on is hand set put =
     let hs = happenings s.network notes in
     let now = world.now in
-    let stage = stage_of reading stands s world notes old device a.machine after (acts.Dispatch row cycle) a.of_it first_of above a.there a.due acted in
-    let node = stage.0 in
-    let c = stage.1 in
-    let st = stage.2 in
-    let may = may_act_now s device node now st.work.ready st.steady st.limit in
-    let act = acted node st.is may st.task in
+    let node = on.node in
+    let st = on.st in
+    let act = on.did in
     let first = act.1.0 in
     let high = dispatch_late s device now entry.row.link cause entry.row.vl cycle in
     let of_cause = dispatch_cause s device now entry.row.link cause entry.row.vl cycle in
     let within = hand_within s entry st.given hand in
     record {
-      room = first_of.room;
-      node = node;
-      then_ = act.0;
-      stood = act.2;
-      c = c;
-      st = st;
+      on = on;
       apart = λ x. x;
-      acted = act.1;
       adjustment = ap (λ (n : Node). n.standing.adjustment) act.1.1;
       did = λ task has. did_deed s now device node act.0 (moment_of s device now) (dispatching row cycle) task act.1.1 has;
       body = dispatch_body s device now entry.row.link cause entry.row.vl cycle;
@@ -369,12 +357,12 @@ dispatches_one {reading} {stands} {s} {world} {notes} {old} {device} {after} set
       set = set;
       put = put;
       makes = λ front back parts st2 none.
-          let it = has_dispatched_it stands s hs front back now device a.machine after act.0 row
+          let it = has_dispatched_it stands s hs front back now device machine after act.0 row
           st2 first act.1
           act.1.1 act.2 is hand in
           record {
             so = dispatching_record front back row st2 first.pending first.due is hand;
-            told = row_told stands s hs front back now device a.machine row st2 first.pending
+            told = row_told stands s hs front back now device machine row st2 first.pending
                 first.due is hand;
             it = it;
           };

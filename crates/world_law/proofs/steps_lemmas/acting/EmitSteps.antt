@@ -1,18 +1,18 @@
 -- The steps by which a compression master emits the frame of a collection, and does not join by it.
 use Rattle.world_law.proofs.steps_lemmas.Words.{second}
 use Rattle.{run_law.specs.{machines.Answers.after_emission, records.Ranks.sign}, std.proofs.Common.Contains, world_law.specs.world.Outcomes.judged_as}
-use Rattle.world_law.{proofs.steps_lemmas.acting.OneAct.IsOneAct, specs.steps.Acting.{Acts, joining_bodies, place_of_act}}
+use Rattle.world_law.{proofs.steps_lemmas.acting.OneAct.IsOneAct, specs.steps.Acting.{joining_bodies}}
 use Rattle.sync_state.specs.Standing.{Standing}
-use Rattle.world_law.proofs.steps_lemmas.Words.{◌⊎◌, ClockTask, ComesFirst, Contains-push_cases, HasDoneTask, Task, doing, task_place}
+use Rattle.world_law.proofs.steps_lemmas.Words.{◌⊎◌, ClockTask, Contains-push_cases, HasDoneTask, Task, doing, task_place}
 use Rattle.world_law.proofs.steps_lemmas.Words.{IsSource}
 use Rattle.world_law.proofs.steps_lemmas.Words.{◌++◌, ◌+◌, ◌<◌, ◌∙◌, ◌∷◌, ◌≡◌, ◌≤ℤ◌, ArePutIn, Compressed, DeviceId, Happening}
-use Rattle.world_law.proofs.steps_lemmas.Words.{HasActed, IsActOf, IsActing, IsFirstTask, IsIn, IsPending, IsSet, Judgement, List, Network}
+use Rattle.world_law.proofs.steps_lemmas.Words.{IsActOf, IsActing, IsFirstTask, IsPending, IsSet, Judgement, List, Network}
 use Rattle.world_law.proofs.steps_lemmas.Words.{Node, None, Note, NoteBody, Ripe, Scenario, Stands, World, [], acting}
 use Rattle.world_law.proofs.steps_lemmas.Words.{amount, ap, arith, called, correcting, emitting, happenings, hearing_by}
 use Rattle.world_law.proofs.steps_lemmas.Words.{in_right, inl, inr, is_last, last_unfollowed, length, moment_of, ne_eqb, pos}
 use Rattle.world_law.proofs.steps_lemmas.{Words.{rank, record_of, refl, ripe_as, subst, sym, true, ℕ}, acting.Work.{emits, own_judgement}}
 use Rattle.world_law.proofs.steps_lemmas.acting.GoesOn.{IsEmitted, StaysBy, emits_on, is_emitted, node_emitted}
-use Rattle.world_law.proofs.steps_lemmas.acting.{Kept.{may_act_now, ready_after}, Stage.{IsActRecordAt, StageAt, fresh_above, stage_of}}
+use Rattle.world_law.proofs.steps_lemmas.acting.{Kept.{may_act_now, ready_after}, Stage.{IsActRecordAt, StageAt, fresh_above, IsActOn}}
 use Rattle.world_law.proofs.steps_lemmas.acting.Sending.{HasSentIt, as_put, taken_then}
 use Rattle.run_law.specs.declared.judgement.Judgement.TheVariants as judgements
 use Rattle.run_law.specs.declared.note.NoteBody.TheVariants as kinds
@@ -140,25 +140,18 @@ did_emission s now {device} {node} {sent} (emitting c) x has =
 -- the master emits, and stays as it is
 pub emits_one : {C M : Type 0} {reading : C → ℕ → ℕ} {stands : M → Network → DeviceId → Node → Type 0} {s : Scenario}
     {world : World C M} {notes : List Note} {old : Stands reading stands s world notes} {device : DeviceId}
-    {after : M} {bodies : List NoteBody} {machines : List M} (settled : List Happening) (sent : Compressed)
-    (heard : Ripe) → KeepsBy heard → (a : Acts reading stands s world notes old device after bodies)
-    → ComesFirst reading stands s world notes old (place_of_act world.now device (acts.Emit sent heard))
-    → ((z : Happening) → IsIn z world.settled → 4 < rank z.note.body)
-    → HasActed stands s.network device (moment_of s device world.now) (acts.Emit sent heard) a.machine after
+    {machine after : M} {machines : List M} (settled : List Happening) (sent : Compressed) (heard : Ripe) → KeepsBy heard
+    → (on : IsActOn reading stands s world notes old device machine after (acts.Emit sent heard))
     → IsSet device.0 after world.machines machines → ArePutIn s.network (happenings s.network notes) world.now
     (kinds.Compressed device sent.opened sent.at sent.cycle sent.members (judged_as heard)
     ∷ joining_bodies (length (happenings s.network notes) + 1) device heard) world.settled settled
-    → IsOneAct reading stands s world notes old device a.machine after machines settled (acts.Emit sent heard)
-emits_one {reading} {stands} {s} {world} {notes} {old} {device} {after} settled sent heard keeps a first_of above
-    acted set put =
+    → IsOneAct reading stands s world notes old device machine after machines settled (acts.Emit sent heard)
+emits_one {reading} {stands} {s} {world} {notes} {old} {device} {machine} {after} settled sent heard keeps on set put =
     let hs = happenings s.network notes in
     let now = world.now in
-    let stage = stage_of reading stands s world notes old device a.machine after (acts.Emit sent heard) a.of_it first_of above a.there a.due acted in
-    let node = stage.0 in
-    let c = stage.1 in
-    let st = stage.2 in
-    let may = may_act_now s device node now st.work.ready st.steady st.limit in
-    let act = acted node st.is may st.task in
+    let node = on.node in
+    let st = on.st in
+    let act = on.did in
     let first = act.1.0 in
     let v = own_judgement s.network device node sent in
     let is : act.0 ≡ node_emitted s.network device node (moment_of s device now) sent v = act.1.2
@@ -169,14 +162,8 @@ emits_one {reading} {stands} {s} {world} {notes} {old} {device} {after} settled 
     let emitted : IsEmitted s.network device node act.0 w0 sent = subst (λ n. IsEmitted s.network device node n w0 sent) (sym is)
     (is_emitted s.network device node (moment_of s device now) w0 sent v stays refl refl) in
     record {
-      room = first_of.room;
-      node = node;
-      then_ = act.0;
-      stood = act.2;
-      c = c;
-      st = st;
+      on = on;
       apart = λ x. x;
-      acted = act.1;
       adjustment = ap (λ (st : Standing). st.adjustment) emitted.but.standing;
       did = λ task has. did_emission s now task emitted has;
       body = body;

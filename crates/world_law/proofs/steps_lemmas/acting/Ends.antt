@@ -1,11 +1,11 @@
 -- Behind its correction point nothing more is due of a device at the instant.
-use Rattle.{run_law.specs.{machines.Tasks.IsWaiting, records.Ranks.rank}, world_law.specs.steps.{Acting.{Acts, place_of_act, rank_of_act}, Ending.CorrectionEnds}}
-use Rattle.world_law.proofs.steps_lemmas.Words.{◌++◌, ◌+◌, ◌<◌, ◌≡◌, ◌≤◌, AsyncClique, Cleared, ComesFirst, Compressed, Corrected, DeviceId, Happening}
-use Rattle.world_law.proofs.steps_lemmas.Words.{HasActed, HasDoneFrom, HasSentFrom, HasTaskBy, Integrating, IsDueNow, IsIn, List, Network, Node, Note, NoteBody}
+use Rattle.{run_law.specs.machines.Tasks.IsWaiting, world_law.specs.steps.Ending.CorrectionEnds}
+use Rattle.world_law.proofs.steps_lemmas.Words.{◌++◌, ◌+◌, ◌≡◌, ◌≤◌, AsyncClique, Cleared, Compressed, Corrected, DeviceId}
+use Rattle.world_law.proofs.steps_lemmas.Words.{HasDoneFrom, HasSentFrom, HasTaskBy, Integrating, IsDueNow, List, Network, Node, Note}
 use Rattle.world_law.proofs.steps_lemmas.Words.{Scenario, Stands, SyncClique, Verdict, World, arith, correcting, doing, emitting, happenings, moment_of, never_both}
 use Rattle.world_law.proofs.steps_lemmas.Words.{no_cluster, observation_window, point_number, refl, subst, ℕ}
-use Rattle.world_law.proofs.steps_lemmas.acting.{Clearing.cleared_over, Correcting.{corrected_sent, corrects_it, no_deed}, Kept.may_act_now}
-use Rattle.world_law.proofs.steps_lemmas.acting.{Points.{at_point, no_frames, not_on}, Stage.stage_of, Starts.changed_soon, Work.not_over}
+use Rattle.world_law.proofs.steps_lemmas.acting.{Clearing.cleared_over, Correcting.{corrected_sent, corrects_it, no_deed}}
+use Rattle.world_law.proofs.steps_lemmas.acting.{Points.{at_point, no_frames, not_on}, Stage.{IsActOn, acts_on_it}, Starts.changed_soon, Work.not_over}
 use Rattle.run_law.specs.declared.steps.Act.TheVariants as acts
 
 none_due : {s : Scenario} {device : DeviceId} (now : ℕ) {changed high : ℕ} {node : Node}
@@ -21,19 +21,15 @@ lost s now device n is none (emitting c, p, late) = none c p.1
 lost s now device n is none (doing deed, p, late) = no_deed s.network device n deed is p.1.own
 
 point_ends : {C M : Type 0} {reading : C → ℕ → ℕ} {stands : M → Network → DeviceId → Node → Type 0} {s : Scenario}
-    {world : World C M} {notes : List Note} {device : DeviceId} {after : M} {bodies : List NoteBody}
-    {old : Stands reading stands s world notes} (a : Acts reading stands s world notes old device after bodies)
-    (cycle : ℕ) (verdict : Verdict) → ComesFirst reading stands s world notes old
-    (place_of_act world.now device (acts.Correct cycle verdict))
-    → ((z : Happening) → IsIn z world.settled → 6 < rank z.note.body)
-    → HasActed stands s.network device (moment_of s device world.now) (acts.Correct cycle verdict) a.machine after
+    {world : World C M} {notes : List Note} {device : DeviceId} {machine after : M}
+    {old : Stands reading stands s world notes} (cycle : ℕ) (verdict : Verdict)
+    → IsActOn reading stands s world notes old device machine after (acts.Correct cycle verdict)
     → IsDueNow stands s.network device (moment_of s device world.now) after → ⊥
-point_ends {reading} {stands} {s} {world} {notes} {device} {after} {old} a cycle (Corrected by) first apart acted due =
-    let stage = stage_of reading stands s world notes old device a.machine after (acts.Correct cycle (Corrected by)) a.of_it first apart a.there a.due acted in
-    let node = stage.0 in
-    let st = stage.2 in
+point_ends {s} {world} {device} cycle (Corrected by) on due =
+    let node = on.node in
+    let st = on.st in
     let now = world.now in
-    let x = acted node st.is (may_act_now s device node now st.work.ready st.steady st.limit) st.task in
+    let x = on.did in
     let heard = x.1.1.0 in
     let is = x.1.1.2 in
     let point = at_point s device now node cycle heard (Corrected by) x.1.0 x.1.1.1 in
@@ -42,29 +38,26 @@ point_ends {reading} {stands} {s} {world} {notes} {device} {after} {old} a cycle
     (corrected_sent s device node (moment_of s device now) heard by st.work.sent
     (no_frames s device now node cycle heard (Corrected by) x.1.0.pending.0 point))
     (omega arith) task
-point_ends {reading} {stands} {s} {world} {notes} {device} {after} {old} a cycle SyncClique first apart acted due =
-    let stage = stage_of reading stands s world notes old device a.machine after (acts.Correct cycle SyncClique) a.of_it first apart a.there a.due acted in
-    let node = stage.0 in
-    let st = stage.2 in
+point_ends {s} {world} {device} cycle SyncClique on due =
+    let node = on.node in
+    let st = on.st in
     let now = world.now in
-    let x = acted node st.is (may_act_now s device node now st.work.ready st.steady st.limit) st.task in
+    let x = on.did in
     let task = subst (λ n. HasTaskBy s device n now) x.1.1.2 (due x.0 x.2) in
     lost s now device _ refl (λ c w. no_cluster (observation_window s.network) w.clusters w.cluster w.are w.there) task
-point_ends {reading} {stands} {s} {world} {notes} {device} {after} {old} a cycle AsyncClique first apart acted due =
-    let stage = stage_of reading stands s world notes old device a.machine after (acts.Correct cycle AsyncClique) a.of_it first apart a.there a.due acted in
-    let node = stage.0 in
-    let st = stage.2 in
+point_ends {s} {world} {device} cycle AsyncClique on due =
+    let node = on.node in
+    let st = on.st in
     let now = world.now in
-    let x = acted node st.is (may_act_now s device node now st.work.ready st.steady st.limit) st.task in
+    let x = on.did in
     let task = subst (λ n. HasTaskBy s device n now) x.1.1.2 (due x.0 x.2) in
     lost s now device _ refl (λ c w. no_cluster (observation_window s.network) w.clusters w.cluster w.are w.there) task
-point_ends {reading} {stands} {s} {world} {notes} {device} {after} {old} a cycle Cleared first apart acted due =
+point_ends {s} {world} {notes} {device} cycle Cleared on due =
     let hs = happenings s.network notes in
-    let stage = stage_of reading stands s world notes old device a.machine after (acts.Correct cycle Cleared) a.of_it first apart a.there a.due acted in
-    let node = stage.0 in
-    let st = stage.2 in
+    let node = on.node in
+    let st = on.st in
     let now = world.now in
-    let x = acted node st.is (may_act_now s device node now st.work.ready st.steady st.limit) st.task in
+    let x = on.did in
     let task = x.1.0 in
     let heard = x.1.1.0 in
     let to = x.1.1.1 in
@@ -79,7 +72,4 @@ point_ends {reading} {stands} {s} {world} {notes} {device} {after} {old} a cycle
 
 pub correction_ends : {C M : Type 0} (reading : C → ℕ → ℕ) (stands : M → Network → DeviceId → Node → Type 0) → CorrectionEnds reading stands
 correction_ends reading stands s world notes device after bodies cycle verdict old a is =
-    point_ends a cycle verdict
-    (subst (λ act. ComesFirst reading stands s world notes old (place_of_act world.now device act)) is a.first)
-    (subst (λ act. (z : Happening) → IsIn z world.settled → rank_of_act act < rank z.note.body) is a.apart)
-    (subst (λ act. HasActed stands s.network device (moment_of s device world.now) act a.machine after) is a.acted)
+    point_ends cycle verdict (subst (λ act. IsActOn reading stands s world notes old device a.machine after act) is (acts_on_it a))

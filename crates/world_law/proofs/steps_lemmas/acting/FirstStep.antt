@@ -15,8 +15,8 @@ use Rattle.world_law.proofs.steps_lemmas.Words.{point_number, rank, record_of, r
 use Rattle.world_law.proofs.steps_lemmas.Words.{Why, put_length, state_after, subst, sym, time_of, true, two_shown, units_of}
 use Rattle.world_law.proofs.steps_lemmas.Words.{ℕ, acts_on, devices_then}
 use Rattle.world_law.proofs.steps_lemmas.acting.Points.{IsGrown, all_point, grown_more, grown_one}
-use Rattle.world_law.proofs.steps_lemmas.acting.Stage.{StageAt, fresh_above, no_row_of, one_caused, stage_of}
-use Rattle.world_law.proofs.steps_lemmas.acting.{Kept.{bare_act, frames_put, kept_over, may_act_now, out_by_acts, ready_after}, Sending.{as_put, taken_then}}
+use Rattle.world_law.proofs.steps_lemmas.acting.Stage.{StageAt, fresh_above, no_row_of, one_caused}
+use Rattle.world_law.proofs.steps_lemmas.acting.{Kept.{bare_act, frames_put, kept_over, out_by_acts, ready_after}, Sending.{as_put, taken_then}}
 use Rattle.world_law.proofs.steps_lemmas.acting.Points.{at_point, corrected_cause, no_frames, none_at_point, not_moved, not_on}
 use Rattle.run_law.specs.records.Causes.{device_of}
 use Rattle.world_law.proofs.steps_lemmas.Words.{changed_at, rows_place, second}
@@ -111,12 +111,10 @@ pub first_goes_by : {C M : Type 0} {reading : C → ℕ → ℕ} {stands : M →
 first_goes_by {reading} {stands} {s} {world} {notes} {old} {device} {machine} {after} {cycle} by {adjustment} {settled} x =
     let hs = happenings s.network notes in
     let now = world.now in
-    let stage = stage_of reading stands s world notes old device machine after (acts.Correct cycle (Corrected by)) x.of_it x.first x.apart x.there x.due x.acted in
-    let node = stage.0 in
-    let c = stage.1 in
-    let st = stage.2 in
-    let may = may_act_now s device node now st.work.ready st.steady st.limit in
-    let act = x.acted node st.is may st.task in
+    let on = x.on in
+    let node = on.node in
+    let st = on.st in
+    let act = on.did in
     let first = act.1.0 in
     let heard = act.1.1.0 in
     let to = act.1.1.1 in
@@ -128,7 +126,7 @@ first_goes_by {reading} {stands} {s} {world} {notes} {old} {device} {machine} {a
     let off = not_on s hs world.settled now device node st.work point_is.0 in
     let point = at_point s device now node cycle heard (Corrected by) first to in
     let ready = ready_after s act.0 (acts.Correct cycle (Corrected by)) st.work.ready st.steady st.precise st.wide
-    may act.1
+    on.may act.1
     (ap (λ (n : Node). n.last) is) in
     let body = kinds.Corrected device cycle by adjustment in
     let rests : (h : Happening) → IsIn h world.settled → moves device h.note.body ≡ true → ⊥ = λ h i e.
@@ -167,7 +165,7 @@ first_goes_by {reading} {stands} {s} {world} {notes} {old} {device} {machine} {a
     g1.of_now z (subst (λ l. IsIn z (w ∷ l)) (sym q.parts) (in_left z (w ∷ q.mid) q.back i)) in
     let due = corrected_cause stands s hs [] world.settled now device machine node cycle by
     adjustment st point sum_is q.first in
-    two_go_by c st q x.first.room
+    two_go_by on.here st q on.room
     (record {
       own = λ m. refl;
       here = IsSource.acting now device (doing (correcting cycle))

@@ -1,18 +1,17 @@
 -- A compression master emits a frame that tells it the time itself, and the frontier goes by.
 use Rattle.run_law.proofs.control.Verdicts.{heard_integrates}
-use Rattle.world_law.proofs.steps_lemmas.Words.{turned_by, HasActed, HasCleared, HasDoneTask, HasTurnedOn, Integrating, IsActing, IsAtRest, IsBefore, IsDueNow, IsIn}
-use Rattle.world_law.proofs.steps_lemmas.Words.{IsSet, IsSource, Joining, Judgement, List, Moment, Network, Node, Note, NoteBody, Scenario, Some, Stands}
+use Rattle.world_law.proofs.steps_lemmas.Words.{turned_by, HasCleared, HasDoneTask, HasTurnedOn, Integrating, IsActing, IsAtRest, IsBefore, IsIn}
+use Rattle.world_law.proofs.steps_lemmas.Words.{IsSet, IsSource, Joining, Judgement, List, Moment, Network, Node, Note, NoteBody, Scenario, Stands}
 use Rattle.world_law.proofs.steps_lemmas.Words.{StandsBehind, Task, World, ℕ, [], ap, append-nil, arith, bears_on, behind, both_ways, cases_Bool}
 use Rattle.world_law.proofs.steps_lemmas.Words.{correcting, doing, earlier, emitting, eq-eqb, eqb-true, false, frames_taken, happenings, if◌then◌else◌}
 use Rattle.world_law.proofs.steps_lemmas.Words.{in_left, in_parts, in_right, inl, inr, is_turned_on_at, key, length, members_in, moment_of, ne_eqb, none_in}
-use Rattle.world_law.proofs.steps_lemmas.Words.{observation_window, place_of, plan_of, rank, record_of, refl, ripe_as, slice_get, state_after, state_before}
-use Rattle.world_law.proofs.steps_lemmas.Words.{◌++◌, ◌+◌, ◌<◌, ◌∙◌, ◌∷◌, ◌≡◌, ◌≤◌, ArePutIn, AsState, ComesFirst, Compressed, DeviceId, Emits, Happening}
+use Rattle.world_law.proofs.steps_lemmas.Words.{observation_window, place_of, plan_of, rank, record_of, refl, ripe_as, state_after, state_before}
+use Rattle.world_law.proofs.steps_lemmas.Words.{◌++◌, ◌+◌, ◌<◌, ◌∙◌, ◌∷◌, ◌≡◌, ◌≤◌, ArePutIn, AsState, Compressed, DeviceId, Emits, Happening}
 use Rattle.world_law.proofs.steps_lemmas.acting.{EmitSteps.{emission_body, emission_rest}, GoesOn.{earlier_put, node_emitted, put_now}, OneAct.all_one}
-use Rattle.world_law.proofs.steps_lemmas.acting.{Kept.{bare_act, frames_put, kept_over, may_act_now, ready_after}, Over.IsOver, Sending.{as_put, taken_then}}
-use Rattle.world_law.proofs.steps_lemmas.acting.{Stage.stage_of, Work.{IsAtWork, all_earlier, emits, own_judgement}}
+use Rattle.world_law.proofs.steps_lemmas.acting.{Kept.{bare_act, frames_put, kept_over, ready_after}, Over.IsOver, Sending.{as_put, taken_then}}
+use Rattle.world_law.proofs.steps_lemmas.acting.{Stage.IsActOn, Work.{IsAtWork, all_earlier, emits, own_judgement}}
 use Rattle.world_law.proofs.steps_lemmas.{Words.{subst, sym, time_of, true, turned_aside, two_shown}, acting.JoinsBy.{ChangesIt, joined_over}}
 use Rattle.world_law.proofs.{putting.Placing.causes_given, putting.PutShown.{IsShownPair, change_of, pair_put}, steps_lemmas.acting.FirstStep.two_go_by}
-use Rattle.world_law.specs.steps.Acting.{place_of_act}
 use Rattle.run_law.specs.declared.judgement.Judgement.TheVariants as judgements
 use Rattle.run_law.specs.declared.judgement.Why.TheVariants as whys
 use Rattle.run_law.specs.declared.note.NoteBody.TheVariants as kinds
@@ -79,12 +78,7 @@ still_looking {s} {hs} {coming} front {now} {device} w looking also =
 pub record IsJoining {C M : Type 0} (reading : C → ℕ → ℕ) (stands : M → Network → DeviceId → Node → Type 0) (s : Scenario) (world : World C M)
     (notes : List Note) (old : Stands reading stands s world notes) (device : DeviceId) (machine after : M) (sent : Compressed) (machines : List M)
     (settled : List Happening) : Type 0 where
-  pub of_it : device.0 < length s.network.device
-  pub first : ComesFirst reading stands s world notes old (place_of_act world.now device (acts.Emit sent ripe.Integrates))
-  pub apart : (z : Happening) → IsIn z world.settled → 4 < rank z.note.body
-  pub there : slice_get world.machines device.0 ≡ Some machine
-  pub due : IsDueNow stands s.network device (moment_of s device world.now) machine
-  pub acted : HasActed stands s.network device (moment_of s device world.now) (acts.Emit sent ripe.Integrates) machine after
+  pub on : IsActOn reading stands s world notes old device machine after (acts.Emit sent ripe.Integrates)
   pub set : IsSet device.0 after world.machines machines
   pub put : ArePutIn s.network (happenings s.network notes) world.now (emission_body device sent judgements.Integrates
       ∷ kinds.State device Joining (length (happenings s.network notes) + 1) whys.Frame ∷ []) world.settled settled
@@ -115,13 +109,11 @@ pub join_goes_by : {C M : Type 0} {reading : C → ℕ → ℕ} {stands : M → 
 join_goes_by {reading} {stands} {s} {world} {notes} {old} {device} {machine} {after} {sent} {settled} x =
     let hs = happenings s.network notes in
     let now = world.now in
-    let stage = stage_of reading stands s world notes old device machine after (acts.Emit sent ripe.Integrates) x.of_it x.first x.apart x.there x.due x.acted in
-    let node = stage.0 in
-    let c = stage.1 in
-    let st = stage.2 in
+    let on = x.on in
+    let node = on.node in
+    let st = on.st in
     let moment = moment_of s device now in
-    let may = may_act_now s device node now st.work.ready st.steady st.limit in
-    let act = x.acted node st.is may st.task in
+    let act = on.did in
     let first = act.1.0 in
     let v_is : own_judgement s.network device node sent ≡ judgements.Integrates = joins_so (own_judgement s.network device node sent) (sym act.1.1) in
     let looking : node.standing.state ≡ Integrating =
@@ -170,7 +162,7 @@ join_goes_by {reading} {stands} {s} {world} {notes} {old} {device} {machine} {af
           absurd (q.none z i (early_change n now v c
           (st.work.of_now z (in_rest z i)).0 (sole z (in_rest z i) it) refl))
     ])) in
-    let ready = ready_after s act.0 (acts.Emit sent ripe.Integrates) st.work.ready st.steady st.precise st.wide may
+    let ready = ready_after s act.0 (acts.Emit sent ripe.Integrates) st.work.ready st.steady st.precise st.wide on.may
     act.1
     (ap (λ (m : Node). m.last) is) in
     let cleared : HasCleared act.0 = subst HasCleared (sym is) (λ m there. absurd (none_in (correcting m) there)) in
@@ -192,7 +184,7 @@ join_goes_by {reading} {stands} {s} {world} {notes} {old} {device} {machine} {af
     (ap (λ l. state_after s l device)
     (earlier_put s hs [] world.settled now device node st.work put1))))
     (ap (λ l. state_after s l device) earlier2) in
-    two_go_by c st q x.first.room
+    two_go_by on.here st q on.room
     (record {
       own = λ m. refl;
       here = IsSource.acting now device (emitting sent) (IsActing.emits sent judgements.Integrates e);

@@ -3,16 +3,16 @@ use Rattle.world_law.proofs.acts.Dues.{IsDueTask, act_due, done_or}
 use Rattle.world_law.proofs.growing.Growing.{IsCorrection, what_is_left}
 use Rattle.world_law.proofs.putting.{Moving.stays, Placing.own_here}
 use Rattle.{run_law.proofs.runs.Places.nothing_between, schedule_tables.specs.Dispatches.dispatch_order}
-use Rattle.world_law.proofs.steps_lemmas.Words.{StandsHere, ◌++◌, ◌+◌, ◌-ℤ◌, ◌<◌, ◌∙◌, ◌∷◌, ◌≡◌, ◌≤ℤ◌, ◌≤◌, ◌⊎◌, Act, ArePutIn, DeviceId, HadComeTo, Happening}
+use Rattle.world_law.proofs.steps_lemmas.Words.{◌++◌, ◌-ℤ◌, ◌∙◌, ◌∷◌, ◌≡◌, ◌≤ℤ◌, ◌≤◌, ◌⊎◌, Act, ArePutIn, DeviceId, HadComeTo, Happening}
 use Rattle.world_law.proofs.steps_lemmas.Words.{HasDoneTask, HasTurnedOn, IsActOf, IsActing, IsAllOfIt, IsBefore, IsIn, IsLawful, IsOwnSource}
 use Rattle.world_law.proofs.steps_lemmas.Words.{IsSet, IsShownPut, List, Network, Node, NoneBefore, Note, NoteBody, Scenario, Stands, StandsBehind, Task, Units}
 use Rattle.world_law.proofs.steps_lemmas.Words.{World, [], ap, arith, before_behind, behind, cause_of, changed_at, doing, earlier}
 use Rattle.world_law.proofs.steps_lemmas.Words.{earlier_still, emitting, happenings, in_right, inl, inr, is_at_source, is_turned_on_at, length}
-use Rattle.world_law.proofs.steps_lemmas.Words.{members_in, moment_of, numbers_end, one_shown, place_of, points_of, points_same, pos, quiet_rest, rank}
+use Rattle.world_law.proofs.steps_lemmas.Words.{members_in, moment_of, one_shown, place_of, points_of, points_same, pos, quiet_rest, rank}
 use Rattle.world_law.proofs.steps_lemmas.Words.{record_of, refl, second, subst, sym, task_place, time_of, true, value_of, ℕ}
 use Rattle.world_law.specs.{device.Told.change_in, steps.Acting.{rank_of_act, task_of}}
-use Rattle.world_law.proofs.steps_lemmas.acting.{Dispatches.{TellsRow, all_row}, First.{act_rest, act_stands}, GoesOn.earlier_put, Kept.{bare_act, kept_on, may_act_now}}
-use Rattle.world_law.proofs.steps_lemmas.acting.{Sending.{HasSentIt, as_put, turned_then}, Stage.{IsActRecordAt, StageOf, lawful_then, one_goes_by}}
+use Rattle.world_law.proofs.steps_lemmas.acting.{Dispatches.{TellsRow, all_row}, First.{act_rest, act_stands}, GoesOn.earlier_put, Kept.{bare_act, kept_on}}
+use Rattle.world_law.proofs.steps_lemmas.acting.{Sending.{HasSentIt, as_put, turned_then}, Stage.{IsActOn, IsActRecordAt, StageOf, lawful_then, one_goes_by}}
 use Rattle.world_law.proofs.steps_lemmas.Words.{IsDeedOf, Option, RowId, amount, dispatching, false, option_map_or}
 use Rattle.net_plan.specs.declared.tables.Row.{Row}
 use Rattle.run_law.specs.declared.judgement.Why.TheVariants as whys
@@ -31,16 +31,10 @@ pub record IsMadeSo {M : Type 0} (stands : M → Network → DeviceId → Node �
 pub record IsOneAct {C M : Type 0} (reading : C → ℕ → ℕ) (stands : M → Network → DeviceId → Node → Type 0) (s : Scenario) (world : World C M)
     (notes : List Note) (old : Stands reading stands s world notes) (device : DeviceId) (machine after : M) (machines : List M)
     (settled : List Happening) (act : Act) : Type 0 where
-  pub room : length notes + length world.settled + 2 < numbers_end
-  pub node : Node
-  pub then_ : Node
-  pub stood : stands after s.network device then_
-  pub c : StandsHere reading stands s world notes (rank_of_act act) (act_rest s.network device act)
-  pub st : StageOf stands s (happenings s.network notes) world.settled world.now device machine node act
+  pub on : IsActOn reading stands s world notes old device machine after act
   pub apart : IsCorrection (task_of act) → ⊥
-  pub acted : IsActOf s.network device node (moment_of s device world.now) act then_
-  pub adjustment : then_.standing.adjustment ≡ node.standing.adjustment
-  pub did : (task : Task) → HasDoneTask then_ task → HasDoneTask node task
+  pub adjustment : on.did.0.standing.adjustment ≡ on.node.standing.adjustment
+  pub did : (task : Task) → HasDoneTask on.did.0 task → HasDoneTask on.node task
       ⊎ (task_place s.network world.now device task ≡ world.now ∷ rank_of_act act ∷ act_rest s.network device act)
   pub body : NoteBody
   pub at_place : rank_of_act act ≤ 5 → (front : List Happening)
@@ -50,9 +44,9 @@ pub record IsOneAct {C M : Type 0} (reading : C → ℕ → ℕ) (stands : M →
   pub set : IsSet device.0 after world.machines machines
   pub put : ArePutIn s.network (happenings s.network notes) world.now (body ∷ []) world.settled settled
   pub makes : (front back : List Happening) → world.settled ≡ front ++ back
-      → StageOf stands s (happenings s.network notes) (front ++ back) world.now device machine node act
+      → StageOf stands s (happenings s.network notes) (front ++ back) world.now device machine on.node act
       → NoneBefore place_of back (place_of (record_of s.network (happenings s.network notes) front world.now body))
-      → IsMadeSo stands s (happenings s.network notes) front back world.now device after node then_ body
+      → IsMadeSo stands s (happenings s.network notes) front back world.now device after on.node on.did.0 body
       (world.now ∷ rank_of_act act ∷ act_rest s.network device act)
 
 shown_act : {C M : Type 0} {reading : C → ℕ → ℕ} {stands : M → Network → DeviceId → Node → Type 0} {s : Scenario}
@@ -166,7 +160,9 @@ pub act_goes_by : {C M : Type 0} {reading : C → ℕ → ℕ} {stands : M → N
 act_goes_by {C} {M} {stands} {s} {world} {notes} {old} {device} {machine} {after} {act} x =
     let hs = happenings s.network notes in
     let now = world.now in
-    let room = x.room in
+    let on = x.on in
+    let room = on.room in
+    let then_ = on.did.0 in
     let r = rank_of_act act in
     let more = act_rest s.network device act in
     let at = now ∷ r ∷ more in
@@ -174,43 +170,42 @@ act_goes_by {C} {M} {stands} {s} {world} {notes} {old} {device} {machine} {after
     let p = shown_act x in
     let w = record_of s.network hs p.front now x.body in
     let new = p.front ++ w ∷ p.back in
-    let st2 : StageOf stands s hs (p.front ++ p.back) now device machine x.node act =
-    subst (λ l. StageOf stands s hs l now device machine x.node act) p.parts x.st in
+    let st2 : StageOf stands s hs (p.front ++ p.back) now device machine on.node act =
+    subst (λ l. StageOf stands s hs l now device machine on.node act) p.parts on.st in
     let made = x.makes p.front p.back p.parts st2 p.none in
     let it = made.it in
     let put = as_put now w refl x.late in
-    let earlier_same = earlier_put s hs p.front p.back now device x.node st2.work put in
-    let law = lawful_then stands s hs p.front p.back now device machine x.node st2 p.before
+    let earlier_same = earlier_put s hs p.front p.back now device on.node st2.work put in
+    let law = lawful_then stands s hs p.front p.back now device machine on.node st2 p.before
     p.none made.so in
-    let may = may_act_now s device x.node now x.st.work.ready x.st.steady x.st.limit in
-    let none_due : (task : Task) → IsDueTask s device x.then_ now task → IsBefore (task_place s.network now device task) here → ⊥ = λ task due b.
-    let far = what_is_left s.network now device x.then_ act task old.range old.rules x.st.zero may x.acted x.apart
+    let none_due : (task : Task) → IsDueTask s device then_ now task → IsBefore (task_place s.network now device task) here → ⊥ = λ task due b.
+    let far = what_is_left s.network now device then_ act task old.range old.rules on.st.zero on.may on.did.1 x.apart
     due.0 due.1
     in
     nothing_between at (task_place s.network now device task)
     (subst (λ q. IsBefore q (task_place s.network now device task)) (act_stands s.network now device act) far) b in
     let turned : is_turned_on_at s device now ≡ true → HasTurnedOn s hs new here device now =
-    turned_then stands s hs p.front p.back now device machine x.node st2 put in
+    turned_then stands s hs p.front p.back now device machine on.node st2 put in
     let same : earlier now hs ≡ earlier now (hs ++ new) = sym (earlier_still now hs new (λ z i. let t = (it.work.of_now z i).0 in omega (arith, t))) in
     let points : points_of hs device ≡ points_of (hs ++ new) device = sym (points_same new hs device (λ z i. let t = it.work.of_now z i in
     (quiet_rest s device now z.note.body (it.work.still z (in_right z hs new i) t.0), t.1))) in
-    let due_of_act : (task : Task) → IsActing s hs now device task → (HasDoneTask x.then_ task → ⊥) → IsDueTask s device x.then_ now task = λ task a not.
-    act_due {js = hs ++ new} {node = x.then_} (record { left = it.work.left; sound = it.work.sound })
+    let due_of_act : (task : Task) → IsActing s hs now device task → (HasDoneTask then_ task → ⊥) → IsDueTask s device then_ now task = λ task a not.
+    act_due {js = hs ++ new} {node = then_} (record { left = it.work.left; sound = it.work.sound })
     (record { taken = it.taken; past = it.work.past; lawful = law }) same points a not in
-    let worked : (task : Task) → HasDoneTask x.then_ task
-    → HadComeTo s device x.then_ (changed_at (hs ++ new) device now) now task ⊎ IsBefore (task_place s.network now device task) here = λ task has.
+    let worked : (task : Task) → HasDoneTask then_ task
+    → HadComeTo s device then_ (changed_at (hs ++ new) device now) now task ⊎ IsBefore (task_place s.network now device task) here = λ task has.
     elim (x.did task has) [
       | inr e ↦ inr (subst (λ q. IsBefore q here) (sym e) (before_behind at))
       | inl before ↦ elim (st2.worked task before) [
-        | inl sooner ↦ inl (still_came s device x.node x.then_ _ _ now task x.adjustment (ap (change_in device) earlier_same) sooner)
+        | inl sooner ↦ inl (still_came s device on.node then_ _ _ now task x.adjustment (ap (change_in device) earlier_same) sooner)
         | inr gone ↦ inr (stays at (task_place s.network now device task) gone)
       ]
     ] in
     let there : IsIn w new = in_right w p.front (w ∷ p.back) (inl refl) in
-    one_goes_by x.c x.st p (omega (arith, room)) made.so
-    (all_of_act hs new now x.node x.then_ act w x.acted law (λ z i. (it.work.of_now z i).0) made.told x.apart there
+    one_goes_by on.here on.st p (omega (arith, room)) made.so
+    (all_of_act hs new now on.node then_ act w on.did.1 law (λ z i. (it.work.of_now z i).0) made.told x.apart there
     (λ low. x.at_place low p.front))
     x.set
     (kept_on stands here after it.is it.work it.cleared it.taken
-    (bare_act s.network device x.node (moment_of s device now) act x.then_ x.acted x.st.bare) turned it.phase x.st.reach x.st.calm.falls
-    (λ task b a. elim (done_or x.then_ task) [ inl did ↦ did | inr not ↦ absurd (none_due task (due_of_act task a not) b) ]) worked)
+    (bare_act s.network device on.node (moment_of s device now) act then_ on.did.1 on.st.bare) turned it.phase on.st.reach on.st.calm.falls
+    (λ task b a. elim (done_or then_ task) [ inl did ↦ did | inr not ↦ absurd (none_due task (due_of_act task a not) b) ]) worked)

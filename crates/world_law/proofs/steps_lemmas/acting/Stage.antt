@@ -4,10 +4,10 @@ use Rattle.world_law.proofs.steps_lemmas.Words.{Happening, HasCleared, HasTaskBy
 use Rattle.world_law.proofs.steps_lemmas.Words.{IsFounded, IsHeld, IsIn, IsKept, IsLawful, IsMoving, IsNoTaking, IsOne, IsOwnSource, IsSet, IsShownPut}
 use Rattle.world_law.proofs.steps_lemmas.Words.{IsSource, IsSteady, IsAtRest, Integrating, IsUnfollowed, List, Network, Node, NoneBefore, Note, NoteBody, Scenario, Some, Stands}
 use Rattle.world_law.proofs.steps_lemmas.Words.{StandsBehind, Task, World, act_place, amount, ap, are_past, arith, bears_on, before_behind}
-use Rattle.world_law.proofs.steps_lemmas.Words.{Act, HadComeTo, HasActed, HasDoneTask, acts_first, changed_at, correcting, doing, in_right, of_device, same_device}
+use Rattle.world_law.proofs.steps_lemmas.Words.{acting, IsActOf, MayCall, Act, HadComeTo, HasActed, HasDoneTask, acts_first, changed_at, correcting, doing, in_right, of_device, same_device}
 use Rattle.world_law.proofs.steps_lemmas.Words.{second, task_place}
 use Rattle.world_law.proofs.steps_lemmas.{acting.First.{act_more, act_next, act_rest, act_stands, first_of, late_rank, low_rank}, growing.FromZero.kept_from_zero}
-use Rattle.world_law.{proofs.devices.Working.came_sooner, specs.{device.Growing.IsFromZero, steps.Acting.{place_of_act, rank_of_act, task_of}}}
+use Rattle.world_law.{proofs.devices.Working.came_sooner, specs.{device.Growing.IsFromZero, steps.Acting.{Acts, place_of_act, rank_of_act, task_of}}}
 use Rattle.world_law.proofs.{putting.PutOne.one_well, rows.Dispatching.founded_with}
 use Rattle.run_law.proofs.runs.Places.{before_or_not}
 use Rattle.world_law.proofs.steps_lemmas.Words.{◌⊎◌, both_ways, chain}
@@ -175,6 +175,28 @@ stage_of {C} {M} reading stands s world notes old device machine after act lt fi
             limit = old.limit;
           },
         )
+
+-- what a step starts from by which the device acts so: where it stands, and what it is then
+pub record IsActOn {C M : Type 0} (reading : C → ℕ → ℕ) (stands : M → Network → DeviceId → Node → Type 0)
+    (s : Scenario) (world : World C M) (notes : List Note) (old : Stands reading stands s world notes)
+    (device : DeviceId) (machine after : M) (act : Act) : Type 0 where
+  pub room : length notes + length world.settled + 2 < numbers_end
+  pub node : Node
+  pub here : StandsHere reading stands s world notes (rank_of_act act) (act_rest s.network device act)
+  pub st : StageOf stands s (happenings s.network notes) world.settled world.now device machine node act
+  pub may : MayCall s.network device node (moment_of s device world.now) acting
+  pub did : (new : Node) × IsActOf s.network device node (moment_of s device world.now) act new
+      × stands after s.network device new
+
+pub acts_on_it : {C M : Type 0} {reading : C → ℕ → ℕ} {stands : M → Network → DeviceId → Node → Type 0} {s : Scenario}
+    {world : World C M} {notes : List Note} {device : DeviceId} {after : M} {bodies : List NoteBody}
+    {old : Stands reading stands s world notes} (a : Acts reading stands s world notes old device after bodies)
+    → IsActOn reading stands s world notes old device a.machine after a.act
+acts_on_it {reading} {stands} {s} {world} {notes} {device} {after} {old} a =
+    let x = stage_of reading stands s world notes old device a.machine after a.act a.of_it a.first a.apart a.there a.due a.acted in
+    let st = x.2 in
+    let may = may_act_now s device x.0 world.now st.work.ready st.steady st.limit in
+    record { room = a.first.room; node = x.0; here = x.1; st = st; may = may; did = a.acted x.0 st.is may st.task }
 
 -- ---- its record
 
