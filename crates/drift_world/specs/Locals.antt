@@ -17,6 +17,13 @@ abbrev pub local_shown : Bool → DeviceState → ℕ → Units → Option ℤ
 local_shown false Synchronised reading adjustment = Some (pos reading +ℤ adjustment.0)
 local_shown broken state reading adjustment = None
 
+-- the clock of the device may be read at the time: that is no earlier than the last step of its rate, and at most 2^60
+pub record MayRead {C M : Type 0} (last_step : C → ℕ) (network : Network) (state : State C M) (device : DeviceId)
+    (t : Units) : Type 0 where
+  pub there : device.0 < length network.device
+  pub stepped : (clock : C) → slice_get state.clocks.items device.0 ≡ Some clock → pos (last_step clock) ≤ℤ t.0
+  pub limit : t.0 ≤ℤ pos (2 ^ 60)
+
 -- the state shows so much of the device's local clock at the time
 pub record Shows {C M : Type 0} (reading : C → ℕ → ℕ) (stands : M → Network → DeviceId → Node
     → Type 0) (state : State C M)

@@ -1,8 +1,8 @@
-ghost use Rattle.std.specs.Prelude.{◌+◌, ◌∷◌, ◌≡◌, ◌≤◌, List, OnErr, OnOk, [], false, length, true, ℕ};
+ghost use Rattle.std.specs.Prelude.{◌+◌, ◌∷◌, ◌≡◌, ◌≤◌, List, OnErr, OnOk, [], false, length, ℕ};
 ghost use Rattle.drift_world.specs.{Nearing.IsLess, Turns.{IsStep, MayWork}, declared.source.Source.Source};
-ghost use Rattle.drift_world.specs.{Sound.IsSound, Stepping.{ChangesOnly, IsRunning}, Views.world_of};
-ghost use Rattle.{net_plan.specs.Ranges.IsInRange, world_state.specs.Keeping.keeps};
-ghost use Rattle.run_law.specs.{declared.note.Note.Note, records.Order.behind, scenario.Scenarios.Scenario};
+ghost use Rattle.drift_world.specs.{Sound.IsSound, Stepping.ChangesOnly, Views.world_of};
+ghost use Rattle.{run_law.specs.records.Order.behind, world_state.specs.Keeping.keeps};
+ghost use Rattle.run_law.specs.{declared.note.Note.Note, scenario.Scenarios.Scenario};
 ghost use Rattle.world_law.specs.world.{Moves.StandsAt, World.Stands};
 
 use crate::state::State;
@@ -18,10 +18,7 @@ impl<C: Clock, M: Machine + Drop> State<C, M> {
     ///
     /// On an error nothing has changed: memory ran out, or there are no numbers for the records.
     fn settle_befallen(&mut self, network: &Network) -> Result<(), OutOfMemory>
-        requires sound { IsSound C.last_step network.now self.old }
-        requires range { IsInRange network.now }
-        requires pending { self.old.pending ≡ true }
-        requires running { IsRunning C.reading M.stands network.now self.old }
+        requires may { MayWork C.last_step C.reading M.stands network.now self.old (Source.Events) }
         ensures sound { IsSound C.last_step network.now self.new }
         ensures stands { (s : Scenario) (notes : List Note)
             → Stands C.reading (keeps M.stands) s (world_of network.now self.old) notes
@@ -37,7 +34,6 @@ impl<C: Clock, M: Machine + Drop> State<C, M> {
           early = self.new.early;
           pending = self.new.pending;
         } }
-        ensures given { self.new.given ≡ self.old.given }
         ensures no_more { OnOk result (length self.new.befell.items + length self.new.under_way.entries
             ≤ length self.old.befell.items + length self.old.under_way.entries) }
     {

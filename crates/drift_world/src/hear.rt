@@ -1,10 +1,8 @@
 ghost use Rattle.std.specs.Prelude.{◌+◌, ◌<◌, ◌≡◌, ◌≤◌, IfOk, List, OnErr, false, length, ℕ};
-ghost use Rattle.{drift_world.specs.Sound.IsSound, net_plan.specs.Ranges.IsInRange};
-ghost use Rattle.drift_world.specs.{Stepping.{ChangesOnly, IsAt, StandsPast}, Turns.{IsKept, MayWork, WorkSays}};
-ghost use Rattle.drift_world.specs.{Turns.{given_in, noted}, declared.source.Source.{Source as SourceOf}};
+ghost use Rattle.drift_world.specs.{Sound.IsSound, Stepping.{ChangesOnly, StandsPast}, Turns.{IsKept, MayWork}};
+ghost use Rattle.drift_world.specs.{Turns.{WorkSays, given_in, noted}, declared.source.Source.{Source as SourceOf}};
 ghost use Rattle.{run_law.specs.records.Ranks.{place_of, rank}, world_state.specs.Places.IsPutAt};
-ghost use Rattle.world_state.specs.{Frames.room_of, Giving.{HasItsOctets, changed_device}};
-ghost use Rattle.world_state.specs.queue.Places.{IsFirst, numbers_of};
+ghost use Rattle.world_state.specs.{Frames.room_of, Giving.{HasItsOctets, changed_device}, queue.Places.numbers_of};
 ghost use Rattle.world_state.specs.{Views.settled_at, declared.contents.Settled.{Settled as SettledValue}};
 ghost use Rattle.world_law.specs.world.World.{is_at_source};
 
@@ -27,14 +25,7 @@ impl<C: Clock, M: Machine + Drop> State<C, M> {
     /// answered, which is to be put in among what is settled.
     #[inline(always)]
     fn hear_wire(&mut self, network: &Network, place: DueAt) -> Settled
-        requires sound { IsSound C.last_step network.now self.old }
-        requires range { IsInRange network.now }
-        requires first { IsFirst self.old.under_way.entries place }
-        requires wire { place.rank ≡ 2 }
-        requires device { place.device < length network.now.device }
-        requires link { place.link < length network.now.link }
-        requires at { place.at ≡ self.old.time }
-        requires comes { IsAt C.reading M.stands network.now self.old (numbers_of place) }
+        requires may { MayWork C.last_step C.reading M.stands network.now self.old (SourceOf.Arrival place) }
         ensures sound { IsSound C.last_step network.now self.new }
         ensures octets { HasItsOctets result.body result.octets }
         ensures own { rank result.body ≡ 2

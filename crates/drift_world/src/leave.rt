@@ -2,7 +2,7 @@ ghost use Rattle.std.specs.Prelude.{◌+◌, ◌<◌, ◌^◌, ◌∷◌, ◌≡
 ghost use Rattle.{net_plan.specs.Ranges.IsInRange, run_law.specs.scenario.Scenarios.Scenario};
 ghost use Rattle.drift_world.specs.Turns.{IsKept, MayWork, WorkSays, noted};
 ghost use Rattle.drift_world.specs.declared.source.Source.{Source as SourceOf};
-ghost use Rattle.world_state.specs.queue.Places.{IsFirst, numbers_of};
+ghost use Rattle.world_state.specs.queue.Places.{numbers_of};
 ghost use Rattle.world_law.specs.world.World.{is_at_source};
 
 use crate::next::Turn;
@@ -52,13 +52,7 @@ impl<C: Clock, M: Machine + Drop> State<C, M> {
     /// what is settled; of a broken device there is none.
     #[inline(always)]
     fn leave_port(&mut self, network: &Network, place: DueAt) -> Option<Settled>
-        requires sound { IsSound C.last_step network.now self.old }
-        requires range { IsInRange network.now }
-        requires first { IsFirst self.old.under_way.entries place }
-        requires port { place.rank ≡ 8 }
-        requires device { place.device < length network.now.device }
-        requires link { place.link < length network.now.link }
-        requires at { place.at ≡ self.old.time }
+        requires may { MayWork C.last_step C.reading M.stands network.now self.old (SourceOf.Departure place) }
         ensures sound { IsSound C.last_step network.now self.new }
         ensures octets { IfSome result (λ z. HasItsOctets z.body z.octets) }
         ensures late { IfSome result (λ z. (rank z.body ≡ 8 → ⊥) → is_at_source z.body ≡ false) }

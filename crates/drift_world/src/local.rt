@@ -1,5 +1,5 @@
-ghost use Rattle.std.specs.Prelude.{◌<◌, ◌^◌, ◌≡◌, ◌≤ℤ◌, IfSome, Some, length, pos, slice_get};
-ghost use Rattle.{drift_world.specs.{Locals.{IsWide, Shows}, Sound.IsSized}, tte_units.specs.Amount.amount};
+ghost use Rattle.std.specs.Prelude.{IfSome};
+ghost use Rattle.{drift_world.specs.{Locals.{IsWide, MayRead, Shows}, Sound.IsSized}, tte_units.specs.Amount.amount};
 
 use crate::state::State;
 use drift_clock::Clock;
@@ -17,10 +17,7 @@ pub fn local_of<C: Clock, M: Machine + Drop>(
     t: Units,
 ) -> Option<i128>
     requires sized { IsSized C.last_step network.now state.now }
-    requires there { device.0 < length network.now.device }
-    requires stepped { (clock : C) → slice_get state.now.clocks.items device.0 ≡ Some clock
-        → pos (C.last_step clock) ≤ℤ t.0 }
-    requires limit { t.0 ≤ℤ pos (2 ^ 60) }
+    requires may { MayRead C.last_step network.now state.now device t }
     ensures shows { Shows C.reading M.stands state.now device (amount t) result }
     ensures range { IfSome result IsWide }
 {

@@ -3,16 +3,12 @@ use Rattle.world_state.specs.Frames.{Waiting, room_of}
 use Rattle.drift_world.proofs.{Fits.{all_put, have_octets, sound_same}, Timings.rekeyed, Words.{length, place_of, rank, refl, settled_at, subst, sym}}
 use Rattle.drift_world.proofs.Words.{world_of}
 use Rattle.drift_world.{proofs.{Halves.{set_act, waits_as}, OwnPlaces.{changes_both, no_shelf, none_ahead, runs_first, stands_first, waits_at}}, specs.declared.state.State.State}
-use Rattle.drift_world.{proofs.Turning.{comes_first, is_at, kept_timers, rekeyed_step, runs_on, step_kept}, specs.declared.source.Source.TheVariants.Arrival}
+use Rattle.drift_world.{proofs.Turning.{comes_first, kept_timers, rekeyed_step, runs_on, step_kept}, specs.declared.source.Source.TheVariants.Arrival}
 use Rattle.drift_world.proofs.Words.{◌++◌, ◌<◌, ◌∙◌, ◌∷◌, ◌≡◌, ChangesOnly, DeviceId, IsPutAt, IsSound, List, Note, Scenario, ap, arith, keeps}
 use Rattle.drift_world.proofs.Words.{StandsOne, [], inl}
 use Rattle.drift_world.proofs.{AtSource.{IsLate, all_late, one_behind}, Turning.shaped}
 use Rattle.drift_world.proofs.state.State.hear_turn.Given as given
 use Rattle.drift_world.proofs.state.State.hear_turn.Goals as goal
-
-pub hear_wire-record-requires-clause-comes : goal.hear_wire-record-requires-clause-comes
-hear_wire-record-requires-clause-comes g c = is_at g.C.Clock.last_step g.C.Clock.reading g.M.Machine.stands c.args.network.now c.args.self.now
-    (Arrival c.args.place) c.requires.may tt
 
 -- ---- its record is given
 

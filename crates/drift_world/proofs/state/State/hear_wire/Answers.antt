@@ -5,14 +5,15 @@ use Rattle.drift_world.proofs.Words.{◌+◌, ◌<◌, ◌≡◌, DeviceId, IsPu
 use Rattle.drift_world.proofs.Words.{keeps, length, length-set, length_permutation, moment_of, numbers_of, place_of, rank, refl, settled_at, slice_get_read}
 use Rattle.{std.proofs.Common.{set, slice_get}, world_law.proofs.giving.GivenParts.some_same}
 use Rattle.world_law.specs.world.World.{is_at_source}
+use Rattle.drift_world.{proofs.Turning.is_at, specs.declared.source.Source.TheVariants.Arrival}
 use Rattle.drift_world.proofs.state.State.hear_wire.Given as given
 use Rattle.drift_world.proofs.state.State.hear_wire.Goals as goal
 
 -- the machine of its device, and the moment at which it hears
 held : (g : given.Over) (c : After-index_mut-machine g) → slice_get c.args.self.now.machines.items c.args.place.device ≡ Some c.index_mut-machine.result.now
 held g c =
-    let within = c.requires.device in
-    let machines = c.requires.sound.sized.machines in
+    let within = c.requires.may.foremost.there.device in
+    let machines = c.requires.may.well.sound.sized.machines in
     let kept = c.args.self.now.machines.ok.0 in
     slice_get_read c.args.self.now.machines.items c.args.self.now.machines.len c.args.place.device c.index_mut-machine.result.now c.args.self.now.machines.ok.0
     (omega (arith, machines, within, kept)) c.index_mut-machine.ensures.value
@@ -23,8 +24,8 @@ now_is : (g : given.Over) (c : After-read g) (s : Scenario) (notes : List Note)
     ≡ moment_of s (record { 0 = c.args.place.device }) c.args.self.now.time
 now_is g c s notes old =
     let device : DeviceId = record { 0 = c.args.place.device } in
-    let within = c.requires.device in
-    let clocks = c.requires.sound.sized.clocks in
+    let within = c.requires.may.foremost.there.device in
+    let clocks = c.requires.may.well.sound.sized.clocks in
     let held = c.args.self.now.clocks.ok.0 in
     let own = old.clocks device (subst (λ (n : Network). device.0 < length n.device) old.same within) in
     moment_is g.C.Clock.reading s c.args.self.now.time device own.0 c.index.result.now c.from_amount-time.result c.read.result
@@ -35,29 +36,29 @@ now_is g c s notes old =
 
 pub hear_signal-arrival-requires-clause-may : goal.hear_signal-arrival-requires-clause-may
 hear_signal-arrival-requires-clause-may g c =
-    let at = c.requires.comes in
+    let at = is_at g.C.Clock.last_step g.C.Clock.reading g.M.Machine.stands c.args.network.now c.args.self.now (Arrival c.args.place) c.requires.may tt in
     may_come g.C.Clock.reading (keeps g.M.Machine.stands) at.s c.args.network.now c.args.self.now at.notes at.is c.args.place c.take_wire-signal.result
-    c.take_wire-signal.new.under_way.entries c.take_wire-signal.ensures.taken c.requires.wire c.requires.at c.index_mut-machine.result.now
+    c.take_wire-signal.new.under_way.entries c.take_wire-signal.ensures.taken c.requires.may.foremost.there.rank_is c.requires.may.foremost.there.now c.index_mut-machine.result.now
     (record { time = c.from_amount-time.result; reading = c.read.result })
     (held g (goal.at.hear_signal-arrival-requires-clause-may g c).After-index_mut-machine)
     (now_is g (goal.at.hear_signal-arrival-requires-clause-may g c).After-read at.s at.notes at.is)
 
 pub hear_signal-arrival-requires-clause-as_sent : goal.hear_signal-arrival-requires-clause-as_sent
 hear_signal-arrival-requires-clause-as_sent g c =
-    let at = c.requires.comes in
+    let at = is_at g.C.Clock.last_step g.C.Clock.reading g.M.Machine.stands c.args.network.now c.args.self.now (Arrival c.args.place) c.requires.may tt in
     as_sent g.C.Clock.reading (keeps g.M.Machine.stands) at.s c.args.network.now c.args.self.now at.notes at.is c.args.place c.take_wire-signal.result
-    c.take_wire-signal.new.under_way.entries c.take_wire-signal.ensures.taken c.requires.wire c.requires.at
+    c.take_wire-signal.new.under_way.entries c.take_wire-signal.ensures.taken c.requires.may.foremost.there.rank_is c.requires.may.foremost.there.now
 
 pub returns-clause-sound : goal.returns-clause-sound
 returns-clause-sound g c =
     let w = c.args.self.now in
-    let z = c.requires.sound.sized in
-    let fit = c.requires.sound.fit in
+    let z = c.requires.may.well.sound.sized in
+    let fit = c.requires.may.well.sound.fit in
     let took = c.take_wire-signal in
     record {
       sized = sized_so g.C.Clock.last_step c.args.network.now c.args.self.now _ z refl
           (length-set w.machines.items c.args.place.device c.hear_signal-arrival.new.kept) refl refl refl refl refl;
-      under_way = sound_without c.args.network.now w.under_way.entries took.new.under_way.entries _ c.requires.sound.under_way took.ensures.taken;
+      under_way = sound_without c.args.network.now w.under_way.entries took.new.under_way.entries _ c.requires.may.well.sound.under_way took.ensures.taken;
       fit = record {
         ups = fit.ups;
         downs = fit.downs;
@@ -71,11 +72,11 @@ returns-clause-sound g c =
 pub returns-clause-octets : goal.returns-clause-octets
 returns-clause-octets g c =
     let took = c.take_wire-signal in
-    let at = c.requires.comes in
+    let at = is_at g.C.Clock.last_step g.C.Clock.reading g.M.Machine.stands c.args.network.now c.args.self.now (Arrival c.args.place) c.requires.may tt in
     let heard = c.hear_signal-arrival in
     subst have_octets (sym c.arrived.ensures)
     (heard_octets g.C.Clock.reading (keeps g.M.Machine.stands) at.s c.args.network.now c.args.self.now at.notes at.is c.args.place took.result
-    took.new.under_way.entries took.ensures.taken c.requires.wire c.requires.at c.index_mut-machine.result.now
+    took.new.under_way.entries took.ensures.taken c.requires.may.foremost.there.rank_is c.requires.may.foremost.there.now c.index_mut-machine.result.now
     (record { time = c.from_amount-time.result; reading = c.read.result }) (held g (goal.at.returns-clause-octets g c).After-index_mut-machine)
     (now_is g (goal.at.returns-clause-octets g c).After-read at.s at.notes at.is) heard.new.kept heard.ensures.0 heard.result heard.ensures.1
     heard.ensures.2)
@@ -86,7 +87,7 @@ returns-clause-own g c = λ two.
     let network = c.args.network.now in
     let z = c.arrived.ensures in
     subst (λ (r : Settled). rank r.body ≡ 2 → place_of (settled_at network w.time r) ≡ numbers_of c.args.place) (sym z)
-    (arrived_own network w.time c.args.place c.hear_signal-arrival.result c.take_wire-signal.result c.requires.at c.requires.wire) two
+    (arrived_own network w.time c.args.place c.hear_signal-arrival.result c.take_wire-signal.result c.requires.may.foremost.there.now c.requires.may.foremost.there.rank_is) two
 
 pub returns-clause-device : goal.returns-clause-device
 returns-clause-device g c = λ two.
@@ -102,16 +103,16 @@ pub returns-clause-stands : goal.returns-clause-stands
 returns-clause-stands g c = λ settled index put s notes old first.
     let w = c.args.self.now in
     let device : DeviceId = record { 0 = c.args.place.device } in
-    let within = c.requires.device in
-    let machines = c.requires.sound.sized.machines in
+    let within = c.requires.may.foremost.there.device in
+    let machines = c.requires.may.well.sound.sized.machines in
     let kept = w.machines.ok.0 in
     let took = c.take_wire-signal in
     let heard = c.hear_signal-arrival in
     heard_stands g.C.Clock.reading (keeps g.M.Machine.stands) s c.args.network.now w notes old c.args.place took.result took.new.under_way.entries took.ensures.taken
-    c.requires.wire c.requires.at c.index_mut-machine.result.now (record { time = c.from_amount-time.result; reading = c.read.result })
+    c.requires.may.foremost.there.rank_is c.requires.may.foremost.there.now c.index_mut-machine.result.now (record { time = c.from_amount-time.result; reading = c.read.result })
     (held g (goal.at.returns-clause-stands g c).After-index_mut-machine) (now_is g (goal.at.returns-clause-stands g c).After-read s notes old)
     heard.new.kept heard.ensures.0 heard.result (set w.machines.items device.0 heard.new.kept) settled index
-    c.requires.sound.under_way first heard.ensures.1 heard.ensures.2
+    c.requires.may.well.sound.under_way first heard.ensures.1 heard.ensures.2
     (record {
       there = set_same w.machines.items device.0 heard.new.kept (omega (arith, machines, within, kept));
       same = λ i apart. set_aside w.machines.items device.0 i heard.new.kept apart;

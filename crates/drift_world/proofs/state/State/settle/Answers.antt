@@ -8,7 +8,7 @@ returns-clause-step g c =
     let step = c.settle_befallen.ensures in
     let after = world_of c.args.network.now c.settle_befallen.new.self in
     plain_step g.C.Clock.last_step g.C.Clock.reading g.M.Machine.stands c.args.network.now w c.settle_befallen.new.self
-    c.requires.may.well step.sound step.others (ap (λ (t : State _ _). t.timers) step.same) step.given
+    c.requires.may.well step.sound step.others (ap (λ (t : State _ _). t.timers) step.same) (ap (λ (t : State _ _). t.given) step.same)
     (λ s notes old. either_end c.settle_befallen.result _ _
     (StandsOne g.C.Clock.reading (keeps g.M.Machine.stands) s after notes)
     (step.stands s notes old.0) step.err (λ is. one_of is)

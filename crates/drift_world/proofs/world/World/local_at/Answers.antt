@@ -1,31 +1,36 @@
 use Rattle.{drift_world.proofs.{LocalValues.{complete_reads, local_value, now_reads}, LocalsBefore.local_is_before}, world_law.proofs.giving.GivenParts.some_same}
 use Rattle.drift_world.proofs.{Locals.{clock_stepped, local_is}, Words.{in_all, inl, inr, ints, keeps, length, reading_of, scenario, subst, sym}}
-use Rattle.drift_world.proofs.Words.{◌<◌, ◌^◌, ◌∙◌, ◌≤◌, IsComplete, IsLocalClockBefore, Kept, Stands, StandsUnder, World, amount, ap, arith, happenings}
+use Rattle.drift_world.proofs.Words.{◌<◌, ◌^◌, ◌∙◌, ◌≤◌, IsComplete, IsLocalClockBefore, Kept, Network, Stands, StandsUnder, World, amount, ap, arith, happenings}
 use Rattle.drift_world.proofs.world.World.local_at.Given as given
 use Rattle.drift_world.proofs.world.World.local_at.Goals as goal
 
-pub local_of-requires-clause-stepped : goal.local_of-requires-clause-stepped
-local_of-requires-clause-stepped g c = λ clock found.
+pub local_of-requires-clause-may : goal.local_of-requires-clause-may
+local_of-requires-clause-may g c =
     let K = g.C.Clock in
     let world = c.args.self.now in
     let network = world.network in
     let device = c.args.device in
     let state = c.self.inside.state in
     let begun = c.requires.may.time.begun in
-    elim c.requires.may.may [
-      | inl may ↦
-          let was = may.is.is.clocks device c.requires.may.there in
-          let viewed = ap (λ (w : World _ (Kept _)). Rattle.std.specs.List.slice_get w.clocks device.0) c.self.view_is in
-          let same = some_same _ _ _ found (viewed ∙ was) in
-          let least = clock_stepped K.fresh K.after_step K.last_step g.met.C.Clock.begins_unstepped g.met.C.Clock.steps_by network may.events device
-          (amount c.args.t) may.is.past in
-          let le : K.last_step clock ≤ amount c.args.t = subst (λ k. K.last_step k ≤ amount c.args.t) (sym same) least in
-          omega (arith, ints, le, begun)
-      | inr now ↦
-          let least = in_all (λ k. K.last_step k ≤ state.time) state.clocks.items device.0 clock c.self.invariant.sound.sized.stepped found in
-          let at = now.0 ∙ sym (ap (λ (w : World _ (Kept _)). w.now) c.self.view_is) in
-          omega (arith, ints, least, at, begun)
-    ]
+    record {
+      there = subst (λ (n : Network). c.args.device.0 < length n.device)
+          (sym (c.network.ensures.value ∙ ap (λ (w : World _ (Kept _)). w.network) c.self.view_is)) c.requires.may.there;
+      stepped = λ clock found. elim c.requires.may.may [
+        | inl may ↦
+            let was = may.is.is.clocks device c.requires.may.there in
+            let viewed = ap (λ (w : World _ (Kept _)). Rattle.std.specs.List.slice_get w.clocks device.0) c.self.view_is in
+            let same = some_same _ _ _ found (viewed ∙ was) in
+            let least = clock_stepped K.fresh K.after_step K.last_step g.met.C.Clock.begins_unstepped g.met.C.Clock.steps_by network may.events device
+            (amount c.args.t) may.is.past in
+            let le : K.last_step clock ≤ amount c.args.t = subst (λ k. K.last_step k ≤ amount c.args.t) (sym same) least in
+            omega (arith, ints, le, begun)
+        | inr now ↦
+            let least = in_all (λ k. K.last_step k ≤ state.time) state.clocks.items device.0 clock c.self.invariant.sound.sized.stepped found in
+            let at = now.0 ∙ sym (ap (λ (w : World _ (Kept _)). w.now) c.self.view_is) in
+            omega (arith, ints, least, at, begun)
+      ];
+      limit = c.requires.may.time.limit;
+    }
 
 -- the device is one of the network
 there : (g : given.Over) (c : goal.After-local_of g) → c.args.device.0 < length c.self.inside.accepted.now.device

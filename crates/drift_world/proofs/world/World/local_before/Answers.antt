@@ -1,14 +1,21 @@
 use Rattle.drift_world.proofs.{LocalsBefore.local_is_before, Words.{reading_of, scenario, subst, sym}}
-use Rattle.drift_world.proofs.Words.{◌<◌, ◌∙◌, ◌≤◌, IsLocalClockBefore, Kept, Stands, World, amount, ap, arith, happenings, in_all, ints, keeps, length}
+use Rattle.drift_world.proofs.Words.{◌<◌, ◌∙◌, ◌≤◌, IsLocalClockBefore, Kept, Network, Stands, World, amount, ap, arith, happenings, in_all, ints, keeps, length}
 use Rattle.drift_world.proofs.world.World.local_before.Goals as goal
 
-pub local_of-requires-clause-stepped : goal.local_of-requires-clause-stepped
-local_of-requires-clause-stepped g c = λ clock found.
+pub local_of-requires-clause-may : goal.local_of-requires-clause-may
+local_of-requires-clause-may g c =
     let K = g.C.Clock in
     let state = c.self.inside.state in
-    let least = in_all (λ k. K.last_step k ≤ state.time) state.clocks.items c.args.device.0 clock c.self.invariant.sound.sized.stepped found in
     let is = c.from_amount-now.ensures.whole in
-    omega (arith, ints, least, is)
+    let limit = c.self.invariant.sound.sized.limit in
+    record {
+      there = subst (λ (n : Network). c.args.device.0 < length n.device)
+          (sym (c.network.ensures.value ∙ ap (λ (w : World _ (Kept _)). w.network) c.self.view_is)) c.requires.there;
+      stepped = λ clock found.
+          let least = in_all (λ k. K.last_step k ≤ state.time) state.clocks.items c.args.device.0 clock c.self.invariant.sound.sized.stepped found in
+          omega (arith, ints, least, is);
+      limit = omega (arith, ints, limit, is);
+    }
 
 pub returns-clause-local : goal.returns-clause-local
 returns-clause-local g c = λ network events notes under early.
