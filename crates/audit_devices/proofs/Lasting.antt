@@ -1,8 +1,8 @@
 -- How long the same is shown.
-use Rattle.audit_devices.{proofs.{Partitions.kept_front, Words.{take, time_at, true, ℕ}}, specs.{Keeping.IsInOrder, Lasting.{IsUpTo, Lasts}}}
+use Rattle.audit_devices.{proofs.{Partitions.kept_front, Words.{take, time_at, true, ℕ}}, specs.{Keeping.IsInOrder, Lasting.{IsUpTo, Lasts, end_of}}}
 use Rattle.audit_devices.proofs.Words.{◌+◌, ◌<◌, ◌==◌, ◌∙◌, ◌∷◌, ◌≡◌, ◌≤◌, Bool, Entry, History, IsPartitionPoint, IsPartitionedBy, List, None, Option, Shown}
 use Rattle.audit_devices.proofs.Words.{Some, [], ap, arith, false, filter, got_within, is_before, last_or, length, nat_lt, option_map_or, refl, slice_get, sym}
-use Rattle.std.{proofs.{Common.get_or, lemmas.{Bool.{le-leb, leb-false, leb-true, lt-ltb, ltb-true}, Option.slice_get-get_or}}, specs.Prelude.nat_le}
+use Rattle.std.{proofs.{Common.get_or, lemmas.{Bool.{le-leb, leb-false, leb-true, lt-ltb, ltb-true}, Option.slice_get-get_or}}, specs.Prelude.{MatchOption, nat_le}}
 use Rattle.tte_units.proofs.general_lemmas.Bools.{no_more}
 
 -- a place is before all records of a later time than the first exactly where it is of an earlier time
@@ -62,3 +62,17 @@ ordered_by items time order i j d le lt passes =
     let first = order ((time + 1) ∷ []) i j d le lt before in
     let is = ltb-true (time_at (get_or items i d).place) (time + 1) (sym (by_time (get_or items i d).place (time + 1) (omega arith)) ∙ first) in
     le-leb (time_at (get_or items i d).place) time (omega (arith, is))
+
+-- ---- up to the next time, or the last one
+
+pub end_near : (next : Option ℕ) (until : ℕ) → end_of next until ≤ until
+end_near None until = omega arith
+end_near (Some n) until = omega arith
+
+pub end_later : (next : Option ℕ) (until after : ℕ) → after < until → MatchOption next (Unit {0}) (λ n. after < n) → after < end_of next until
+end_later None until after lt later = lt
+end_later (Some n) until after lt later = omega (arith, lt, later)
+
+pub up_to_end : (next : Option ℕ) (until t : ℕ) → t ≤ end_of next until → IsUpTo next t
+up_to_end None until t le = tt
+up_to_end (Some n) until t le = omega (arith, le)

@@ -1,5 +1,5 @@
 ghost use Rattle.std.specs.Prelude.{◌≡◌, ◌<◌, ◌-◌, ◌^◌, ◌∷◌, ◌++◌, [], List, IfOk, IfSome, OnOk, Some, ℕ, length};
-ghost use Rattle.net_plan.specs.Ranges.{IsInRange};
+ghost use Rattle.{audit_devices.specs.Lasting.end_of, net_plan.specs.Ranges.IsInRange};
 
 use crate::history::History;
 use crate::subject::subject_of;
@@ -18,7 +18,7 @@ pub struct Standings {
 }
 
 impl Standings {
-    ghost use Rattle.audit_devices.specs.{Keeping.{IsSeen, Stands, device_count, records_before}, Lasting.ShowsUpTo};
+    ghost use Rattle.audit_devices.specs.{Keeping.{IsSeen, Stands, device_count, records_before}, Lasting.ShowsWithin};
     ghost use Rattle.{audit_devices.specs.Showing.{IsSteady, Shows}, net_plan.specs.declared.ids.DeviceId.DeviceId};
     ghost use Rattle.run_law.specs.declared.{judgement.Judgement.Judgement, note.NoteBody.TheVariants.Permanent};
     ghost use Rattle.run_law.specs.{plain.Places.number_of, records.Order.AllBefore, scenario.Scenarios.Scenario};
@@ -90,21 +90,19 @@ impl Standings {
         self.before(device, &Place::of_time(time))
     }
 
-    /// What the records of earlier times show of the device at the times later than this one, up to that of the next
-    /// record that shows something of it, and this time.
-    pub fn after_time(&self, device: DeviceId, time: u64) -> (&Shown, Option<u64>)
+    /// What the records of earlier times show of the device at the times later than this one, up to another one: that
+    /// of the next record that shows something of it, or `until` if that comes before.
+    pub fn after_time(&self, device: DeviceId, time: u64, until: u64) -> (&Shown, u64)
         requires device { device.0 < device_count self.now }
-        requires limit { time < 2 ^ 64 - 1 }
-        ensures later { (s : Scenario) (hs : List Happening) → Stands s hs self.now
-            → IfSome result.1 (λ next. time < next) }
+        requires before { time < until }
+        ensures near { result.1 ≤ until }
+        ensures later { (s : Scenario) (hs : List Happening) → Stands s hs self.now → time < result.1 }
         ensures shows { (s : Scenario) (hs : List Happening) → Stands s hs self.now
-            → ShowsUpTo s hs device time result.1 result.0.now }
+            → ShowsWithin s hs device time result.1 result.0.now }
     {
         let history = &self.histories[device.0 as usize];
-        (
-            history.before(&Place::of_time(time + 1)),
-            history.next_after(time),
-        )
+        let end = end_of(history.next_after(time), until);
+        (history.before(&Place::of_time(time + 1)), end)
     }
 
     /// What the records show of the device that are of earlier times, or of this one and of a lower rank.
@@ -135,5 +133,15 @@ impl Standings {
             device,
             &Place::of_permanence(time, device, point, members.0, link, cause),
         )
+    }
+}
+
+/// The next time, or the last one where that comes before, or there is no next one.
+fn end_of(next: Option<u64>, until: u64) -> u64
+    ensures { result ≡ end_of next until }
+{
+    match next {
+        Some(next) => next.min(until),
+        None => until,
     }
 }

@@ -1,4 +1,3 @@
-pub mod Ends
 pub mod FirstUnpaid
 pub mod Kept
 pub mod Sent

@@ -6,5 +6,5 @@ mod first;
 mod sending;
 
 pub use correcting::first_untold;
-pub use first::{earlier, end_of};
+pub use first::earlier;
 pub use sending::first_unsent;

@@ -2,7 +2,7 @@
 use Rattle.audit_devices.{proofs.clocks_lemmas.Reached.{come_reaches, reaches_come}, specs.clocks.Finding.{CrossesAt, IsNextCrossing, NoneCrossed, value_in}}
 use Rattle.{audit_devices.specs.Showing.{Shown, Shows}, audit_law.specs.events.Readings.ReadsOn}
 use Rattle.{audit_devices.specs.declared.clocks.finding.{Crossed.Crossed, Series.Series}, audit_sweep.proofs.unpaid_lemmas.points_lemmas.Sendings.AreBeginnings}
-use Rattle.{audit_sweep.specs.unpaid.points.Kept.ShowsWithin, net_plan.specs.declared.ids.DeviceId.DeviceId, std.specs.Prelude.{None, Option, Some, is_some}}
+use Rattle.{audit_devices.specs.Lasting.ShowsWithin, net_plan.specs.declared.ids.DeviceId.DeviceId, std.specs.Prelude.{None, Option, Some, is_some}}
 use Rattle.lens_flows.{proofs.judge_lemmas.Firsts.{first_behind}, specs.judge.Beginnings.{BeginsCycle, BeginsOne, IsFirstBegun, IsNextBegun}}
 use Rattle.{lens_flows.specs.declared.judge.beginning.Begun.Begun, run_law.specs.{records.Happenings.{Happening, earlier}, scenario.Scenarios.Scenario}}
 use Rattle.{lens_flows.specs.judge.Times.NoneWithin, tte_units.specs.Amount.amount}

@@ -4,7 +4,7 @@ use Rattle.{audit_devices.specs.Showing.{Shown, Shows}, net_plan.specs.declared.
 use Rattle.{audit_devices.specs.declared.clocks.finding.Crossed.Crossed, std.proofs.Common.{◌+◌, ◌-◌, ◌≡◌, ◌≤◌, List, arith, refl, subst, sym, ℕ, ℤ}}
 use Rattle.lens_flows.specs.judge.{Times.{IsFirstTime, NoneWithin}, Values.values_from}
 use Rattle.{audit_law.specs.events.Readings.ReadsOn, std.proofs.lemmas.Int.ints}
-use Rattle.{audit_sweep.specs.unpaid.points.Kept.ShowsWithin, run_law.specs.{records.Happenings.{Happening, earlier}, scenario.Scenarios.Scenario}}
+use Rattle.{audit_devices.specs.Lasting.ShowsWithin, run_law.specs.{records.Happenings.{Happening, earlier}, scenario.Scenarios.Scenario}}
 
 first_value : (v : ℤ) → value_in (values_from v) 0 ≡ v
 first_value v = omega (arith, ints)

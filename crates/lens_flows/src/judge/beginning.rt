@@ -1,7 +1,7 @@
 //! The cycles that a device's clock begins.
 
 ghost use Rattle.std.specs.Prelude.{◌≡◌, ◌≤◌, ◌^◌, List};
-ghost use Rattle.{audit_law.specs.events.Remembering.RemembersSome, audit_sweep.specs.unpaid.points.Kept.ShowsWithin};
+ghost use Rattle.{audit_devices.specs.Lasting.ShowsWithin, audit_law.specs.events.Remembering.RemembersSome};
 ghost use Rattle.lens_flows.specs.judge.{Beginnings.IsNextBegun, Courses.{IsCourse, IsFit, IsSomeCourse, scenario_of}};
 ghost use Rattle.net_plan.specs.Belonging.{HasDevice};
 ghost use Rattle.{net_plan.specs.declared.event.Event.Event, run_law.specs.records.Happenings.Happening};
@@ -10,7 +10,6 @@ use crate::judge::Course;
 use audit_devices::Shown;
 use audit_devices::clocks::{beginnings, next_crossing};
 use audit_law::events::reading_law;
-use audit_sweep::unpaid::points::end_of;
 use net_plan::DeviceId;
 
 /// A cycle that a device's clock begins, and when.
@@ -32,8 +31,7 @@ impl Course<'_> {
     {
         let mut from = after;
         'stretches: while from < self.until {
-            let (shown, next) = self.standings.after_time(device, from);
-            let end = end_of(next, self.until);
+            let (shown, end) = self.standings.after_time(device, from, self.until);
             let begun = self.begun_within(device, shown, from, end);
             if begun.is_some() {
                 return begun;

@@ -1,7 +1,7 @@
 //! When a device's clock reaches a place of a cycle.
 
 ghost use Rattle.std.specs.Prelude.{◌≡◌, ◌+◌, ◌*◌, ◌≤◌, ◌^◌, List, pos};
-ghost use Rattle.{audit_devices.specs.clocks.Finding.IsSeries, audit_sweep.specs.unpaid.points.Kept.ShowsWithin};
+ghost use Rattle.audit_devices.specs.{Lasting.ShowsWithin, clocks.Finding.IsSeries};
 ghost use Rattle.lens_flows.specs.judge.{Courses.{IsCourse, IsFit, IsSomeCourse, scenario_of}, Times.TellsFirstTime};
 ghost use Rattle.{lens_flows.specs.judge.Values.values_from, run_law.specs.records.Happenings.Happening};
 ghost use Rattle.{net_plan.specs.{Belonging.HasDevice, Ranges.IsInRange}, tte_units.specs.Amount.amount};
@@ -11,7 +11,6 @@ use crate::judge::Course;
 use audit_devices::Shown;
 use audit_devices::clocks::{Series, next_crossing};
 use audit_law::events::reading_law;
-use audit_sweep::unpaid::points::end_of;
 use net_plan::{DeviceId, Network};
 
 impl Course<'_> {
@@ -34,8 +33,7 @@ impl Course<'_> {
     {
         let mut from = after;
         'stretches: while from < until {
-            let (shown, next) = self.standings.after_time(device, from);
-            let end = end_of(next, until);
+            let (shown, end) = self.standings.after_time(device, from, until);
             let reached = self.first_within(device, shown, cycle, place, from, end);
             if reached.is_some() {
                 return reached;

@@ -7,7 +7,6 @@ ghost use Rattle.{net_plan.specs.Belonging.HasDevice, sync_state.specs.declared.
 ghost use Rattle.{net_plan.specs.declared.event.Event.Event, run_law.specs.device.States.state_after};
 
 use crate::judge::Course;
-use audit_sweep::unpaid::points::end_of;
 use net_plan::DeviceId;
 use sync_state::State;
 
@@ -27,11 +26,11 @@ impl Course<'_> {
         }
         let mut after = from;
         'stretches: while after <= to {
-            let (shown, next) = self.standings.after_time(device, after);
+            let (shown, end) = self.standings.after_time(device, after, to + 1);
             if shown.state() != State::Synchronised {
                 return false;
             }
-            after = end_of(next, to + 1);
+            after = end;
         }
         true
     }

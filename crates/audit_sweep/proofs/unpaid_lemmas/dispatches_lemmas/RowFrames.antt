@@ -5,7 +5,8 @@ use Rattle.{audit_devices.specs.declared.clocks.finding.{Crossed.Crossed, Series
 use Rattle.audit_sweep.{proofs.unpaid_lemmas.points_lemmas.Sendings.{one_crossed, shown_up}, specs.declared.unpaid.dispatches.debtor.Frame.Frame}
 use Rattle.audit_sweep.specs.{declared.records.dispatches.leaving.LeavingRow.LeavingRow, records.dispatches.Leavings.{AreLeavings, cycle_of, leaving_value}}
 use Rattle.{audit_sweep.specs.records.dispatches.Dispatched.IsAtHand, run_law.specs.{records.Happenings.{Happening, earlier}, scenario.Scenarios.Scenario}}
-use Rattle.audit_sweep.specs.unpaid.{dispatches.Frames.{AreTold, IsTold, LacksOne, OwesFrame}, points.{FirstUnpaid.{ArePaid, IsFirstUnpaid}, Kept.ShowsWithin}}
+use Rattle.audit_sweep.specs.unpaid.{dispatches.Frames.{AreTold, IsTold, LacksOne, OwesFrame}, points.FirstUnpaid.{ArePaid, IsFirstUnpaid}}
+use Rattle.audit_devices.specs.Lasting.{ShowsWithin}
 use Rattle.{net_plan.specs.declared.ids.LinkId.LinkId, std.proofs.Common.{◌+◌, ◌-◌, ◌^◌, ◌∙◌, ◌≡◌, ◌≤◌, List, ap, arith, inl, inr, pos, refl, subst, sym, ℕ}}
 use Rattle.std.proofs.lemmas.Bool.{cases_lt}
 

@@ -1,8 +1,8 @@
 -- What is unpaid first in one stretch of time after another, and of one device after another.
-use Rattle.{audit_devices.specs.Lasting.{IsUpTo, ShowsUpTo}, audit_sweep.specs.unpaid.points.Ends.end_of, std.specs.Prelude.{MatchOption, is_some, min}}
+use Rattle.std.specs.Prelude.{is_some, min}
 use Rattle.audit_law.specs.law.FirstDebts.{earlier_of}
-use Rattle.audit_sweep.proofs.unpaid_lemmas.points_lemmas.Words.{◌+◌, ◌<◌, ◌≡◌, ◌≤◌, ArePaid, DeviceId, Happening, IsFirstUnpaid, List, None, Option, Scenario}
-use Rattle.audit_sweep.proofs.unpaid_lemmas.points_lemmas.Words.{Shown, ShowsWithin, Some, TellsFirstAmong, ap, arith, cases_lt, false, inl, inr, refl, subst}
+use Rattle.audit_sweep.proofs.unpaid_lemmas.points_lemmas.Words.{◌+◌, ◌<◌, ◌≡◌, ◌≤◌, ArePaid, DeviceId, IsFirstUnpaid, None, Option}
+use Rattle.audit_sweep.proofs.unpaid_lemmas.points_lemmas.Words.{Some, TellsFirstAmong, ap, arith, cases_lt, false, inl, inr, refl, subst}
 use Rattle.audit_sweep.{proofs.unpaid_lemmas.points_lemmas.Words.{sym, true, ℕ}, specs.unpaid.points.FirstUnpaid.{IsFirstAmong, TellsFirstUnpaid}}
 
 pub paid_both : {C : Type 0} (Owes Paid : ℕ → C → Type 0) (after mid before : ℕ) → ArePaid Owes Paid after (mid + 1) → ArePaid Owes Paid mid before
@@ -18,23 +18,6 @@ pub first_behind : {C : Type 0} (Owes Paid : ℕ → C → Type 0) (after : ℕ)
     → after ≤ mid → until ≤ last → ArePaid Owes Paid after (mid + 1) → IsFirstUnpaid Owes Paid mid until time
     → IsFirstUnpaid Owes Paid after last time
 first_behind Owes Paid after last le most paid first = grind (arith, paid_both)
-
-pub end_near : (next : Option ℕ) (until : ℕ) → end_of next until ≤ until
-end_near None until = omega arith
-end_near (Some n) until = omega arith
-
-pub end_later : (next : Option ℕ) (until after : ℕ) → after < until → MatchOption next (Unit {0}) (λ n. after < n) → after < end_of next until
-end_later None until after lt later = lt
-end_later (Some n) until after lt later = omega (arith, lt, later)
-
-up_to_end : (next : Option ℕ) (until t : ℕ) → t ≤ end_of next until → IsUpTo next t
-up_to_end None until t le = tt
-up_to_end (Some n) until t le = omega (arith, le)
-
--- what is shown up to the next record is shown up to there or the last time
-pub shows_within : (s : Scenario) (hs : List Happening) (device : DeviceId) (after until : ℕ) (next : Option ℕ) (shown : Shown)
-    → ShowsUpTo s hs device after next shown → ShowsWithin s hs device after (end_of next until) shown
-shows_within s hs device after until next shown shows t lt le = shows t lt (up_to_end next until t le)
 
 pub none_tells : {C : Type 0} (Owes Paid : ℕ → C → Type 0) (after until : ℕ) (r : Option ℕ) → r ≡ None → TellsFirstUnpaid Owes Paid after until r
     → ArePaid Owes Paid after (until + 1)

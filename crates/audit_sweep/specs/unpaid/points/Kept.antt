@@ -1,11 +1,11 @@
 -- What is kept of a report.
-use Rattle.std.specs.Prelude.{◌<◌, ◌≤◌, List, ℕ}
-use Rattle.audit_devices.specs.{Keeping.Stands, Showing.{Shown, Shows}}
+use Rattle.std.specs.Prelude.{List, ℕ}
+use Rattle.audit_devices.specs.Keeping.{Stands}
 use Rattle.{audit_devices.specs.declared.standings.Standings.Standings, net_plan.specs.declared.network.Network.Network}
 use Rattle.audit_law.specs.{declared.events.history.EventHistory.EventHistory, events.Readings.scenario_under}
-use Rattle.{audit_law.specs.events.Remembering.Remembers, net_plan.specs.declared.ids.DeviceId.DeviceId}
-use Rattle.{audit_sweep.specs.records.places.Placing.ArePlacesOf, run_law.specs.records.Happenings.{Happening, earlier}}
-use Rattle.{net_plan.specs.declared.event.Event.Event, run_law.specs.scenario.Scenarios.Scenario}
+use Rattle.audit_law.specs.events.Remembering.{Remembers}
+use Rattle.{audit_sweep.specs.records.places.Placing.ArePlacesOf, run_law.specs.records.Happenings.Happening}
+use Rattle.net_plan.specs.declared.event.Event.{Event}
 
 -- these events befell the network and these are the records: so the histories and the places are of them
 pub record IsKept (network : Network) (befallen : List Event) (hs : List Happening) (events : EventHistory)
@@ -22,7 +22,3 @@ IsSomeKept network events standings places =
 -- the history is of some events of the network
 abbrev pub RemembersSomeOf : Network → EventHistory → Type 0
 RemembersSomeOf network history = (befallen : List Event) × Remembers network befallen history
-
--- at each time later than `after`, up to `until`, the records of earlier times show this of the device
-abbrev pub ShowsWithin : Scenario → List Happening → DeviceId → ℕ → ℕ → Shown → Type 0
-ShowsWithin s hs device after until shown = (t : ℕ) → after < t → t ≤ until → Shows s (earlier t hs) device shown

@@ -6,13 +6,13 @@ ghost use Rattle.audit_law.specs.law.{Dispatched.Dispatch, FirstDebts.TellsFirst
 ghost use Rattle.audit_sweep.specs.records.dispatches.{Leaving.IsRowOn, Leavings.AreLeavings};
 ghost use Rattle.audit_sweep.specs.unpaid.{Unpaid.TellsFirstAmong, dispatches.Frames.{IsBy, IsTold, OwesFrame}};
 ghost use Rattle.audit_sweep.specs.unpaid.dispatches.Debtors.{AreKnown, AreSomeKnown, IsFit, scenario_of};
-ghost use Rattle.audit_sweep.specs.unpaid.points.{FirstUnpaid.TellsFirstUnpaid, Kept.ShowsWithin};
+ghost use Rattle.{audit_devices.specs.Lasting.ShowsWithin, audit_sweep.specs.unpaid.points.FirstUnpaid.TellsFirstUnpaid};
 ghost use Rattle.{net_plan.specs.declared.event.Event.Event, run_law.specs.records.Happenings.Happening};
 ghost use Rattle.audit_law.specs.law.Owed as debts;
 
 use crate::records::dispatches::LeavingRow;
 use crate::unpaid::dispatches::RowDebtor;
-use crate::unpaid::points::{earlier, end_of};
+use crate::unpaid::points::earlier;
 use audit_devices::Shown;
 use audit_devices::clocks::{Series, next_crossing};
 use audit_law::events::reading_law;
@@ -79,8 +79,7 @@ impl RowDebtor<'_> {
     {
         let mut after = 0;
         'stretches: while after < self.until {
-            let (shown, next) = self.standings.after_time(row.device, after);
-            let end = end_of(next, self.until);
+            let (shown, end) = self.standings.after_time(row.device, after, self.until);
             let lacking = self.first_within(link, row, series, shown, after, end);
             if lacking.is_some() {
                 return lacking;

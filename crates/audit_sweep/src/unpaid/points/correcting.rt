@@ -4,7 +4,8 @@ ghost use Rattle.{audit_devices.specs.Showing.Shows, net_plan.specs.{Belonging.H
 ghost use Rattle.{audit_law.specs.events.Readings.scenario_under, audit_sweep.specs.records.places.Placing.ArePlacesOf};
 ghost use Rattle.{audit_law.specs.law.DueRecords.IsDue, run_law.specs.{records.Ranks.place_of, runs.Runs.IsFounded}};
 ghost use Rattle.{audit_law.specs.law.FirstDebts.TellsFirst, run_law.specs.scenario.Scenarios.Scenario};
-ghost use Rattle.audit_sweep.specs.unpaid.points.{FirstUnpaid.TellsFirstUnpaid, Kept.{IsKept, IsSomeKept, ShowsWithin}};
+ghost use Rattle.audit_sweep.specs.unpaid.points.{FirstUnpaid.TellsFirstUnpaid, Kept.{IsKept, IsSomeKept}};
+ghost use Rattle.audit_devices.specs.Lasting.{ShowsWithin};
 ghost use Rattle.audit_sweep.specs.unpaid.points.Told.{AreOfDevices, IsTold, OwesAt};
 ghost use Rattle.net_plan.specs.declared.{event.Event.Event, ids.DeviceId.{DeviceId as DeviceIdValue}};
 ghost use Rattle.run_law.specs.{control.Corrections.correction_value, records.Happenings.{Happening, earlier}};
@@ -12,7 +13,7 @@ ghost use Rattle.sync_state.specs.declared.answers.Verdict.{TheVariants.Cleared,
 ghost use Rattle.audit_law.specs.law.Owed as debts;
 
 use crate::records::places::Places;
-use crate::unpaid::points::first::{earlier, end_of};
+use crate::unpaid::points::first::earlier;
 use audit_devices::clocks::{Moment, Point, Series, coming_point, next_crossing};
 use audit_devices::{Shown, Standings};
 use audit_law::events::EventHistory;
@@ -71,8 +72,7 @@ fn first_untold_by(
 {
     let mut after = 0;
     'stretches: while after < until {
-        let (shown, next) = standings.after_time(device, after);
-        let end = end_of(next, until);
+        let (shown, end) = standings.after_time(device, after, until);
         let untold = first_untold_within(
             network, events, standings, places, device, shown, after, end,
         );

@@ -5,13 +5,14 @@ ghost use Rattle.{audit_law.specs.events.Remembering.Remembers, run_law.specs.re
 ghost use Rattle.{audit_law.specs.law.Dispatched.Sending, run_law.specs.scenario.Devices.has_role};
 ghost use Rattle.{audit_law.specs.law.FirstDebts.TellsFirst, run_law.specs.timed.Dispatching.{IsUp, Sends}};
 ghost use Rattle.audit_sweep.specs.{records.places.Placing.ArePlacesOf, unpaid.points.FirstUnpaid.TellsFirstUnpaid};
-ghost use Rattle.audit_sweep.specs.unpaid.points.{Kept.{IsKept, IsSomeKept, RemembersSomeOf, ShowsWithin}, Sent.IsSent};
+ghost use Rattle.audit_sweep.specs.unpaid.points.{Kept.{IsKept, IsSomeKept, RemembersSomeOf}, Sent.IsSent};
+ghost use Rattle.audit_devices.specs.Lasting.{ShowsWithin};
 ghost use Rattle.net_plan.specs.{Belonging.HasDevice, Ranges.IsInRange};
 ghost use Rattle.net_plan.specs.declared.{event.Event.Event, network.Network.{Network as NetworkValue}};
 ghost use Rattle.audit_law.specs.law.Owed as debts;
 
 use crate::records::places::Places;
-use crate::unpaid::points::first::{earlier, end_of};
+use crate::unpaid::points::first::earlier;
 use audit_devices::clocks::{Crossed, Moment, beginnings, is_up, next_crossing};
 use audit_devices::{Shown, Standings};
 use audit_law::events::{EventHistory, reading_law};
@@ -69,8 +70,7 @@ fn first_unsent_by(
     }
     let mut after = 0;
     'stretches: while after < until {
-        let (shown, next) = standings.after_time(device, after);
-        let end = end_of(next, until);
+        let (shown, end) = standings.after_time(device, after, until);
         let unsent = first_unsent_within(network, events, places, device, shown, after, end);
         if unsent.is_some() {
             return unsent;

@@ -1,39 +1,27 @@
-use Rattle.audit_sweep.proofs.unpaid_lemmas.points_lemmas.Words.{◌+◌, ◌∙◌, IsTold, OwesAt, ShowsWithin, arith, scenario_under, subst, sym}
-use Rattle.audit_sweep.proofs.unpaid_lemmas.points_lemmas.Joining.{end_near, none_is, none_tells, paid_both, paid_less, shows_within, tells_behind}
+use Rattle.audit_sweep.proofs.unpaid_lemmas.points_lemmas.Words.{◌+◌, ◌∙◌, IsTold, OwesAt, arith, scenario_under, sym}
+use Rattle.audit_sweep.proofs.unpaid_lemmas.points_lemmas.Joining.{none_is, none_tells, paid_both, paid_less, tells_behind}
 use Rattle.audit_sweep.proofs.unpaid.points.correcting.first_untold_by.Goals as goal
 
 pub returns-then-is_some : goal.returns-then-is_some
 returns-then-is_some c befallen hs kept founded =
     let s = scenario_under c.args.network.now befallen in
     let device = c.args.device in
-    let after = c.stretches.after in
-    let until = c.args.until in
-    let ends = c.end_of-end.ensures in
-    let near = end_near c.after_time-next.result.1 until in
-    let shows : ShowsWithin s hs device after c.end_of-end.result c.after_time-next.result.0.now =
-    subst (λ n. ShowsWithin s hs device after n c.after_time-next.result.0.now) (sym ends)
-    (shows_within s hs device after until c.after_time-next.result.1 c.after_time-next.result.0.now (c.after_time-next.ensures.shows s hs kept.stands)) in
-    tells_behind (OwesAt s hs device) (IsTold s hs device) 0 after c.end_of-end.result until c.first_untold_within-untold.result (omega arith)
-    (omega (arith, near, ends)) (sym c.is_some.ensures ∙ c.if-is_some.true) (c.stretches.invariant.1 befallen hs kept founded)
-    (c.first_untold_within-untold.ensures befallen hs kept founded shows)
+    tells_behind (OwesAt s hs device) (IsTold s hs device) 0 c.stretches.after c.after_time-end.result.1 c.args.until c.first_untold_within-untold.result
+    (omega arith) c.after_time-end.ensures.near (sym c.is_some.ensures ∙ c.if-is_some.true) (c.stretches.invariant.1 befallen hs kept founded)
+    (c.first_untold_within-untold.ensures befallen hs kept founded (c.after_time-end.ensures.shows s hs kept.stands))
 
 pub stretches-preserved : goal.stretches-preserved
 stretches-preserved c =
     let device = c.args.device in
     let after = c.stretches.after in
-    let until = c.args.until in
-    let ends = c.end_of-end.ensures in
-    let near = end_near c.after_time-next.result.1 until in (
-      omega (arith, near, ends),
+    let end = c.after_time-end.result.1 in (
+      c.after_time-end.ensures.near,
       λ befallen hs kept founded.
           let s = scenario_under c.args.network.now befallen in
-          let shows : ShowsWithin s hs device after c.end_of-end.result c.after_time-next.result.0.now =
-          subst (λ n. ShowsWithin s hs device after n c.after_time-next.result.0.now) (sym ends)
-          (shows_within s hs device after until c.after_time-next.result.1 c.after_time-next.result.0.now (c.after_time-next.ensures.shows s hs kept.stands)) in
-          paid_both (OwesAt s hs device) (IsTold s hs device) 0 after (c.end_of-end.result + 1) (c.stretches.invariant.1 befallen hs kept founded)
-          (none_tells (OwesAt s hs device) (IsTold s hs device) after c.end_of-end.result c.first_untold_within-untold.result
+          paid_both (OwesAt s hs device) (IsTold s hs device) 0 after (end + 1) (c.stretches.invariant.1 befallen hs kept founded)
+          (none_tells (OwesAt s hs device) (IsTold s hs device) after end c.first_untold_within-untold.result
           (none_is c.first_untold_within-untold.result (sym c.is_some.ensures ∙ c.if-is_some.false))
-          (c.first_untold_within-untold.ensures befallen hs kept founded shows)),
+          (c.first_untold_within-untold.ensures befallen hs kept founded (c.after_time-end.ensures.shows s hs kept.stands))),
     )
 
 pub returns : goal.returns

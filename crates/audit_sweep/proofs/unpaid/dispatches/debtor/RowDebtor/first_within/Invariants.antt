@@ -1,4 +1,5 @@
-use Rattle.audit_sweep.specs.unpaid.{dispatches.{Debtors.{AreKnown, scenario_of}, Frames.{IsTold, OwesFrame}}, points.{FirstUnpaid.ArePaid, Kept.ShowsWithin}}
+use Rattle.audit_sweep.specs.unpaid.{dispatches.{Debtors.{AreKnown, scenario_of}, Frames.{IsTold, OwesFrame}}, points.FirstUnpaid.ArePaid}
+use Rattle.audit_devices.specs.Lasting.{ShowsWithin}
 use Rattle.{net_plan.specs.declared.event.Event.Event, run_law.specs.records.Happenings.Happening, std.proofs.Common.{◌+◌, ◌-◌, ◌≤◌, List}}
 use Rattle.audit_sweep.proofs.unpaid.dispatches.debtor.RowDebtor.first_within.Given as goal
 
