@@ -1,5 +1,5 @@
 //! The records that fill rows of one sort. Most records fill none, and a picture has many rows.
-ghost use Rattle.std.specs.Prelude.{◌≡◌, IfOk, filter};
+ghost use Rattle.std.specs.{List.count_by, Prelude.{◌≡◌, IfOk, filter}};
 ghost use Rattle.lens_overview.specs.Parts.{is_coming, is_of, is_turning};
 
 use crate::news::{Change, News};
@@ -52,11 +52,21 @@ fn is_of(part: Part, news: &News) -> bool
     }
 }
 
+/// How many of the records may fill rows of this sort.
+fn count_of(all: &[News], part: Part) -> usize
+    ensures { result ≡ count_by (is_of part) all.now }
+{
+    all.iter().filter(|news| is_of(part, news)).count()
+}
+
 /// The records that may fill rows of this sort.
 pub(crate) fn part_of(alloc: Global, all: &[News], part: Part) -> Result<Vec<News>, OutOfMemory>
     ensures { IfOk result (λ some. some.items ≡ filter (is_of part) all.now) }
 {
-    let mut some = Vec::new(alloc);
+    // Room for all is taken at once: a list that grows holds its elements twice.
+    let Ok(mut some) = Vec::with_capacity(alloc, count_of(all, part)) else {
+        return Err(OutOfMemory);
+    };
     'all: for news in all {
         if is_of(part, news) {
             match some.push(*news) {
