@@ -28,48 +28,17 @@ IsBar piece = (pen : Pen) × (width : ℕ) × (height : ℕ) × (spread : ℕ) �
 stroke_class : (network : Network) (title : List ℕ) (label : Label) (y : ℕ) (shade : Shade) (from to : Pen) (rest : List ℕ)
     → piece_line network title (pieces.Stroke (record { label = label; y = y; shade = shade; from = from; to = to })) ≡ codes "<path class=\"bar" ++ rest → ⊥
 unfolding stroke_part
-stroke_class network title (labels.Title group) y shade from to rest same = let octet = ap (octet_at 13) same in omega (arith, octet)
 stroke_class network title (labels.Count kinds.Event) y shade from to rest same = let octet = ap (octet_at 13) same in omega (arith, octet)
-stroke_class network title (labels.Count kinds.Lost) y shade from to rest same = let octet = ap (octet_at 13) same in omega (arith, octet)
-stroke_class network title (labels.Count kinds.Off) y shade from to rest same = let octet = ap (octet_at 13) same in omega (arith, octet)
-stroke_class network title (labels.Count kinds.ColdStart) y shade from to rest same = let octet = ap (octet_at 13) same in omega (arith, octet)
-stroke_class network title (labels.Count kinds.Domain) y shade from to rest same = let octet = ap (octet_at 13) same in omega (arith, octet)
-stroke_class network title (labels.Count kinds.Member) y shade from to rest same = let octet = ap (octet_at 13) same in omega (arith, octet)
-stroke_class network title (labels.Count kinds.Old) y shade from to rest same = let octet = ap (octet_at 13) same in omega (arith, octet)
-stroke_class network title (labels.Count kinds.Gate) y shade from to rest same = let octet = ap (octet_at 13) same in omega (arith, octet)
-stroke_class network title (labels.Count kinds.Cycle) y shade from to rest same = let octet = ap (octet_at 13) same in omega (arith, octet)
-stroke_class network title (labels.Count kinds.Unsynchronised) y shade from to rest same = let octet = ap (octet_at 13) same in omega (arith, octet)
-stroke_class network title (labels.Count kinds.Unknown) y shade from to rest same = let octet = ap (octet_at 13) same in omega (arith, octet)
-stroke_class network title (labels.Count kinds.Length) y shade from to rest same = let octet = ap (octet_at 13) same in omega (arith, octet)
-stroke_class network title (labels.Count kinds.Early) y shade from to rest same = let octet = ap (octet_at 13) same in omega (arith, octet)
-stroke_class network title (labels.Count kinds.Late) y shade from to rest same = let octet = ap (octet_at 13) same in omega (arith, octet)
-stroke_class network title (labels.Count kinds.Repeat) y shade from to rest same = let octet = ap (octet_at 13) same in omega (arith, octet)
-stroke_class network title (labels.Count kinds.Refused) y shade from to rest same = let octet = ap (octet_at 13) same in omega (arith, octet)
-stroke_class network title (labels.Lane device) y shade from to rest same = let octet = ap (octet_at 13) same in omega (arith, octet)
-stroke_class network title (labels.Others synchronised off) y shade from to rest same = let octet = ap (octet_at 13) same in omega (arith, octet)
-stroke_class network title (labels.Passage link way) y shade from to rest same = let octet = ap (octet_at 13) same in omega (arith, octet)
-stroke_class network title (labels.Flow vl device) y shade from to rest same = let octet = ap (octet_at 13) same in omega (arith, octet)
-stroke_class network title (labels.Flows vl count) y shade from to rest same = let octet = ap (octet_at 13) same in omega (arith, octet)
+stroke_class network title label y shade from to rest same = let octet = ap (octet_at 13) same in omega (arith, octet)
 
 -- a line that begins so is that of a bar
 pub bar_of : (network : Network) (title : List ℕ) (piece : Piece) (rest : List ℕ) → piece_line network title piece ≡ codes "<path class=\"bar" ++ rest → IsBar piece
 unfolding opening_line title_line heading_line extent_line records_part sign_line caption_line caption_part spread_line tick_line tick_part bar_line bar_part rail_part
-bar_of network title (pieces.Opening width height) rest same = let octet = ap (octet_at 1) same in absurd (omega (arith, octet))
-bar_of network title pieces.Title rest same = let octet = ap (octet_at 1) same in absurd (omega (arith, octet))
-bar_of network title pieces.Heading rest same = let octet = ap (octet_at 1) same in absurd (omega (arith, octet))
-bar_of network title (pieces.Extent records) rest same = let octet = ap (octet_at 1) same in absurd (omega (arith, octet))
-bar_of network title (pieces.Shared signs.Style) rest same = let octet = ap (octet_at 1) same in absurd (omega (arith, octet))
-bar_of network title (pieces.Shared signs.Backdrop) rest same = let octet = ap (octet_at 1) same in absurd (omega (arith, octet))
-bar_of network title (pieces.Shared signs.FrameKey) rest same = let octet = ap (octet_at 1) same in absurd (omega (arith, octet))
-bar_of network title (pieces.Shared signs.StateKey) rest same = let octet = ap (octet_at 1) same in absurd (omega (arith, octet))
-bar_of network title (pieces.Shared signs.Close) rest same = let octet = ap (octet_at 1) same in absurd (omega (arith, octet))
-bar_of network title (pieces.Caption grid) rest same = let octet = ap (octet_at 1) same in absurd (omega (arith, octet))
-bar_of network title (pieces.Spread greatest) rest same = let octet = ap (octet_at 1) same in absurd (omega (arith, octet))
-bar_of network title (pieces.Tick pen down) rest same = let octet = ap (octet_at 1) same in absurd (omega (arith, octet))
 bar_of network title (pieces.Bar pen width height spread) rest same = (pen, width, height, spread, refl)
-bar_of network title (pieces.Name label y right) rest same = let octet = ap (octet_at 1) same in absurd (omega (arith, octet))
 bar_of network title (pieces.Stroke ribbon) rest same =
     absurd (stroke_class network title ribbon.label ribbon.y ribbon.shade ribbon.from ribbon.to rest same)
+bar_of network title (pieces.Shared signs.Style) rest same = let octet = ap (octet_at 1) same in absurd (omega (arith, octet))
+bar_of network title piece rest same = let octet = ap (octet_at 1) same in absurd (omega (arith, octet))
 
 -- ---- the bars of a picture
 

@@ -29,87 +29,30 @@ flow_class : (network : Network) (label : Label) (y : ℕ) (shade : Shade) (from
 unfolding stroke_part
 flow_class network (labels.Flow vl device) y shade from to rest same = refl
 flow_class network (labels.Flows vl count) y shade from to rest same = refl
-flow_class network (labels.Title group) y shade from to rest same = let octet = ap (octet_at 13) same in absurd (omega (arith, octet))
 flow_class network (labels.Count kinds.Event) y shade from to rest same = let octet = ap (octet_at 13) same in absurd (omega (arith, octet))
-flow_class network (labels.Count kinds.Lost) y shade from to rest same = let octet = ap (octet_at 13) same in absurd (omega (arith, octet))
-flow_class network (labels.Count kinds.Off) y shade from to rest same = let octet = ap (octet_at 13) same in absurd (omega (arith, octet))
-flow_class network (labels.Count kinds.ColdStart) y shade from to rest same = let octet = ap (octet_at 13) same in absurd (omega (arith, octet))
-flow_class network (labels.Count kinds.Domain) y shade from to rest same = let octet = ap (octet_at 13) same in absurd (omega (arith, octet))
-flow_class network (labels.Count kinds.Member) y shade from to rest same = let octet = ap (octet_at 13) same in absurd (omega (arith, octet))
-flow_class network (labels.Count kinds.Old) y shade from to rest same = let octet = ap (octet_at 13) same in absurd (omega (arith, octet))
-flow_class network (labels.Count kinds.Gate) y shade from to rest same = let octet = ap (octet_at 13) same in absurd (omega (arith, octet))
-flow_class network (labels.Count kinds.Cycle) y shade from to rest same = let octet = ap (octet_at 13) same in absurd (omega (arith, octet))
-flow_class network (labels.Count kinds.Unsynchronised) y shade from to rest same = let octet = ap (octet_at 13) same in absurd (omega (arith, octet))
-flow_class network (labels.Count kinds.Unknown) y shade from to rest same = let octet = ap (octet_at 13) same in absurd (omega (arith, octet))
-flow_class network (labels.Count kinds.Length) y shade from to rest same = let octet = ap (octet_at 13) same in absurd (omega (arith, octet))
-flow_class network (labels.Count kinds.Early) y shade from to rest same = let octet = ap (octet_at 13) same in absurd (omega (arith, octet))
-flow_class network (labels.Count kinds.Late) y shade from to rest same = let octet = ap (octet_at 13) same in absurd (omega (arith, octet))
-flow_class network (labels.Count kinds.Repeat) y shade from to rest same = let octet = ap (octet_at 13) same in absurd (omega (arith, octet))
-flow_class network (labels.Count kinds.Refused) y shade from to rest same = let octet = ap (octet_at 13) same in absurd (omega (arith, octet))
-flow_class network (labels.Lane device) y shade from to rest same = let octet = ap (octet_at 13) same in absurd (omega (arith, octet))
-flow_class network (labels.Others synchronised off) y shade from to rest same = let octet = ap (octet_at 13) same in absurd (omega (arith, octet))
-flow_class network (labels.Passage link way) y shade from to rest same = let octet = ap (octet_at 13) same in absurd (omega (arith, octet))
+flow_class network label y shade from to rest same = let octet = ap (octet_at 13) same in absurd (omega (arith, octet))
 
 -- and one whose line says that a frame is missing has that shade
 missing_class : (network : Network) (label : Label) (y : ℕ) (shade : Shade) (from to : Pen) (rest : List ℕ) → is_flow label ≡ true
     → ribbon_line network (record { label = label; y = y; shade = shade; from = from; to = to }) ≡ codes "<path class=\"flow missing" ++ rest → shade ≡ shades.Missing
 unfolding stroke_part
-missing_class network (labels.Flow vl device) y shades.Blank from to rest flow same = let octet = ap (octet_at 18) same in absurd (omega (arith, octet))
-missing_class network (labels.Flow vl device) y shades.Both from to rest flow same = let octet = ap (octet_at 18) same in absurd (omega (arith, octet))
-missing_class network (labels.Flow vl device) y shades.AloneB from to rest flow same = let octet = ap (octet_at 18) same in absurd (omega (arith, octet))
-missing_class network (labels.Flow vl device) y shades.AloneA from to rest flow same = let octet = ap (octet_at 18) same in absurd (omega (arith, octet))
 missing_class network (labels.Flow vl device) y shades.Missing from to rest flow same = refl
-missing_class network (labels.Flow vl device) y shades.Off from to rest flow same = let octet = ap (octet_at 18) same in absurd (omega (arith, octet))
-missing_class network (labels.Flow vl device) y shades.Integrating from to rest flow same = let octet = ap (octet_at 18) same in absurd (omega (arith, octet))
-missing_class network (labels.Flow vl device) y shades.Joining from to rest flow same = let octet = ap (octet_at 18) same in absurd (omega (arith, octet))
-missing_class network (labels.Flow vl device) y shades.Synchronised from to rest flow same = let octet = ap (octet_at 18) same in absurd (omega (arith, octet))
-missing_class network (labels.Flow vl device) y shades.Broken from to rest flow same = let octet = ap (octet_at 18) same in absurd (omega (arith, octet))
-missing_class network (labels.Flow vl device) y shades.Cut from to rest flow same = let octet = ap (octet_at 18) same in absurd (omega (arith, octet))
-missing_class network (labels.Flow vl device) y shades.One from to rest flow same = let octet = ap (octet_at 18) same in absurd (omega (arith, octet))
-missing_class network (labels.Flow vl device) y shades.Two from to rest flow same = let octet = ap (octet_at 18) same in absurd (omega (arith, octet))
-missing_class network (labels.Flow vl device) y shades.Three from to rest flow same = let octet = ap (octet_at 18) same in absurd (omega (arith, octet))
 missing_class network (labels.Flow vl device) y shades.Many from to rest flow same = let octet = ap (octet_at 19) same in absurd (omega (arith, octet))
-missing_class network (labels.Flows vl count) y shades.Blank from to rest flow same = let octet = ap (octet_at 18) same in absurd (omega (arith, octet))
-missing_class network (labels.Flows vl count) y shades.Both from to rest flow same = let octet = ap (octet_at 18) same in absurd (omega (arith, octet))
-missing_class network (labels.Flows vl count) y shades.AloneB from to rest flow same = let octet = ap (octet_at 18) same in absurd (omega (arith, octet))
-missing_class network (labels.Flows vl count) y shades.AloneA from to rest flow same = let octet = ap (octet_at 18) same in absurd (omega (arith, octet))
+missing_class network (labels.Flow vl device) y shade from to rest flow same = let octet = ap (octet_at 18) same in absurd (omega (arith, octet))
 missing_class network (labels.Flows vl count) y shades.Missing from to rest flow same = refl
-missing_class network (labels.Flows vl count) y shades.Off from to rest flow same = let octet = ap (octet_at 18) same in absurd (omega (arith, octet))
-missing_class network (labels.Flows vl count) y shades.Integrating from to rest flow same = let octet = ap (octet_at 18) same in absurd (omega (arith, octet))
-missing_class network (labels.Flows vl count) y shades.Joining from to rest flow same = let octet = ap (octet_at 18) same in absurd (omega (arith, octet))
-missing_class network (labels.Flows vl count) y shades.Synchronised from to rest flow same = let octet = ap (octet_at 18) same in absurd (omega (arith, octet))
-missing_class network (labels.Flows vl count) y shades.Broken from to rest flow same = let octet = ap (octet_at 18) same in absurd (omega (arith, octet))
-missing_class network (labels.Flows vl count) y shades.Cut from to rest flow same = let octet = ap (octet_at 18) same in absurd (omega (arith, octet))
-missing_class network (labels.Flows vl count) y shades.One from to rest flow same = let octet = ap (octet_at 18) same in absurd (omega (arith, octet))
-missing_class network (labels.Flows vl count) y shades.Two from to rest flow same = let octet = ap (octet_at 18) same in absurd (omega (arith, octet))
-missing_class network (labels.Flows vl count) y shades.Three from to rest flow same = let octet = ap (octet_at 18) same in absurd (omega (arith, octet))
 missing_class network (labels.Flows vl count) y shades.Many from to rest flow same = let octet = ap (octet_at 19) same in absurd (omega (arith, octet))
-missing_class network (labels.Title group) y shade from to rest flow same = absurd (false≢true flow)
-missing_class network (labels.Count kind) y shade from to rest flow same = absurd (false≢true flow)
-missing_class network (labels.Lane device) y shade from to rest flow same = absurd (false≢true flow)
-missing_class network (labels.Others synchronised off) y shade from to rest flow same = absurd (false≢true flow)
-missing_class network (labels.Passage link way) y shade from to rest flow same = absurd (false≢true flow)
+missing_class network (labels.Flows vl count) y shade from to rest flow same = let octet = ap (octet_at 18) same in absurd (omega (arith, octet))
+missing_class network label y shade from to rest flow same = absurd (false≢true flow)
 
 -- a line that begins so is that of a stroke of such a row
 pub stroke_of : (network : Network) (title : List ℕ) (piece : Piece) (rest : List ℕ) → piece_line network title piece ≡ flow_stroke ++ rest
     → (ribbon : Ribbon) × (piece ≡ pieces.Stroke ribbon) × (is_flow ribbon.label ≡ true)
 unfolding opening_line title_line heading_line extent_line records_part sign_line caption_line caption_part spread_line tick_line tick_part bar_line bar_part rail_part
-stroke_of network title (pieces.Opening width height) rest same = let octet = ap (octet_at 1) same in absurd (omega (arith, octet))
-stroke_of network title pieces.Title rest same = let octet = ap (octet_at 1) same in absurd (omega (arith, octet))
-stroke_of network title pieces.Heading rest same = let octet = ap (octet_at 1) same in absurd (omega (arith, octet))
-stroke_of network title (pieces.Extent records) rest same = let octet = ap (octet_at 1) same in absurd (omega (arith, octet))
-stroke_of network title (pieces.Shared signs.Style) rest same = let octet = ap (octet_at 1) same in absurd (omega (arith, octet))
-stroke_of network title (pieces.Shared signs.Backdrop) rest same = let octet = ap (octet_at 1) same in absurd (omega (arith, octet))
-stroke_of network title (pieces.Shared signs.FrameKey) rest same = let octet = ap (octet_at 1) same in absurd (omega (arith, octet))
-stroke_of network title (pieces.Shared signs.StateKey) rest same = let octet = ap (octet_at 1) same in absurd (omega (arith, octet))
-stroke_of network title (pieces.Shared signs.Close) rest same = let octet = ap (octet_at 1) same in absurd (omega (arith, octet))
-stroke_of network title (pieces.Caption grid) rest same = let octet = ap (octet_at 1) same in absurd (omega (arith, octet))
-stroke_of network title (pieces.Spread greatest) rest same = let octet = ap (octet_at 1) same in absurd (omega (arith, octet))
-stroke_of network title (pieces.Tick pen down) rest same = let octet = ap (octet_at 1) same in absurd (omega (arith, octet))
-stroke_of network title (pieces.Bar pen width height apart) rest same = let octet = ap (octet_at 13) same in absurd (omega (arith, octet))
-stroke_of network title (pieces.Name label y right) rest same = let octet = ap (octet_at 1) same in absurd (omega (arith, octet))
 stroke_of network title (pieces.Stroke ribbon) rest same =
     (ribbon, refl, flow_class network ribbon.label ribbon.y ribbon.shade ribbon.from ribbon.to rest same)
+stroke_of network title (pieces.Bar pen width height apart) rest same = let octet = ap (octet_at 13) same in absurd (omega (arith, octet))
+stroke_of network title (pieces.Shared signs.Style) rest same = let octet = ap (octet_at 1) same in absurd (omega (arith, octet))
+stroke_of network title piece rest same = let octet = ap (octet_at 1) same in absurd (omega (arith, octet))
 
 -- a line of a stroke that says so
 pub missing_of : (network : Network) (ribbon : Ribbon) (rest : List ℕ) → is_flow ribbon.label ≡ true
@@ -129,49 +72,20 @@ is_lane label = false
 lane_class : (network : Network) (label : Label) (y : ℕ) (shade : Shade) (from to : Pen) (rest : List ℕ)
     → ribbon_line network (record { label = label; y = y; shade = shade; from = from; to = to }) ≡ codes "<path class=\"lane " ++ rest → is_lane label ≡ true
 unfolding stroke_part
-lane_class network (labels.Title group) y shade from to rest same = let octet = ap (octet_at 13) same in absurd (omega (arith, octet))
-lane_class network (labels.Count kinds.Event) y shade from to rest same = let octet = ap (octet_at 13) same in absurd (omega (arith, octet))
-lane_class network (labels.Count kinds.Lost) y shade from to rest same = let octet = ap (octet_at 13) same in absurd (omega (arith, octet))
-lane_class network (labels.Count kinds.Off) y shade from to rest same = let octet = ap (octet_at 13) same in absurd (omega (arith, octet))
-lane_class network (labels.Count kinds.ColdStart) y shade from to rest same = let octet = ap (octet_at 13) same in absurd (omega (arith, octet))
-lane_class network (labels.Count kinds.Domain) y shade from to rest same = let octet = ap (octet_at 13) same in absurd (omega (arith, octet))
-lane_class network (labels.Count kinds.Member) y shade from to rest same = let octet = ap (octet_at 13) same in absurd (omega (arith, octet))
-lane_class network (labels.Count kinds.Old) y shade from to rest same = let octet = ap (octet_at 13) same in absurd (omega (arith, octet))
-lane_class network (labels.Count kinds.Gate) y shade from to rest same = let octet = ap (octet_at 13) same in absurd (omega (arith, octet))
-lane_class network (labels.Count kinds.Cycle) y shade from to rest same = let octet = ap (octet_at 13) same in absurd (omega (arith, octet))
-lane_class network (labels.Count kinds.Unsynchronised) y shade from to rest same = let octet = ap (octet_at 13) same in absurd (omega (arith, octet))
-lane_class network (labels.Count kinds.Unknown) y shade from to rest same = let octet = ap (octet_at 13) same in absurd (omega (arith, octet))
-lane_class network (labels.Count kinds.Length) y shade from to rest same = let octet = ap (octet_at 13) same in absurd (omega (arith, octet))
-lane_class network (labels.Count kinds.Early) y shade from to rest same = let octet = ap (octet_at 13) same in absurd (omega (arith, octet))
-lane_class network (labels.Count kinds.Late) y shade from to rest same = let octet = ap (octet_at 13) same in absurd (omega (arith, octet))
-lane_class network (labels.Count kinds.Repeat) y shade from to rest same = let octet = ap (octet_at 13) same in absurd (omega (arith, octet))
-lane_class network (labels.Count kinds.Refused) y shade from to rest same = let octet = ap (octet_at 13) same in absurd (omega (arith, octet))
 lane_class network (labels.Lane device) y shade from to rest same = refl
 lane_class network (labels.Others synchronised off) y shade from to rest same = refl
-lane_class network (labels.Passage link way) y shade from to rest same = let octet = ap (octet_at 13) same in absurd (omega (arith, octet))
-lane_class network (labels.Flow vl device) y shade from to rest same = let octet = ap (octet_at 13) same in absurd (omega (arith, octet))
-lane_class network (labels.Flows vl count) y shade from to rest same = let octet = ap (octet_at 13) same in absurd (omega (arith, octet))
+lane_class network (labels.Count kinds.Event) y shade from to rest same = let octet = ap (octet_at 13) same in absurd (omega (arith, octet))
+lane_class network label y shade from to rest same = let octet = ap (octet_at 13) same in absurd (omega (arith, octet))
 
 -- a line that begins so is that of a stroke of such a row
 pub lane_of : (network : Network) (title : List ℕ) (piece : Piece) (rest : List ℕ) → piece_line network title piece ≡ codes "<path class=\"lane " ++ rest
     → (ribbon : Ribbon) × (piece ≡ pieces.Stroke ribbon) × (is_lane ribbon.label ≡ true)
 unfolding opening_line title_line heading_line extent_line records_part sign_line caption_line caption_part spread_line tick_line tick_part bar_line bar_part rail_part
-lane_of network title (pieces.Opening width height) rest same = let octet = ap (octet_at 1) same in absurd (omega (arith, octet))
-lane_of network title pieces.Title rest same = let octet = ap (octet_at 1) same in absurd (omega (arith, octet))
-lane_of network title pieces.Heading rest same = let octet = ap (octet_at 1) same in absurd (omega (arith, octet))
-lane_of network title (pieces.Extent records) rest same = let octet = ap (octet_at 1) same in absurd (omega (arith, octet))
-lane_of network title (pieces.Shared signs.Style) rest same = let octet = ap (octet_at 1) same in absurd (omega (arith, octet))
-lane_of network title (pieces.Shared signs.Backdrop) rest same = let octet = ap (octet_at 1) same in absurd (omega (arith, octet))
-lane_of network title (pieces.Shared signs.FrameKey) rest same = let octet = ap (octet_at 1) same in absurd (omega (arith, octet))
-lane_of network title (pieces.Shared signs.StateKey) rest same = let octet = ap (octet_at 1) same in absurd (omega (arith, octet))
-lane_of network title (pieces.Shared signs.Close) rest same = let octet = ap (octet_at 1) same in absurd (omega (arith, octet))
-lane_of network title (pieces.Caption grid) rest same = let octet = ap (octet_at 1) same in absurd (omega (arith, octet))
-lane_of network title (pieces.Spread greatest) rest same = let octet = ap (octet_at 1) same in absurd (omega (arith, octet))
-lane_of network title (pieces.Tick pen down) rest same = let octet = ap (octet_at 1) same in absurd (omega (arith, octet))
-lane_of network title (pieces.Bar pen width height apart) rest same = let octet = ap (octet_at 13) same in absurd (omega (arith, octet))
-lane_of network title (pieces.Name label y right) rest same = let octet = ap (octet_at 1) same in absurd (omega (arith, octet))
 lane_of network title (pieces.Stroke ribbon) rest same =
     (ribbon, refl, lane_class network ribbon.label ribbon.y ribbon.shade ribbon.from ribbon.to rest same)
+lane_of network title (pieces.Bar pen width height apart) rest same = let octet = ap (octet_at 13) same in absurd (omega (arith, octet))
+lane_of network title (pieces.Shared signs.Style) rest same = let octet = ap (octet_at 1) same in absurd (omega (arith, octet))
+lane_of network title piece rest same = let octet = ap (octet_at 1) same in absurd (omega (arith, octet))
 
 -- the row is one of a way
 abbrev pub is_passage : Label → Bool
@@ -181,46 +95,16 @@ is_passage label = false
 passage_class : (network : Network) (label : Label) (y : ℕ) (shade : Shade) (from to : Pen) (rest : List ℕ)
     → ribbon_line network (record { label = label; y = y; shade = shade; from = from; to = to }) ≡ codes "<path class=\"passage " ++ rest → is_passage label ≡ true
 unfolding stroke_part
-passage_class network (labels.Title group) y shade from to rest same = let octet = ap (octet_at 13) same in absurd (omega (arith, octet))
-passage_class network (labels.Count kinds.Event) y shade from to rest same = let octet = ap (octet_at 13) same in absurd (omega (arith, octet))
-passage_class network (labels.Count kinds.Lost) y shade from to rest same = let octet = ap (octet_at 13) same in absurd (omega (arith, octet))
-passage_class network (labels.Count kinds.Off) y shade from to rest same = let octet = ap (octet_at 13) same in absurd (omega (arith, octet))
-passage_class network (labels.Count kinds.ColdStart) y shade from to rest same = let octet = ap (octet_at 13) same in absurd (omega (arith, octet))
-passage_class network (labels.Count kinds.Domain) y shade from to rest same = let octet = ap (octet_at 13) same in absurd (omega (arith, octet))
-passage_class network (labels.Count kinds.Member) y shade from to rest same = let octet = ap (octet_at 13) same in absurd (omega (arith, octet))
-passage_class network (labels.Count kinds.Old) y shade from to rest same = let octet = ap (octet_at 13) same in absurd (omega (arith, octet))
-passage_class network (labels.Count kinds.Gate) y shade from to rest same = let octet = ap (octet_at 13) same in absurd (omega (arith, octet))
-passage_class network (labels.Count kinds.Cycle) y shade from to rest same = let octet = ap (octet_at 13) same in absurd (omega (arith, octet))
-passage_class network (labels.Count kinds.Unsynchronised) y shade from to rest same = let octet = ap (octet_at 13) same in absurd (omega (arith, octet))
-passage_class network (labels.Count kinds.Unknown) y shade from to rest same = let octet = ap (octet_at 13) same in absurd (omega (arith, octet))
-passage_class network (labels.Count kinds.Length) y shade from to rest same = let octet = ap (octet_at 13) same in absurd (omega (arith, octet))
-passage_class network (labels.Count kinds.Early) y shade from to rest same = let octet = ap (octet_at 13) same in absurd (omega (arith, octet))
-passage_class network (labels.Count kinds.Late) y shade from to rest same = let octet = ap (octet_at 13) same in absurd (omega (arith, octet))
-passage_class network (labels.Count kinds.Repeat) y shade from to rest same = let octet = ap (octet_at 13) same in absurd (omega (arith, octet))
-passage_class network (labels.Count kinds.Refused) y shade from to rest same = let octet = ap (octet_at 13) same in absurd (omega (arith, octet))
-passage_class network (labels.Lane device) y shade from to rest same = let octet = ap (octet_at 13) same in absurd (omega (arith, octet))
-passage_class network (labels.Others synchronised off) y shade from to rest same = let octet = ap (octet_at 13) same in absurd (omega (arith, octet))
 passage_class network (labels.Passage link way) y shade from to rest same = refl
-passage_class network (labels.Flow vl device) y shade from to rest same = let octet = ap (octet_at 13) same in absurd (omega (arith, octet))
-passage_class network (labels.Flows vl count) y shade from to rest same = let octet = ap (octet_at 13) same in absurd (omega (arith, octet))
+passage_class network (labels.Count kinds.Event) y shade from to rest same = let octet = ap (octet_at 13) same in absurd (omega (arith, octet))
+passage_class network label y shade from to rest same = let octet = ap (octet_at 13) same in absurd (omega (arith, octet))
 
 -- a line that begins so is that of a stroke of such a row
 pub passage_of : (network : Network) (title : List ℕ) (piece : Piece) (rest : List ℕ) → piece_line network title piece ≡ codes "<path class=\"passage " ++ rest
     → (ribbon : Ribbon) × (piece ≡ pieces.Stroke ribbon) × (is_passage ribbon.label ≡ true)
 unfolding opening_line title_line heading_line extent_line records_part sign_line caption_line caption_part spread_line tick_line tick_part bar_line bar_part rail_part
-passage_of network title (pieces.Opening width height) rest same = let octet = ap (octet_at 1) same in absurd (omega (arith, octet))
-passage_of network title pieces.Title rest same = let octet = ap (octet_at 1) same in absurd (omega (arith, octet))
-passage_of network title pieces.Heading rest same = let octet = ap (octet_at 1) same in absurd (omega (arith, octet))
-passage_of network title (pieces.Extent records) rest same = let octet = ap (octet_at 1) same in absurd (omega (arith, octet))
-passage_of network title (pieces.Shared signs.Style) rest same = let octet = ap (octet_at 1) same in absurd (omega (arith, octet))
-passage_of network title (pieces.Shared signs.Backdrop) rest same = let octet = ap (octet_at 1) same in absurd (omega (arith, octet))
-passage_of network title (pieces.Shared signs.FrameKey) rest same = let octet = ap (octet_at 1) same in absurd (omega (arith, octet))
-passage_of network title (pieces.Shared signs.StateKey) rest same = let octet = ap (octet_at 1) same in absurd (omega (arith, octet))
-passage_of network title (pieces.Shared signs.Close) rest same = let octet = ap (octet_at 1) same in absurd (omega (arith, octet))
-passage_of network title (pieces.Caption grid) rest same = let octet = ap (octet_at 1) same in absurd (omega (arith, octet))
-passage_of network title (pieces.Spread greatest) rest same = let octet = ap (octet_at 1) same in absurd (omega (arith, octet))
-passage_of network title (pieces.Tick pen down) rest same = let octet = ap (octet_at 1) same in absurd (omega (arith, octet))
-passage_of network title (pieces.Bar pen width height apart) rest same = let octet = ap (octet_at 13) same in absurd (omega (arith, octet))
-passage_of network title (pieces.Name label y right) rest same = let octet = ap (octet_at 1) same in absurd (omega (arith, octet))
 passage_of network title (pieces.Stroke ribbon) rest same =
     (ribbon, refl, passage_class network ribbon.label ribbon.y ribbon.shade ribbon.from ribbon.to rest same)
+passage_of network title (pieces.Bar pen width height apart) rest same = let octet = ap (octet_at 13) same in absurd (omega (arith, octet))
+passage_of network title (pieces.Shared signs.Style) rest same = let octet = ap (octet_at 1) same in absurd (omega (arith, octet))
+passage_of network title piece rest same = let octet = ap (octet_at 1) same in absurd (omega (arith, octet))
