@@ -4,11 +4,6 @@ use Rattle.device_rules.specs.declared.leaving.Departed.TheVariants as departed
 
 pub one_departed : (a b : Departed) → departure_as a ≡ departure_as b → a ≡ b
 one_departed (departed.Leaves m) (departed.Leaves n) e = cc
-one_departed (departed.Leaves m) departed.TooOld e = absurd cc
-one_departed (departed.Leaves m) departed.OnCutWay e = absurd cc
-one_departed departed.TooOld (departed.Leaves n) e = absurd cc
 one_departed departed.TooOld departed.TooOld e = refl
-one_departed departed.TooOld departed.OnCutWay e = absurd cc
-one_departed departed.OnCutWay (departed.Leaves n) e = absurd cc
-one_departed departed.OnCutWay departed.TooOld e = absurd cc
 one_departed departed.OnCutWay departed.OnCutWay e = refl
+one_departed a b e = absurd cc

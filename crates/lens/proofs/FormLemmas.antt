@@ -30,57 +30,37 @@ other_count (a ∷ b ∷ c ∷ d ∷ e ∷ x ∷ y ∷ rest) h k l m n = refl
 
 pub network_words : (words : List (List ℕ)) (command : List ℕ) → length words ≡ 2 → slice_get words 0 ≡ Some command → form_of words ≡ network_form command
 unfolding form_of
-network_words [] command n e = absurd (omega arith)
-network_words (a ∷ []) command n e = absurd (omega arith)
 network_words (a ∷ b ∷ []) command n e = let same : a ≡ command = cc in rw same refl
-network_words (a ∷ b ∷ c ∷ rest) command n e = absurd (omega arith)
+network_words words command n e = absurd (omega arith)
 
 pub three_words : (words : List (List ℕ)) (command third : List ℕ) → length words ≡ 3 → slice_get words 0 ≡ Some command → slice_get words 2 ≡ Some third
     → form_of words ≡ three_words_form command third
 unfolding form_of
-three_words [] command third n e f = absurd (omega arith)
-three_words (a ∷ []) command third n e f = absurd (omega arith)
-three_words (a ∷ b ∷ []) command third n e f = absurd (omega arith)
 three_words (a ∷ b ∷ c ∷ []) command third n e f = grind arith
-three_words (a ∷ b ∷ c ∷ d ∷ rest) command third n e f = absurd (omega arith)
+three_words words command third n e f = absurd (omega arith)
 
 pub four_words : (words : List (List ℕ)) (command third last : List ℕ) → length words ≡ 4 → slice_get words 0 ≡ Some command
     → slice_get words 2 ≡ Some third → slice_get words 3 ≡ Some last → form_of words ≡ four_words_form command third last
 unfolding form_of
-four_words [] command third last n e f g = absurd (omega arith)
-four_words (a ∷ []) command third last n e f g = absurd (omega arith)
-four_words (a ∷ b ∷ []) command third last n e f g = absurd (omega arith)
-four_words (a ∷ b ∷ c ∷ []) command third last n e f g = absurd (omega arith)
 four_words (a ∷ b ∷ c ∷ d ∷ []) command third last n e f g = grind arith
-four_words (a ∷ b ∷ c ∷ d ∷ x ∷ rest) command third last n e f g = absurd (omega arith)
+four_words words command third last n e f g = absurd (omega arith)
 
 pub five_words : (words : List (List ℕ)) (command fourth last : List ℕ) → length words ≡ 5 → slice_get words 0 ≡ Some command
     → slice_get words 3 ≡ Some fourth → slice_get words 4 ≡ Some last → form_of words ≡ five_words_form command fourth last
 unfolding form_of
-five_words [] command fourth last n e f g = absurd (omega arith)
-five_words (a ∷ []) command fourth last n e f g = absurd (omega arith)
-five_words (a ∷ b ∷ []) command fourth last n e f g = absurd (omega arith)
-five_words (a ∷ b ∷ c ∷ []) command fourth last n e f g = absurd (omega arith)
-five_words (a ∷ b ∷ c ∷ d ∷ []) command fourth last n e f g = absurd (omega arith)
 five_words (a ∷ b ∷ c ∷ d ∷ e' ∷ []) command fourth last n e f g = grind arith
-five_words (a ∷ b ∷ c ∷ d ∷ e' ∷ x ∷ rest) command fourth last n e f g = absurd (omega arith)
+five_words words command fourth last n e f g = absurd (omega arith)
 
 pub six_words : (words : List (List ℕ)) (command from to name : List ℕ) → length words ≡ 6 → slice_get words 0 ≡ Some command
     → slice_get words 3 ≡ Some from → slice_get words 4 ≡ Some to → slice_get words 5 ≡ Some name → form_of words ≡ six_words_form command from to name
 unfolding form_of
-six_words [] command from to name n e f g h = absurd (omega arith)
-six_words (a ∷ []) command from to name n e f g h = absurd (omega arith)
-six_words (a ∷ b ∷ []) command from to name n e f g h = absurd (omega arith)
-six_words (a ∷ b ∷ c ∷ []) command from to name n e f g h = absurd (omega arith)
-six_words (a ∷ b ∷ c ∷ d ∷ []) command from to name n e f g h = absurd (omega arith)
-six_words (a ∷ b ∷ c ∷ d ∷ e' ∷ []) command from to name n e f g h = absurd (omega arith)
 six_words (a ∷ b ∷ c ∷ d ∷ e' ∷ x ∷ []) command from to name n e f g h =
     let first : a ≡ command = cc in
     let begin : d ≡ from = cc in
     let end : e' ≡ to = cc in
     let last : x ≡ name = cc in
     rw (first, begin, end, last) refl
-six_words (a ∷ b ∷ c ∷ d ∷ e' ∷ x ∷ y ∷ rest) command from to name n e f g h = absurd (omega arith)
+six_words words command from to name n e f g h = absurd (omega arith)
 
 -- ---- the numbers of forms
 

@@ -19,20 +19,7 @@ shade_by n =
 back : (shade : Shade) → shade_by (code_of shade) ≡ shade
 unfolding shade_by
 back shades.Blank = refl
-back shades.Both = refl
-back shades.AloneB = refl
-back shades.AloneA = refl
-back shades.Missing = refl
-back shades.Off = refl
-back shades.Integrating = refl
-back shades.Joining = refl
-back shades.Synchronised = refl
-back shades.Broken = refl
-back shades.Cut = refl
-back shades.One = refl
-back shades.Two = refl
-back shades.Three = refl
-back shades.Many = refl
+back shade = refl
 
 pub same_shade : (a b : Shade) → is_same a b ≡ true → a ≡ b
 same_shade a b same =

@@ -49,12 +49,7 @@ counts_skip grid kind cells all =
 
 no_turn : (device : DeviceId) (column : ℕ) (cells : List Shade) (change : Change) → is_turning change ≡ false → turned device column change cells ≡ cells
 no_turn device column cells (changes.Turns other shade) none = absurd cc
-no_turn device column cells (changes.Cuts link way) none = refl
-no_turn device column cells (changes.Heals link way) none = refl
-no_turn device column cells changes.Nothing none = refl
-no_turn device column cells (changes.Sends vl cycle) none = refl
-no_turn device column cells (changes.Delivers copied) none = refl
-no_turn device column cells (changes.Repeats copied) none = refl
+no_turn device column cells change none = refl
 
 pub lane_skips : (grid : Grid) (device : DeviceId) (cells : List Shade) (all : List News)
     → fold (taken grid (labels.Lane device)) cells (filter (is_of parts.Changes) all) ≡ fold (taken grid (labels.Lane device)) cells all
@@ -63,13 +58,9 @@ lane_skips grid device cells all =
 
 no_cut : (link : LinkId) (way : Way) (column : ℕ) (cells : List Shade) (change : Change) → is_turning change ≡ false
     → cut link way column change cells ≡ cells
-no_cut link way column cells (changes.Turns other shade) none = refl
 no_cut link way column cells (changes.Cuts other of) none = absurd cc
 no_cut link way column cells (changes.Heals other of) none = absurd cc
-no_cut link way column cells changes.Nothing none = refl
-no_cut link way column cells (changes.Sends vl cycle) none = refl
-no_cut link way column cells (changes.Delivers copied) none = refl
-no_cut link way column cells (changes.Repeats copied) none = refl
+no_cut link way column cells change none = refl
 
 pub passage_skips : (grid : Grid) (link : LinkId) (way : Way) (cells : List Shade) (all : List News)
     → fold (taken grid (labels.Passage link way)) cells (filter (is_of parts.Changes) all) ≡ fold (taken grid (labels.Passage link way)) cells all
@@ -77,13 +68,9 @@ passage_skips grid link way cells all =
     fold_skips (taken grid (labels.Passage link way)) (is_of parts.Changes) (λ cells news none. no_cut link way _ cells news.change none) cells all
 
 no_copy : (vl : VlId) (device : DeviceId) (cells : List Shade) (change : Change) → is_coming change ≡ false → seen vl device change cells ≡ cells
-no_copy vl device cells (changes.Turns other shade) none = refl
-no_copy vl device cells (changes.Cuts link way) none = refl
-no_copy vl device cells (changes.Heals link way) none = refl
-no_copy vl device cells changes.Nothing none = refl
-no_copy vl device cells (changes.Sends of cycle) none = refl
 no_copy vl device cells (changes.Delivers copied) none = absurd cc
 no_copy vl device cells (changes.Repeats copied) none = absurd cc
+no_copy vl device cells change none = refl
 
 pub flow_skips : (grid : Grid) (vl : VlId) (device : DeviceId) (cells : List Shade) (all : List News)
     → fold (taken grid (labels.Flow vl device)) cells (filter (is_of parts.Copies) all) ≡ fold (taken grid (labels.Flow vl device)) cells all
@@ -92,12 +79,7 @@ flow_skips grid vl device cells all =
 
 never_turned : (device : DeviceId) (change : Change) → is_turning change ≡ false → is_turn device change ≡ false
 never_turned device (changes.Turns other shade) none = absurd cc
-never_turned device (changes.Cuts link way) none = refl
-never_turned device (changes.Heals link way) none = refl
-never_turned device changes.Nothing none = refl
-never_turned device (changes.Sends vl cycle) none = refl
-never_turned device (changes.Delivers copied) none = refl
-never_turned device (changes.Repeats copied) none = refl
+never_turned device change none = refl
 
 -- a device is turned by such a record
 pub turned_skips : (device : DeviceId) (all : List News) → is_turned (filter (is_of parts.Changes) all) device ≡ is_turned all device

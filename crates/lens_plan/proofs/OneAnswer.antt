@@ -158,18 +158,13 @@ module _ (network : Network) (ms : List Message) where
   told_one (plans.Unplaced place x) plans.OutOfMemory a b same told says = absurd says
   told_one (plans.Excess x) (plans.Excess y) a b same told says =
       told ∙ ap (λ e. line_answer PlanRefused (excess_line network e)) same ∙ sym says
-  told_one (plans.Excess x) (plans.Impossible other y) a b same told says = absurd same
-  told_one (plans.Excess x) (plans.Unplaced other y) a b same told says = absurd same
-  told_one (plans.Impossible place x) (plans.Excess y) a b same told says = absurd same
   told_one (plans.Impossible place x) (plans.Impossible other y) a b same told says =
       told ∙ ap (line_answer PlanRefused) (line_at_one (codes "impossible") network ms place other same.0 same.1)
       ∙ sym says
-  told_one (plans.Impossible place x) (plans.Unplaced other y) a b same told says = absurd same
-  told_one (plans.Unplaced place x) (plans.Excess y) a b same told says = absurd same
-  told_one (plans.Unplaced place x) (plans.Impossible other y) a b same told says = absurd same
   told_one (plans.Unplaced place x) (plans.Unplaced other y) a b same told says =
       told ∙ ap (line_answer PlanRefused) (line_at_one (codes "unplaced") network ms place other same.0 same.1) ∙ sym
       says
+  told_one one other a b same told says = absurd same
 
   told_never : (cause : NoPlan) (a : Answer) → cause ≡ plans.OutOfMemory → IsToldBy network ms cause a → ⊥
   told_never cause a same told = subst (λ c. IsToldBy network ms c a) same told

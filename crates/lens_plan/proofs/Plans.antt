@@ -5,7 +5,7 @@ use Rattle.lens_plan.specs.declared.joining.joined.NoJoin.{NoJoin}
 use Rattle.lens_plan.specs.declared.joining.joined.NoJoin.TheVariants as joins
 use Rattle.lens_plan.specs.joining.Joined.{IsNoJoin}
 use Rattle.lens_plan.specs.declared.reading.NoMessageFile.TheVariants as files
-use Rattle.lens_plan.specs.declared.places.limits.Excess.TheVariants.{Rows, RowsOf, VirtualLinks}
+use Rattle.lens_plan.specs.declared.places.limits.Excess.TheVariants.{RowsOf, VirtualLinks}
 use Rattle.lens_plan.specs.declared.places.planning.NoPlan.TheVariants as plans
 use Rattle.lens_plan.specs.{messages.Message.Message, places.Planning.IsNoPlan, text.Refusals.{short_line, short_line_at}}
 use Rattle.net_plan.specs.declared.network.Network.{Network}
@@ -82,11 +82,8 @@ module _ (octets : List ℕ) (network : Network) (status : Status) (old new : Sh
 -- what is told of why there is no plan is the network's
 pub tells : (network : Network) (ms : List Message) (cause : NoPlan) → IsNoPlan network ms cause → TellsOf network cause
 tells network ms (plans.Excess (VirtualLinks wants)) is = tt
-tells network ms (plans.Excess (Rows wants)) is = tt
 tells network ms (plans.Excess (RowsOf device wants)) is = is.crowded.there
-tells network ms (plans.Impossible place a) is = tt
-tells network ms (plans.Unplaced place a) is = tt
-tells network ms plans.OutOfMemory is = tt
+tells network ms cause is = tt
 
 -- the line for the message of the place
 pub told_at : (word : List ℕ) (network : Network) (ms : List Message) (place : ℕ) (a : Attempt) (m : Message) → place < length ms → m ≡ get_or ms place m

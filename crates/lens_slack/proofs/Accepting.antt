@@ -127,14 +127,7 @@ rules_kept network shape h =
 
 pub rule_inequality : (measure : Measure) → IsInequality (rule_of measure)
 rule_inequality measures.Paths = tt
-rule_inequality measures.Settled = tt
-rule_inequality measures.Precision = tt
-rule_inequality measures.Correction = tt
-rule_inequality measures.Begin = tt
-rule_inequality measures.End = tt
-rule_inequality measures.Windows = tt
-rule_inequality measures.Gaps = tt
-rule_inequality measures.Comings = tt
+rule_inequality measure = tt
 
 -- a bound of a measure's spot is enough where its rule is kept there
 pub kept_enough : (network : Network) (measure : Measure) (n : ℕ) (f : Finding) → IsKeptAt (rule_of measure) network (spot_index (spot_at measure n))

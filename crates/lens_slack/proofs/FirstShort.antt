@@ -279,15 +279,8 @@ module _ (network : Network) (tree : IsTree network) where
 
 -- a rule's steps list each of its measures
 pub lists_own : (measure : Measure) → IsListedIn measure (rule_steps (rule_of measure))
-lists_own measures.Paths = inl refl
-lists_own measures.Settled = inl refl
-lists_own measures.Precision = inl refl
-lists_own measures.Correction = inl refl
-lists_own measures.Begin = inl refl
 lists_own measures.End = inr (inl refl)
-lists_own measures.Windows = inl refl
-lists_own measures.Gaps = inl refl
-lists_own measures.Comings = inl refl
+lists_own measure = inl refl
 
 -- and no other
 pub lists_only : (rule : Rule) (measure : Measure) → IsInequality rule → IsListedIn measure (rule_steps rule) → rule_of measure ≡ rule

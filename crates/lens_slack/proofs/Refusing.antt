@@ -9,36 +9,19 @@ use Rattle.{lens_slack.specs.Spots.{IsSpotAt, rule_of, spot_at, spots_of}, sched
 use Rattle.{lens_slack.specs.{Tightest.{IsEnough, IsTightestAt}, declared.spot.{Finding.Finding, Spot.Spot}}, net_plan.specs.declared.network.Network.Network}
 use Rattle.{net_plan.proofs.Shape.rules_give_trees, std.proofs.Common.{◌*◌, ◌+◌, ◌<◌, ◌∙◌, ◌≡◌, ◌≤◌, ◌⊎◌, List, Some, ap, arith, inl, inr, refl, subst, sym, ℕ}}
 use Rattle.{schedule_tables.specs.Rules.{IsFirstBroken, IsKeptAt, KeepsBelow}, tte_units.specs.declared.frames.channel.Channel.TheVariants.{A, B}}
-use Rattle.schedule_tables.specs.declared.rule.Rule.TheVariants.{BothChannels, CompressionMasters, Connections, Correction, Delays, DevicesDiffer, Forwarding}
-use Rattle.schedule_tables.specs.declared.rule.Rule.TheVariants.{Joints, Limits, LinksDiffer, LinksOnce, Masters, Periods, Precision, RowsOfDevice}
-use Rattle.schedule_tables.specs.declared.rule.Rule.TheVariants.{ScheduleStart, Senders, Settling, Sources, Spacing, Targets, VlIdsDiffer, VlNamesDiffer}
+use Rattle.schedule_tables.specs.declared.rule.Rule.TheVariants.{Correction, Delays, Forwarding, Precision, ScheduleStart, Settling, Spacing}
 use Rattle.lens_slack.specs.declared.spot.Measure.TheVariants as measures
 
 inequality_or : (rule : Rule) → IsInequality rule ⊎ (IsInequality rule → ⊥)
-inequality_or Limits = inr (λ is. is)
-inequality_or DevicesDiffer = inr (λ is. is)
-inequality_or LinksDiffer = inr (λ is. is)
-inequality_or CompressionMasters = inr (λ is. is)
-inequality_or Joints = inr (λ is. is)
-inequality_or Connections = inr (λ is. is)
-inequality_or Masters = inr (λ is. is)
 inequality_or Delays = inl tt
 inequality_or Settling = inl tt
 inequality_or Precision = inl tt
 inequality_or Correction = inl tt
 inequality_or ScheduleStart = inl tt
 inequality_or WindowEnds = inl tt
-inequality_or VlNamesDiffer = inr (λ is. is)
-inequality_or VlIdsDiffer = inr (λ is. is)
-inequality_or Periods = inr (λ is. is)
-inequality_or Senders = inr (λ is. is)
-inequality_or LinksOnce = inr (λ is. is)
-inequality_or Sources = inr (λ is. is)
-inequality_or Targets = inr (λ is. is)
 inequality_or Spacing = inl tt
-inequality_or BothChannels = inr (λ is. is)
 inequality_or Forwarding = inl tt
-inequality_or RowsOfDevice = inr (λ is. is)
+inequality_or rule = inr (λ is. is)
 
 -- it comes behind the rules of the shape
 inequality_high : (rule : Rule) → IsInequality rule → 8 ≤ number_of rule
@@ -75,14 +58,7 @@ named network measure n f tightest = bound_spot network (spot_at measure n) tigh
 
 spot_of_rule : (measure : Measure) (n : ℕ) → spot_rule (spot_at measure n) ≡ rule_of measure
 spot_of_rule measures.Paths n = refl
-spot_of_rule measures.Settled n = refl
-spot_of_rule measures.Precision n = refl
-spot_of_rule measures.Correction n = refl
-spot_of_rule measures.Begin n = refl
-spot_of_rule measures.End n = refl
-spot_of_rule measures.Windows n = refl
-spot_of_rule measures.Gaps n = refl
-spot_of_rule measures.Comings n = refl
+spot_of_rule measure n = refl
 
 module _ (network : Network) (rule : Rule) (place : ℕ) (fs : List Finding) where
   -- the measure that is short is of the rule that is broken first
@@ -142,14 +118,10 @@ before measures.Paths place number spot more (B, same) = record {
   less = let half : place < number / 2 = more in omega (arith, half);
   is = path_number place B ∙ sym same;
 }
-before measures.Settled place number spot more at = absurd (omega (arith, more))
-before measures.Precision place number spot more at = absurd (omega (arith, more))
-before measures.Correction place number spot more at = absurd (omega (arith, more))
-before measures.Begin place number spot more at = absurd (omega (arith, more))
-before measures.End place number spot more at = absurd (omega (arith, more))
 before measures.Windows place number spot more at = record { n = place; less = more; is = sym at }
 before measures.Gaps place number spot more at = record { n = place; less = more; is = sym at }
 before measures.Comings place number spot more at = record { n = place; less = more; is = sym at }
+before measure place number spot more at = absurd (omega (arith, more))
 
 before_kept : {network : Network} (tree : IsTree network) (measure : Measure) (place number : ℕ)
     → place < spot_index (spot_at measure number) → ((n : ℕ) (g : Finding) → n < number

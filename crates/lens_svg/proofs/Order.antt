@@ -186,19 +186,12 @@ record IsOrdered (network : Network) (plan : Plan) : Type 0 where
 -- a record of the network has a row
 seat_within : (network : Network) (body : NoteBody) → IsBodyOf network body → seat_of network body < length network.device + 1
 seat_within network (bodies.Event line what) h = omega arith
-seat_within network (bodies.Arrived d l n clock) h = let device = h.0 in omega (arith, device)
-seat_within network (bodies.Permanent d l n point verdict) h = let device = h.0 in omega (arith, device)
 seat_within network (bodies.Compressed d opened sent cycle members verdict) h = omega (arith, h)
 seat_within network (bodies.Sent d cycle) h = omega (arith, h)
 seat_within network (bodies.Corrected d cycle by adjustment) h = omega (arith, h)
 seat_within network (bodies.State d state n why) h = omega (arith, h)
-seat_within network (bodies.Left d l n clock) h = let device = h.0 in omega (arith, device)
-seat_within network (bodies.Lost d l n) h = let device = h.0 in omega (arith, device)
-seat_within network (bodies.TtSent d l n v cycle) h = let device = h.0 in omega (arith, device)
-seat_within network (bodies.Accepted d l n v cycle) h = let device = h.0 in omega (arith, device)
-seat_within network (bodies.Delivered d l n v cycle) h = let device = h.0 in omega (arith, device)
-seat_within network (bodies.Dropped d l n reason) h = let device = h.0 in omega (arith, device)
 seat_within network (bodies.Clock d reading adjustment state) h = omega (arith, h)
+seat_within network body h = let device = h.0 in omega (arith, device)
 
 module _ (network : Network) (plan : Plan) (note : Note) (of : IsNoteOf network note) (later : plan.pen.time ≤ moment note)
     (paper : IsOnPaper plan.pen) (inside : (drawn network plan note).pen.most < widest) (h : IsOrdered network plan) where

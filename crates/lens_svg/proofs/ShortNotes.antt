@@ -23,25 +23,15 @@ vl_short network v range of_network =
 
 state_short : (state : State) → length (state_text state) ≤ 12
 state_short states.Off = omega arith
-state_short states.Integrating = omega arith
-state_short states.Joining = omega arith
-state_short states.Synchronised = omega arith
+state_short state = omega arith
 
 verdict_short : (verdict : Judgement) → length (judgement_text verdict) ≤ 12
 verdict_short judgements.Opened = omega arith
-verdict_short judgements.Joined = omega arith
-verdict_short judgements.Repeat = omega arith
-verdict_short judgements.Within = omega arith
-verdict_short judgements.Outside = omega arith
-verdict_short judgements.Integrates = omega arith
-verdict_short judgements.Ignored = omega arith
+verdict_short verdict = omega arith
 
 why_short : (why : Why) → length (why_text why) ≤ 12
 why_short whys.On = omega arith
-why_short whys.Frame = omega arith
-why_short whys.Correction = omega arith
-why_short whys.SyncClique = omega arith
-why_short whys.AsyncClique = omega arith
+why_short why = omega arith
 
 -- a number
 count_short : (n : ℕ) → n < 2 ^ 64 → length (decimal n) ≤ 20
@@ -57,24 +47,11 @@ signed_short (negsuc n) fits =
 
 reason_short : (reason : Reason) → IsReasonInRange reason → size (reason_words reason) ≤ 60
 unfolding size
-reason_short reasons.Off h = omega arith
-reason_short reasons.ColdStart h = omega arith
-reason_short reasons.Domain h = omega arith
-reason_short reasons.Member h = omega arith
-reason_short reasons.Old h = omega arith
-reason_short reasons.Gate h = omega arith
-reason_short reasons.Cycle h = omega arith
-reason_short reasons.Unsynchronised h = omega arith
-reason_short reasons.Unknown h = omega arith
-reason_short reasons.Length h = omega arith
-reason_short reasons.Early h = omega arith
-reason_short reasons.Late h = omega arith
-reason_short reasons.Repeat h = omega arith
 reason_short (reasons.RefusedLength n) h = let number = count_short n (omega (arith, h)) in omega (arith, number)
-reason_short reasons.RefusedEtherType h = omega arith
 reason_short (reasons.RefusedReserved n) h = let number = count_short n (omega (arith, h)) in omega (arith, number)
 reason_short (reasons.RefusedKind o) h =
     let digits : length (encode_lower (o ∷ [])) ≡ 2 * length (o ∷ []) = length-encode_with lower_digits (o ∷ []) in omega (arith, digits)
+reason_short reason h = omega arith
 
 members_short : (members : Members) → length (members_text members) ≤ 8
 members_short members =

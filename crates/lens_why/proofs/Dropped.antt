@@ -272,12 +272,7 @@ module _ (network : Network) (device : DeviceId) (link : LinkId) (at : Standpoin
 
 never_judged : (j : Judgement) (r : Reason) → ripe.Dropped r ≡ ripe_as j → ⊥
 never_judged judgements.Opened r e = cc
-never_judged judgements.Joined r e = cc
-never_judged judgements.Repeat r e = cc
-never_judged judgements.Within r e = cc
-never_judged judgements.Outside r e = cc
-never_judged judgements.Integrates r e = cc
-never_judged judgements.Ignored r e = cc
+never_judged j r e = cc
 
 -- only a compression master drops a frame at its permanence, and for no window
 permanent_drop : {s : Scenario} {hs : List Happening} {device : DeviceId} {t : ℕ} {link : LinkId} {cause : ℕ}

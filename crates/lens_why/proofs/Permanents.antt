@@ -122,12 +122,7 @@ scheduled_ripe other = false
 
 ripe_scheduled : (j : Judgement) → scheduled_ripe (ripe_as j) ≡ is_by_schedule j
 ripe_scheduled judgements.Opened = refl
-ripe_scheduled judgements.Joined = refl
-ripe_scheduled judgements.Repeat = refl
-ripe_scheduled judgements.Within = refl
-ripe_scheduled judgements.Outside = refl
-ripe_scheduled judgements.Integrates = refl
-ripe_scheduled judgements.Ignored = refl
+ripe_scheduled j = refl
 
 role_unscheduled : (role : Taken) → scheduled_ripe (ripe_by_role role) ≡ false
 role_unscheduled taken.Opened = refl
@@ -156,12 +151,7 @@ collected_ripe other = false
 
 ripe_collected : (j : Judgement) → collected_ripe (ripe_as j) ≡ is_collected j
 ripe_collected judgements.Opened = refl
-ripe_collected judgements.Joined = refl
-ripe_collected judgements.Repeat = refl
-ripe_collected judgements.Within = refl
-ripe_collected judgements.Outside = refl
-ripe_collected judgements.Integrates = refl
-ripe_collected judgements.Ignored = refl
+ripe_collected j = refl
 
 by_enough : (b : Bool) → is_collected (heard_enough b) ≡ false
 by_enough true = refl

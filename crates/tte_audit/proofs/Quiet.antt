@@ -12,19 +12,7 @@ pub record GoesBy (network : Network) (befallen : List Event) (time : Units) (bo
 module _ (network : Network) (befallen : List Event) (time : Units) where
   pub goes_by : (body : NoteBody) → HasNoEvent body → GoesBy network befallen time body
   goes_by (bodies.Event line what) h = absurd h
-  goes_by (bodies.Arrived device link cause clock) h = record { may = tt; same = refl }
-  goes_by (bodies.Permanent device link cause point verdict) h = record { may = tt; same = refl }
-  goes_by (bodies.Compressed device opened at cycle members verdict) h = record { may = tt; same = refl }
-  goes_by (bodies.Sent device cycle) h = record { may = tt; same = refl }
-  goes_by (bodies.Corrected device cycle by adjustment) h = record { may = tt; same = refl }
-  goes_by (bodies.State device state cause why) h = record { may = tt; same = refl }
-  goes_by (bodies.Left device link cause clock) h = record { may = tt; same = refl }
-  goes_by (bodies.Lost device link cause) h = record { may = tt; same = refl }
-  goes_by (bodies.TtSent device link cause vl cycle) h = record { may = tt; same = refl }
-  goes_by (bodies.Accepted device link cause vl cycle) h = record { may = tt; same = refl }
-  goes_by (bodies.Delivered device link cause vl cycle) h = record { may = tt; same = refl }
-  goes_by (bodies.Dropped device link cause reason) h = record { may = tt; same = refl }
-  goes_by (bodies.Clock device reading adjustment state) h = record { may = tt; same = refl }
+  goes_by body h = record { may = tt; same = refl }
 
 module _ (network : Network) (notes : List Note) (note : Note) (old new : Told) where
   by_fault : (b : Bool) → is_some old.fault ≡ b → AreTold network notes old → HasNoEvent note.body

@@ -28,64 +28,44 @@ other_count (a ∷ b ∷ c ∷ d ∷ e ∷ f ∷ g ∷ rest) other = refl
 
 pub one_file : (words : List (List ℕ)) (command : List ℕ) → length words ≡ 2 → slice_get words 0 ≡ Some command → form_of words ≡ one_file_form command
 unfolding form_of
-one_file [] command n e = absurd (omega arith)
-one_file (a ∷ []) command n e = absurd (omega arith)
 one_file (a ∷ b ∷ []) command n e = let same : a ≡ command = cc in rw same refl
-one_file (a ∷ b ∷ c ∷ rest) command n e = absurd (omega arith)
+one_file words command n e = absurd (omega arith)
 
 pub two_files : (words : List (List ℕ)) (command : List ℕ) → length words ≡ 3 → slice_get words 0 ≡ Some command → form_of words ≡ two_files_form command
 unfolding form_of
-two_files [] command n e = absurd (omega arith)
-two_files (a ∷ []) command n e = absurd (omega arith)
-two_files (a ∷ b ∷ []) command n e = absurd (omega arith)
 two_files (a ∷ b ∷ c ∷ []) command n e = let same : a ≡ command = cc in rw same refl
-two_files (a ∷ b ∷ c ∷ d ∷ rest) command n e = absurd (omega arith)
+two_files words command n e = absurd (omega arith)
 
 pub four_words : (words : List (List ℕ)) (command third last : List ℕ) → length words ≡ 4 → slice_get words 0 ≡ Some command
     → slice_get words 2 ≡ Some third → slice_get words 3 ≡ Some last → form_of words ≡ four_words_form command third last
 unfolding form_of
-four_words [] command third last n e f g = absurd (omega arith)
-four_words (a ∷ []) command third last n e f g = absurd (omega arith)
-four_words (a ∷ b ∷ []) command third last n e f g = absurd (omega arith)
-four_words (a ∷ b ∷ c ∷ []) command third last n e f g = absurd (omega arith)
 four_words (a ∷ b ∷ c ∷ d ∷ []) command third last n e f g =
     let first : a ≡ command = cc in
     let behind : c ≡ third = cc in
     let end : d ≡ last = cc in
     rw (first, behind, end) refl
-four_words (a ∷ b ∷ c ∷ d ∷ x ∷ rest) command third last n e f g = absurd (omega arith)
+four_words words command third last n e f g = absurd (omega arith)
 
 pub five_words : (words : List (List ℕ)) (command link way : List ℕ) → length words ≡ 5 → slice_get words 0 ≡ Some command
     → slice_get words 3 ≡ Some link → slice_get words 4 ≡ Some way → form_of words ≡ wire_form command link way
 unfolding form_of
-five_words [] command link way n e f g = absurd (omega arith)
-five_words (a ∷ []) command link way n e f g = absurd (omega arith)
-five_words (a ∷ b ∷ []) command link way n e f g = absurd (omega arith)
-five_words (a ∷ b ∷ c ∷ []) command link way n e f g = absurd (omega arith)
-five_words (a ∷ b ∷ c ∷ d ∷ []) command link way n e f g = absurd (omega arith)
 five_words (a ∷ b ∷ c ∷ d ∷ x ∷ []) command link way n e f g =
     let first : a ≡ command = cc in
     let behind : d ≡ link = cc in
     let end : x ≡ way = cc in
     rw (first, behind, end) refl
-five_words (a ∷ b ∷ c ∷ d ∷ x ∷ y ∷ rest) command link way n e f g = absurd (omega arith)
+five_words words command link way n e f g = absurd (omega arith)
 
 pub six_words : (words : List (List ℕ)) (command first second third : List ℕ) → length words ≡ 6 → slice_get words 0 ≡ Some command
     → slice_get words 3 ≡ Some first → slice_get words 4 ≡ Some second → slice_get words 5 ≡ Some third → form_of words ≡ vote_form command first second third
 unfolding form_of
-six_words [] command first second third n e f g h = absurd (omega arith)
-six_words (a ∷ []) command first second third n e f g h = absurd (omega arith)
-six_words (a ∷ b ∷ []) command first second third n e f g h = absurd (omega arith)
-six_words (a ∷ b ∷ c ∷ []) command first second third n e f g h = absurd (omega arith)
-six_words (a ∷ b ∷ c ∷ d ∷ []) command first second third n e f g h = absurd (omega arith)
-six_words (a ∷ b ∷ c ∷ d ∷ x ∷ []) command first second third n e f g h = absurd (omega arith)
 six_words (a ∷ b ∷ c ∷ d ∷ x ∷ y ∷ []) command first second third n e f g h =
     let same : a ≡ command = cc in
     let one : d ≡ first = cc in
     let two : x ≡ second = cc in
     let three : y ≡ third = cc in
     rw (same, one, two, three) refl
-six_words (a ∷ b ∷ c ∷ d ∷ x ∷ y ∷ z ∷ rest) command first second third n e f g h = absurd (omega arith)
+six_words words command first second third n e f g h = absurd (omega arith)
 
 -- ---- the numbers of forms
 

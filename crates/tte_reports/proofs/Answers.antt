@@ -70,7 +70,4 @@ not_fault a status old new is (inr (inr (inr m, p))) = subst IsAuditStatus (sym 
 
 pub no_network_status : (cause : NoNetwork) (status : Status) (old new : Shown) → Gives (no_network_answer cause) status old new → IsAuditStatus status
 no_network_status networks.ReadFault status old new g = not_fault _ status old new tt g
-no_network_status networks.TooLong status old new g = not_fault _ status old new tt g
-no_network_status networks.OutOfMemory status old new g = not_fault _ status old new tt g
-no_network_status (networks.File e) status old new g = not_fault _ status old new tt g
-no_network_status (networks.Rule told) status old new g = not_fault _ status old new tt g
+no_network_status cause status old new g = not_fault _ status old new tt g

@@ -5,9 +5,9 @@ use Rattle.tte_traces.{proofs.{Admitted.events_admitted, Streams.{for_trace, wri
 use Rattle.{tte_traces.{proofs.Answers.IsAllAdmitted, specs.Along.{IsShortAt, PutsAlong}}, world_drive.specs.exact.Worlds.ExactWorld}
 use Rattle.{tte_traces.proofs.Given.{faulty_given, front_failed, front_given, whole_failed, whole_given}, world_drive.proofs.exact_lemmas.Given.if_some}
 use Rattle.tte_traces.proofs.{Taken.gave_some, Words.{behind_lines, fault_answer, fault_status, for_more, inl, inr, length, pending, refl, shown_by, subst, ℕ}}
-use Rattle.tte_traces.proofs.Words.{◌++◌, ◌+◌, ◌∙◌, ◌∷◌, ◌≡◌, ◌⊎◌, After, Answer, AreAdmitted, AreRecordsSoFar, Done, Err, Event, ForOctets, GaveEvents, Gives}
-use Rattle.tte_traces.proofs.Words.{GivesOne, IsFault, IsFrontOf, IsTraceAnswer, Line, LinesOf, List, Long, Missing, Network, None, Note, Option, Outlaw}
-use Rattle.tte_traces.proofs.Words.{PutsLines, ReadsOn, Rose, RunEnds, Shown, Some, Status, TakesFew, TooMany, Trace, TraceFault, TraceStop, [], ap}
+use Rattle.tte_traces.proofs.Words.{◌++◌, ◌+◌, ◌∙◌, ◌∷◌, ◌≡◌, ◌⊎◌, Answer, AreAdmitted, AreRecordsSoFar, Done, Err, Event, ForOctets, GaveEvents, Gives}
+use Rattle.tte_traces.proofs.Words.{GivesOne, IsFault, IsFrontOf, IsTraceAnswer, LinesOf, List, Missing, Network, None, Note, Option}
+use Rattle.tte_traces.proofs.Words.{PutsLines, ReadsOn, Rose, RunEnds, Shown, Some, Status, TakesFew, Trace, TraceFault, TraceStop, [], ap}
 use Rattle.tte_traces.specs.{Streaming.{ForTrace, StopsBehindLines, TakesLittle, WritesSome}, Taking.{EndedBehind, IsStopAt, StoppedBehind, TakesFewFrom}}
 use Rattle.world_drive.specs.{Driving.{DrivesAll, DrivesCut, DrivesSoFar, HasSeenSoFar, IsCutAt}, Observing.{Sees, Stops, Told, told_by}}
 use Rattle.tte_io.specs.declared.ends.Sink as sinks
@@ -27,11 +27,7 @@ IsStatusOf fault status PutFails = (status ≡ fault_status fault) ⊎ ((status 
 pub fault_no_read : {X : Type 0} (fault : TraceFault) (status : Status) → (status ≡ fault_status fault) ⊎ ((status ≡ WriteFault) × X) → status ≡ ReadFault → ⊥
 fault_no_read fault status (inr w) is = let e = w.0 in cc
 fault_no_read Missing status (inl e) is = cc
-fault_no_read TooMany status (inl e) is = cc
-fault_no_read After status (inl e) is = cc
-fault_no_read Long status (inl e) is = cc
-fault_no_read (Line refusal) status (inl e) is = cc
-fault_no_read (Outlaw outside) status (inl e) is = cc
+fault_no_read fault status (inl e) is = cc
 
 -- and one that is done is not
 pub done_no_read : {X : Type 0} (status : Status) → (status ≡ Done) ⊎ ((status ≡ WriteFault) × X) → status ≡ ReadFault → ⊥

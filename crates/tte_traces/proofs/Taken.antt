@@ -12,14 +12,7 @@ use Rattle.tte_io.specs.declared.ends.Source as sources
 -- a hold that it sets is a time
 pub holds_a_time : (what : What) → IsWhatInRange what → HoldsATime what
 holds_a_time (kinds.Hold link way hold) range = range.least
-holds_a_time (kinds.Rate device rate) range = tt
-holds_a_time (kinds.Wire link way delay) range = tt
-holds_a_time (kinds.Cut link way) range = tt
-holds_a_time (kinds.Heal link way) range = tt
-holds_a_time (kinds.On device) range = tt
-holds_a_time (kinds.Break device) range = tt
-holds_a_time (kinds.Send link octets) range = tt
-holds_a_time kinds.End range = tt
+holds_a_time what range = tt
 
 -- the event that it gives may befall the network
 may_give : {network : Network} {events : List Event} {event : Event} {trace : Trace}

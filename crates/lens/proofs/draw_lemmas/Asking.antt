@@ -30,14 +30,7 @@ module _ {X Y : Type 0} (h : X → Option Y) (all listed : List X) (same : liste
 
 pub struck_other : (what : What) (link : LinkId) (vl : VlId) → struck_look what ≡ Taken link vl → ⊥
 struck_other (events.Break d) link vl e = cc
-struck_other (events.Rate d r) link vl e = cc
-struck_other (events.Wire l w u) link vl e = cc
-struck_other (events.Hold l w u) link vl e = cc
-struck_other (events.Cut l w) link vl e = cc
-struck_other (events.Heal l w) link vl e = cc
-struck_other (events.On d) link vl e = cc
-struck_other (events.Send l o) link vl e = cc
-struck_other events.End link vl e = cc
+struck_other what link vl e = cc
 
 module _ (network : Network) where
   taken_there : (body : NoteBody) (link : LinkId) (vl : VlId) → IsBodyOf network body → look_of body ≡ Taken link vl

@@ -79,14 +79,7 @@ among_false (x ∷ ds) d device (inr i) none = among_false ds d device i (or_rig
 not_breaking : (what : What) (device : DeviceId) (ds : List DeviceId) → ((d : DeviceId) → what ≡ events.Break d → IsIn d ds) → is_among ds device ≡ false
     → breaks_at device.0 what ≡ false
 not_breaking (events.Break d) device ds all none = among_false ds d device (all d refl) none
-not_breaking (events.Rate d r) device ds all none = refl
-not_breaking (events.Wire l w u) device ds all none = refl
-not_breaking (events.Hold l w u) device ds all none = refl
-not_breaking (events.Cut l w) device ds all none = refl
-not_breaking (events.Heal l w) device ds all none = refl
-not_breaking (events.On d) device ds all none = refl
-not_breaking (events.Send l o) device ds all none = refl
-not_breaking events.End device ds all none = refl
+not_breaking what device ds all none = refl
 
 breaks_told : (time : Units) (body : NoteBody) (e : Event) (d : DeviceId) → event_by time body ≡ Some e → e.what ≡ events.Break d → broken_by body ≡ Some d
 breaks_told time (notes.Event line what) e d is breaks =
@@ -151,19 +144,7 @@ module _ (s : Scenario) (d : DeviceId) (cycle : ℕ) (state : State) (adjustment
   still : (body : NoteBody) → 14 ≤ rank body → (state_with d state body ≡ state)
       × (adjustment_with s d cycle adjustment body ≡ adjustment)
   still (notes.Clock e r a z) last = (refl, refl)
-  still (notes.Event a b) last = absurd (omega (arith, last))
-  still (notes.Arrived a b c e) last = absurd (omega (arith, last))
-  still (notes.Permanent a b c e f) last = absurd (omega (arith, last))
-  still (notes.Compressed a b c e f g) last = absurd (omega (arith, last))
-  still (notes.Sent a b) last = absurd (omega (arith, last))
-  still (notes.Corrected a b c e) last = absurd (omega (arith, last))
-  still (notes.State a b c e) last = absurd (omega (arith, last))
-  still (notes.Left a b c e) last = absurd (omega (arith, last))
-  still (notes.Lost a b c) last = absurd (omega (arith, last))
-  still (notes.TtSent a b c e f) last = absurd (omega (arith, last))
-  still (notes.Accepted a b c e f) last = absurd (omega (arith, last))
-  still (notes.Delivered a b c e f) last = absurd (omega (arith, last))
-  still (notes.Dropped a b c e) last = absurd (omega (arith, last))
+  still body last = absurd (omega (arith, last))
 
 le_from : (a b : ℕ) → nat_le a b ≡ true → a ≤ b
 le_from a b e = grind (arith, nat_tests, e)

@@ -10,7 +10,7 @@ use Rattle.lens_svg.specs.Elements.{bar_line, caption_line, element_line, gauge_
 use Rattle.{lens_svg.specs.{Laws.shown, Plan.Plan}, std.specs.{Char.digit_value, Str.Parse.AllDigits}}
 use Rattle.{lens_svg.specs.{Titles.{heading_line, title_line}, Views.View, declared.window.Came.Came}, run_law.specs.declared.note.Note.Note, std.proofs.lemmas.Bool.Decides.nat_tests}
 use Rattle.{lens_svg.specs.Marking.{IsPlain, head_text, is_plain}, std.specs.Prelude.{◌==◌, All, bytes_eq, codes, decimal, flat_map, if◌then◌else◌, length}}
-use Rattle.lens_svg.specs.declared.element.Element.{Element, TheVariants.{Bar, Caption, Gauge, Lack, Opening, Rail, Spread, Tick, Way, Window}}
+use Rattle.lens_svg.specs.declared.element.Element.{Element, TheVariants.{Caption, Lack, Opening, Spread}}
 use Rattle.{net_plan.specs.declared.network.Network.Network, report_text.{proofs.Splits.{NonePasses, split_once}, specs.Ranges.{IsNoteInRange, IsNoteOf}}}
 use Rattle.std.proofs.Common.{◌++◌, ◌+◌, ◌<◌, ◌∙◌, ◌∷◌, ◌≡◌, Bool, List, None, Option, Some, [], ap, append_assoc, arith, drop, false, filter, map, refl, subst}
 use Rattle.lens.specs.declared.draw.putting.Layer.TheVariants as layers
@@ -42,15 +42,7 @@ none_places f each i (suc n) = none_append (f i) (lines_from f (i + 1) n) (each 
 no_element : (network : Network) (e : Element) → is_mark (element_line network e) ≡ false
 unfolding opening_line caption_line bar_line rail_line tick_line way_line gauge_line spread_bar window_line
 no_element network (Opening a b) = refl
-no_element network (Caption a b) = refl
-no_element network (Bar a b c) = refl
-no_element network (Rail a b c) = refl
-no_element network (Tick a b) = refl
-no_element network (Way a b c d) = refl
-no_element network (Gauge a b c) = refl
-no_element network (Spread a b c d) = refl
-no_element network (Window a b) = refl
-no_element network Lack = refl
+no_element network e = refl
 
 no_sign : (sign : Sign) → is_mark (sign_line sign) ≡ false
 unfolding sign_line

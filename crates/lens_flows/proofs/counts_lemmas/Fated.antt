@@ -73,21 +73,10 @@ AreCountsUpTo s hs until flow after counts = (fate : Fate) → CountsUpTo (HasFa
 on_count : (P : Fate → ℕ → Type 0) (counts : FateCounts) (f g : Fate) → (f ≡ g → P g (count_of counts g + 1))
     → ((f ≡ g → ⊥) → P g (count_of counts g)) → P g (count_of (counted counts f) g)
 on_count P counts fates.Owed fates.Owed more same = more refl
-on_count P counts fates.Owed fates.Receiver more same = same (λ e. cc)
-on_count P counts fates.Owed fates.Sender more same = same (λ e. cc)
-on_count P counts fates.Owed fates.End more same = same (λ e. cc)
-on_count P counts fates.Receiver fates.Owed more same = same (λ e. cc)
 on_count P counts fates.Receiver fates.Receiver more same = more refl
-on_count P counts fates.Receiver fates.Sender more same = same (λ e. cc)
-on_count P counts fates.Receiver fates.End more same = same (λ e. cc)
-on_count P counts fates.Sender fates.Owed more same = same (λ e. cc)
-on_count P counts fates.Sender fates.Receiver more same = same (λ e. cc)
 on_count P counts fates.Sender fates.Sender more same = more refl
-on_count P counts fates.Sender fates.End more same = same (λ e. cc)
-on_count P counts fates.End fates.Owed more same = same (λ e. cc)
-on_count P counts fates.End fates.Receiver more same = same (λ e. cc)
-on_count P counts fates.End fates.Sender more same = same (λ e. cc)
 on_count P counts fates.End fates.End more same = more refl
+on_count P counts f g more same = same (λ e. cc)
 
 module _ (s : Scenario) (hs : List Happening) (until : ℕ) (flow : Flow) where
   begun_later : (fate : Fate) (t : ℕ) → HasFateAt s hs until flow fate t → 0 < t

@@ -3,11 +3,10 @@ use Rattle.{lens_slack.{proofs.least_lemmas.SamePlan.first_path_to, specs.declar
 use Rattle.{lens_slack.specs.least.{Parts.IsStartOf, Times.with_times}, tte_units.{proofs.general_lemmas.Lists.in_all, specs.declared.units.Units.Units}}
 use Rattle.{net_plan.proofs.Amounts.amount_within, std.{proofs.lemmas.Int.ints, specs.Prelude.{◌≤ℤ◌, IfSome}}, tte_units.specs.Amount.{amount, units_of}}
 use Rattle.{net_plan.specs.Ranges.{IsDeviceInRange, IsInRange, IsWithin}, std.proofs.Common.{◌^◌, ◌≡◌, ◌≤◌, None, Option, Some, ap, arith, pos, ℕ, ℤ}}
-use Rattle.{net_plan.specs.Rules.{HasOneCm, IsConnected, IsWithinLimits, MastersSuffice}, schedule_tables.specs.declared.rule.Rule.TheVariants.WindowEnds}
+use Rattle.net_plan.specs.Rules.{HasOneCm, IsConnected, IsWithinLimits, MastersSuffice}
 use Rattle.{net_plan.specs.declared.tables.Device.Device, schedule_checker.proofs.Selection.all_of_each, schedule_tables.specs.Rules.{IsKept, KeepsBelow}}
-use Rattle.schedule_tables.specs.declared.rule.Rule.TheVariants.{BothChannels, CompressionMasters, Connections, Correction, Delays, DevicesDiffer, Forwarding}
-use Rattle.schedule_tables.specs.declared.rule.Rule.TheVariants.{Joints, Limits, LinksDiffer, LinksOnce, Masters, Periods, Precision, RowsOfDevice}
-use Rattle.schedule_tables.specs.declared.rule.Rule.TheVariants.{ScheduleStart, Senders, Settling, Sources, Spacing, Targets, VlIdsDiffer, VlNamesDiffer}
+use Rattle.schedule_tables.specs.declared.rule.Rule.TheVariants.{CompressionMasters, Connections, Correction, Delays, DevicesDiffer, Joints}
+use Rattle.schedule_tables.specs.declared.rule.Rule.TheVariants.{Limits, LinksDiffer, Masters, Precision, Settling}
 use Rattle.std.specs.List.{All}
 
 -- a start that is no more than so much
@@ -64,23 +63,7 @@ module _ (n : Network) (t : Times) (range : IsInRange n) (most : (k : ℕ) → I
   shape_with shape Joints less = shape Joints less
   shape_with shape Connections less = λ i. connected i (shape Connections less i)
   shape_with shape Masters less = λ part. masters part (shape Masters less part)
-  shape_with shape Delays less = absurd (omega (arith, less))
-  shape_with shape Settling less = absurd (omega (arith, less))
-  shape_with shape Precision less = absurd (omega (arith, less))
-  shape_with shape Correction less = absurd (omega (arith, less))
-  shape_with shape ScheduleStart less = absurd (omega (arith, less))
-  shape_with shape WindowEnds less = absurd (omega (arith, less))
-  shape_with shape VlNamesDiffer less = absurd (omega (arith, less))
-  shape_with shape VlIdsDiffer less = absurd (omega (arith, less))
-  shape_with shape Periods less = absurd (omega (arith, less))
-  shape_with shape Senders less = absurd (omega (arith, less))
-  shape_with shape LinksOnce less = absurd (omega (arith, less))
-  shape_with shape Sources less = absurd (omega (arith, less))
-  shape_with shape Targets less = absurd (omega (arith, less))
-  shape_with shape Spacing less = absurd (omega (arith, less))
-  shape_with shape BothChannels less = absurd (omega (arith, less))
-  shape_with shape Forwarding less = absurd (omega (arith, less))
-  shape_with shape RowsOfDevice less = absurd (omega (arith, less))
+  shape_with shape rule less = absurd (omega (arith, less))
 
 module _ (m : Network) (shape : KeepsBelow 8 m) (delays : IsKept Delays m) (settling : IsKept Settling m)
     (precision : IsKept Precision m) (correction : IsKept Correction m) where
@@ -97,16 +80,4 @@ module _ (m : Network) (shape : KeepsBelow 8 m) (delays : IsKept Delays m) (sett
   rules_below Settling less = settling
   rules_below Precision less = precision
   rules_below Correction less = correction
-  rules_below ScheduleStart less = absurd (omega (arith, less))
-  rules_below WindowEnds less = absurd (omega (arith, less))
-  rules_below VlNamesDiffer less = absurd (omega (arith, less))
-  rules_below VlIdsDiffer less = absurd (omega (arith, less))
-  rules_below Periods less = absurd (omega (arith, less))
-  rules_below Senders less = absurd (omega (arith, less))
-  rules_below LinksOnce less = absurd (omega (arith, less))
-  rules_below Sources less = absurd (omega (arith, less))
-  rules_below Targets less = absurd (omega (arith, less))
-  rules_below Spacing less = absurd (omega (arith, less))
-  rules_below BothChannels less = absurd (omega (arith, less))
-  rules_below Forwarding less = absurd (omega (arith, less))
-  rules_below RowsOfDevice less = absurd (omega (arith, less))
+  rules_below rule less = absurd (omega (arith, less))

@@ -29,19 +29,7 @@ room_for network events notes note next counts is b =
 pub correction_of : (h : Happening) (body : NoteBody) → h.note.body ≡ body → corrects body ≡ true → IsCorrection h × (2 < rank body)
 correction_of h (kinds.Corrected device cycle by adjustment) is c =
     (record { device = device; cycle = cycle; by = by; adjustment = adjustment; is = is }, omega arith)
-correction_of h (kinds.Event line what) is c = absurd cc
-correction_of h (kinds.Arrived d link cause clock) is c = absurd cc
-correction_of h (kinds.Permanent d link cause point verdict) is c = absurd cc
-correction_of h (kinds.Compressed d opened at cycle of_masters verdict) is c = absurd cc
-correction_of h (kinds.Sent d cycle) is c = absurd cc
-correction_of h (kinds.State d state cause why) is c = absurd cc
-correction_of h (kinds.Left d link cause clock) is c = absurd cc
-correction_of h (kinds.Lost d link cause) is c = absurd cc
-correction_of h (kinds.TtSent d link cause vl cycle) is c = absurd cc
-correction_of h (kinds.Accepted d link cause vl cycle) is c = absurd cc
-correction_of h (kinds.Delivered d link cause vl cycle) is c = absurd cc
-correction_of h (kinds.Dropped d link cause reason) is c = absurd cc
-correction_of h (kinds.Clock d reading adjustment state) is c = absurd cc
+correction_of h body is c = absurd cc
 
 -- another is none
 pub no_correction : {h : Happening} → corrects h.note.body ≡ false → IsCorrection h → ⊥

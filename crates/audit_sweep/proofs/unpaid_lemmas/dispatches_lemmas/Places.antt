@@ -19,29 +19,12 @@ module _ (u m n t k : ℕ) where
   -- what stands at the place of a loss is it
   lost_at : (d : DeviceId) (l : LinkId) (body : NoteBody) → place_at u m body ≡ place_at t n (notes.Lost d l k)
       → (u ≡ t) × (body ≡ notes.Lost d l k)
-  lost_at d l (notes.Event line what) e = absurd cc
-  lost_at d l (notes.Arrived device link cause clock) e = absurd cc
-  lost_at d l (notes.Permanent device link cause point verdict) e = absurd cc
-  lost_at d l (notes.Compressed device opened at cycle of_masters verdict) e = absurd cc
-  lost_at d l (notes.Sent device cycle) e = absurd cc
-  lost_at d l (notes.Corrected device cycle by adjustment) e = absurd cc
-  lost_at d l (notes.State device state cause why) e = absurd cc
-  lost_at d l (notes.Left device link cause clock) e = absurd cc
   lost_at d l (notes.Lost device link cause) e = grind arith
   lost_at d l other e = absurd cc
 
   -- what stands at the place of a dispatch is it
   sent_at : (c : ℕ) (d : DeviceId) (l : LinkId) (v : VlId) (body : NoteBody)
       → place_at u m body ≡ place_at t n (notes.TtSent d l k v c) → (u ≡ t) × (body ≡ notes.TtSent d l k v c)
-  sent_at c d l v (notes.Event line what) e = absurd cc
-  sent_at c d l v (notes.Arrived device link cause clock) e = absurd cc
-  sent_at c d l v (notes.Permanent device link cause point verdict) e = absurd cc
-  sent_at c d l v (notes.Compressed device opened at cycle of_masters verdict) e = absurd cc
-  sent_at c d l v (notes.Sent device cycle) e = absurd cc
-  sent_at c d l v (notes.Corrected device cycle by adjustment) e = absurd cc
-  sent_at c d l v (notes.State device state cause why) e = absurd cc
-  sent_at c d l v (notes.Left device link cause clock) e = absurd cc
-  sent_at c d l v (notes.Lost device link cause) e = absurd cc
   sent_at c d l v (notes.TtSent device link cause vl cycle) e = grind arith
   sent_at c d l v other e = absurd cc
 

@@ -23,11 +23,6 @@ without_cause s ps device t cause state whys.AsyncClique none c = inr refl
 
 -- what stands at the place of a correction tells of a point
 correction_at : (u m t : ℕ) (d : DeviceId) (body : NoteBody) → place_at u m body ≡ t ∷ 6 ∷ d.0 ∷ [] → (u ≡ t) × IsPointOf d body
-correction_at u m t d (notes.Event line what) e = absurd cc
-correction_at u m t d (notes.Arrived device link cause clock) e = absurd cc
-correction_at u m t d (notes.Permanent device link cause point verdict) e = absurd cc
-correction_at u m t d (notes.Compressed device opened at cycle of_masters verdict) e = absurd cc
-correction_at u m t d (notes.Sent device cycle) e = absurd cc
 correction_at u m t d (notes.Corrected other cycle by adjustment) e = grind (arith, same_device)
 correction_at u m t d other e = absurd cc
 
@@ -39,12 +34,6 @@ by_why d other state cause why same (inr e) = subst (λ (w : Why). IsPointOf d (
 -- and what stands at that of a change of state without a cause, where it is due
 clique_at : (s : Scenario) (ps : List Happening) (time : Units) (u m t : ℕ) (d : DeviceId) (body : NoteBody) → IsCaused s ps time body
     → place_at u m body ≡ t ∷ 7 ∷ d.0 ∷ 0 ∷ [] → (u ≡ t) × IsPointOf d body
-clique_at s ps time u m t d (notes.Event line what) c e = absurd cc
-clique_at s ps time u m t d (notes.Arrived device link cause clock) c e = absurd cc
-clique_at s ps time u m t d (notes.Permanent device link cause point verdict) c e = absurd cc
-clique_at s ps time u m t d (notes.Compressed device opened at cycle of_masters verdict) c e = absurd cc
-clique_at s ps time u m t d (notes.Sent device cycle) c e = absurd cc
-clique_at s ps time u m t d (notes.Corrected other cycle by adjustment) c e = absurd cc
 clique_at s ps time u m t d (notes.State other state cause why) c e = grind (arith, by_why, same_device, without_cause)
 clique_at s ps time u m t d other c e = absurd cc
 

@@ -51,29 +51,11 @@ module _ (s other : Scenario) (link : LinkId) (way : Way) (t : ℕ) where
       → is_carried other link way t body ≡ is_carried s link way t body
   carried_same (notes.Event line (events.Send k octets)) same cut =
       ap (λ (b : Bool). is_way_of link way k Up && not b) (cut k)
-  carried_same (notes.Event line (events.Rate device rate)) same cut = refl
-  carried_same (notes.Event line (events.Wire k turned delay)) same cut = refl
-  carried_same (notes.Event line (events.Hold k turned delay)) same cut = refl
-  carried_same (notes.Event line (events.Cut k turned)) same cut = refl
-  carried_same (notes.Event line (events.Heal k turned)) same cut = refl
-  carried_same (notes.Event line (events.On device)) same cut = refl
-  carried_same (notes.Event line (events.Break device)) same cut = refl
-  carried_same (notes.Event line events.End) same cut = refl
   carried_same (notes.Left device k cause clock) same cut =
       ap (λ n. is_sent_on n link way (notes.Left device k cause clock)) same
   carried_same (notes.TtSent device k cause vl cycle) same cut =
       ap (λ n. is_sent_on n link way (notes.TtSent device k cause vl cycle)) same
-  carried_same (notes.Arrived device k cause clock) same cut = refl
-  carried_same (notes.Permanent device k cause point verdict) same cut = refl
-  carried_same (notes.Compressed device opened at cycle members verdict) same cut = refl
-  carried_same (notes.Sent device cycle) same cut = refl
-  carried_same (notes.Corrected device cycle by adjustment) same cut = refl
-  carried_same (notes.State device state cause why) same cut = refl
-  carried_same (notes.Lost device k cause) same cut = refl
-  carried_same (notes.Accepted device k cause vl cycle) same cut = refl
-  carried_same (notes.Delivered device k cause vl cycle) same cut = refl
-  carried_same (notes.Dropped device k cause reason) same cut = refl
-  carried_same (notes.Clock device reading adjustment state) same cut = refl
+  carried_same body same cut = refl
 
 -- the packets of records that are earlier than all further events stay
 pub packets_stay : (network : Network) (events more : List Event) (link : LinkId) (way : Way) (t : ℕ) (hs : List Happening) → AreFrom t more
@@ -115,27 +97,8 @@ module _ (s : Scenario) (link : LinkId) (way : Way) (cut : Bool) (t : ℕ) where
       ≡ packet_if cut t (sent_by link way octets body)
   sent_is (notes.Event line (events.Send k given)) frame octets low same =
       let whole = sent_one link way k (is_way_of link way k Up) cut (is_cut s k Up t) t octets refl (same k) in whole
-  sent_is (notes.Event line (events.Rate device rate)) frame octets low same = none_if cut t
-  sent_is (notes.Event line (events.Wire k turned delay)) frame octets low same = none_if cut t
-  sent_is (notes.Event line (events.Hold k turned delay)) frame octets low same = none_if cut t
-  sent_is (notes.Event line (events.Cut k turned)) frame octets low same = none_if cut t
-  sent_is (notes.Event line (events.Heal k turned)) frame octets low same = none_if cut t
-  sent_is (notes.Event line (events.On device)) frame octets low same = none_if cut t
-  sent_is (notes.Event line (events.Break device)) frame octets low same = none_if cut t
-  sent_is (notes.Event line events.End) frame octets low same = none_if cut t
-  sent_is (notes.Left device k cause clock) frame octets low same = absurd (omega (arith, low))
-  sent_is (notes.TtSent device k cause vl cycle) frame octets low same = absurd (omega (arith, low))
-  sent_is (notes.Arrived device k cause clock) frame octets low same = absurd (omega (arith, low))
-  sent_is (notes.Permanent device k cause point verdict) frame octets low same = absurd (omega (arith, low))
-  sent_is (notes.Compressed device opened at cycle members verdict) frame octets low same = absurd (omega (arith, low))
-  sent_is (notes.Sent device cycle) frame octets low same = absurd (omega (arith, low))
-  sent_is (notes.Corrected device cycle by adjustment) frame octets low same = absurd (omega (arith, low))
-  sent_is (notes.State device state cause why) frame octets low same = absurd (omega (arith, low))
-  sent_is (notes.Lost device k cause) frame octets low same = absurd (omega (arith, low))
-  sent_is (notes.Accepted device k cause vl cycle) frame octets low same = absurd (omega (arith, low))
-  sent_is (notes.Delivered device k cause vl cycle) frame octets low same = absurd (omega (arith, low))
-  sent_is (notes.Dropped device k cause reason) frame octets low same = absurd (omega (arith, low))
-  sent_is (notes.Clock device reading adjustment state) frame octets low same = absurd (omega (arith, low))
+  sent_is (notes.Event line what) frame octets low same = none_if cut t
+  sent_is body frame octets low same = absurd (omega (arith, low))
 
   -- a way up that is the way of a link is that of the link itself
   up_is : is_cut s link Up t ≡ cut → (k : LinkId) → is_way_of link way k Up ≡ true → is_cut s k Up t ≡ cut

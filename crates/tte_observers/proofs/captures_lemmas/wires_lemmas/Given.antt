@@ -14,19 +14,7 @@ module _ (s : Scenario) (link : LinkId) (way : Way) where
   pub carried_is : (t : ℕ) (body : NoteBody) → 1 < rank body
       → is_carried s link way t body ≡ is_sent_on s.network link way body
   carried_is t (notes.Event line what) high = absurd (omega (arith, high))
-  carried_is t (notes.Arrived device k cause clock) high = refl
-  carried_is t (notes.Permanent device k cause point verdict) high = refl
-  carried_is t (notes.Compressed device opened at cycle members verdict) high = refl
-  carried_is t (notes.Sent device cycle) high = refl
-  carried_is t (notes.Corrected device cycle by adjustment) high = refl
-  carried_is t (notes.State device state cause why) high = refl
-  carried_is t (notes.Left device k cause clock) high = refl
-  carried_is t (notes.Lost device k cause) high = refl
-  carried_is t (notes.TtSent device k cause vl cycle) high = refl
-  carried_is t (notes.Accepted device k cause vl cycle) high = refl
-  carried_is t (notes.Delivered device k cause vl cycle) high = refl
-  carried_is t (notes.Dropped device k cause reason) high = refl
-  carried_is t (notes.Clock device reading adjustment state) high = refl
+  carried_is t body high = refl
 
   -- where it does not, there is no packet
   pub not_carried : (z : Happening) → 1 < rank z.note.body → is_sent_on s.network link way z.note.body ≡ false

@@ -268,11 +268,4 @@ sent_new network hs number line time (events.Send k given) link way =
       | true ↦ refl
       | false ↦ refl
     ]
-sent_new network hs number line time (events.Rate device rate) link way = refl
-sent_new network hs number line time (events.Wire k turned delay) link way = refl
-sent_new network hs number line time (events.Hold k turned delay) link way = refl
-sent_new network hs number line time (events.Cut k turned) link way = refl
-sent_new network hs number line time (events.Heal k turned) link way = refl
-sent_new network hs number line time (events.On device) link way = refl
-sent_new network hs number line time (events.Break device) link way = refl
-sent_new network hs number line time events.End link way = refl
+sent_new network hs number line time what link way = refl

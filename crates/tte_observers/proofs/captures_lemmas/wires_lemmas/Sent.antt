@@ -23,18 +23,7 @@ next_number n k e = omega (arith, e)
 pub sent_rank : (network : Network) (link : LinkId) (way : Way) (body : NoteBody) → is_sent_on network link way body ≡ true → 2 < rank body
 sent_rank network link way (notes.Left device k cause clock) sent = omega arith
 sent_rank network link way (notes.TtSent device k cause vl cycle) sent = omega arith
-sent_rank network link way (notes.Event line what) sent = absurd (both_ways false refl sent)
-sent_rank network link way (notes.Arrived device k cause clock) sent = absurd (both_ways false refl sent)
-sent_rank network link way (notes.Permanent device k cause point verdict) sent = absurd (both_ways false refl sent)
-sent_rank network link way (notes.Compressed device opened at cycle members verdict) sent = absurd (both_ways false refl sent)
-sent_rank network link way (notes.Sent device cycle) sent = absurd (both_ways false refl sent)
-sent_rank network link way (notes.Corrected device cycle by adjustment) sent = absurd (both_ways false refl sent)
-sent_rank network link way (notes.State device state cause why) sent = absurd (both_ways false refl sent)
-sent_rank network link way (notes.Lost device k cause) sent = absurd (both_ways false refl sent)
-sent_rank network link way (notes.Accepted device k cause vl cycle) sent = absurd (both_ways false refl sent)
-sent_rank network link way (notes.Delivered device k cause vl cycle) sent = absurd (both_ways false refl sent)
-sent_rank network link way (notes.Dropped device k cause reason) sent = absurd (both_ways false refl sent)
-sent_rank network link way (notes.Clock device reading adjustment state) sent = absurd (both_ways false refl sent)
+sent_rank network link way body sent = absurd (both_ways false refl sent)
 
 -- the record that the world gave last is of its present time
 pub of_now : {network : Network} {world : ExactWorld} {events : List Event} (notes : List Note) (note : Note)
@@ -75,19 +64,7 @@ module _ (s : Scenario) (link : LinkId) where
       launch_within k way (way_from s.network device k) z.frame there sent
   on_own_link way z there (notes.TtSent device k cause vl cycle) sent =
       within (length s.network.link) link k way (way_from s.network device k) there sent
-  on_own_link way z there (notes.Event line what) sent = absurd (both_ways false refl sent)
-  on_own_link way z there (notes.Arrived device k cause clock) sent = absurd (both_ways false refl sent)
-  on_own_link way z there (notes.Permanent device k cause point verdict) sent = absurd (both_ways false refl sent)
-  on_own_link way z there (notes.Compressed device opened at cycle members verdict) sent =
-      absurd (both_ways false refl sent)
-  on_own_link way z there (notes.Sent device cycle) sent = absurd (both_ways false refl sent)
-  on_own_link way z there (notes.Corrected device cycle by adjustment) sent = absurd (both_ways false refl sent)
-  on_own_link way z there (notes.State device state cause why) sent = absurd (both_ways false refl sent)
-  on_own_link way z there (notes.Lost device k cause) sent = absurd (both_ways false refl sent)
-  on_own_link way z there (notes.Accepted device k cause vl cycle) sent = absurd (both_ways false refl sent)
-  on_own_link way z there (notes.Delivered device k cause vl cycle) sent = absurd (both_ways false refl sent)
-  on_own_link way z there (notes.Dropped device k cause reason) sent = absurd (both_ways false refl sent)
-  on_own_link way z there (notes.Clock device reading adjustment state) sent = absurd (both_ways false refl sent)
+  on_own_link way z there body sent = absurd (both_ways false refl sent)
 
 -- ---- the packet
 
@@ -114,18 +91,7 @@ module _ (s : Scenario) (link : LinkId) (way : Way) (z : Happening) where
       → AreLinesOf t (put_of (launched s z t body)) lines → lines ≡ line_of t (shown body z.frame z.octets)
   sent_lines (notes.Left device k cause clock) sent are = left_lines k (way_from s.network device k) z.frame are
   sent_lines (notes.TtSent device k cause vl cycle) sent are = are.some (timed z.octets) refl z.octets refl
-  sent_lines (notes.Event line what) sent are = absurd (both_ways false refl sent)
-  sent_lines (notes.Arrived device k cause clock) sent are = absurd (both_ways false refl sent)
-  sent_lines (notes.Permanent device k cause point verdict) sent are = absurd (both_ways false refl sent)
-  sent_lines (notes.Compressed device opened at cycle members verdict) sent are = absurd (both_ways false refl sent)
-  sent_lines (notes.Sent device cycle) sent are = absurd (both_ways false refl sent)
-  sent_lines (notes.Corrected device cycle by adjustment) sent are = absurd (both_ways false refl sent)
-  sent_lines (notes.State device state cause why) sent are = absurd (both_ways false refl sent)
-  sent_lines (notes.Lost device k cause) sent are = absurd (both_ways false refl sent)
-  sent_lines (notes.Accepted device k cause vl cycle) sent are = absurd (both_ways false refl sent)
-  sent_lines (notes.Delivered device k cause vl cycle) sent are = absurd (both_ways false refl sent)
-  sent_lines (notes.Dropped device k cause reason) sent are = absurd (both_ways false refl sent)
-  sent_lines (notes.Clock device reading adjustment state) sent are = absurd (both_ways false refl sent)
+  sent_lines body sent are = absurd (both_ways false refl sent)
 
   -- the lines of what a record put on the wire are its packet
   pub packet_is : {lines : List (List ℕ)} → is_sent_on s.network link way z.note.body ≡ true

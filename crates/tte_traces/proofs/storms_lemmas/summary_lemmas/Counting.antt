@@ -161,19 +161,7 @@ counts_and lines.Unlisted c = the_counts (c.records + 1) c.compressed c.correcte
 -- they are those with the record that it counts
 counts_line : (counted : Counted) (body : NoteBody) (c : Counts) → counted ≡ counted_as body → counts_and counted c ≡ counts_with body c
 counts_line counted (notes.Event line what) c e = ap (λ k. counts_and k c) e
-counts_line counted (notes.Arrived device link cause clock) c e = ap (λ k. counts_and k c) e
-counts_line counted (notes.Permanent device link cause point verdict) c e = ap (λ k. counts_and k c) e
-counts_line counted (notes.Compressed device opened at cycle members verdict) c e = ap (λ k. counts_and k c) e
-counts_line counted (notes.Sent device cycle) c e = ap (λ k. counts_and k c) e
-counts_line counted (notes.Corrected device cycle by adjustment) c e = ap (λ k. counts_and k c) e
-counts_line counted (notes.State device state cause why) c e = ap (λ k. counts_and k c) e
-counts_line counted (notes.Left device link cause clock) c e = ap (λ k. counts_and k c) e
-counts_line counted (notes.Lost device link cause) c e = ap (λ k. counts_and k c) e
-counts_line counted (notes.TtSent device link cause vl cycle) c e = ap (λ k. counts_and k c) e
-counts_line counted (notes.Accepted device link cause vl cycle) c e = ap (λ k. counts_and k c) e
-counts_line counted (notes.Delivered device link cause vl cycle) c e = ap (λ k. counts_and k c) e
-counts_line counted (notes.Dropped device link cause reason) c e = ap (λ k. counts_and k c) e
-counts_line counted (notes.Clock device reading adjustment state) c e = ap (λ k. counts_and k c) e
+counts_line counted body c e = ap (λ k. counts_and k c) e
 
 -- where the counts become those with one more that the record's line counts, they are the record's
 pub added : (old new : Counts) (counted : Counted) (note : Note) → new ≡ counts_and counted old → counted ≡ counted_as note.body → (notes : List Note)
