@@ -1,16 +1,9 @@
 -- What is shown of a device at a time, once all records of the time have come.
 use Rattle.{audit_devices.specs.Showing.{Shown, Shows}, lens_overview.specs.Spreads.local_at, net_plan.specs.declared.ids.DeviceId.DeviceId}
 use Rattle.run_law.specs.device.{LocalClocks.local, States.{is_synchronised, state_after}}
-use Rattle.run_law.{proofs.records.Order.same_kept, specs.{records.Happenings.{Happening, earlier, time_of, up_to}, scenario.Scenarios.{Scenario, is_broken}}}
-use Rattle.std.proofs.Common.{◌+◌, ◌∙◌, ◌≡◌, Bool, List, None, Option, Some, ap, arith, false, if◌then◌else◌, inl, inr, refl, subst, sym, true, ℕ, ℤ}
-use Rattle.std.{proofs.lemmas.Bool.{cases_lt, le-leb, le-ltb, lt-leb, lt-ltb}, specs.Prelude.{nat_le, nat_lt}}
+use Rattle.{lens_flows.proofs.judge_lemmas.Steps.up_to_is, run_law.specs.{records.Happenings.{Happening, earlier, up_to}, scenario.Scenarios.{Scenario, is_broken}}}
+use Rattle.std.proofs.Common.{◌+◌, ◌∙◌, ◌≡◌, Bool, List, None, Option, Some, ap, false, if◌then◌else◌, refl, subst, sym, true, ℕ, ℤ}
 use Rattle.sync_state.specs.declared.state.State.{State, TheVariants.{Integrating, Joining, Off, Synchronised}}
-
-up_to_is : (t : ℕ) (hs : List Happening) → up_to t hs ≡ earlier (t + 1) hs
-up_to_is t hs = same_kept (λ h. nat_le (time_of h) t) (λ h. nat_lt (time_of h) (t + 1)) hs (λ h i. elim (cases_lt (time_of h) (t + 1)) [
-  | inl lt ↦ le-leb (time_of h) t (omega arith) ∙ sym (lt-ltb (time_of h) (t + 1) lt)
-  | inr ge ↦ lt-leb (time_of h) t (omega arith) ∙ sym (le-ltb (time_of h) (t + 1) ge)
-])
 
 -- what is shown before the next unit of time is so after this one
 pub shows_up_to : {s : Scenario} (hs : List Happening) {device : DeviceId} (t : ℕ) {shown : Shown}

@@ -6,7 +6,8 @@ use Rattle.run_law.specs.{device.States.state_after, records.Happenings.{Happeni
 use Rattle.std.proofs.Common.{◌+◌, ◌<◌, ◌∙◌, ◌≡◌, ◌≤◌, List, ap, arith, false, inl, inr, refl, sym, ℕ}
 use Rattle.{std.proofs.lemmas.Bool.{cases_lt, false≢true, le-leb, le-ltb, lt-leb, lt-ltb}, sync_state.specs.declared.state.State.TheVariants.Synchronised}
 
-up_to_is : (t : ℕ) (hs : List Happening) → up_to t hs ≡ earlier (t + 1) hs
+-- what is up to a time is earlier than the next unit of time
+pub up_to_is : (t : ℕ) (hs : List Happening) → up_to t hs ≡ earlier (t + 1) hs
 up_to_is t hs = same_kept (λ h. nat_le (time_of h) t) (λ h. nat_lt (time_of h) (t + 1)) hs (λ h i. elim (cases_lt (time_of h) (t + 1)) [
   | inl lt ↦ le-leb (time_of h) t (omega arith) ∙ sym (lt-ltb (time_of h) (t + 1) lt)
   | inr ge ↦ lt-leb (time_of h) t (omega arith) ∙ sym (le-ltb (time_of h) (t + 1) ge)
