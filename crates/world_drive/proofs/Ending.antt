@@ -61,9 +61,9 @@ driving_first sink give see {network} from source observer time line out stands 
   puts = puts_none sink out;
 }
 
-module _ {B K E O : Type 0} (sink : Ghosts K) (give : Gave B E) (see : Sees O) (network : Network) (first : B) (origin : E) (begun_by : O) (from : B)
-    (source : E) (world : ExactWorld)
-    (observer : O) (time : Units) (line : ℕ) (old now : K)
+module _ {B K E O : Type 0} {sink : Ghosts K} {give : Gave B E} {see : Sees O} {network : Network} {first : B} {origin : E} {begun_by : O} {from : B}
+    {source : E} {world : ExactWorld}
+    {observer : O} {time : Units} {line : ℕ} {old now : K}
     (d : IsDriving sink give see network first origin begun_by from source world observer time line old now) where
   -- the time is in the range of runs
   pub begun : pos 0 ≤ℤ time.0
