@@ -67,7 +67,7 @@ lines_parts : (s : Scenario) (hs xs : List Happening) (h : Happening) (more : Li
     → chain_lines s hs (xs ++ h ∷ more) ≡ chain_lines s hs xs ++ (record_lines s hs h ++ chain_lines s hs more)
 lines_parts s hs xs h more = flat_map-append (record_lines s hs) xs (h ∷ more)
 
-module _ (network : Network) (octets : List ℕ) (first note : Note) (old now : Shown) (t : IsToldTo network octets first note old now) where
+module _ {network : Network} {octets : List ℕ} {first note : Note} {old now : Shown} (t : IsToldTo network octets first note old now) where
   abbrev all : List Happening
   all = happenings network t.notes
 

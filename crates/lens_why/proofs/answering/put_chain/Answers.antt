@@ -11,57 +11,40 @@ records-init g c =
     }
 
 pub put_record-requires-clause-of_network : goal.put_record-requires-clause-of_network
-put_record-requires-clause-of_network g c =
-    let shown = shown_by g.K.Sink in
-    network_of c.args.network.now c.args.report.now.octets c.args.first c.records.note (shown c.args.out.now) (shown c.records.out)
-    c.records.invariant.told
+put_record-requires-clause-of_network g c = network_of c.records.invariant.told
 
 pub ground_of-ground-requires-clause-timely : goal.ground_of-ground-requires-clause-timely
-ground_of-ground-requires-clause-timely g c =
-    let shown = shown_by g.K.Sink in
-    timely c.args.network.now c.args.report.now.octets c.args.first c.records.note (shown c.args.out.now) (shown c.records.out)
-    c.records.invariant.told
+ground_of-ground-requires-clause-timely g c = timely c.records.invariant.told
 
 pub returns-in-Err-clause-gives : goal.returns-in-Err-clause-gives
 returns-in-Err-clause-gives g c notes end of =
     let shown = shown_by g.K.Sink in
     let t = c.records.invariant.told in
     let given = c.giving-cause.ensures t.notes t.end t.of in
-    let said = said_as c.args.network.now c.args.report.now.octets c.args.first c.records.note (shown c.args.out.now) (shown c.records.out) t
-    c.giving-cause.result
-    c.ground_of-ground.result given (c.ground_of-ground.ensures t.notes t.end t.h t.of) in
-    told_fails c.args.network.now c.args.report.now.octets c.args.first c.records.note (shown c.args.out.now) (shown c.records.out) t
-    (shown c.put_record.new.out) c.ground_of-ground.result said c.requires.named c.in-Err.ensures.puts notes end of
+    let said = said_as t c.giving-cause.result c.ground_of-ground.result given (c.ground_of-ground.ensures t.notes t.end t.h t.of) in
+    told_fails t (shown c.put_record.new.out) c.ground_of-ground.result said c.requires.named c.in-Err.ensures.puts notes end of
 
 pub returns-in-None-clause-gives : goal.returns-in-None-clause-gives
 returns-in-None-clause-gives g c notes end of =
     let shown = shown_by g.K.Sink in
     let t = c.records.invariant.told in
     let given = c.giving-cause.ensures t.notes t.end t.of in
-    let said = said_as c.args.network.now c.args.report.now.octets c.args.first c.records.note (shown c.args.out.now) (shown c.records.out) t
-    c.giving-cause.result
-    c.ground_of-ground.result given (c.ground_of-ground.ensures t.notes t.end t.h t.of) in
-    told_all c.args.network.now c.args.report.now.octets c.args.first c.records.note (shown c.args.out.now) (shown c.records.out) t
-    (shown c.put_record.new.out) c.ground_of-ground.result said c.requires.named c.in-Ok.ensures.puts (sym given ∙ c.in-None.is) c.end_with.result
+    let said = said_as t c.giving-cause.result c.ground_of-ground.result given (c.ground_of-ground.ensures t.notes t.end t.h t.of) in
+    told_all t (shown c.put_record.new.out) c.ground_of-ground.result said c.requires.named c.in-Ok.ensures.puts (sym given ∙ c.in-None.is) c.end_with.result
     (shown c.end_with.new.out) c.end_with.ensures.ends notes end of
 
 pub records-smaller : goal.records-smaller
 records-smaller g c =
-    let shown = shown_by g.K.Sink in
     let t = c.records.invariant.told in
-    smaller c.args.network.now c.args.report.now.octets c.args.first c.records.note (shown c.args.out.now) (shown c.records.out) t c.in-Some.next
-    (sym (c.giving-cause.ensures t.notes t.end t.of) ∙ c.in-Some.is)
+    smaller t c.in-Some.next (sym (c.giving-cause.ensures t.notes t.end t.of) ∙ c.in-Some.is)
 
 pub records-preserved : goal.records-preserved
 records-preserved g c =
     let shown = shown_by g.K.Sink in
     let t = c.records.invariant.told in
     let given = c.giving-cause.ensures t.notes t.end t.of in
-    let said = said_as c.args.network.now c.args.report.now.octets c.args.first c.records.note (shown c.args.out.now) (shown c.records.out) t
-    c.giving-cause.result
-    c.ground_of-ground.result given (c.ground_of-ground.ensures t.notes t.end t.h t.of) in
+    let said = said_as t c.giving-cause.result c.ground_of-ground.result given (c.ground_of-ground.ensures t.notes t.end t.h t.of) in
     record {
-      told = told_more c.args.network.now c.args.report.now.octets c.args.first c.records.note (shown c.args.out.now) (shown c.records.out) t
-          (shown c.put_record.new.out) c.ground_of-ground.result said c.in-Ok.ensures.puts c.in-Some.next (sym given ∙ c.in-Some.is);
+      told = told_more t (shown c.put_record.new.out) c.ground_of-ground.result said c.in-Ok.ensures.puts c.in-Some.next (sym given ∙ c.in-Some.is);
       quiet = c.in-Ok.ensures.faults ∙ c.records.invariant.quiet;
     }
