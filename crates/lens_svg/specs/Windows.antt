@@ -1,16 +1,12 @@
 -- The windows of the schedule, and where in them frames come.
-use Rattle.std.specs.Prelude.{◌&&◌, ◌-ℤ◌, ◌==◌, List, None, Option, Some, filter_map, if◌then◌else◌, int_lt}
-use Rattle.std.specs.Prelude.{option_and_then, option_map, position, slice_get, unsigned_abs, ℕ, ℤ}
+use Rattle.std.specs.Prelude.{◌-ℤ◌, List, None, Option, Some, filter_map, if◌then◌else◌, int_lt}
+use Rattle.std.specs.Prelude.{option_and_then, option_map, slice_get, unsigned_abs, ℕ, ℤ}
 use Rattle.lens_svg.specs.declared.{element.Element.TheVariants.{Window as Box}, mark.Look.TheVariants.Taken}
 use Rattle.lens_svg.specs.declared.{element.Element.Element, mark.{Look.Look, Mark.Mark}, window.Came.Came}
 use Rattle.lens_svg.specs.{Clocks.share, Layers.point_of}
-use Rattle.net_plan.specs.declared.{ids.{DeviceId.DeviceId, LinkId.LinkId, VlId.VlId}, network.Network.Network}
+use Rattle.net_plan.specs.{Places.row_of, declared.{ids.{DeviceId.DeviceId, LinkId.LinkId, VlId.VlId}, network.Network.Network}}
 use Rattle.run_law.specs.{device.Standpoints.offset_in_cycle, timed.Arrivals.entry_of}
 use Rattle.schedule_tables.specs.{Windows.window_of, declared.window.Window.Window}
-
--- the place of the row by which the virtual link goes by the link
-abbrev pub row_of : Network → VlId → LinkId → Option ℕ
-row_of network vl link = position (λ row. row.vl.0 == vl.0 && row.link.0 == link.0) network.row
 
 -- the window of the row at the place
 abbrev pub window_at : Network → ℕ → Option Window

@@ -1,6 +1,6 @@
 //! The windows of the schedule, and where in them frames come.
-ghost use Rattle.std.specs.Prelude.{◌≡◌, ◌<◌, ◌≤◌, IfSome, length};
-ghost use Rattle.lens_svg.specs.{Clocks.IsWide, Windows.{came_of, row_of, tick_in, window_by}};
+ghost use Rattle.std.specs.Prelude.{◌≡◌, ◌≤◌};
+ghost use Rattle.lens_svg.specs.{Clocks.IsWide, Windows.{came_of, tick_in, window_by}};
 ghost use Rattle.{net_plan.specs.Ranges.IsInRange, run_law.specs.device.Standpoints.offset_in_cycle};
 
 use crate::clock::{distance, share};
@@ -17,24 +17,12 @@ pub struct Came {
     pub tick: u64,
 }
 
-/// The place of the row by which the virtual link goes by the link.
-fn row_of(network: &Network, vl: VlId, link: LinkId) -> Option<usize>
-    ensures is { result ≡ row_of network.now vl link }
-    ensures there { IfSome result (λ place. place < length network.now.row) }
-{
-    network
-        .row
-        .as_slice()
-        .iter()
-        .position(|row| row.vl.0 == vl.0 && row.link.0 == link.0)
-}
-
 /// Where in its cycle a device takes the virtual link's frame from the link.
 fn window_by(network: &Network, vl: VlId, link: LinkId) -> Option<Window>
     requires { IsInRange network.now }
     ensures { result ≡ window_by network.now vl link }
 {
-    match row_of(network, vl, link) {
+    match network.row_of(vl, link) {
         Some(place) => Some(window_of(network, &entry_of(network, RowId(place as u32)))),
         None => None,
     }

@@ -6,7 +6,8 @@ use Rattle.net_plan.specs.declared.tables.Way.{Way}
 use Rattle.{lens_why.proofs.LastRecords.parted_there, run_law.specs.scenario.{Devices.is_relay, Scenarios.Scenario}, tte_units.specs.declared.units.Units.Units}
 use Rattle.lens_why.specs.Corrections.{channel_ground, clique_ground, corrected_ground, heard_at_point, is_clique, said_by, told_by, told_on, value_of}
 use Rattle.lens_why.specs.Grounds.{beside_ground, dispatch_ground, dropped_ground, entry_given, ground_by, held_ground, is_by_schedule, is_collected}
-use Rattle.lens_why.specs.Grounds.{length_ground, places_ground, position_at, repeat_ground, row_of, scheduled_ground, unknown_ground, window_ground}
+use Rattle.lens_why.specs.Grounds.{length_ground, places_ground, position_at, repeat_ground, scheduled_ground, unknown_ground, window_ground}
+use Rattle.net_plan.specs.Places.{row_of}
 use Rattle.{lens_why.specs.Laws.{IsEarlier, NamesEarlier, best_number, named_in, told_number}, sync_state.specs.declared.membership.frame.HeardFrame.HeardFrame}
 use Rattle.{lens_why.specs.{Seeking.{is_sought, last_sought}, declared.seeking.Coming.Coming}, net_plan.specs.declared.ids.{DeviceId.DeviceId, LinkId.LinkId}}
 use Rattle.lens_why.specs.declared.{ground.Ground.TheVariants.{Gate, Untold}, seeking.Sought.{Sought, TheVariants.{Frame, Opening, Taking, Turning}}}

@@ -1,5 +1,5 @@
 -- Where a frame is taken its position lies in the window.
-use Rattle.{audit_law.proofs.law_lemmas.Emitting.before_is_front, lens_why.specs.Grounds.{ground_by, ground_of, position_at, row_of, window_ground}}
+use Rattle.{audit_law.proofs.law_lemmas.Emitting.before_is_front, lens_why.specs.Grounds.{ground_by, ground_of, position_at, window_ground}, net_plan.specs.Places.row_of}
 use Rattle.{lens_why.proofs.{LastRecords.parted_there, Windows.window_is}, run_law.specs.{runs.DueRecords.{IsCaused, IsDue}, scenario.Scenarios.Scenario}}
 use Rattle.{lens_why.proofs.Rows.row_is_one, tte_audit.specs.Report.scenario_of}
 use Rattle.{lens_why.specs.Laws.{IsInWindow, TakenInWindows}, net_plan.specs.declared.{ids.{DeviceId.DeviceId, LinkId.LinkId}, network.Network.Network}}

@@ -1,7 +1,7 @@
 -- What bore on a record: the numbers that its judgement speaks of, beside those that the record says.
 use Rattle.std.specs.Option.{option_map_or}
-use Rattle.std.specs.Prelude.{◌&&◌, ◌*◌, ◌+ℤ◌, ◌+◌, ◌-ℤ◌, ◌-◌, ◌==◌, Bool, List, None, Option, Some, false}
-use Rattle.std.specs.Prelude.{if◌then◌else◌, length, option_and_then, pos, position, slice_get, true, ℕ, ℤ}
+use Rattle.std.specs.Prelude.{◌*◌, ◌+ℤ◌, ◌+◌, ◌-ℤ◌, ◌-◌, Bool, List, None, Option, Some, false}
+use Rattle.std.specs.Prelude.{if◌then◌else◌, length, option_and_then, pos, slice_get, true, ℕ, ℤ}
 use Rattle.{audit_devices.specs.Keeping.records_before, run_law.specs.scenario.Ways.{hold_at, way_from}}
 use Rattle.{lens_why.specs.Collections.{collected_ground, sent_ground}, net_plan.specs.declared.network.Network.Network}
 use Rattle.lens_why.specs.{Corrections.{clique_ground, corrected_ground, is_clique}, Seeking.{cut_by, last_sought}}
@@ -11,7 +11,7 @@ use Rattle.lens_why.specs.declared.ground.Ground.{Ground, TheVariants.{Untold, W
 use Rattle.lens_why.specs.declared.seeking.{Coming.Coming, Sought.TheVariants.{Taking, Turning}}
 use Rattle.{net_plan.specs.declared.ids.{DeviceId.DeviceId, VlId.VlId}, run_law.specs.declared.note.NoteBody.NoteBody}
 use Rattle.{net_plan.specs.declared.ids.LinkId.LinkId, tte_units.specs.{Amount.amount, declared.units.Units.Units}}
-use Rattle.{pcf_codec.specs.Fields.field, sync_state.specs.Plan.expected_at}
+use Rattle.{net_plan.specs.Places.row_of, pcf_codec.specs.Fields.field, sync_state.specs.Plan.expected_at}
 use Rattle.run_law.specs.declared.judgement.Judgement.{Judgement, TheVariants.{Joined, Opened, Outside, Repeat, Within}}
 use Rattle.run_law.specs.{declared.judgement.Reason.Reason, scenario.{Devices.{is_relay, plan_of}, Scenarios.Scenario}}
 use Rattle.run_law.specs.{declared.judgement.Why.Why, device.States.{adjustment_at_hearing, cycle_in, state_before}}
@@ -20,10 +20,6 @@ use Rattle.run_law.specs.{records.Happenings.{Happening, numbered, time_of}, tim
 use Rattle.schedule_tables.specs.{Windows.window_of, declared.{entry.Entry.Entry, window.Window.{Window as Places}}}
 use Rattle.run_law.specs.declared.judgement.Reason.TheVariants as reasons
 use Rattle.run_law.specs.declared.note.NoteBody.TheVariants as notes
-
--- the place of the row by which the virtual link goes by the link
-abbrev pub row_of : Network → VlId → LinkId → Option ℕ
-row_of network vl link = position (λ row. row.vl.0 == vl.0 && row.link.0 == link.0) network.row
 
 -- the offset of the row at the place
 abbrev pub offset_at : Network → ℕ → ℕ

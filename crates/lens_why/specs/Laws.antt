@@ -2,7 +2,7 @@
 use Rattle.std.specs.Prelude.{◌++◌, ◌<◌, ◌∷◌, ◌≡◌, ◌≤ℤ◌, ◌⊎◌, List, None, Option, Some, [], ℕ, ℤ}
 use Rattle.{audit_law.specs.law.CorrectionPoints.IsPointOf, net_plan.specs.declared.network.Network.Network}
 use Rattle.{lens_why.specs.{Answer.IsWhyAnswer, Chain.IsWholeChain}, tte_audit.specs.Report.scenario_of}
-use Rattle.{lens_why.specs.Grounds.{ground_of, row_of}, net_plan.specs.declared.ids.{LinkId.LinkId, VlId.VlId}}
+use Rattle.{lens_why.specs.Grounds.ground_of, net_plan.specs.{Places.row_of, declared.ids.{LinkId.LinkId, VlId.VlId}}}
 use Rattle.{lens_why.specs.declared.ground.{Best.Best, Ground.Ground}, net_plan.specs.declared.ids.DeviceId.DeviceId}
 use Rattle.lens_why.specs.declared.ground.Ground.TheVariants.{Clique, Corrected, CutBy, Middle, Taken, Unsynchronised}
 use Rattle.{lens_why.specs.declared.ground.Ground.TheVariants.Window, schedule_tables.specs.declared.entry.Entry.Entry}

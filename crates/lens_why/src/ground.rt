@@ -1,15 +1,15 @@
-ghost use Rattle.std.specs.Prelude.{◌*◌, ◌+ℤ◌, ◌+◌, ◌-ℤ◌, ◌-◌, ◌<◌, ◌^◌, ◌≡◌, ◌≤◌, IfSome, List, None, Option, Some};
+ghost use Rattle.std.specs.Prelude.{◌*◌, ◌+ℤ◌, ◌+◌, ◌-ℤ◌, ◌-◌, ◌<◌, ◌^◌, ◌≡◌, ◌≤◌, List, None, Option, Some};
 ghost use Rattle.std.specs.Prelude.{length, option_map};
 ghost use Rattle.{audit_law.specs.events.Readings.scenario_under, net_plan.specs.declared.event.Event.Event};
 ghost use Rattle.{device_rules.specs.Widths.IsWide, run_law.specs.records.Happenings.{Happening, happenings, numbered}};
 ghost use Rattle.lens_why.specs.{Corrections.is_clique, Grounds.{scheduled_ground, state_ground, window_ground}};
 ghost use Rattle.lens_why.specs.Grounds.{dispatch_ground, ground_of, heard_ground, is_by_schedule, is_collected};
-ghost use Rattle.lens_why.specs.Grounds.{lost_ground, offset_at, permanent_ground, position_at, row_of};
+ghost use Rattle.lens_why.specs.Grounds.{lost_ground, offset_at, permanent_ground, position_at};
 ghost use Rattle.lens_why.specs.Records.{ComesFrom, IsPermanence, IsState, IsThere, clock_given};
 ghost use Rattle.run_law.specs.declared.judgement.Judgement.{Judgement as JudgementValue};
 ghost use Rattle.{audit_sweep.specs.Indexing.{IsIndex, IsSomeIndex}, tte_reports.specs.Commands.IsRead};
 ghost use Rattle.lens_why.specs.Records.{IsTimely};
-ghost use Rattle.{net_plan.specs.{Belonging.HasDevice, Ranges.IsInRange}, tte_audit.specs.Report.scenario_of};
+ghost use Rattle.{net_plan.specs.{Belonging.HasDevice, Places.row_of, Ranges.IsInRange}, tte_audit.specs.Report.scenario_of};
 ghost use Rattle.run_law.specs.{declared.note.Note.{Note as NoteValue}, device.Standpoints.offset_in_cycle};
 ghost use Rattle.{tte_audit.specs.Named.IsNamed, tte_units.specs.Amount.amount};
 ghost use Rattle.{tte_reports.specs.Reports.IsReportOf, tte_units.specs.declared.units.Units.{Units as UnitsValue}};
@@ -423,24 +423,12 @@ fn clock_given(body: &NoteBody) -> u64
     }
 }
 
-/// The place of the row by which the virtual link goes by the link.
-fn row_of(network: &Network, vl: VlId, link: LinkId) -> Option<usize>
-    ensures is { result ≡ row_of network.now vl link }
-    ensures there { IfSome result (λ place. place < length network.now.row) }
-{
-    network
-        .row
-        .as_slice()
-        .iter()
-        .position(|row| row.vl.0 == vl.0 && row.link.0 == link.0)
-}
-
 /// The row of the virtual link that is dispatched on the link in the cycle, and where.
 fn dispatched(network: &Network, link: LinkId, vl: VlId, cycle: u32) -> Ground
     requires { IsInRange network.now }
     ensures { result ≡ dispatch_ground network.now cycle (row_of network.now vl link) }
 {
-    match row_of(network, vl, link) {
+    match network.row_of(vl, link) {
         Some(place) => dispatch_of(network, place, cycle),
         None => Ground::Untold,
     }
@@ -467,7 +455,7 @@ fn window_on(network: &Network, at: i128, link: LinkId, vl: VlId) -> Ground
     requires { IsInRange network.now }
     ensures { result ≡ window_ground network.now at (row_of network.now vl link) }
 {
-    match row_of(network, vl, link) {
+    match network.row_of(vl, link) {
         Some(place) => window_of_row(network, at, place),
         None => Ground::Untold,
     }

@@ -1,6 +1,6 @@
-use Rattle.std.specs.Prelude.{◌≡◌, ◌⊎◌, Bool, IsSomeAnd, Option, Some, false, slice_get, true}
+use Rattle.std.specs.Prelude.{◌&&◌, ◌==◌, ◌≡◌, ◌⊎◌, Bool, IsSomeAnd, Option, Some, false, position, slice_get, true, ℕ}
 use Rattle.{net_plan.specs.declared.ids.DeviceId.DeviceId, tte_units.specs.declared.frames.channel.Channel.Channel}
-use Rattle.net_plan.specs.declared.{ids.LinkId.LinkId, tables.{Device.Device, Link.Link, Role.Role}}
+use Rattle.net_plan.specs.declared.{ids.{LinkId.LinkId, VlId.VlId}, tables.{Device.Device, Link.Link, Role.Role}}
 use Rattle.net_plan.specs.declared.{network.Network.Network, tables.Role.TheVariants.{Client, Cm, Master, Relay}}
 
 -- the device of this id
@@ -10,6 +10,10 @@ device_at network device = slice_get network.device device.0
 -- the link of this id
 abbrev pub link_at : Network → LinkId → Option Link
 link_at network link = slice_get network.link link.0
+
+-- the place of the row by which the virtual link goes by the link
+abbrev pub row_of : Network → VlId → LinkId → Option ℕ
+row_of network vl link = position (λ row. row.vl.0 == vl.0 && row.link.0 == link.0) network.row
 
 -- the end systems are the masters and the clients, the others are switches
 abbrev pub is_end_system : Role → Bool

@@ -1,7 +1,7 @@
 ghost use Rattle.std.specs.Prelude.{◌<◌, ◌^◌, ◌↔◌, ◌≡◌, ◌≤◌, IfNone, IfSome, IsNone, IsTrue, Some, length};
 ghost use Rattle.net_plan.specs.Bearers.{HasNoBearer, IsFirstBearer, device_names, link_names, vl_names};
 ghost use Rattle.net_plan.specs.Belonging.{HasDevice, HasLink, HasVl, device_name, link_name, vl_name};
-ghost use Rattle.net_plan.specs.{Ranges.IsInRange, Rules.HasOffSwitch};
+ghost use Rattle.net_plan.specs.{Places.row_of, Ranges.IsInRange, Rules.HasOffSwitch};
 
 use crate::{Device, DeviceId, LinkId, Network, VlId};
 use tte_units::frames::Channel;
@@ -79,6 +79,17 @@ impl Network {
         ensures short { length result.now ≤ 16 }
     {
         self.vl.as_slice()[vl.0 as usize].name.as_slice()
+    }
+
+    /// The place of the first row by which the virtual link goes by the link.
+    pub fn row_of(&self, vl: VlId, link: LinkId) -> Option<usize>
+        ensures is { result ≡ row_of self.now vl link }
+        ensures there { IfSome result (λ place. place < length self.now.row) }
+    {
+        self.row
+            .as_slice()
+            .iter()
+            .position(|row| row.vl.0 == vl.0 && row.link.0 == link.0)
     }
 
     /// Does some switch of the channel begin off?

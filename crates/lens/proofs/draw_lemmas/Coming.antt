@@ -1,6 +1,6 @@
 -- The frames that a picture shows as taken came in their windows.
 use Rattle.{lens.proofs.draw_lemmas.{Asking.{in_shown, struck_other}, Falls.no_later}, run_law.specs.timed.Receptions.{ArrivesAs, arrival_of, last_taken}}
-use Rattle.{lens.proofs.draw_lemmas.Clocks.{has_happening, share_is}, lens_svg.specs.Windows.{came_at, came_by, came_of, row_of, tick_in, window_at, window_by}}
+use Rattle.{lens.proofs.draw_lemmas.Clocks.{has_happening, share_is}, lens_svg.specs.Windows.{came_at, came_by, came_of, tick_in, window_at, window_by}, net_plan.specs.Places.row_of}
 use Rattle.{lens.proofs.draw_lemmas.Runs.pictures_show_runs, std.specs.Prelude.{◌+ℤ◌, ◌-ℤ◌, if◌then◌else◌, nat_lt, option_and_then, option_map, unsigned_abs}}
 use Rattle.{lens.specs.draw.Picture.clocks_of, schedule_tables.specs.Entries.IsEntry, tte_audit.specs.Report.scenario_of, tte_reports.specs.Reports.IsReportOf}
 use Rattle.{lens.specs.draw.WindowLaws.{PicturesShowWindows, ShowsWindow}, schedule_tables.specs.Windows.{arrival_of as arrival_place, tolerance, window_of}}

@@ -1,4 +1,4 @@
-use Rattle.{lens_why.specs.Grounds.{row_of, window_ground}, std.{proofs.{Common.{◌∙◌, ap, rules}, lemmas.Int.to_z-of_z}, specs.Int.w128}}
+use Rattle.{lens_why.specs.Grounds.window_ground, net_plan.specs.Places.row_of, std.{proofs.{Common.{◌∙◌, ap, rules}, lemmas.Int.to_z-of_z}, specs.Int.w128}}
 use Rattle.lens_why.proofs.ground.taken.Goals as goal
 
 pub returns : goal.returns

@@ -1,10 +1,10 @@
 use Rattle.{tte_units.proofs.general_lemmas.Lists.searched, net_plan.specs.declared.tables.Row.Row}
 use Rattle.std.proofs.{Common.{◌&&◌, ◌==◌, ◌≡◌, false, rules, tests, true}, lemmas.Iterator.{IsFirst-from_position, YieldsList-from_slice}}
-use Rattle.lens_svg.proofs.window.row_of.Goals as goal
+use Rattle.net_plan.proofs.network.Network.row_of.Goals as goal
 
 pub returns-clause-is : goal.returns-clause-is
 returns-clause-is c =
-    let rows = c.args.network.now.row in
+    let rows = c.args.self.now.row in
     let vl = c.args.vl in
     let link = c.args.link in
     let found = IsFirst-from_position _ _ c.position.result (λ (row : Row). (row.vl.0 == vl.0 && row.link.0 == link.0) ≡ true)
