@@ -5,11 +5,11 @@ ghost use Rattle.{report_text.specs.Ranges.IsNoteOf, tte_reports.specs.Reports.I
 ghost use Rattle.{tte_audit.specs.Named.IsNamed, tte_forms.specs.Faults.{HasCause, IsWanted, PutFailed}};
 ghost use Rattle.tte_forms.specs.{Answering.GivesAnswer, Putting.Over};
 
-use crate::causes::{giving, record_at};
+use crate::causes::record_at;
 use crate::ground::ground_of;
 use crate::lines::{make_refused_line, put_record};
 use net_plan::Network;
-use run_law::Note;
+use run_law::{Note, cause_of};
 use std::alloc::Global;
 use tte_forms::{Status, end_with, put_last};
 use tte_io::{LineText, Sink};
@@ -75,7 +75,7 @@ fn put_chain<K: Sink>(report: &AuditedReport, network: &Network, first: Note, ou
     let mut line = LineText::new();
     let mut note = first;
     'records: loop {
-        let cause = giving(report, network, &note);
+        let cause = report.record(network, cause_of(&note.body));
         let ground = ground_of(report, network, &note, &cause);
         match put_record(&mut line, network, &note, ground, out) {
             Ok(()) => (),

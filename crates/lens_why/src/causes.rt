@@ -1,12 +1,12 @@
 //! The records of a report by their numbers and by their causes.
 ghost use Rattle.std.specs.Prelude.{◌≡◌, List};
-ghost use Rattle.{lens_why.specs.Records.IsFound, run_law.specs.records.Causes.cause_of};
+ghost use Rattle.lens_why.specs.Records.{IsFound};
 ghost use Rattle.{run_law.specs.declared.note.Note.{Note as NoteValue}, tte_audit.specs.Named.IsNamed};
-ghost use Rattle.tte_reports.specs.{Commands.IsRead, Places.note_at, Reports.IsReportOf};
+ghost use Rattle.tte_reports.specs.{Commands.IsRead, Reports.IsReportOf};
 ghost use Rattle.tte_units.specs.declared.units.Units.{Units as UnitsValue};
 
 use net_plan::Network;
-use run_law::{Note, cause_of};
+use run_law::Note;
 use tte_reports::AuditedReport;
 
 /// The record of the number, or how many there are where there is none.
@@ -20,14 +20,4 @@ pub(crate) fn record_at(report: &AuditedReport, network: &Network, number: u64) 
         Some(note) => Ok(note),
         None => Err(report.count()),
     }
-}
-
-/// The record that this one comes from, if it comes from one.
-pub(crate) fn giving(report: &AuditedReport, network: &Network, note: &Note) -> Option<Note>
-    requires named { IsNamed network.now }
-    requires read { IsRead network.now report.now }
-    ensures { (notes : List NoteValue) (end : UnitsValue)
-        → IsReportOf network.now report.now.octets notes end → result ≡ note_at notes (cause_of note.now.body) }
-{
-    report.record(network, cause_of(&note.body))
 }

@@ -10,16 +10,16 @@ ghost use Rattle.lens_why.specs.Records.{IsThere};
 ghost use Rattle.{net_plan.specs.{Belonging.HasDevice, Ranges.IsInRange}, tte_audit.specs.Report.scenario_of};
 ghost use Rattle.net_plan.specs.declared.{event.Event.Event, network.Network.{Network as NetworkValue}};
 ghost use Rattle.run_law.specs.{declared.note.Note.{Note as NoteValue}, timed.Arrivals.{entry_entering, is_row_with}};
-ghost use Rattle.run_law.specs.device.Standpoints.{clock_of, cycle_at, offset_in_cycle, standpoint};
+ghost use Rattle.run_law.specs.device.Standpoints.{clock_of, offset_in_cycle, standpoint};
 ghost use Rattle.run_law.specs.{records.Happenings.{Happening, happenings, numbered}, scenario.Ways.is_way_of};
 ghost use Rattle.{tte_reports.specs.Reports.IsReportOf, tte_units.specs.declared.units.Units.{Units as UnitsValue}};
 
-use crate::ground::{Ground, place_in_cycle, position_at};
+use crate::ground::{Ground, position_at};
 use crate::seeking::{Coming, Sought, last_before};
 use audit_sweep::Index;
-use device_rules::{is_relay, way_to};
+use device_rules::{cycle_at, is_relay, way_to};
 use net_plan::{DeviceId, LinkId, Network, Row, RowId, Way};
-use run_law::Reason;
+use run_law::{Reason, is_way_of, place_in_cycle};
 use schedule_tables::{Entry, entry_of, window_of};
 use tte_reports::AuditedReport;
 use tte_units::{Units, magnitude};
@@ -105,18 +105,9 @@ fn place_entering(network: &Network, way: Way, link: LinkId, id: u16) -> Option<
         network.now.row }
     ensures there { IfSome result (λ place. place < length network.now.row) }
 {
-    network
-        .row
-        .as_slice()
-        .iter()
-        .position(|row| enters(network, way, link, id, row))
-}
-
-/// Does a frame with this id go on the way of the link by the row?
-fn enters(network: &Network, way: Way, link: LinkId, id: u16, row: &Row) -> bool
-    ensures { result ≡ (is_way_of link way row.now.link row.now.way && is_row_with network.now id row.now) }
-{
-    link.0 == row.link.0 && way == row.way && is_row_with(network, id, row)
+    network.row.as_slice().iter().position(|row| {
+        is_way_of(link, way, row.link, row.way) && is_row_with(network, id, row)
+    })
 }
 
 /// Is the row's virtual link the one with this id in the frames?
@@ -171,19 +162,7 @@ fn cycle_before(index: &Index, network: &Network, device: DeviceId, time: Units)
     ensures { (befallen : List Event) (hs : List Happening) → IsIndex network.now befallen hs index.now
         → result ≡ cycle_before (scenario_under network.now befallen) hs device (amount time) }
 {
-    cycle_at(network, index.clock_at(network, device, magnitude(time)))
-}
-
-/// The cycle of a local value, which is 0 before the first cycle.
-fn cycle_at(network: &Network, value: i128) -> u128
-    requires { IsInRange network.now }
-    ensures { result ≡ cycle_at network.now value }
-{
-    if value < 0 {
-        0
-    } else {
-        value as u128 / u128::from(magnitude(network.cycle))
-    }
+    u128::from(cycle_at(network, index.clock_at(network, device, magnitude(time))))
 }
 
 /// The cycle in which the frame came, and the last record before by which the device took one of its virtual link.

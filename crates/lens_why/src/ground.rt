@@ -10,7 +10,7 @@ ghost use Rattle.run_law.specs.declared.judgement.Judgement.{Judgement as Judgem
 ghost use Rattle.{audit_sweep.specs.Indexing.{IsIndex, IsSomeIndex}, tte_reports.specs.Commands.IsRead};
 ghost use Rattle.lens_why.specs.Records.{IsTimely};
 ghost use Rattle.{net_plan.specs.{Belonging.HasDevice, Places.row_of, Ranges.IsInRange}, tte_audit.specs.Report.scenario_of};
-ghost use Rattle.run_law.specs.{declared.note.Note.{Note as NoteValue}, device.Standpoints.offset_in_cycle};
+ghost use Rattle.run_law.specs.declared.note.Note.{Note as NoteValue};
 ghost use Rattle.{tte_audit.specs.Named.IsNamed, tte_units.specs.Amount.amount};
 ghost use Rattle.{tte_reports.specs.Reports.IsReportOf, tte_units.specs.declared.units.Units.{Units as UnitsValue}};
 
@@ -22,7 +22,7 @@ use audit_sweep::records::wires::way_from;
 use audit_sweep::{Index, Permanence};
 use device_rules::joined_adjustment;
 use net_plan::{DeviceId, LinkId, Network, RowId, VlId};
-use run_law::{Judgement, Note, NoteBody, Why};
+use run_law::{Judgement, Note, NoteBody, Why, place_in_cycle};
 use schedule_tables::{entry_of, window_of};
 use sync_state::State;
 use tte_reports::AuditedReport;
@@ -214,14 +214,6 @@ pub(crate) fn position_at(index: &Index, network: &Network, device: DeviceId, ti
         → result ≡ position_at (scenario_under network.now befallen) hs device (amount time) }
 {
     place_in_cycle(network, index.clock_at(network, device, magnitude(time)))
-}
-
-/// The place of a local value in its cycle.
-pub(crate) fn place_in_cycle(network: &Network, value: i128) -> i128
-    requires { IsInRange network.now }
-    ensures { result ≡ offset_in_cycle network.now value }
-{
-    value.rem_euclid(i128::from(network.cycle.0))
 }
 
 /// What the frame of the record of the number, which is permanent so, was judged by.
