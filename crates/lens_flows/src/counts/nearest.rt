@@ -4,11 +4,12 @@ ghost use Rattle.std.specs.Prelude.{◌≡◌, ◌<◌, ◌+ℤ◌, ◌^◌, ◌
 ghost use Rattle.lens_flows.specs.counts.Nearest.{IsInside, IsInsideRow, IsInsideSome, TellsLeast, nearer, place_at};
 ghost use Rattle.lens_flows.specs.judge.{Courses.{IsCourse, IsFit, IsSomeCourse, scenario_of}, Flows.AreWithin};
 ghost use Rattle.net_plan.specs.{Belonging.HasDevice, Ranges.IsInRange, declared.event.Event.Event};
-ghost use Rattle.run_law.specs.{device.Standpoints.offset_in_cycle, records.Happenings.Happening};
+ghost use Rattle.run_law.specs.records.Happenings.{Happening};
 
 use crate::judge::{Course, Flow};
 use audit_devices::Shown;
 use net_plan::{DeviceId, LinkId, Network, RowId};
+use run_law::place_in_cycle;
 use schedule_tables::{Window, entries_law, entry_of, window_of};
 
 /// The least distances to the two ends of a window, in units of 2^-16 ns.
@@ -30,7 +31,17 @@ pub(crate) fn place_at(course: &Course<'_>, device: DeviceId, time: u64) -> u64
 {
     let shown = course.standings.before_time(device, time);
     let reading = course.events.reading(device, time);
-    place_in_cycle(course.network, local(shown, reading))
+    from_begin(place_in_cycle(course.network, local(shown, reading)))
+}
+
+/// How far a place in a cycle lies behind the cycle's beginning.
+fn from_begin(place: i128) -> u64
+    requires low { pos 0 ≤ℤ place }
+    requires high { place ≤ℤ pos (2 ^ 40) }
+    ensures same { pos result ≡ place }
+    ensures most { result ≤ 2 ^ 40 }
+{
+    place as u64
 }
 
 /// What the local clock shows where it reads this.
@@ -39,16 +50,6 @@ fn local(shown: &Shown, reading: u64) -> i128
     ensures least { neg_ℤ (pos (2 ^ 82)) ≤ℤ result }
 {
     i128::from(reading) + shown.adjustment()
-}
-
-/// The place of the local value in its cycle.
-fn place_in_cycle(network: &Network, value: i128) -> u64
-    requires range { IsInRange network.now }
-    requires least { neg_ℤ (pos (2 ^ 82)) ≤ℤ value }
-    ensures place { pos result ≡ offset_in_cycle network.now value }
-    ensures most { result ≤ 2 ^ 40 }
-{
-    value.rem_euclid(i128::from(network.cycle.0)) as u64
 }
 
 /// The least distances of the place to the ends of the windows of the flow's rows on the link, in which it lies.

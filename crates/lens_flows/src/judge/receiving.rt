@@ -1,12 +1,13 @@
 //! Whether a device is in step.
 
 ghost use Rattle.std.specs.Prelude.{◌≡◌, ◌↔◌, ◌≤◌, ◌^◌, List, IsTrue};
-ghost use Rattle.{audit_law.specs.events.Remembering.has_come, run_law.specs.records.Happenings.{Happening, up_to}};
+ghost use Rattle.run_law.specs.records.Happenings.{Happening, up_to};
 ghost use Rattle.lens_flows.specs.judge.{Courses.{IsCourse, IsFit, IsSomeCourse, scenario_of}, Fates.StaysInStep};
 ghost use Rattle.{net_plan.specs.Belonging.HasDevice, sync_state.specs.declared.state.State.TheVariants.Synchronised};
 ghost use Rattle.{net_plan.specs.declared.event.Event.Event, run_law.specs.device.States.state_after};
 
 use crate::judge::Course;
+use audit_law::events::has_come;
 use net_plan::DeviceId;
 use sync_state::State;
 
@@ -48,15 +49,5 @@ impl Course<'_> {
             return false;
         }
         true
-    }
-}
-
-/// Has the time come by then?
-fn has_come(from: Option<u64>, time: u64) -> bool
-    ensures { result ≡ has_come from time }
-{
-    match from {
-        Some(from) => from <= time,
-        None => false,
     }
 }

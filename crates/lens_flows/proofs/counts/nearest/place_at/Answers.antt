@@ -14,6 +14,6 @@ returns-clause-place c befallen hs known =
     let shows = c.before_time-shown.ensures s hs known.stands in
     let reading = c.reading-reading.ensures s.network befallen known.remembers c.requires.device in
     let value = to_z-of_z w128 c.local.result (search rules) ∙ c.local.ensures.value in
-    c.place_in_cycle.ensures.place
+    c.from_begin.ensures.same ∙ to_z-of_z w128 c.place_in_cycle.result (search rules) ∙ c.place_in_cycle.ensures.value
     ∙ ap (λ z. offset_in_cycle s.network z) (value ∙ ap (λ z. pos c.reading-reading.result +ℤ z) shows.adjustment
     ∙ ap (λ n. pos n +ℤ (adjustment_before s hs c.args.device c.args.time).0) reading)
