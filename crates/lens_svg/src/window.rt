@@ -1,12 +1,13 @@
 //! The windows of the schedule, and where in them frames come.
 ghost use Rattle.std.specs.Prelude.{◌≡◌, ◌≤◌};
 ghost use Rattle.lens_svg.specs.{Clocks.IsWide, Windows.{came_of, tick_in, window_by}};
-ghost use Rattle.{net_plan.specs.Ranges.IsInRange, run_law.specs.device.Standpoints.offset_in_cycle};
+ghost use Rattle.net_plan.specs.Ranges.{IsInRange};
 
 use crate::clock::{distance, share};
 use crate::element::Point;
 use crate::{Look, Mark};
 use net_plan::{LinkId, Network, RowId, VlId};
+use run_law::place_in_cycle;
 use schedule_tables::{Window, entry_of, window_of};
 
 /// A frame that was taken: its mark, and how far the tick stands in the box of its window that shows where in it the
@@ -26,15 +27,6 @@ fn window_by(network: &Network, vl: VlId, link: LinkId) -> Option<Window>
         Some(place) => Some(window_of(network, &entry_of(network, RowId(place as u32)))),
         None => None,
     }
-}
-
-/// The place of a local value in its cycle.
-fn place_in_cycle(network: &Network, value: i128) -> i128
-    requires { IsInRange network.now }
-    ensures value { result ≡ offset_in_cycle network.now value }
-    ensures wide { IsWide result }
-{
-    value.rem_euclid(i128::from(network.cycle.0))
 }
 
 /// How far from the left of its box the tick stands that shows the place of the window.
