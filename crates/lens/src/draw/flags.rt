@@ -2,7 +2,7 @@
 ghost use Rattle.std.specs.Prelude.{◌++◌, ◌∷◌, ◌≡◌, IfOk, List, OnOk, [], false, if◌then◌else◌, map, true};
 ghost use Rattle.lens.specs.draw.Keeping.{AreFlags, AreLanes, AreOwn, cause_at, passed_on, with_flag};
 ghost use Rattle.lens.specs.draw.Keeping.{lane_at, lanes_on, with_lane};
-ghost use Rattle.lens_svg.specs.{Layout.holds, Sketching.{moment, with_at}};
+ghost use Rattle.lens_svg.specs.Sketching.{with_at};
 ghost use Rattle.run_law.specs.{declared.note.Note.{Note as NoteValue}, records.{Causes.cause_of, Happenings.happenings}};
 ghost use Rattle.{tte_audit.specs.Named.IsNamed, tte_units.specs.declared.units.Units.{Units as UnitsValue}};
 ghost use Rattle.lens.specs.declared.draw.subject.Subject.{Subject as SubjectValue};
@@ -15,6 +15,7 @@ use run_law::{Note, cause_of};
 use std::alloc::Global;
 use tte_io::OutOfMemory;
 use tte_reports::{AuditedReport, RecordTaker, take_records};
+use tte_units::magnitude;
 
 /// Which of the records so far are of a thing.
 #[derive(Drop)]
@@ -98,20 +99,13 @@ fn set_flag(flags: &mut Vec<bool>, number: u64)
     }
 }
 
-/// Does the record lie in the span?
-fn is_within(span: Span, note: &Note) -> bool
-    ensures { result ≡ holds span (moment note.now) }
-{
-    span.holds(note.time.0.unsigned_abs())
-}
-
 /// Flags the cause of a record that is kept, and the device in whose lane it stands if it lies in the span.
 fn mark(network: &Network, span: Span, note: &Note, flags: &mut Flags)
     ensures records { flags.new.records.items ≡ with_flag flags.old.records.items (cause_of note.now.body) }
     ensures lanes { flags.new.lanes.items ≡ with_lane network.now span note.now flags.old.lanes.items }
 {
     set_flag(&mut flags.records, cause_of(&note.body));
-    let within = is_within(span, note);
+    let within = span.holds(magnitude(note.time));
     set_lane(&mut flags.lanes, within, scene_of(network, &note.body));
 }
 

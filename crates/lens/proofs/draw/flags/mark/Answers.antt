@@ -1,4 +1,4 @@
-use Rattle.lens_svg.specs.{Bodies.scene_of, Sketching.with_at}
+use Rattle.lens_svg.specs.{Bodies.scene_of, Layout.holds, Sketching.with_at}
 use Rattle.lens.specs.draw.Keeping.{with_flag}
 use Rattle.net_plan.specs.declared.ids.DeviceId.{DeviceId}
 use Rattle.std.proofs.Common.{◌∙◌, Bool, ap, true}
@@ -13,5 +13,6 @@ returns-clause-lanes c =
     let lanes = c.args.flags.now.lanes.items in
     let place = (scene_of c.args.network.now c.args.note.now.body).0 in
     c.set_lane.ensures
-    ∙ ap (λ (d : DeviceId). if c.is_within-within.result then with_at lanes d.0 true else lanes) c.scene_of.ensures
-    ∙ ap (λ (b : Bool). if b then with_at lanes place true else lanes) c.is_within-within.ensures
+    ∙ ap (λ (d : DeviceId). if c.holds-within.result then with_at lanes d.0 true else lanes) c.scene_of.ensures
+    ∙ ap (λ (b : Bool). if b then with_at lanes place true else lanes)
+    (c.holds-within.ensures ∙ ap (holds c.args.span) c.magnitude.ensures)
