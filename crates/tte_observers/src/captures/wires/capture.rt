@@ -7,10 +7,11 @@ ghost use Rattle.tte_observers.specs.captures.wires.Seeing.{last_happening, sent
 ghost use Rattle.{tte_units.specs.Amount.{amount, units_of}, world_drive.specs.Observing.PutsFurther};
 ghost use Rattle.world_drive.specs.{declared.observing.Cut.{Cut as CutValue}, exact.Worlds.StandsExact};
 
-use crate::captures::wires::frames::{is_sent_on, is_way_of, put_frames, put_signal};
+use crate::captures::wires::frames::{is_sent_on, put_frames, put_signal};
 use device_rules::frames::MadeFrame;
 use drift_world::EventNote;
 use net_plan::{Event, LinkId, Network, Way, What};
+use run_law::is_way_of;
 use run_law::plain::PlainNote;
 use std::alloc::Global;
 use tte_io::Sink;

@@ -7,9 +7,10 @@ ghost use Rattle.tte_observers.specs.captures.wires.{Packets.{is_sent_on, packet
 
 use crate::captures::pcap::put_packet;
 use device_rules::frames::MadeFrame;
-use device_rules::is_parent_of;
-use net_plan::{DeviceId, LinkId, Network, Way};
+use device_rules::way_from;
+use net_plan::{LinkId, Network, Way};
 use pcf_codec::{PCF_LENGTH, decode, encode};
+use run_law::is_way_of;
 use run_law::plain::{PlainBody, PlainKind};
 use tte_io::Sink;
 use tte_units::frames::Pcf;
@@ -22,33 +23,6 @@ const MICRO: u64 = 65_536_000;
 
 /// How many microseconds a second has.
 const SECOND: u64 = 1_000_000;
-
-/// Is this way of this link the other one?
-pub(crate) fn is_way_of(link: LinkId, way: Way, other: LinkId, turned: Way) -> bool
-    ensures { result ≡ is_way_of link way other turned }
-{
-    let same = match way {
-        Way::Up => matches!(turned, Way::Up),
-        Way::Down => matches!(turned, Way::Down),
-    };
-    link.0 == other.0 && same
-}
-
-/// Does the device send on this way of this link, where it sends on the other?
-fn sends_on(network: &Network, device: DeviceId, other: LinkId, link: LinkId, way: Way) -> bool
-    requires { HasLink network.now link }
-    ensures { result ≡ is_way_of link way other (way_from network.now device other) }
-{
-    if link.0 != other.0 {
-        return false;
-    }
-    let from = if is_parent_of(network, device, link) {
-        Way::Down
-    } else {
-        Way::Up
-    };
-    is_way_of(link, way, other, from)
-}
 
 /// Does the device of a record send its frame on this way of this link?
 pub(crate) fn is_sent_on(network: &Network, body: &PlainBody, link: LinkId, way: Way) -> bool
@@ -67,7 +41,7 @@ pub(crate) fn is_sent_on(network: &Network, body: &PlainBody, link: LinkId, way:
             device,
             link: other,
             ..
-        } => sends_on(network, *device, *other, link, way),
+        } => is_way_of(link, way, *other, way_from(network, *device, *other)),
         _ => false,
     }
 }
