@@ -24,7 +24,7 @@ impl Sweep<'_> {
             → AreEventsTold (scenario_under network befallen) hs (amount end)
             → TellsFirstLack (scenario_under network befallen) hs (amount end) result }
     {
-        let until = self.end();
+        let until = magnitude(self.known.end);
         let debtor = self.debtor(until);
         let (network, known, places) = (self.network, &self.known, &self.places);
         let (events, standings) = (&known.events, &known.standings);
@@ -42,13 +42,6 @@ impl Sweep<'_> {
         let later = earlier(points, earlier(changes, earlier(departures, late)));
         let rest = earlier(permanences, earlier(emissions, earlier(sendings, later)));
         earlier(arrivals, rest)
-    }
-
-    // The time of the end.
-    fn end(&self) -> u64
-        ensures { result ≡ amount self.now.known.end }
-    {
-        magnitude(self.known.end)
     }
 
     // What owes the records that other records bring, and those of clocks.

@@ -115,27 +115,15 @@ fn point_reached(
     if time < arrived {
         return None;
     }
-    let point = point_of(network, reading(known, network, device, arrived), clock);
-    let now = reading(known, network, device, time);
-    let before = reading(known, network, device, time.saturating_sub(1));
+    let events = &known.events;
+    let point = point_of(network, events.reading(device, arrived), clock);
+    let now = events.reading(device, time);
+    let before = events.reading(device, time.saturating_sub(1));
     if is_first_read(arrived, time, before, now, point) {
         Some(point)
     } else {
         None
     }
-}
-
-/// What the device's clock reads at a time up to 2^60.
-fn reading(known: &Known, network: &Network, device: DeviceId, time: u64) -> u64
-    requires known { KnowsSome network.now known.now }
-    requires there { HasDevice network.now device }
-    requires limit { time ≤ 2 ^ 60 }
-    ensures low { result ≤ 2 ^ 61 }
-    ensures value { (befallen : List Event) (hs : List Happening) → IsKnown network.now befallen hs known.now
-        → result ≡ clock_reading network.now befallen device time }
-{
-    reading_law();
-    known.events.reading(device, time)
 }
 
 /// The point of a frame that arrived with this transparent clock where the clock read this.

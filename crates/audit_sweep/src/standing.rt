@@ -7,7 +7,7 @@ ghost use Rattle.run_law.specs.{device.{Standpoints.standpoint, States.is_off}, 
 
 use crate::known::Known;
 use audit_law::events::reading_law;
-use device_rules::Standpoint;
+use device_rules::{Standpoint, is_off};
 use net_plan::{DeviceId, Network};
 use sync_state::State;
 
@@ -38,13 +38,4 @@ fn takes_part(state: State, broken: bool) -> bool
     ensures { result ≡ (not (is_off state) && not broken) }
 {
     !is_off(state) && !broken
-}
-
-fn is_off(state: State) -> bool
-    ensures { result ≡ is_off state }
-{
-    match state {
-        State::Off => true,
-        State::Integrating | State::Joining | State::Synchronised => false,
-    }
 }

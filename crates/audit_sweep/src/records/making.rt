@@ -2,15 +2,13 @@
 
 ghost use Rattle.std.specs.Prelude.{◌≡◌};
 ghost use Rattle.audit_sweep.specs.records.Keeping.{kept_of, kept_of_event, sending_of, tells_time};
-ghost use Rattle.{device_rules.specs.Headings.heading_of, run_law.specs.records.Happenings.frame_in};
-ghost use Rattle.pcf_codec.specs.Decoding.{decoded};
+ghost use Rattle.device_rules.specs.Headings.{heading_of};
 
 use crate::records::{Kept, Sending};
 use device_rules::Heading;
 use net_plan::{Octets, What};
 use pcf_codec::{decode, is_pcf};
 use run_law::{Judgement, NoteBody};
-use tte_units::frames::Pcf;
 
 /// What is kept of what a record says.
 pub(crate) fn kept_of(body: &NoteBody) -> Kept
@@ -100,16 +98,6 @@ fn tells_time(verdict: Judgement) -> bool
         | Judgement::Within
         | Judgement::Outside
         | Judgement::Ignored => false,
-    }
-}
-
-/// The control frame that octets spell, if they do.
-pub(crate) fn frame_in(octets: &Octets) -> Option<Pcf>
-    ensures { result ≡ frame_in (decoded octets.now) }
-{
-    match decode(octets.as_slice()) {
-        Ok(frame) => Some(frame),
-        Err(_) => None,
     }
 }
 

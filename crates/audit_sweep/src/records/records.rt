@@ -8,6 +8,7 @@ ghost use Rattle.tte_units.specs.Amount.{amount};
 
 use crate::records::{KeptRecord, OutOfMemory, making};
 use device_rules::Heading;
+use device_rules::frames::traced::frame_in;
 use device_rules::frames::{dispatched_frame, integration_frame};
 use net_plan::{Network, VlId, What};
 use run_law::NoteBody;
@@ -107,7 +108,7 @@ impl KeptRecords {
             NoteBody::Event {
                 what: What::Send(_, octets),
                 ..
-            } => making::frame_in(octets),
+            } => frame_in(octets.as_slice()),
             NoteBody::Sent { device, cycle } => { Some(dispatched_frame(network, *device, *cycle)) }
             NoteBody::Compressed {
                 device,

@@ -10,5 +10,5 @@ mod receiving;
 pub use entering::{Entered, Judged, entered_as};
 pub use leaving::{Leaving, departure, departure_due};
 pub use losing::{is_send_lost, loss_due};
-pub use putting::{OnWire, way_from};
+pub use putting::OnWire;
 pub use receiving::{Reception, arrival_due, arriving};

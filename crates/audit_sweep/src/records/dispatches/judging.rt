@@ -10,10 +10,10 @@ ghost use Rattle.audit_sweep.specs.records.dispatches.Judged.{DispatchesSome, Is
 
 use crate::records::Kept;
 use crate::records::dispatches::{Dispatch, Exits, dispatches, sends_some};
-use crate::records::wires::way_from;
 use audit_devices::clocks::Moment;
 use audit_devices::{Shown, Takings};
 use audit_law::events::EventHistory;
+use device_rules::way_from;
 use net_plan::{DeviceId, LinkId, Network};
 
 /// A device at a time.

@@ -8,10 +8,9 @@ ghost use Rattle.net_plan.specs.{Belonging.{HasDevice, HasLink}, declared.ids.De
 ghost use Rattle.net_plan.specs.declared.{event.Event.{Event as EventValue}, network.Network.{Network as NetworkValue}};
 ghost use Rattle.run_law.specs.{records.Happenings.{Happening, numbered}, scenario.Ways.{hold_at, way_from}};
 
-use crate::records::wires::putting::way_from;
 use crate::records::{Kept, KeptRecord};
 use audit_law::events::EventHistory;
-use device_rules::{Departed, is_parent_of, is_relay};
+use device_rules::{Departed, is_parent_of, is_relay, way_from};
 use net_plan::{DeviceId, LinkId, Network};
 
 /// A frame that leaves.

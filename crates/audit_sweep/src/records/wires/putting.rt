@@ -8,8 +8,8 @@ ghost use Rattle.net_plan.specs.declared.{event.Event.{Event as EventValue}, net
 
 use crate::records::{Kept, KeptRecord, Sending};
 use audit_law::events::EventHistory;
-use device_rules::{Heading, is_parent_of};
-use net_plan::{DeviceId, LinkId, Network, Way};
+use device_rules::{Heading, way_from};
+use net_plan::{LinkId, Network, Way};
 use pcf_codec::PcfRefusal;
 use tte_units::frames::Pcf;
 
@@ -86,17 +86,6 @@ fn sent_on_wire(kept: &KeptRecord, sending: Sending) -> Option<OnWire>
         Sending::Control => control_on_wire(kept.frame),
         Sending::Refused(refusal) => Some(OnWire::Control(Err(refusal))),
         Sending::Timed => Some(OnWire::Timed(kept.heading)),
-    }
-}
-
-/// The way on which the device sends on the link.
-pub fn way_from(network: &Network, device: DeviceId, link: LinkId) -> Way
-    ensures { result ≡ way_from network.now device link }
-{
-    if is_parent_of(network, device, link) {
-        Way::Down
-    } else {
-        Way::Up
     }
 }
 

@@ -46,7 +46,7 @@ returns c network befallen end hs swept told =
     let own = sweep.network.now in
     let until = amount sweep.known.end in
     let w = here swept in
-    let by : c.end-until.result ≡ until = c.end-until.ensures in
+    let by : c.magnitude-until.result ≡ until = c.magnitude-until.ensures in
     let debtor = c.debtor-debtor.result in
     let same : (debtor.network.now ≡ own) × (debtor.until ≡ until) = (c.debtor-debtor.ensures.same.0, c.debtor-debtor.ensures.same.1 ∙ by) in
     let known = c.debtor-debtor.ensures.known befallen hs w in
@@ -103,11 +103,11 @@ returns c network befallen end hs swept told =
           (c.first_unpaid_arrival-arrivals.ensures befallen hs known);
       permanences = first_of own debtor.network.now befallen hs until debtor.until (λ (o : ℕ). debts.permanence o) permanences same
           (c.first_unpaid_permanence-permanences.ensures befallen hs known);
-      emissions = first_of own own befallen hs until c.end-until.result (λ (o : DeviceId × Compressed). debts.emission o.0 o.1) emissions (refl, by)
+      emissions = first_of own own befallen hs until c.magnitude-until.result (λ (o : DeviceId × Compressed). debts.emission o.0 o.1) emissions (refl, by)
           (c.first_unemitted-emissions.ensures befallen hs by_clusters is_founded);
-      sendings = first_of own own befallen hs until c.end-until.result (λ (o : Sending). debts.sending o) sendings (refl, by)
+      sendings = first_of own own befallen hs until c.magnitude-until.result (λ (o : Sending). debts.sending o) sendings (refl, by)
           (c.first_unsent-sendings.ensures befallen hs by_clocks);
-      points = first_of own own befallen hs until c.end-until.result (λ (o : DeviceId × ℕ). debts.point o.0 o.1) points (refl, by)
+      points = first_of own own befallen hs until c.magnitude-until.result (λ (o : DeviceId × ℕ). debts.point o.0 o.1) points (refl, by)
           (c.first_untold-points.ensures befallen hs by_clocks is_founded (of_devices w));
       changes = first_of own debtor.network.now befallen hs until debtor.until (λ (o : ℕ). debts.change o) changes same
           (c.first_unpaid_change-changes.ensures befallen hs known);
