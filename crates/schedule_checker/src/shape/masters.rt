@@ -60,13 +60,6 @@ pub(crate) fn masters_suffice(network: &Network, part: u32) -> bool
     }
 }
 
-/// Is the device a synchronisation master?
-fn is_master_device(device: &Device) -> bool
-    ensures { result ≡ is_master device.now.role }
-{
-    device.role.is_master()
-}
-
 /// How many masters there are.
 fn count_of_masters(network: &Network) -> usize
     ensures { result ≡ length (masters network.now) }
@@ -75,7 +68,7 @@ fn count_of_masters(network: &Network) -> usize
         .device
         .as_slice()
         .iter()
-        .filter(|device| is_master_device(device))
+        .filter(|device| device.role.is_master())
         .count()
 }
 
@@ -101,7 +94,7 @@ fn members_differ(network: &Network) -> bool
 {
     let devices = network.device.as_slice();
     for (place, device) in devices.iter().enumerate() {
-        if is_master_device(device) && !member_is_new(&devices[..place], device) {
+        if device.role.is_master() && !member_is_new(&devices[..place], device) {
             return false;
         }
     }
@@ -112,7 +105,7 @@ fn members_differ(network: &Network) -> bool
 fn member_is_new(earlier: &[Device], device: &Device) -> bool
     ensures { IsTrue result ↔ All (λ e. is_master e.role ≡ true → e.member ≢ device.now.member) earlier.now }
 {
-    earlier.iter().all(|other| !is_master_device(other) || other.member != device.member)
+    earlier.iter().all(|other| !other.role.is_master() || other.member != device.member)
 }
 
 /// Is the threshold of members at least three, and less than the count of masters?
@@ -132,7 +125,7 @@ fn enough_begin_on(network: &Network) -> bool
         .device
         .as_slice()
         .iter()
-        .filter(|device| is_master_device(device))
+        .filter(|device| device.role.is_master())
         .filter(|device| device.start.is_some())
         .count();
     network.sync_threshold as usize <= begin_on

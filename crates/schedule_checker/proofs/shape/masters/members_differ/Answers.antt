@@ -1,7 +1,7 @@
 use Rattle.{net_plan.specs.Places.is_master, schedule_checker.proofs.ShapePairs.{AtPairs, before_from_pairs, filter_pairs, pairs_from_filter, pairs_more}}
 use Rattle.{net_plan.specs.{Rules.MembersDiffer, declared.tables.Device.Device}, std.proofs.Common.{◌∙◌, ◌≡◌, ◌≢◌, Bool, Some, length, refl, subst, sym}}
-use Rattle.schedule_checker.proofs.shape.masters.members_differ.Goals.{else-is_master_device-via-else-is_master_device}
-use Rattle.schedule_checker.proofs.shape.masters.members_differ.Goals.{else-is_master_device-via-then-is_master_device+else-not-member_is_new}
+use Rattle.schedule_checker.proofs.shape.masters.members_differ.Goals.{else-is_master-via-else-is_master}
+use Rattle.schedule_checker.proofs.shape.masters.members_differ.Goals.{else-is_master-via-then-is_master+else-not-member_is_new}
 use Rattle.std.{proofs.lemmas.{Bool.false≢true, Option.slice_get_read}, specs.List.{filter, slice_get}}
 use Rattle.schedule_checker.proofs.shape.masters.members_differ.Goals as goal
 
@@ -18,7 +18,7 @@ returns-then-not-member_is_new c =
     let device = c.index-devices-place.result in
     let at : slice_get devices place ≡ Some device = slice_get_read devices (length devices) place device refl c.loop-place-test.true c.index-devices-place.is
     in
-    let passes : master device ≡ _ = sym c.is_master_device.ensures ∙ c.if-is_master_device.true in
+    let passes : master device ≡ _ = sym c.is_master.ensures ∙ c.if-is_master.true in
     let broken = λ (m : MembersDiffer c.args.network.now). let pairs = pairs_from_filter master Differ devices (length devices)
     (subst (λ xs. AtPairs Differ (filter master xs)) (sym c.as_slice-devices.ensures) m) in
     false≢true (sym c.if-not-member_is_new.true
@@ -32,11 +32,11 @@ loop-place-preserved c =
     let device = c.index-devices-place.result in
     let at : slice_get devices place ≡ Some device = slice_get_read devices (length devices) place device refl c.loop-place-test.true c.index-devices-place.is
     in
-    elim c.else-is_master_device.branch [
-      | else-is_master_device-via-then-is_master_device+else-not-member_is_new w ↦ pairs_more master Differ devices place device at c.loop-place.invariant
+    elim c.else-is_master.branch [
+      | else-is_master-via-then-is_master+else-not-member_is_new w ↦ pairs_more master Differ devices place device at c.loop-place.invariant
           (λ _. w.member_is_new.ensures.0 w.if-not-member_is_new.false)
-      | else-is_master_device-via-else-is_master_device w ↦ pairs_more master Differ devices place device at c.loop-place.invariant
-          (λ e. absurd (false≢true (sym w.if-is_master_device.false ∙ c.is_master_device.ensures ∙ e)))
+      | else-is_master-via-else-is_master w ↦ pairs_more master Differ devices place device at c.loop-place.invariant
+          (λ e. absurd (false≢true (sym w.if-is_master.false ∙ c.is_master.ensures ∙ e)))
     ]
 
 pub returns : goal.returns
