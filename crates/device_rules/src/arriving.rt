@@ -2,7 +2,8 @@
 
 ghost use Rattle.std.specs.Prelude.{◌&&◌, ◌*◌, ◌+ℤ◌, ◌+◌, ◌<◌, ◌^◌, ◌≡◌, ◌≤◌, IfOk, IfSome, int_lt, pos};
 ghost use Rattle.device_rules.specs.{Arriving.{IsGrownSo, young_clock}, Widths.IsLocal};
-ghost use Rattle.{net_plan.specs.Ranges.IsInRange, tte_units.specs.Amount.amount};
+ghost use Rattle.net_plan.specs.{Ranges.IsInRange, declared.network.Network.Network as NetworkValue};
+ghost use Rattle.tte_units.specs.Amount.{amount};
 ghost use Rattle.run_law.specs.control.Arrivals.{are_others, clock_on_arrival, control_arrival, frame_fault};
 ghost use Rattle.run_law.specs.control.Arrivals.{frame_or_fault, frame_taken, is_cold_start, is_gate_shut};
 ghost use Rattle.run_law.specs.control.Arrivals.{is_of_other_domain, is_of_other_member, point_on_arrival, refused};
@@ -114,7 +115,7 @@ fn grown_clock(
     if is_cold_start(frame.kind) {
         return Err(Reason::ColdStart);
     }
-    if is_of_other_domain(network, frame) {
+    if is_of_other_domain(network.priority, network.domain, frame) {
         return Err(Reason::Domain);
     }
     if is_of_other_member(network, device, link, frame.members) {
@@ -153,11 +154,12 @@ pub fn is_cold_start(kind: PcfKind) -> bool
     }
 }
 
-/// Is the frame of another priority or domain?
-fn is_of_other_domain(network: &Network, frame: &Pcf) -> bool
-    ensures { result ≡ is_of_other_domain network.now frame.now }
+/// Is the frame of another priority or domain than these of the network?
+pub fn is_of_other_domain(priority: u8, domain: u8, frame: &Pcf) -> bool
+    ensures { (network : NetworkValue) → network.priority ≡ priority → network.domain ≡ domain
+        → result ≡ is_of_other_domain network frame.now }
 {
-    !(frame.priority == network.priority && frame.domain == network.domain)
+    !(frame.priority == priority && frame.domain == domain)
 }
 
 /// Does the frame come to a switch from an end system whose bit is not its members?

@@ -19,7 +19,7 @@ mod network;
 mod standpoint;
 mod timed;
 
-pub use arriving::{control_arrival, is_cold_start, refused};
+pub use arriving::{control_arrival, is_cold_start, is_of_other_domain, refused};
 pub use collecting::{is_number, point_fault};
 pub use correcting::{PointStanding, PointVerdict, correction_value, joined_adjustment, verdict};
 pub use entrances::{EnteringRow, Entrances};

@@ -6,7 +6,7 @@ use Rattle.{net_plan.specs.declared.ids.DeviceId.DeviceId, switch_ports.specs.de
 use Rattle.{net_plan.specs.declared.{ids.LinkId.LinkId, tables.Link.Link}, switch_ports.specs.declared.site.Site.Site}
 use Rattle.{net_plan.specs.declared.network.Network.Network, tte_units.specs.declared.frames.members.Members.Members}
 use Rattle.{net_plan.specs.declared.tables.Role.Role, schedule_tables.specs.Margins.{compression_time, expected_offset}}
-use Rattle.{run_law.specs.{records.Frames.mac_of, scenario.Devices.plan_of}, tte_units.specs.Amount.{amount, units_of}}
+use Rattle.{run_law.specs.{records.Frames.integration_frame, scenario.Devices.plan_of}, tte_units.specs.Amount.{amount, units_of}}
 use Rattle.run_law.specs.scenario.Devices.{channel_of, has_role, is_cm, is_cm_role, is_end, is_relay, member_of}
 use Rattle.switch_ports.specs.declared.site.Peer.TheVariants as peers
 
@@ -63,14 +63,11 @@ pub record IsSiteOf (network : Network) (device : DeviceId) (site : Site) : Type
   pub not_end : is_end network device ≡ false
   pub not_master : has_role network is_master device ≡ false
   pub channel : channel_of network device ≡ Some site.channel
-  pub mac : mac_of network device ≡ site.mac
-  pub destination : site.destination ≡ network.pcf_destination
+  pub frame : site.frame ≡ integration_frame network device 0 (record { 0 = 0 })
   pub plan : site.plan ≡ plan_of network device
   pub dmax : site.dmax ≡ network.dmax
   pub precision : site.precision ≡ network.precision
   pub correction : site.correction ≡ network.correction
   pub calc : site.calc ≡ network.calc
-  pub priority : site.priority ≡ network.priority
-  pub domain : site.domain ≡ network.domain
   pub marker : site.marker ≡ network.marker
   pub ports : site.ports.items ≡ map (port_of network device) network.link

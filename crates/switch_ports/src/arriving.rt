@@ -5,12 +5,12 @@ ghost use Rattle.net_plan.specs.Ranges.{IsInRange};
 ghost use Rattle.{net_plan.specs.declared.ids.DeviceId.DeviceId, run_law.specs.scenario.Devices.is_parent_of};
 ghost use Rattle.{net_plan.specs.declared.network.Network.Network, run_law.specs.control.Arrivals.point_on_arrival};
 ghost use Rattle.run_law.specs.control.Arrivals.{control_arrival, frame_fault, frame_or_fault, frame_taken};
-ghost use Rattle.run_law.specs.control.Arrivals.{is_gate_shut, is_of_other_domain, is_of_other_member};
+ghost use Rattle.run_law.specs.control.Arrivals.{is_gate_shut, is_of_other_member};
 ghost use Rattle.{run_law.specs.device.Standpoints.clock_of, tte_units.specs.Amount.{amount, units_of}};
 ghost use Rattle.switch_ports.specs.{Sites.IsSiteOf, Standpoints.{IsAlive, IsSiteInRange, standpoint_of}};
 
 use crate::{Site, Standpoint};
-use device_rules::{is_cold_start, is_off, is_synchronised, refused};
+use device_rules::{is_cold_start, is_of_other_domain, is_off, is_synchronised, refused};
 use drift_clock::transparent::{arrive, permanence};
 use net_plan::{LinkId, Way};
 use pcf_codec::decode;
@@ -77,7 +77,7 @@ impl Site {
         if is_cold_start(frame.kind) {
             return Err(Reason::ColdStart);
         }
-        if self.is_of_other_domain(frame) {
+        if is_of_other_domain(self.frame.priority, self.frame.domain, frame) {
             return Err(Reason::Domain);
         }
         if self.is_of_other_member(link, frame.members) {
@@ -90,14 +90,6 @@ impl Site {
             return Err(Reason::Gate);
         }
         Ok(clock)
-    }
-
-    /// Is the frame of another priority or domain?
-    fn is_of_other_domain(&self, frame: &Pcf) -> bool
-        ensures { (network : Network) (device : DeviceId) → IsSiteOf network device self.now
-            → result ≡ is_of_other_domain network frame.now }
-    {
-        !(frame.priority == self.priority && frame.domain == self.domain)
     }
 
     /// Are these members others than those of the end system at the link?

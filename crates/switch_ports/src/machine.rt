@@ -1,6 +1,5 @@
 ghost use Rattle.std.specs.Prelude.{◌<ℤ◌, ◌≡◌, ◌≤ℤ◌, IfSome, IsFalse, IsSomeAnd, IsTrue};
-ghost use Rattle.{net_plan.specs.declared.ids.DeviceId.DeviceId, switch_ports.specs.{Due.least_of, Sites.IsSiteOf}};
-ghost use Rattle.{net_plan.specs.declared.network.Network.Network, run_law.specs.records.Frames.integration_frame};
+ghost use Rattle.switch_ports.specs.Due.{least_of};
 
 use crate::{Site, Switch};
 use device_rules::{TaskKind, TellsKind, is_off};
@@ -9,7 +8,7 @@ use pcf_codec::is_pcf;
 use run_law::{Act, Arrival, Machine, Moment, Ripe};
 use sync_state::{State, Verdict};
 use tte_units::Units;
-use tte_units::frames::{Members, Pcf, PcfKind};
+use tte_units::frames::{Members, Pcf};
 
 impl Machine for Switch {
     ghost use Rattle.switch_ports.specs.Standing.{StandsAs};
@@ -24,7 +23,7 @@ impl Machine for Switch {
     fn act(&mut self, moment: Moment) -> Act {
         if is_reached(self.collector.due(), moment.reading) {
             let sent = self.collector.emit();
-            let frame = self.site.integration_frame(sent.cycle, sent.members);
+            let frame = self.site.frame_of(sent.cycle, sent.members);
             let channel = Some(self.site.channel);
             let heard = self.hear_frame(moment, channel, &frame, sent.at);
             return Act::Emit(sent, heard);
@@ -92,19 +91,13 @@ impl TellsKind for Switch {
 
 impl Site {
     /// The frame that a compression master sends for a collection.
-    fn integration_frame(&self, cycle: u32, members: Members) -> Pcf
-        ensures { (network : Network) (device : DeviceId) → IsSiteOf network device self.now
-            → result ≡ integration_frame network device cycle members }
+    fn frame_of(&self, cycle: u32, members: Members) -> Pcf
+        ensures { result ≡ record self.now.frame { cycle = cycle; members = members } }
     {
         Pcf {
-            destination: self.destination,
-            source: self.mac,
             cycle,
             members,
-            priority: self.priority,
-            domain: self.domain,
-            kind: PcfKind::Integration,
-            clock: 0,
+            ..self.frame
         }
     }
 }

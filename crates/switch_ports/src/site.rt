@@ -3,13 +3,14 @@ ghost use Rattle.{net_plan.specs.Ranges.{IsInRange, IsLinkInRange}, switch_ports
 ghost use Rattle.{schedule_tables.specs.Schedule.IsSwitch, tte_units.specs.Amount.units_of};
 ghost use Rattle.switch_ports.specs.Sites.{IsSiteOf, expected_in, is_below, is_other_member, peer_below, peer_of};
 
+use device_rules::frames::integration_frame;
 use net_plan::{DeviceId, Link, LinkId, Network, Role};
 use schedule_tables::OutOfMemory;
 use std::alloc::{AllocError, Global};
 use sync_state::SyncPlan;
 use sync_state::membership::one;
 use tte_units::Units;
-use tte_units::frames::{Channel, Mac, Members};
+use tte_units::frames::{Channel, Members, Pcf};
 
 /// What stands at the other end of a link.
 #[derive(Clone, Copy)]
@@ -40,16 +41,13 @@ pub struct Site {
     /// Is it a relay? Otherwise it is a compression master.
     pub is_relay: bool,
     pub channel: Channel,
-    pub mac: Mac,
-    /// Where protocol control frames are sent.
-    pub destination: Mac,
+    /// The frame that it sends where it is a compression master, as that of cycle 0 and of no members.
+    pub frame: Pcf,
     pub plan: SyncPlan,
     pub dmax: Units,
     pub precision: Units,
     pub correction: Units,
     pub calc: Units,
-    pub priority: u8,
-    pub domain: u8,
     pub marker: u32,
     /// All links of the network, in its order.
     pub ports: Vec<Port>,
@@ -94,8 +92,7 @@ impl Site {
         Ok(Site {
             is_relay: switch.role == Role::Relay,
             channel: switch.channel.unwrap_or(Channel::A),
-            mac: switch.mac,
-            destination: network.pcf_destination,
+            frame: integration_frame(network, device, 0, Members(0)),
             plan: SyncPlan {
                 cycle_length: network.cycle,
                 expected: expected_in(network, switch.role),
@@ -105,8 +102,6 @@ impl Site {
             precision: network.precision,
             correction: network.correction,
             calc: network.calc,
-            priority: network.priority,
-            domain: network.domain,
             marker: network.marker,
             ports,
         })

@@ -29,8 +29,16 @@ fn relay(alloc: Global) -> Result<Site, AllocError>
     Ok(Site {
         is_relay: true,
         channel: Channel::A,
-        mac: Mac::from_number(0x0200_0000_0021),
-        destination: Mac::from_number(0x0300_0000_0001),
+        frame: Pcf {
+            destination: Mac::from_number(0x0300_0000_0001),
+            source: Mac::from_number(0x0200_0000_0021),
+            cycle: 0,
+            members: Members(0),
+            priority: 0,
+            domain: 0,
+            kind: PcfKind::Integration,
+            clock: 0,
+        },
         plan: SyncPlan {
             cycle_length: Units(131_072_000_000),
             expected: Units(2 * DMAX + 2 * PRECISION + 65_536_000),
@@ -40,8 +48,6 @@ fn relay(alloc: Global) -> Result<Site, AllocError>
         precision: Units(PRECISION),
         correction: Units(18_350_080_000),
         calc: Units(65_536_000),
-        priority: 0,
-        domain: 0,
         marker: 0x0304_0506,
         ports,
     })

@@ -102,14 +102,15 @@ returns-then-is_reached c network device node st may has =
     let first = first_emission old network device node sent f.0 c.emit-sent.new.self.waiting c.args.moment.reading.0 st f.1 f.2 due in
     let mid = sent_stands sent st c.emit-sent.ensures.kept
     (c.emit-sent.ensures.stands node.points node.emitted st.collects.collected) in
-    let frame = c.integration_frame-frame.ensures network device st.site in
+    let frame = c.frame_of-frame.ensures
+    ∙ ap (λ (p : Pcf). record p { cycle = sent.cycle; members = sent.members }) st.site.frame in
     let coming : IsComing network c.args.moment sent.at = record { reached = due; in_time = may.in_time (emitting sent) first.pending } in
-    let new = heard_stands c.hear_frame-heard.new.self (Some old.site.channel) c.integration_frame-frame.result
+    let new = heard_stands c.hear_frame-heard.new.self (Some old.site.channel) c.frame_of-frame.result
     c.hear_frame-heard.result mid
     (may_before network device node sent c.args.moment may) coming c.hear_frame-heard.ensures.is
     c.hear_frame-heard.ensures.hears in
-    let heard = heard_so (record old { collector = c.emit-sent.new.self }) network device (with_sent node sent) sent.at.0 c.integration_frame-frame.result.cycle
-    c.integration_frame-frame.result.members c.hear_frame-heard.result mid c.hear_frame-heard.ensures.is in (
+    let heard = heard_so (record old { collector = c.emit-sent.new.self }) network device (with_sent node sent) sent.at.0 c.frame_of-frame.result.cycle
+    c.frame_of-frame.result.members c.hear_frame-heard.result mid c.hear_frame-heard.ensures.is in (
       _,
       (
         first,
