@@ -4,10 +4,9 @@
 mod clocks;
 mod history;
 mod laws;
-mod memory;
 mod settings;
 
 pub use history::{EventHistory, has_come};
 pub use laws::reading_law;
-pub use memory::OutOfMemory;
 pub use settings::{Change, Settings};
+pub use tte_units::OutOfMemory;

@@ -3,11 +3,10 @@
 pub mod dispatches;
 mod kept;
 mod making;
-mod memory;
 pub mod places;
 mod records;
 pub mod wires;
 
 pub use kept::{Kept, KeptRecord, Sending};
-pub use memory::OutOfMemory;
 pub use records::KeptRecords;
+pub use tte_units::OutOfMemory;

@@ -48,7 +48,7 @@ pub use Rattle.world_state.specs.Storing.{IsStoredBy}
 pub use Rattle.world_state.specs.Views.{at_port, befell_as, octets_in, octets_of, on_wire, settled_at, signal_as, stored_as, waiting_as, way_as, wire_at}
 pub use Rattle.world_state.specs.declared.contents.{Befallen.Befallen, Content.{Content, TheVariants.{Port, Wire}}, Holding.Holding, Settled.Settled}
 pub use Rattle.world_state.specs.declared.{contents.{Timed.Timed, Waits.Waits, WayState.WayState}, giving.Giving.Giving, kept.Kept.Kept}
-pub use Rattle.world_state.specs.declared.memory.OutOfMemory.{OutOfMemory}
+pub use Rattle.tte_units.specs.declared.memory.OutOfMemory.{OutOfMemory}
 pub use Rattle.world_law.specs.steps.Steps.{FitsWorld}
 pub use Rattle.world_state.specs.timers.Times.{never}
 pub use Rattle.world_state.specs.declared.timers.Due.{Due}

@@ -5,7 +5,6 @@
 mod accepted;
 mod entry;
 mod laws;
-mod memory;
 mod rule;
 mod slot;
 mod tables;
@@ -14,8 +13,8 @@ mod window;
 pub use accepted::Accepted;
 pub use entry::{Entry, entries_of, entry_of};
 pub use laws::{entries_law, margins_law};
-pub use memory::OutOfMemory;
 pub use rule::Rule;
 pub use slot::{Place, RESIDUES, Slot, Whose, first_slot, slots_of};
 pub use tables::Tables;
+pub use tte_units::OutOfMemory;
 pub use window::{Window, arrival_of, tolerance, window_of};

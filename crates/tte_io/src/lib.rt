@@ -21,7 +21,7 @@ pub use ends::{Sink, SinkFailed, Source, SourceFailed};
 pub use laws::lines_in_order_law;
 pub use line_text::LineText;
 pub use lines::{LineReader, LineTaken};
-pub use memory::OutOfMemory;
 pub use sinks::MemorySink;
 pub use sources::{MemorySource, SteadySource};
+pub use tte_units::OutOfMemory;
 pub use whole::{Bytes, ReadAll, read_all};

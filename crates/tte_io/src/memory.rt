@@ -1,17 +1,8 @@
 ghost use Rattle.std.specs.Prelude.{◌≡◌, ◌<◌, ◌+◌, ◌^◌, ◌↔◌, IsTrue, IfOk, Contains};
 ghost use Rattle.tte_io.specs.Faults.{next_count};
 
-use std::alloc::{AllocError, Global};
-
-/// Memory ran out.
-#[derive(Clone, Copy, Debug, PartialEq, Eq)]
-pub struct OutOfMemory;
-
-impl From<AllocError> for OutOfMemory {
-    fn from(_: AllocError) -> OutOfMemory {
-        OutOfMemory
-    }
-}
+use std::alloc::Global;
+use tte_units::OutOfMemory;
 
 /// The calls of an end in memory: how many there were, and the numbers, from 1, of those that fail.
 #[derive(Drop)]

@@ -2,10 +2,12 @@
 #![tactic(auto)]
 
 pub mod frames;
+mod memory;
 mod rates;
 mod speed;
 mod units;
 
+pub use memory::OutOfMemory;
 pub use rates::{Ppb, slip};
 pub use speed::{Speed, octets};
 pub use units::{READING_LIMIT, Units, magnitude, mean};

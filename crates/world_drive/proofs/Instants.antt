@@ -1,5 +1,5 @@
 -- The instant whose end is asked for.
-use Rattle.{drift_world.specs.Running.{ComesUpTo, option_given}, run_law.proofs.records.Order.index_of, world_state.specs.declared.memory.OutOfMemory.OutOfMemory}
+use Rattle.{drift_world.specs.Running.{ComesUpTo, option_given}, run_law.proofs.records.Order.index_of, tte_units.specs.declared.memory.OutOfMemory.OutOfMemory}
 use Rattle.{precision_law.specs.traffic.safety.Headline.IsSafeFront, std.specs.Prelude.{MatchResult, OnOk, option_to_list}}
 use Rattle.{run_law.proofs.runs.{NetworkRuns.one_more, Places.{in_left, in_right}}, world_drive.specs.Observing.{IsCompleteExact, IsGiven}}
 use Rattle.{run_law.specs.records.{Order.IsIn, Ranks.rank}, std.proofs.Common.{Bool, Result}}

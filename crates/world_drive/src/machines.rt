@@ -3,8 +3,7 @@
 
 mod beginning;
 mod device_machine;
-mod memory;
 
 pub use beginning::machines_of;
 pub use device_machine::DeviceMachine;
-pub use memory::OutOfMemory;
+pub use tte_units::OutOfMemory;

@@ -12,7 +12,6 @@ pub mod hands;
 pub mod hearing;
 pub mod kept;
 pub mod leaving;
-mod memory;
 pub mod outcomes;
 pub mod packets;
 pub mod queue;
@@ -27,4 +26,4 @@ pub mod timing;
 pub mod waiting;
 
 pub use event_notes::EventNote;
-pub use memory::OutOfMemory;
+pub use tte_units::OutOfMemory;

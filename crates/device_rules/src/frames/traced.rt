@@ -5,13 +5,12 @@
 mod keeping;
 mod kept;
 mod law;
-mod memory;
 mod octets;
 mod showing;
 mod trace;
 
 pub use keeping::frame_in;
 pub use law::delivery_law;
-pub use memory::OutOfMemory;
 pub use octets::Octets;
 pub use trace::FrameTrace;
+pub use tte_units::OutOfMemory;

@@ -3,7 +3,7 @@ use Rattle.{drift_world.specs.Running.{ComesUpTo, Reaches, option_given}, run_la
 use Rattle.{net_plan.specs.declared.{event.Event.Event, network.Network.Network}, tte_units.specs.{Amount.{amount, units_of}, declared.units.Units.Units}}
 use Rattle.std.proofs.Common.{◌++◌, ◌+ℤ◌, ◌+◌, ◌<ℤ◌, ◌∙◌, ◌∷◌, ◌≡◌, ◌≤ℤ◌, Bool, List, Ok, Option, Some, [], ap, arith, false, negsuc, pos, refl, subst, true}
 use Rattle.std.{proofs.Common.{unsigned_abs, ℕ, ℤ}, specs.Prelude.{IfSome, option_to_list}}
-use Rattle.{world_drive.{proofs.exact_lemmas.Worlds.go_on, specs.exact.Worlds.{ExactWorld, StandsExact}}, world_state.specs.declared.memory.OutOfMemory.OutOfMemory}
+use Rattle.{world_drive.{proofs.exact_lemmas.Worlds.go_on, specs.exact.Worlds.{ExactWorld, StandsExact}}, tte_units.specs.declared.memory.OutOfMemory.OutOfMemory}
 
 -- what holds of the value of an option
 pub if_some : {X : Type 0} (o : Option X) (x : X) (P : X → Type 0) → o ≡ Some x → IfSome o P → P x

@@ -1,7 +1,7 @@
 use Rattle.{lens_slack.proofs.Writable.are_writable, schedule_checker.{proofs.Trees.tree_of, specs.Groups.AreGroups}, std.proofs.Common.{◌∙◌, List, subst, sym}}
 use Rattle.lens_slack.specs.{Finds.AreOf, Writing.IsWritable}
 use Rattle.{lens_slack.specs.declared.measuring.Slack.Slack, net_plan.specs.declared.network.Network.Network, std.specs.Prelude.{All, Err, IfOk, Ok, Result}}
-use Rattle.{lens_slack.specs.declared.step.Step.Step, tte_io.specs.declared.memory.OutOfMemory.OutOfMemory}
+use Rattle.{lens_slack.specs.declared.step.Step.Step, tte_units.specs.declared.memory.OutOfMemory.OutOfMemory}
 use Rattle.lens_slack.proofs.measuring.slack_of.Goals as goal
 
 pub beta-requires-clause-tree : goal.beta-requires-clause-tree
