@@ -162,7 +162,7 @@ impl<C: Clock, M: Machine + Drop> State<C, M> {
     /// Gives a record its number, which is not put in, or was taken out, and launches what it does: nothing that is
     /// settled or to come stands before it.
     #[inline(always)]
-    pub fn give_first(&mut self, network: &Network, first: Settled, note: &mut PlainNote)
+    pub(crate) fn give_first(&mut self, network: &Network, first: Settled, note: &mut PlainNote)
         requires sound { IsSound C.last_step network.now self.old }
         requires range { IsInRange network.now }
         requires running { IsRunningWith C.reading M.stands network.now self.old first }

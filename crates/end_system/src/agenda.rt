@@ -94,7 +94,7 @@ fn earlier(a: Option<Units>, b: Option<Units>) -> Option<Units>
 }
 
 /// What a device does next whose clock has just been set, and shows this local value.
-pub fn agenda_from(own: &Own, rows: &Rows, sync: &Sync, local: Units) -> Agenda
+pub(crate) fn agenda_from(own: &Own, rows: &Rows, sync: &Sync, local: Units) -> Agenda
     requires range { HasOwnRange own.now }
     requires rows { AreSomeRows rows.now }
     requires number { IfSome (next_point sync.now) (λ n. n ≤ 2 ^ 21 + 2 ^ 18) }

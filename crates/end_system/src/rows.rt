@@ -43,7 +43,12 @@ impl Rows {
     }
 
     /// The first dispatch at a local value behind this one.
-    pub fn first_behind(&self, own: &Own, adjustment: Units, local: Units) -> Option<Dispatch>
+    pub(crate) fn first_behind(
+        &self,
+        own: &Own,
+        adjustment: Units,
+        local: Units,
+    ) -> Option<Dispatch>
         requires range { HasOwnRange own.now }
         requires rows { AreSomeRows self.now }
         requires small { IsSmall adjustment.0 }
@@ -69,7 +74,12 @@ impl Rows {
     }
 
     /// The dispatch that comes next after this one.
-    pub fn next_behind(&self, own: &Own, adjustment: Units, last: Dispatch) -> Option<Dispatch>
+    pub(crate) fn next_behind(
+        &self,
+        own: &Own,
+        adjustment: Units,
+        last: Dispatch,
+    ) -> Option<Dispatch>
         requires range { HasOwnRange own.now }
         requires rows { AreSomeRows self.now }
         requires small { IsSmall adjustment.0 }

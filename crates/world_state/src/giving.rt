@@ -178,7 +178,7 @@ fn put_port(
 }
 
 /// Puts the frame of a record to each port to which its device gives it.
-pub fn put_ports(
+pub(crate) fn put_ports(
     under_way: &mut UnderWay<Content>,
     network: &Network,
     ups: &[WayState],

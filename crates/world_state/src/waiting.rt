@@ -14,7 +14,7 @@ use tte_units::frames::Pcf;
 
 /// What waits by a record, where its device is broken or not and its clock reads this.
 #[inline(always)]
-pub fn awaited(
+pub(crate) fn awaited(
     network: &Network,
     broken: bool,
     body: &PlainBody,
