@@ -1,30 +1,31 @@
 -- The turn of a source: of its records the one that stands where the source does is given in it, and what comes later
--- is put in. So there is one
--- frontier: up to there the records given are the run, and each source before it is worked off.
-use Rattle.std.specs.Prelude.{◌++◌, ◌+◌, ◌<◌, ◌∷◌, ◌≡◌, ◌≤ℤ◌, Bool, List, Some, [], false, length, pos, slice_get, true, ℕ}
+-- is put in. So there is one frontier: up to there the records given are the run, and each source before it is worked
+-- off.
+use Rattle.std.specs.Prelude.{◌++◌, ◌+◌, ◌<◌, ◌^◌, ◌∷◌, ◌≡◌, ◌≤ℤ◌, ◌≤◌, Bool, List, Some, [], false, length, pos, slice_get}
+use Rattle.std.specs.Prelude.{true, ℕ}
+use Rattle.net_plan.specs.Ranges.{IsInRange}
 use Rattle.net_plan.specs.declared.{ids.DeviceId.DeviceId, network.Network.Network}
 use Rattle.run_law.specs.{control.Wires.signal_of, declared.{note.{Note.Note, NoteBody.NoteBody}, steps.{Arrival.Arrival, Ripe.Ripe}}}
-use Rattle.run_law.specs.{machines.{Calls.MayArrive, Nodes.Node}, records.Order.{IsIn, behind}, scenario.Scenarios.Scenario}
-use Rattle.run_law.specs.records.Happenings.{happening, happenings}
+use Rattle.run_law.specs.{machines.{Calls.MayArrive, Nodes.Node}, records.{Order.{IsIn, behind}, Ranks.place_of}}
+use Rattle.run_law.specs.{runs.{DueRecords.IsDue, Runs.IsFounded}, scenario.Scenarios.{Scenario, is_broken}}
+use Rattle.run_law.specs.records.Happenings.{Happening, happening, happenings}
 use Rattle.sync_state.specs.declared.state.State.{State}
-use Rattle.tte_units.specs.{Amount.units_of, declared.units.Units.Units}
-use Rattle.world_law.specs.source.Sources.{task_place}
+use Rattle.tte_units.specs.{Amount.{amount, units_of}, declared.units.Units.Units}
+use Rattle.world_law.specs.{device.Ready.IsSteady, source.Sources.task_place}
 use Rattle.world_law.specs.steps.{Acting.{Acts, task_of}, Ripening.{HasRipened, ripe_bodies}, Steps.departure_bodies}
 use Rattle.world_law.specs.world.{Calls.{HasHeard, IsSet, IsStateOf, moment_of}, Outcomes.arrival_body}
-use Rattle.world_law.specs.world.Moves.{AreAwaited, AreGiven, ArePut, ArePutIn, AreTaken, ComesFirst, IsWithout, StandsAt}
-use Rattle.world_law.specs.world.World.{AtPort, OnWire, Stands, Waiting, World, clock_place, is_at_source, port_place, ripe_place, wire_place}
+use Rattle.world_law.specs.world.Moves.{AreAwaited, AreGiven, ArePut, ArePutIn, AreTaken, ComesFirst, IsWithout, StandsAt, settled_as}
+use Rattle.world_law.specs.world.World.{AreWays, AtPort, IsClockOf, IsDueAs, OnWire, Stands, Waiting, World, clock_place, is_at_source}
+use Rattle.world_law.specs.world.World.{port_place, ripe_place, wire_place}
 use Rattle.run_law.specs.declared.note.NoteBody.TheVariants as kinds
 
 -- the next record, of this body
 abbrev pub next_note : List Note → ℕ → NoteBody → Note
 next_note notes now body = record { number = length notes + 1; time = units_of now; body = body }
 
--- it is given: it has the next number, and what it puts on wires, gives to ports, waits for and takes is there; these
--- others are put in at their places
-pub record IsGivenNow {C M : Type 0} (s : Scenario) (notes : List Note) (body : NoteBody) (others : List NoteBody)
-    (old new : World C M)
-    (more : List Note) : Type 0 where
-  pub note : more ≡ next_note notes old.now body ∷ []
+-- what it launches is under way: what it puts on wires, gives to ports, waits for and takes is there
+pub record IsLaunched {C M : Type 0} (s : Scenario) (notes : List Note) (body : NoteBody) (old new : World C M)
+    : Type 0 where
   pub wires : ArePut s (happening s.network (happenings s.network notes) (next_note notes old.now body))
       (length notes + 1) old.wires new.wires
   pub ports : AreGiven s (happening s.network (happenings s.network notes) (next_note notes old.now body))
@@ -33,6 +34,13 @@ pub record IsGivenNow {C M : Type 0} (s : Scenario) (notes : List Note) (body : 
       (length notes + 1) old.waiting new.waiting
   pub stored : AreTaken (happening s.network (happenings s.network notes) (next_note notes old.now body))
       (length notes + 1) old.stored new.stored
+
+-- it is given: it has the next number, what it launches is under way, and these others are put in at their places
+pub record IsGivenNow {C M : Type 0} (s : Scenario) (notes : List Note) (body : NoteBody) (others : List NoteBody)
+    (old new : World C M)
+    (more : List Note) : Type 0 where
+  pub note : more ≡ next_note notes old.now body ∷ []
+  pub launched : IsLaunched s notes body old new
   pub put : ArePutIn s.network (happenings s.network notes) old.now others old.settled new.settled
   pub same : new ≡ record old {
     wires = new.wires;
@@ -62,6 +70,32 @@ pub data IsTurn {C M : Type 0} (s : Scenario) (notes : List Note) (bodies : List
       → IsGivenNow s notes body others old new more → IsTurn s notes bodies old new more
   puts : starts_there bodies ≡ false → IsPutAll s notes bodies old new more → IsTurn s notes bodies old new more
 
+-- a record of this body is the next: the world shows the scenario, and the record is due given those before it
+pub record IsNext {C M : Type 0} (reading : C → ℕ → ℕ) (s : Scenario) (notes : List Note) (world : World C M)
+    (body : NoteBody) : Type 0 where
+  pub same : world.network ≡ s.network
+  pub range : IsInRange s.network
+  pub steady : (device : DeviceId) → IsSteady (s.reading device) (amount s.network.precision)
+  pub limit : world.now ≤ 2 ^ 60
+  pub given : world.given ≡ length notes
+  pub clocks : (device : DeviceId) → device.0 < length s.network.device → (clock : C)
+      × (slice_get world.clocks device.0 ≡ Some clock) × IsClockOf reading s world.now device clock
+  pub broken : (device : DeviceId) → device.0 < length s.network.device
+      → slice_get world.broken device.0 ≡ Some (is_broken s device world.now)
+  pub ways : AreWays s world.now world.ups world.downs
+  pub founded : IsFounded place_of (IsDue s) (happenings s.network notes)
+  pub due : IsDueAs s (happenings s.network notes) (settled_as s.network (happenings s.network notes) world.now body)
+
+-- the source at this place is worked off, and its records are of these bodies: where the first stands at its source, it
+-- is the next, once the others are put in; and once it is given too, the world stands behind the place with one frontier
+pub record TurnsBy {C M : Type 0} (reading : C → ℕ → ℕ) (stands : M → Network → DeviceId → Node → Type 0) (s : Scenario)
+    (notes : List Note) (bodies : List NoteBody) (mid : World C M) (place : List ℕ) : Type 0 where
+  pub next : (body : NoteBody) (others : List NoteBody) → bodies ≡ body ∷ others → is_at_source body ≡ true
+      → (rest : List Happening) → ArePutIn s.network (happenings s.network notes) mid.now others mid.settled rest
+      → IsNext reading s notes (record mid { settled = rest }) body
+  pub then_stands : (new : World C M) (more : List Note) → IsTurn s notes bodies mid new more
+      → StandsAt reading stands s new (notes ++ more) (behind place)
+
 -- where nothing of the present instant but events is worked off, as at the beginning and once an event has befallen,
 -- there is one frontier
 abbrev pub EarlyAtOne : {C M : Type 0} → (C → ℕ → ℕ) → (M → Network → DeviceId → Node → Type 0) → Type 0
@@ -72,29 +106,28 @@ EarlyAtOne {C} {M} reading stands =
 -- the turn by which the clock of the next device is shown, at the end
 abbrev pub ClockTurn : {C M : Type 0} → (C → ℕ → ℕ) → (M → Network → DeviceId → Node → Type 0) → Type 0
 ClockTurn {C} {M} reading stands =
-    (s : Scenario) (world new : World C M) (notes more : List Note) (p : List ℕ) (device : DeviceId) (machine : M)
+    (s : Scenario) (world : World C M) (notes : List Note) (p : List ℕ) (device : DeviceId) (machine : M)
     (state : State) (adjustment : Units)
     (old : StandsAt reading stands s world notes p) → device.0 < length s.network.device → world.ended ≡ true
     → world.shown ≡ device.0 → ComesFirst reading stands s world notes old.0 (clock_place world.now device)
     → slice_get world.machines device.0 ≡ Some machine → IsStateOf stands s.network device machine state adjustment
-    → IsTurn s notes (kinds.Clock device (units_of (s.reading device world.now)) adjustment state ∷ [])
-    (record world { early = false; shown = world.shown + 1 }) new more
-    → StandsAt reading stands s new (notes ++ more) (behind (clock_place world.now device))
+    → TurnsBy reading stands s notes (kinds.Clock device (units_of (s.reading device world.now)) adjustment state ∷ [])
+    (record world { early = false; shown = world.shown + 1 }) (clock_place world.now device)
 
 -- the turn by which the first frame at a port leaves
 abbrev pub LeftTurn : {C M : Type 0} → (C → ℕ → ℕ) → (M → Network → DeviceId → Node → Type 0) → Type 0
 LeftTurn {C} {M} reading stands =
-    (s : Scenario) (world new : World C M) (notes more : List Note) (p : List ℕ) (e : AtPort) (ports : List AtPort)
+    (s : Scenario) (world : World C M) (notes : List Note) (p : List ℕ) (e : AtPort) (ports : List AtPort)
     (old : StandsAt reading stands s world notes p) → IsIn e world.ports → e.at ≡ world.now
     → ComesFirst reading stands s world notes old.0 (port_place e)
     → IsWithout port_place (port_place e) world.ports ports
-    → IsTurn s notes (departure_bodies s e world.now) (record world { ports = ports; early = false }) new more
-    → StandsAt reading stands s new (notes ++ more) (behind (port_place e))
+    → TurnsBy reading stands s notes (departure_bodies s e world.now) (record world { ports = ports; early = false })
+    (port_place e)
 
 -- the turn by which the first frame on a wire arrives, and its device's machine hears it
 abbrev pub HeardTurn : {C M : Type 0} → (C → ℕ → ℕ) → (M → Network → DeviceId → Node → Type 0) → Type 0
 HeardTurn {C} {M} reading stands =
-    (s : Scenario) (world new : World C M) (notes more : List Note) (p : List ℕ) (e : OnWire) (machine heard : M)
+    (s : Scenario) (world : World C M) (notes : List Note) (p : List ℕ) (e : OnWire) (machine heard : M)
     (octets : List ℕ) (result : Arrival)
     (machines : List M) (wires : List OnWire)
     (old : StandsAt reading stands s world notes p) → IsIn e world.wires → e.at ≡ world.now
@@ -103,14 +136,13 @@ HeardTurn {C} {M} reading stands =
     → MayArrive s.network e.device e.link octets
     → HasHeard stands s.network e.device (moment_of s e.device world.now) e.link octets result machine heard
     → IsSet e.device.0 heard world.machines machines → IsWithout wire_place (wire_place e) world.wires wires
-    → IsTurn s notes (arrival_body e.device e.link e.cause result ∷ [])
-    (record world { early = false; machines = machines; wires = wires }) new more
-    → StandsAt reading stands s new (notes ++ more) (behind (wire_place e))
+    → TurnsBy reading stands s notes (arrival_body e.device e.link e.cause result ∷ [])
+    (record world { early = false; machines = machines; wires = wires }) (wire_place e)
 
 -- the turn by which the first frame that waits is permanent
 abbrev pub RipenedTurn : {C M : Type 0} → (C → ℕ → ℕ) → (M → Network → DeviceId → Node → Type 0) → Type 0
 RipenedTurn {C} {M} reading stands =
-    (s : Scenario) (world new : World C M) (notes more : List Note) (p : List ℕ) (e : Waiting) (machine ripe : M)
+    (s : Scenario) (world : World C M) (notes : List Note) (p : List ℕ) (e : Waiting) (machine ripe : M)
     (result : Ripe) (machines : List M)
     (waiting : List Waiting)
     (old : StandsAt reading stands s world notes p) → IsIn e world.waiting
@@ -120,17 +152,16 @@ RipenedTurn {C} {M} reading stands =
     → HasRipened stands s.network e.device (moment_of s e.device world.now) e.link e.frame e.point result machine ripe
     → IsSet e.device.0 ripe world.machines machines → IsWithout (ripe_place world.now)
     (ripe_place world.now e) world.waiting waiting
-    → IsTurn s notes (ripe_bodies (length notes + 1) e.device e.link e.cause e.point result)
-    (record world { early = false; machines = machines; waiting = waiting }) new more
-    → StandsAt reading stands s new (notes ++ more) (behind (ripe_place world.now e))
+    → TurnsBy reading stands s notes (ripe_bodies (length notes + 1) e.device e.link e.cause e.point result)
+    (record world { early = false; machines = machines; waiting = waiting }) (ripe_place world.now e)
 
 -- the turn by which a device acts
 abbrev pub ActedTurn : {C M : Type 0} → (C → ℕ → ℕ) → (M → Network → DeviceId → Node → Type 0) → Type 0
 ActedTurn {C} {M} reading stands =
-    (s : Scenario) (world new : World C M) (notes more : List Note) (p : List ℕ) (device : DeviceId) (after : M)
+    (s : Scenario) (world : World C M) (notes : List Note) (p : List ℕ) (device : DeviceId) (after : M)
     (bodies : List NoteBody)
     (machines : List M) (old : StandsAt reading stands s world notes p)
     → (a : Acts reading stands s world notes old.0 device after bodies)
     → IsSet device.0 after world.machines machines
-    → IsTurn s notes bodies (record world { early = false; machines = machines }) new more
-    → StandsAt reading stands s new (notes ++ more) (behind (task_place s.network world.now device (task_of a.act)))
+    → TurnsBy reading stands s notes bodies (record world { early = false; machines = machines })
+    (task_place s.network world.now device (task_of a.act))

@@ -75,7 +75,7 @@ none_above now r more zs of above z i (inr (e, inr (f, b))) = let high = above z
 
 pub acted_turn : {C M : Type 0} (reading : C → ℕ → ℕ) (stands : M → Network → DeviceId → Node → Type 0)
     → ActedTurn reading stands
-acted_turn reading stands s world new notes more p device after bodies machines old a set turn =
+acted_turn reading stands s world notes p device after bodies machines old a set =
     let now = world.now in
     let r = rank_of_act a.act in
     let rest = act_rest s.network device a.act in
@@ -87,4 +87,3 @@ acted_turn reading stands s world new notes more p device after bodies machines 
     (subst (λ q. AreThere s.network (happenings s.network notes) now q bodies) (sym place)
     (act_there s (happenings s.network notes) now device a.was a.adjustment a.act bodies a.are))
     (λ settled put. acted_step reading stands s world notes device after bodies machines settled old.0 a set put)
-    turn

@@ -29,7 +29,7 @@ left_or_none body false there = there
 
 pub left_turn : {C M : Type 0} (reading : C → ℕ → ℕ) (stands : M → Network → DeviceId → Node → Type 0)
     → LeftTurn reading stands
-left_turn reading stands s world new notes more p e ports old i at first without turn =
+left_turn reading stands s world notes p e ports old i at first without =
     let hs = happenings s.network notes in
     let now = world.now in
     let rest = e.device.0 ∷ e.link.0 ∷ e.cause ∷ [] in
@@ -38,7 +38,6 @@ left_turn reading stands s world new notes more p e ports old i at first without
     turn_by old 8 rest place (inr (inr (inl refl))) (record world { ports = ports; early = false }) refl first.after
     (left_or_none (departure_body e is) (is_broken s e.device now) (left_there s.network hs now e (sym place) is))
     (λ settled put. left_step reading stands s world notes e ports settled old.0 i at first without put)
-    turn
 
 -- ---- a frame arrives
 
@@ -55,8 +54,8 @@ heard_there_too network hs now device link cause place (arrivals.Delivered vl cy
 
 pub heard_turn : {C M : Type 0} (reading : C → ℕ → ℕ) (stands : M → Network → DeviceId → Node → Type 0)
     → HeardTurn reading stands
-heard_turn reading stands s world new notes more p e machine heard octets result machines wires old i at first there
-    octets_of may hears set without turn =
+heard_turn reading stands s world notes p e machine heard octets result machines wires old i at first there
+    octets_of may hears set without =
     let rest = e.device.0 ∷ e.link.0 ∷ e.cause ∷ [] in
     let place : wire_place e ≡ world.now ∷ 2 ∷ rest = ap (λ (t : ℕ). t ∷ 2 ∷ rest) at in
     turn_by old 2 rest place (inl refl) (record world { early = false; machines = machines; wires = wires }) refl
@@ -64,7 +63,6 @@ heard_turn reading stands s world new notes more p e machine heard octets result
     (heard_there_too s.network (happenings s.network notes) world.now e.device e.link e.cause (sym place) result)
     (λ settled put. heard_step reading stands s world notes e machine heard octets result machines wires settled old.0 i
     at first there octets_of may hears set without put)
-    turn
 
 -- ---- a frame is permanent
 
@@ -91,8 +89,8 @@ ripe_there network hs now number e frame ripe.Ignored = one_there _ refl (judged
 
 pub ripened_turn : {C M : Type 0} (reading : C → ℕ → ℕ) (stands : M → Network → DeviceId → Node → Type 0)
     → RipenedTurn reading stands
-ripened_turn reading stands s world new notes more p e machine ripe result machines waiting old i reached first there
-    has set without turn =
+ripened_turn reading stands s world notes p e machine ripe result machines waiting old i reached first there
+    has set without =
     let it = old.0.waiting.real e i in
     let frame : frame_from (happenings s.network notes) e.cause ≡ Some e.frame =
     ap (λ (o : Option Happening). Rattle.std.proofs.Common.option_and_then (λ h. h.frame) o) it.there
@@ -102,4 +100,3 @@ ripened_turn reading stands s world new notes more p e machine ripe result machi
     (ripe_there s.network (happenings s.network notes) world.now (length notes + 1) e frame result)
     (λ settled put. ripened_step reading stands s world notes e machine ripe result machines waiting settled old.0 i
     reached first there has set without put)
-    turn

@@ -4,8 +4,8 @@ use Rattle.world_law.proofs.steps_lemmas.Words.{List, Network, NoneBefore, Node,
 use Rattle.world_law.proofs.steps_lemmas.Words.{before_behind, behind, cases_Bool, chain, false, happenings, in_left, in_parts, in_right, inl, inr, is_at_source}
 use Rattle.world_law.proofs.steps_lemmas.Words.{never_self, place_of, rank, refl, second, settled_as, subst, sym, true, ℕ}
 use Rattle.world_law.proofs.{giving.{Given.given_step, GivenParts.{source_kinds, up_to_place}}, runs.Worlds.run_to}
-use Rattle.world_law.specs.steps.Turns.{EarlyAtOne, IsTurn, next_note, starts_there}
-use Rattle.world_law.specs.world.Moves.{StandsAt}
+use Rattle.world_law.specs.steps.Turns.{EarlyAtOne, IsNext, IsTurn, TurnsBy, next_note, starts_there}
+use Rattle.world_law.specs.world.{Moves.StandsAt, World.IsDueAs}
 
 -- ---- one frontier
 
@@ -242,66 +242,122 @@ high_starts {r} bodies (AreThere.first x more own place behind_it) high =
     absurd (omega (arith, same, above))
 high_starts bodies (AreThere.later all late) high = none_starts all late
 
--- where the world with the records to come stands behind the source, it stands there with those that stand at it given
-pub turn_by : {C M : Type 0} {reading : C → ℕ → ℕ} {stands : M → Network → DeviceId → Node → Type 0} {s : Scenario}
-    {world : World C M} {notes : List Note} {p : List ℕ} → StandsAt reading stands s world notes p
-    → (r : ℕ) (rest : List ℕ) {at : List ℕ} → at ≡ world.now ∷ r ∷ rest → IsTurnRank r
-    → {bodies : List NoteBody} (mid : World C M) {new : World C M} {more : List Note} → mid.settled ≡ world.settled
-    → NoneBefore place_of world.settled at → AreThere s.network (happenings s.network notes) mid.now at bodies
-    → ((settled : List Happening) → ArePutIn s.network (happenings s.network notes) mid.now bodies world.settled settled
-    → StandsBehind reading stands s (record mid { settled = settled }) notes (behind at))
-    → IsTurn s notes bodies mid new more → StandsAt reading stands s new (notes ++ more) (behind at)
-turn_by {reading} {stands} {s} {world} {notes} old r rest {at} stood kind mid {new} {more} same none there step
-    (IsTurn.gives body others is own g) =
-    let hs = happenings s.network notes in
-    let z = settled_as s.network hs mid.now body in
-    let it = there_of body others own (subst (λ l. AreThere s.network hs mid.now at l) is there) in
-    let place = it.0 in
-    let put : ArePutIn s.network hs mid.now (body ∷ others) world.settled (z ∷ new.settled) = (
-      z ∷ world.settled,
+-- the first is put in before all that is to come, and the others behind it
+put_first : (network : Network) (hs : List Happening) (now : ℕ) (at : List ℕ) (bodies : List NoteBody) (body : NoteBody)
+    (others : List NoteBody) (old rest : List Happening) → bodies ≡ body ∷ others → is_at_source body ≡ true
+    → NoneBefore place_of old at → AreThere network hs now at bodies → ArePutIn network hs now others old rest
+    → ArePutIn network hs now bodies old (settled_as network hs now body ∷ rest)
+put_first network hs now at bodies body others old rest is own none there put =
+    let z = settled_as network hs now body in
+    let it = there_of body others own (subst (λ l. AreThere network hs now at l) is there) in
+    subst (λ l. ArePutIn network hs now l old (z ∷ rest)) (sym is) (
+      z ∷ old,
       record {
         front = [];
-        back = world.settled;
+        back = old;
         was = refl;
         is = refl;
         before = λ h i. absurd i;
-        none = subst (λ q. NoneBefore place_of world.settled q) (sym place) none;
+        none = subst (λ q. NoneBefore place_of old q) (sym it.0) none;
       },
-      put_behind s.network hs mid.now others z world.settled new.settled
-          (λ other i. subst (λ q. IsBefore q (place_of (settled_as s.network hs mid.now other))) (sym place)
-          (it.1 other i))
-          (subst (λ l. ArePutIn s.network hs mid.now others l new.settled) same g.put),
-    ) in
-    let behind_it = step (z ∷ new.settled) (subst (λ l. ArePutIn s.network hs mid.now l world.settled (z ∷ new.settled))
-    (sym is) put) in
-    let then_ = given_step reading stands s (record mid { settled = z ∷ new.settled }) notes z new.settled new.wires
-    new.ports new.waiting new.stored
-    behind_it.0 refl
-    (λ w source waits b. waits (subst (λ q. IsBefore w q) (sym behind_it.1)
-    (chain w at (behind at) (subst (λ q. IsBefore w q) place b) (before_behind at))))
-    g.wires g.ports g.waiting g.stored in
-    let after : World _ _ = record mid {
-      wires = new.wires;
-      ports = new.ports;
-      waiting = new.waiting;
-      stored = new.stored;
-      settled = new.settled;
-      given = mid.given + 1;
-    } in
-    subst (λ (x : World _ _). StandsAt reading stands s x (notes ++ more) (behind at)) (sym g.same)
-    (subst (λ (l : List Note). StandsAt reading stands s after (notes ++ l) (behind at)) (sym g.note)
-    (subst (λ q. StandsAt reading stands s after (notes ++ next_note notes mid.now body ∷ []) (behind q)) place then_))
-turn_by {reading} {stands} {s} {world} {notes} old r rest {at} stood kind {bodies} mid {new} {more} same none there step
-    (IsTurn.puts not_there g) =
-    let hs = happenings s.network notes in
-    let put = subst (λ l. ArePutIn s.network hs mid.now bodies l new.settled) same g.put in
-    let off : (z : Happening) → IsIn z new.settled → is_at_source z.note.body ≡ false = λ z i.
-    elim (put_is s.network hs mid.now bodies world.settled new.settled put z i) [
-      | inl was ↦ late_at old z was
-      | inr it ↦ ap (λ (h : Happening). is_at_source h.note.body) it.2 ∙ late_of bodies not_there there it.0 it.1
-    ] in
-    let then_ = record mid { settled = new.settled } in
-    subst (λ (x : World _ _). StandsAt reading stands s x (notes ++ more) (behind at)) (sym g.same)
-    (subst (λ (l : List Note). StandsAt reading stands s then_ l (behind at))
-    (sym (ap (λ (l : List Note). notes ++ l) g.none ∙ append-nil notes))
-    (raised_behind world.now r rest stood kind (step new.settled put) off))
+      put_behind network hs now others z old rest
+          (λ other i. subst (λ q. IsBefore q (place_of (settled_as network hs now other))) (sym it.0) (it.1 other i))
+          put,
+    )
+
+module _ {C M : Type 0} (reading : C → ℕ → ℕ) (stands : M → Network → DeviceId → Node → Type 0) (s : Scenario)
+    (world : World C M) (notes : List Note) (p : List ℕ) (old : StandsAt reading stands s world notes p)
+    (r : ℕ) (rest at : List ℕ) (stood : at ≡ world.now ∷ r ∷ rest) (kind : IsTurnRank r) (bodies : List NoteBody)
+    (mid : World C M) (same : mid.settled ≡ world.settled) (none : NoneBefore place_of world.settled at)
+    (there : AreThere s.network (happenings s.network notes) mid.now at bodies)
+    (step : (settled : List Happening)
+    → ArePutIn s.network (happenings s.network notes) mid.now bodies world.settled settled
+    → StandsBehind reading stands s (record mid { settled = settled }) notes (behind at)) where
+  -- with the first record put in before all that is to come, the world stands behind the source
+  with_it : (body : NoteBody) (others : List NoteBody) → bodies ≡ body ∷ others → is_at_source body ≡ true
+      → (after : List Happening)
+      → ArePutIn s.network (happenings s.network notes) mid.now others mid.settled after
+      → StandsBehind reading stands s
+      (record mid { settled = settled_as s.network (happenings s.network notes) mid.now body ∷ after }) notes
+      (behind at)
+  with_it body others is own after put =
+      let hs = happenings s.network notes in
+      step (settled_as s.network hs mid.now body ∷ after)
+      (put_first s.network hs mid.now at bodies body others world.settled after is own none there
+      (subst (λ l. ArePutIn s.network hs mid.now others l after) same put))
+
+  -- so it is the next
+  next_by : (body : NoteBody) (others : List NoteBody) → bodies ≡ body ∷ others → is_at_source body ≡ true
+      → (after : List Happening)
+      → ArePutIn s.network (happenings s.network notes) mid.now others mid.settled after
+      → IsNext reading s notes (record mid { settled = after }) body
+  next_by body others is own after put =
+      let hs = happenings s.network notes in
+      let z = settled_as s.network hs mid.now body in
+      let it = (with_it body others is own after put).0 in
+      record {
+        same = it.same;
+        range = it.range;
+        steady = it.steady;
+        limit = it.limit;
+        given = it.given;
+        clocks = it.clocks;
+        broken = it.broken;
+        ways = it.ways;
+        founded = it.run.founded;
+        due = subst (λ l. IsDueAs s l z) (append-nil hs) (it.are.founded [] after z refl).1;
+      }
+
+  -- and once it is given, or what comes later is put in, the world stands there with one frontier
+  turned : (new : World C M) (more : List Note) → IsTurn s notes bodies mid new more
+      → StandsAt reading stands s new (notes ++ more) (behind at)
+  turned new more (IsTurn.gives body others is own g) =
+      let hs = happenings s.network notes in
+      let z = settled_as s.network hs mid.now body in
+      let place = (there_of body others own (subst (λ l. AreThere s.network hs mid.now at l) is there)).0 in
+      let behind_it = with_it body others is own new.settled g.put in
+      let then_ = given_step reading stands s (record mid { settled = z ∷ new.settled }) notes z new.settled new.wires
+      new.ports new.waiting new.stored
+      behind_it.0 refl
+      (λ w source waits b. waits (subst (λ q. IsBefore w q) (sym behind_it.1)
+      (chain w at (behind at) (subst (λ q. IsBefore w q) place b) (before_behind at))))
+      g.launched.wires g.launched.ports g.launched.waiting g.launched.stored in
+      let after : World _ _ = record mid {
+        wires = new.wires;
+        ports = new.ports;
+        waiting = new.waiting;
+        stored = new.stored;
+        settled = new.settled;
+        given = mid.given + 1;
+      } in
+      subst (λ (x : World _ _). StandsAt reading stands s x (notes ++ more) (behind at)) (sym g.same)
+      (subst (λ (l : List Note). StandsAt reading stands s after (notes ++ l) (behind at)) (sym g.note)
+      (subst (λ q. StandsAt reading stands s after (notes ++ next_note notes mid.now body ∷ []) (behind q)) place then_))
+  turned new more (IsTurn.puts not_there g) =
+      let hs = happenings s.network notes in
+      let put = subst (λ l. ArePutIn s.network hs mid.now bodies l new.settled) same g.put in
+      let off : (z : Happening) → IsIn z new.settled → is_at_source z.note.body ≡ false = λ z i.
+      elim (put_is s.network hs mid.now bodies world.settled new.settled put z i) [
+        | inl was ↦ late_at old z was
+        | inr it ↦ ap (λ (h : Happening). is_at_source h.note.body) it.2 ∙ late_of bodies not_there there it.0 it.1
+      ] in
+      let then_ = record mid { settled = new.settled } in
+      subst (λ (x : World _ _). StandsAt reading stands s x (notes ++ more) (behind at)) (sym g.same)
+      (subst (λ (l : List Note). StandsAt reading stands s then_ l (behind at))
+      (sym (ap (λ (l : List Note). notes ++ l) g.none ∙ append-nil notes))
+      (raised_behind world.now r rest stood kind (step new.settled put) off))
+
+-- where the world with the records to come stands behind the source, it does so by the turn
+pub turn_by : {C M : Type 0} {reading : C → ℕ → ℕ} {stands : M → Network → DeviceId → Node → Type 0} {s : Scenario}
+    {world : World C M} {notes : List Note} {p : List ℕ} → StandsAt reading stands s world notes p
+    → (r : ℕ) (rest : List ℕ) {at : List ℕ} → at ≡ world.now ∷ r ∷ rest → IsTurnRank r
+    → {bodies : List NoteBody} (mid : World C M) → mid.settled ≡ world.settled
+    → NoneBefore place_of world.settled at → AreThere s.network (happenings s.network notes) mid.now at bodies
+    → ((settled : List Happening) → ArePutIn s.network (happenings s.network notes) mid.now bodies world.settled settled
+    → StandsBehind reading stands s (record mid { settled = settled }) notes (behind at))
+    → TurnsBy reading stands s notes bodies mid at
+turn_by {reading} {stands} {s} {world} {notes} {p} old r rest {at} stood kind {bodies} mid same none there step =
+    record {
+      next = next_by reading stands s world notes p old r rest at stood kind bodies mid same none there step;
+      then_stands = turned reading stands s world notes p old r rest at stood kind bodies mid same none there step;
+    }
