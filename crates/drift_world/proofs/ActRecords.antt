@@ -1,10 +1,10 @@
 -- The records of an act are those of the law, and are put in.
-use Rattle.{drift_world.proofs.Rising.InOrder, run_law.specs.{declared.steps.Ripe.Ripe, machines.Nodes.dispatching, timed.Dispatching.HasAtHand}}
+use Rattle.{drift_world.proofs.Words.InOrder, run_law.specs.{declared.steps.Ripe.Ripe, machines.Nodes.dispatching, timed.Dispatching.HasAtHand}}
 use Rattle.{drift_world.proofs.Puts.{is_put_in, order_put}, run_law.specs.machines.Tasks.{IsFirstTask, doing}, world_law.specs.world.World.{AreStored, Stored}}
-use Rattle.drift_world.proofs.Words.{◌++◌, ◌+◌, ◌==◌, ◌∙◌, ◌∷◌, ◌≡◌, ◌≤◌, ArePutIn, Bool, DeviceId, Happening, HasItsOctets, Holding, IsIn, IsSomePut}
+use Rattle.drift_world.proofs.Words.{◌++◌, ◌+◌, ◌==◌, ◌∙◌, ◌∷◌, ◌≡◌, ◌≤◌, ArePutIn, Bool, DeviceId, Happening, HasItsOctets, Holding, IsIn, IsOwn, IsSomePut}
 use Rattle.drift_world.proofs.Words.{Joining, List, Network, Node, None, Off, Option, Scenario, Settled, Some, Units, [], ap, arith, false}
 use Rattle.drift_world.proofs.Words.{if◌then◌else◌, inl, inr, is_cut, length, map, moment_of, octets_from, octets_of}
-use Rattle.drift_world.proofs.Words.{rank, refl, settled_as, settled_at, slice_get_within, stored_as, subst, sym, true, way_from, ℕ}
+use Rattle.drift_world.proofs.Words.{rank, refl, settled_at, slice_get_within, stored_as, subst, sym, true, way_from, ℕ}
 use Rattle.{net_plan.specs.declared.ids.RowId.RowId, run_law.specs.{machines.Answers.IsActOf, records.Frames.tt_frame}, world_law.proofs.rows.AtHand.sender_or}
 use Rattle.{run_law.{specs.declared.steps.Act.Act}, schedule_tables.specs.Entries.IsEntry, world_law.specs.world.Moves.IsPutIn}
 use Rattle.{std.{proofs.lemmas.Bool.ne_eqb, specs.Option.option_map}, world_state.proofs.Made.made_octets}
@@ -19,11 +19,6 @@ use Rattle.run_law.specs.declared.steps.Act.TheVariants as acts
 use Rattle.run_law.specs.declared.steps.Ripe.TheVariants as ripe
 
 -- ---- two records are put in, one after the other
-
--- it is the record of its body
-abbrev pub IsOwn : Network → Network → ℕ → List Happening → Option Settled → Type 0
-IsOwn other network now hs None = Unit {0}
-IsOwn other network now hs (Some z) = settled_at network now z ≡ settled_as other hs now z.body
 
 module _ (other network : Network) (now : ℕ) (hs : List Happening) where
   abbrev all_at : List Settled → List Happening

@@ -1,30 +1,28 @@
 -- A device acts once.
 use Rattle.world_law.proofs.runs.Worlds.{length_is}
-use Rattle.drift_world.proofs.{ActRecords.{AreProper, IsFine, IsOwn, both_put, proper}, OwnPlaces.{put_ahead, some_behind}}
-use Rattle.drift_world.proofs.{AtSource.{each_of}, Foremost.higher, Rising.{settled_in_order}, Parts.{act_place_is, act_rank_is, left_no_sooner, part_most}, Showings.shows_of}
+use Rattle.drift_world.proofs.{ActRecords.{AreProper, IsFine, proper}, AtSource.each_of, Parts.{act_place_is, act_rank_is, left_no_sooner, part_most}, Showings.shows_of}
+use Rattle.drift_world.proofs.Rising.{settled_in_order}
 use Rattle.drift_world.proofs.Sources.{made_of}
-use Rattle.drift_world.specs.{Acting.{AreAbove, IsDueAt, IsIdle, IsLeft, StandsFrom}, Parts.{IsFirstPart, IsNoSoonerLeft, part_place, part_rank}, declared.state.State.State}
+use Rattle.drift_world.specs.{Acting.{AreAbove, IsDueAt, IsIdle, IsLeft}, Parts.{IsFirstPart, IsNoSoonerLeft, part_place, part_rank}, declared.state.State.State}
 use Rattle.drift_world.specs.declared.part.{Part.Part, ToDo.{ToDo, TheVariants.{Next, Now}}}
 use Rattle.{drift_world.proofs.Fits.{all_put_some, have_octets}, world_state.specs.declared.outcomes.Outcomes.Outcomes}
 use Rattle.{run_law.specs.{declared.steps.Act.Act, machines.{Answers.IsActOf, Calls.MayAct}}, std.specs.List.slice_get}
-use Rattle.drift_world.proofs.Words.{◌+◌, ◌<◌, ◌≡◌, ◌≤◌, ArePutIn, ComesFirst, DeviceId, Happening, HasActed, IsAt, IsBefore, IsHeld, IsIn, IsOf, IsSomePut}
+use Rattle.drift_world.proofs.Words.{◌+◌, ◌<◌, ◌≡◌, ◌≤◌, ComesFirst, DeviceId, Happening, HasActed, IsAt, IsBefore, IsHeld, IsIn, IsOf, IsOwn, IsSomePut}
 use Rattle.drift_world.proofs.Words.{◌∙◌, ◌∷◌, IfSome, Kept, List, Moment, Network, Node, None, Note, Option, Scenario, Settled, Some, Stands, StandsFor, Units, [], ap, arith}
 use Rattle.drift_world.proofs.Words.{chain, false, happenings, inl, inr, keeps, length, map, moment_of, pos, rank, refl, same_Some}
-use Rattle.drift_world.proofs.Words.{◌++◌, Bool, NoteBody, StandsAt, World, append-nil, if◌then◌else◌, is_cut, option_map_or, own_place, way_from}
+use Rattle.drift_world.proofs.Words.{◌++◌, NoteBody, TurnsIn}
 use Rattle.drift_world.proofs.Words.{settled_at, slice_get_within, stored_as, subst, sym, true, world_of, ℕ}
-use Rattle.run_law.{proofs.runs.Places.before_behind, specs.records.{Order.behind, Ranks.key}}
+use Rattle.run_law.{proofs.runs.Places.before_behind, specs.records.Order.behind}
 use Rattle.world_law.proofs.{rows.Dispatching.lawful, steps_lemmas.growing.FromZero.kept_from_zero}
 use Rattle.world_law.specs.world.{Calls.{IsSet, IsStateOf}, World.{AreStored, IsKept}}
-use Rattle.{std.specs.Prelude.All, world_law.specs.{source.Sources.task_place, steps.Acting.{Acts, AreActBodies, place_of_act, rank_of_act, task_of}}}
+use Rattle.{std.specs.Prelude.All, world_law.specs.{source.Sources.task_place, steps.Acting.{Acts, place_of_act, rank_of_act, task_of}}}
 use Rattle.{sync_state.specs.declared.state.State.{State as Standing}, world_state.specs.Acting.{AreOutcomes, HasItsRow, bodies_of, body_of}}
-use Rattle.world_law.proofs.steps_lemmas.acting.{ActedSteps.acted_step, First.{act_more, act_rest, act_stands}, Kept.may_act_now}
+use Rattle.world_law.proofs.steps_lemmas.acting.{First.{act_more, act_rest, act_stands}, Kept.may_act_now}
 use Rattle.world_law.proofs.steps_lemmas.{acting.Stage.{StageAt, stage_of}, steps.Passed.no_task}
 use Rattle.world_law.proofs.steps_lemmas.turns.ActTurns.{act_starts_late, acted_turn}
-use Rattle.world_law.specs.steps.Turns.{IsTurn}
+use Rattle.world_law.specs.steps.Turns.{starts_there}
 use Rattle.world_law.specs.device.Left.{HasTaskBy}
-use Rattle.run_law.specs.declared.note.NoteBody.TheVariants as kinds
 use Rattle.run_law.specs.declared.steps.Act.TheVariants as acts
-use Rattle.sync_state.specs.declared.answers.Verdict.TheVariants as verdicts
 
 -- a place behind another of one device is not before where its part begins
 not_before_own : (now r d : ℕ) (more : List ℕ) → IsBefore (now ∷ r ∷ d ∷ more) (now ∷ r ∷ d ∷ []) → ⊥
@@ -46,41 +44,6 @@ first_high None (Some z) late fine body others e =
     let high = fine.1 in
     subst (λ b. 6 < rank b) same (omega (arith, high))
 first_high None None late fine body others e = absurd (let bad : [] ≡ body ∷ others = e in cc)
-
--- a record of a frame of the schedule is of a higher rank
-row_high : (cut : Bool) (body lost sent : NoteBody) → 6 < rank lost → 6 < rank sent → rank body ≤ 6
-    → body ≡ (if cut then lost else sent) → ⊥
-row_high true body lost sent high also low is = let same : rank body ≡ rank lost = ap rank is in omega
-    (arith, same, high, low)
-row_high false body lost sent high also low is = let same : rank body ≡ rank sent = ap rank is in omega
-    (arith, same, also, low)
-
--- the first record of an act is of the rank of its source, or of a higher one than any act
-own_rank : (s : Scenario) (hs : List Happening) (now : ℕ) (device : DeviceId) (was : Standing) (adjustment : Units)
-    (act : Act) (body : NoteBody)
-    (others : List NoteBody) → AreActBodies s hs now device was adjustment act (body ∷ others) → rank body ≤ 6
-    → rank body ≡ rank_of_act act
-own_rank s hs now device was adjustment (acts.Send frame) body others are low = ap rank (head_is body _ others _ are)
-own_rank s hs now device was adjustment (acts.Emit sent heard) body others are low = ap rank
-    (head_is body _ others _ are)
-own_rank s hs now device was adjustment (acts.Correct cycle (verdicts.Corrected by)) body others are low =
-    ap rank (head_is body _ others _ are)
-own_rank s hs now device was adjustment (acts.Correct cycle verdicts.SyncClique) body others are low =
-    let same : rank body ≡ 7 = ap rank (head_is body _ others _ are) in absurd (omega (arith, same, low))
-own_rank s hs now device was adjustment (acts.Correct cycle verdicts.AsyncClique) body others are low =
-    let same : rank body ≡ 7 = ap rank (head_is body _ others _ are) in absurd (omega (arith, same, low))
-own_rank s hs now device was adjustment (acts.Correct cycle verdicts.Cleared) body others are low =
-    absurd (let bad : body ∷ others ≡ [] = are in cc)
-own_rank s hs now device was adjustment (acts.Dispatch row cycle) body others are low =
-    absurd (row_high (is_cut s are.0.row.link (way_from s.network device are.0.row.link) now) body
-    (kinds.Lost device are.0.row.link are.1) (kinds.TtSent device are.0.row.link are.1 are.0.row.vl cycle)
-    (omega arith) (omega arith) low (head_is body _ others _ are.4))
-
--- a second record stands behind it
-fine_behind : (own : Settled) (second : Option Settled) → rank own.body ≤ 6 → IsFine 7 second
-    → IfSome second (λ z. IsBefore (own_place own) (own_place z))
-fine_behind own None low fine = tt
-fine_behind own (Some z) low fine = let high = fine.1 in inl (omega (arith, low, high))
 
 -- what an act dispatches is a row of the network
 pub its_row : (network : Network) (device : DeviceId) (node : Node) (moment : Moment) (act : Act) (new : Node) → IsActOf network device node moment act new
@@ -248,34 +211,6 @@ module _ {C M : Type 0} (reading : C → ℕ → ℕ) (stands : M → Network �
       let high : 6 < rank z.body = subst (λ (o : Option Settled). IfSome o (λ x. 6 < rank x.body)) e late in
       omega (arith, high, most)) above)
 
-  -- else it is put in before them all, and the second behind it
-  pub own_first : (s : Scenario) (notes : List Note) (old : Old s notes) (act : Act) (after : Kept M) (was : Standing)
-      (adjustment : Units)
-      (outcomes : Outcomes) (own : Settled) (rest : List Settled)
-      → HasActed (keeps stands) s.network device (moment_of s device state.time) act machine after
-      → AreProper s (happenings s.network notes) state.time device was adjustment act outcomes
-      → outcomes.first ≡ Some own → rank own.body ≤ 6 → IsSomePut outcomes.second state.settled.items rest
-      → IsSomePut outcomes.first state.settled.items (own ∷ state.settled.items)
-      × IsSomePut outcomes.second (own ∷ state.settled.items) (own ∷ rest)
-  own_first s notes old act after was adjustment outcomes own rest acted proper is low put =
-      let at = own_rank s (happenings s.network notes) state.time device was adjustment act own.body
-      (body_of outcomes.second)
-      (subst (λ o. AreActBodies s (happenings s.network notes) state.time device was adjustment act
-      (body_of o ++ body_of outcomes.second)) is
-      proper.bodies) low in
-      let of = of_rank s notes old act after acted in (
-        subst (λ o. IsSomePut o state.settled.items (own ∷ state.settled.items)) (sym is) (
-          0,
-          put_ahead own state.settled.items (λ d i before.
-              let high = each_of (λ (x : Settled). part_rank part < rank x.body) state.settled.items d above i in
-              higher (rank d.body) (rank own.body) (key (option_map_or (λ frame. frame.members.0) d.frame 0) d.body)
-              (key (option_map_or (λ frame. frame.members.0) own.frame 0) own.body)
-              (omega (arith, high, at, of)) before),
-        ),
-        some_behind own outcomes.second state.settled.items rest
-            (fine_behind own outcomes.second low proper.second_fine) put,
-      )
-
   -- what the device has to do then is of no earlier part
   no_sooner_then : (s : Scenario) (notes : List Note) (old : Old s notes) (act : Act) (after : Kept M) (new : Node)
       → HasActed (keeps stands) s.network device (moment_of s device state.time) act machine after
@@ -298,22 +233,22 @@ module _ {C M : Type 0} (reading : C → ℕ → ℕ) (stands : M → Network �
       let new = acted_at at.s at.notes at.is act after (acted at.s at.notes at.is) in
       no_sooner_then at.s at.notes at.is act after new.0 (acted at.s at.notes at.is) new.1 left (is at.s at.notes at.is new.0 new.2)
 
-  -- the world stands again, and where none of its records stands where it is done, there is one frontier
-  pub acted_once : (after : Kept M) (was is : Standing) (before adjustment : Units) (act : Act) (outcomes : Outcomes) (mid new : List Settled)
-      (machines : List (Kept M)) → IsSet device.0 after state.machines.items machines
-      → IsSomePut outcomes.first state.settled.items mid → IsSomePut outcomes.second mid new → (s : Scenario) (notes : List Note) (old : Old s notes)
+  -- the act is worked off, and these are its records
+  pub acted_turns : (after : Kept M) (was is : Standing) (before adjustment : Units) (act : Act) (outcomes : Outcomes)
+      (machines : List (Kept M)) → IsSet device.0 after state.machines.items machines → (s : Scenario) (notes : List Note)
+      (old : Old s notes) → old.mark ≡ old.cursor
       → First_ s notes old → HasActed (keeps stands) s.network device (moment_of s device state.time) act machine after
       → IsStateOf (keeps stands) s.network device machine was before → IsStateOf (keeps stands) s.network device after is adjustment
       → AreOutcomes s state.stored.items state.time (state.given + 1) device was adjustment act outcomes
-      → Stands reading (keeps stands) s
-      (record (world_of network state) { early = false; machines = machines; settled = map (settled_at network state.time) new }) notes
-      × (old.mark ≡ old.cursor → IfSome outcomes.first (λ z. 6 < rank z.body) → StandsFrom reading stands s
-      (record (world_of network state) { early = false; machines = machines; settled = map (settled_at network state.time) new }) notes
-      (part_place part state.time device))
-  acted_once after was is before adjustment act outcomes mid new machines set one two s notes old first acted stood stands_then are =
-      let gone = acted_step reading (keeps stands) s (world_of network state) notes device after (bodies_of outcomes) machines
-      (map (settled_at network state.time) new) old acts_are set puts in
-      (gone.0, λ one late. from_there one late)
+      → TurnsIn reading stands network s notes (record (world_of network state) { early = false; machines = machines })
+      (task_place s.network state.time device (task_of act)) outcomes.first outcomes.second
+  acted_turns after was is before adjustment act outcomes machines set s notes old one first acted stood stands_then are = record {
+    order = settled_in_order old;
+    first_is = subst (λ n. IsOwn s.network n state.time (happenings s.network notes) outcomes.first) (sym old.same) own.first;
+    second_is = subst (λ n. IsOwn s.network n state.time (happenings s.network notes) outcomes.second) (sym old.same) own.second;
+    by = acted_turn reading (keeps stands) s (world_of network state) notes old.cursor device after (bodies_of outcomes) machines
+        (old, one, refl) acts_are set;
+  }
     where
       own : AreProper s (happenings s.network notes) state.time device was adjustment act outcomes
       own = proper_at s notes old first act after was adjustment outcomes acted are
@@ -337,49 +272,24 @@ module _ {C M : Type 0} (reading : C → ℕ → ℕ) (stands : M → Network �
         are = own.bodies;
       }
 
-      puts : ArePutIn s.network (happenings s.network notes) state.time (bodies_of outcomes) (map (settled_at network state.time) state.settled.items)
-          (map (settled_at network state.time) new)
-      puts =
-          both_put s.network network state.time (happenings s.network notes) outcomes.first outcomes.second state.settled.items mid new one two
-          (settled_in_order old)
-          (subst (λ n. IsOwn s.network n state.time (happenings s.network notes) outcomes.first) (sym old.same) own.first)
-          (subst (λ n. IsOwn s.network n state.time (happenings s.network notes) outcomes.second) (sym old.same) own.second)
+  -- where the first of its records is of a higher rank than any act, none of them stands where it is done
+  pub acts_late : (s : Scenario) (hs : List Happening) (was : Standing) (adjustment : Units) (act : Act) (outcomes : Outcomes)
+      → AreProper s hs state.time device was adjustment act outcomes → IfSome outcomes.first (λ z. 6 < rank z.body)
+      → starts_there (bodies_of outcomes) ≡ false
+  acts_late s hs was adjustment act outcomes own late =
+      act_starts_late s hs state.time device was adjustment act (bodies_of outcomes) own.bodies
+      (first_high outcomes.first outcomes.second late own.second_fine)
 
-      place : List ℕ
-      place = task_place s.network state.time device (task_of act)
-
-      ahead : (cursor : List ℕ) → cursor ≡ behind place → IsBefore cursor (part_place part state.time device) → ⊥
-      ahead cursor at b =
-          not_before_own state.time (rank_of_act act) device.0 (act_more s.network act)
-          (chain (state.time ∷ rank_of_act act ∷ device.0 ∷ act_more s.network act) (behind place)
-          (place_of_act state.time device act)
-          (subst (λ q. IsBefore q (behind place)) (act_stands s.network state.time device act) (before_behind place))
-          (subst (λ q. IsBefore (behind place) q) (sym (of_part s notes old act after acted))
-          (subst (λ q. IsBefore q (part_place part state.time device)) at b)))
-
-      then_ : World C (Kept M)
-      then_ = record (world_of network state) {
-        early = false;
-        machines = machines;
-        settled = map (settled_at network state.time) new;
-      }
-
-      -- none of its records stands where it is done
-      turn : IfSome outcomes.first (λ z. 6 < rank z.body)
-          → IsTurn s notes (bodies_of outcomes)
-          (record (world_of network state) { early = false; machines = machines }) then_ []
-      turn late =
-          IsTurn.puts
-          (act_starts_late s (happenings s.network notes) state.time device was adjustment act
-          (bodies_of outcomes) own.bodies
-          (first_high outcomes.first outcomes.second late own.second_fine))
-          (record { none = refl; put = puts; same = refl })
-
-      from_there : old.mark ≡ old.cursor → IfSome outcomes.first (λ z. 6 < rank z.body)
-          → StandsFrom reading stands s then_ notes (part_place part state.time device)
-      from_there one late =
-          let it = acted_turn reading (keeps stands) s (world_of network state) then_ notes [] old.cursor device after
-          (bodies_of outcomes) machines
-          (old, one, refl) acts_are set (turn late) in
-          let here = subst (λ l. StandsAt reading (keeps stands) s then_ l (behind place)) (append-nil notes) it in
-          (here.0, here.1 ∙ sym here.2, ahead here.0.cursor here.2)
+  -- what is behind the act is not before where its part begins
+  pub behind_part : (s : Scenario) (notes : List Note) (old : Old s notes) (act : Act) (after : Kept M)
+      → HasActed (keeps stands) s.network device (moment_of s device state.time) act machine after → (cursor : List ℕ)
+      → cursor ≡ behind (task_place s.network state.time device (task_of act))
+      → IsBefore cursor (part_place part state.time device) → ⊥
+  behind_part s notes old act after acted cursor at b =
+      let place = task_place s.network state.time device (task_of act) in
+      not_before_own state.time (rank_of_act act) device.0 (act_more s.network act)
+      (chain (state.time ∷ rank_of_act act ∷ device.0 ∷ act_more s.network act) (behind place)
+      (place_of_act state.time device act)
+      (subst (λ q. IsBefore q (behind place)) (act_stands s.network state.time device act) (before_behind place))
+      (subst (λ q. IsBefore (behind place) q) (sym (of_part s notes old act after acted))
+      (subst (λ q. IsBefore q (part_place part state.time device)) at b)))

@@ -1,6 +1,7 @@
 -- A world stands also where its lists have what they had in another order.
-use Rattle.drift_world.proofs.Words.{◌↔◌, ◌∙◌, ◌≡◌, AtPort, DeviceId, IsIn, List, Network, Node, Note, OnWire, Scenario, Stands, StandsAt, StandsBehind}
-use Rattle.drift_world.proofs.Words.{World, refl, ℕ}
+use Rattle.drift_world.proofs.Words.{◌++◌, ◌↔◌, ◌∙◌, ◌≡◌, AtPort, DeviceId, Happening, IsIn, List, Network, Node, Note, NoteBody, OnWire}
+use Rattle.drift_world.proofs.Words.{Scenario, Stands, StandsAt, World, behind, inl, inr, refl, subst, sym, ℕ}
+use Rattle.world_law.specs.{steps.Turns.{IsTurn, TurnsBy}, world.Moves.{AreGiven, ArePut}}
 
 module _ {C M : Type 0} (reading : C → ℕ → ℕ) (stands : M → Network → DeviceId → Node → Type 0) (s : Scenario)
     (world : World C M) (notes : List Note) where
@@ -56,18 +57,6 @@ module _ {C M : Type 0} (reading : C → ℕ → ℕ) (stands : M → Network �
     refl,
   )
 
-  pub with_wires : (wires : List OnWire) (p : List ℕ) → ((e : OnWire) → IsIn e wires ↔ IsIn e world.wires)
-      → StandsBehind reading stands s world notes p → StandsBehind reading stands s
-      (record world { wires = wires }) notes p
-  with_wires wires p on behind =
-      let new = with_lists wires world.ports on (λ e. (λ i. i, λ i. i)) behind.0 in (new.0, new.2 ∙ behind.1)
-
-  pub with_ports : (ports : List AtPort) (p : List ℕ) → ((e : AtPort) → IsIn e ports ↔ IsIn e world.ports)
-      → StandsBehind reading stands s world notes p → StandsBehind reading stands s
-      (record world { ports = ports }) notes p
-  with_ports ports p at behind =
-      let new = with_lists world.wires ports (λ e. (λ i. i, λ i. i)) at behind.0 in (new.0, new.2 ∙ behind.1)
-
   -- and so where there is one frontier
   pub ports_at : (ports : List AtPort) (p : List ℕ) → ((e : AtPort) → IsIn e ports ↔ IsIn e world.ports)
       → StandsAt reading stands s world notes p → StandsAt reading stands s
@@ -75,3 +64,71 @@ module _ {C M : Type 0} (reading : C → ℕ → ℕ) (stands : M → Network �
   ports_at ports p at one =
       let new = with_lists world.wires ports (λ e. (λ i. i, λ i. i)) at one.0 in
       (new.0, new.1 ∙ one.1, new.2 ∙ one.2)
+
+-- so does a turn from such a world
+module _ {C M : Type 0} (reading : C → ℕ → ℕ) (stands : M → Network → DeviceId → Node → Type 0) (s : Scenario)
+    (notes : List Note) (mid : World C M) (wires : List OnWire) (ports : List AtPort)
+    (on : (e : OnWire) → IsIn e wires ↔ IsIn e mid.wires) (at : (e : AtPort) → IsIn e ports ↔ IsIn e mid.ports) where
+  put_alike : {x : Happening} {number : ℕ} {new : List OnWire} → ArePut s x number wires new
+      → ArePut s x number mid.wires new
+  put_alike put = record {
+    real = λ e there. elim (put.real e there) [
+      | inl was ↦ inl ((on e).0 was)
+      | inr more ↦ inr more
+    ];
+    kept = λ e there. put.kept e ((on e).1 there);
+    all = put.all;
+  }
+
+  given_alike : {x : Happening} {number : ℕ} {new : List AtPort} → AreGiven s x number ports new
+      → AreGiven s x number mid.ports new
+  given_alike given = record {
+    real = λ e there. elim (given.real e there) [
+      | inl was ↦ inl ((at e).0 was)
+      | inr more ↦ inr more
+    ];
+    kept = λ e there. given.kept e ((at e).1 there);
+    all = given.all;
+  }
+
+  pub turns_alike : {bodies : List NoteBody} {place : List ℕ} → TurnsBy reading stands s notes bodies mid place
+      → TurnsBy reading stands s notes bodies (record mid { wires = wires; ports = ports }) place
+  turns_alike {bodies} {place} turn = record {
+    next = λ body others is source rest put.
+        let n = turn.next body others is source rest put in
+        record {
+          same = n.same;
+          range = n.range;
+          steady = n.steady;
+          limit = n.limit;
+          given = n.given;
+          clocks = n.clocks;
+          broken = n.broken;
+          ways = n.ways;
+          founded = n.founded;
+          due = n.due;
+        };
+    then_stands = turned;
+  }
+    where
+      turned : (new : World C M) (more : List Note)
+          → IsTurn s notes bodies (record mid { wires = wires; ports = ports }) new more
+          → StandsAt reading stands s new (notes ++ more) (behind place)
+      turned new more (IsTurn.gives body others is source g) =
+          turn.then_stands new more (IsTurn.gives body others is source (record {
+            note = g.note;
+            launched = record {
+              wires = put_alike g.launched.wires;
+              ports = given_alike g.launched.ports;
+              waiting = g.launched.waiting;
+              stored = g.launched.stored;
+            };
+            put = g.put;
+            same = g.same;
+          }))
+      turned new more (IsTurn.puts late g) =
+          let base : World C M = record mid { settled = new.settled } in
+          let it = turn.then_stands base more (IsTurn.puts late (record { none = g.none; put = g.put; same = refl })) in
+          let so = with_lists reading stands s base (notes ++ more) wires ports on at it.0 in
+          subst (λ (w : World C M). StandsAt reading stands s w (notes ++ more) (behind place)) (sym g.same)
+          (so.0, so.1 ∙ it.1, so.2 ∙ it.2)

@@ -1,13 +1,12 @@
 -- Records that stand where their sources do.
-use Rattle.{drift_world.proofs.{Rising.{InOrder, settled_in_order}, Parts.{part_least, part_most}}, run_law.proofs.records.Order.all_of}
-use Rattle.drift_world.proofs.Words.{◌<◌, ◌∷◌, ◌≡◌, ◌≤◌, ◌⊎◌, DeviceId, IsIn, List, Network, NoSourceBefore, Node, Note, NoteBody, Scenario, Settled, []}
-use Rattle.drift_world.proofs.Words.{Stands, arith, cases_lt, chain, happenings, inl, inr, is_mapped, keeps, map, place_of, rank, refl, settled_at, subst, sym}
+use Rattle.{drift_world.proofs.{Rising.settled_in_order, Words.InOrder, Parts.{part_least, part_most}}, run_law.proofs.records.Order.all_of}
+use Rattle.drift_world.proofs.Words.{◌<◌, ◌∷◌, ◌≡◌, ◌≤◌, ◌⊎◌, DeviceId, IsIn, List, Network, Node, Note, NoteBody, Scenario, Settled, []}
+use Rattle.drift_world.proofs.Words.{Stands, arith, cases_lt, inl, inr, is_mapped, keeps, map, rank, refl, settled_at, subst, sym}
 use Rattle.{drift_world.proofs.Words.{suc, true, world_of, zero, ℕ}, std.proofs.Common.All}
 use Rattle.drift_world.specs.{Acting.AreAbove, Turns.source_rank, declared.{source.Source.Source, state.State.State}}
 use Rattle.drift_world.specs.declared.source.Source.TheVariants.{Act, Arrival, Clock, Departure, Events, Later, Ripening}
-use Rattle.drift_world.proofs.Words.{◌∙◌, Happening, StandsAt, StandsBehind, StandsOne, World, behind, false}
-use Rattle.drift_world.proofs.Sources.{made_of}
-use Rattle.world_law.proofs.steps_lemmas.turns.Turns.{IsTurnRank, late_at, raised_behind}
+use Rattle.drift_world.proofs.Words.{◌∙◌, StandsAt, StandsOne, World, false}
+use Rattle.world_law.proofs.steps_lemmas.turns.Turns.{late_at}
 use Rattle.world_law.specs.world.World.{is_at_source}
 use Rattle.run_law.specs.declared.note.NoteBody.TheVariants as kinds
 
@@ -46,6 +45,10 @@ at_rank (kinds.Delivered device link cause vl cycle) r = absurd (none 12 (omega 
 at_rank (kinds.Dropped device link cause reason) r = absurd (none 13 (omega arith) (omega arith) r.either)
 at_rank other r = refl
 
+-- so does one of the rank of a source
+pub source_at : (source : Source) (body : NoteBody) → rank body ≡ source_rank source → is_at_source body ≡ true
+source_at source body same = at_rank body (subst IsSourceRank (sym same) (ranks source))
+
 pub rank_most : (body : NoteBody) → rank body ≤ 14
 rank_most (kinds.Event line what) = omega arith
 rank_most other = omega arith
@@ -77,43 +80,8 @@ pub one_of : {C M : Type 0} {reading : C → ℕ → ℕ} {stands : M → Networ
     → StandsOne reading stands s world notes
 one_of at = (at.0, at.1 ∙ sym at.2)
 
--- a record that stands where no source does
-abbrev pub IsLate : Settled → Type 0
-IsLate z = is_at_source z.body ≡ false
+-- ---- where the first of what is settled is of a higher rank, all is
 
--- all that is settled does
-pub all_late : {C M : Type 0} (reading : C → ℕ → ℕ) (stands : M → Network → DeviceId → Node → Type 0)
-    (network : Network) (state : State C M) {s : Scenario} {notes : List Note}
-    → StandsOne reading (keeps stands) s (world_of network state) notes → All IsLate state.settled.items
-all_late reading stands network state {s} {notes} old =
-    let at : StandsAt reading (keeps stands) s (world_of network state) notes old.0.cursor = (old.0, old.1, refl) in
-    all_of IsLate state.settled.items (λ z i. late_at at (settled_at network state.time z)
-    (is_mapped (settled_at network state.time) state.settled.items z i))
-
--- where a source is worked off, and all that is settled then stands where none does, there is one frontier
-pub one_behind : {C M : Type 0} (reading : C → ℕ → ℕ) (stands : M → Network → DeviceId → Node → Type 0)
-    (network : Network) (state : State C M) {s : Scenario} {notes : List Note} (now r : ℕ) (rest : List ℕ) {p : List ℕ}
-    → p ≡ now ∷ r ∷ rest → IsTurnRank r → All IsLate state.settled.items
-    → StandsBehind reading (keeps stands) s (world_of network state) notes (behind p)
-    → StandsOne reading (keeps stands) s (world_of network state) notes
-one_behind reading stands network state now r rest {p} stood kind late behind_it =
-    one_of (raised_behind now r rest stood kind behind_it (λ h i.
-    let made = made_of (settled_at network state.time) state.settled.items h i in
-    subst (λ (g : Happening). is_at_source g.note.body ≡ false) made.2
-    (each_of IsLate state.settled.items made.0 late made.1)))
-
--- ---- it may be given
-
--- its source is worked off, so no other stands before it that is not
-pub own_gives : {C M : Type 0} {reading : C → ℕ → ℕ} {stands : M → Network → DeviceId → Node → Type 0} {s : Scenario}
-    {world : World C M} {notes : List Note} (z : Happening) (rest : List Happening) → world.settled ≡ z ∷ rest
-    → is_at_source z.note.body ≡ true → (old : Stands reading stands s world notes)
-    → NoSourceBefore s (happenings s.network notes) old.cursor (place_of z)
-own_gives z rest whole source old =
-    let before = old.are.worked z (subst (λ (l : List Happening). IsIn z l) (sym whole) (inl refl)) source in
-    λ w of_w not_yet b. not_yet (chain w (place_of z) old.cursor b before)
-
--- where the first of what is settled is of a higher rank, all is
 each_above : (network : Network) (now low : ℕ) (settled : List Settled) → InOrder (map (settled_at network now) settled)
     → ((z : Settled) (others : List Settled) → settled ≡ z ∷ others → low < rank z.body) → (y : Settled) → IsIn y settled → low < rank y.body
 each_above network now low [] order first y i = absurd i

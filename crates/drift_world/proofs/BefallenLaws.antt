@@ -1,7 +1,7 @@
 -- What comes of the events of an instant is settled, as its law asks for it.
 use Rattle.{drift_world.proofs.Alike.ports_at, std.specs.List.filter_map, world_law.proofs.runs.Worlds.length_is}
 use Rattle.{drift_world.{proofs.Fits.{all_put_some, have_octets}, specs.declared.state.State.State}, run_law.proofs.law.FirstPlaces.numbered_within}
-use Rattle.{drift_world.proofs.Rising.InOrder, run_law.specs.records.Causes.IsOfThisTime, world_state.specs.declared.queue.Entry.Entry}
+use Rattle.{drift_world.proofs.Words.InOrder, run_law.specs.records.Causes.IsOfThisTime, world_state.specs.declared.queue.Entry.Entry}
 use Rattle.{drift_world.proofs.Puts.{is_put_in, one_put_in, order_put, some_put_in}, world_law.specs.steps.Befalling.{ArePutBy, befell_bodies, bodies_of}}
 use Rattle.drift_world.proofs.Words.{◌+◌, ◌<◌, ◌↔◌, ◌∙◌, ◌∷◌, ◌≡◌, ◌⊎◌, ArePutIn, AreUnderWay, AreWays, Befallen, Bool, Content, DeviceId, Happening}
 use Rattle.drift_world.proofs.Words.{Integrating, IsIn, IsPermutation-sym, IsPutOn, IsSomePut, Kept, Link, LinkId, List, Network, Node, None, Note, OnWire}

@@ -1,5 +1,5 @@
 -- Once a record is given the state is sound again.
-use Rattle.drift_world.{proofs.{Fitting.{apart_more, below_one_more}, Words.{way_from, wire_entry, with_first, world_of, ℕ}}, specs.declared.state.State.State}
+use Rattle.drift_world.{proofs.{Fitting.{apart_more, below_one_more}, Words.{Kept, World, way_from, wire_entry, world_of, ℕ}}, specs.declared.state.State.State}
 use Rattle.{drift_world.proofs.Sendings.link_within, world_state.{proofs.UnderWays.sound_with, specs.{Frames.IsOneMore, declared.queue.Entry.Entry}}}
 use Rattle.drift_world.proofs.Words.{◌+◌, ◌<◌, ◌↔◌, ◌∙◌, ◌∷◌, ◌≡◌, ◌⊎◌, Accepted, AreApart, AreUnderWay, Arrived, Bool, Changed, ChangesOnly, Compressed}
 use Rattle.drift_world.proofs.Words.{Content, Delivered, DeviceId, Dropped, DueAt, Giving, IfSome, IsGivenOut, IsIn, IsInRange, IsPermutation}
@@ -187,12 +187,18 @@ module _ (body : NoteBody) (number : ℕ) (old new : List Waits) where
 
 -- ---- another state with the same
 
+-- the world in which this record is before all that is settled
+abbrev pub with_first : {C M : Type 0} → Network → State C M → Settled → World C (Kept M)
+with_first network state first = record (world_of network state) {
+  settled = settled_at network state.time first ∷ map (settled_at network state.time) state.settled.items;
+}
+
 -- the world of a state whose first settled record is taken out
 pub popped_world : {C M : Type 0} (network : Network) (old new : State C M) (first : Settled)
     → new.under_way.entries ≡ old.under_way.entries → new.waiting.items ≡ old.waiting.items → new.stored.items ≡ old.stored.items
     → old.settled.items ≡ first ∷ new.settled.items
     → new ≡ record old { under_way = new.under_way; waiting = new.waiting; stored = new.stored; settled = new.settled }
-    → with_first network new first new.settled.items ≡ world_of network old
+    → with_first network new first ≡ world_of network old
 popped_world {C} {M} network old new first entries waiting stored settled same =
     grind (arith, world_of, on_wire, at_port, map, waiting_as, stored_as, settled_at, with_first)
 

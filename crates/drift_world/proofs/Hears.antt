@@ -1,18 +1,19 @@
 -- What is on a wire arrives: its device may hear it, and the world stands again.
 use Rattle.drift_world.proofs.Words.{if◌then◌else◌, ◌==◌, ◌∙◌, ◌∷◌, ◌≡◌, AreUnderWay, Bool, ComesFirst, Content, DeviceId, Err, Happening, IsBefore, IsHeld}
-use Rattle.drift_world.proofs.Words.{IsIn, IsPermutation, IsPermutation-sym, IsPutAt, Kept, LinkId, List, Moment, Network, Node, Note, Ok, OnWire, Pcf}
-use Rattle.drift_world.proofs.Words.{DueAt, Result, Scenario, Settled, Signal, Some, Stands, StandsBehind, StandsFor, Units, Wire, World, [], amount, ap, arith}
-use Rattle.drift_world.proofs.Words.{at_port, behind, control, false, field, frame_by, frame_from, happenings, in_permuted, inl, inr, is_given, map, moment_of}
+use Rattle.drift_world.proofs.Words.{IsIn, IsPermutation, IsPermutation-sym, Kept, LinkId, List, Moment, Network, Node, Note, Ok, OnWire, Pcf}
+use Rattle.drift_world.proofs.Words.{DueAt, Result, Scenario, Signal, Some, Stands, StandsFor, Units, Wire, World, [], amount, ap, arith}
+use Rattle.drift_world.proofs.Words.{at_port, control, false, field, frame_by, frame_from, happenings, in_permuted, inl, inr, is_given, map, moment_of}
 use Rattle.drift_world.proofs.Words.{numbers_of, octets_by, octets_from, octets_in, octets_of, on_wire, pos, refl, settled_as, settled_at, signal_as, signal_of}
 use Rattle.drift_world.proofs.Words.{subst, sym, timed, true, units_of, wire_place, with_clock, world_of, ℕ}
-use Rattle.drift_world.proofs.{Alike.with_ports, Arrivals.{control_so, on_arrival, timed_so}, Fits.have_octets, Rising.settled_in_order, Puts.one_put_in}
+use Rattle.drift_world.proofs.{Alike.turns_alike, Arrivals.{control_so, on_arrival, timed_so}, Fits.have_octets}
 use Rattle.drift_world.{proofs.Signals.{frame_told, octets_told, plain_on_wire}, specs.declared.state.State.State}
 use Rattle.std.{proofs.Common.{option_map, set, slice_get}, specs.List.filter_map}
 use Rattle.pcf_codec.specs.{Decoding.decoded, EtherType.pcf_type, declared.refusal.PcfRefusal.PcfRefusal}
 use Rattle.run_law.{proofs.runs.Determined.same_units, specs.{control.Arrivals.clock_on_arrival, declared.steps.Arrival.Arrival, machines.Answers.arrival_at}}
 use Rattle.run_law.specs.machines.{Calls.{MayArrive, MayCall}, Nodes.{arriving, last_taken_by, standpoint_at}}
 use Rattle.world_law.{proofs.giving.GivenParts.some_same, specs.world.{Calls.{HasHeard, IsSet}, Outcomes.arrival_body, World.IsClockOf}}
-use Rattle.world_law.proofs.steps_lemmas.hearing.{Calling.may_call, HeardSteps.heard_step, OneMaster.may_arrive, Receptions.device_there}
+use Rattle.world_law.proofs.steps_lemmas.{hearing.{Calling.may_call, OneMaster.may_arrive, Receptions.device_there}, turns.SourceTurns.heard_turn}
+use Rattle.world_law.specs.steps.Turns.{TurnsBy}
 use Rattle.world_state.{proofs.UnderWays.{ports_stay, wires_without}, specs.declared.{contents.Signal.{Signal as SignalSent}, queue.Entry.Entry}}
 use Rattle.world_state.specs.Hearing.{AreOctetsOf, IsAsSent, MayCome, arrived, frame_kept, octets_kept, timed_in}
 use Rattle.run_law.specs.declared.steps.Arrival.TheVariants as arrivals
@@ -191,21 +192,23 @@ module _ {C M : Type 0} (reading : C → ℕ → ℕ) (stands : Kept M → Netwo
         subst (λ is. have_octets (arrived place is signal)) (sym answer)
         (arrival_octets network s.network e.device node_of.0 moment place e.link signal)
 
-    -- and the world stands again
-    pub heard_stands : (heard : Kept M) (octets : List ℕ) (result : Arrival) (machines : List (Kept M)) (settled : List Settled) (put_at : ℕ)
+    -- and it is worked off
+    pub heard_turns : (heard : Kept M) (octets : List ℕ) (result : Arrival) (machines : List (Kept M))
+        → old.mark ≡ old.cursor
         → AreUnderWay network state.under_way.entries → ComesFirst reading stands s (world_of network state) notes old (numbers_of place)
         → AreOctetsOf (signal_as network signal) octets
         → ((other : Network) (device : DeviceId) → HasHeard stands other device moment e.link octets result machine heard)
-        → IsSet place.device heard state.machines.items machines → IsPutAt (arrived place result signal) state.settled.items settled put_at
-        → StandsBehind reading stands s
+        → IsSet place.device heard state.machines.items machines
+        → (settled_at network state.time (arrived place result signal)
+        ≡ settled_as s.network hs state.time (arrival_body e.device e.link e.cause result))
+        × TurnsBy reading stands s notes (arrival_body e.device e.link e.cause result ∷ [])
         (record (world_of network state) {
           early = false;
           machines = machines;
           wires = filter_map (on_wire network) rest;
           ports = filter_map at_port rest;
-          settled = map (settled_at network state.time) settled;
-        }) notes (behind (numbers_of place))
-    heard_stands heard octets result machines settled put_at under first are hears set put =
+        }) (numbers_of place)
+    heard_turns heard octets result machines one under first are hears set =
         let world = world_of network state in
         let it = (old.wires.real e there).0 in
         let may = may_come_so octets are in
@@ -217,19 +220,15 @@ module _ {C M : Type 0} (reading : C → ℕ → ℕ) (stands : Kept M → Netwo
         subst (IsTold network s.network hs e.device e.link e.cause signal) (sym answer)
         (told network s.network hs e.device e.link e.cause signal node_of.0 moment (signal_as network signal) refl
         (λ frame is. frame_told s hs old.run.founded e it frame is) (λ given is. octets_told s hs old.run.founded e it given is)) in
-        let step = heard_step reading stands s world notes e machine heard octets result machines (filter_map (on_wire network) rest)
-        (map (settled_at network state.time) settled) old there at (subst (ComesFirst reading stands s world notes old) numbers first) found are.is may
+        let mid : World C (Kept M) = record world { early = false; machines = machines; wires = filter_map (on_wire network) rest } in
+        let turn = heard_turn reading stands s world notes old.cursor e machine heard octets result machines
+        (filter_map (on_wire network) rest) (old, one, refl) there at
+        (subst (ComesFirst reading stands s world notes old) numbers first) found are.is may
         (subst (λ m. HasHeard stands s.network e.device m e.link octets result machine heard) now (hears s.network e.device)) set
-        (wires_without network state.under_way.entries rest taken under took e refl)
-        (one_put_in s.network network state.time hs (arrival_body e.device e.link e.cause result) (arrived place result signal) state.settled.items settled
-        put_at put (settled_in_order old)
-        (told_settled state.time place so)) in
-        let after : World C (Kept M) = record world {
-          early = false;
-          machines = machines;
-          wires = filter_map (on_wire network) rest;
-          settled = map (settled_at network state.time) settled;
-        } in
-        with_ports reading stands s after notes (filter_map at_port rest) (behind (numbers_of place))
-        (ports_stay network state.under_way.entries rest taken under took refl)
-        (subst (λ p. StandsBehind reading stands s after notes (behind p)) (sym numbers) step)
+        (wires_without network state.under_way.entries rest taken under took e refl) in (
+          told_settled state.time place so,
+          subst (λ p. TurnsBy reading stands s notes (arrival_body e.device e.link e.cause result ∷ [])
+              (record mid { ports = filter_map at_port rest }) p) (sym numbers)
+              (turns_alike reading stands s notes mid mid.wires (filter_map at_port rest) (λ w. (λ i. i, λ i. i))
+              (ports_stay network state.under_way.entries rest taken under took refl) turn),
+        )

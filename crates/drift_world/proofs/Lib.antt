@@ -48,6 +48,7 @@ pub mod Steadiness
 pub mod Storings
 pub mod Suits
 pub mod Timings
+pub mod Turned
 pub mod TurnSays
 pub mod TurnedOn
 pub mod Turning

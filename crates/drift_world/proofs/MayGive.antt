@@ -1,11 +1,11 @@
--- The first of what is settled may be given, where the state stands.
-use Rattle.{world_law.specs.world.World.IsDueAs, world_state.specs.Giving.{CameBy, HasItsFrame, IsYoung, MayBeGiven}}
-use Rattle.drift_world.{proofs.Words.{keeps, map, with_first}, specs.{Giving.{AreLow, IsRunningWith}, declared.state.State.State}}
-use Rattle.{drift_world.proofs.Sendings.link_within, run_law.proofs.law.FirstPlaces.founded_at, std.proofs.Common.slice_get}
-use Rattle.drift_world.proofs.Words.{◌+◌, ◌<◌, ◌^◌, ◌∙◌, ◌∷◌, ◌≡◌, ◌≤◌, Accepted, Arrived, ArrivedAt, Arrives, Changed, Compressed, Delivered, DeviceId}
-use Rattle.drift_world.proofs.Words.{Dropped, Happening, HasItsOctets, IsCaused, IsDue, IsFounded, IsInRange, Left, LinkId, List, Lost, Network, Node, None}
-use Rattle.drift_world.proofs.Words.{Note, NoteBody, Option, Pcf, Permanent, Scenario, Settled, Some, Stands, TtSent, Units, World, [], amount, ap, append-nil}
-use Rattle.drift_world.proofs.Words.{arith, frame_by, happenings, length, link_at, numbered_in, place_of, refl, same_Some, settled_at}
+-- A record that is the next may be given.
+use Rattle.{world_law.specs.steps.Turns.IsNext, world_state.specs.Giving.{CameBy, HasItsFrame, IsYoung, MayBeGiven}}
+use Rattle.drift_world.{proofs.Words.{IsOwn, units_of, world_of}, specs.{Giving.{AreLow, IsToGive}, declared.state.State.State}}
+use Rattle.{drift_world.proofs.Sendings.link_within, run_law.proofs.law.FirstPlaces.founded_at}
+use Rattle.drift_world.proofs.Words.{◌+◌, ◌<◌, ◌^◌, ◌∙◌, ◌≡◌, ◌≤◌, Accepted, Arrived, ArrivedAt, Arrives, Changed, Compressed, Delivered, DeviceId}
+use Rattle.drift_world.proofs.Words.{Dropped, Happening, HasItsOctets, IsCaused, IsDue, IsFounded, IsInRange, Left, LinkId, List, Lost, Network, None}
+use Rattle.drift_world.proofs.Words.{Note, NoteBody, Option, Pcf, Permanent, Scenario, Settled, Some, TtSent, Units, amount, ap}
+use Rattle.drift_world.proofs.Words.{arith, frame_by, happenings, length, link_at, numbered_in, place_of, refl, same_Some}
 use Rattle.{drift_world.proofs.Words.{slice_get_within, subst, sym, time_of, with_clock, ℕ}, world_law.proofs.frames.Proper.{arrived_so, launched_frame}}
 use Rattle.{run_law.{proofs.control.Arrived.arrived_young, specs.runs.DueRecords.IsArrivedRecord}, std.specs.Prelude.{option_and_then, option_map}}
 use Rattle.{run_law.specs.declared.note.NoteBody.TheVariants.{Clock, Corrected, Event, Sent}, world_law.proofs.steps_lemmas.hearing.Receptions.receiver_in}
@@ -82,52 +82,34 @@ module _ (s : Scenario) (hs : List Happening) (time : Units) where
   caused_may (Clock a b c d) frame range founded caused own =
       record { by = tt; young = tt; arrived = tt; framed = λ e is none. absurd cc }
 
--- ---- the first of what is settled
+-- ---- a record that is the next
 
-module _ {C M : Type 0} (reading : C → ℕ → ℕ) (stands : M → Network → DeviceId → Node → Type 0) (s : Scenario)
-    (world : World C M) (notes : List Note) where
-  first_may : (z : Happening) (rest : List Happening) → Stands reading stands s world notes
-      → world.settled ≡ z ∷ rest → MayBut s.network z.note.body z.frame
-  first_may z rest old is =
-      let hs = happenings s.network notes in
-      let due : IsDueAs s hs z =
-      subst (λ l. IsDueAs s l z) (append-nil hs) (old.are.founded [] rest z is).1 in
-      caused_may s hs z.note.time z.note.body z.frame old.range old.run.founded due.cause
-      (ap (λ (h : Happening). h.frame) due.same)
-
+module _ {C M : Type 0} (reading : C → ℕ → ℕ) (network : Network) (state : State C M) (first : Settled) where
   -- it may be given, with its octets
-  pub may_be_given : (network : Network) (now : ℕ) (first : Settled) (rest : List Happening)
-      → Stands reading stands s world notes → network ≡ s.network
-      → world.settled ≡ settled_at network now first ∷ rest → HasItsOctets first.body first.octets
-      → MayBeGiven network first.body first.frame first.octets
-  may_be_given network now first rest old same is has =
-      let may = subst (λ (n : Network). MayBut n first.body first.frame) (sym same)
-      (first_may (settled_at network now first) rest old is) in
+  pub may_in : {s : Scenario} {notes : List Note} → IsNext reading s notes (world_of network state) first.body
+      → IsOwn s.network network state.time (happenings s.network notes) (Some first)
+      → HasItsOctets first.body first.octets → MayBeGiven network first.body first.frame first.octets
+  may_in {s} {notes} next own has =
+      let hs = happenings s.network notes in
+      let may = subst (λ (n : Network). MayBut n first.body first.frame) (sym next.same)
+      (caused_may s hs (units_of state.time) first.body first.frame next.range next.founded next.due.cause
+      (ap (λ (h : Happening). h.frame) own)) in
       record { by = may.by; young = may.young; arrived = may.arrived; with_octets = has; framed = may.framed }
 
-  -- ---- what the clocks read
+  pub may_give : IsToGive reading network state first → HasItsOctets first.body first.octets
+      → MayBeGiven network first.body first.frame first.octets
+  may_give to_give has = may_in to_give.next to_give.own has
 
   -- no clock is much ahead of the time
-  pub low_now : Stands reading stands s world notes → (devices : ℕ) → devices ≡ length s.network.device
-      → length world.clocks ≡ devices → (k : ℕ) (clock : C) → slice_get world.clocks k ≡ Some clock
-      → reading clock world.now ≤ 2 ^ 60 + 2 ^ 51
-  low_now old devices same all k clock at =
-      let within = slice_get_within world.clocks k clock at in
+  pub low_with : IsToGive reading network state first → length state.clocks.items ≡ length network.device
+      → AreLow reading state
+  low_with to_give all = λ k clock at.
+      let next = to_give.next in
+      let within = slice_get_within state.clocks.items k clock at in
       let device : DeviceId = record { 0 = k } in
-      let own = old.clocks device (omega (arith, within, all, same)) in
+      let same : length network.device ≡ length to_give.s.network.device = ap (λ (n : Network). length n.device) next.same in
+      let own = next.clocks device (omega (arith, within, all, same)) in
       let is : clock ≡ own.0 = same_Some _ _ (sym at ∙ own.1) in
-      let low = (old.steady device).low world.now old.limit in
-      subst (λ n. n ≤ 2 ^ 60 + 2 ^ 51) (own.2 world.now (omega arith) ∙ ap (λ (c : C). reading c world.now)
-      (sym is)) low
-
--- ---- a record that is not put in
-
-module _ {C M : Type 0} (reading : C → ℕ → ℕ) (stands : M → Network → DeviceId → Node → Type 0) (network : Network)
-    (state : State C M) (first : Settled) (run : IsRunningWith reading stands network state first) where
-  pub may_give : HasItsOctets first.body first.octets → MayBeGiven network first.body first.frame first.octets
-  may_give = may_be_given reading (keeps stands) run.s (with_first network state first state.settled.items) run.notes network state.time
-      first (map (settled_at network state.time) state.settled.items) run.is run.is.same refl
-
-  pub low_with : length state.clocks.items ≡ length network.device → AreLow reading state
-  low_with = low_now reading (keeps stands) run.s (with_first network state first state.settled.items) run.notes run.is _
-      (ap (λ n. length n.device) run.is.same)
+      let low = (next.steady device).low state.time next.limit in
+      subst (λ n. n ≤ 2 ^ 60 + 2 ^ 51)
+      (own.2 state.time (omega arith) ∙ ap (λ (c : C). reading c state.time) (sym is)) low

@@ -1,5 +1,5 @@
 -- A record that is put in at its place.
-use Rattle.{drift_world.proofs.Rising.InOrder, run_law.proofs.runs.Places.{either_way, in_left}, std.proofs.lemmas.List.take-append-drop}
+use Rattle.{drift_world.proofs.Words.InOrder, run_law.proofs.runs.Places.{either_way, in_left}, std.proofs.lemmas.List.take-append-drop}
 use Rattle.drift_world.proofs.Words.{◌++◌, ◌+◌, ◌<◌, ◌∙◌, ◌∷◌, ◌≡◌, ◌≤◌, ArePutIn, AtPort, Bool, Happening, IsBefore, IsPutAt, IsSomePut, List, Network, None}
 use Rattle.drift_world.proofs.Words.{NoneBefore, NoteBody, Scenario, Settled, Some, [], ap, arith, chain, departure_body, false, frame_from, if◌then◌else◌}
 use Rattle.drift_world.proofs.Words.{in_parts, in_right, inl, inr, length, map, never_self, own_place, place_of, refl, settled_as, settled_at, subst, suc, sym}
@@ -123,19 +123,3 @@ order_with w (x ∷ front) back order before none = (
 pub order_put : {w : Happening} {old new : List Happening} → InOrder old → IsPutIn w old new → InOrder new
 order_put {w} order put =
     subst InOrder (sym put.is) (order_with w put.front put.back (subst InOrder put.was order) put.before put.none)
-
--- two records are put in, one after the other
-pub two_put_in : (other network : Network) (now : ℕ) (hs : List Happening) (first second : NoteBody) (y : Settled)
-    {z : Settled} (old : List Settled) {mid new : List Settled} (at : ℕ) {then_at : ℕ} → IsPutAt y old mid at
-    → IsPutAt z mid new then_at → InOrder (map (settled_at network now) old)
-    → settled_at network now y ≡ settled_as other hs now first
-    → settled_at network now z ≡ settled_as other hs now second
-    → ArePutIn other hs now (first ∷ second ∷ []) (map (settled_at network now) old)
-    (map (settled_at network now) new)
-two_put_in other network now hs first second y {z} old {mid} {new} at {then_at} put put_then order is is_then =
-    let one = subst (λ h. IsPutIn h (map (settled_at network now) old) (map (settled_at network now) mid)) is
-    (is_put_in network now y old mid at put order) in (
-      map (settled_at network now) mid,
-      one,
-      one_put_in other network now hs second z mid new then_at put_then (order_put order one) is_then,
-    )

@@ -1,20 +1,20 @@
 -- A frame that waits is permanent: its machine may be asked, and the state stands behind it.
-use Rattle.{drift_world.proofs.Fits.{all_put, all_put_some, have_octets}, world_law.proofs.steps_lemmas.ripening.RipenedSteps.{ripened_step, waits_within}}
-use Rattle.{drift_world.proofs.Fitting.cause_of, run_law.specs.{declared.steps.Ripe.Ripe, machines.Calls.MayTake}, world_law.specs.world.Moves.IsWithout}
-use Rattle.{drift_world.proofs.Rising.{InOrder, settled_in_order}, world_state.specs.Ripening.{AreSettledSo, joined_record, judged_so, ripe_record}}
-use Rattle.{drift_world.proofs.Puts.{one_put_in, two_put_in}, world_state.proofs.{Swaps.{stayed, stays, was_there}, queue_lemmas.Bags.each_apart}}
-use Rattle.drift_world.proofs.Words.{◌+◌, ◌<◌, ◌^◌, ◌↔◌, ◌∙◌, ◌∷◌, ◌≡◌, ◌≤ℤ◌, ◌≤◌, AreApart, ArePutIn, ComesFirst, DeviceId, Happening, IsAt, IsIn}
-use Rattle.drift_world.proofs.Words.{IsPermutation, IsPermutation-map, IsPutAt, Joining, Kept, List, Moment, Network, Node, Note, Option, Scenario, Settled}
-use Rattle.drift_world.proofs.Words.{Some, Stands, StandsBehind, StandsFor, Units, Waits, [], ap, arith, behind, false, frame_from}
+use Rattle.{drift_world.proofs.Fits.{all_put, all_put_some, have_octets}, world_law.proofs.steps_lemmas.{ripening.RipenedSteps.waits_within, turns.SourceTurns.ripened_turn}}
+use Rattle.{drift_world.proofs.{Fitting.cause_of, Rising.settled_in_order}, run_law.specs.{declared.steps.Ripe.Ripe, machines.Calls.MayTake}, world_law.specs.world.Moves.IsWithout}
+use Rattle.world_state.specs.{Acting.body_of, Ripening.{AreSettledSo, joined_record, judged_so, ripe_record}}
+use Rattle.world_state.proofs.{Swaps.{stayed, stays, was_there}, queue_lemmas.Bags.each_apart}
+use Rattle.drift_world.proofs.Words.{◌++◌, IsOwn, StandsOne, TurnsIn, World, true}
+use Rattle.drift_world.proofs.Words.{◌+◌, ◌<◌, ◌^◌, ◌↔◌, ◌∙◌, ◌∷◌, ◌≡◌, ◌≤ℤ◌, ◌≤◌, AreApart, ComesFirst, DeviceId, Happening, IsAt, IsIn}
+use Rattle.drift_world.proofs.Words.{IsPermutation, IsPermutation-map, Kept, List, Moment, Network, Node, Note, Option, Scenario, Settled}
+use Rattle.drift_world.proofs.Words.{Some, Stands, StandsFor, Units, Waits, ap, arith, false, frame_from}
 use Rattle.drift_world.proofs.Words.{get_or_from_slice_get, happenings, in_get, is_mapped, is_set, keeps, length, map, moment_of, pos, refl}
 use Rattle.drift_world.proofs.Words.{ripe_place, settled_as, settled_at, slice_get_within, slice_set, subst, sym, units_of, waiting_as, world_of, ℕ}
 use Rattle.{drift_world.specs.declared.state.State.State, tte_units.proofs.general_lemmas.Naturals.flips, world_law.proofs.giving.GivenParts.some_same}
 use Rattle.{run_law.{proofs.records.Members.from_map, specs.declared.judgement.Judgement.Judgement}, world_law.proofs.steps_lemmas.ripening.Asking.may_ask}
 use Rattle.{run_law.proofs.records.Order.all_of, std.{proofs.Common.{All, nat_eq}, specs.{List.slice_get, Option.option_and_then}}}
 use Rattle.{std.proofs.lemmas.Map.Keys.{IsDistinct-IsPermutation, IsDistinct-head, IsDistinct-tail}, world_law.specs.steps.Ripening.{HasRipened, ripe_bodies}}
-use Rattle.drift_world.{proofs.AtSource.IsLate, specs.Ripening.IsJudged}
+use Rattle.{drift_world.specs.Ripening.IsJudged, world_law.specs.{steps.Turns.{TurnsBy, starts_there}, world.World.is_at_source}}
 use Rattle.run_law.specs.declared.judgement.Judgement.TheVariants as judgements
-use Rattle.run_law.specs.declared.judgement.Why.TheVariants as whys
 use Rattle.run_law.specs.declared.note.NoteBody.TheVariants as kinds
 use Rattle.run_law.specs.declared.steps.Ripe.TheVariants as ripe
 
@@ -124,33 +124,53 @@ frame_is : (s : Scenario) (network : Network) (now : ℕ) (hs : List Happening) 
     → settled_at network now (judged_so w verdict) ≡ settled_as s.network hs now (kinds.Permanent w.device w.link w.cause w.point verdict)
 frame_is s network now hs w verdict of = grind (arith, units_of)
 
-module _ (s : Scenario) (network : Network) (now : ℕ) (hs : List Happening) (w : Waits) (of : frame_from hs w.cause ≡ Some w.frame) where
-  judged_in : (verdict : Judgement) (old mid new : List Settled) (at : ℕ) → IsPutAt (judged_so w verdict) old mid at
-      → new ≡ mid → InOrder (map (settled_at network now) old)
-      → ArePutIn s.network hs now (kinds.Permanent w.device w.link w.cause w.point verdict ∷ []) (map (settled_at network now) old)
-      (map (settled_at network now) new)
-  judged_in verdict old mid new at put same order =
-      one_put_in s.network network now hs (kinds.Permanent w.device w.link w.cause w.point verdict) (judged_so w verdict) old new at
-      (subst (λ l. IsPutAt (judged_so w verdict) old l at) (sym same) put) order
-      (frame_is s network now hs w verdict of)
+-- it is the record of its body
+ripe_own : (s : Scenario) (network : Network) (now : ℕ) (hs : List Happening) (w : Waits)
+    → frame_from hs w.cause ≡ Some w.frame → (result : Ripe)
+    → IsOwn s.network network now hs (Some (ripe_record w result))
+ripe_own s network now hs w of ripe.Opened = frame_is s network now hs w judgements.Opened of
+ripe_own s network now hs w of ripe.Joined = frame_is s network now hs w judgements.Joined of
+ripe_own s network now hs w of ripe.Repeat = frame_is s network now hs w judgements.Repeat of
+ripe_own s network now hs w of ripe.Within = frame_is s network now hs w judgements.Within of
+ripe_own s network now hs w of ripe.Outside = frame_is s network now hs w judgements.Outside of
+ripe_own s network now hs w of ripe.Integrates = frame_is s network now hs w judgements.Integrates of
+ripe_own s network now hs w of ripe.Ignored = frame_is s network now hs w judgements.Ignored of
+ripe_own s network now hs w of (ripe.Dropped reason) = refl
 
-  pub are_put_in : (number : ℕ) (result : Ripe) (old new : List Settled) → AreSettledSo number w result old new
-      → InOrder (map (settled_at network now) old)
-      → ArePutIn s.network hs now (ripe_bodies number w.device w.link w.cause w.point result) (map (settled_at network now) old)
-      (map (settled_at network now) new)
-  are_put_in number ripe.Opened old new a order = judged_in judgements.Opened old a.mid new a.at a.first a.more order
-  are_put_in number ripe.Joined old new a order = judged_in judgements.Joined old a.mid new a.at a.first a.more order
-  are_put_in number ripe.Repeat old new a order = judged_in judgements.Repeat old a.mid new a.at a.first a.more order
-  are_put_in number ripe.Within old new a order = judged_in judgements.Within old a.mid new a.at a.first a.more order
-  are_put_in number ripe.Outside old new a order = judged_in judgements.Outside old a.mid new a.at a.first a.more order
-  are_put_in number ripe.Ignored old new a order = judged_in judgements.Ignored old a.mid new a.at a.first a.more order
-  are_put_in number ripe.Integrates old new a order =
-      two_put_in s.network network now hs (kinds.Permanent w.device w.link w.cause w.point judgements.Integrates)
-      (kinds.State w.device Joining number whys.Frame) (judged_so w judgements.Integrates) old a.at a.first a.more.1 order
-      (frame_is s network now hs w judgements.Integrates of) refl
-  are_put_in number (ripe.Dropped reason) old new a order =
-      one_put_in s.network network now hs (kinds.Dropped w.device w.link w.cause reason) (ripe_record w (ripe.Dropped reason)) old new a.at
-      (subst (λ l. IsPutAt (ripe_record w (ripe.Dropped reason)) old l a.at) (sym a.more) a.first) order refl
+joined_own : (s : Scenario) (network : Network) (now : ℕ) (hs : List Happening) (number : ℕ) (device : DeviceId)
+    (result : Ripe) → IsOwn s.network network now hs (joined_record number device result)
+joined_own s network now hs number device ripe.Integrates = refl
+joined_own s network now hs number device other = tt
+
+-- these are all of what becomes of it
+ripe_bodies_are : (number : ℕ) (w : Waits) (result : Ripe)
+    → ripe_bodies number w.device w.link w.cause w.point result
+    ≡ body_of (Some (ripe_record w result)) ++ body_of (joined_record number w.device result)
+ripe_bodies_are number w ripe.Opened = refl
+ripe_bodies_are number w ripe.Joined = refl
+ripe_bodies_are number w ripe.Repeat = refl
+ripe_bodies_are number w ripe.Within = refl
+ripe_bodies_are number w ripe.Outside = refl
+ripe_bodies_are number w ripe.Integrates = refl
+ripe_bodies_are number w ripe.Ignored = refl
+ripe_bodies_are number w (ripe.Dropped reason) = refl
+
+-- where it is judged, its record stands where it was permanent
+pub judged_source : (w : Waits) (result : Ripe) → IsJudged result → is_at_source (ripe_record w result).body ≡ true
+judged_source w (ripe.Dropped reason) judged = absurd judged
+judged_source w ripe.Opened judged = refl
+judged_source w ripe.Joined judged = refl
+judged_source w ripe.Repeat judged = refl
+judged_source w ripe.Within judged = refl
+judged_source w ripe.Outside judged = refl
+judged_source w ripe.Integrates judged = refl
+judged_source w ripe.Ignored judged = refl
+
+-- else none of them does
+pub dropped_late : (number : ℕ) (w : Waits) (result : Ripe) → (IsJudged result → ⊥)
+    → starts_there (body_of (Some (ripe_record w result)) ++ body_of (joined_record number w.device result)) ≡ false
+dropped_late number w (ripe.Dropped reason) not = refl
+dropped_late number w other not = absurd (not tt)
 
 -- none of them needs octets
 pub record_fits : (w : Waits) (result : Ripe) → have_octets (ripe_record w result)
@@ -173,45 +193,51 @@ octets_fit {number} {w} {result} {old} {new} a all =
     all_put_some have_octets (joined_record number w.device result) a.mid new a.more (joined_fits number w.device result)
     (all_put have_octets (ripe_record w result) old a.mid a.at a.first (record_fits w result) all)
 
--- ---- so the state stands behind it
+-- ---- so it is worked off
 
 pub ripened : {C M : Type 0} {reading : C → ℕ → ℕ} (stands : M → Network → DeviceId → Node → Type 0)
     (network : Network) (state : State C M) {w : Waits} (new : List Waits) (machine after : Kept M) {result : Ripe}
-    {settled : List Settled} → IsPermutation state.waiting.items (w ∷ new) → AreApart state.waiting.items
+    → IsPermutation state.waiting.items (w ∷ new) → AreApart state.waiting.items
     → ((clock : C) → slice_get state.clocks.items w.device.0 ≡ Some clock
     → w.point.0 ≤ℤ pos (reading clock state.time)) → w.device.0 < length state.machines.items
     → slice_get state.machines.items w.device.0 ≡ Some machine
-    → AreSettledSo (state.given + 1) w result state.settled.items settled
-    → {s : Scenario} {notes : List Note} {old : Stands reading (keeps stands) s (world_of network state) notes}
-    → ComesFirst reading (keeps stands) s (world_of network state) notes old (ripe_place state.time (waiting_as w))
+    → {s : Scenario} {notes : List Note} (is : StandsOne reading (keeps stands) s (world_of network state) notes)
+    → ComesFirst reading (keeps stands) s (world_of network state) notes is.0 (ripe_place state.time (waiting_as w))
     → HasRipened (keeps stands) s.network w.device
     (moment_of s w.device state.time) w.link w.frame w.point result machine after
-    → StandsBehind reading (keeps stands) s
+    → TurnsIn reading stands network s notes
     (record (world_of network state) {
       early = false;
       machines = slice_set state.machines.items w.device.0 after;
       waiting = map waiting_as new;
-      settled = map (settled_at network state.time) settled;
-    }) notes
-    (behind (ripe_place state.time (waiting_as w)))
-ripened {reading} stands network state {w} new machine after {result} {settled} t apart reached many own
-    put {s} {notes} {old} first has =
+    })
+    (ripe_place state.time (waiting_as w)) (Some (ripe_record w result))
+    (joined_record (state.given + 1) w.device result)
+ripened {reading} stands network state {w} new machine after {result} t apart reached many own {s} {notes} is first has =
     let world = world_of network state in
+    let old = is.0 in
     let there = was_there w state.waiting.items new t in
     let hs = happenings s.network notes in
     let inside = is_mapped waiting_as state.waiting.items w there in
     let it = old.waiting.real (waiting_as w) inside in
     let of : frame_from hs w.cause ≡ Some w.frame = ap (λ (o : Option Happening). option_and_then (λ h. h.frame) o) it.there ∙ it.awaited.of_frame in
-    ripened_step reading (keeps stands) s world notes (waiting_as w) machine after result (slice_set state.machines.items w.device.0 after)
-    (map waiting_as new) (map (settled_at network state.time) settled) old inside (point reading stands network state w there reached s notes old) first own has
-    (is_set state.machines.items w.device.0 after many) (without w state.waiting.items new t apart state.time)
-    (are_put_in s network state.time hs w of (length notes + 1) result state.settled.items settled
-    (subst (λ n. AreSettledSo (n + 1) w result state.settled.items settled) old.given put) (settled_in_order old))
-
--- where a frame is not judged, its record does not stand where it was permanent
-pub dropped_late : (number : ℕ) (w : Waits) (is : Ripe) (old new : List Settled) → (IsJudged is → ⊥)
-    → AreSettledSo number w is old new → All IsLate old → All IsLate new
-dropped_late number w (ripe.Dropped reason) old new not so late =
-    subst (λ l. All IsLate l) (sym so.more)
-    (all_put IsLate (ripe_record w (ripe.Dropped reason)) old so.mid so.at so.first refl late)
-dropped_late number w other old new not so late = absurd (not tt)
+    let place = ripe_place state.time (waiting_as w) in
+    let mid : World _ _ = record world {
+      early = false;
+      machines = slice_set state.machines.items w.device.0 after;
+      waiting = map waiting_as new;
+    } in
+    let bodies : ripe_bodies (length notes + 1) w.device w.link w.cause w.point result
+    ≡ body_of (Some (ripe_record w result)) ++ body_of (joined_record (state.given + 1) w.device result) =
+    ap (λ n. ripe_bodies (n + 1) w.device w.link w.cause w.point result) (sym old.given)
+    ∙ ripe_bodies_are (state.given + 1) w result in
+    record {
+      order = settled_in_order old;
+      first_is = ripe_own s network state.time hs w of result;
+      second_is = joined_own s network state.time hs (state.given + 1) w.device result;
+      by = subst (λ l. TurnsBy reading (keeps stands) s notes l mid place) bodies
+          (ripened_turn reading (keeps stands) s world notes old.cursor (waiting_as w) machine after result
+          (slice_set state.machines.items w.device.0 after) (map waiting_as new) (old, is.1, refl) inside
+          (point reading stands network state w there reached s notes old) first own has
+          (is_set state.machines.items w.device.0 after many) (without w state.waiting.items new t apart state.time));
+    }

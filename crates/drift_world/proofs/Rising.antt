@@ -1,12 +1,7 @@
 -- What is settled is in the order of its places.
-use Rattle.drift_world.proofs.Words.{◌++◌, ◌∙◌, ◌∷◌, ◌≡◌, AreSettled, DeviceId, Happening, IsBefore, IsIn, List, Network, Node}
-use Rattle.drift_world.proofs.Words.{NoneBefore, Note, Scenario, Stands, World, [], ap, append_assoc, chain, in_right, inl}
+use Rattle.drift_world.proofs.Words.{◌++◌, ◌∙◌, ◌∷◌, ◌≡◌, AreSettled, DeviceId, Happening, InOrder, IsBefore, IsIn, List, Network, Node}
+use Rattle.drift_world.proofs.Words.{Note, Scenario, Stands, World, [], ap, append_assoc, chain, in_right, inl}
 use Rattle.drift_world.proofs.Words.{never_self, parted, place_of, refl, sym, ℕ}
-
--- none is before one that stands before it
-abbrev pub InOrder : List Happening → Type 0
-InOrder [] = Unit {0}
-InOrder (x ∷ xs) = NoneBefore place_of xs (place_of x) × InOrder xs
 
 -- each is before all behind it
 abbrev pub Rises : List Happening → Type 0

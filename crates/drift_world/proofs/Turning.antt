@@ -1,6 +1,6 @@
 -- A turn of a world: what comes first, and what the steps keep.
 use Rattle.{drift_world.proofs.Fits.{sound_same, sound_timers}, world_law.proofs.{acts.NoActs.nothing_comes_before, runs.Worlds.nothing_settled_is_all}}
-use Rattle.drift_world.proofs.{Foremost.timers_later, Rising.{InOrder, settled_in_order}}
+use Rattle.drift_world.proofs.{Foremost.timers_later, Rising.settled_in_order, Words.InOrder}
 use Rattle.drift_world.{proofs.{AtSource.{IsSourceRank, at_rank, is_late, rank_most, ranks}, Sources.{of_world, sooner_too}}, specs.{Stepping.IsRekeyed, declared.{source.Source.Source, state.State.State}}}
 use Rattle.drift_world.proofs.{Timings.{passed, rekeyed, unchanged}, Words.{numbers_of, option_map_or, own_place, place_of, rank, refl, settled_at, subst, sym, true, world_of, ℕ}}
 use Rattle.drift_world.proofs.Words.{◌++◌, ◌+◌, ◌<◌, ◌^◌, ◌∙◌, ◌∷◌, ◌≡◌, ◌≤◌, AreFirsts, AreSettled, AreTimed, Bool, ChangesOnly, ComesFirst, DeviceId}

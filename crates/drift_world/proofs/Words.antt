@@ -55,5 +55,5 @@ pub use Rattle.world_state.specs.declared.timers.Due.{Due}
 pub use Rattle.drift_world.specs.{Giving.IsGivenOut, Locals.{IsComplete, IsLocalClockBefore, Shows, local_shown}}
 pub use Rattle.drift_world.specs.{Running.{ComesUpTo, StandsUnder, behind_events, given_by, reading_of}, Showing.IsOf, Sound.{AreApart, IsSized, IsSound}}
 pub use Rattle.drift_world.specs.{Sourcing.{AreFirsts, AreNotBefore, AreTimed, HasNothingBefore}, Stepping.{ChangesOnly, IsAt, IsRunning, IsTimed}}
-pub use Rattle.drift_world.specs.{Turns.SourceFirst, Views.{with_first, world_of}, Wells.IsWell}
+pub use Rattle.drift_world.specs.{Stepping.{InOrder, IsOwn, TurnsIn}, Turns.SourceFirst, Views.world_of, Wells.IsWell}
 pub use Rattle.drift_world.specs.declared.next.Turn.{Turn}

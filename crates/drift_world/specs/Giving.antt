@@ -1,12 +1,13 @@
 -- The frame of a record is given out.
 use Rattle.std.specs.Prelude.{◌+◌, ◌<◌, ◌^◌, ◌≡◌, ◌≤◌, IfNone, IfSome, List, None, Option, Some, length}
 use Rattle.std.specs.Prelude.{slice_get, ℕ}
-use Rattle.{drift_world.specs.Views.with_first, run_law.specs.{machines.Nodes.Node, scenario.Scenarios.Scenario}}
+use Rattle.drift_world.specs.{Stepping.IsOwn, Views.world_of}
+use Rattle.run_law.specs.{records.Happenings.happenings, scenario.Scenarios.Scenario}
 use Rattle.{drift_world.specs.declared.state.State.State, tte_units.specs.declared.frames.pcf.Pcf.Pcf}
 use Rattle.{net_plan.specs.declared.ids.DeviceId.DeviceId, run_law.specs.declared.note.{Note.Note, NoteBody.NoteBody}}
 use Rattle.{net_plan.specs.declared.network.Network.Network, world_state.specs.declared.giving.Giving.Giving}
-use Rattle.{world_law.specs.world.World.Stands, world_state.specs.Frames.IsOneMore}
-use Rattle.world_state.specs.{Giving.{ArePutTo, awaited_by, giver_of}, Keeping.keeps, declared.contents.Settled.Settled}
+use Rattle.{world_law.specs.steps.Turns.IsNext, world_state.specs.Frames.IsOneMore}
+use Rattle.world_state.specs.{Giving.{ArePutTo, awaited_by, giver_of}, declared.contents.Settled.Settled}
 
 -- the frame of a record is given, or waited for, by this device, whose clock reads so
 pub record IsGiver {C M : Type 0} (reading : C → ℕ
@@ -42,10 +43,10 @@ abbrev pub AreLow : {C M : Type 0} → (C → ℕ → ℕ) → State C M → Typ
 AreLow {C} reading state =
     (k : ℕ) (clock : C) → slice_get state.clocks.items k ≡ Some clock → reading clock state.time ≤ 2 ^ 60 + 2 ^ 51
 
--- some scenario and records leave the state where it stands, if this record is settled, and first
-pub record IsRunningWith {C M : Type 0} (reading : C → ℕ → ℕ) (stands : M → Network → DeviceId → Node
-    → Type 0) (network : Network) (state : State C M)
-    (first : Settled) : Type 0 where
+-- some scenario and records are shown by the state, and the record is the next
+pub record IsToGive {C M : Type 0} (reading : C → ℕ → ℕ) (network : Network) (state : State C M) (first : Settled)
+    : Type 0 where
   pub s : Scenario
   pub notes : List Note
-  pub is : Stands reading (keeps stands) s (with_first network state first state.settled.items) notes
+  pub next : IsNext reading s notes (world_of network state) first.body
+  pub own : IsOwn s.network network state.time (happenings s.network notes) (Some first)

@@ -1,15 +1,15 @@
 -- Where a state stands, and what a step of it leaves.
-use Rattle.std.specs.Prelude.{◌*◌, ◌+◌, ◌<◌, ◌^◌, ◌↔◌, ◌≡◌, ◌≤ℤ◌, ◌≤◌, ◌⊎◌, IfSome, IsSomeAnd, List, Option}
-use Rattle.std.specs.Prelude.{Some, length, pos, slice_get, ℕ}
+use Rattle.std.specs.Prelude.{◌*◌, ◌++◌, ◌+◌, ◌<◌, ◌^◌, ◌↔◌, ◌∷◌, ◌≡◌, ◌≤ℤ◌, ◌≤◌, ◌⊎◌, IfSome, IsSomeAnd, List}
+use Rattle.std.specs.Prelude.{None, Option, Some, [], length, pos, slice_get, ℕ}
 use Rattle.net_plan.specs.declared.{event.What.What, ids.DeviceId.DeviceId, network.Network.Network}
-use Rattle.run_law.specs.{declared.note.Note.Note, records.Order.{IsIn, behind}}
+use Rattle.run_law.specs.{declared.note.Note.Note, records.{Happenings.{Happening, happenings}, Order.{IsIn, NoneBefore}, Ranks.place_of}}
 use Rattle.run_law.specs.{machines.{Nodes.Node, Tasks.{IsPending, Task, reading_for}}, scenario.Scenarios.Scenario}
 use Rattle.tte_units.specs.declared.units.Units.{Units}
-use Rattle.world_law.specs.world.{Moves.{ComesFirst, StandsBehind}, World.Stands}
-use Rattle.world_state.specs.{Applying.device_in, Keeping.keeps}
+use Rattle.world_law.specs.{steps.Turns.TurnsBy, world.{Moves.{ComesFirst, StandsOne, settled_as}, World.{Stands, World}}}
+use Rattle.world_state.specs.{Acting.body_of, Applying.device_in, Keeping.keeps, Views.settled_at}
 use Rattle.world_state.specs.{declared.{contents.{Settled.Settled, Waits.Waits}, kept.Kept.Kept}, timers.Times.{AreFrom, never}}
 use Rattle.world_state.specs.declared.timers.Timer.{Timer}
-use Rattle.drift_world.specs.{Acting.IsPartAt, Parts.{IsNoSooner, part_rank}, Sound.IsSized, Views.{with_settled, world_of}}
+use Rattle.drift_world.specs.{Acting.IsPartAt, Parts.{IsNoSooner, part_rank}, Sound.IsSized, Views.world_of}
 use Rattle.drift_world.specs.declared.state.State.{State}
 use Rattle.drift_world.specs.declared.part.Part.{Part}
 
@@ -31,13 +31,33 @@ pub record IsAt {C M : Type 0} (reading : C → ℕ → ℕ) (stands : M → Net
   pub one : is.mark ≡ is.cursor
   pub first : ComesFirst reading (keeps stands) s (world_of network state) notes is place
 
--- where the source at the place comes first, and these records are settled, the state stands behind it
-abbrev pub StandsPast : {C M : Type 0} → (C → ℕ → ℕ) → (M → Network → DeviceId → Node → Type 0) → Network → State C M
-    → State C M → List ℕ → List Settled → Type 0
-StandsPast reading stands network old new place settled =
-    (s : Scenario) (notes : List Note) (is : Stands reading (keeps stands) s (world_of network old) notes)
-    → ComesFirst reading (keeps stands) s (world_of network old) notes is place
-    → StandsBehind reading (keeps stands) s (with_settled network new settled) notes (behind place)
+-- each is not before those ahead of it
+abbrev pub InOrder : List Happening → Type 0
+InOrder [] = Unit {0}
+InOrder (x ∷ xs) = NoneBefore place_of xs (place_of x) × InOrder xs
+
+-- the record, if there is one, is that of its body, given these
+abbrev pub IsOwn : Network → Network → ℕ → List Happening → Option Settled → Type 0
+IsOwn other network now hs None = Unit {0}
+IsOwn other network now hs (Some z) = settled_at network now z ≡ settled_as other hs now z.body
+
+-- the source at the place is worked off in this world, in which what is to come is in order, and these are its records:
+-- the first, and what comes later
+pub record TurnsIn {C M : Type 0} (reading : C → ℕ → ℕ) (stands : M → Network → DeviceId → Node → Type 0)
+    (network : Network) (s : Scenario) (notes : List Note) (world : World C (Kept M)) (place : List ℕ)
+    (first second : Option Settled) : Type 0 where
+  pub order : InOrder world.settled
+  pub first_is : IsOwn s.network network world.now (happenings s.network notes) first
+  pub second_is : IsOwn s.network network world.now (happenings s.network notes) second
+  pub by : TurnsBy reading (keeps stands) s notes (body_of first ++ body_of second) world place
+
+-- where there is one frontier and the source at the place comes first, it is so
+abbrev pub TurnsPast : {C M : Type 0} → (C → ℕ → ℕ) → (M → Network → DeviceId → Node → Type 0) → Network → State C M
+    → State C M → List ℕ → Option Settled → Option Settled → Type 0
+TurnsPast reading stands network old mid place first second =
+    (s : Scenario) (notes : List Note) (is : StandsOne reading (keeps stands) s (world_of network old) notes)
+    → ComesFirst reading (keeps stands) s (world_of network old) notes is.0 place
+    → TurnsIn reading stands network s notes (world_of network mid) place first second
 
 -- of what the timers are for, a step changes that of one device at most
 pub record ChangesOnly {C M : Type 0} (device : ℕ) (old new : State C M) : Type 0 where

@@ -1,8 +1,7 @@
 -- A world as its law sees it, from the parts of its state.
-use Rattle.std.specs.Prelude.{◌∷◌, List, filter_map, map}
+use Rattle.std.specs.Prelude.{filter_map, map}
 use Rattle.{drift_world.specs.declared.state.State.State, world_state.specs.declared.kept.Kept.Kept}
-use Rattle.{net_plan.specs.declared.network.Network.Network, world_state.specs.declared.contents.Settled.Settled}
-use Rattle.world_law.specs.world.World.{World}
+use Rattle.{net_plan.specs.declared.network.Network.Network, world_law.specs.world.World.World}
 use Rattle.world_state.specs.Views.{at_port, befell_as, on_wire, settled_at, stored_as, waiting_as, way_as}
 
 -- the world of a state
@@ -27,16 +26,4 @@ world_of network s = record {
   given = s.given;
   ended = s.ended;
   shown = s.shown;
-}
-
--- the world in which these records are settled
-abbrev pub with_settled : {C M : Type 0} → Network → State C M → List Settled → World C (Kept M)
-with_settled network state settled = record (world_of network state) {
-  settled = map (settled_at network state.time) settled;
-}
-
--- the world whose first settled record is this
-abbrev pub with_first : {C M : Type 0} → Network → State C M → Settled → List Settled → World C (Kept M)
-with_first network state first rest = record (world_of network state) {
-  settled = settled_at network state.time first ∷ map (settled_at network state.time) rest;
 }

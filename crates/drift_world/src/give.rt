@@ -29,8 +29,9 @@ impl<C: Clock, M: Machine + Drop> State<C, M> {
     ghost use Rattle.world_state.specs.{Giving.{giver_of, wire_entry}, Sound.{AreBelow, AreUnderWay, IsShort}};
     ghost use Rattle.world_state.specs.{Keeping.keeps, declared.giving.Giving.{Giving as GivingValue}};
     ghost use Rattle.world_state.specs.{Views.settled_at, declared.contents.Settled.{Settled as SettledValue}};
-    ghost use Rattle.drift_world.specs.{Giving.{AreLow, IsGivenOut, IsGiver, IsRunningWith}, Sound.{IsSized, IsSound}};
-    ghost use Rattle.drift_world.specs.{Stepping.{ChangesOnly, IsRunning}, Views.{with_first, world_of}};
+    ghost use Rattle.drift_world.specs.{Giving.{AreLow, IsGivenOut, IsGiver, IsToGive}, Sound.{IsSized, IsSound}};
+    ghost use Rattle.drift_world.specs.{Stepping.{ChangesOnly, IsOwn, IsRunning}, Views.world_of};
+    ghost use Rattle.world_law.specs.steps.Turns.{IsLaunched, IsNext};
 
     /// The frame of a record that its device gives to links, or waits for.
     #[inline(always)]
@@ -165,7 +166,7 @@ impl<C: Clock, M: Machine + Drop> State<C, M> {
     pub(crate) fn give_first(&mut self, network: &Network, first: Settled, note: &mut PlainNote)
         requires sound { IsSound C.last_step network.now self.old }
         requires range { IsInRange network.now }
-        requires running { IsRunningWith C.reading M.stands network.now self.old first }
+        requires next { IsToGive C.reading network.now self.old first }
         requires octets { HasItsOctets first.body first.octets }
         requires number { self.old.given + 1 < 2 ^ 64 }
         requires room { length network.now.link < self.old.under_way.room }
@@ -183,12 +184,10 @@ impl<C: Clock, M: Machine + Drop> State<C, M> {
           given = self.old.given + 1;
         } }
         ensures sound { IsSound C.last_step network.now self.new }
-        ensures stands { let z = settled_at network.now self.old.time first in (s : Scenario) (notes : List Note)
-            → (old : Stands C.reading (keeps M.stands) s
-            (with_first network.now self.old first self.old.settled.items) notes)
-            → NoSourceBefore s (happenings s.network notes) old.cursor (place_of z)
-            → StandsAt C.reading (keeps M.stands) s (world_of network.now self.new) (notes ++ note_of notes z ∷ [])
-            (behind (place_of z)) }
+        ensures launched { (s : Scenario) (notes : List Note)
+            → IsNext C.reading s notes (world_of network.now self.old) first.body
+            → IsOwn s.network network.now self.old.time (happenings s.network notes) (Some first)
+            → IsLaunched s notes first.body (world_of network.now self.old) (world_of network.now self.new) }
         ensures arrived { ArrivedAt (length network.now.device) note.new.body }
         ensures others { ChangesOnly (changed_device first.body) self.old self.new }
     {

@@ -1,9 +1,8 @@
-ghost use Rattle.std.specs.Prelude.{◌+◌, ◌<◌, ◌≡◌, ◌≤◌, IfOk, List, OnErr, false, length, ℕ};
-ghost use Rattle.drift_world.specs.{Sound.IsSound, Stepping.{ChangesOnly, StandsPast}, Turns.{IsKept, MayWork}};
+ghost use Rattle.std.specs.Prelude.{◌+◌, ◌<◌, ◌≡◌, ◌≤◌, IfOk, None, OnErr, Some, false, length};
+ghost use Rattle.drift_world.specs.{Sound.IsSound, Stepping.{ChangesOnly, TurnsPast}, Turns.{IsKept, MayWork}};
 ghost use Rattle.drift_world.specs.{Turns.{WorkSays, given_in, noted}, declared.source.Source.{Source as SourceOf}};
-ghost use Rattle.{run_law.specs.records.Ranks.{place_of, rank}, world_state.specs.Places.IsPutAt};
+ghost use Rattle.run_law.specs.records.Ranks.{rank};
 ghost use Rattle.world_state.specs.{Frames.room_of, Giving.{HasItsOctets, changed_device}, queue.Places.numbers_of};
-ghost use Rattle.world_state.specs.{Views.settled_at, declared.contents.Settled.{Settled as SettledValue}};
 ghost use Rattle.world_law.specs.world.World.{is_at_source};
 
 use crate::next::Turn;
@@ -28,13 +27,10 @@ impl<C: Clock, M: Machine + Drop> State<C, M> {
         requires may { MayWork C.last_step C.reading M.stands network.now self.old (SourceOf.Arrival place) }
         ensures sound { IsSound C.last_step network.now self.new }
         ensures octets { HasItsOctets result.body result.octets }
-        ensures own { rank result.body ≡ 2
-            → place_of (settled_at network.now self.old.time result) ≡ numbers_of place }
         ensures device { rank result.body ≡ 2 → changed_device result.body ≡ place.device }
         ensures late { (rank result.body ≡ 2 → ⊥) → is_at_source result.body ≡ false }
-        ensures stands { (settled : List SettledValue) (index : ℕ)
-            → IsPutAt result self.old.settled.items settled index
-            → StandsPast C.reading M.stands network.now self.old self.new (numbers_of place) settled }
+        ensures turns { TurnsPast C.reading M.stands network.now self.old self.new (numbers_of place) (Some result)
+            None }
         ensures others { ChangesOnly place.device self.old self.new }
         ensures same { self.new ≡ record self.old {
           machines = self.new.machines;

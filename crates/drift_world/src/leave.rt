@@ -1,4 +1,4 @@
-ghost use Rattle.std.specs.Prelude.{◌+◌, ◌<◌, ◌^◌, ◌∷◌, ◌≡◌, ◌≤◌, IfSome, List, [], false, length, ℕ};
+ghost use Rattle.std.specs.Prelude.{◌+◌, ◌<◌, ◌^◌, ◌≡◌, ◌≤◌, IfSome, None, false, length, ℕ};
 ghost use Rattle.{net_plan.specs.Ranges.IsInRange, run_law.specs.scenario.Scenarios.Scenario};
 ghost use Rattle.drift_world.specs.Turns.{IsKept, MayWork, WorkSays, noted};
 ghost use Rattle.drift_world.specs.declared.source.Source.{Source as SourceOf};
@@ -19,11 +19,9 @@ use world_state::queue::DueAt;
 use world_state::settled::{put_in, rank_of};
 
 impl<C: Clock, M: Machine + Drop> State<C, M> {
-    ghost use Rattle.drift_world.specs.{Showing.IsOf, Sound.{IsSized, IsSound}, Stepping.{ChangesOnly, StandsPast}};
-    ghost use Rattle.run_law.specs.records.Ranks.{place_of, rank};
+    ghost use Rattle.drift_world.specs.{Showing.IsOf, Sound.{IsSized, IsSound}, Stepping.{ChangesOnly, TurnsPast}};
+    ghost use Rattle.run_law.specs.records.Ranks.{rank};
     ghost use Rattle.world_state.specs.{Giving.{HasItsOctets, changed_device}, Leaving.{departure_in, port_entry}};
-    ghost use Rattle.world_state.specs.{Places.{IsSomePut, own_place}, Views.settled_at};
-    ghost use Rattle.world_state.specs.declared.contents.Settled.{Settled as SettledValue};
 
     /// The record of a frame at a port that leaves; of a broken device there is none.
     #[inline(always)]
@@ -34,8 +32,6 @@ impl<C: Clock, M: Machine + Drop> State<C, M> {
         requires link { place.link < length network.now.link }
         ensures octets { IfSome result (λ z. HasItsOctets z.body z.octets) }
         ensures late { IfSome result (λ z. (rank z.body ≡ 8 → ⊥) → is_at_source z.body ≡ false) }
-        ensures own { IfSome result (λ z. rank z.body ≡ 8
-            → own_place z ≡ 8 ∷ place.device ∷ place.link ∷ place.cause ∷ []) }
         ensures none { IfSome result (λ z. changed_device z.body ≡ 2 ^ 32) }
         ensures is { (s : Scenario) → IsOf C.reading s network.now self.now
             → result ≡ departure_in s self.now.time (port_entry place frame given) }
@@ -56,11 +52,8 @@ impl<C: Clock, M: Machine + Drop> State<C, M> {
         ensures sound { IsSound C.last_step network.now self.new }
         ensures octets { IfSome result (λ z. HasItsOctets z.body z.octets) }
         ensures late { IfSome result (λ z. (rank z.body ≡ 8 → ⊥) → is_at_source z.body ≡ false) }
-        ensures own { IfSome result (λ z. rank z.body ≡ 8
-            → place_of (settled_at network.now self.old.time z) ≡ numbers_of place) }
         ensures none { IfSome result (λ z. changed_device z.body ≡ 2 ^ 32) }
-        ensures stands { (settled : List SettledValue) → IsSomePut result self.old.settled.items settled
-            → StandsPast C.reading M.stands network.now self.old self.new (numbers_of place) settled }
+        ensures turns { TurnsPast C.reading M.stands network.now self.old self.new (numbers_of place) result None }
         ensures others { (n : ℕ) → ChangesOnly n self.old self.new }
         ensures same { self.new ≡ record self.old { early = false; under_way = self.new.under_way } }
         ensures shorter { length self.old.under_way.entries ≡ length self.new.under_way.entries + 1 }

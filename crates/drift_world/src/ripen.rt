@@ -1,4 +1,4 @@
-ghost use Rattle.std.specs.Prelude.{◌+◌, ◌↔◌, ◌≡◌, ◌≤ℤ◌, IsTrue, List, Some, false, is_some, length, pos};
+ghost use Rattle.std.specs.Prelude.{◌+◌, ◌↔◌, ◌≡◌, ◌≤ℤ◌, IsTrue, Some, false, is_some, length, pos};
 ghost use Rattle.std.specs.Prelude.{slice_get, true};
 ghost use Rattle.drift_world.specs.Turns.{IsKept, MayWork, WorkSays, noted};
 ghost use Rattle.drift_world.specs.declared.source.Source.{Source as SourceOf};
@@ -41,9 +41,9 @@ fn is_judged(ripe: Ripe) -> bool
 }
 
 impl<C: Clock, M: Machine + Drop> State<C, M> {
-    ghost use Rattle.drift_world.specs.{Sound.IsSound, Stepping.{ChangesOnly, IsAt, StandsPast}};
+    ghost use Rattle.drift_world.specs.{Sound.IsSound, Stepping.{ChangesOnly, IsAt, TurnsPast}};
     ghost use Rattle.{world_law.specs.world.World.ripe_place, world_state.specs.Views.waiting_as};
-    ghost use Rattle.world_state.specs.{Ripening.AreSettledSo, declared.contents.Settled.{Settled as SettledValue}};
+    ghost use Rattle.world_state.specs.Ripening.{joined_record, ripe_record};
 
     /// The first frame that waits at the device is permanent: the first of all that is to come. It is answered, with
     /// what becomes of it, whose records are to be put in among what is settled.
@@ -59,10 +59,9 @@ impl<C: Clock, M: Machine + Drop> State<C, M> {
             → IsAt C.reading M.stands network.now self.old (ripe_place self.old.time (waiting_as w)) }
         ensures sound { IsSound C.last_step network.now self.new }
         ensures is { first_of self.old.waiting device.0 ≡ Some result.waits }
-        ensures stands { (settled : List SettledValue)
-            → AreSettledSo (self.old.given + 1) result.waits result.ripe self.old.settled.items settled
-            → StandsPast C.reading M.stands network.now self.old self.new
-            (ripe_place self.old.time (waiting_as result.waits)) settled }
+        ensures turns { TurnsPast C.reading M.stands network.now self.old self.new
+            (ripe_place self.old.time (waiting_as result.waits)) (Some (ripe_record result.waits result.ripe))
+            (joined_record (self.old.given + 1) result.waits.device result.ripe) }
         ensures same { self.new ≡ record self.old {
           early = false;
           machines = self.new.machines;

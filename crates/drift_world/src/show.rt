@@ -1,11 +1,9 @@
-ghost use Rattle.std.specs.Prelude.{◌+◌, ◌<◌, ◌≡◌, List, false, length, true, ℕ};
-ghost use Rattle.drift_world.specs.{Sound.IsSound, Stepping.{ChangesOnly, StandsPast}};
+ghost use Rattle.std.specs.Prelude.{◌+◌, ◌<◌, ◌≡◌, None, Some, false, length, true, ℕ};
+ghost use Rattle.drift_world.specs.{Sound.IsSound, Stepping.{ChangesOnly, TurnsPast}};
 ghost use Rattle.drift_world.specs.Turns.{IsKept, MayWork, WorkSays, noted};
 ghost use Rattle.drift_world.specs.declared.source.Source.{Source as SourceOf};
-ghost use Rattle.{net_plan.specs.Ranges.IsInRange, run_law.specs.records.Ranks.{place_of, rank}};
+ghost use Rattle.{net_plan.specs.Ranges.IsInRange, run_law.specs.records.Ranks.rank};
 ghost use Rattle.world_law.specs.world.World.{clock_place};
-ghost use Rattle.world_state.specs.{Places.IsPutAt, Views.settled_at};
-ghost use Rattle.world_state.specs.declared.contents.Settled.{Settled as SettledValue};
 
 use crate::next::Turn;
 use crate::state::State;
@@ -27,10 +25,8 @@ impl<C: Clock, M: Machine + Drop> State<C, M> {
         requires more { device.0 < length network.now.device }
         ensures sound { IsSound C.last_step network.now self.new }
         ensures rank { rank result.body ≡ 14 }
-        ensures own { place_of (settled_at network.now self.old.time result) ≡ clock_place self.old.time device }
-        ensures stands { (settled : List SettledValue) (index : ℕ) → self.old.ended ≡ true
-            → IsPutAt result self.old.settled.items settled index
-            → StandsPast C.reading M.stands network.now self.old self.new (clock_place self.old.time device) settled }
+        ensures turns { self.old.ended ≡ true → TurnsPast C.reading M.stands network.now self.old self.new
+            (clock_place self.old.time device) (Some result) None }
         ensures others { (n : ℕ) → ChangesOnly n self.old self.new }
         ensures same { self.new ≡ record self.old { early = false; shown = self.old.shown + 1 } }
     {

@@ -1,13 +1,16 @@
-use Rattle.drift_world.proofs.{ActRecords.{AreProper, IsFine}, ActSteps.{above_then, acted_once, asked_to_act, later_then, left_in, never_broken}}
-use Rattle.drift_world.proofs.{ActSteps.{octets_then, own_first, proper_at, row_within}, AtSource.{at_rank, own_gives}, Fits.{all_put_some, have_octets, sized_so}}
-use Rattle.drift_world.proofs.{OwnPlaces.{given_so, no_change, no_shelf, no_waiter}, Showings.shows_of}
-use Rattle.world_law.{proofs.giving.GivenParts.some_same, specs.world.{Calls.IsStateOf, World.is_at_source}}
-use Rattle.drift_world.proofs.Words.{◌+◌, ◌<◌, ◌∙◌, ◌∷◌, ◌≡◌, ◌≤◌, ComesFirst, HasActed, HasItsOctets, IfSome, IsSomeAnd, IsSomePut, List, None, Option, Scenario, Settled}
-use Rattle.drift_world.proofs.Words.{Note, Some, Stands, ap, arith, happenings, inl, is_set, keeps, length, length-set, map, moment_of, rank, refl, settled_at}
+use Rattle.drift_world.proofs.ActSteps.{above_then, acted_turns, acts_late, asked_to_act, behind_part, later_then, left_in}
+use Rattle.drift_world.proofs.{ActRecords.{AreProper, IsFine}, ActSteps.{never_broken, octets_then, proper_at, row_within}}
+use Rattle.drift_world.proofs.{AtSource.{at_rank, one_of}, Fits.{all_put_some, have_octets, sized_so}}
+use Rattle.drift_world.proofs.{OwnPlaces.{no_change, no_shelf, no_waiter}, Showings.shows_of}
+use Rattle.drift_world.proofs.Turned.{all_put_in, first_given, next_first}
+use Rattle.world_law.specs.{source.Sources.task_place, steps.Acting.task_of, world.{Calls.IsStateOf, World.is_at_source}}
+use Rattle.drift_world.proofs.Words.{◌+◌, ◌∙◌, ◌≡◌, ◌≤◌, ComesFirst, HasActed, HasItsOctets, IsSomeAnd}
+use Rattle.drift_world.proofs.Words.{List, None, Note, Option, Scenario, Settled, Some, Stands, TurnsIn, ap, arith}
+use Rattle.drift_world.proofs.Words.{World, happenings, inl, is_set, keeps, length, length-set, moment_of, rank, refl}
 use Rattle.drift_world.proofs.Words.{slice_get_read, slice_set, subst, sym, true, world_of, ℕ}
-use Rattle.drift_world.proofs.state.State.act_once.Goals.{After-outcomes_of-outcomes}
+use Rattle.{drift_world.proofs.state.State.act_once.Goals.After-outcomes_of-outcomes, world_law.proofs.giving.GivenParts.some_same}
 use Rattle.std.proofs.Common.{false, is_some, slice_get}
-use Rattle.drift_world.specs.{Acting.StandsFrom, Parts.part_place, declared.state.State.State}
+use Rattle.drift_world.specs.{Parts.part_place, declared.state.State.State}
 use Rattle.drift_world.proofs.state.State.act_once.Given as given
 use Rattle.drift_world.proofs.state.State.act_once.Goals as goal
 
@@ -73,27 +76,20 @@ own g c =
     c.act.new.self c.shown-was.result.state c.shown-is.result.adjustment c.outcomes_of-outcomes.result (acted_at g c at.s at.notes at.is)
     (c.outcomes_of-outcomes.ensures at.s (record { same = of.same; clocks = of.clocks; broken = of.broken; ways = of.ways }))
 
--- the world stands again with its records, and where none of them stands where it is done, there is one frontier
-stood : (g : given.Over) (c : After-outcomes_of-outcomes g) (mid new : List Settled)
-    → IsSomePut c.outcomes_of-outcomes.result.first c.args.self.now.settled.items mid
-    → IsSomePut c.outcomes_of-outcomes.result.second mid new → (s : Scenario) (notes : List Note)
+-- the act is worked off, and these are its records
+turned : (g : given.Over) (c : After-outcomes_of-outcomes g) (s : Scenario) (notes : List Note)
     → (old : Stands g.C.Clock.reading (keeps g.M.Machine.stands) s (world_of c.args.network.now c.args.self.now) notes)
+    → old.mark ≡ old.cursor
     → ComesFirst g.C.Clock.reading (keeps g.M.Machine.stands) s (world_of c.args.network.now c.args.self.now) notes old
     (part_place c.args.part c.args.self.now.time c.args.device)
-    → Stands g.C.Clock.reading (keeps g.M.Machine.stands) s
+    → TurnsIn g.C.Clock.reading g.M.Machine.stands c.args.network.now s notes
     (record (world_of c.args.network.now c.args.self.now) {
       early = false;
       machines = slice_set c.args.self.now.machines.items c.args.device.0 c.act.new.self;
-      settled = map (settled_at c.args.network.now c.args.self.now.time) new;
-    }) notes
-    × (old.mark ≡ old.cursor → IfSome c.outcomes_of-outcomes.result.first (λ z. 6 < rank z.body)
-    → StandsFrom g.C.Clock.reading g.M.Machine.stands s
-    (record (world_of c.args.network.now c.args.self.now) {
-      early = false;
-      machines = slice_set c.args.self.now.machines.items c.args.device.0 c.act.new.self;
-      settled = map (settled_at c.args.network.now c.args.self.now.time) new;
-    }) notes (part_place c.args.part c.args.self.now.time c.args.device))
-stood g c mid new one two s notes old first =
+    })
+    (task_place s.network c.args.self.now.time c.args.device (task_of c.in-Some.act))
+    c.outcomes_of-outcomes.result.first c.outcomes_of-outcomes.result.second
+turned g c s notes old one first =
     let w = c.args.self.now in
     let lt = c.requires.there in
     let many = c.requires.sound.sized.machines in
@@ -103,24 +99,27 @@ stood g c mid new one two s notes old first =
     let stands = g.M.Machine.stands in
     let machine = c.index_mut.result.now in
     let after = c.act.new.self in
-    let was = slice_get_read w.machines.items (length w.machines.items) device.0 c.index.result.now refl (omega (arith, lt, many)) c.index.ensures in
+    let was = slice_get_read w.machines.items (length w.machines.items) device.0 c.index.result.now refl
+    (omega (arith, lt, many)) c.index.ensures in
     let set = is_set w.machines.items device.0 after (omega (arith, lt, many)) in
     let of = shows_of network w old in
     let same : c.index.result.now ≡ machine = some_same _ _ _ was (held g c) in
     let longer = length-set w.machines.items device.0 after in
     let now_is : c.index-2.result.now ≡ after = some_same _ _ _
-    (slice_get_read (slice_set w.machines.items device.0 after) (length (slice_set w.machines.items device.0 after)) device.0
+    (slice_get_read (slice_set w.machines.items device.0 after) (length (slice_set w.machines.items device.0 after))
+    device.0
     c.index-2.result.now refl (omega (arith, lt, many, longer)) c.index-2.ensures) set.there in
-    acted_once K.reading stands network w c.args.part device machine lt (held g c) c.requires.due c.requires.above after
+    acted_turns K.reading stands network w c.args.part device machine lt (held g c) c.requires.due c.requires.above after
     c.shown-was.result.state
     c.shown-is.result.state c.shown-was.result.adjustment c.shown-is.result.adjustment c.in-Some.act
-    c.outcomes_of-outcomes.result mid new _ set one two s notes old first
+    c.outcomes_of-outcomes.result _ set s notes old one first
     (acted_at g c s notes old)
     (subst (λ m. IsStateOf (keeps stands) s.network device m c.shown-was.result.state c.shown-was.result.adjustment) same
     (c.shown-was.ensures s.network device))
     (subst (λ m. IsStateOf (keeps stands) s.network device m c.shown-is.result.state c.shown-is.result.adjustment) now_is
     (c.shown-is.ensures s.network device))
-    (c.outcomes_of-outcomes.ensures s (record { same = of.same; clocks = of.clocks; broken = of.broken; ways = of.ways }))
+    (c.outcomes_of-outcomes.ensures s
+    (record { same = of.same; clocks = of.clocks; broken = of.broken; ways = of.ways }))
 
 -- no other device's machine has changed
 others : (g : given.Over) (c : After-outcomes_of-outcomes g) (i : ℕ) → (i ≡ c.args.device.0 → ⊥)
@@ -182,7 +181,28 @@ returns-then-not-is_at_source-clause-goes_on g c = λ no.
           c.put_both.new.settled.items
           (own g here) late put.1 put.2;
       then_stands = λ s notes was one first.
-          (stood g here put.0 c.put_both.new.settled.items put.1 put.2 s notes was first).1 one late;
+          let of = shows_of network w was in
+          let proper = proper_at K.reading stands network w c.args.part device machine lt (held g here) c.requires.due
+          c.requires.above s notes was
+          first c.in-Some.act after c.shown-was.result.state c.shown-is.result.adjustment c.outcomes_of-outcomes.result
+          (acted_at g here s notes was)
+          (c.outcomes_of-outcomes.ensures s
+          (record { same = of.same; clocks = of.clocks; broken = of.broken; ways = of.ways })) in
+          let world : World _ _ = record (world_of c.args.network.now w) {
+            early = false;
+            machines = slice_set w.machines.items c.args.device.0 c.act.new.self;
+          } in
+          let at = all_put_in K.reading stands network s notes world _ w.settled.items refl
+          c.outcomes_of-outcomes.result.first c.outcomes_of-outcomes.result.second put.0 c.put_both.new.settled.items
+          (turned g here s notes was one first) put.1 put.2
+          (acts_late K.reading stands network w c.args.part device machine lt (held g here) c.requires.due
+          c.requires.above s _ c.shown-was.result.state c.shown-is.result.adjustment c.in-Some.act
+          c.outcomes_of-outcomes.result proper late) in (
+            at.0,
+            at.1 ∙ sym at.2,
+            behind_part K.reading stands network w c.args.part device machine lt (held g here) c.requires.due
+                c.requires.above s notes was c.in-Some.act after (acted_at g here s notes was) at.0.cursor at.2,
+          );
       later = λ left is_left.
           later_then K.reading stands network w c.args.part device machine lt (held g here) c.requires.due
           c.requires.above c.requires.comes
@@ -226,36 +246,29 @@ source_of one least most =
           inl (omega (arith, most));
     })
 
--- the world stands with it before all that is settled
-stood_first : (g : given.Over) (c : After-outcomes_of-outcomes g) (one : Settled) (rest : List Settled)
-    → c.outcomes_of-outcomes.result.first ≡ Some one → rank one.body ≤ 6
-    → IsSomePut c.outcomes_of-outcomes.result.second c.args.self.now.settled.items rest
-    → (s : Scenario) (notes : List Note)
+-- so it is worked off, where this is its first record
+turned_first : (g : given.Over) (c : After-outcomes_of-outcomes g) (one : Settled)
+    → c.outcomes_of-outcomes.result.first ≡ Some one → (s : Scenario) (notes : List Note)
     → (old : Stands g.C.Clock.reading (keeps g.M.Machine.stands) s (world_of c.args.network.now c.args.self.now) notes)
+    → old.mark ≡ old.cursor
     → ComesFirst g.C.Clock.reading (keeps g.M.Machine.stands) s (world_of c.args.network.now c.args.self.now) notes old
     (part_place c.args.part c.args.self.now.time c.args.device)
-    → Stands g.C.Clock.reading (keeps g.M.Machine.stands) s
+    → TurnsIn g.C.Clock.reading g.M.Machine.stands c.args.network.now s notes
     (record (world_of c.args.network.now c.args.self.now) {
       early = false;
       machines = slice_set c.args.self.now.machines.items c.args.device.0 c.act.new.self;
-      settled = map (settled_at c.args.network.now c.args.self.now.time) (one ∷ rest);
-    }) notes
-stood_first g c one rest is low put s notes old first =
-    let w = c.args.self.now in
-    let of = shows_of c.args.network.now w old in
-    let acted = acted_at g c s notes old in
-    let proper = proper_at g.C.Clock.reading g.M.Machine.stands c.args.network.now w c.args.part c.args.device
-    c.index_mut.result.now c.requires.there
-    (held g c) c.requires.due c.requires.above s notes old first c.in-Some.act
-    c.act.new.self c.shown-was.result.state c.shown-is.result.adjustment c.outcomes_of-outcomes.result acted
-    (c.outcomes_of-outcomes.ensures s
-    (record { same = of.same; clocks = of.clocks; broken = of.broken; ways = of.ways })) in
-    let both = own_first g.C.Clock.reading g.M.Machine.stands c.args.network.now w c.args.part c.args.device
-    c.index_mut.result.now c.requires.there
-    (held g c) c.requires.due c.requires.above s notes old c.in-Some.act c.act.new.self c.shown-was.result.state
-    c.shown-is.result.adjustment
-    c.outcomes_of-outcomes.result one rest acted proper is low put in
-    (stood g c (one ∷ w.settled.items) (one ∷ rest) both.0 both.1 s notes old first).0
+    })
+    (task_place s.network c.args.self.now.time c.args.device (task_of c.in-Some.act)) (Some one)
+    c.outcomes_of-outcomes.result.second
+turned_first g c one is s notes old at_one first =
+    subst (λ o. TurnsIn g.C.Clock.reading g.M.Machine.stands c.args.network.now s notes
+    (record (world_of c.args.network.now c.args.self.now) {
+      early = false;
+      machines = slice_set c.args.self.now.machines.items c.args.device.0 c.act.new.self;
+    })
+    (task_place s.network c.args.self.now.time c.args.device (task_of c.in-Some.act)) o
+    c.outcomes_of-outcomes.result.second) is
+    (turned g c s notes old at_one first)
 
 pub unwrap-own-requires : goal.unwrap-own-requires
 unwrap-own-requires g c = some_of c.outcomes_of-outcomes.result.first
@@ -281,17 +294,26 @@ give_first-requires-clause-sound g c =
       };
     }
 
-pub give_first-requires-clause-running : goal.give_first-requires-clause-running
-give_first-requires-clause-running g c =
+pub give_first-requires-clause-next : goal.give_first-requires-clause-next
+give_first-requires-clause-next g c =
     let at = c.requires.comes in
+    let w = c.args.self.now in
+    let here = (goal.at.give_first-requires-clause-next g c).After-outcomes_of-outcomes in
+    let one = c.unwrap-own.result in
+    let turn = turned_first g here one c.unwrap-own.ensures at.s at.notes at.is at.one at.first in
+    let least = (fine_of g here one c.unwrap-own.ensures).1 in
+    let most = low_of c.unwrap-own.ensures (c.is_at_source.ensures.yes c.if-not-is_at_source.false) in
+    let world : World _ _ = record (world_of c.args.network.now w) {
+      early = false;
+      machines = slice_set w.machines.items c.args.device.0 c.act.new.self;
+    } in
     record {
       s = at.s;
       notes = at.notes;
-      is = stood_first g (goal.at.give_first-requires-clause-running g c).After-outcomes_of-outcomes c.unwrap-own.result
-          c.put_some.new.settled.items
-          c.unwrap-own.ensures (low_of c.unwrap-own.ensures (c.is_at_source.ensures.yes c.if-not-is_at_source.false))
-          c.put_some.ensures.is
-          at.s at.notes at.is at.first;
+      next = next_first g.C.Clock.reading g.M.Machine.stands c.args.network.now at.s at.notes world _ w.settled.items refl
+          one c.outcomes_of-outcomes.result.second turn c.put_some.new.settled.items
+          c.put_some.ensures.is (source_of one least most);
+      own = turn.first_is;
     }
 
 pub give_first-requires-clause-octets : goal.give_first-requires-clause-octets
@@ -327,7 +349,6 @@ returns-clause-gives g c = λ yes.
     let least = (fine_of g here one c.unwrap-own.ensures).1 in
     let most = low_of c.unwrap-own.ensures (c.is_at_source.ensures.yes c.if-not-is_at_source.false) in
     let far = no_change one.body (λ two. omega (arith, two, least)) in
-    let z = settled_at c.args.network.now w.time one in
     let rebuilt : State _ _ → State _ _ = λ q. record w {
       machines = q.machines;
       early = false;
@@ -343,8 +364,14 @@ returns-clause-gives g c = λ yes.
       waiting = λ x lt. give.others.waiting x (λ e. omega (arith, e, far, lt));
       time = ap (λ (n : Note). n.time) give.note;
       then_stands = λ s notes was at_one first.
-          let is = stood_first g here one rest c.unwrap-own.ensures most c.put_some.ensures.is s notes was first in
-          given_so notes z c.give_first.new.note is.given give.note
-          (give.stands s notes is (own_gives z (map (settled_at c.args.network.now w.time) rest) refl
-          (source_of one least most) is));
+          let world : World _ _ = record (world_of c.args.network.now w) {
+            early = false;
+            machines = slice_set w.machines.items c.args.device.0 c.act.new.self;
+          } in
+          let turn = turned_first g here one c.unwrap-own.ensures s notes was at_one first in
+          one_of (first_given g.C.Clock.reading g.M.Machine.stands c.args.network.now s notes world _ w.settled.items refl
+          one c.outcomes_of-outcomes.result.second turn rest c.put_some.ensures.is (source_of one least most)
+          (world_of c.args.network.now new) c.give_first.new.note give.note
+          (ap (λ (t : State _ _). world_of c.args.network.now t) give.same)
+          (give.launched s notes));
     }

@@ -1,6 +1,6 @@
 use Rattle.{drift_world.proofs.{Fits.{have_octets, left_octets}, Showings.{departure_is, way_by}}, world_law.proofs.giving.GivenParts.some_same}
-use Rattle.drift_world.proofs.{OwnPlaces.{departed_late, departed_none, departed_own}, Words.{false, is_parent_of, length, own_place, rank, slice_get_read, subst, sym}}
-use Rattle.drift_world.proofs.Words.{◌<◌, ◌^◌, ◌∙◌, ◌∷◌, ◌≡◌, DeviceId, LinkId, Network, Settled, Some, WayNow, [], ap, arith, changed_device, if◌then◌else◌}
+use Rattle.drift_world.proofs.{OwnPlaces.{departed_late, departed_none}, Words.{false, is_parent_of, length, rank, slice_get_read, subst, sym}}
+use Rattle.drift_world.proofs.Words.{◌<◌, ◌^◌, ◌∙◌, ◌≡◌, DeviceId, LinkId, Network, Settled, Some, WayNow, ap, arith, changed_device, if◌then◌else◌}
 use Rattle.{std.specs.List.slice_get, world_state.specs.Leaving.port_entry}
 use Rattle.world_law.specs.world.World.{is_at_source}
 use Rattle.drift_world.proofs.state.State.departure.Goals as goal
@@ -10,12 +10,6 @@ returns-clause-octets g c =
     let network = c.args.network.now in
     subst have_octets (sym c.departed.ensures)
     (left_octets network c.reading_of-reading.result c.way_from-way.result.cut (port_entry c.args.place c.args.frame c.args.given))
-
-pub returns-clause-own : goal.returns-clause-own
-returns-clause-own g c =
-    let network = c.args.network.now in
-    subst (λ (z : Settled). rank z.body ≡ 8 → own_place z ≡ 8 ∷ c.args.place.device ∷ c.args.place.link ∷ c.args.place.cause ∷ []) (sym c.departed.ensures)
-    (departed_own network c.reading_of-reading.result c.way_from-way.result.cut (port_entry c.args.place c.args.frame c.args.given))
 
 pub returns-clause-late : goal.returns-clause-late
 returns-clause-late g c =

@@ -1,30 +1,39 @@
 use Rattle.drift_world.{proofs.Fits.{all_put, have_octets, sound_same}, specs.declared.{source.Source.TheVariants.Departure, state.State.State}}
-use Rattle.drift_world.proofs.{OwnPlaces.{changes_both, no_shelf, no_waiter, none_ahead, runs_first, stands_first}, Turning.{comes_first, kept_timers, plain_step, step_kept}}
-use Rattle.drift_world.proofs.{AtSource.{IsLate, all_late, one_behind}, Timings.aside, Turning.shaped}
-use Rattle.drift_world.proofs.Words.{inl, inr, sym}
-use Rattle.std.proofs.Common.{All}
-use Rattle.drift_world.proofs.Words.{◌∙◌, ◌∷◌, ◌≡◌, ChangesOnly, IsPutAt, ap, arith, changed_device, place_of, rank, refl, settled_at, subst}
+use Rattle.drift_world.proofs.{OwnPlaces.{changes_both, no_shelf, no_waiter}, Turning.{kept_timers, plain_step, step_kept}}
+use Rattle.drift_world.proofs.{AtSource.{one_of, source_at}, Timings.aside, Turned.{all_put_in, first_given, next_first, turns_of}}
+use Rattle.drift_world.proofs.state.State.departure_turn.Goals.{After-leave_port}
+use Rattle.drift_world.proofs.Words.{◌∙◌, ◌≡◌, ChangesOnly, List, None, Note, Option, Scenario, Settled, Some, StandsOne, TurnsIn, ap, arith}
+use Rattle.drift_world.proofs.Words.{changed_device, keeps, numbers_of, rank, refl, subst, world_of}
+use Rattle.drift_world.proofs.state.State.departure_turn.Given as given
 use Rattle.drift_world.proofs.state.State.departure_turn.Goals as goal
+
+-- what leaves is worked off, and this is its record, if there is one
+turned : (g : given.Over) (c : After-leave_port g) (one : Option Settled) → c.leave_port.result ≡ one → (s : Scenario)
+    (notes : List Note)
+    → StandsOne g.C.Clock.reading (keeps g.M.Machine.stands) s (world_of c.args.network.now c.args.self.now) notes
+    → TurnsIn g.C.Clock.reading g.M.Machine.stands c.args.network.now s notes
+    (world_of c.args.network.now c.leave_port.new.self) (numbers_of c.args.place) one None
+turned g c one same s notes is =
+    subst (λ o. TurnsIn g.C.Clock.reading g.M.Machine.stands c.args.network.now s notes
+    (world_of c.args.network.now c.leave_port.new.self) (numbers_of c.args.place) o None) same
+    (turns_of g.C.Clock.last_step g.C.Clock.reading g.M.Machine.stands c.args.network.now c.args.self.now c.leave_port.new.self
+    (Departure c.args.place) c.leave_port.result None c.requires.may tt c.leave_port.ensures.turns s notes is)
 
 pub returns-in_default-clause-kept : goal.returns-in_default-clause-kept
 returns-in_default-clause-kept g c =
     let K = g.C.Clock in
     let S = g.M.Machine.stands in
     let network = c.args.network.now in
-    let w = c.args.self.now in
-    let may = c.requires.may in
     let mid = c.leave_port.new.self in
     let left = c.in_default.ensures in
-    let same = ap (λ (t : State _ _). t.settled.items) left.same in
-    let shape = shaped K.reading S network w (Departure c.args.place) may.foremost.there tt in
-    step_kept g.C.Clock.last_step g.C.Clock.reading g.M.Machine.stands c.args.network.now c.args.self.now mid
-    (plain_step g.C.Clock.last_step g.C.Clock.reading g.M.Machine.stands c.args.network.now c.args.self.now mid c.requires.may.well left.sound left.others
+    let here = (goal.at.returns-in_default-clause-kept g c).After-leave_port in
+    step_kept K.last_step K.reading S network c.args.self.now mid
+    (plain_step K.last_step K.reading S network c.args.self.now mid c.requires.may.well left.sound left.others
     (ap (λ (t : State _ _). t.timers) left.same)
     (ap (λ (t : State _ _). t.given) left.same)
-    (λ s notes old. one_behind K.reading S network mid w.time 8 shape.rest shape.place (inr (inr (inl refl)))
-    (subst (λ l. All IsLate l) (sym same) (all_late K.reading S network w old))
-    (left.stands mid.settled.items same s notes old.0
-    (comes_first K.last_step K.reading S network w (Departure c.args.place) s notes may tt old.0))))
+    (λ s notes is.
+    one_of (all_put_in K.reading S network s notes (world_of network mid) _ mid.settled.items refl None None
+    mid.settled.items mid.settled.items (turned g here None c.in_default.is s notes is) refl refl refl)))
 
 pub give_first-requires-clause-number : goal.give_first-requires-clause-number
 give_first-requires-clause-number g c =
@@ -48,15 +57,27 @@ give_first-requires-clause-place g c =
     no_shelf c.in-Some.record.body c.leave_port.new.self.stored
     (λ taken. omega (arith, taken, c.rank_of.ensures, c.number.ensures, c.if-rank_of-number.true))
 
-pub give_first-requires-clause-running : goal.give_first-requires-clause-running
-give_first-requires-clause-running g c =
-    runs_first g.C.Clock.last_step g.C.Clock.reading g.M.Machine.stands c.args.network.now c.args.self.now c.leave_port.new.self (Departure c.args.place)
-    c.in-Some.record c.requires.may tt (ap (λ (t : State _ _). t.settled.items) c.in-Some.ensures.same)
-    (c.in-Some.ensures.stands (c.in-Some.record ∷ c.args.self.now.settled.items) (
-      0,
-      none_ahead c.in-Some.record c.requires.may tt
-          (c.in-Some.ensures.own (omega (arith, c.rank_of.ensures, c.number.ensures, c.if-rank_of-number.true))),
-    ))
+pub give_first-requires-clause-next : goal.give_first-requires-clause-next
+give_first-requires-clause-next g c =
+    let K = g.C.Clock in
+    let S = g.M.Machine.stands in
+    let network = c.args.network.now in
+    let run = c.requires.may.well.running in
+    let here = (goal.at.give_first-requires-clause-next g c).After-leave_port in
+    let mid = c.leave_port.new.self in
+    let one = c.in-Some.record in
+    let is = c.rank_of.ensures in
+    let leaving = c.number.ensures in
+    let test = c.if-rank_of-number.true in
+    let eight : rank one.body ≡ 8 = omega (arith, is, leaving, test) in
+    let turn = turned g here (Some one) c.in-Some.is run.s run.notes (run.is, c.requires.may.well.one) in
+    record {
+      s = run.s;
+      notes = run.notes;
+      next = next_first K.reading S network run.s run.notes (world_of network mid) _ mid.settled.items refl one None turn
+          mid.settled.items refl (source_at (Departure c.args.place) one.body eight);
+      own = turn.first_is;
+    }
 
 pub returns-then-rank_of-number-clause-kept : goal.returns-then-rank_of-number-clause-kept
 returns-then-rank_of-number-clause-kept g c =
@@ -78,40 +99,38 @@ returns-then-rank_of-number-clause-kept g c =
     kept_timers g.C.Clock.last_step g.C.Clock.reading g.M.Machine.stands c.args.network.now c.args.self.now gave gave _
     may.well give.sound
     (record { clocks = changes.clocks; ended = changes.ended; later = omega (arith, time) })
-    (stands_first g.C.Clock.last_step g.C.Clock.reading g.M.Machine.stands c.args.network.now c.args.self.now mid (Departure c.args.place) one may tt
-    (ap (λ (t : State _ _). t.settled.items) left.same)
-    (left.stands (one ∷ c.args.self.now.settled.items) (
-      0,
-      none_ahead one may tt (left.own eight),
-    )) gave c.give_first.new.note
-    (ap (λ t. place_of (settled_at c.args.network.now t one)) (left.others 0).time ∙ left.own eight) give.note give.stands)
+    (λ s notes is.
+    let K = g.C.Clock in
+    let S = g.M.Machine.stands in
+    let network = c.args.network.now in
+    let here = (goal.at.returns-then-rank_of-number-clause-kept g c).After-leave_port in
+    one_of (first_given K.reading S network s notes (world_of network mid) _ mid.settled.items refl one None
+    (turned g here (Some one) c.in-Some.is s notes is) mid.settled.items refl (source_at (Departure c.args.place) one.body eight)
+    (world_of network gave) c.give_first.new.note give.note
+    (ap (λ (t : State _ _). world_of network t) give.same) (give.launched s notes)))
     refl
     (aside g.C.Clock.reading g.M.Machine.stands c.args.network.now other c.args.self.now gave may.well.timed (omega (arith, far, few)) changes
     (ap (λ (t : State _ _). t.timers) give.same ∙ ap (λ (t : State _ _). t.timers) left.same))
 
 pub returns-clause-kept : goal.returns-clause-kept
 returns-clause-kept g c =
+    let K = g.C.Clock in
+    let S = g.M.Machine.stands in
+    let network = c.args.network.now in
     let mid = c.leave_port.new.self in
     let left = c.in-Some.ensures in
     let one = c.in-Some.record in
     let put = c.put_in.ensures.is in
     let after : State _ _ = record mid { settled = c.put_in.new.settled } in
-    let own = subst (λ l. IsPutAt one l c.put_in.new.settled.items put.0) (ap (λ (t : State _ _). t.settled.items) left.same) put.1 in
-    let K = g.C.Clock in
-    let S = g.M.Machine.stands in
-    let network = c.args.network.now in
-    let w = c.args.self.now in
-    let may = c.requires.may in
+    let here = (goal.at.returns-clause-kept g c).After-leave_port in
     let late = left.late
     (λ eight. omega (arith, eight, c.rank_of.ensures, c.number.ensures, c.if-rank_of-number.false)) in
-    let shape = shaped K.reading S network w (Departure c.args.place) may.foremost.there tt in
-    step_kept g.C.Clock.last_step g.C.Clock.reading g.M.Machine.stands c.args.network.now c.args.self.now after
-    (plain_step g.C.Clock.last_step g.C.Clock.reading g.M.Machine.stands c.args.network.now c.args.self.now after c.requires.may.well
-    (sound_same g.C.Clock.last_step c.args.network.now mid after left.sound refl refl refl refl refl refl refl refl refl refl
+    step_kept K.last_step K.reading S network c.args.self.now after
+    (plain_step K.last_step K.reading S network c.args.self.now after c.requires.may.well
+    (sound_same K.last_step network mid after left.sound refl refl refl refl refl refl refl refl refl refl
     (all_put have_octets one mid.settled.items c.put_in.new.settled.items put.0 put.1 left.octets left.sound.fit.octets))
     (λ n. let o = left.others n in record { clocks = o.clocks; time = o.time; ended = o.ended; machines = o.machines; waiting = o.waiting })
     (ap (λ (t : State _ _). t.timers) left.same) (ap (λ (t : State _ _). t.given) left.same)
-    (λ s notes old. one_behind K.reading S network after w.time 8 shape.rest shape.place (inr (inr (inl refl)))
-    (all_put IsLate one w.settled.items c.put_in.new.settled.items put.0 own late (all_late K.reading S network w old))
-    (left.stands c.put_in.new.settled.items (put.0, own) s notes old.0
-    (comes_first K.last_step K.reading S network w (Departure c.args.place) s notes may tt old.0))))
+    (λ s notes is.
+    one_of (all_put_in K.reading S network s notes (world_of network mid) _ mid.settled.items refl (Some one)
+    None c.put_in.new.settled.items c.put_in.new.settled.items (turned g here (Some one) c.in-Some.is s notes is) put refl late)))

@@ -1,4 +1,5 @@
-use Rattle.drift_world.proofs.{Fits.sound_same, Gave.{changes_since, popped_world, unchanged}, Words.{settled_at, subst, sym, units_of, world_of, ℕ}}
+use Rattle.drift_world.proofs.{Fits.sound_same, Gave.{changes_since, popped_world, unchanged, with_first}, Words.{settled_at, subst, sym, units_of, world_of, ℕ}}
+use Rattle.{world_law.{proofs.giving.Given.given_step, specs.{steps.Turns.IsNext, world.World.IsDueAs}}, drift_world.proofs.Words.{IsOwn, Scenario, Some, append-nil, map}}
 use Rattle.drift_world.{proofs.state.State.give.Goals.After-unwrap-first, specs.declared.state.State.State}
 use Rattle.drift_world.proofs.Words.{◌++◌, ◌+◌, ◌<◌, ◌∙◌, ◌∷◌, ◌≡◌, ChangesOnly, DeviceId, HasItsOctets, IfSome, List, NoSourceBefore, Note, Option, Settled}
 use Rattle.drift_world.proofs.Words.{Stands, StandsAt, World, [], ap, behind, changed_device, happenings, keeps, note_of, place_of, refl}
@@ -38,24 +39,44 @@ give_first-requires-clause-octets g c =
     All-head (λ (z : Settled). HasItsOctets z.body z.octets) c.unwrap-first.result c.pop_front.new.self.items
     (subst (All (λ (z : Settled). HasItsOctets z.body z.octets)) whole c.requires.sound.fit.octets)
 
-pub give_first-requires-clause-running : goal.give_first-requires-clause-running
-give_first-requires-clause-running g c =
-    let w = c.args.self.now in
-    let room = c.make_room.ensures in
-    let run = c.requires.running in
-    let popped : State _ _ = record w {
+-- the first of what is settled is the next record, also once it is taken out
+next_of : (g : given.Over) (c : After-unwrap-first g) (s : Scenario) (notes : List Note)
+    → Stands g.C.Clock.reading (keeps g.M.Machine.stands) s (world_of c.args.network.now c.args.self.now) notes
+    → IsNext g.C.Clock.reading s notes
+    (world_of c.args.network.now (record c.args.self.now {
       under_way = c.make_room.new.under_way;
       waiting = c.make_room.new.waiting;
       stored = c.make_room.new.stored;
       settled = c.pop_front.new.self;
-    } in
-    record {
-      s = run.s;
-      notes = run.notes;
-      is = subst (λ (v : World _ _). Stands g.C.Clock.reading (keeps g.M.Machine.stands) run.s v run.notes)
-          (sym (popped_world c.args.network.now w popped c.unwrap-first.result room.entries room.waiting room.stored
-          (whole_is g (goal.at.give_first-requires-clause-running g c).After-unwrap-first) refl)) run.is;
-    }
+    })) c.unwrap-first.result.body
+    × IsOwn s.network c.args.network.now c.args.self.now.time (happenings s.network notes) (Some c.unwrap-first.result)
+next_of g c s notes old =
+    let w = c.args.self.now in
+    let hs = happenings s.network notes in
+    let z = settled_at c.args.network.now w.time c.unwrap-first.result in
+    let rest = map (settled_at c.args.network.now w.time) c.pop_front.new.self.items in
+    let due : IsDueAs s hs z = subst (λ l. IsDueAs s l z) (append-nil hs)
+    (old.are.founded [] rest z (ap (map (settled_at c.args.network.now w.time)) (whole_is g c))).1 in (
+      record {
+        same = old.same;
+        range = old.range;
+        steady = old.steady;
+        limit = old.limit;
+        given = old.given;
+        clocks = old.clocks;
+        broken = old.broken;
+        ways = old.ways;
+        founded = old.run.founded;
+        due = subst (λ h. IsDueAs s hs h) due.same due;
+      },
+      due.same,
+    )
+
+pub give_first-requires-clause-next : goal.give_first-requires-clause-next
+give_first-requires-clause-next g c =
+    let run = c.requires.running in
+    let it = next_of g (goal.at.give_first-requires-clause-next g c).After-unwrap-first run.s run.notes run.is in
+    record { s = run.s; notes = run.notes; next = it.0; own = it.1 }
 
 pub give_first-requires-clause-capacity : goal.give_first-requires-clause-capacity
 give_first-requires-clause-capacity g c =
@@ -87,10 +108,28 @@ returns-clause-stands g c = λ s notes other rest is.
       settled = c.pop_front.new.self;
     } in
     let z = settled_at network w.time first in
+    let rest_is = map (settled_at network w.time) c.pop_front.new.self.items in
     let Steps = λ (q : World _ _). (o : Stands K.reading stands s q notes) → NoSourceBefore s (happenings s.network notes) o.cursor (place_of z)
     → StandsAt K.reading stands s (world_of network new) (notes ++ note_of notes z ∷ []) (behind (place_of z)) in
-    let step : Steps (world_of network w) = subst Steps (popped_world network w popped first room.entries room.waiting room.stored whole refl)
-    (c.give_first.ensures.stands s notes) in
+    let gave : State _ _ = record popped {
+      under_way = new.under_way;
+      waiting = new.waiting;
+      stored = new.stored;
+      given = w.given + 1;
+    } in
+    let by : (it : IsNext K.reading s notes (world_of network popped) first.body
+    × IsOwn s.network network w.time (happenings s.network notes) (Some first)) → Steps (with_first network popped first) = λ it o none.
+    let launched = c.give_first.ensures.launched s notes it.0 it.1 in
+    subst (λ (t : State _ _). StandsAt K.reading stands s (world_of network t) (notes ++ note_of notes z ∷ []) (behind (place_of z)))
+    (sym c.give_first.ensures.same)
+    (given_step K.reading stands s (with_first network popped first) notes z rest_is (world_of network gave).wires
+    (world_of network gave).ports (world_of network gave).waiting (world_of network gave).stored o refl none launched.wires
+    launched.ports launched.waiting launched.stored) in
+    let step : (o : Stands K.reading stands s (world_of network w) notes)
+    → NoSourceBefore s (happenings s.network notes) o.cursor (place_of z)
+    → StandsAt K.reading stands s (world_of network new) (notes ++ note_of notes z ∷ []) (behind (place_of z)) = λ o none.
+    subst Steps (popped_world network w popped first room.entries room.waiting room.stored whole refl)
+    (by (next_of g (goal.at.returns-clause-stands g c).After-unwrap-first s notes o)) o none in
     let Gives = λ (f : Settled). (o : Stands K.reading stands s (world_of network w) notes)
     → NoSourceBefore s (happenings s.network notes) o.cursor (place_of (settled_at network w.time f)) → (note ≡ note_of notes (settled_at network w.time f))
     × StandsAt K.reading stands s (world_of network new) (notes ++ note ∷ [])

@@ -1,8 +1,9 @@
-use Rattle.drift_world.proofs.{Fits.sized_so, Givings.given_on, MayGive.{low_with, may_give}, Words.world_of, state.State.give_first.Goals.After-launch_octets}
+use Rattle.drift_world.proofs.{Fits.sized_so, Givings.launched_on, MayGive.{low_with, may_give, may_in}, Words.world_of}
+use Rattle.{drift_world.proofs.state.State.give_first.Goals.After-launch_octets, world_law.specs.steps.Turns.IsLaunched}
 use Rattle.drift_world.proofs.Gave.{from_ports, from_wire, waits_apart, waits_below, waits_elsewhere, waits_more, wire_is, wire_sound}
-use Rattle.drift_world.proofs.Words.{◌++◌, ◌+◌, ◌∙◌, ◌∷◌, ◌≡◌, ChangesOnly, IfSome, IsGivenOut, IsPutOn, IsSound, IsStoredBy}
-use Rattle.drift_world.proofs.Words.{Note, StandsAt, Units, [], ap, arith, behind, changed_device, inl, inr, keeps, length}
-use Rattle.drift_world.proofs.Words.{note_of, place_of, refl, settled_at, subst, sym, units_of, wire_entry}
+use Rattle.drift_world.proofs.Words.{◌+◌, ◌∙◌, ◌≡◌, ChangesOnly, IfSome, IsGivenOut, IsPutOn, IsSound, IsStoredBy}
+use Rattle.drift_world.proofs.Words.{Note, Units, ap, arith, changed_device, inl, inr, length}
+use Rattle.drift_world.proofs.Words.{refl, subst, sym, units_of, wire_entry}
 use Rattle.{drift_world.specs.declared.state.State.State, world_state.specs.{Shelves.{HasPlace, spot_of}, Sound.IsShort}}
 use Rattle.std.specs.Prelude.{All}
 use Rattle.drift_world.proofs.state.State.give_first.Given as given
@@ -73,17 +74,15 @@ returns-clause-sound g c =
     } in
     subst (IsSound g.C.Clock.last_step network) (sym last) whole
 
-pub returns-clause-stands : goal.returns-clause-stands
-returns-clause-stands g c = λ s notes old none.
+pub returns-clause-launched : goal.returns-clause-launched
+returns-clause-launched g c = λ s notes next own.
     let w = c.args.self.now in
     let K = g.C.Clock in
-    let stands = keeps g.M.Machine.stands in
     let network = c.args.network.now in
     let first = c.args.first in
-    let z = settled_at network w.time first in
     let two = c.launch_frame.new.self in
     let three = c.launch_octets.new.self in
-    let number : w.given + 1 ≡ length notes + 1 = ap (λ n. n + 1) old.given in
+    let number : w.given + 1 ≡ length notes + 1 = ap (λ n. n + 1) next.given in
     let given = c.launch_frame.ensures.given in
     let out = subst (λ k. IsGivenOut K.reading network w two first.body first.frame k given.0) number given.1 in
     let sent = subst (λ k. IsPutOn (wire_entry network w.ups.items w.downs.items first.body first.frame first.octets w.time k)
@@ -94,13 +93,16 @@ returns-clause-stands g c = λ s notes old none.
     subst (λ k. IsStoredBy first.body first.octets k w.stored.items three.stored.items) number
     (subst (λ (q : State _ _). IsStoredBy first.body first.octets (w.given + 1) q.stored.items three.stored.items) c.launch_frame.ensures.same
     c.launch_octets.ensures.stored) in
-    let step = given_on K.reading stands s network (sym old.same) w two notes first w.settled.items given.0 three.under_way.entries three.stored.items old
-    none
-    (may_give K.reading g.M.Machine.stands network w first c.requires.running c.requires.octets) out sent held in
-    let last = gave_all g (goal.at.returns-clause-stands g c).After-launch_octets in
-    subst (λ q. StandsAt K.reading stands s (world_of network q) (notes ++ note_of notes z ∷ []) (behind (place_of z)))
-    (sym last)
-    step
+    let step = launched_on K.reading s network (sym next.same) w two notes first given.0 three.under_way.entries
+    three.stored.items next own (may_in K.reading network w first next own c.requires.octets) out sent held in
+    let so : IsLaunched s notes first.body (world_of network w) (world_of network (record w {
+      under_way = three.under_way;
+      waiting = two.waiting;
+      stored = three.stored;
+      given = w.given + 1;
+    })) = record { wires = step.wires; ports = step.ports; waiting = step.waiting; stored = step.stored } in
+    subst (λ (q : State _ _). IsLaunched s notes first.body (world_of network w) (world_of network q))
+    (sym (gave_all g (goal.at.returns-clause-launched g c).After-launch_octets)) so
 
 pub returns-clause-others : goal.returns-clause-others
 returns-clause-others g c =
@@ -128,7 +130,7 @@ returns-clause-others g c =
 pub launch_frame-requires : goal.launch_frame-requires
 launch_frame-requires g c =
     let w = c.args.self.now in
-    let may = may_give g.C.Clock.reading g.M.Machine.stands c.args.network.now w c.args.first c.requires.running c.requires.octets in
+    let may = may_give g.C.Clock.reading c.args.network.now w c.args.first c.requires.next c.requires.octets in
     let fit = c.requires.sound.fit in
     let room = c.requires.room in
     record {
@@ -140,7 +142,7 @@ launch_frame-requires g c =
       capacity = c.requires.capacity;
       ups = fit.ups;
       downs = fit.downs;
-      low = low_with g.C.Clock.reading g.M.Machine.stands c.args.network.now w c.args.first c.requires.running c.requires.sound.sized.clocks;
+      low = low_with g.C.Clock.reading c.args.network.now w c.args.first c.requires.next c.requires.sound.sized.clocks;
     }
 
 pub launch_octets-requires : goal.launch_octets-requires
@@ -182,4 +184,4 @@ returns-clause-same g c =
 
 pub returns-clause-arrived : goal.returns-clause-arrived
 returns-clause-arrived g c =
-    (may_give g.C.Clock.reading g.M.Machine.stands c.args.network.now c.args.self.now c.args.first c.requires.running c.requires.octets).arrived
+    (may_give g.C.Clock.reading c.args.network.now c.args.self.now c.args.first c.requires.next c.requires.octets).arrived

@@ -1,12 +1,11 @@
 use Rattle.drift_world.proofs.{Dues.due_stays, state.State.hear_turn.Goals.{After-give_first, After-put_in}}
 use Rattle.world_state.specs.Frames.{Waiting, room_of}
-use Rattle.drift_world.proofs.{Fits.{all_put, have_octets, sound_same}, Timings.rekeyed, Words.{length, place_of, rank, refl, settled_at, subst, sym}}
-use Rattle.drift_world.proofs.Words.{world_of}
-use Rattle.drift_world.{proofs.{Halves.{set_act, waits_as}, OwnPlaces.{changes_both, no_shelf, none_ahead, runs_first, stands_first, waits_at}}, specs.declared.state.State.State}
-use Rattle.drift_world.{proofs.Turning.{comes_first, kept_timers, rekeyed_step, runs_on, step_kept}, specs.declared.source.Source.TheVariants.Arrival}
-use Rattle.drift_world.proofs.Words.{◌++◌, ◌<◌, ◌∙◌, ◌∷◌, ◌≡◌, ChangesOnly, DeviceId, IsPutAt, IsSound, List, Note, Scenario, ap, arith, keeps}
-use Rattle.drift_world.proofs.Words.{StandsOne, [], inl}
-use Rattle.drift_world.proofs.{AtSource.{IsLate, all_late, one_behind}, Turning.shaped}
+use Rattle.drift_world.proofs.{AtSource.{one_of, source_at}, Fits.{all_put, have_octets, sound_same}, Timings.rekeyed}
+use Rattle.drift_world.{proofs.{Halves.{set_act, waits_as}, OwnPlaces.{changes_both, no_shelf, waits_at}}, specs.declared.state.State.State}
+use Rattle.drift_world.{proofs.Turning.{kept_timers, rekeyed_step, runs_on, step_kept}, specs.declared.source.Source.TheVariants.Arrival}
+use Rattle.drift_world.proofs.Turned.{all_put_in, first_given, next_first, turns_of}
+use Rattle.drift_world.proofs.Words.{◌++◌, ◌<◌, ◌∙◌, ◌∷◌, ◌≡◌, ChangesOnly, DeviceId, IsSound, List, None, Note, Scenario, Some}
+use Rattle.drift_world.proofs.Words.{StandsOne, [], ap, arith, keeps, length, rank, refl, subst, sym, world_of}
 use Rattle.drift_world.proofs.state.State.hear_turn.Given as given
 use Rattle.drift_world.proofs.state.State.hear_turn.Goals as goal
 
@@ -35,14 +34,28 @@ give_first-requires-clause-place g c =
     no_shelf c.hear_wire-record.result.body c.hear_wire-record.new.self.stored
     (λ taken. omega (arith, taken, c.rank_of.ensures, c.number.ensures, c.if-rank_of-number.true))
 
-pub give_first-requires-clause-running : goal.give_first-requires-clause-running
-give_first-requires-clause-running g c =
+pub give_first-requires-clause-next : goal.give_first-requires-clause-next
+give_first-requires-clause-next g c =
+    let K = g.C.Clock in
+    let S = g.M.Machine.stands in
+    let network = c.args.network.now in
+    let well = c.requires.may.well in
+    let run = well.running in
+    let mid = c.hear_wire-record.new.self in
     let one = c.hear_wire-record.result in
-    runs_first g.C.Clock.last_step g.C.Clock.reading g.M.Machine.stands c.args.network.now c.args.self.now c.hear_wire-record.new.self (Arrival c.args.place)
-    one c.requires.may tt (ap (λ (t : State _ _). t.settled.items) c.hear_wire-record.ensures.same)
-    (c.hear_wire-record.ensures.stands (one ∷ c.args.self.now.settled.items) 0
-    (none_ahead c.hear_wire-record.result c.requires.may tt
-    (c.hear_wire-record.ensures.own (omega (arith, c.rank_of.ensures, c.number.ensures, c.if-rank_of-number.true)))))
+    let is = c.rank_of.ensures in
+    let arriving_is = c.number.ensures in
+    let test = c.if-rank_of-number.true in
+    let two : rank one.body ≡ 2 = omega (arith, is, arriving_is, test) in
+    let turn = turns_of K.last_step K.reading S network c.args.self.now mid (Arrival c.args.place) (Some one) None c.requires.may tt
+    c.hear_wire-record.ensures.turns run.s run.notes (run.is, well.one) in
+    record {
+      s = run.s;
+      notes = run.notes;
+      next = next_first K.reading S network run.s run.notes (world_of network mid) _ mid.settled.items refl one None turn
+          mid.settled.items refl (source_at (Arrival c.args.place) one.body two);
+      own = turn.first_is;
+    }
 
 arriving : (g : given.Over) (c : After-give_first g) → rank c.hear_wire-record.result.body ≡ 2
 arriving g c = omega (arith, c.rank_of.ensures, c.number.ensures, c.if-rank_of-number.true)
@@ -52,17 +65,18 @@ given_so : (g : given.Over) (c : After-give_first g) (s : Scenario) (notes : Lis
     → StandsOne g.C.Clock.reading (keeps g.M.Machine.stands) s (world_of c.args.network.now c.give_first.new.self)
     (notes
     ++ c.give_first.new.note ∷ [])
-given_so g c =
+given_so g c s notes is =
+    let K = g.C.Clock in
+    let S = g.M.Machine.stands in
+    let network = c.args.network.now in
+    let mid = c.hear_wire-record.new.self in
     let one = c.hear_wire-record.result in
-    let hear = c.hear_wire-record.ensures in
-    stands_first g.C.Clock.last_step g.C.Clock.reading g.M.Machine.stands c.args.network.now c.args.self.now c.hear_wire-record.new.self (Arrival c.args.place)
-    one c.requires.may tt (ap (λ (t : State _ _). t.settled.items) hear.same)
-    (hear.stands (one ∷ c.args.self.now.settled.items) 0
-    (none_ahead one c.requires.may tt
-    (hear.own (arriving g c))))
-    c.give_first.new.self c.give_first.new.note
-    (ap (λ t. place_of (settled_at c.args.network.now t one)) hear.others.time ∙ hear.own (arriving g c))
-    c.give_first.ensures.note c.give_first.ensures.stands
+    let give = c.give_first.ensures in
+    one_of (first_given K.reading S network s notes (world_of network mid) _ mid.settled.items refl one None
+    (turns_of K.last_step K.reading S network c.args.self.now mid (Arrival c.args.place) (Some one) None c.requires.may tt
+    c.hear_wire-record.ensures.turns s notes is)
+    mid.settled.items refl (source_at (Arrival c.args.place) one.body (arriving g c)) (world_of network c.give_first.new.self)
+    c.give_first.new.note give.note (ap (λ (t : State _ _). world_of network t) give.same) (give.launched s notes))
 
 pub rekey_from-requires : goal.rekey_from-requires
 rekey_from-requires g c =
@@ -128,25 +142,18 @@ still : (g : given.Over) (c : After-put_in g) (s : Scenario) (notes : List Note)
     → StandsOne g.C.Clock.reading (keeps g.M.Machine.stands) s (world_of c.args.network.now c.args.self.now) notes
     → StandsOne g.C.Clock.reading (keeps g.M.Machine.stands) s
     (world_of c.args.network.now (record c.hear_wire-record.new.self { settled = c.put_in.new.settled })) notes
-still g c s notes old =
+still g c s notes is =
     let K = g.C.Clock in
     let S = g.M.Machine.stands in
     let network = c.args.network.now in
-    let w = c.args.self.now in
-    let may = c.requires.may in
+    let mid = c.hear_wire-record.new.self in
     let one = c.hear_wire-record.result in
-    let put = c.put_in.ensures.is in
-    let hear = c.hear_wire-record.ensures in
-    let own : IsPutAt one w.settled.items c.put_in.new.settled.items put.0 =
-    subst (λ l. IsPutAt one l c.put_in.new.settled.items put.0)
-    (ap (λ (t : State _ _). t.settled.items) hear.same) put.1 in
-    let late = hear.late (λ two. omega (arith, two, c.rank_of.ensures, c.number.ensures, c.if-rank_of-number.false)) in
-    let shape = shaped K.reading S network w (Arrival c.args.place) may.foremost.there tt in
-    one_behind K.reading S network (record c.hear_wire-record.new.self { settled = c.put_in.new.settled }) w.time 2
-    shape.rest shape.place (inl refl)
-    (all_put IsLate one w.settled.items c.put_in.new.settled.items put.0 own late (all_late K.reading S network w old))
-    (hear.stands c.put_in.new.settled.items put.0 own s notes old.0
-    (comes_first K.last_step K.reading S network w (Arrival c.args.place) s notes may tt old.0))
+    let late = c.hear_wire-record.ensures.late
+    (λ two. omega (arith, two, c.rank_of.ensures, c.number.ensures, c.if-rank_of-number.false)) in
+    one_of (all_put_in K.reading S network s notes (world_of network mid) _ mid.settled.items refl (Some one) None
+    c.put_in.new.settled.items c.put_in.new.settled.items
+    (turns_of K.last_step K.reading S network c.args.self.now mid (Arrival c.args.place) (Some one) None c.requires.may tt
+    c.hear_wire-record.ensures.turns s notes is) c.put_in.ensures.is refl late)
 
 pub rekey_act_from-requires : goal.rekey_act_from-requires
 rekey_act_from-requires g c =

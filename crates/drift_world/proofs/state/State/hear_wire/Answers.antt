@@ -1,8 +1,8 @@
 use Rattle.drift_world.proofs.{Fits.{below_without, have_octets, sized_so}, state.State.hear_wire.Goals.{After-index_mut-machine, After-read}}
-use Rattle.{drift_world.proofs.Hears.{as_sent, heard_octets, heard_stands, may_come, moment_is}, tte_units.proofs.general_lemmas.Lists.{set_aside, set_same}}
-use Rattle.{drift_world.proofs.{OwnPlaces.{arrived_device, arrived_late, arrived_own}, Words.{false, subst, sym, world_of}}, world_state.proofs.UnderWays.sound_without}
-use Rattle.drift_world.proofs.Words.{◌+◌, ◌<◌, ◌≡◌, DeviceId, IsPutAt, List, Moment, Network, Note, Scenario, Settled, Some, Stands, arith, changed_device}
-use Rattle.drift_world.proofs.Words.{keeps, length, length-set, length_permutation, moment_of, numbers_of, place_of, rank, refl, settled_at, slice_get_read}
+use Rattle.{drift_world.proofs.Hears.{as_sent, heard_octets, heard_turns, may_come, moment_is}, tte_units.proofs.general_lemmas.Lists.{set_aside, set_same}}
+use Rattle.{drift_world.proofs.{OwnPlaces.{arrived_device, arrived_late}, Rising.settled_in_order, Turned.one_turn, Words.{false, subst, sym, world_of}}, world_state.proofs.UnderWays.sound_without}
+use Rattle.drift_world.proofs.Words.{◌+◌, ◌<◌, ◌∙◌, ◌≡◌, DeviceId, Moment, Network, Note, Scenario, Settled, Some, Stands, ap, arith, changed_device}
+use Rattle.drift_world.proofs.Words.{List, keeps, length, length-set, length_permutation, moment_of, rank, refl, settled_at, slice_get_read}
 use Rattle.{std.proofs.Common.{set, slice_get}, world_law.proofs.giving.GivenParts.some_same}
 use Rattle.world_law.specs.world.World.{is_at_source}
 use Rattle.drift_world.{proofs.Turning.is_at, specs.declared.source.Source.TheVariants.Arrival}
@@ -81,14 +81,6 @@ returns-clause-octets g c =
     (now_is g (goal.at.returns-clause-octets g c).After-read at.s at.notes at.is) heard.new.kept heard.ensures.0 heard.result heard.ensures.1
     heard.ensures.2)
 
-pub returns-clause-own : goal.returns-clause-own
-returns-clause-own g c = λ two.
-    let w = c.args.self.now in
-    let network = c.args.network.now in
-    let z = c.arrived.ensures in
-    subst (λ (r : Settled). rank r.body ≡ 2 → place_of (settled_at network w.time r) ≡ numbers_of c.args.place) (sym z)
-    (arrived_own network w.time c.args.place c.hear_signal-arrival.result c.take_wire-signal.result c.requires.may.foremost.there.now c.requires.may.foremost.there.rank_is) two
-
 pub returns-clause-device : goal.returns-clause-device
 returns-clause-device g c = λ two.
     subst (λ (r : Settled). rank r.body ≡ 2 → changed_device r.body ≡ c.args.place.device) (sym c.arrived.ensures)
@@ -99,25 +91,28 @@ returns-clause-late g c = λ not.
     subst (λ (r : Settled). (rank r.body ≡ 2 → ⊥) → is_at_source r.body ≡ false) (sym c.arrived.ensures)
     (arrived_late c.args.place c.hear_signal-arrival.result c.take_wire-signal.result) not
 
-pub returns-clause-stands : goal.returns-clause-stands
-returns-clause-stands g c = λ settled index put s notes old first.
+pub returns-clause-turns : goal.returns-clause-turns
+returns-clause-turns g c = λ s notes is first.
     let w = c.args.self.now in
+    let network = c.args.network.now in
     let device : DeviceId = record { 0 = c.args.place.device } in
     let within = c.requires.may.foremost.there.device in
     let machines = c.requires.may.well.sound.sized.machines in
     let kept = w.machines.ok.0 in
     let took = c.take_wire-signal in
     let heard = c.hear_signal-arrival in
-    heard_stands g.C.Clock.reading (keeps g.M.Machine.stands) s c.args.network.now w notes old c.args.place took.result took.new.under_way.entries took.ensures.taken
-    c.requires.may.foremost.there.rank_is c.requires.may.foremost.there.now c.index_mut-machine.result.now (record { time = c.from_amount-time.result; reading = c.read.result })
-    (held g (goal.at.returns-clause-stands g c).After-index_mut-machine) (now_is g (goal.at.returns-clause-stands g c).After-read s notes old)
-    heard.new.kept heard.ensures.0 heard.result (set w.machines.items device.0 heard.new.kept) settled index
+    let it = heard_turns g.C.Clock.reading (keeps g.M.Machine.stands) s network w notes is.0 c.args.place took.result took.new.under_way.entries
+    took.ensures.taken c.requires.may.foremost.there.rank_is c.requires.may.foremost.there.now c.index_mut-machine.result.now
+    (record { time = c.from_amount-time.result; reading = c.read.result })
+    (held g (goal.at.returns-clause-turns g c).After-index_mut-machine) (now_is g (goal.at.returns-clause-turns g c).After-read s notes is.0)
+    heard.new.kept heard.ensures.0 heard.result (set w.machines.items device.0 heard.new.kept) is.1
     c.requires.may.well.sound.under_way first heard.ensures.1 heard.ensures.2
     (record {
       there = set_same w.machines.items device.0 heard.new.kept (omega (arith, machines, within, kept));
       same = λ i apart. set_aside w.machines.items device.0 i heard.new.kept apart;
-    })
-    (subst (λ z. IsPutAt z w.settled.items settled index) c.arrived.ensures put)
+    }) in
+    one_turn g.C.Clock.reading g.M.Machine.stands network c.arrived.result _ (settled_in_order is.0)
+    (ap (settled_at network w.time) c.arrived.ensures ∙ it.0) it.1
 
 pub returns-clause-others : goal.returns-clause-others
 returns-clause-others g c = record {

@@ -1,9 +1,10 @@
-use Rattle.{drift_world.proofs.{Alike.with_wires, OwnPlaces.left_own, Showings.shows_of}, world_state.specs.{Leaving.port_entry, declared.queue.Entry.Entry}}
-use Rattle.{drift_world.proofs.Fits.{below_without, sized_so}, world_law.{proofs.steps_lemmas.steps.LeftSteps.left_step, specs.steps.Steps.departure_now}}
-use Rattle.drift_world.proofs.{Rising.settled_in_order, Words.{length_permutation, map, numbers_of, on_wire, refl, settled_at, subst, sym, world_of, ℕ}}
-use Rattle.{drift_world.proofs.Puts.{departed_is, frame_of_port, some_put_in}, world_state.proofs.UnderWays.{ports_without, sound_without, wires_stay}}
-use Rattle.drift_world.proofs.Words.{◌+◌, ◌∷◌, ◌≡◌, ComesFirst, Content, IsPermutation-sym, IsSomePut, Port, StandsBehind, World, [], ap}
-use Rattle.drift_world.proofs.Words.{arith, at_port, behind, departure_body, false, happenings, in_permuted, inl, is_broken, is_given, keeps}
+use Rattle.{drift_world.proofs.{Alike.turns_alike, Rising.settled_in_order, Showings.shows_of, Turned.some_turn}, world_state.specs.{Leaving.port_entry, declared.queue.Entry.Entry}}
+use Rattle.{drift_world.proofs.Fits.{below_without, sized_so}, world_law.proofs.steps_lemmas.turns.SourceTurns.left_turn}
+use Rattle.world_law.specs.steps.{Steps.{departure_bodies, departure_now}, Turns.TurnsBy}
+use Rattle.drift_world.proofs.Words.{length_permutation, numbers_of, on_wire, refl, subst, sym, world_of, ℕ}
+use Rattle.{drift_world.proofs.Puts.{departed_is, frame_of_port}, world_state.proofs.UnderWays.{ports_without, sound_without, wires_stay}}
+use Rattle.drift_world.proofs.Words.{◌+◌, ◌∷◌, ◌≡◌, ComesFirst, Content, IsPermutation-sym, None, Port, TurnsIn, World, [], ap}
+use Rattle.drift_world.proofs.Words.{arith, at_port, departure_body, false, happenings, in_permuted, inl, is_broken, is_given, keeps}
 use Rattle.std.specs.List.{filter_map}
 use Rattle.drift_world.proofs.state.State.leave_port.Goals as goal
 
@@ -26,8 +27,8 @@ returns-clause-sound g c =
       };
     }
 
-pub returns-clause-stands : goal.returns-clause-stands
-returns-clause-stands g c = λ settled was s notes old first.
+pub returns-clause-turns : goal.returns-clause-turns
+returns-clause-turns g c = λ s notes is first.
     let now_is = c.requires.may.foremost.there.now in
     let w = c.args.self.now in
     let K = g.C.Clock in
@@ -36,6 +37,7 @@ returns-clause-stands g c = λ settled was s notes old first.
     let world = world_of network w in
     let place = c.args.place in
     let took = c.take_port-frame in
+    let old = is.0 in
     let e = port_entry place took.result.0 took.result.1 in
     let taken : Entry Content = record { place = place; content = Port took.result.0 took.result.1 } in
     let hs = happenings s.network notes in
@@ -44,28 +46,20 @@ returns-clause-stands g c = λ settled was s notes old first.
     let there = is_given at_port w.under_way.entries taken e (in_permuted _ _ taken (IsPermutation-sym _ _ took.ensures.taken) (inl refl)) refl in
     let given = frame_of_port (old.ports.real e there).0 in
     let of = shows_of network w old in
-    let put = subst (λ o. IsSomePut o w.settled.items settled)
-    (c.departure.ensures.is s (record { same = of.same; clocks = of.clocks; broken = of.broken; ways = of.ways })) was in
-    let step = left_step K.reading stands s world notes e (filter_map at_port took.new.under_way.entries)
-    (map (settled_at network w.time) settled) old there now_is
-    (subst (ComesFirst K.reading stands s world notes old) numbers first)
-    (ports_without network w.under_way.entries took.new.under_way.entries taken c.requires.may.well.sound.under_way took.ensures.taken e refl)
-    (some_put_in s.network network w.time hs (departure_body e (departure_now s e w.time)) _ w.settled.items settled
-    (is_broken s e.device w.time) put
-    (settled_in_order old) (departed_is s.network network w.time hs e (departure_now s e w.time) given)) in
-    let after : World _ _ = record world {
-      ports = filter_map at_port took.new.under_way.entries;
-      early = false;
-      settled = map (settled_at network w.time) settled;
-    } in
-    with_wires K.reading stands s after notes (filter_map (on_wire network) took.new.under_way.entries) (behind (numbers_of place))
-    (wires_stay network w.under_way.entries took.new.under_way.entries taken c.requires.may.well.sound.under_way took.ensures.taken refl)
-    (subst (λ p. StandsBehind K.reading stands s after notes (behind p)) (sym numbers) step)
+    let under_way = c.requires.may.well.sound.under_way in
+    let mid : World _ _ = record world { ports = filter_map at_port took.new.under_way.entries; early = false } in
+    let after : World _ _ = record mid { wires = filter_map (on_wire network) took.new.under_way.entries } in
+    let turn = left_turn K.reading stands s world notes old.cursor e (filter_map at_port took.new.under_way.entries)
+    (old, is.1, refl) there now_is (subst (ComesFirst K.reading stands s world notes old) numbers first)
+    (ports_without network w.under_way.entries took.new.under_way.entries taken under_way took.ensures.taken e refl) in
+    let placed = subst (λ p. TurnsBy K.reading stands s notes (departure_bodies s e w.time) mid p) (sym numbers) turn in
+    subst (λ o. TurnsIn K.reading g.M.Machine.stands network s notes after (numbers_of place) o None)
+    (sym (c.departure.ensures.is s (record { same = of.same; clocks = of.clocks; broken = of.broken; ways = of.ways })))
+    (some_turn K.reading g.M.Machine.stands network (is_broken s e.device w.time) _ (departure_body e (departure_now s e w.time))
+    (settled_in_order old) (departed_is s.network network w.time hs e (departure_now s e w.time) given)
+    (turns_alike K.reading stands s notes mid (filter_map (on_wire network) took.new.under_way.entries) mid.ports
+    (wires_stay network w.under_way.entries took.new.under_way.entries taken under_way took.ensures.taken refl)
+    (λ d. (λ i. i, λ i. i)) placed))
 
 pub returns-clause-shorter : goal.returns-clause-shorter
 returns-clause-shorter g c = let same = length_permutation _ _ c.take_port-frame.ensures.taken in omega (arith, same)
-
-pub returns-clause-own : goal.returns-clause-own
-returns-clause-own g c =
-    let w = c.args.self.now in
-    left_own c.args.network.now w.time c.args.place c.departure.result c.requires.may.foremost.there.now c.requires.may.foremost.there.rank_is c.departure.ensures.own

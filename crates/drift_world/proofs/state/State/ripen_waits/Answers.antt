@@ -89,18 +89,18 @@ returns-clause-sound g c =
       };
     }
 
-pub returns-clause-stands : goal.returns-clause-stands
-returns-clause-stands g c = λ settled put s notes old first.
+pub returns-clause-turns : goal.returns-clause-turns
+returns-clause-turns g c = λ s notes is first.
     let one = c.take_first-waits.result in
-    let lt = within g (goal.at.returns-clause-stands g c).After-take_first-waits in
+    let lt = within g (goal.at.returns-clause-turns g c).After-take_first-waits in
     let many = c.requires.sound.sized.machines in
     ripened g.M.Machine.stands c.args.network.now c.args.self.now c.take_first-waits.new.self.items
     c.index_mut.result.now
     c.ripen-ripe.new.self c.take_first-waits.ensures.items c.requires.sound.fit.apart
     (λ clock own. c.requires.reached one clock c.take_first-waits.ensures.is own) (omega (arith, lt, many))
-    (held g (goal.at.returns-clause-stands g c).After-index_mut) put first
+    (held g (goal.at.returns-clause-turns g c).After-index_mut) is first
     (subst (λ m. HasRipened (keeps g.M.Machine.stands) s.network one.device m one.link one.frame one.point c.ripen-ripe.result c.index_mut.result.now
-    c.ripen-ripe.new.self) (now_is g (goal.at.returns-clause-stands g c).After-index_mut s notes old)
+    c.ripen-ripe.new.self) (now_is g (goal.at.returns-clause-turns g c).After-index_mut s notes is.0)
     (λ node. c.ripen-ripe.ensures s.network one.device node))
 
 pub returns-clause-others : goal.returns-clause-others

@@ -1,15 +1,16 @@
-use Rattle.drift_world.proofs.{Dues.due_stays, Ripenings.{joined_fits, octets_fit, record_fits}}
-use Rattle.drift_world.proofs.OwnPlaces.{judged_far, judged_first, judged_own, judged_rank, no_shelf, no_waiter, none_ahead, runs_first, stands_first}
-use Rattle.{drift_world.{proofs.Fits.{all_put_some, have_octets, sound_same}, specs.declared.state.State.State}, world_state.specs.Ripening.{AreSettledSo, joined_record, ripe_record}}
-use Rattle.{drift_world.{proofs.Timings.rekeyed_by, specs.Stepping.StandsPast}, run_law.specs.declared.steps.Ripe.Ripe, world_law.proofs.giving.GivenParts.some_same}
-use Rattle.drift_world.{proofs.Turning.{comes_first, is_at, kept_timers, rekeyed_step, runs_on, step_kept}, specs.declared.source.Source.TheVariants.Ripening}
-use Rattle.drift_world.proofs.Words.{[], IsSomePut, Option, StandsOne, both_ways, inl, inr, rank}
-use Rattle.drift_world.proofs.{AtSource.{all_late, one_behind}, Ripenings.dropped_late, Turning.shaped}
-use Rattle.drift_world.proofs.Words.{◌++◌, ◌+◌, ◌<◌, ◌∙◌, ◌∷◌, ◌≡◌, ◌≤ℤ◌, ChangesOnly, DeviceId, IsPutAt, IsSound, List, Network, Node, Note, Scenario, Settled, Some}
-use Rattle.drift_world.proofs.Words.{Waits, ap, arith, changed_device, keeps, length, place_of, pos, refl, ripe_place, settled_at, subst, sym}
+use Rattle.drift_world.proofs.{Dues.due_stays, Ripenings.{dropped_late, joined_fits, judged_source, octets_fit, record_fits}}
+use Rattle.drift_world.proofs.{AtSource.one_of, OwnPlaces.{judged_far, judged_rank, no_shelf, no_waiter}}
+use Rattle.{drift_world.{proofs.Fits.{all_put_some, have_octets, sound_same}, specs.declared.state.State.State}, world_state.specs.Ripening.{joined_record, ripe_record}}
+use Rattle.{drift_world.proofs.{Timings.rekeyed_by, Turned.{all_put_in, first_given, next_first, turns_of}}, run_law.specs.declared.steps.Ripe.Ripe}
+use Rattle.drift_world.{proofs.Turning.{is_at, kept_timers, rekeyed_step, runs_on, step_kept}, specs.declared.source.Source.TheVariants.Ripening}
+use Rattle.drift_world.proofs.Words.{◌++◌, ◌+◌, ◌<◌, ◌∙◌, ◌∷◌, ◌≡◌, ◌≤ℤ◌, ChangesOnly, DeviceId, IsSomePut, IsSound, Kept, List, Network, Node, Note}
+use Rattle.drift_world.proofs.Words.{Option, Scenario, Settled, Some, StandsOne, TurnsIn, Waits, World, [], ap, arith, both_ways}
+use Rattle.drift_world.proofs.Words.{changed_device, keeps, length, pos, rank, refl, ripe_place, subst, sym, true}
 use Rattle.drift_world.proofs.Words.{waiting_as}
 use Rattle.{drift_world.{proofs.Words.{world_of, ℕ}, specs.Ripening.IsJudged}, std.proofs.Common.{is_some, slice_get}, world_state.specs.Frames.first_of}
-use Rattle.drift_world.{proofs.state.State.ripening_turn.Goals.{After-give_first, After-settle_ripe}, specs.Turns.{IsRipe, MayWork}}
+use Rattle.drift_world.specs.Turns.{IsRipe, MayWork}
+use Rattle.drift_world.proofs.state.State.ripening_turn.Goals.{After-give_first, After-ripen_waits-ripened, After-settle_ripe}
+use Rattle.world_law.{proofs.giving.GivenParts.some_same, specs.world.World.is_at_source}
 use Rattle.drift_world.proofs.state.State.ripening_turn.Given as given
 use Rattle.drift_world.proofs.state.State.ripening_turn.Goals as goal
 
@@ -49,35 +50,6 @@ pub give_first-requires-clause-octets : goal.give_first-requires-clause-octets
 give_first-requires-clause-octets g c =
     subst have_octets (sym c.record_of-record.ensures) (record_fits c.ripen_waits-ripened.result.waits c.ripen_waits-ripened.result.ripe)
 
-past : {C M : Type 0} (reading : C → ℕ → ℕ) (stands : M → Network → DeviceId → Node → Type 0) (network : Network) (old new : State C M)
-    (w : Waits) (is : Ripe) (one : Settled) (rest : List Settled) → one ≡ ripe_record w is → IsJudged is
-    → IsPutAt one old.settled.items (one ∷ old.settled.items) 0 → IsSomePut (joined_record (old.given + 1) w.device is) old.settled.items rest
-    → ((settled : List Settled) → AreSettledSo (old.given + 1) w is old.settled.items settled
-    → StandsPast reading stands network old new (ripe_place old.time (waiting_as w)) settled)
-    → StandsPast reading stands network old new (ripe_place old.time (waiting_as w)) (one ∷ rest)
-past reading stands network old new w is one rest same judged front more stands_past =
-    stands_past (one ∷ rest)
-    (subst (λ (x : Settled). AreSettledSo (old.given + 1) w is old.settled.items (x ∷ rest)) (sym same)
-    (judged_first (old.given + 1) w is judged (subst
-    (λ x. IsPutAt x old.settled.items (x ∷ old.settled.items) 0) same front) more))
-
--- nothing that is settled stands before its record
-ahead : {C M : Type 0} (last_step : C → ℕ) (reading : C → ℕ → ℕ) (stands : M → Network → DeviceId → Node → Type 0) (network : Network)
-    (state : State C M) (one : Waits) (w : Waits) (is : Ripe) (z : Settled) → MayWork last_step reading stands network state (Ripening one)
-    → first_of state.waiting one.device.0 ≡ Some w → z ≡ ripe_record w is → IsJudged is
-    → IsPutAt z state.settled.items (z ∷ state.settled.items) 0
-ahead last_step reading stands network state one w is z may at same judged =
-    none_ahead z (first_ripe last_step reading stands network state one w may at) tt
-    (ap (λ x. place_of (settled_at network state.time x)) same ∙ judged_own network state.time w is judged)
-
--- the change of state is put in behind it
-changed_then : {C M : Type 0} (old mid : State C M) (w : Waits) (is : Ripe) (change : Option Settled) (new : List Settled)
-    → mid.settled.items ≡ old.settled.items → change ≡ joined_record (old.given + 1) w.device is → IsSomePut change mid.settled.items new
-    → IsSomePut (joined_record (old.given + 1) w.device is) old.settled.items new
-changed_then old mid w is change new same joins put =
-    subst (λ (l : List Settled). IsSomePut (joined_record (old.given + 1) w.device is) l new) same
-    (subst (λ (o : Option Settled). IsSomePut o mid.settled.items new) joins put)
-
 pub give_first-requires-clause-sound : goal.give_first-requires-clause-sound
 give_first-requires-clause-sound g c =
     let got = c.ripen_waits-ripened.result in
@@ -111,51 +83,79 @@ give_first-requires-clause-place g c =
     ∙ judged_rank c.ripen_waits-ripened.result.waits c.ripen_waits-ripened.result.ripe (c.is_judged.ensures.0 c.if-is_judged.true) in
     no_shelf c.record_of-record.result.body c.ripen_waits-ripened.new.self.stored (λ taken. omega (arith, taken, own))
 
-pub give_first-requires-clause-running : goal.give_first-requires-clause-running
-give_first-requires-clause-running g c =
-    runs_first g.C.Clock.last_step g.C.Clock.reading g.M.Machine.stands c.args.network.now c.args.self.now
-    (record c.ripen_waits-ripened.new.self { settled = c.put_some.new.settled })
-    (Ripening c.ripen_waits-ripened.result.waits) c.record_of-record.result
-    (first_ripe g.C.Clock.last_step g.C.Clock.reading g.M.Machine.stands c.args.network.now c.args.self.now c.args.one c.ripen_waits-ripened.result.waits
-    c.requires.may c.ripen_waits-ripened.ensures.is) tt
-    refl
-    (past g.C.Clock.reading g.M.Machine.stands c.args.network.now c.args.self.now c.ripen_waits-ripened.new.self c.ripen_waits-ripened.result.waits
-    c.ripen_waits-ripened.result.ripe c.record_of-record.result c.put_some.new.settled.items
-    c.record_of-record.ensures (c.is_judged.ensures.0 c.if-is_judged.true)
-    (ahead g.C.Clock.last_step g.C.Clock.reading g.M.Machine.stands c.args.network.now c.args.self.now c.args.one c.ripen_waits-ripened.result.waits
-    c.ripen_waits-ripened.result.ripe c.record_of-record.result c.requires.may c.ripen_waits-ripened.ensures.is c.record_of-record.ensures
-    (c.is_judged.ensures.0 c.if-is_judged.true)) (changed_then c.args.self.now c.ripen_waits-ripened.new.self
-    c.ripen_waits-ripened.result.waits c.ripen_waits-ripened.result.ripe c.joined-change.result c.put_some.new.settled.items
-    (ap (λ (t : State _ _). t.settled.items) c.ripen_waits-ripened.ensures.same) c.joined-change.ensures c.put_some.ensures.is)
-    c.ripen_waits-ripened.ensures.stands)
+-- it is worked off, and these are its records
+turned : (g : given.Over) (c : After-ripen_waits-ripened g) (s : Scenario) (notes : List Note)
+    → StandsOne g.C.Clock.reading (keeps g.M.Machine.stands) s (world_of c.args.network.now c.args.self.now) notes
+    → TurnsIn g.C.Clock.reading g.M.Machine.stands c.args.network.now s notes
+    (world_of c.args.network.now c.ripen_waits-ripened.new.self)
+    (ripe_place c.args.self.now.time (waiting_as c.ripen_waits-ripened.result.waits))
+    (Some (ripe_record c.ripen_waits-ripened.result.waits c.ripen_waits-ripened.result.ripe))
+    (joined_record (c.args.self.now.given + 1) c.ripen_waits-ripened.result.waits.device c.ripen_waits-ripened.result.ripe)
+turned g c s notes is =
+    let K = g.C.Clock in
+    let S = g.M.Machine.stands in
+    let network = c.args.network.now in
+    let got = c.ripen_waits-ripened.result in
+    turns_of K.last_step K.reading S network c.args.self.now c.ripen_waits-ripened.new.self (Ripening got.waits)
+    (Some (ripe_record got.waits got.ripe)) (joined_record (c.args.self.now.given + 1) got.waits.device got.ripe)
+    (first_ripe K.last_step K.reading S network c.args.self.now c.args.one got.waits c.requires.may c.ripen_waits-ripened.ensures.is) tt
+    c.ripen_waits-ripened.ensures.turns s notes is
+
+-- with the record that is made of it
+turned_by : {C M : Type 0} (reading : C → ℕ → ℕ) (stands : M → Network → DeviceId → Node → Type 0) (network : Network) {s : Scenario}
+    {notes : List Note} {world : World C (Kept M)} {place : List ℕ} (w : Waits) (is : Ripe) (z : Settled) (second : Option Settled)
+    → z ≡ ripe_record w is → TurnsIn reading stands network s notes world place (Some (ripe_record w is)) second
+    → TurnsIn reading stands network s notes world place (Some z) second
+turned_by reading stands network {s} {notes} {world} {place} w is z second same =
+    subst (λ x. TurnsIn reading stands network s notes world place (Some x) second) (sym same)
+
+-- it stands where it was permanent
+at_source : (w : Waits) (is : Ripe) (z : Settled) → z ≡ ripe_record w is → IsJudged is → is_at_source z.body ≡ true
+at_source w is z same judged = subst (λ (x : Settled). is_at_source x.body ≡ true) (sym same) (judged_source w is judged)
+
+pub give_first-requires-clause-next : goal.give_first-requires-clause-next
+give_first-requires-clause-next g c =
+    let network = c.args.network.now in
+    let run = c.requires.may.well.running in
+    let here = (goal.at.give_first-requires-clause-next g c).After-ripen_waits-ripened in
+    let got = c.ripen_waits-ripened.result in
+    let mid = c.ripen_waits-ripened.new.self in
+    let one = c.record_of-record.result in
+    let second = joined_record (c.args.self.now.given + 1) got.waits.device got.ripe in
+    let turn = turned_by g.C.Clock.reading g.M.Machine.stands network got.waits got.ripe one second c.record_of-record.ensures
+    (turned g here run.s run.notes (run.is, c.requires.may.well.one)) in
+    record {
+      s = run.s;
+      notes = run.notes;
+      next = next_first g.C.Clock.reading g.M.Machine.stands network run.s run.notes (world_of network mid) _ mid.settled.items refl
+          one second turn c.put_some.new.settled.items
+          (subst (λ o. IsSomePut o mid.settled.items c.put_some.new.settled.items) c.joined-change.ensures c.put_some.ensures.is)
+          (at_source got.waits got.ripe one c.record_of-record.ensures (c.is_judged.ensures.0 c.if-is_judged.true));
+      own = turn.first_is;
+    }
 
 given_so : (g : given.Over) (c : After-give_first g) (s : Scenario) (notes : List Note)
-    → StandsOne g.C.Clock.reading (keeps g.M.Machine.stands) s (world_of c.args.network.now c.args.self.now) notes
+    → TurnsIn g.C.Clock.reading g.M.Machine.stands c.args.network.now s notes
+    (world_of c.args.network.now c.ripen_waits-ripened.new.self)
+    (ripe_place c.args.self.now.time (waiting_as c.ripen_waits-ripened.result.waits))
+    (Some (ripe_record c.ripen_waits-ripened.result.waits c.ripen_waits-ripened.result.ripe))
+    (joined_record (c.args.self.now.given + 1) c.ripen_waits-ripened.result.waits.device c.ripen_waits-ripened.result.ripe)
     → StandsOne g.C.Clock.reading (keeps g.M.Machine.stands) s (world_of c.args.network.now c.give_first.new.self)
     (notes
     ++ c.give_first.new.note ∷ [])
-given_so g c =
+given_so g c s notes from =
+    let network = c.args.network.now in
     let got = c.ripen_waits-ripened.result in
+    let mid = c.ripen_waits-ripened.new.self in
     let one = c.record_of-record.result in
-    stands_first g.C.Clock.last_step g.C.Clock.reading g.M.Machine.stands c.args.network.now c.args.self.now
-    (record c.ripen_waits-ripened.new.self { settled = c.put_some.new.settled }) (Ripening got.waits)
-    one
-    (first_ripe g.C.Clock.last_step g.C.Clock.reading g.M.Machine.stands c.args.network.now c.args.self.now c.args.one c.ripen_waits-ripened.result.waits
-    c.requires.may c.ripen_waits-ripened.ensures.is) tt
-    refl
-    (past g.C.Clock.reading g.M.Machine.stands c.args.network.now c.args.self.now c.ripen_waits-ripened.new.self c.ripen_waits-ripened.result.waits
-    c.ripen_waits-ripened.result.ripe c.record_of-record.result c.put_some.new.settled.items
-    c.record_of-record.ensures (c.is_judged.ensures.0 c.if-is_judged.true)
-    (ahead g.C.Clock.last_step g.C.Clock.reading g.M.Machine.stands c.args.network.now c.args.self.now c.args.one c.ripen_waits-ripened.result.waits
-    c.ripen_waits-ripened.result.ripe c.record_of-record.result c.requires.may c.ripen_waits-ripened.ensures.is c.record_of-record.ensures
-    (c.is_judged.ensures.0 c.if-is_judged.true)) (changed_then c.args.self.now c.ripen_waits-ripened.new.self
-    c.ripen_waits-ripened.result.waits c.ripen_waits-ripened.result.ripe c.joined-change.result c.put_some.new.settled.items
-    (ap (λ (t : State _ _). t.settled.items) c.ripen_waits-ripened.ensures.same) c.joined-change.ensures c.put_some.ensures.is)
-    c.ripen_waits-ripened.ensures.stands) c.give_first.new.self c.give_first.new.note
-    (ap (λ t. place_of (settled_at c.args.network.now t one)) c.ripen_waits-ripened.ensures.others.time
-    ∙ ap (λ x. place_of (settled_at c.args.network.now c.args.self.now.time x)) c.record_of-record.ensures
-    ∙ judged_own c.args.network.now c.args.self.now.time got.waits got.ripe (c.is_judged.ensures.0 c.if-is_judged.true))
-    c.give_first.ensures.note c.give_first.ensures.stands
+    let give = c.give_first.ensures in
+    let second = joined_record (c.args.self.now.given + 1) got.waits.device got.ripe in
+    let turn = turned_by g.C.Clock.reading g.M.Machine.stands network got.waits got.ripe one second c.record_of-record.ensures from in
+    let put = subst (λ o. IsSomePut o mid.settled.items c.put_some.new.settled.items) c.joined-change.ensures c.put_some.ensures.is in
+    let source = at_source got.waits got.ripe one c.record_of-record.ensures (c.is_judged.ensures.0 c.if-is_judged.true) in
+    one_of (first_given g.C.Clock.reading g.M.Machine.stands network s notes (world_of network mid) _ mid.settled.items refl one second turn
+    c.put_some.new.settled.items put source (world_of network c.give_first.new.self) c.give_first.new.note give.note
+    (ap (λ (t : State _ _). world_of network t) give.same) (give.launched s notes))
 
 pub rekey_from-requires : goal.rekey_from-requires
 rekey_from-requires g c =
@@ -173,7 +173,8 @@ rekey_from-requires g c =
         running = record {
           s = run.s;
           notes = _;
-          is = (given_so g (goal.at.rekey_from-requires g c).After-give_first run.s run.notes (run.is, may.well.one)).0;
+          is = (given_so g (goal.at.rekey_from-requires g c).After-give_first run.s run.notes
+              (turned g (goal.at.rekey_from-requires g c).After-ripen_waits-ripened run.s run.notes (run.is, may.well.one))).0;
         };
       };
       before = due_stays g.C.Clock.reading g.M.Machine.stands c.args.network.now g.C.Clock.last_step c.args.self.now c.give_first.new.self
@@ -206,7 +207,8 @@ returns-then-is_judged-clause-kept g c =
       ended = ap (λ (t : State _ _). t.ended) give.same ∙ o.ended;
       later = omega (arith, time);
     })
-    (given_so g (goal.at.returns-then-is_judged-clause-kept g c).After-give_first) c.rekey_from.ensures.sets.same
+    (λ s notes is. given_so g (goal.at.returns-then-is_judged-clause-kept g c).After-give_first s notes
+    (turned g (goal.at.returns-then-is_judged-clause-kept g c).After-ripen_waits-ripened s notes is)) c.rekey_from.ensures.sets.same
     (rekeyed_by g.C.Clock.reading g.M.Machine.stands c.args.network.now device c.args.self.now gave c.rekey_from.new.self may.well.timed may.foremost.there.of
     (λ i ne. ap (λ (t : State _ _). slice_get t.clocks.items i) give.same ∙ ap (λ (t : State _ _). slice_get t.clocks.items i) rip.same)
     (λ i ne. ap (λ (t : State _ _). slice_get t.machines.items i) give.same ∙ o.machines i ne)
@@ -220,30 +222,24 @@ returns-then-is_judged-clause-kept g c =
 -- ---- its records are put in among others
 
 still : (g : given.Over) (c : After-settle_ripe g) (s : Scenario) (notes : List Note)
-    → StandsOne g.C.Clock.reading (keeps g.M.Machine.stands) s (world_of c.args.network.now c.args.self.now) notes
+    → TurnsIn g.C.Clock.reading g.M.Machine.stands c.args.network.now s notes
+    (world_of c.args.network.now c.ripen_waits-ripened.new.self)
+    (ripe_place c.args.self.now.time (waiting_as c.ripen_waits-ripened.result.waits))
+    (Some (ripe_record c.ripen_waits-ripened.result.waits c.ripen_waits-ripened.result.ripe))
+    (joined_record (c.args.self.now.given + 1) c.ripen_waits-ripened.result.waits.device c.ripen_waits-ripened.result.ripe)
     → StandsOne g.C.Clock.reading (keeps g.M.Machine.stands) s
     (world_of c.args.network.now (record c.ripen_waits-ripened.new.self { settled = c.settle_ripe.new.settled })) notes
-still g c s notes old =
-    let K = g.C.Clock in
-    let S = g.M.Machine.stands in
+still g c s notes turn =
     let network = c.args.network.now in
-    let w = c.args.self.now in
     let got = c.ripen_waits-ripened.result in
-    let rip = c.ripen_waits-ripened.ensures in
-    let new = c.settle_ripe.new.settled.items in
-    let may = first_ripe K.last_step K.reading S network w c.args.one got.waits c.requires.may rip.is in
-    let so : AreSettledSo (w.given + 1) got.waits got.ripe w.settled.items new =
-    subst (λ l. AreSettledSo (w.given + 1) got.waits got.ripe l new) (ap (λ (t : State _ _). t.settled.items) rip.same)
-    c.settle_ripe.ensures in
+    let mid = c.ripen_waits-ripened.new.self in
+    let number = c.args.self.now.given + 1 in
+    let so = c.settle_ripe.ensures in
     let not : IsJudged got.ripe → ⊥ = λ judged. both_ways c.is_judged.result c.if-is_judged.false
     (c.is_judged.ensures.1 judged) in
-    let shape = shaped K.reading S network w (Ripening got.waits) may.foremost.there tt in
-    one_behind K.reading S network (record c.ripen_waits-ripened.new.self { settled = c.settle_ripe.new.settled })
-    w.time 3 shape.rest shape.place
-    (inr (inl refl))
-    (dropped_late (w.given + 1) got.waits got.ripe w.settled.items new not so (all_late K.reading S network w old))
-    (rip.stands new so s notes old.0
-    (comes_first K.last_step K.reading S network w (Ripening got.waits) s notes may tt old.0))
+    one_of (all_put_in g.C.Clock.reading g.M.Machine.stands network s notes (world_of network mid) _ mid.settled.items refl
+    (Some (ripe_record got.waits got.ripe)) (joined_record number got.waits.device got.ripe) so.mid c.settle_ripe.new.settled.items turn
+    (so.at, so.first) so.more (dropped_late number got.waits got.ripe not))
 
 sound_after : (g : given.Over) (c : After-settle_ripe g)
     → IsSound g.C.Clock.last_step c.args.network.now (record c.ripen_waits-ripened.new.self { settled = c.settle_ripe.new.settled })
@@ -268,7 +264,8 @@ rekey_from-requires-2 g c =
         slots = ap length timers ∙ may.well.timed.sized;
         running = runs_on g.C.Clock.last_step g.C.Clock.reading g.M.Machine.stands c.args.network.now
             c.args.self.now after may.well
-            (still g (goal.at.rekey_from-requires-2 g c).After-settle_ripe);
+            (λ s notes is. still g (goal.at.rekey_from-requires-2 g c).After-settle_ripe s notes
+            (turned g (goal.at.rekey_from-requires-2 g c).After-ripen_waits-ripened s notes is));
       };
       before = due_stays g.C.Clock.reading g.M.Machine.stands c.args.network.now g.C.Clock.last_step c.args.self.now after (record { 0 = c.args.one.device.0 })
           c.due_of-before.result may.well may.foremost.there.of
@@ -286,5 +283,7 @@ returns-clause-kept g c =
     (rekeyed_step g.C.Clock.last_step g.C.Clock.reading g.M.Machine.stands c.args.network.now (record { 0 = c.args.one.device.0 }) c.args.self.now after
     c.rekey_from-2.new.self may.well (sound_after g (goal.at.returns-clause-kept g c).After-settle_ripe) may.foremost.there.of
     (record { clocks = o.clocks; time = o.time; ended = o.ended; machines = o.machines; waiting = o.waiting })
-    (ap (λ (t : State _ _). t.timers) rip.same) (ap (λ (t : State _ _). t.given) rip.same) (still g (goal.at.returns-clause-kept g c).After-settle_ripe)
+    (ap (λ (t : State _ _). t.timers) rip.same) (ap (λ (t : State _ _). t.given) rip.same)
+    (λ s notes is. still g (goal.at.returns-clause-kept g c).After-settle_ripe s notes
+    (turned g (goal.at.returns-clause-kept g c).After-ripen_waits-ripened s notes is))
     c.rekey_from-2.ensures)

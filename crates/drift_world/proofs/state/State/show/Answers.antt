@@ -1,7 +1,7 @@
-use Rattle.drift_world.proofs.OwnPlaces.{changes_both, no_change, no_shelf, no_waiter, none_ahead, runs_first, stands_first}
-use Rattle.drift_world.proofs.{Timings.aside, Turning.kept_timers, Words.{◌∙◌, ◌∷◌, ChangesOnly, ap, arith, changed_device, length, place_of, refl}}
-use Rattle.drift_world.{proofs.Words.{settled_at, subst, sym}, specs.declared.{source.Source.TheVariants.Clock, state.State.State}}
-use Rattle.drift_world.proofs.Words.{◌<◌}
+use Rattle.drift_world.proofs.{AtSource.{one_of, source_at}, OwnPlaces.{changes_both, no_change, no_shelf, no_waiter}}
+use Rattle.drift_world.proofs.{Timings.aside, Turned.{first_given, next_first, turns_of}, Turning.kept_timers}
+use Rattle.drift_world.proofs.Words.{◌<◌, ◌∙◌, ChangesOnly, None, Some, ap, arith, changed_device, length, refl, sym, subst, world_of}
+use Rattle.drift_world.specs.declared.{source.Source.TheVariants.Clock, state.State.State}
 use Rattle.drift_world.proofs.state.State.show.Goals as goal
 
 pub give_first-requires-clause-number : goal.give_first-requires-clause-number
@@ -24,13 +24,24 @@ give_first-requires-clause-place g c =
     let own = c.show_clock-record.ensures.rank in
     no_shelf c.show_clock-record.result.body c.show_clock-record.new.self.stored (λ taken. omega (arith, taken, own))
 
-pub give_first-requires-clause-running : goal.give_first-requires-clause-running
-give_first-requires-clause-running g c =
+pub give_first-requires-clause-next : goal.give_first-requires-clause-next
+give_first-requires-clause-next g c =
+    let K = g.C.Clock in
+    let S = g.M.Machine.stands in
+    let network = c.args.network.now in
+    let well = c.requires.may.well in
+    let run = well.running in
+    let mid = c.show_clock-record.new.self in
     let one = c.show_clock-record.result in
-    let shown = c.show_clock-record.ensures in
-    runs_first g.C.Clock.last_step g.C.Clock.reading g.M.Machine.stands c.args.network.now c.args.self.now c.show_clock-record.new.self (Clock c.args.device)
-    one c.requires.may tt (ap (λ (t : State _ _). t.settled.items) shown.same)
-    (shown.stands (one ∷ c.args.self.now.settled.items) 0 c.requires.may.foremost.there.ended (none_ahead one c.requires.may tt shown.own))
+    let turn = turns_of K.last_step K.reading S network c.args.self.now mid (Clock c.args.device) (Some one) None c.requires.may tt
+    (c.show_clock-record.ensures.turns c.requires.may.foremost.there.ended) run.s run.notes (run.is, well.one) in
+    record {
+      s = run.s;
+      notes = run.notes;
+      next = next_first K.reading S network run.s run.notes (world_of network mid) _ mid.settled.items refl one None turn mid.settled.items refl
+          (source_at (Clock c.args.device) one.body c.show_clock-record.ensures.rank);
+      own = turn.first_is;
+    }
 
 pub returns-clause-kept : goal.returns-clause-kept
 returns-clause-kept g c =
@@ -50,10 +61,14 @@ returns-clause-kept g c =
     kept_timers g.C.Clock.last_step g.C.Clock.reading g.M.Machine.stands c.args.network.now w gave gave _
     may.well give.sound
     (record { clocks = changes.clocks; ended = changes.ended; later = omega (arith, time) })
-    (stands_first g.C.Clock.last_step g.C.Clock.reading g.M.Machine.stands c.args.network.now w mid (Clock c.args.device) one may tt
-    (ap (λ (t : State _ _). t.settled.items) shown.same)
-    (shown.stands (one ∷ w.settled.items) 0 may.foremost.there.ended (none_ahead one may tt shown.own)) gave c.give_first.new.note
-    (ap (λ t. place_of (settled_at c.args.network.now t one)) (shown.others 0).time ∙ shown.own) give.note give.stands)
+    (λ s notes is.
+    let K = g.C.Clock in
+    let S = g.M.Machine.stands in
+    let network = c.args.network.now in
+    one_of (first_given K.reading S network s notes (world_of network mid) _ mid.settled.items refl one None
+    (turns_of K.last_step K.reading S network w mid (Clock c.args.device) (Some one) None may tt (shown.turns may.foremost.there.ended) s notes is)
+    mid.settled.items refl (source_at (Clock c.args.device) one.body shown.rank) (world_of network gave) c.give_first.new.note give.note
+    (ap (λ (t : State _ _). world_of network t) give.same) (give.launched s notes)))
     refl
     (aside g.C.Clock.reading g.M.Machine.stands c.args.network.now other w gave may.well.timed (omega (arith, far, few)) changes
     (ap (λ (t : State _ _). t.timers) give.same ∙ ap (λ (t : State _ _). t.timers) shown.same))

@@ -1,7 +1,7 @@
-use Rattle.{run_law.proofs.runs.Determined.same_units, world_law.proofs.giving.GivenParts.some_same}
-use Rattle.{drift_world.proofs.{Rising.settled_in_order, Puts.one_put_in}, run_law.specs.declared.note.NoteBody.TheVariants.{Clock as Shown}}
-use Rattle.drift_world.proofs.Words.{◌<◌, ◌∙◌, ◌≡◌, Network, None, NoteBody, Settled, amount, ap, arith, happenings, keeps, length, pos}
-use Rattle.{drift_world.proofs.Words.{settled_at, slice_get_read, subst, sym, units_of, world_of}, world_law.proofs.steps_lemmas.steps.ClockSteps.clock_step}
+use Rattle.{run_law.proofs.runs.Determined.same_units, world_law.proofs.{giving.GivenParts.some_same, steps_lemmas.turns.ClockTurns.clock_turn}}
+use Rattle.{drift_world.proofs.{Rising.settled_in_order, Turned.one_turn}, run_law.specs.declared.note.NoteBody.TheVariants.{Clock as Shown}}
+use Rattle.drift_world.proofs.Words.{◌<◌, ◌∙◌, ◌≡◌, Network, None, NoteBody, Settled, amount, ap, arith, keeps, length, pos, refl}
+use Rattle.drift_world.proofs.Words.{settled_at, slice_get_read, subst, sym, units_of, world_of}
 use Rattle.drift_world.proofs.state.State.show_clock.Goals as goal
 
 pub returns-clause-sound : goal.returns-clause-sound
@@ -32,14 +32,14 @@ returns-clause-sound g c =
       };
     }
 
-pub returns-clause-stands : goal.returns-clause-stands
-returns-clause-stands g c = λ settled index ended put s notes old first.
+pub returns-clause-turns : goal.returns-clause-turns
+returns-clause-turns g c = λ ended s notes is first.
     let w = c.args.self.now in
     let K = g.C.Clock in
     let network = c.args.network.now in
     let world = world_of network w in
     let device = c.args.device in
-    let hs = happenings s.network notes in
+    let old = is.0 in
     let there : device.0 < length s.network.device = subst (λ (n : Network). device.0 < length n.device) old.same c.requires.more in
     let more = c.requires.more in
     let clocks = c.requires.sound.sized.clocks in
@@ -53,12 +53,12 @@ returns-clause-stands g c = λ settled index ended put s notes old first.
     (c.read-reading.ensures ∙ ap (λ t. pos (K.reading c.index.result.now (amount t))) c.from_amount.ensures.value
     ∙ ap (λ k. pos (K.reading k w.time)) (sym same) ∙ ap pos (sym (own.2 w.time (omega arith)))) in
     let shows : NoteBody → Settled = λ body. record { body = body; frame = None; octets = None } in
-    clock_step K.reading (keeps g.M.Machine.stands) s world notes device c.index-machine.result.now c.state.result c.adjustment.result _ old there ended (sym c.requires.next)
-    first
+    one_turn K.reading g.M.Machine.stands network
+    (shows (Shown device c.read-reading.result c.adjustment.result c.state.result))
+    (Shown device (units_of (s.reading device w.time)) c.adjustment.result c.state.result) (settled_in_order old)
+    (ap (λ r. settled_at network w.time (shows (Shown device r c.adjustment.result c.state.result))) read)
+    (clock_turn K.reading (keeps g.M.Machine.stands) s world notes old.cursor device c.index-machine.result.now c.state.result c.adjustment.result
+    (old, is.1, refl) there ended (sym c.requires.next) first
     (slice_get_read w.machines.items w.machines.len device.0 c.index-machine.result.now w.machines.ok.0 (omega (arith, machines, more, kept))
     c.index-machine.ensures)
-    (λ node is. (c.state.ensures s.network device node is, c.adjustment.ensures s.network device node is))
-    (one_put_in s.network network w.time hs (Shown device (units_of (s.reading device w.time)) c.adjustment.result c.state.result)
-    (shows (Shown device c.read-reading.result c.adjustment.result c.state.result))
-    w.settled.items settled index put (settled_in_order old)
-    (ap (λ r. settled_at network w.time (shows (Shown device r c.adjustment.result c.state.result))) read))
+    (λ node of_it. (c.state.ensures s.network device node of_it, c.adjustment.ensures s.network device node of_it)))
