@@ -7,3 +7,4 @@ pub mod Headings
 pub mod Entering
 pub mod Intakes
 pub mod FirstKinds
+pub mod Reading

@@ -10,8 +10,8 @@ use crate::state::State;
 use device_rules::TellsKind;
 use drift_clock::Clock;
 use net_plan::{DeviceId, LinkId, Network};
+use run_law::Moment;
 use run_law::plain::{PlainNote, Rank};
-use run_law::{Machine, Moment};
 use tte_units::Units;
 use world_state::OutOfMemory;
 use world_state::contents::Settled;
@@ -19,7 +19,7 @@ use world_state::hearing::{arrived, hear_signal, take_wire};
 use world_state::queue::DueAt;
 use world_state::settled::{put_in, rank_of};
 
-impl<C: Clock, M: Machine + Drop> State<C, M> {
+impl<C: Clock, M: TellsKind + Drop> State<C, M> {
     /// What is on a wire and the first of all that is under way arrives: its device hears it. The record of it is
     /// answered, which is to be put in among what is settled.
     #[inline(always)]

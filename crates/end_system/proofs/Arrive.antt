@@ -142,3 +142,12 @@ pub is_timed : (octets : List ℕ) (b : Bool) → 60 ≤ length octets → b ≡
 is_timed octets b long other iff =
     signal_out (field 12 2 octets == pcf_type) _ _
     (unequal (field 12 2 octets) pcf_type (λ e. both_ways b other (iff.1 (long_enough (length octets) long, e))))
+
+spelled_in : (b : Bool) (octets : List ℕ) (frame : Pcf) → (if b then control (decoded octets) else timed octets) ≡ control (Ok frame)
+    → Ok frame ≡ decoded octets
+spelled_in true octets frame e = cc
+spelled_in false octets frame e = absurd cc
+
+-- octets that are a control frame on a wire decode to it
+pub spelled : (octets : List ℕ) (frame : Pcf) → signal_of octets ≡ control (Ok frame) → Ok frame ≡ decoded octets
+spelled octets frame e = spelled_in (field 12 2 octets == pcf_type) octets frame e

@@ -2,7 +2,7 @@ ghost use Rattle.std.specs.Prelude.{◌≡◌, true};
 ghost use Rattle.{end_system.specs.Broken.StandsBroken, run_law.specs.machines.Nodes.Node};
 ghost use Rattle.net_plan.specs.declared.{ids.DeviceId.DeviceId, network.Network.Network};
 
-use device_rules::{TaskKind, TellsKind};
+use device_rules::{Heading, TaskKind, TellsKind};
 use net_plan::LinkId;
 use run_law::{Act, Arrival, Machine, Moment, Reason, Ripe};
 use sync_state::{State, Verdict};
@@ -60,6 +60,14 @@ impl Machine for Broken {
 }
 
 impl TellsKind for Broken {
+    fn hear_pcf(&mut self, _moment: Moment, _link: LinkId, _frame: &Pcf) -> Arrival {
+        Arrival::Dropped(Reason::Off)
+    }
+
+    fn hear_heading(&mut self, _moment: Moment, _link: LinkId, _heading: &Heading) -> Arrival {
+        Arrival::Dropped(Reason::Off)
+    }
+
     fn first_kind(&self, _reading: Units) -> TaskKind {
         TaskKind::Dispatch
     }

@@ -1,4 +1,5 @@
-ghost use Rattle.std.specs.Prelude.{◌+ℤ◌, ◌+◌, ◌<◌, ◌^◌, ◌≡◌, ◌≤ℤ◌, ◌≤◌, IfOk, IfSome, [], pos};
+ghost use Rattle.std.specs.Prelude.{◌+ℤ◌, ◌+◌, ◌<◌, ◌^◌, ◌≡◌, ◌≤ℤ◌, ◌≤◌, IfOk, IfSome, List, [], pos, ℕ};
+ghost use Rattle.{device_rules.specs.Headings.heading_of, pcf_codec.specs.Decoding.decoded};
 ghost use Rattle.net_plan.specs.{Places.IsEndSystem, declared.ids.DeviceId.{DeviceId as DeviceIdValue}};
 ghost use Rattle.net_plan.specs.{Ranges.{IsInRange, IsWithin}, declared.network.Network.{Network as NetworkValue}};
 ghost use Rattle.run_law.specs.machines.Nodes.{begun_node};
@@ -13,7 +14,7 @@ use crate::own::Own;
 use crate::rows::{Dispatch, Rows};
 use device_rules::{Heading, Intake, TaskKind, TellsKind, is_off, start_of};
 use net_plan::{DeviceId, LinkId, Network};
-use pcf_codec::{decode, is_pcf};
+use pcf_codec::{PcfRefusal, decode, is_pcf};
 use run_law::{Act, Arrival, Machine, Moment, Reason, Ripe};
 use schedule_tables::Accepted;
 use std::alloc::Global;
@@ -135,28 +136,34 @@ impl EndSystem {
         agenda_from(&self.own, &self.rows, &self.sync, local)
     }
 
-    /// What becomes of octets that count as a control frame.
-    fn hear_control(&mut self, moment: Moment, link: LinkId, octets: &[u8]) -> Arrival
-        requires { MayHearNow self.old moment link octets.now }
-        ensures { HearsControl self.old moment link octets.now result self.new }
+    /// What becomes of what octets decode to that count as a control frame.
+    fn hear_control(
+        &mut self,
+        moment: Moment,
+        link: LinkId,
+        frame: Result<Pcf, PcfRefusal>,
+    ) -> Arrival
+        requires { (octets : List ℕ) × MayHearNow self.old moment link octets }
+        ensures { (octets : List ℕ) → frame ≡ decoded octets
+            → HearsControl self.old moment link octets result self.new }
     {
         self.last = moment;
-        arrival(&self.own, moment.reading, link, decode(octets))
+        arrival(&self.own, moment.reading, link, frame)
     }
 
-    /// What becomes of octets that are no control frame.
-    fn hear_timed(&mut self, moment: Moment, link: LinkId, octets: &[u8]) -> Arrival
-        requires { MayHearNow self.old moment link octets.now }
-        ensures { HearsTimed self.old moment link octets.now result self.new }
+    /// What becomes of octets of this heading that are no control frame.
+    fn hear_timed(&mut self, moment: Moment, link: LinkId, heading: &Heading) -> Arrival
+        requires { (octets : List ℕ) × MayHearNow self.old moment link octets }
+        ensures { (octets : List ℕ) → heading.now ≡ heading_of octets
+            → HearsTimed self.old moment link octets result self.new }
     {
         self.last = moment;
-        let heading = Heading::of(octets);
         if let Some(reason) = heading.fault(true, self.sync.state(), self.own.marker) {
             return Arrival::Dropped(reason);
         }
         let local = local_at(moment.reading, self.sync.adjustment());
         let length = self.own.plan.cycle_length;
-        match self.entering.take(length, link, &heading, local) {
+        match self.entering.take(length, link, heading, local) {
             Ok((vl, cycle)) => Arrival::Delivered(vl, cycle),
             Err(reason) => Arrival::Dropped(reason),
         }
@@ -211,9 +218,9 @@ impl Machine for EndSystem {
             return Arrival::Dropped(Reason::Off);
         }
         if is_pcf(octets) {
-            self.hear_control(moment, link, octets)
+            self.hear_control(moment, link, decode(octets))
         } else {
-            self.hear_timed(moment, link, octets)
+            self.hear_timed(moment, link, &Heading::of(octets))
         }
     }
 
@@ -257,6 +264,22 @@ impl Machine for EndSystem {
 }
 
 impl TellsKind for EndSystem {
+    fn hear_pcf(&mut self, moment: Moment, link: LinkId, frame: &Pcf) -> Arrival {
+        if is_off(self.sync.state()) {
+            self.last = moment;
+            return Arrival::Dropped(Reason::Off);
+        }
+        self.hear_control(moment, link, Ok(*frame))
+    }
+
+    fn hear_heading(&mut self, moment: Moment, link: LinkId, heading: &Heading) -> Arrival {
+        if is_off(self.sync.state()) {
+            self.last = moment;
+            return Arrival::Dropped(Reason::Off);
+        }
+        self.hear_timed(moment, link, heading)
+    }
+
     fn first_kind(&self, reading: Units) -> TaskKind {
         match self.agenda.due(reading) {
             Some(Due::Sending(_)) => TaskKind::Sending,

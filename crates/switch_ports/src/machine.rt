@@ -2,7 +2,7 @@ ghost use Rattle.std.specs.Prelude.{◌<ℤ◌, ◌≡◌, ◌≤ℤ◌, IfSome,
 ghost use Rattle.switch_ports.specs.Due.{least_of};
 
 use crate::{Site, Switch};
-use device_rules::{TaskKind, TellsKind, is_off};
+use device_rules::{Heading, TaskKind, TellsKind, is_off};
 use net_plan::LinkId;
 use pcf_codec::is_pcf;
 use run_law::{Act, Arrival, Machine, Moment, Ripe};
@@ -42,7 +42,7 @@ impl Machine for Switch {
         if is_pcf(octets) {
             self.site.control_arrival(&at, link, octets)
         } else {
-            self.hear_timed(&at, link, octets)
+            self.hear_timed(&at, link, &Heading::of(octets))
         }
     }
 
@@ -78,6 +78,16 @@ impl Machine for Switch {
 }
 
 impl TellsKind for Switch {
+    fn hear_pcf(&mut self, moment: Moment, link: LinkId, frame: &Pcf) -> Arrival {
+        let at = self.standpoint(moment);
+        self.site.frame_arrival(&at, link, frame)
+    }
+
+    fn hear_heading(&mut self, moment: Moment, link: LinkId, heading: &Heading) -> Arrival {
+        let at = self.standpoint(moment);
+        self.hear_timed(&at, link, heading)
+    }
+
     fn first_kind(&self, reading: Units) -> TaskKind {
         if is_reached(self.collector.due(), reading) {
             return TaskKind::Emission;

@@ -1,7 +1,8 @@
-ghost use Rattle.std.specs.Prelude.{◌+◌, ◌<◌, ◌∷◌, ◌≡◌, ◌≤◌, IsPermutation, List, ℕ};
+ghost use Rattle.std.specs.Prelude.{◌+◌, ◌<◌, ◌^◌, ◌∷◌, ◌≡◌, ◌≤◌, IsPermutation, List, Ok, ℕ};
 ghost use Rattle.net_plan.specs.{Ranges.IsInRange, declared.ids.DeviceId.DeviceId as DeviceOf};
 ghost use Rattle.net_plan.specs.declared.network.Network.{Network as NetworkValue};
-ghost use Rattle.run_law.specs.{control.Wires.{signal_of, timed}, machines.Calls.StandsFor, plain.Bodies.body_of};
+ghost use Rattle.{pcf_codec.specs.Encoded.encoded, run_law.specs.control.Wires.{control, signal_of, timed}};
+ghost use Rattle.run_law.specs.{machines.Calls.StandsFor, plain.Bodies.body_of};
 ghost use Rattle.world_law.specs.world.{Calls.HasHeard, Outcomes.arrival_body};
 ghost use Rattle.world_state.specs.queue.Places.{IsFirst};
 ghost use Rattle.world_state.specs.Hearing.{AreOctetsOf, IsAsSent, MayCome, arrived, frame_kept, octets_kept, timed_in};
@@ -11,11 +12,11 @@ use crate::contents::{Content, Settled, Signal, Timed};
 use crate::kept::Kept;
 use crate::queue::{DueAt, UnderWay};
 use device_rules::frames::MadeFrame;
+use device_rules::{Heading, TellsKind};
 use net_plan::{DeviceId, LinkId, Network};
-use pcf_codec::{PCF_LENGTH, encode};
 use run_law::plain::{PlainBody, PlainKind};
-use run_law::{Arrival, Machine, Moment};
-use tte_units::frames::Pcf;
+use run_law::{Arrival, Moment};
+use tte_units::frames::{Mac, Pcf};
 
 /// Takes out what is on a wire and the first of all that is under way.
 #[inline(always)]
@@ -45,7 +46,7 @@ fn signal_in(content: Content) -> Signal
 }
 
 /// What becomes of a frame of the schedule, at the device that it comes to.
-fn hear_timed<M: Machine + Drop>(
+fn hear_timed<M: TellsKind + Drop>(
     kept: &mut Kept<M>,
     network: &Network,
     moment: Moment,
@@ -62,6 +63,9 @@ fn hear_timed<M: Machine + Drop>(
 {
     match frame {
         Timed::Made(vl, cycle) => {
+            if (vl.0 as usize) < network.vl.as_slice().len() {
+                return kept.hear_heading(moment, link, &Heading::made(network, *vl));
+            }
             made.write(network, *vl, *cycle);
             kept.hear(moment, link, made.as_slice())
         }
@@ -69,9 +73,41 @@ fn hear_timed<M: Machine + Drop>(
     }
 }
 
+/// An address has six octets.
+fn is_address(address: Mac)
+    ensures { address < 2 ^ 48 }
+{
+    let _number = address.number();
+}
+
+/// A number of 32 bits.
+fn is_short(number: u32)
+    ensures { number < 2 ^ 32 }
+{
+    let _number = number;
+}
+
+/// A number of 64 bits.
+fn is_long(number: u64)
+    ensures { number < 2 ^ 64 }
+{
+    let _number = number;
+}
+
+/// A control frame has octets that spell it.
+fn has_octets(frame: &Pcf)
+    ensures { AreOctetsOf (control (Ok frame.now)) (encoded frame.now) }
+{
+    is_address(frame.destination);
+    is_address(frame.source);
+    is_short(frame.cycle);
+    is_short(frame.members.0);
+    is_long(frame.clock);
+}
+
 /// What becomes of what is on a wire, at the device that it comes to.
 #[inline(always)]
-pub fn hear_signal<M: Machine + Drop>(
+pub fn hear_signal<M: TellsKind + Drop>(
     kept: &mut Kept<M>,
     network: &Network,
     moment: Moment,
@@ -88,9 +124,8 @@ pub fn hear_signal<M: Machine + Drop>(
 {
     match signal {
         Signal::Control(frame) => {
-            let mut octets = [0; PCF_LENGTH];
-            encode(frame, &mut octets);
-            kept.hear(moment, link, &octets)
+            has_octets(frame);
+            kept.hear_pcf(moment, link, frame)
         }
         Signal::Timed(frame) => hear_timed(kept, network, moment, link, frame, made),
         Signal::Octets(octets) => kept.hear(moment, link, octets.as_slice()),

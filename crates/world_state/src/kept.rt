@@ -1,18 +1,19 @@
 ghost use Rattle.std.specs.Prelude.{◌≡◌, Bool, IfNone, IfOk, IfSome, map, true};
 ghost use Rattle.net_plan.specs.declared.{event.What.TheVariants.{Break, On}, network.Network.Network};
 ghost use Rattle.{net_plan.specs.declared.ids.DeviceId.DeviceId, sync_state.specs.declared.state.State.TheVariants.Off};
-ghost use Rattle.device_rules.specs.FirstKinds.{IsFirstKind};
+ghost use Rattle.device_rules.specs.{FirstKinds.IsFirstKind, Reading.{AreHeaded, AreOfFrame, HearsAll, MayHearSome}};
 ghost use Rattle.run_law.specs.machines.{Calls.{HasDue, MayAct, MayHear, StandsFor}, Nodes.Node, Tasks.IsDueReading};
 ghost use Rattle.world_law.specs.world.{Calls.{HasActed, HasHeard, IsStateOf}, Outcomes.befallen_node};
 ghost use Rattle.world_state.specs.Keeping.{keeps, sound_one};
 
 use crate::OutOfMemory;
-use device_rules::{TaskKind, TellsKind};
+use device_rules::{Heading, TaskKind, TellsKind};
 use net_plan::LinkId;
 use run_law::{Act, Arrival, Machine, Moment, Reason};
 use std::alloc::Global;
 use sync_state::State;
 use tte_units::Units;
+use tte_units::frames::Pcf;
 
 /// The machine of a device, or what a broken device still shows.
 #[derive(Drop)]
@@ -130,6 +131,28 @@ impl<M: Machine + Drop> Kept<M> {
 }
 
 impl<M: TellsKind + Drop> Kept<M> {
+    /// A control frame comes to the device by a link. One that is broken drops it.
+    pub fn hear_pcf(&mut self, moment: Moment, link: LinkId, frame: &Pcf) -> Arrival
+        requires { MayHearSome (keeps M.stands) self.old moment link (AreOfFrame frame.now) }
+        ensures { HearsAll (keeps M.stands) moment link (AreOfFrame frame.now) result self.old self.new }
+    {
+        match self {
+            Kept::Sound(machine) => machine.hear_pcf(moment, link, frame),
+            Kept::Out(_, _) => Arrival::Dropped(Reason::Off),
+        }
+    }
+
+    /// A frame of this heading that is no control frame comes to the device by a link. One that is broken drops it.
+    pub fn hear_heading(&mut self, moment: Moment, link: LinkId, heading: &Heading) -> Arrival
+        requires { MayHearSome (keeps M.stands) self.old moment link (AreHeaded heading.now) }
+        ensures { HearsAll (keeps M.stands) moment link (AreHeaded heading.now) result self.old self.new }
+    {
+        match self {
+            Kept::Sound(machine) => machine.hear_heading(moment, link, heading),
+            Kept::Out(_, _) => Arrival::Dropped(Reason::Off),
+        }
+    }
+
     /// The kind of the first of all that is due at the reading. Where nothing is due, any kind.
     pub fn first_kind(&self, reading: Units) -> TaskKind
         ensures { (network : Network) (device : DeviceId) (node : Node) → keeps M.stands self.now network device node

@@ -10,7 +10,7 @@ pub made_is : (network : Network) (vl : VlId) (cycle : ℕ) → vl.0 < length ne
 made_is network vl cycle lt = grind (arith, slice_get_cases, replicate)
 
 -- how long the head is
-head_length : (network : Network) (vl : VirtualLink) (cycle : ℕ) → length (head_of network vl cycle) ≡ 18
+pub head_length : (network : Network) (vl : VirtualLink) (cycle : ℕ) → length (head_of network vl cycle) ≡ 18
 head_length network vl cycle = grind (arith, length-append)
 
 -- the first octets of a longer frame are the frame

@@ -1,4 +1,4 @@
-use device_rules::{TaskKind, TellsKind};
+use device_rules::{Heading, TaskKind, TellsKind};
 use end_system::EndSystem;
 use net_plan::LinkId;
 use run_law::{Act, Arrival, Machine, Moment, Ripe};
@@ -72,6 +72,20 @@ impl Machine for DeviceMachine {
 }
 
 impl TellsKind for DeviceMachine {
+    fn hear_pcf(&mut self, moment: Moment, link: LinkId, frame: &Pcf) -> Arrival {
+        match self {
+            DeviceMachine::EndSystem(machine) => machine.hear_pcf(moment, link, frame),
+            DeviceMachine::Switch(machine) => machine.hear_pcf(moment, link, frame),
+        }
+    }
+
+    fn hear_heading(&mut self, moment: Moment, link: LinkId, heading: &Heading) -> Arrival {
+        match self {
+            DeviceMachine::EndSystem(machine) => machine.hear_heading(moment, link, heading),
+            DeviceMachine::Switch(machine) => machine.hear_heading(moment, link, heading),
+        }
+    }
+
     fn first_kind(&self, reading: Units) -> TaskKind {
         match self {
             DeviceMachine::EndSystem(machine) => machine.first_kind(reading),

@@ -1,14 +1,25 @@
-use Rattle.{run_law.specs.machines.Calls.StandsFor, std.proofs.Common.subst, world_state.specs.{Hearing.{IsAsSent, MayCome}, Keeping.keeps}}
-use Rattle.world_state.{proofs.Hearings.{control_octets, given_octets, may_hear}, specs.Views.signal_as}
+use Rattle.{device_rules.specs.Reading.AreOfFrame, pcf_codec.specs.Encoded.encoded, run_law.specs.machines.Calls.StandsFor}
+use Rattle.{std.proofs.Common.{subst, sym}, world_state.proofs.Hearings.{given_octets, may_hear, may_hear_some}}
+use Rattle.world_state.specs.{Hearing.{AreOctetsOf, IsAsSent, MayCome}, Keeping.keeps, Views.signal_as}
 use Rattle.world_state.specs.declared.contents.Signal.TheVariants as signals
 use Rattle.world_state.proofs.hearing.hear_signal.Goals as goal
 
-pub hear-requires : goal.hear-requires
-hear-requires g c =
-    let sent = signals.Control c.in-Control.frame in
-    may_hear (keeps g.M.Machine.stands) c.args.kept.now c.args.moment c.args.link
+pub hear_pcf-requires : goal.hear_pcf-requires
+hear_pcf-requires g c =
+    let frame = c.in-Control.frame in
+    let are = c.has_octets.ensures in
+    may_hear_some (keeps g.M.Machine.stands) c.args.kept.now c.args.moment c.args.link (AreOfFrame frame)
     (subst (λ x. StandsFor (keeps g.M.Machine.stands) c.args.kept.now (MayCome (signal_as c.args.network.now x) c.args.moment c.args.link))
-    c.in-Control.is c.requires.may) (control_octets c.encode.ensures.spelling c.encode.ensures.round_trip)
+    c.in-Control.is c.requires.may) are are.is
+
+pub returns-in-Control : goal.returns-in-Control
+returns-in-Control g c =
+    let frame = c.in-Control.frame in
+    let are = c.has_octets.ensures in (
+      encoded frame,
+      subst (λ x. AreOctetsOf (signal_as c.args.network.now x) (encoded frame)) (sym c.in-Control.is) are,
+      c.hear_pcf.ensures (encoded frame) are.is,
+    )
 
 pub hear_timed-requires-clause-may : goal.hear_timed-requires-clause-may
 hear_timed-requires-clause-may g c =
@@ -18,8 +29,8 @@ hear_timed-requires-clause-may g c =
 pub hear_timed-requires-clause-as_sent : goal.hear_timed-requires-clause-as_sent
 hear_timed-requires-clause-as_sent g c = subst (IsAsSent c.args.network.now) c.in-Timed.is c.requires.as_sent
 
-pub hear-requires-in-Octets : goal.hear-requires-in-Octets
-hear-requires-in-Octets g c =
+pub hear-requires : goal.hear-requires
+hear-requires g c =
     let network = c.args.network.now in
     let given = c.in-Octets.octets in
     let sent = signals.Octets given in

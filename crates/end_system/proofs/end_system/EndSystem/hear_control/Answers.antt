@@ -3,29 +3,27 @@ use Rattle.end_system.proofs.{Arrive.{control_at, control_still}, Words.{◌∙�
 use Rattle.{end_system.{proofs.Ripe.stands_later, specs.Controls.arrival_of}, pcf_codec.specs.Decoding.decoded, std.proofs.lemmas.Grind.common_steps}
 use Rattle.end_system.proofs.end_system.EndSystem.hear_control.Goals as goal
 
-pub decode-requires : goal.decode-requires
-decode-requires c = omega (arith, c.requires.4.1.most)
-
 pub arrival-requires : goal.arrival-requires
 arrival-requires c =
+    let may = c.requires.1 in
     grind (
       arith,
       common_steps,
-      c.requires.3.own.range,
+      may.3.own.range,
       not_fallen,
-      c.requires.2.last.reading.0,
+      may.2.last.reading.0,
       c.args.moment.reading.0,
-      c.requires.3.begun,
-      c.requires.4.0.later.reading,
-      c.requires.4.0.later.low_enough,
+      may.3.begun,
+      may.4.0.later.reading,
+      may.4.0.later.low_enough,
     )
 
 pub returns : goal.returns
-returns c = λ network device node stands may arrives on.
-    let is = c.arrival.ensures ∙ ap (λ d. arrival_of c.args.self.now.own c.args.moment.reading c.args.link d) c.decode.ensures in
+returns c = λ octets same network device node stands may arrives on.
+    let is = c.arrival.ensures ∙ ap (λ d. arrival_of c.args.self.now.own c.args.moment.reading c.args.link d) same in
     let still = ap (λ a. after_arrival node c.args.moment a) is ∙ control_still c.args.self.now.own c.args.moment.reading c.args.link node c.args.moment
-    (decoded c.args.octets.now) in (
-      is ∙ control_at c.args.moment c.args.octets.now stands (stands.own.links c.args.link arrives.at) on
+    (decoded octets) in (
+      is ∙ control_at c.args.moment octets stands (stands.own.links c.args.link arrives.at) on
           (not_fallen node.last.reading.0 c.args.moment.reading.0 stands.begun may.later.reading),
       subst (λ (n : Node). StandsAsEnd
           (record {

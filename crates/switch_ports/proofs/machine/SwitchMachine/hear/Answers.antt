@@ -44,7 +44,7 @@ returns-else-is_pcf c network device node st may arrives =
     let at = point_same c.args.moment c.standpoint-at.result st c.standpoint-at.ensures.state
     c.standpoint-at.ensures.reading c.standpoint-at.ensures.adjustment in
     let heard = c.hear_timed.ensures in
-    let taken = heard.is network device node.taken st.accepted.range st.site st.intake arrives.at in
+    let taken = heard.is octets c.of.ensures network device node.taken st.accepted.range st.site st.intake arrives.at in
     let is = taken.0
     ∙ ap (λ p. timed_arrival network device c.args.link p octets (last_taken_by node)) at in
     let signal : signal_of octets ≡ timed octets =
