@@ -16,12 +16,7 @@ use run_law::Arrival;
 
 impl Switch {
     /// What becomes of a frame of this heading that is no control frame and comes by the link.
-    pub(crate) fn hear_timed(
-        &mut self,
-        at: &Standpoint,
-        link: LinkId,
-        heading: &Heading,
-    ) -> Arrival
+    pub(crate) fn hear_timed(&mut self, at: &Standpoint, link: LinkId, heading: &Heading) -> Arrival
         requires alive { IsAlive self.old.site at.now }
         requires whole { IsWhole self.old.intake }
         requires ready { IsReady self.old.departures }
