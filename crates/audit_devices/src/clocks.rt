@@ -14,6 +14,6 @@ pub use changing::{Bringer, StateChange, changes_state};
 pub use correcting::{Correction, Point, coming_cycle, coming_point, corrects};
 pub use ending::{EndClock, shows_clock};
 pub use finding::{Crossed, Series, next_crossing};
-pub use moment::Moment;
+pub use moment::DeviceMoment;
 pub use reaching::{is_up, reaches};
-pub use sending::{Sending, beginnings, next_sending, sends};
+pub use sending::{MasterSending, beginnings, next_sending, sends};

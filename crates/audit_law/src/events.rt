@@ -8,5 +8,5 @@ mod settings;
 
 pub use history::{EventHistory, has_come};
 pub use laws::reading_law;
-pub use settings::{Change, Settings};
+pub use settings::{Setting, Settings};
 pub use tte_units::OutOfMemory;

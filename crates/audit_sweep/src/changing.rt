@@ -11,7 +11,7 @@ ghost use Rattle.audit_sweep.specs.{Bringers.bringer_by, Knowing.{IsKnown, Knows
 use crate::clocks::heard;
 use crate::known::Known;
 use crate::records::Kept;
-use audit_devices::clocks::{Bringer, Moment, StateChange, changes_state};
+use audit_devices::clocks::{Bringer, DeviceMoment, StateChange, changes_state};
 use net_plan::{DeviceId, Network};
 
 /// Does the device change its state so at the time?
@@ -31,7 +31,7 @@ pub(crate) fn is_changed(
         ↔ ChangesState (scenario_under network.now befallen) hs device time said.state said.cause said.why }
 {
     let shown = known.standings.before_time(device, time);
-    let moment = Moment::of(&known.events, device, time);
+    let moment = DeviceMoment::of(&known.events, device, time);
     let heard = heard(known, network, device, time, moment.readings.before);
     let bringer = bringer(known, device, time, said.cause);
     changes_state(network, device, shown, moment, &heard, bringer, said)

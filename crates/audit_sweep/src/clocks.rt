@@ -10,7 +10,7 @@ ghost use Rattle.run_law.specs.{records.Happenings.Happening, runs.DueRecords.{E
 ghost use Rattle.tte_units.specs.Amount.{amount};
 
 use crate::known::Known;
-use audit_devices::clocks::{Correction, EndClock, Moment, corrects, sends, shows_clock};
+use audit_devices::clocks::{Correction, DeviceMoment, EndClock, corrects, sends, shows_clock};
 use net_plan::{DeviceId, Network};
 use run_law::plain::Rank;
 use sync_state::membership::Heard;
@@ -32,7 +32,7 @@ pub(crate) fn is_sent(
         → IsTrue result ↔ Sends (scenario_under network.now befallen) hs device time cycle }
 {
     let shown = known.standings.before_time(device, time);
-    let moment = Moment::of(&known.events, device, time);
+    let moment = DeviceMoment::of(&known.events, device, time);
     sends(network, device, shown, moment, cycle)
 }
 
@@ -53,7 +53,7 @@ pub(crate) fn is_corrected(
         ↔ IsCorrectedRecord (scenario_under network.now befallen) hs device time said.cycle said.by said.adjustment }
 {
     let shown = known.standings.before_time(device, time);
-    let moment = Moment::of(&known.events, device, time);
+    let moment = DeviceMoment::of(&known.events, device, time);
     let heard = heard(known, network, device, time, moment.readings.before);
     corrects(network, device, shown, moment, &heard, said)
 }

@@ -14,7 +14,7 @@ use crate::known::Known;
 use crate::passage::Passage;
 use crate::ripening::{PermanentFrame, permanent_frame};
 use audit_devices::Shown;
-use audit_devices::clocks::Moment;
+use audit_devices::clocks::DeviceMoment;
 use audit_devices::permanence::Hearer;
 use compression::Compressed;
 use net_plan::{DeviceId, Network};
@@ -24,7 +24,7 @@ use tte_units::Units;
 
 /// What becomes of a frame that is permanent at its point.
 #[derive(Clone, Copy)]
-pub(crate) struct Ripened {
+pub(crate) struct PermanentAs {
     pub(crate) point: Units,
     pub(crate) is: Ripe,
 }
@@ -66,7 +66,7 @@ pub(crate) fn drops(known: &Known, network: &Network, passage: Passage, reason: 
 }
 
 /// What becomes of the frame of the other record that is permanent so, if one is.
-fn what_becomes(known: &Known, network: &Network, passage: Passage) -> Option<Ripened>
+fn what_becomes(known: &Known, network: &Network, passage: Passage) -> Option<PermanentAs>
     requires range { IsInRange network.now }
     requires known { KnowsSome network.now known.now }
     requires passable { IsPassable network.now passage }
@@ -74,7 +74,7 @@ fn what_becomes(known: &Known, network: &Network, passage: Passage) -> Option<Ri
         → IsRipenedOrNone (scenario_under network.now befallen) hs passage result }
 {
     match permanent_frame(known, network, passage) {
-        Some(permanent) => Some(Ripened {
+        Some(permanent) => Some(PermanentAs {
             point: permanent.point,
             is: ripening(known, network, passage, &permanent),
         }),
@@ -127,7 +127,7 @@ pub(crate) fn emits(
 {
     let hearer = hearer(known, network, device, time, known.standings.latest(device));
     let stretch = known.stretches.latest(device);
-    let moment = Moment::of(&known.events, device, time);
+    let moment = DeviceMoment::of(&known.events, device, time);
     match hearer.emission(&stretch, sent, time, moment.readings, moment.broken) {
         Some(heard) => is_same_judgement(heard, verdict),
         None => false,

@@ -14,7 +14,7 @@ ghost use Rattle.run_law.specs.device.States.{adjustment_at_hearing, adjustment_
 
 use crate::known::carried_by;
 use crate::records::KeptRecords;
-use audit_devices::clocks::Moment;
+use audit_devices::clocks::DeviceMoment;
 use audit_devices::{Carried, Standings};
 use audit_law::events::{EventHistory, reading_law};
 use device_rules::Heading;
@@ -95,7 +95,7 @@ impl Index {
             → Summarizes result
             (heard_since_point (scenario_under network.now befallen) (before_corrections time hs) device time) }
     {
-        let moment = Moment::of(&self.events, device, time);
+        let moment = DeviceMoment::of(&self.events, device, time);
         let shown = self.standings.before_rank(device, time, Rank::Corrected);
         shown.heard_since(network, moment.readings.before)
     }

@@ -12,7 +12,7 @@ ghost use Rattle.net_plan.specs.declared.{event.Event.Event, network.Network.{Ne
 
 use crate::records::dispatches::Exits;
 use crate::records::{KeptRecords, OutOfMemory};
-use audit_devices::clocks::Moment;
+use audit_devices::clocks::DeviceMoment;
 use audit_devices::stretches::{StretchHistory, points_rise};
 use audit_devices::{Carried, Readings, Standings, Takings};
 use audit_law::events::{EventHistory, reading_law};
@@ -147,5 +147,5 @@ pub fn readings(events: &EventHistory, body: &NoteBody, time: u64) -> Readings
         | NoteBody::Dropped { .. }
         | NoteBody::Clock { .. } => return Readings { now: 0, before: 0 },
     };
-    Moment::of(events, device, time).readings
+    DeviceMoment::of(events, device, time).readings
 }

@@ -2,7 +2,7 @@ ghost use Rattle.std.specs.{Int.int_max, Prelude.{IsFalse, IsNone, IsSomeAnd, Is
 ghost use Rattle.std.specs.Prelude.{◌++◌, ◌-ℤ◌, ◌<ℤ◌, ◌<◌, ◌^◌, ◌↔◌, ◌∷◌, ◌≡◌, ◌≢◌, ◌≤ℤ◌, ◌≤◌, ◌⊎◌, All, IfSome};
 
 use crate::collection::Collection;
-use crate::waiting::Waiting;
+use crate::waiting::WaitingCollections;
 use crate::{Compressed, Taken};
 use std::marker::Model;
 use tte_units::{READING_LIMIT, Units};
@@ -22,7 +22,7 @@ pub struct Collector {
     calc: Units,
     // The next point may not lie before this reading.
     earliest: Units,
-    waiting: Waiting,
+    waiting: WaitingCollections,
 }
 
 impl Model for Collector {
@@ -63,7 +63,7 @@ impl Collector {
             ow,
             calc,
             earliest: LEAST_READING,
-            waiting: Waiting::new(),
+            waiting: WaitingCollections::new(),
         }
     }
 

@@ -10,11 +10,11 @@ use tte_units::Units;
 /// The collections that are not emitted yet, in the order of their openings. There are at most
 /// five, and only the last can be open.
 #[derive(Drop)]
-pub(crate) struct Waiting {
+pub(crate) struct WaitingCollections {
     collections: ArrayVec<Collection, 5>,
 }
 
-impl Model for Waiting {
+impl Model for WaitingCollections {
     ghost use Rattle.std.specs.Prelude.{List};
     ghost use Rattle.compression.specs.Clusters.{Cluster};
 
@@ -23,14 +23,14 @@ impl Model for Waiting {
     ghost view = { λ w. w.collections.items };
 }
 
-impl Waiting {
+impl WaitingCollections {
     ghost use Rattle.compression.specs.{Clusters.{Cluster, point_at}, Collection.{CanTake, joined}, Role.role};
 
     /// No collections.
-    pub(crate) fn new() -> Waiting
+    pub(crate) fn new() -> WaitingCollections
         ensures { result ≡ [] }
     {
-        Waiting {
+        WaitingCollections {
             collections: ArrayVec::new(),
         }
     }

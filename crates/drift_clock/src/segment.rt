@@ -119,7 +119,7 @@ impl Clock for SegmentClock {
 
 // A count in whole units and parts of 10^9 of one.
 #[derive(Clone, Copy)]
-struct Tally {
+struct GrainTally {
     whole: u64,
     part: u64,
 }
@@ -129,7 +129,7 @@ impl SegmentClock {
     ghost use Rattle.drift_clock.specs.Segment.{segment_count};
 
     // The count at a time that is not before the last rate step.
-    fn count_at(&self, t: u64) -> Tally
+    fn count_at(&self, t: u64) -> GrainTally
         requires stepped { self.now.at ≤ t }
         requires limit { t ≤ 2 ^ 60 }
         ensures count { counted result.whole result.part ≡ segment_count self.now t }
@@ -137,7 +137,7 @@ impl SegmentClock {
     {
         let since = t - self.at;
         if self.rate.0 == 0 {
-            return Tally {
+            return GrainTally {
                 whole: self.whole + since,
                 part: self.part,
             };
@@ -182,7 +182,7 @@ impl SegmentClock {
 }
 
 // So many whole units and parts, and what is counted at the rate in a short stretch.
-fn drifted(whole: u64, part: u64, rate: Ppb, since: u64) -> Tally
+fn drifted(whole: u64, part: u64, rate: Ppb, since: u64) -> GrainTally
     requires whole { whole ≤ 2 ^ 61 }
     requires part { part < 10 ^ 9 }
     requires short { since < 2 ^ 42 }
@@ -191,7 +191,7 @@ fn drifted(whole: u64, part: u64, rate: Ppb, since: u64) -> Tally
     ensures part { result.part < 10 ^ 9 }
 {
     let more = shifted_parts(part, rate, since);
-    Tally {
+    GrainTally {
         whole: whole + since + more / PARTS - SHIFT,
         part: more % PARTS,
     }
@@ -251,13 +251,13 @@ fn in_parts(whole: u64, part: u64) -> u128
 }
 
 // A count of parts, in whole units and parts.
-fn split(count: u128) -> Tally
+fn split(count: u128) -> GrainTally
     requires { count < 10 ^ 9 * 2 ^ 63 }
     ensures count { counted result.whole result.part ≡ count }
     ensures part { result.part < 10 ^ 9 }
 {
     let parts = u128::from(PARTS);
-    Tally {
+    GrainTally {
         whole: (count / parts) as u64,
         part: (count % parts) as u64,
     }

@@ -1,6 +1,6 @@
 -- What comes first of all that a state has under way.
 use Rattle.{drift_world.proofs.Sources.{due_ranks, due_time, nothing_before}, world_state.specs.{declared.timers.Timer.Timer, timers.Times.{AreFrom, IsFirst as IsFirstDue}}}
-use Rattle.drift_world.proofs.Words.{◌+◌, ◌-◌, ◌<◌, ◌^◌, ◌∙◌, ◌∷◌, ◌≡◌, ◌≤◌, ◌⊎◌, AreFirsts, AreTimed, AreUnderWay, AtPort, Content, DeviceId, Due, DueAt}
+use Rattle.drift_world.proofs.Words.{◌+◌, ◌-◌, ◌<◌, ◌^◌, ◌∙◌, ◌∷◌, ◌≡◌, ◌≤◌, ◌⊎◌, AreFirsts, AreTimed, AreUnderWay, AtPort, Content, DeviceId, SlotTimer, DueAt}
 use Rattle.drift_world.proofs.Words.{HasNothingBefore, IfSome, IsBefore, IsFirst, IsIn, IsRunning, IsWell, Kept, List, Network, Node, None, OnWire, Option}
 use Rattle.drift_world.proofs.Words.{Port, Some, Wire, [], ap, arith, at_port, both_ways, cases_lt, false, get_or_from_slice_get, inl, inr, is_given, keeps}
 use Rattle.drift_world.proofs.Words.{length, never, never_self, numbers_of, on_wire, rank_of, refl, slice_get-get_or, subst, sym, true, wire_at, wire_place, ℕ}
@@ -139,14 +139,14 @@ rank_is (Wire signal) = inl refl
 rank_is (Port frame reading) = inr refl
 
 -- the place is of this time and rank
-pub record HasShape (devices : ℕ) (due : Due) (p : List ℕ) : Type 0 where
+pub record HasShape (devices : ℕ) (due : SlotTimer) (p : List ℕ) : Type 0 where
   pub rank : ℕ
   pub rest : List ℕ
   pub is : p ≡ due.time ∷ rank ∷ rest
   pub least : 3 ≤ rank
   pub most : rank ≤ 6
 
-shape_of : {C M : Type 0} {reading : C → ℕ → ℕ} {network : Network} {state : State C M} {due : Due} {p : List ℕ}
+shape_of : {C M : Type 0} {reading : C → ℕ → ℕ} {network : Network} {state : State C M} {due : SlotTimer} {p : List ℕ}
     → (3 ≤ due.rank) × (due.rank ≤ 6) → (p ≡ due_place (length network.device) due)
     ⊎ IsRipePlace reading network state due p → HasShape (length network.device) due p
 shape_of {network} {due} ranks (inl e) =
@@ -154,7 +154,7 @@ shape_of {network} {due} ranks (inl e) =
 shape_of ranks (inr r) = grind arith
 
 module _ {C M : Type 0} (last_step : C → ℕ) (reading : C → ℕ → ℕ) (stands : M → Network → DeviceId → Node → Type 0) (network : Network)
-    (state : State C M) (place : Option DueAt) (due : Option Due) (well : IsWell last_step reading stands network state)
+    (state : State C M) (place : Option DueAt) (due : Option SlotTimer) (well : IsWell last_step reading stands network state)
     (firsts : AreFirsts state place due) where
   abbrev now : ℕ
   now = state.time
@@ -172,15 +172,15 @@ module _ {C M : Type 0} (last_step : C → ℕ) (reading : C → ℕ → ℕ) (s
   place_later : (q : DueAt) → place ≡ Some q → now ≤ q.at
   place_later q e = first_later reading stands network state well.running well.sound.under_way q (first_is q e)
 
-  due_later : (d : Due) → due ≡ Some d → now ≤ d.time
+  due_later : (d : SlotTimer) → due ≡ Some d → now ≤ d.time
   due_later d e = due_time reading stands network state d well.timed (from_some (λ x. IsFirstDue state.timers x) due d firsts.some_due e)
 
-  due_ranks_are : (d : Due) → due ≡ Some d → (3 ≤ d.rank) × (d.rank ≤ 6)
+  due_ranks_are : (d : SlotTimer) → due ≡ Some d → (3 ≤ d.rank) × (d.rank ≤ 6)
   due_ranks_are d e = due_ranks reading stands network state d well.timed (from_some (λ x. IsFirstDue state.timers x) due d firsts.some_due e)
 
   -- none is before the place, where each is so
   are_not : (p : List ℕ) → (IsBefore ((2 ^ 60 + 1) ∷ []) p → ⊥)
-      → ((q : DueAt) → place ≡ Some q → now ≤ q.at → (q.rank ≡ 2) ⊎ (q.rank ≡ 8) → IsBefore (numbers_of q) p → ⊥) → ((d : Due) → due ≡ Some d → now ≤ d.time
+      → ((q : DueAt) → place ≡ Some q → now ≤ q.at → (q.rank ≡ 2) ⊎ (q.rank ≡ 8) → IsBefore (numbers_of q) p → ⊥) → ((d : SlotTimer) → due ≡ Some d → now ≤ d.time
       → (IsBefore (due_place (length network.device) d) p → ⊥) ⊎ IsRipePlace reading network state d p) → (state.pending ≡ true → IsBefore (now ∷ 2 ∷ []) p → ⊥)
       → (state.ended ≡ true → state.shown < length network.device → IsBefore (now ∷ 14 ∷ state.shown ∷ []) p → ⊥)
       → HasNothingBefore reading stands network state p
@@ -189,20 +189,20 @@ module _ {C M : Type 0} (last_step : C → ℕ) (reading : C → ℕ → ℕ) (s
       (record {
         in_time = in_time;
         under_way = if_some (λ (q : DueAt). IsBefore (numbers_of q) p → ⊥) place (λ q e. places q e (place_later q e) (first_rank q e));
-        timers = if_some (λ (d : Due). (IsBefore (due_place (length network.device) d) p → ⊥) ⊎ IsRipePlace reading network state d p) due
+        timers = if_some (λ (d : SlotTimer). (IsBefore (due_place (length network.device) d) p → ⊥) ⊎ IsRipePlace reading network state d p) due
             (λ d e. dues d e (due_later d e));
         befell = befell;
         clocks = clocks;
       })
 
   -- a timer is not before what is of the present time and a lower rank
-  after_lower : (rank : ℕ) (rest : List ℕ) (d : Due) → rank < 3 → 3 ≤ d.rank → now ≤ d.time → IsBefore (due_place (length network.device) d) (now ∷ rank ∷ rest) → ⊥
+  after_lower : (rank : ℕ) (rest : List ℕ) (d : SlotTimer) → rank < 3 → 3 ≤ d.rank → now ≤ d.time → IsBefore (due_place (length network.device) d) (now ∷ rank ∷ rest) → ⊥
   after_lower rank rest d lt high le =
       not_earlier d.time now (d.rank ∷ device_of_slot (length network.device) d.slot ∷ []) (rank ∷ rest) le
       (λ e. higher d.rank rank (device_of_slot (length network.device) d.slot ∷ []) rest (omega (arith, lt, high)))
 
   -- a timer of a later time is not before a place of the present time
-  after_now : (more : List ℕ) (d : Due) → (d.time ≡ now → ⊥) → now ≤ d.time → IsBefore (due_place (length network.device) d) (now ∷ more) → ⊥
+  after_now : (more : List ℕ) (d : SlotTimer) → (d.time ≡ now → ⊥) → now ≤ d.time → IsBefore (due_place (length network.device) d) (now ∷ more) → ⊥
   after_now more d not le =
       not_earlier d.time now (d.rank ∷ device_of_slot (length network.device) d.slot ∷ []) more le (λ e. absurd (not e))
 
@@ -224,7 +224,7 @@ module _ {C M : Type 0} (last_step : C → ℕ) (reading : C → ℕ → ℕ) (s
 
   -- what is the first that is under way, and there now
   placed_first : (q : DueAt) (rank : ℕ) → rank < 14 → state.pending ≡ false → place ≡ Some q → q.at ≡ state.time → q.rank ≡ rank
-      → ((d : Due) → due ≡ Some d → now ≤ d.time → IsBefore (due_place (length network.device) d) (now ∷ rank ∷ q.device ∷ q.link ∷ q.cause ∷ []) → ⊥)
+      → ((d : SlotTimer) → due ≡ Some d → now ≤ d.time → IsBefore (due_place (length network.device) d) (now ∷ rank ∷ q.device ∷ q.link ∷ q.cause ∷ []) → ⊥)
       → HasNothingBefore reading stands network state (numbers_of q)
   placed_first q rank lt calm is at of_rank dues =
       let rest : List ℕ = q.device ∷ q.link ∷ q.cause ∷ [] in
@@ -244,7 +244,7 @@ module _ {C M : Type 0} (last_step : C → ℕ) (reading : C → ℕ → ℕ) (s
       placed_first q 2 (omega arith) calm is at rank (λ d e le. after_lower 2 (q.device ∷ q.link ∷ q.cause ∷ []) d (omega arith) (due_ranks_are d e).0 le)
 
   -- what is due by a timer now
-  pub slot_first : (d : Due) (p : List ℕ) → state.pending ≡ false → IfSome place (λ q. q.at ≡ state.time → q.rank ≡ 2 → ⊥) → due ≡ Some d
+  pub slot_first : (d : SlotTimer) (p : List ℕ) → state.pending ≡ false → IfSome place (λ q. q.at ≡ state.time → q.rank ≡ 2 → ⊥) → due ≡ Some d
       → d.time ≡ state.time → (p ≡ due_place (length network.device) d) ⊎ IsRipePlace reading network state d p
       → HasNothingBefore reading stands network state p
   slot_first d p calm no_arrival is at of_slot =
@@ -278,7 +278,7 @@ module _ {C M : Type 0} (last_step : C → ℕ) (reading : C → ℕ → ℕ) (s
       → HasNothingBefore reading stands network state (numbers_of q)
   departure_first q calm no_due is at rank =
       placed_first q 8 (omega arith) calm is at rank
-      (λ d e le. after_now (8 ∷ q.device ∷ q.link ∷ q.cause ∷ []) d (from_some (λ (x : Due). x.time ≡ state.time → ⊥) due d no_due e) le)
+      (λ d e le. after_now (8 ∷ q.device ∷ q.link ∷ q.cause ∷ []) d (from_some (λ (x : SlotTimer). x.time ≡ state.time → ⊥) due d no_due e) le)
 
   -- the clock that is to be shown
   pub clock_first : state.pending ≡ false → IfSome place (λ q. q.at ≡ state.time → q.rank ≡ 2 → ⊥) → IfSome due (λ d. d.time ≡ state.time → ⊥)
@@ -290,7 +290,7 @@ module _ {C M : Type 0} (last_step : C → ℕ) (reading : C → ℕ → ℕ) (s
         | inl two ↦ absurd (from_some (λ (x : DueAt). x.at ≡ state.time → x.rank ≡ 2 → ⊥) place q no_arrival e same two)
         | inr eight ↦ absurd (from_some (λ (x : DueAt). x.at ≡ state.time → x.rank ≡ 8 → ⊥) place q no_departure e same eight)
       ]))
-      (λ d e le. inl (after_now (14 ∷ state.shown ∷ []) d (from_some (λ (x : Due). x.time ≡ state.time → ⊥) due d no_due e) le))
+      (λ d e le. inl (after_now (14 ∷ state.shown ∷ []) d (from_some (λ (x : SlotTimer). x.time ≡ state.time → ⊥) due d no_due e) le))
       (none_befell (now ∷ 14 ∷ state.shown ∷ []) calm)
       (λ ended more. never_self (now ∷ 14 ∷ state.shown ∷ []))
 
@@ -313,12 +313,12 @@ module _ {C M : Type 0} (last_step : C → ℕ) (reading : C → ℕ → ℕ) (s
 
   pub due_after : IfSome due (λ d. d.time ≡ state.time → ⊥) → IfSome due (λ d. state.time < d.time)
   due_after no_due =
-      if_some (λ (d : Due). state.time < d.time) due
+      if_some (λ (d : SlotTimer). state.time < d.time) due
       (λ d e.
       let le = due_later d e in
       elim (cases_lt now d.time) [
         | inl lt ↦ lt
-        | inr ge ↦ absurd (from_some (λ (x : Due). x.time ≡ state.time → ⊥) due d no_due e (omega (arith, le, ge)))
+        | inr ge ↦ absurd (from_some (λ (x : SlotTimer). x.time ≡ state.time → ⊥) due d no_due e (omega (arith, le, ge)))
       ])
 
   -- the first that is under way is at this place of the network
@@ -334,6 +334,6 @@ module _ {C M : Type 0} (last_step : C → ℕ) (reading : C → ℕ → ℕ) (s
       are_not (t ∷ []) (of_end t most)
       (λ q e le either. not_first q.at t (q.rank ∷ q.device ∷ q.link ∷ q.cause ∷ []) (from_some (λ (x : DueAt). t ≤ x.at) place q places e))
       (λ d e le. inl (not_first d.time t (d.rank ∷ device_of_slot (length network.device) d.slot ∷ [])
-      (from_some (λ (x : Due). t ≤ x.time) due d dues e)))
+      (from_some (λ (x : SlotTimer). t ≤ x.time) due d dues e)))
       (none_befell (t ∷ []) calm)
       (λ ended more. absurd (no_clock ended more))

@@ -1,7 +1,7 @@
 -- What comes first of what a state has under way.
 use Rattle.{device_rules.specs.FirstKinds.kind_of, drift_world.proofs.Parts.{part_least, part_most, placed_by}}
 use Rattle.drift_world.proofs.Words.{◌+◌, ◌-◌, ◌<◌, ◌^◌, ◌∙◌, ◌∷◌, ◌≡◌, ◌≤ℤ◌, ◌≤◌, ◌⊎◌, AreFirsts, AreNotBefore, AreTimed, AreUnderWay, Bool, Content, DeviceId}
-use Rattle.drift_world.proofs.Words.{Down, Due, DueAt, Happening, HasNothingBefore, IfNone, IfSome, IsBefore, IsDue, IsFirst, IsFounded, IsIn, IsInRange}
+use Rattle.drift_world.proofs.Words.{Down, SlotTimer, DueAt, Happening, HasNothingBefore, IfNone, IfSome, IsBefore, IsDue, IsFirst, IsFounded, IsIn, IsInRange}
 use Rattle.drift_world.proofs.Words.{IsLinkInRange, IsSized, List, Network, Node, None, Note, Option, Scenario, Some, Stands, Up, Waiting, Waits, Way, []}
 use Rattle.drift_world.proofs.Words.{◌*◌, amount, ap, arith, at_port, cases_eq, cases_lt, chain, given_of}
 use Rattle.drift_world.proofs.Words.{if◌then◌else◌, in_all, inl, inr, keeps, le-ltb, length, lt-ltb, map, never, numbers_of, on_wire, place_of, pos}
@@ -44,7 +44,7 @@ slot_most devices slot = elim (cases_lt slot devices) [
   | inr le ↦ let is = slot_high devices slot le in omega (arith, is)
 ]
 
-module _ {timers : List Timer} {due : Due} (slot : ℕ) (t : Timer) (first : IsFirstDue timers due) where
+module _ {timers : List Timer} {due : SlotTimer} (slot : ℕ) (t : Timer) (first : IsFirstDue timers due) where
   -- no timer is earlier than the first, and one of its rank and of a lower slot is later
   least_slot : slice_get timers slot ≡ Some t → due.time ≤ t.time
   least_slot at = elim (cases_lt t.time due.time) [
@@ -68,7 +68,7 @@ farther t r s u q d e le (inr (a, inr (b, inl lt))) = inr (a, inr (b, inl (omega
 farther t r s u q d e le (inr (a, inr (b, inr (c, x)))) = absurd x
 
 -- the frames that wait at a device, by its timer, are not due before the first
-ripe_slot : (devices : ℕ) {timers : List Timer} {due : Due} (slot time : ℕ) → IsFirstDue timers due
+ripe_slot : (devices : ℕ) {timers : List Timer} {due : SlotTimer} (slot time : ℕ) → IsFirstDue timers due
     → slice_get timers slot ≡ Some (record { time = time; rank = 3 })
     → IsBefore (time ∷ 3 ∷ slot ∷ []) (due_place devices due) → ⊥
 ripe_slot devices {due} slot time first at b =
@@ -87,7 +87,7 @@ shifted t r s u q d n e is (inr (a, inl lt)) = inr (a, inl lt)
 shifted t r s u q d n e is (inr (a, inr (b, inl lt))) = inr (a, inr (b, inl (omega (arith, lt, is))))
 shifted t r s u q d n e is (inr (a, inr (b, inr (c, x)))) = absurd x
 
-act_slot : (devices : ℕ) {timers : List Timer} {due : Due} (device time rank : ℕ) → IsFirstDue timers due
+act_slot : (devices : ℕ) {timers : List Timer} {due : SlotTimer} (device time rank : ℕ) → IsFirstDue timers due
     → (due.slot < devices → due.rank ≡ 3) → 4 ≤ rank → slice_get timers (devices + device)
     ≡ Some (record { time = time; rank = rank }) → IsBefore (time ∷ rank ∷ device ∷ []) (due_place devices due) → ⊥
 act_slot devices {due} device time rank first ripe high at b =
@@ -136,12 +136,12 @@ module _ {C M : Type 0} (last_step : C → ℕ) (reading : C → ℕ → ℕ) (s
     (state : State C M) (sized : IsSized last_step network state) (are : AreTimed reading stands network state) (p : List ℕ)
     (in_time : IsBefore ((2 ^ 60 + 1) ∷ []) p → ⊥) where
   -- what a frame that waits is for is of the lowest rank
-  ripe_rank : (due : Due) → IsFirstDue state.timers due → due.slot < length network.device → due.rank ≡ 3
+  ripe_rank : (due : SlotTimer) → IsFirstDue state.timers due → due.slot < length network.device → due.rank ≡ 3
   ripe_rank due first low =
       let timed = (are.each (record { 0 = due.slot }) low).ripe in ap (λ (t : Timer). t.rank) (some_same _ _ _ first.timer timed.of_ripe)
 
   -- a frame that waits, whose device's timer is at this time, is not before the place
-  waits_by : (due : Option Due) → IfSome due (λ d. IsFirstDue state.timers d) → IfNone due (AreFrom never state.timers)
+  waits_by : (due : Option SlotTimer) → IfSome due (λ d. IsFirstDue state.timers d) → IfNone due (AreFrom never state.timers)
       → IfSome due (λ d. (IsBefore (due_place (length network.device) d) p → ⊥) ⊎ IsRipePlace reading network state d p)
       → (w : Waits) (clock : C) → IsIn w state.waiting.items → slice_get state.clocks.items w.device.0 ≡ Some clock
       → w.device.0 < length network.device → (time : ℕ) → slice_get state.timers w.device.0 ≡ Some (record { time = time; rank = 3 }) → (t : ℕ) → time ≤ t
@@ -183,7 +183,7 @@ module _ {C M : Type 0} (last_step : C → ℕ) (reading : C → ℕ → ℕ) (s
       (subst (λ l. IsBefore l (act ∷ part_rank part ∷ device.0 ∷ [])) q.1 b)
 
   -- nor is it before the place
-  acts_by : (due : Option Due) → IfSome due (λ d. IsFirstDue state.timers d) → IfNone due (AreFrom never state.timers)
+  acts_by : (due : Option SlotTimer) → IfSome due (λ d. IsFirstDue state.timers d) → IfNone due (AreFrom never state.timers)
       → IfSome due (λ d. (IsBefore (due_place (length network.device) d) p → ⊥) ⊎ IsRipePlace reading network state d p)
       → (device : DeviceId) (node : Node) (task : Task) (t : ℕ) → state.time ≤ t → t ≤ 2 ^ 60
       → (timed : IsActTimed reading stands network state.timers state device) → keeps stands timed.machine network device node
@@ -217,7 +217,7 @@ module _ {C M : Type 0} (last_step : C → ℕ) (reading : C → ℕ → ℕ) (s
   under_way_by None first none not e there b = subst (λ es. IsIn e es) none there
   under_way_by (Some q) first none not e there b = not_sooner (numbers_of e.place) (numbers_of q) p (first.none e there) not b
 
-  all_by : (place : Option DueAt) (due : Option Due) → AreFirsts state place due → AreNotBefore reading network state place due p
+  all_by : (place : Option DueAt) (due : Option SlotTimer) → AreFirsts state place due → AreNotBefore reading network state place due p
       → HasNothingBefore reading stands network state p
   all_by place due firsts not = record {
     under_way = λ e there. under_way_by place firsts.some_place firsts.no_place not.under_way e there;
@@ -249,7 +249,7 @@ module _ {C M : Type 0} (last_step : C → ℕ) (reading : C → ℕ → ℕ) (s
 -- where the first of each kind is not before the place, nothing is
 pub nothing_before : {C M : Type 0} {last_step : C → ℕ} {reading : C → ℕ → ℕ}
     {stands : M → Network → DeviceId → Node → Type 0} {network : Network} {state : State C M} {place : Option DueAt}
-    {due : Option Due} {p : List ℕ} → IsSized last_step network state → AreTimed reading stands network state
+    {due : Option SlotTimer} {p : List ℕ} → IsSized last_step network state → AreTimed reading stands network state
     → AreFirsts state place due → AreNotBefore reading network state place due p
     → HasNothingBefore reading stands network state p
 nothing_before {last_step} {reading} {stands} {network} {state} {place} {due} {p} sized are firsts not =
@@ -272,7 +272,7 @@ sooner_too {w} p has not = record {
 -- ---- what is due by the first timer
 
 module _ {C M : Type 0} (reading : C → ℕ → ℕ) (stands : M → Network → DeviceId → Node → Type 0) (network : Network) (state : State C M)
-    (due : Due) (are : AreTimed reading stands network state) (first : IsFirstDue state.timers due) where
+    (due : SlotTimer) (are : AreTimed reading stands network state) (first : IsFirstDue state.timers due) where
   -- it is not past
   pub due_time : state.time ≤ due.time
   due_time = in_all (λ (t : Timer). state.time ≤ t.time) state.timers due.slot _ are.later first.timer

@@ -7,7 +7,7 @@ use Rattle.drift_world.proofs.Words.{◌++◌, ◌+◌, ◌<◌, ◌^◌, ◌∙
 use Rattle.drift_world.proofs.Words.{Content, StandsOne, Waits, at_port, false, on_wire, waiting_as}
 use Rattle.world_law.specs.world.World.{is_at_source}
 use Rattle.{std.specs.List.filter_map, world_state.specs.declared.queue.Entry.Entry}
-use Rattle.drift_world.proofs.Words.{Due, DueAt, Err, Happening, HasItsOctets, HasNothingBefore, IsAt, IsBefore, IsIn, IsRunning, IsScenarioRun, IsSound}
+use Rattle.drift_world.proofs.Words.{SlotTimer, DueAt, Err, Happening, HasItsOctets, HasNothingBefore, IsAt, IsBefore, IsIn, IsRunning, IsScenarioRun, IsSound}
 use Rattle.drift_world.proofs.Words.{IsWell, List, Network, NoSourceBefore, Node, Note, Ok, OnErr, OnOk, Option, Result, Scenario, Settled, SourceFirst}
 use Rattle.run_law.specs.records.Ranks.{key}
 use Rattle.drift_world.proofs.Words.{Stands, Turn, [], ap, append-nil, arith, cases_lt, chain, happenings, inl, inr, keeps, length, length-map, map, never_self}
@@ -428,7 +428,7 @@ err_open E old new (Ok t) until early same = tt
 err_open E old new (Err e) until early same = omega (arith, early, same)
 
 -- where time passes, what is first stays so, and the room is as it was
-pub firsts_passed : {C M : Type 0} {old : State C M} (new : State C M) {place : Option DueAt} {due : Option Due}
+pub firsts_passed : {C M : Type 0} {old : State C M} (new : State C M) {place : Option DueAt} {due : Option SlotTimer}
     → new ≡ record old { time = new.time; early = new.early } → AreFirsts old place due → AreFirsts new place due
 firsts_passed new {place} {due} same are =
     subst (λ t. AreFirsts t place due) (sym same)

@@ -51,7 +51,7 @@ pub use Rattle.world_state.specs.declared.{contents.{Timed.Timed, Waits.Waits, W
 pub use Rattle.tte_units.specs.declared.memory.OutOfMemory.{OutOfMemory}
 pub use Rattle.world_law.specs.steps.Steps.{FitsWorld}
 pub use Rattle.world_state.specs.timers.Times.{never}
-pub use Rattle.world_state.specs.declared.timers.Due.{Due}
+pub use Rattle.world_state.specs.declared.timers.SlotTimer.{SlotTimer}
 pub use Rattle.drift_world.specs.{Giving.IsGivenOut, Locals.{IsComplete, IsLocalClockBefore, Shows, local_shown}}
 pub use Rattle.drift_world.specs.{Running.{ComesUpTo, StandsUnder, behind_events, given_by, reading_of}, Showing.IsOf, Sound.{AreApart, IsSized, IsSound}}
 pub use Rattle.drift_world.specs.{Sourcing.{AreFirsts, AreNotBefore, AreTimed, HasNothingBefore}, Stepping.{ChangesOnly, IsAt, IsRunning, IsTimed}}

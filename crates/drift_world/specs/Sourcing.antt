@@ -7,7 +7,7 @@ use Rattle.world_law.specs.{source.Sources.task_place, world.World.ripe_place}
 use Rattle.world_state.specs.{queue.Places.{IsFirst, numbers_of}, declared.queue.{Entry.Entry, DueAt.DueAt}}
 use Rattle.world_state.specs.{Keeping.keeps, Views.waiting_as, declared.contents.{Content.Content, Waits.Waits}}
 use Rattle.world_state.specs.declared.kept.Kept.{Kept}
-use Rattle.world_state.specs.{timers.Times.{AreFrom, IsFirst as IsFirstDue, never}, declared.timers.Due.Due}
+use Rattle.world_state.specs.{timers.Times.{AreFrom, IsFirst as IsFirstDue, never}, declared.timers.SlotTimer.SlotTimer}
 use Rattle.drift_world.specs.{Stepping.IsTimed, declared.state.State.State}
 
 -- the timers of all devices are right, and none is past
@@ -24,11 +24,11 @@ abbrev pub device_of_slot : ℕ → ℕ → ℕ
 device_of_slot devices slot = if nat_lt slot devices then slot else slot - devices
 
 -- where what a slot is for is due
-abbrev pub due_place : ℕ → Due → List ℕ
+abbrev pub due_place : ℕ → SlotTimer → List ℕ
 due_place devices due = due.time ∷ due.rank ∷ device_of_slot devices due.slot ∷ []
 
 -- these are the place of the first that is under way, and the first timer, where there are such
-pub record AreFirsts {C M : Type 0} (state : State C M) (place : Option DueAt) (due : Option Due) : Type 0 where
+pub record AreFirsts {C M : Type 0} (state : State C M) (place : Option DueAt) (due : Option SlotTimer) : Type 0 where
   pub some_place : IfSome place (λ p. IsFirst state.under_way.entries p)
   pub no_place : IfNone place (state.under_way.entries ≡ [])
   pub some_due : IfSome due (λ d. IsFirstDue state.timers d)
@@ -36,7 +36,7 @@ pub record AreFirsts {C M : Type 0} (state : State C M) (place : Option DueAt) (
 
 -- the place is that of a frame that waits at the device of the timer and is permanent by it; none such is before it
 pub record IsRipePlace {C M : Type 0} (reading : C → ℕ
-    → ℕ) (network : Network) (state : State C M) (due : Due) (p : List ℕ) : Type 0 where
+    → ℕ) (network : Network) (state : State C M) (due : SlotTimer) (p : List ℕ) : Type 0 where
   pub there : due.slot < length network.device
   pub one : Waits
   pub at : one.device.0 ≡ due.slot
@@ -47,7 +47,7 @@ pub record IsRipePlace {C M : Type 0} (reading : C → ℕ
 
 -- none of them is before the place, nor what befell, nor the clocks at the end; and the place is in time
 pub record AreNotBefore {C M : Type 0} (reading : C → ℕ
-    → ℕ) (network : Network) (state : State C M) (place : Option DueAt) (due : Option Due)
+    → ℕ) (network : Network) (state : State C M) (place : Option DueAt) (due : Option SlotTimer)
     (p : List ℕ) : Type 0 where
   pub in_time : IsBefore ((2 ^ 60 + 1) ∷ []) p → ⊥
   pub under_way : IfSome place (λ q. IsBefore (numbers_of q) p → ⊥)

@@ -5,7 +5,7 @@ use Rattle.{drift_world.specs.{Nearing.{IsLess, Nears}, Views.world_of}, tte_uni
 use Rattle.drift_world.specs.{Sourcing.{HasNothingBefore, IsRipePlace, due_place}, declared.source.Source.Source}
 use Rattle.{drift_world.specs.{Wells.IsWell, declared.state.State.State}, world_state.specs.declared.queue.DueAt.DueAt}
 use Rattle.drift_world.specs.declared.{next.Turn.TheVariants.{Ends, Gives, GoesOn}, source.Source.TheVariants.Ripening}
-use Rattle.{drift_world.specs.declared.next.Turn.Turn, world_state.specs.declared.timers.Due.Due}
+use Rattle.{drift_world.specs.declared.next.Turn.Turn, world_state.specs.declared.timers.SlotTimer.SlotTimer}
 use Rattle.drift_world.specs.declared.source.Source.TheVariants.{Act, Arrival, Clock, Departure, Events, Later}
 use Rattle.net_plan.specs.{Ranges.IsInRange, declared.{ids.DeviceId.DeviceId, network.Network.Network}}
 use Rattle.{drift_world.specs.Acting.IsFrom, run_law.specs.{declared.note.Note.Note, records.Ranks.{place_of, rank}}}
@@ -71,7 +71,7 @@ IsThere reading stands network state (Later time) = state.time < time
 
 -- the place is that of what a slot is for, which is due now: the first of the frames that wait at its device, or the
 -- acts of its device
-abbrev pub IsSlotPlace : {C M : Type 0} → (C → ℕ → ℕ) → Network → State C M → Due → List ℕ → Type 0
+abbrev pub IsSlotPlace : {C M : Type 0} → (C → ℕ → ℕ) → Network → State C M → SlotTimer → List ℕ → Type 0
 IsSlotPlace reading network state due p =
     (p ≡ due_place (length network.device) due) ⊎ IsRipePlace reading network state due p
 

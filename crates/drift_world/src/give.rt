@@ -13,7 +13,7 @@ use run_law::plain::{PlainBody, PlainKind, PlainNote};
 use tte_units::Units;
 use tte_units::frames::Pcf;
 use world_state::OutOfMemory;
-use world_state::contents::{Settled, Spot, Timed};
+use world_state::contents::{HoldSpot, Settled, Timed};
 use world_state::giving::{Giving, give_frame, make_room};
 use world_state::sending::{put_on, sent_by};
 use world_state::storing::{store, taker};
@@ -150,7 +150,7 @@ impl<C: Clock, M: Machine + Drop> State<C, M> {
         ensures stored { IsStoredBy body.now octets number self.old.stored.items self.new.stored.items }
     {
         if let PlainKind::Accepted { device, vl, .. } = &body.kind {
-            let spot = Spot {
+            let spot = HoldSpot {
                 device: *device,
                 vl: *vl,
             };
@@ -217,7 +217,7 @@ impl<C: Clock, M: Machine + Drop> State<C, M> {
     }
 
     /// Where the frame stands that a switch takes by the first settled record.
-    fn first_taker(&self) -> Option<Spot>
+    fn first_taker(&self) -> Option<HoldSpot>
         ensures { (first : SettledValue) (rest : List SettledValue) → self.now.settled.items ≡ first ∷ rest
             → result ≡ spot_of first.body }
     {

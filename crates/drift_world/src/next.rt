@@ -14,7 +14,7 @@ use run_law::plain::PlainNote;
 use world_state::OutOfMemory;
 use world_state::queue::DueAt;
 use world_state::settled::rank_of;
-use world_state::timers::Due;
+use world_state::timers::SlotTimer;
 
 /// The last time of a run.
 pub const LAST: u64 = 1 << 60;
@@ -118,7 +118,7 @@ impl<C: Clock, M: TellsKind + Drop> State<C, M> {
         network: &Network,
         until: u64,
         place: Option<DueAt>,
-        due: Option<Due>,
+        due: Option<SlotTimer>,
     ) -> Turn
         requires may { MayTurn C.last_step C.reading M.stands network.now until self.old }
         requires firsts { AreFirsts self.old place due }
@@ -140,7 +140,7 @@ impl<C: Clock, M: TellsKind + Drop> State<C, M> {
         network: &Network,
         until: u64,
         place: Option<DueAt>,
-        due: Option<Due>,
+        due: Option<SlotTimer>,
         note: &mut PlainNote,
     ) -> Result<Turn, OutOfMemory>
         requires may { MayTurn C.last_step C.reading M.stands network.now until self.old }

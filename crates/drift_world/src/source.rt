@@ -10,7 +10,7 @@ use run_law::Machine;
 use run_law::plain::Rank;
 use world_state::contents::Waits;
 use world_state::queue::DueAt;
-use world_state::timers::Due;
+use world_state::timers::SlotTimer;
 
 /// What comes first of all that is under way: at the present instant, or later.
 #[derive(Clone, Copy)]
@@ -61,7 +61,7 @@ fn placed_at(place: Option<DueAt>, time: u64, rank: Rank) -> Option<DueAt>
 }
 
 /// The slot that is due, if it is at this time.
-fn slot_at(due: Option<Due>, time: u64) -> Option<Due>
+fn slot_at(due: Option<SlotTimer>, time: u64) -> Option<SlotTimer>
     ensures some { IfSome result (λ d. due ≡ Some (record { time = time; rank = d.rank; slot = d.slot })) }
     ensures none { IfNone result (IfSome due (λ d. d.time ≡ time → ⊥)) }
 {
@@ -70,7 +70,7 @@ fn slot_at(due: Option<Due>, time: u64) -> Option<Due>
 }
 
 /// The least of the times of a place, of a timer and of this one.
-pub fn least_of(place: Option<DueAt>, due: Option<Due>, time: u64) -> u64
+pub fn least_of(place: Option<DueAt>, due: Option<SlotTimer>, time: u64) -> u64
     ensures within { result ≤ time }
     ensures place { IfSome place (λ p. result ≤ p.at) }
     ensures due { IfSome due (λ d. result ≤ d.time) }
@@ -99,7 +99,7 @@ impl<C: Clock, M: Machine + Drop> State<C, M> {
         network: &Network,
         until: u64,
         place: Option<DueAt>,
-        due: Option<Due>,
+        due: Option<SlotTimer>,
     ) -> Source
         requires may { MayTurn C.last_step C.reading M.stands network.now until self.now }
         requires firsts { AreFirsts self.now place due }

@@ -1,7 +1,7 @@
 -- The agenda after each deed.
 use Rattle.end_system.proofs.Words.{◌*◌, ◌++◌, ◌+ℤ◌, ◌+◌, ◌-ℤ◌, ◌<ℤ◌, ◌<◌, ◌^◌, ◌∙◌, ◌∷◌, ◌≡◌, ◌≤ℤ◌, ◌≤◌, Appointment, ClockTask, Contains}
 use Rattle.end_system.proofs.Words.{Contains-append_left, DeviceId, Dispatch, HasNumber, IfSome, IsAtSlot, IsCorrection, IsDispatch, IsOwnOf, IsSending}
-use Rattle.end_system.proofs.Words.{IsSmall, List, Network, None, Option, Own, RowId, Rows, Some, Standing, Summary, SyncPlan, Units, [], amount, ap, arith}
+use Rattle.end_system.proofs.Words.{IsSmall, List, Network, None, Option, Own, RowId, OwnRows, Some, Standing, Summary, SyncPlan, Units, [], amount, ap, arith}
 use Rattle.end_system.proofs.Words.{correcting, dispatching, from_zero, inl, inr, ints, mul-le-mul_left, mul-le-mul_right, pos, refl, sending, subst, suc, sym}
 use Rattle.{end_system.{proofs.Words.{zero, ℕ, ℤ}, specs.Deeds.IsNextSending}, std.proofs.lemmas.List.Elements.{Contains-append_cases, Contains-append_right}}
 use Rattle.{std.proofs.Common.◌⊎◌, tte_units.proofs.general_lemmas.{Integers.amount_least, Naturals.{below_next, less_than_next}}}
@@ -184,7 +184,7 @@ number_stays network s heard x y (Some n) le h =
 pub not_fallen : (x y : ℤ) → pos 0 ≤ℤ x → x ≤ℤ y → pos 0 ≤ℤ y
 not_fallen x y h le = omega (arith, ints)
 
-pub slot_there : (rows : Rows) (o : Option Dispatch) (next : Dispatch) → o ≡ Some next → IfSome o (IsAtSlot rows) → IsAtSlot rows next
+pub slot_there : (rows : OwnRows) (o : Option Dispatch) (next : Dispatch) → o ≡ Some next → IfSome o (IsAtSlot rows) → IsAtSlot rows next
 slot_there rows o next e h = subst (λ (x : Option Dispatch). IfSome x (IsAtSlot rows)) e h
 
 pub small_same : (a b : Units) → a ≡ b → IsSmall a.0 → IsSmall b.0

@@ -3,9 +3,9 @@ use Rattle.end_system.proofs.{Advance.{done_now, done_still, was_done}, Words.{o
 use Rattle.{end_system.proofs.{RowSearch.is_of, Tasks.later_value}, run_law.specs.machines.Tasks.offset_of, std.proofs.Math.Nat.{div-add-mod, mod-lt}}
 use Rattle.{end_system.proofs.Values.at_least, std.proofs.Common.{◌-◌, ◌/◌}}
 use Rattle.end_system.proofs.Words.{◌%◌, ◌*◌, ◌++◌, ◌+◌, ◌-ℤ◌, ◌<ℤ◌, ◌<◌, ◌∙◌, ◌∷◌, ◌≡◌, ◌≤ℤ◌, ◌≤◌, AreRowsOf, ClockTask, Contains, DeviceId, Dispatch}
-use Rattle.end_system.proofs.Words.{IsAtSlot, IsBelow, IsDispatch, IsOwnOf, IsSlotOf, List, Network, None, Option, Own, Row, RowId, Rows, SentBy, Slot, Some}
+use Rattle.end_system.proofs.Words.{IsAtSlot, IsBelow, IsDispatch, IsOwnOf, IsSlotOf, List, Network, None, Option, Own, Row, RowId, OwnRows, SentBy, Slot, Some}
 use Rattle.end_system.proofs.Words.{Standing, SyncPlan, Synchronised, Units, [], amount, ap, arith, dispatching, inl, inr, ints, mul-le-mul_right, numbers_of}
-use Rattle.{end_system.specs.Deeds.{IsSooner, Leaves}, schedule_tables.specs.{Dispatches.dispatch_order, Slots.place_by, declared.slot.Place.Place}}
+use Rattle.{end_system.specs.Deeds.{IsSooner, Leaves}, schedule_tables.specs.{Dispatches.dispatch_order, Slots.place_by, declared.slot.DispatchPlace.DispatchPlace}}
 use Rattle.{end_system.specs.RowSlots.{IsFirstFrom, IsNextFrom, IsSlotIn}, tte_units.proofs.general_lemmas.{Lists.{none_in, period_divides}, Naturals.cases_of}}
 use Rattle.schedule_tables.proofs.{NextLemmas.{place_is as row_place_is}, OrderLemmas.{below_more, below_one_way, not_below_more, same_or_below}}
 
@@ -33,7 +33,7 @@ module _ (network : Network) (device : DeviceId) where
   }
 
   -- it is among the slots
-  slot_in : {own : Own} {rows : Rows} {row : RowId} {cycle : ℕ} → IsOwnOf network device own
+  slot_in : {own : Own} {rows : OwnRows} {row : RowId} {cycle : ℕ} → IsOwnOf network device own
       → AreRowsOf network device rows → (h : Leaves network device row cycle)
       → IsSlotIn rows (slot_of network device row cycle h) cycle
   slot_in {row} {cycle} is are h =
@@ -64,7 +64,7 @@ module _ (network : Network) (device : DeviceId) where
       → offset_of network slot.place.row ≡ slot.place.offset
   offset_is of =
       ap (λ (o : Option Row). option_map_or (λ (r : Row). amount r.offset) o 0) of.is.row ∙ ap
-      (λ (p : Place). p.offset) (sym of.place)
+      (λ (p : DispatchPlace). p.offset) (sym of.place)
 
   length_is : {own : Own} → IsOwnOf network device own → amount own.plan.cycle_length ≡ amount network.cycle
   length_is is = ap (λ (p : SyncPlan). amount p.cycle_length) is.plan
@@ -85,7 +85,7 @@ module _ (network : Network) (device : DeviceId) where
       later r = omega arith
 
 -- where the dispatch is one of the slots', at the reading of the search
-is_at : {network : Network} {device : DeviceId} {own : Own} {rows : Rows} (s : Standing) (adjustment : Units)
+is_at : {network : Network} {device : DeviceId} {own : Own} {rows : OwnRows} (s : Standing) (adjustment : Units)
     {first : ℕ} {bound : Slot} {next : Dispatch} → IsOwnOf network device own
     → IsSlotOf network (SentBy device) next.slot → s.adjustment ≡ adjustment
     → IsNextFrom own rows adjustment.0 first bound next
@@ -169,7 +169,7 @@ at_least_one n c h = let e : 1 * c ≤ n * c = mul-le-mul_right c h in omega (ar
 same_key : (a b : ℕ) (xs ys : List ℕ) → a ≡ b → IsBelow (b ∷ xs) ys → IsBelow (a ∷ xs) ys
 same_key a b xs ys e h = subst (λ (k : ℕ). IsBelow (k ∷ xs) ys) (sym e) h
 
-pub first_is_next : {network : Network} {device : DeviceId} {own : Own} {rows : Rows} (s : Standing)
+pub first_is_next : {network : Network} {device : DeviceId} {own : Own} {rows : OwnRows} (s : Standing)
     (adjustment : Units) {local : ℤ} {value first : ℕ} {bound : Slot} {next : Dispatch} → IsOwnOf network device own
     → AreRowsOf network device rows → s.adjustment ≡ adjustment → s.state ≡ Synchronised
     → 1 ≤ amount network.precision → IsBehind own local value first bound
@@ -265,7 +265,7 @@ done_same done other n row m rows cycles =
     subst (λ (r : RowId). Contains (done ++ dispatching row m ∷ []) (dispatching r n)) (sym (ap row_id rows))
     (subst (λ (c : ℕ). Contains (done ++ dispatching row m ∷ []) (dispatching row c)) (sym cycles) (done_now done (dispatching row m)))
 
-module _ (network : Network) (device : DeviceId) (own : Own) (rows : Rows) where
+module _ (network : Network) (device : DeviceId) (own : Own) (rows : OwnRows) where
   pub next_is_next : (s : Standing) (changed : ℤ) (done : List ClockTask) (adjustment : Units) {last : Dispatch}
       {first : ℕ} {bound : Slot} {next : Dispatch} → IsOwnOf network device own → AreRowsOf network device rows
       → s.adjustment ≡ adjustment → IsAtSlot rows last → IsDispatch network device s changed done (Some last)

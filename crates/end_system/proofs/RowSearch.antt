@@ -1,11 +1,11 @@
 -- The first dispatch of a device that comes no earlier than a bound.
 use Rattle.end_system.proofs.Words.{◌%◌, ◌*◌, ◌+◌, ◌-ℤ◌, ◌<◌, ◌^◌, ◌∙◌, ◌∷◌, ◌≡◌, ◌≤◌, AreRowsOf, Contains, DeviceId, Dispatch, IsBelow, IsInRange, IsSlotOf}
-use Rattle.end_system.proofs.Words.{Network, Own, Rows, SentBy, Slot, Some, amount, amount_most, ap, arith, in_all, inl, inr, key_of, mul-le-mul_left}
+use Rattle.end_system.proofs.Words.{Network, Own, OwnRows, SentBy, Slot, Some, amount, amount_most, ap, arith, in_all, inl, inr, key_of, mul-le-mul_left}
 use Rattle.end_system.{proofs.Words.{numbers_of, pos, slice_get, slice_get_within, subst, sym, turn_of, ℕ, ℤ, ⊎_elim}, specs.RowSlots.IsNextFrom}
 use Rattle.std.proofs.lemmas.{Bool.cases_lt, List.Elements.All-contains, Option.get_or_from_slice_get}
-use Rattle.schedule_tables.{proofs.{EntryLemmas.in_range, Search.no_earlier}, specs.{Slots.{AreBelow, IsFirstSlot}, declared.slot.Place.Place}}
+use Rattle.schedule_tables.{proofs.{EntryLemmas.in_range, Search.no_earlier}, specs.{Slots.{AreBelow, IsFirstSlot}, declared.slot.DispatchPlace.DispatchPlace}}
 
-module _ {network : Network} {device : DeviceId} {rows : Rows} (slot : Slot) (are : AreRowsOf network device rows)
+module _ {network : Network} {device : DeviceId} {rows : OwnRows} (slot : Slot) (are : AreRowsOf network device rows)
     (there : Contains rows.slots.items slot) where
   -- each slot is of the device's rows
   pub is_of : IsSlotOf network (SentBy device) slot
@@ -34,7 +34,7 @@ least_here : (first : ℕ) (s t : Slot) (n : ℕ) → first % 64 ≡ 0 → s.res
     → (n < first + 64 → IsBelow (turn_of t) (turn_of s) → ⊥) → IsBelow (n ∷ numbers_of t.place) ((first + s.residue) ∷ numbers_of s.place) → ⊥
 least_here first s t n whole small residue from later below = grind (arith, numbers_of, in_block)
 
-module _ {network : Network} {device : DeviceId} (own : Own) {rows : Rows} (adjustment : ℤ) (first : ℕ)
+module _ {network : Network} {device : DeviceId} (own : Own) {rows : OwnRows} (adjustment : ℤ) (first : ℕ)
     (bound : Slot) (next : Dispatch) (are : AreRowsOf network device rows) (same : bound.device ≡ rows.device) where
   -- the search's answer, where a slot is not below the bound
   pub first_here : IsFirstSlot rows.slots.items bound next.slot → first % 64 ≡ 0 → next.slot.residue < 64
@@ -98,10 +98,10 @@ pub slot_offset : {network : Network} (device : DeviceId) {slot : Slot} → IsIn
     → IsSlotOf network (SentBy device) slot → slot.place.offset ≤ 2 ^ 40
 slot_offset {network} device {slot} range is =
     let in_range = in_range network slot.place.row.0 is.entry range is.is in
-    subst (λ (p : Place). p.offset ≤ 2 ^ 40) (sym is.place) (amount_most in_range.row.offset)
+    subst (λ (p : DispatchPlace). p.offset ≤ 2 ^ 40) (sym is.place) (amount_most in_range.row.offset)
 
 -- what is known of a slot at a place
-pub slot_at : {network : Network} {device : DeviceId} {rows : Rows} (place : ℕ) (slot : Slot)
+pub slot_at : {network : Network} {device : DeviceId} {rows : OwnRows} (place : ℕ) (slot : Slot)
     → AreRowsOf network device rows → slice_get rows.slots.items place ≡ Some slot
     → IsSlotOf network (SentBy device) slot
 slot_at {network} {device} {rows} place slot are at =

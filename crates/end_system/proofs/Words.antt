@@ -31,4 +31,4 @@ pub use Rattle.device_rules.specs.{Intakes.HasTaken, declared.intake.Intake.Inta
 pub use Rattle.end_system.specs.{Agendas.{IsAgenda, IsCorrection, IsDispatch, IsSending}, Owns.{IsOwnOf, end_plan}}
 pub use Rattle.end_system.specs.{RowSlots.{AreRowsOf, IsAtSlot, turn_of}, Standing.{AreHeardSo, HasNumber, StandsAsEnd}}
 pub use Rattle.end_system.specs.declared.{agenda.{Agenda.Agenda, Appointment.Appointment}, end_system.EndSystem.EndSystem}
-pub use Rattle.end_system.specs.declared.{own.Own.Own, rows.{Dispatch.Dispatch, Rows.Rows}}
+pub use Rattle.end_system.specs.declared.{own.Own.Own, rows.{Dispatch.Dispatch, OwnRows.OwnRows}}

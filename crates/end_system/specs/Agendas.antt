@@ -1,7 +1,7 @@
 -- What an agenda holds.
 use Rattle.std.specs.Prelude.{◌+ℤ◌, ◌+◌, ◌-ℤ◌, ◌<ℤ◌, ◌^◌, ◌≡◌, ◌≤ℤ◌, ◌⊎◌, IfSome, IsSomeAnd, List, None, Option, Some}
 use Rattle.std.specs.Prelude.{[], neg_ℤ, pos, true, ℕ, ℤ}
-use Rattle.end_system.specs.{Deeds.{IsNextCorrection, IsNextDispatch, IsNextSending, Leaves}, declared.rows.Rows.Rows}
+use Rattle.end_system.specs.{Deeds.{IsNextCorrection, IsNextDispatch, IsNextSending, Leaves}, declared.rows.OwnRows.OwnRows}
 use Rattle.{end_system.specs.Owns.IsOwnOf, net_plan.specs.Places.is_master}
 use Rattle.{end_system.specs.{RowSlots.AreRowsOf, declared.own.Own.Own}, run_law.specs.machines.Tasks.value_of}
 use Rattle.end_system.specs.declared.{agenda.{Agenda.Agenda, Appointment.Appointment, Due.Due}, rows.Dispatch.Dispatch}
@@ -106,7 +106,7 @@ pub record IsOnlyCorrection (length : Units) (old : Appointment) (agenda : Agend
 
 -- the agenda after a correction point that came to this, where the synchronisation stands so then and the local clock
 -- shows this
-abbrev pub IsAgendaAfter : Own → Rows → Standing → ℤ → Appointment → Verdict → Agenda → Type 0
+abbrev pub IsAgendaAfter : Own → OwnRows → Standing → ℤ → Appointment → Verdict → Agenda → Type 0
 IsAgendaAfter own rows s local old (Corrected by) agenda = (network : Network) (device : DeviceId)
     → IsOwnOf network device own → AreRowsOf network device rows → IsAgenda network device s local [] agenda
 IsAgendaAfter own rows s local old SyncClique agenda = IsEmpty agenda

@@ -1,7 +1,7 @@
 -- The slots of the rows that a device dispatches.
 use Rattle.std.specs.List.{Contains}
 use Rattle.std.specs.Prelude.{◌%◌, ◌*◌, ◌+◌, ◌-ℤ◌, ◌<◌, ◌∷◌, ◌≡◌, ◌≤◌, List, None, Option, Some, [], pos, ℕ, ℤ}
-use Rattle.{end_system.specs.declared.{own.Own.Own, rows.Rows.Rows}, net_plan.specs.declared.ids.DeviceId.DeviceId}
+use Rattle.{end_system.specs.declared.{own.Own.Own, rows.OwnRows.OwnRows}, net_plan.specs.declared.ids.DeviceId.DeviceId}
 use Rattle.{end_system.specs.declared.rows.Dispatch.Dispatch, net_plan.specs.declared.network.Network.Network}
 use Rattle.{net_plan.specs.Ranges.IsInRange, schedule_tables.specs.Dispatches.IsBelow, tte_units.specs.Amount.amount}
 use Rattle.schedule_tables.specs.{Slots.{AreSlots, numbers_of}, declared.slot.{Slot.Slot, Whose.TheVariants.SentBy}}
@@ -11,21 +11,21 @@ abbrev pub turn_of : Slot → List ℕ
 turn_of slot = slot.residue ∷ numbers_of slot.place
 
 -- these are the slots of the rows whose frames the device sends first
-pub record AreRowsOf (network : Network) (device : DeviceId) (rows : Rows) : Type 0 where
+pub record AreRowsOf (network : Network) (device : DeviceId) (rows : OwnRows) : Type 0 where
   pub owner : rows.device ≡ device
   pub slots : AreSlots network (SentBy device) rows.slots.items
 
 -- these are the rows of some device
-abbrev pub AreSomeRows : Rows → Type 0
+abbrev pub AreSomeRows : OwnRows → Type 0
 AreSomeRows rows = (network : Network) × (device : DeviceId) × IsInRange network × AreRowsOf network device rows
 
 -- the slot is one of the device's that occurs in the cycle
-pub record IsSlotIn (rows : Rows) (slot : Slot) (cycle : ℕ) : Type 0 where
+pub record IsSlotIn (rows : OwnRows) (slot : Slot) (cycle : ℕ) : Type 0 where
   pub there : Contains rows.slots.items slot
   pub residue : slot.residue ≡ cycle % 64
 
 -- the dispatch is that of a slot of the device
-abbrev pub IsAtSlot : Rows → Dispatch → Type 0
+abbrev pub IsAtSlot : OwnRows → Dispatch → Type 0
 IsAtSlot rows next = IsSlotIn rows next.slot next.cycle
 
 -- the slot in this cycle comes no earlier than the bound in the 64 cycles from the first on
@@ -34,7 +34,7 @@ pub record IsFrom (first : ℕ) (bound slot : Slot) (cycle : ℕ) : Type 0 where
   pub behind : cycle < first + 64 → IsBelow (turn_of slot) (turn_of bound) → ⊥
 
 -- the dispatch is the first of those that come no earlier than the bound
-pub record IsNextFrom (own : Own) (rows : Rows) (adjustment : ℤ) (first : ℕ) (bound : Slot)
+pub record IsNextFrom (own : Own) (rows : OwnRows) (adjustment : ℤ) (first : ℕ) (bound : Slot)
     (next : Dispatch) : Type 0 where
   pub slot : IsAtSlot rows next
   pub from : IsFrom first bound next.slot next.cycle
@@ -43,6 +43,6 @@ pub record IsNextFrom (own : Own) (rows : Rows) (adjustment : ℤ) (first : ℕ)
   pub at : next.at.0 ≡ (pos (next.cycle * amount own.plan.cycle_length + next.slot.place.offset) -ℤ adjustment)
 
 -- it is that dispatch, or there are no rows
-abbrev pub IsFirstFrom : Own → Rows → ℤ → ℕ → Slot → Option Dispatch → Type 0
+abbrev pub IsFirstFrom : Own → OwnRows → ℤ → ℕ → Slot → Option Dispatch → Type 0
 IsFirstFrom own rows adjustment first bound None = rows.slots.items ≡ []
 IsFirstFrom own rows adjustment first bound (Some next) = IsNextFrom own rows adjustment first bound next

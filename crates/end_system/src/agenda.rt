@@ -9,7 +9,7 @@ ghost use Rattle.{run_law.specs.machines.Nodes.sending, sync_state.specs.Standin
 ghost use Rattle.tte_units.specs.Amount.{amount};
 
 use crate::own::Own;
-use crate::rows::{Dispatch, Rows};
+use crate::rows::{Dispatch, OwnRows};
 use device_rules::is_synchronised;
 use sync_state::Sync;
 use tte_units::Units;
@@ -94,7 +94,7 @@ fn earlier(a: Option<Units>, b: Option<Units>) -> Option<Units>
 }
 
 /// What a device does next whose clock has just been set, and shows this local value.
-pub(crate) fn agenda_from(own: &Own, rows: &Rows, sync: &Sync, local: Units) -> Agenda
+pub(crate) fn agenda_from(own: &Own, rows: &OwnRows, sync: &Sync, local: Units) -> Agenda
     requires range { HasOwnRange own.now }
     requires rows { AreSomeRows rows.now }
     requires number { IfSome (next_point sync.now) (λ n. n ≤ 2 ^ 21 + 2 ^ 18) }
@@ -128,7 +128,7 @@ fn sending_from(own: &Own, sync: &Sync, local: Units) -> Option<Appointment>
 }
 
 /// The next dispatch, of a synchronised device.
-fn dispatch_from(own: &Own, rows: &Rows, sync: &Sync, local: Units) -> Option<Dispatch>
+fn dispatch_from(own: &Own, rows: &OwnRows, sync: &Sync, local: Units) -> Option<Dispatch>
     requires range { HasOwnRange own.now }
     requires rows { AreSomeRows rows.now }
     requires small { IsSmall sync.now.adjustment.0 }

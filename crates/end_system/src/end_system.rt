@@ -11,7 +11,7 @@ use crate::OutOfMemory;
 use crate::agenda::{Agenda, Appointment, Due, agenda_from, in_next_cycle};
 use crate::control::{arrival, heard_as, local_at};
 use crate::own::Own;
-use crate::rows::{Dispatch, Rows};
+use crate::rows::{Dispatch, OwnRows};
 use device_rules::{Heading, Intake, TaskKind, TellsKind, is_off, start_of};
 use net_plan::{DeviceId, LinkId, Network};
 use pcf_codec::{PcfRefusal, decode, is_pcf};
@@ -30,7 +30,7 @@ pub struct EndSystem {
     sync: Sync,
     heard: Heard,
     agenda: Agenda,
-    rows: Rows,
+    rows: OwnRows,
     entering: Intake,
     /// When it was called last.
     last: Moment,
@@ -51,7 +51,7 @@ impl EndSystem {
         let network = accepted.network();
         let own = Own::new(network, device);
         let sync = Sync::new(own.plan, start_of(network, device));
-        let rows = Rows::new(alloc, network, device)?;
+        let rows = OwnRows::new(alloc, network, device)?;
         let entering = match Intake::new(alloc, network, device) {
             Ok(entering) => entering,
             Err(_) => return Err(OutOfMemory),

@@ -11,13 +11,13 @@ use crate::OutOfMemory;
 use crate::agenda::reading_at;
 use crate::own::Own;
 use net_plan::{DeviceId, LinkId, Network, RowId};
-use schedule_tables::{Place, RESIDUES, Slot, Whose, first_slot, slots_of};
+use schedule_tables::{DispatchPlace, RESIDUES, Slot, Whose, first_slot, slots_of};
 use std::alloc::Global;
 use tte_units::Units;
 
 /// The rows that a device dispatches.
 #[derive(Drop)]
-pub struct Rows {
+pub struct OwnRows {
     device: DeviceId,
     /// A slot for each row and residue in which the row's virtual link occurs, in ascending order.
     slots: Vec<Slot>,
@@ -32,14 +32,14 @@ pub struct Dispatch {
     pub at: Units,
 }
 
-impl Rows {
+impl OwnRows {
     /// The rows of which the device is the sender.
-    pub fn new(alloc: Global, network: &Network, device: DeviceId) -> Result<Rows, OutOfMemory>
+    pub fn new(alloc: Global, network: &Network, device: DeviceId) -> Result<OwnRows, OutOfMemory>
         requires { IsInRange network.now }
         ensures { IfOk result (AreRowsOf network.now device) }
     {
         let slots = slots_of(alloc, network, Whose::SentBy(device))?;
-        Ok(Rows { device, slots })
+        Ok(OwnRows { device, slots })
     }
 
     /// The first dispatch at a local value behind this one.
@@ -64,7 +64,7 @@ impl Rows {
         let bound = Slot {
             device: self.device,
             residue: cycle % RESIDUES,
-            place: Place {
+            place: DispatchPlace {
                 offset: value % length + 1,
                 link: LinkId(0),
                 row: RowId(0),

@@ -8,7 +8,7 @@ mod storm;
 mod strike;
 mod words;
 
-pub use draw::Draw;
+pub use draw::StormDraw;
 pub use laws::{storm_is_one, storms_are_within};
 pub use storm::Storm;
 pub use words::Words;

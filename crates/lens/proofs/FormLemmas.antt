@@ -1,6 +1,6 @@
 -- The form of words by their count and their first, and the numbers of forms.
 use Rattle.lens.specs.declared.forms.{Form.{Form, TheVariants.{DrawNamed, Events, Latency, Least, Plan, Report, Schedule, Sheet, Slack, SlackOf}}, Question.TheVariants.{Clocks, Draw, DrawWhole, Flows, LatencySeen, Page, Why}}
-use Rattle.{lens.specs.declared.forms.Part.{Part, TheVariants.{Cycle, Times}}, lens_plan.specs.messages.Values.{is_name_text, time_spelled}}
+use Rattle.{lens.specs.declared.forms.RunPart.{RunPart, TheVariants.{Cycle, Times}}, lens_plan.specs.messages.Values.{is_name_text, time_spelled}}
 use Rattle.lens_slack.specs.Inequalities.{IsInequality}
 use Rattle.lens.specs.Forms.{IsFormInRange, IsPartInRange, cycle_part, draw_form, events_form, five_words_form, form_of, four_words_form, greatest_cycle}
 use Rattle.lens.specs.Forms.{greatest_number, inequality_spelled, named_form, network_form, part_between, reads_as_time, six_words_form}
@@ -109,15 +109,15 @@ times_by (Some f) (Some t) = between_by f t (nat_le f t) (λ e. grind (arith, na
 times_range : (from to : List ℕ) → IfSome (times_part from to) IsPartInRange
 times_range from to = times_by (time_spelled greatest_number from) (time_spelled greatest_number to)
 
-draw_by : (part : Option Part) → IfSome part IsPartInRange → IfSome (draw_form part) IsFormInRange
+draw_by : (part : Option RunPart) → IfSome part IsPartInRange → IfSome (draw_form part) IsFormInRange
 draw_by None h = tt
 draw_by (Some p) h = h
 
-name_by : (name : List ℕ) (part : Part) (b : Bool) → IsPartInRange part → IfSome (if b then Some (DrawNamed part name) else None) IsFormInRange
+name_by : (name : List ℕ) (part : RunPart) (b : Bool) → IsPartInRange part → IfSome (if b then Some (DrawNamed part name) else None) IsFormInRange
 name_by name part true h = h
 name_by name part false h = tt
 
-named_range : (name : List ℕ) (part : Option Part) → IfSome part IsPartInRange → IfSome (named_form part name) IsFormInRange
+named_range : (name : List ℕ) (part : Option RunPart) → IfSome part IsPartInRange → IfSome (named_form part name) IsFormInRange
 named_range name None h = tt
 named_range name (Some p) h = name_by name p (is_name_text name) h
 

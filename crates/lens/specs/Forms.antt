@@ -4,7 +4,7 @@ use Rattle.std.specs.Prelude.{◌&&◌, ◌-◌, ◌^◌, ◌||◌, ◌∷◌, �
 use Rattle.std.specs.Prelude.{length, nat_le, take, ℕ}
 use Rattle.lens.specs.declared.forms.{Form.{Form, TheVariants.{DrawNamed, Events, Latency, Least, Plan}}, Question.Question}
 use Rattle.lens.specs.declared.forms.Form.TheVariants.{Report, Schedule, Sheet, Slack, SlackOf}
-use Rattle.lens.specs.declared.forms.{Part.{Part, TheVariants.{Cycle, Times}}, Question.TheVariants.{Clocks, Draw, DrawWhole}}
+use Rattle.lens.specs.declared.forms.{RunPart.{RunPart, TheVariants.{Cycle, Times}}, Question.TheVariants.{Clocks, Draw, DrawWhole}}
 use Rattle.{lens.specs.declared.forms.Question.TheVariants.{Flows, LatencySeen, Page, Why}, trace_text.specs.Numbers.number_up_to}
 use Rattle.lens_plan.specs.messages.Values.{is_name_text, time_spelled}
 use Rattle.lens_slack.specs.Inequalities.{IsInequality}
@@ -74,28 +74,28 @@ abbrev pub greatest_cycle : ℕ
 greatest_cycle = 2 ^ 20
 
 -- a cycle of a run, by its number in decimal without leading zeros
-abbrev pub cycle_part : List ℕ → Option Part
+abbrev pub cycle_part : List ℕ → Option RunPart
 cycle_part cycle = option_map (λ n. Cycle n) (number_up_to greatest_cycle cycle)
 
 -- a part of a run, from a time to one that is no earlier
-abbrev pub part_between : ℕ → ℕ → Option Part
+abbrev pub part_between : ℕ → ℕ → Option RunPart
 part_between from to = if nat_le from to then Some (Times from to) else None
 
 -- a part of a run, by its two times, each a number of units, or of ns, us or ms
-abbrev pub times_part : List ℕ → List ℕ → Option Part
+abbrev pub times_part : List ℕ → List ℕ → Option RunPart
 times_part from to =
     option_and_then (λ f. option_and_then (part_between f) (time_spelled greatest_number to))
     (time_spelled greatest_number from)
 
 -- a part of a run: `draw NETWORK REPORT CYCLE` or `draw NETWORK REPORT FROM TO`
-abbrev pub draw_form : Option Part → Option Form
+abbrev pub draw_form : Option RunPart → Option Form
 draw_form part = option_map (λ p. Report (Draw p)) part
 
 -- of one thing, where the name is one: `draw NETWORK REPORT CYCLE NAME` or `draw NETWORK REPORT FROM TO NAME`
-abbrev pub named_by : List ℕ → Part → Option Form
+abbrev pub named_by : List ℕ → RunPart → Option Form
 named_by name part = if is_name_text name then Some (DrawNamed part name) else None
 
-abbrev pub named_form : Option Part → List ℕ → Option Form
+abbrev pub named_form : Option RunPart → List ℕ → Option Form
 named_form part name = option_and_then (named_by name) part
 
 -- digits, at least one
@@ -134,7 +134,7 @@ six_words_form command from to name =
     if bytes_eq command (codes "draw") then named_form (times_part from to) name else None
 
 -- the cycle may be drawn, or the end is no earlier than the beginning
-abbrev pub IsPartInRange : Part → Type 0
+abbrev pub IsPartInRange : RunPart → Type 0
 IsPartInRange (Cycle number) = number ≤ greatest_cycle
 IsPartInRange (Times from to) = from ≤ to
 

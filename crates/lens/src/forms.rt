@@ -36,7 +36,7 @@ pub enum Form<'a> {
     Report(Question),
     /// `draw NETWORK REPORT CYCLE NAME` or `draw NETWORK REPORT FROM TO NAME`.
     DrawNamed {
-        part: Part,
+        part: RunPart,
         name: Word<'a>,
     },
     /// `events NETWORK SEED CYCLES`.
@@ -58,7 +58,7 @@ pub enum Question {
     /// `draw NETWORK REPORT`.
     DrawWhole,
     /// `draw NETWORK REPORT CYCLE` or `draw NETWORK REPORT FROM TO`.
-    Draw(Part),
+    Draw(RunPart),
     /// `page NETWORK REPORT`.
     Page,
     /// `flows NETWORK REPORT`.
@@ -71,7 +71,7 @@ pub enum Question {
 
 /// A part of a run.
 #[derive(Clone, Copy, PartialEq, Eq)]
-pub enum Part {
+pub enum RunPart {
     /// A cycle.
     Cycle {
         /// From 0 to 2^20.
@@ -175,12 +175,12 @@ fn events_form(seed: &str, cycles: &str) -> Option<Form<'static>>
 }
 
 /// The cycle of this number.
-fn cycle_part(cycle: &str) -> Option<Part>
+fn cycle_part(cycle: &str) -> Option<RunPart>
     ensures part { result ≡ cycle_part cycle.now }
     ensures range { IfSome result IsPartInRange }
 {
     let number = number_up_to(GREATEST_CYCLE, cycle)? as u32;
-    Some(Part::Cycle { number })
+    Some(RunPart::Cycle { number })
 }
 
 /// The form of a cycle of a run.
@@ -193,14 +193,14 @@ fn cycle_form(cycle: &str) -> Option<Form<'static>>
 }
 
 /// The part between these times.
-fn times_part(from: &str, to: &str) -> Option<Part>
+fn times_part(from: &str, to: &str) -> Option<RunPart>
     ensures part { result ≡ times_part from.now to.now }
     ensures range { IfSome result IsPartInRange }
 {
     let from = time_spelled(u64::MAX, from.as_bytes())?;
     let to = time_spelled(u64::MAX, to.as_bytes())?;
     if from <= to {
-        Some(Part::Times { from, to })
+        Some(RunPart::Times { from, to })
     } else {
         None
     }
@@ -220,7 +220,7 @@ fn four_words_form(command: &str, third: &str, last: &str) -> Option<Form<'stati
 }
 
 /// The form of one thing of a part of a run, if the name is one.
-fn named_by(name: &str, part: Part) -> Option<Form<'_>>
+fn named_by(name: &str, part: RunPart) -> Option<Form<'_>>
     requires { IsPartInRange part }
     ensures form { result ≡ named_by name.now part }
     ensures range { IfSome result IsFormInRange }

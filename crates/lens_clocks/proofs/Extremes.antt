@@ -1,6 +1,6 @@
 -- Between which values clocks lie.
 use Rattle.device_rules.specs.Widths.{IsLocal}
-use Rattle.lens_clocks.specs.{Laws.EndsAreOfClocks, Spread.{ends_of, locals_of}, declared.{spread.Ends.Ends, telling.Clock.Clock}}
+use Rattle.lens_clocks.specs.{Laws.EndsAreOfClocks, Spread.{ends_of, locals_of}, declared.{spread.Ends.Ends, telling.DeviceClock.DeviceClock}}
 use Rattle.run_law.specs.records.Order.{IsIn}
 use Rattle.std.proofs.Common.{◌∷◌, ◌≡◌, ◌≤ℤ◌, List, Some, [], ap, arith, fold, inl, inr, refl, subst, suc, sym, zero, ℤ}
 use Rattle.std.proofs.lemmas.{Int.{fold-int_max_bounds, fold-int_max_reached, fold-int_min_bounds, fold-int_min_reached}, List.Elements.All-cons}
@@ -39,7 +39,7 @@ ends_are_of_clocks (c ∷ cs) ends e =
     }
 
 -- the clock that shows a value
-pub shown_by : (cs : List Clock) (v : ℤ) → Contains (locals_of cs) v → (c : Clock) × IsIn c cs × (c.local ≡ v)
+pub shown_by : (cs : List DeviceClock) (v : ℤ) → Contains (locals_of cs) v → (c : DeviceClock) × IsIn c cs × (c.local ≡ v)
 shown_by [] v (k, within, is) = absurd (omega (arith, within))
 shown_by (c ∷ cs) v (zero, within, is) = (c, inl refl, is)
 shown_by (c ∷ cs) v (suc k, within, is) = let h = shown_by cs v (k, omega (arith, within), is) in (h.0, inr h.1, h.2)
@@ -50,10 +50,10 @@ in_all P (y ∷ ys) x all (inl same) = subst P (sym same) (all zero y (omega ari
 in_all P (y ∷ ys) x all (inr i) = in_all P ys x (λ k d within. all (suc k) d (omega (arith, within))) i
 
 -- the ends of clocks in their range lie there
-pub ends_fit : (cs : List Clock) (ends : Ends) → All (λ (c : Clock). IsLocal c.local) cs → ends_of cs ≡ Some ends → IsLocal ends.least × IsLocal ends.greatest
+pub ends_fit : (cs : List DeviceClock) (ends : Ends) → All (λ (c : DeviceClock). IsLocal c.local) cs → ends_of cs ≡ Some ends → IsLocal ends.least × IsLocal ends.greatest
 ends_fit cs ends fit e =
     let are = ends_are_of_clocks cs ends e in
     let low = shown_by cs ends.least are.least in
     let high = shown_by cs ends.greatest are.greatest in
-    let fits = in_all (λ (c : Clock). IsLocal c.local) cs in
+    let fits = in_all (λ (c : DeviceClock). IsLocal c.local) cs in
     (subst IsLocal low.2 (fits low.0 fit low.1), subst IsLocal high.2 (fits high.0 fit high.1))

@@ -1,6 +1,6 @@
 -- The clocks that are told of a time are those of the devices that are correct and synchronised.
 use Rattle.audit_devices.specs.Showing.{Shown, Shows}
-use Rattle.lens_clocks.specs.{Laws.{ClocksAreInStep, IsTold}, Telling.{clock_of, clocks_at, clocks_of}, declared.telling.Clock.Clock}
+use Rattle.lens_clocks.specs.{Laws.{ClocksAreInStep, IsTold}, Telling.{clock_of, clocks_at, clocks_of}, declared.telling.DeviceClock.DeviceClock}
 use Rattle.net_plan.specs.declared.ids.DeviceId.{DeviceId}
 use Rattle.precision_law.proofs.law.Precision.{up_to_is}
 use Rattle.run_law.proofs.{device.States.is_in, runs.Places.{in_left, in_parts, in_right}}
@@ -14,14 +14,14 @@ use Rattle.sync_state.specs.declared.state.State.{State, TheVariants.Synchronise
 use Rattle.tte_units.proofs.general_lemmas.Options.{one}
 
 -- what is told of a device whose clock is this
-abbrev told_where : Bool → Bool → Clock → Option Clock
+abbrev told_where : Bool → Bool → DeviceClock → Option DeviceClock
 told_where broken synchronised clock = if broken then None else if synchronised then Some clock else None
 
 -- the clock of the device
-abbrev own_clock : Scenario → List Happening → ℕ → DeviceId → Clock
+abbrev own_clock : Scenario → List Happening → ℕ → DeviceId → DeviceClock
 own_clock s hs t device = record { device = device; local = local s hs device t }
 
-where_of : (broken synchronised : Bool) (own c : Clock) → told_where broken synchronised own ≡ Some c → (broken ≡ false) × (synchronised ≡ true) × (own ≡ c)
+where_of : (broken synchronised : Bool) (own c : DeviceClock) → told_where broken synchronised own ≡ Some c → (broken ≡ false) × (synchronised ≡ true) × (own ≡ c)
 where_of true synchronised own c e = absurd cc
 where_of false false own c e = absurd cc
 where_of false true own c e = (refl, refl, one (Some own) own c refl e)
@@ -64,7 +64,7 @@ module _ (s : Scenario) (hs : List Happening) (t : ℕ) (device : DeviceId) wher
       (own_clock s hs t device)) correct
       ∙ ap (λ state. told_where false (is_synchronised state) (own_clock s hs t device)) synchronised)
 
-  told_is : (c : Clock) → clock_of s hs t device ≡ Some c
+  told_is : (c : DeviceClock) → clock_of s hs t device ≡ Some c
       → (is_broken s device t ≡ false) × (state_after s (up_to t hs) device ≡ Synchronised)
       × (own_clock s hs t device ≡ c)
   told_is c e =
@@ -74,16 +74,16 @@ module _ (s : Scenario) (hs : List Happening) (t : ℕ) (device : DeviceId) wher
 
 -- ---- among all
 
-only : (o : Option Clock) (c : Clock) → IsIn c (cons_option o []) → o ≡ Some c
+only : (o : Option DeviceClock) (c : DeviceClock) → IsIn c (cons_option o []) → o ≡ Some c
 only None c i = absurd i
-only (Some d) c (inl same) = ap (λ (x : Clock). Some x) (sym same)
+only (Some d) c (inl same) = ap (λ (x : DeviceClock). Some x) (sym same)
 only (Some d) c (inr i) = absurd i
 
-among : (o : Option Clock) (c : Clock) → o ≡ Some c → IsIn c (cons_option o [])
-among o c e = subst (λ (x : Option Clock). IsIn c (cons_option x [])) (sym e) (inl refl)
+among : (o : Option DeviceClock) (c : DeviceClock) → o ≡ Some c → IsIn c (cons_option o [])
+among o c e = subst (λ (x : Option DeviceClock). IsIn c (cons_option x [])) (sym e) (inl refl)
 
 -- a clock among those of the first so many devices is that of one of them
-of_one : (s : Scenario) (hs : List Happening) (t n : ℕ) (c : Clock) → IsIn c (clocks_of s hs t n)
+of_one : (s : Scenario) (hs : List Happening) (t n : ℕ) (c : DeviceClock) → IsIn c (clocks_of s hs t n)
     → (c.device.0 < n) × (clock_of s hs t c.device ≡ Some c)
 of_one s hs t zero c i = absurd i
 of_one s hs t (suc n) c i =
@@ -91,12 +91,12 @@ of_one s hs t (suc n) c i =
       | inl there ↦ let h = of_one s hs t n c there in (omega (arith, h.0), h.1)
       | inr last ↦
           let is = only (clock_of s hs t (record { 0 = n })) c last in
-          let own = ap (λ (x : Clock). x.device) (told_is s hs t (record { 0 = n }) c is).2 in
+          let own = ap (λ (x : DeviceClock). x.device) (told_is s hs t (record { 0 = n }) c is).2 in
           let number : n ≡ c.device.0 = ap (λ (d : DeviceId). d.0) own in
           (omega (arith, number), subst (λ d. clock_of s hs t d ≡ Some c) own is)
     ]
 
-of_all : (s : Scenario) (hs : List Happening) (t n : ℕ) (c : Clock) → c.device.0 < n → clock_of s hs t c.device ≡ Some c → IsIn c (clocks_of s hs t n)
+of_all : (s : Scenario) (hs : List Happening) (t n : ℕ) (c : DeviceClock) → c.device.0 < n → clock_of s hs t c.device ≡ Some c → IsIn c (clocks_of s hs t n)
 of_all s hs t zero c within is = absurd (omega (arith, within))
 of_all s hs t (suc n) c within is =
     elim (cases_lt c.device.0 n) [
@@ -118,7 +118,7 @@ clocks_are_in_step s hs t c = (there, back)
         record {
           device = h.0;
           in_step = record { correct = is.0; synchronised = is.1 };
-          shows = sym (ap (λ (x : Clock). x.local) is.2);
+          shows = sym (ap (λ (x : DeviceClock). x.local) is.2);
         }
 
     back : IsTold s hs t c → IsIn c (clocks_at s hs t)

@@ -1,7 +1,7 @@
 -- What holds of the lines of `clocks`.
 use Rattle.std.specs.{List.{All, Contains}, Prelude.{◌*◌, ◌-ℤ◌, ◌↔◌, ◌≡◌, ◌≤ℤ◌, ◌≤◌, List, Some, ℕ, ℤ}}
 use Rattle.lens_clocks.specs.{Answer.cycles_by, Spread.{ends_of, locals_of}, Telling.clocks_at}
-use Rattle.lens_clocks.specs.declared.{spread.Ends.Ends, telling.Clock.Clock}
+use Rattle.lens_clocks.specs.declared.{spread.Ends.Ends, telling.DeviceClock.DeviceClock}
 use Rattle.net_plan.specs.{Belonging.HasDevice, Ranges.IsInRange, declared.ids.DeviceId.DeviceId}
 use Rattle.{net_plan.specs.declared.network.Network.Network, tte_units.specs.Amount.amount}
 use Rattle.run_law.specs.{declared.note.Note.Note, device.LocalClocks.local, law.Safety.IsInStep}
@@ -16,7 +16,7 @@ CyclesHavePassed =
     → (k ≤ cycles_by s until) ↔ (k * amount s.network.cycle ≤ until)
 
 -- the clock is the local clock of a device of the network that is correct and synchronised at the time
-pub record IsTold (s : Scenario) (hs : List Happening) (t : ℕ) (clock : Clock) : Type 0 where
+pub record IsTold (s : Scenario) (hs : List Happening) (t : ℕ) (clock : DeviceClock) : Type 0 where
   pub device : HasDevice s.network clock.device
   pub in_step : IsInStep s hs clock.device t
   pub shows : clock.local ≡ local s hs clock.device t
@@ -24,7 +24,7 @@ pub record IsTold (s : Scenario) (hs : List Happening) (t : ℕ) (clock : Clock)
 -- each clock that is told is so, and there is one for each such device
 abbrev pub ClocksAreInStep : Type 0
 ClocksAreInStep =
-    (s : Scenario) (hs : List Happening) (t : ℕ) (clock : Clock) → IsIn clock (clocks_at s hs t) ↔ IsTold s hs t clock
+    (s : Scenario) (hs : List Happening) (t : ℕ) (clock : DeviceClock) → IsIn clock (clocks_at s hs t) ↔ IsTold s hs t clock
 
 -- the ends are two of the values, and all lie between them
 pub record AreEnds (values : List ℤ) (ends : Ends) : Type 0 where
@@ -34,7 +34,7 @@ pub record AreEnds (values : List ℤ) (ends : Ends) : Type 0 where
 
 -- so it is with what clocks show
 abbrev pub EndsAreOfClocks : Type 0
-EndsAreOfClocks = (cs : List Clock) (ends : Ends) → ends_of cs ≡ Some ends → AreEnds (locals_of cs) ends
+EndsAreOfClocks = (cs : List DeviceClock) (ends : Ends) → ends_of cs ≡ Some ends → AreEnds (locals_of cs) ends
 
 -- in the answer for a report of an accepted network no clocks are further apart than the precision
 abbrev pub SpreadsAreWithin : Type 0

@@ -5,7 +5,7 @@
 use Rattle.std.specs.Fmt.{decimal, signed_decimal}
 use Rattle.std.specs.Prelude.{◌++◌, ◌-ℤ◌, ◌∷◌, List, None, Option, Some, [], codes, map, ℕ, ℤ}
 use Rattle.{lens_clocks.specs.Spread.ends_of, tte_units.specs.Amount.amount}
-use Rattle.lens_clocks.specs.declared.{spread.Ends.Ends, telling.Clock.Clock}
+use Rattle.lens_clocks.specs.declared.{spread.Ends.Ends, telling.DeviceClock.DeviceClock}
 use Rattle.net_plan.specs.{Belonging.device_name, declared.network.Network.Network}
 
 -- what the clock shows, and how far that is beyond the least
@@ -13,7 +13,7 @@ unfoldable pub values_text : ℤ → ℤ → List ℕ
 values_text least local = codes " " ++ signed_decimal local ++ codes " " ++ signed_decimal (local -ℤ least)
 
 -- the line of a clock
-unfoldable pub clock_line : Network → ℕ → ℤ → Clock → List ℕ
+unfoldable pub clock_line : Network → ℕ → ℤ → DeviceClock → List ℕ
 clock_line network k least clock =
     codes "clock " ++ decimal k ++ codes " " ++ device_name network clock.device ++ values_text least clock.local
     ++ codes "\n"
@@ -30,11 +30,11 @@ spread_line network k ends =
     ++ decimal (amount network.precision) ++ codes "\n"
 
 -- the lines of the clocks and of how far they are apart, where they lie between these
-abbrev pub lines_between : Network → ℕ → Option Ends → List Clock → List (List ℕ)
+abbrev pub lines_between : Network → ℕ → Option Ends → List DeviceClock → List (List ℕ)
 lines_between network k None cs = spread_line network k None ∷ []
 lines_between network k (Some ends) cs =
     map (clock_line network k ends.least) cs ++ spread_line network k (Some ends) ∷ []
 
 -- the same, whatever they show
-abbrev pub told_lines : Network → ℕ → List Clock → List (List ℕ)
+abbrev pub told_lines : Network → ℕ → List DeviceClock → List (List ℕ)
 told_lines network k cs = lines_between network k (ends_of cs) cs

@@ -12,4 +12,4 @@ mod telling;
 pub use answering::Clocks;
 pub use laws::clocks_law;
 pub use spread::Ends;
-pub use telling::Clock;
+pub use telling::DeviceClock;

@@ -3,7 +3,7 @@ ghost use Rattle.std.specs.{Fmt.signed_decimal, Prelude.{◌++◌, ◌+◌, ◌�
 ghost use Rattle.lens_clocks.specs.{Lines.{apart_text, clock_line, spread_line, values_text}, Telling.IsWritable};
 ghost use Rattle.{device_rules.specs.Widths.IsLocal, net_plan.specs.Ranges.IsInRange};
 
-use crate::{Clock, Ends};
+use crate::{DeviceClock, Ends};
 use itoa::Buffer;
 use net_plan::Network;
 use tte_io::LineText;
@@ -40,7 +40,7 @@ pub(crate) fn make_clock_line(
     network: &Network,
     number: u64,
     least: i128,
-    clock: &Clock,
+    clock: &DeviceClock,
 )
     requires range { IsInRange network.now }
     requires clock { IsWritable network.now clock.now }

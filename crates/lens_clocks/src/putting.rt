@@ -8,7 +8,7 @@ ghost use Rattle.{std.specs.declared.option.Option.TheVariants.Some, tte_forms.s
 
 use crate::lines::{make_clock_line, make_spread_line};
 use crate::spread::ends_of;
-use crate::{Clock, Ends};
+use crate::{DeviceClock, Ends};
 use net_plan::Network;
 use tte_forms::{LineMaker, put_each};
 use tte_io::{LineText, Sink, SinkFailed};
@@ -21,14 +21,14 @@ struct ClockLines<'a> {
     least: i128,
 }
 
-impl LineMaker<Clock> for ClockLines<'_> {
+impl LineMaker<DeviceClock> for ClockLines<'_> {
     ghost fit = { λ lines. IsInRange lines.network.now × IsLocal lines.least };
 
     ghost takes = { λ lines clock. IsWritable lines.network.now clock };
 
     ghost text = { λ lines clock. clock_line lines.network.now lines.number lines.least clock };
 
-    fn make(&self, line: &mut LineText, thing: &Clock) {
+    fn make(&self, line: &mut LineText, thing: &DeviceClock) {
         make_clock_line(line, self.network, self.number, self.least, thing);
     }
 }
@@ -38,7 +38,7 @@ fn put_clocks<K: Sink>(
     network: &Network,
     number: u64,
     least: i128,
-    clocks: &[Clock],
+    clocks: &[DeviceClock],
     out: &mut K,
 ) -> Result<(), SinkFailed>
     requires range { IsInRange network.now }
@@ -61,7 +61,7 @@ fn put_between<K: Sink>(
     network: &Network,
     number: u64,
     ends: Ends,
-    clocks: &[Clock],
+    clocks: &[DeviceClock],
     line: &mut LineText,
     out: &mut K,
 ) -> Result<(), SinkFailed>
@@ -86,7 +86,7 @@ fn put_between<K: Sink>(
 pub(crate) fn put_told<K: Sink>(
     network: &Network,
     number: u64,
-    clocks: &[Clock],
+    clocks: &[DeviceClock],
     line: &mut LineText,
     out: &mut K,
 ) -> Result<(), SinkFailed>

@@ -3,7 +3,7 @@
 ghost use Rattle.std.specs.{Int.{int_max, int_min}, Prelude.◌≡◌};
 ghost use Rattle.lens_clocks.specs.Spread.{ends_of};
 
-use crate::Clock;
+use crate::DeviceClock;
 
 /// The least and the greatest value that some local clocks show, in units of 2^-16 ns.
 #[derive(Clone, Copy)]
@@ -13,7 +13,7 @@ pub struct Ends {
 }
 
 /// The ends with one clock more.
-fn widened(ends: Ends, clock: &Clock) -> Ends
+fn widened(ends: Ends, clock: &DeviceClock) -> Ends
     ensures least { result.least ≡ int_min ends.least clock.now.local }
     ensures greatest { result.greatest ≡ int_max ends.greatest clock.now.local }
 {
@@ -24,7 +24,7 @@ fn widened(ends: Ends, clock: &Clock) -> Ends
 }
 
 /// The least and the greatest value that these show, if there are any.
-pub(crate) fn ends_of(clocks: &[Clock]) -> Option<Ends>
+pub(crate) fn ends_of(clocks: &[DeviceClock]) -> Option<Ends>
     ensures { result ≡ ends_of clocks.now }
 {
     let (first, others) = clocks.split_first()?;

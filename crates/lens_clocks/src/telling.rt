@@ -18,7 +18,7 @@ use tte_io::OutOfMemory;
 
 /// The local clock of a device, in units of 2^-16 ns.
 #[derive(Clone, Copy)]
-pub struct Clock {
+pub struct DeviceClock {
     pub device: DeviceId,
     pub local: i128,
 }
@@ -33,7 +33,7 @@ fn local_of(shown: &Shown, reading: u64) -> i128
 
 /// The local clock of the device at the time, which is at most 2^60, once all records of this time have come, if the
 /// device is correct and synchronised then.
-fn clock_of(index: &Index, network: &Network, device: DeviceId, time: u64) -> Option<Clock>
+fn clock_of(index: &Index, network: &Network, device: DeviceId, time: u64) -> Option<DeviceClock>
     requires index { IsSomeIndex network.now index.now }
     requires there { HasDevice network.now device }
     requires limit { time ≤ 2 ^ 60 }
@@ -51,11 +51,11 @@ fn clock_of(index: &Index, network: &Network, device: DeviceId, time: u64) -> Op
     }
     let reading = index.events.reading(device, time);
     let local = local_of(shown, reading);
-    Some(Clock { device, local })
+    Some(DeviceClock { device, local })
 }
 
 /// Adds the clock, if there is one.
-fn push_some(clocks: &mut Vec<Clock>, clock: Option<Clock>) -> Result<(), OutOfMemory>
+fn push_some(clocks: &mut Vec<DeviceClock>, clock: Option<DeviceClock>) -> Result<(), OutOfMemory>
     ensures { OnOk result (clocks.new.items ≡ clocks.old.items ++ cons_option clock []) }
 {
     let Some(clock) = clock else {
@@ -76,7 +76,7 @@ pub(crate) fn clocks_at(
     index: &Index,
     network: &Network,
     time: u64,
-) -> Result<Vec<Clock>, OutOfMemory>
+) -> Result<Vec<DeviceClock>, OutOfMemory>
     requires range { IsInRange network.now }
     requires index { IsSomeIndex network.now index.now }
     requires limit { time ≤ 2 ^ 60 }

@@ -1,5 +1,5 @@
 -- The departures that the causes of records go back to.
-use Rattle.lens_latency.specs.{Arrivals.{HasDeparted, IsArrivalBy, IsDeparture, IsDepartureOf}, declared.arrivals.Arrival.Arrival}
+use Rattle.lens_latency.specs.{Arrivals.{HasDeparted, IsArrivalBy, IsDeparture, IsDepartureOf}, declared.arrivals.FrameArrival.FrameArrival}
 use Rattle.lens_latency.specs.Following.{arrival_by, is_departure}
 use Rattle.net_plan.specs.declared.ids.{DeviceId.DeviceId, LinkId.LinkId, VlId.VlId}
 use Rattle.run_law.specs.{declared.note.NoteBody.NoteBody, records.{Causes.{IsChain, cause_of, last_from}, Happenings.{Happening, numbered, time_of}}}
@@ -94,15 +94,15 @@ module _ (hs : List Happening) where
       let e : body ≡ notes.Delivered other.device told.link told.cause other.vl told.cycle = sym is ∙ told.is in
       absurd cc
 
-  abbrev made : VlId → DeviceId → ℕ → Arrival
+  abbrev made : VlId → DeviceId → ℕ → FrameArrival
   made vl device time = record { vl = vl; device = device; time = time }
 
-  same_names : (a b : Arrival) (link from : LinkId) (cause before cycle of : ℕ) → notes.Delivered a.device link cause a.vl cycle
+  same_names : (a b : FrameArrival) (link from : LinkId) (cause before cycle of : ℕ) → notes.Delivered a.device link cause a.vl cycle
       ≡ notes.Delivered b.device from before b.vl of → (a.vl ≡ b.vl) × (a.device ≡ b.device)
   same_names a b link from cause before cycle of e = (cc, cc)
 
   -- a record tells one
-  pub arrival_once : (h : Happening) (a b : Option Arrival) → IsArrivalBy hs h a → IsArrivalBy hs h b → a ≡ b
+  pub arrival_once : (h : Happening) (a b : Option FrameArrival) → IsArrivalBy hs h a → IsArrivalBy hs h b → a ≡ b
   arrival_once h None None none empty = refl
   arrival_once h None (Some b) none is = absurd (none b is)
   arrival_once h (Some a) None is none = absurd (none a is)
@@ -110,5 +110,5 @@ module _ (hs : List Happening) where
       let names = same_names a b is.link its.link is.cause its.cause is.cycle its.cycle (sym is.is ∙ its.is) in
       let left = departed_once h is.left its.left is.departed its.departed in
       let time : a.time ≡ b.time = is.time ∙ ap (λ t. time_of h - t) left ∙ sym its.time in
-      ap (λ (x : Arrival). Some x) (ap (λ v. made v a.device a.time) names.0 ∙ ap (λ d. made b.vl d a.time) names.1
+      ap (λ (x : FrameArrival). Some x) (ap (λ v. made v a.device a.time) names.0 ∙ ap (λ d. made b.vl d a.time) names.1
       ∙ ap (λ t. made b.vl b.device t) time)

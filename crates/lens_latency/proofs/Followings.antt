@@ -1,7 +1,7 @@
 -- What is kept of the records so far, and of one more.
 use Rattle.audit_law.{proofs.law_lemmas.Findings.{audit_laws, gap_law}, specs.law.Linked.{AreLinked, HasCause}}
 use Rattle.lens_latency.proofs.{Departures.{arrival_is, denies_departure, departs_by, departs_here, departs_never, tells_departure}, Givings.given_more}
-use Rattle.lens_latency.specs.{Arrivals.{AreGiven, IsArrivalBy, IsDeparture, IsDepartureOf}, declared.arrivals.Arrival.Arrival}
+use Rattle.lens_latency.specs.{Arrivals.{AreGiven, IsArrivalBy, IsDeparture, IsDepartureOf}, declared.arrivals.FrameArrival.FrameArrival}
 use Rattle.lens_latency.specs.Following.{IsFollowed, arrival_by, departure_at, departure_by, is_departure}
 use Rattle.{net_plan.specs.declared.network.Network.Network, run_law.specs.declared.note.Note.Note}
 use Rattle.run_law.{proofs.{law.FirstPlaces.numbered_front, records.Happenings.as_many, runs.NetworkRuns.one_more}, specs.records.Causes.cause_of}
@@ -48,7 +48,7 @@ module _ (network : Network) (ns before : List Note) where
   abbrev earlier : List Happening
   earlier = happenings network before
 
-  pub followed_none : (kept : List (Option ℕ)) (arrivals : List Arrival) → kept ≡ [] → arrivals ≡ [] → IsFollowed network ns [] kept arrivals
+  pub followed_none : (kept : List (Option ℕ)) (arrivals : List FrameArrival) → kept ≡ [] → arrivals ≡ [] → IsFollowed network ns [] kept arrivals
   followed_none kept arrivals none empty = record { count = ap length none; departures = λ n h there. absurd (numbered_none n h there); told = empty }
     where
       numbered_none : (n : ℕ) (h : Happening) → numbered [] n ≡ Some h → ⊥
@@ -81,7 +81,7 @@ module _ (network : Network) (ns before : List Note) where
                 (departs_by hs h given.0 (departure_at kept (cause_of h.note.body)) not there (all (cause_of h.note.body) given.0 given.1))
           ]
 
-  pub followed_more : (octets : List ℕ) (note : Note) (kept : List (Option ℕ)) (arrivals : List Arrival) → IsNamed network
+  pub followed_more : (octets : List ℕ) (note : Note) (kept : List (Option ℕ)) (arrivals : List FrameArrival) → IsNamed network
       → IsNextOf network octets ns before note → IsFollowed network ns before kept arrivals
       → IsFollowed network ns (before ++ note ∷ []) (kept ++ departure_by kept (amount note.time) note.body ∷ [])
       (arrivals ++ cons_option (arrival_by (departure_by kept (amount note.time) note.body) (amount note.time) note.body) [])

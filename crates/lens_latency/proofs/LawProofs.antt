@@ -1,7 +1,7 @@
 -- The lines of `latency` hold in each run.
 use Rattle.lens_latency.{proofs.{Parts.{has_part, part_of}, Rows.{begins_in_cycle, one_first, one_last}}, specs.Laws.{ComesAtItsPlace, ComesInItsTime, trip_by}}
 use Rattle.lens_latency.specs.{Comings.{AreComings, IsComing, IsPartAt, IsPartOf, some_coming}, Trips.{IsFirstOf, IsHop, IsTrip, trip_of}}
-use Rattle.lens_latency.specs.declared.{comings.Coming.Coming, trips.{Hop.TheVariants.{First, Last}, Trip.Trip}}
+use Rattle.lens_latency.specs.declared.{comings.Coming.Coming, trips.{TripEnd.TheVariants.{First, Last}, Trip.Trip}}
 use Rattle.net_plan.{proofs.{Beta.beta_exists, Shape.rules_give_trees}, specs.{Bounds.{IsBeta, beta_at}, Places.{IsEndSystem, IsSwitchOf, device_at, is_end_system}, Ranges.IsInRange}}
 use Rattle.net_plan.specs.declared.{ids.{DeviceId.DeviceId, VlId.VlId}, network.Network.Network, tables.{Device.Device, VirtualLink.VirtualLink, Way.{Way, TheVariants.{Down, Up}}}}
 use Rattle.precision_law.proofs.traffic_lemmas.Safe.{frames_are_delivered, times_are_taken}

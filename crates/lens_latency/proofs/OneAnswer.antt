@@ -2,7 +2,7 @@
 use Rattle.lens_latency.proofs.{Firsts.first_once, Parts.parts_once}
 use Rattle.lens_latency.specs.{Answer.{IsLatencyOf, latency_answer}, Trips.{IsHop, IsTrip, trip_of}, declared.{comings.Coming.Coming, trips.Trip.Trip}}
 use Rattle.lens_latency.specs.Comings.{AreComings, IsComing, IsPartAt, IsPartOf, some_coming}
-use Rattle.lens_latency.specs.declared.trips.Hop.TheVariants.{First, Last}
+use Rattle.lens_latency.specs.declared.trips.TripEnd.TheVariants.{First, Last}
 use Rattle.{net_plan.specs.declared.{ids.{DeviceId.DeviceId, VlId.VlId}, network.Network.Network}, schedule_tables.specs.declared.entry.Entry.Entry}
 use Rattle.std.proofs.{Common.{◌∙◌, ◌≡◌, List, None, Option, Some, ap, inl, inr, length, refl, sym, ℕ}, lemmas.Option.none-some}
 use Rattle.{tte_forms.specs.Answering.Answer, tte_units.{proofs.general_lemmas.Options.one, specs.declared.frames.channel.Channel.Channel}}

@@ -1,6 +1,6 @@
 -- When the frames that the records of a report deliver left their senders.
 use Rattle.std.specs.{List.cons_option, Prelude.{◌-◌, ◌∷◌, ◌≡◌, List, None, Option, Some, [], ℕ}}
-use Rattle.{lens_latency.specs.declared.arrivals.Arrival.Arrival, net_plan.specs.declared.ids.LinkId.LinkId}
+use Rattle.{lens_latency.specs.declared.arrivals.FrameArrival.FrameArrival, net_plan.specs.declared.ids.LinkId.LinkId}
 use Rattle.run_law.specs.{declared.note.NoteBody.NoteBody, records.{Causes.GoesBackTo, Happenings.{Happening, time_of}}}
 use Rattle.run_law.specs.declared.note.NoteBody.TheVariants as notes
 
@@ -22,7 +22,7 @@ IsDepartureOf hs h None = (t : ℕ) → HasDeparted hs h t → ⊥
 IsDepartureOf hs h (Some t) = HasDeparted hs h t
 
 -- the record says that the frame is delivered, so long after its departure
-pub record IsArrival (hs : List Happening) (h : Happening) (arrival : Arrival) : Type 0 where
+pub record IsArrival (hs : List Happening) (h : Happening) (arrival : FrameArrival) : Type 0 where
   pub link : LinkId
   pub cause : ℕ
   pub cycle : ℕ
@@ -32,8 +32,8 @@ pub record IsArrival (hs : List Happening) (h : Happening) (arrival : Arrival) :
   pub time : arrival.time ≡ time_of h - left
 
 -- the arrival that the record tells, or none where it tells none
-abbrev pub IsArrivalBy : List Happening → Happening → Option Arrival → Type 0
-IsArrivalBy hs h None = (arrival : Arrival) → IsArrival hs h arrival → ⊥
+abbrev pub IsArrivalBy : List Happening → Happening → Option FrameArrival → Type 0
+IsArrivalBy hs h None = (arrival : FrameArrival) → IsArrival hs h arrival → ⊥
 IsArrivalBy hs h (Some arrival) = IsArrival hs h arrival
 
 -- what each of these gives, in their order
@@ -43,5 +43,5 @@ AreGiven {X} {Y} Gives (x ∷ xs) ys =
     (given : Option Y) × (others : List Y) × Gives x given × AreGiven Gives xs others × (ys ≡ cons_option given others)
 
 -- all arrivals that the records tell
-abbrev pub AreArrivals : List Happening → List Arrival → Type 0
+abbrev pub AreArrivals : List Happening → List FrameArrival → Type 0
 AreArrivals hs arrivals = AreGiven (IsArrivalBy hs) hs arrivals

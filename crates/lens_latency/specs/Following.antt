@@ -1,7 +1,7 @@
 -- What is kept of the records of a report so far.
 use Rattle.std.specs.Prelude.{◌-◌, ◌==◌, ◌≡◌, Bool, List, None, Option, Some, false, if◌then◌else◌, length}
 use Rattle.std.specs.Prelude.{option_and_then, slice_get, suc, zero, ℕ}
-use Rattle.lens_latency.specs.{Arrivals.{AreGiven, IsArrivalBy, IsDepartureOf}, declared.arrivals.Arrival.Arrival}
+use Rattle.lens_latency.specs.{Arrivals.{AreGiven, IsArrivalBy, IsDepartureOf}, declared.arrivals.FrameArrival.FrameArrival}
 use Rattle.net_plan.specs.declared.network.Network.{Network}
 use Rattle.run_law.specs.declared.{note.Note.Note, note.NoteBody.NoteBody}
 use Rattle.run_law.specs.records.{Causes.cause_of, Happenings.{Happening, happenings, numbered}}
@@ -22,13 +22,13 @@ abbrev pub departure_by : List (Option ℕ) → ℕ → NoteBody → Option ℕ
 departure_by kept time body = if is_departure body then Some time else departure_at kept (cause_of body)
 
 -- the arrival that a record at the time tells, by the time of its departure
-abbrev pub arrival_by : Option ℕ → ℕ → NoteBody → Option Arrival
+abbrev pub arrival_by : Option ℕ → ℕ → NoteBody → Option FrameArrival
 arrival_by (Some left) time (notes.Delivered device link cause vl cycle) =
     Some (record { vl = vl; device = device; time = time - left })
 arrival_by departure time body = None
 
 -- of all these records these first ones were taken: the departure of each is kept, and their arrivals
-pub record IsFollowed (network : Network) (ns before : List Note) (kept : List (Option ℕ)) (arrivals : List Arrival)
+pub record IsFollowed (network : Network) (ns before : List Note) (kept : List (Option ℕ)) (arrivals : List FrameArrival)
     : Type 0 where
   pub count : length kept ≡ length before
   pub departures : (n : ℕ) (h : Happening) → numbered (happenings network before) n ≡ Some h

@@ -1,7 +1,7 @@
 -- What the lines of `latency` have to do with the runs of the network.
 use Rattle.std.specs.{List.Contains, Prelude.{◌+◌, ◌≡◌, ◌≤ℤ◌, ◌≤◌, List, max, min, pos, ℕ}}
 use Rattle.lens_latency.specs.{Arrivals.IsArrival, Comings.AreComings}
-use Rattle.lens_latency.specs.declared.{arrivals.Arrival.Arrival, comings.Coming.Coming, trips.Trip.Trip}
+use Rattle.lens_latency.specs.declared.{arrivals.FrameArrival.FrameArrival, comings.Coming.Coming, trips.Trip.Trip}
 use Rattle.net_plan.specs.declared.ids.{DeviceId.DeviceId, LinkId.LinkId, VlId.VlId}
 use Rattle.{run_law.specs.scenario.Faults.IsLinkOf, precision_law.specs.Precision.IsRunUpTo}
 use Rattle.{net_plan.specs.declared.tables.VirtualLink.VirtualLink, precision_law.specs.traffic.Ports.IsRunTo}
@@ -65,7 +65,7 @@ ComesInItsTime =
 
 -- the delivery is one of those that are seen, and took as long as the line says by the channel
 pub record IsSeenWithin (hs : List Happening) (c : Coming) (channel : Channel) (h : Happening) : Type 0 where
-  pub arrival : Arrival
+  pub arrival : FrameArrival
   pub arrives : IsArrival hs h arrival
   pub of_vl : arrival.vl ≡ c.vl
   pub at : arrival.device ≡ c.device

@@ -1,6 +1,6 @@
 -- The line of a virtual link and a receiver.
 use Rattle.std.specs.{Fmt.decimal, Prelude.{◌++◌, List, None, Option, Some, codes, max, min, ℕ}}
-use Rattle.lens_latency.specs.declared.{comings.Coming.Coming, seeing.{Seen.Seen, Told.Told}, trips.Trip.Trip}
+use Rattle.lens_latency.specs.declared.{comings.Coming.Coming, seeing.{SeenFrames.SeenFrames, ReportedComing.ReportedComing}, trips.Trip.Trip}
 use Rattle.net_plan.specs.{Belonging.{device_name, vl_name}, declared.network.Network.Network}
 
 -- the virtual link and the receiver
@@ -26,14 +26,14 @@ unfoldable pub latency_line : Network → Coming → List ℕ
 latency_line network c = coming_text network c ++ codes "\n"
 
 -- the least and the greatest time that was seen
-unfoldable pub ends_text : Seen → List ℕ
+unfoldable pub ends_text : SeenFrames → List ℕ
 ends_text seen = codes " least " ++ decimal seen.least ++ codes " most " ++ decimal seen.most
 
 -- how many were seen, and after how long
-unfoldable pub seen_text : Option Seen → List ℕ
+unfoldable pub seen_text : Option SeenFrames → List ℕ
 seen_text None = codes " seen 0"
 seen_text (Some seen) = codes " seen " ++ decimal seen.count ++ ends_text seen
 
 -- the line with what a report shows
-unfoldable pub told_line : Network → Told → List ℕ
+unfoldable pub told_line : Network → ReportedComing → List ℕ
 told_line network one = coming_text network one.coming ++ seen_text one.seen ++ codes "\n"

@@ -1,18 +1,18 @@
 -- The way of a virtual link's frames to a receiver by one channel.
 use Rattle.std.specs.Prelude.{◌-◌, ◌<◌, ◌≡◌, ◌⊎◌, None, Option, Some, ℕ}
-use Rattle.lens_latency.specs.declared.trips.{Hop.{Hop, TheVariants.{First, Last}}, Trip.Trip}
+use Rattle.lens_latency.specs.declared.trips.{TripEnd.{TripEnd, TheVariants.{First, Last}}, Trip.Trip}
 use Rattle.net_plan.specs.declared.{ids.{DeviceId.DeviceId, VlId.VlId}, network.Network.Network}
 use Rattle.schedule_tables.specs.{Entries.{IsEntry, IsOnChannel, source_of, target_of}, declared.entry.Entry.Entry}
 use Rattle.{schedule_tables.specs.Windows.{arrival_of, tolerance, window_end}, tte_units.specs.Amount.amount}
 use Rattle.tte_units.specs.declared.frames.channel.Channel.{Channel}
 
 -- the row leaves its virtual link's sender, or it enters the receiver
-abbrev pub Joins : Hop → Entry → Type 0
+abbrev pub Joins : TripEnd → Entry → Type 0
 Joins First entry = source_of entry ≡ entry.vl.sender
 Joins (Last device) entry = target_of entry ≡ device
 
 -- the row is the virtual link's, on the channel, and at this end
-pub record IsHop (network : Network) (vl : VlId) (channel : Channel) (hop : Hop) (entry : Entry) : Type 0 where
+pub record IsHop (network : Network) (vl : VlId) (channel : Channel) (hop : TripEnd) (entry : Entry) : Type 0 where
   pub own : entry.row.vl ≡ vl
   pub on_channel : IsOnChannel network channel entry
   pub joins : Joins hop entry

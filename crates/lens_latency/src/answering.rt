@@ -10,7 +10,7 @@ ghost use Rattle.tte_reports.specs.Answer.{IsAuditStatus};
 use crate::comings::comings_of;
 use crate::lines::{make_latency_line, make_told_line};
 use crate::seeing::told_by;
-use crate::{Coming, Told};
+use crate::{Coming, ReportedComing};
 use net_plan::Network;
 use schedule_tables::Accepted;
 use std::alloc::Global;
@@ -68,14 +68,14 @@ impl LineMaker<Coming> for LatencyLines<'_> {
     }
 }
 
-impl LineMaker<Told> for LatencyLines<'_> {
+impl LineMaker<ReportedComing> for LatencyLines<'_> {
     ghost fit = { λ lines. IsInRange lines.network.now };
 
     ghost takes = { λ lines told. HasNames lines.network.now told.coming };
 
     ghost text = { λ lines told. told_line lines.network.now told };
 
-    fn make(&self, line: &mut LineText, thing: &Told) {
+    fn make(&self, line: &mut LineText, thing: &ReportedComing) {
         make_told_line(line, self.network, thing);
     }
 }
@@ -110,7 +110,7 @@ impl<K: Sink> ReportCommand<K> for Latency {
 }
 
 /// Puts a line for each with what was seen, and passes them on.
-fn put_told<K: Sink>(network: &Network, told: &[Told], out: &mut K) -> Status
+fn put_told<K: Sink>(network: &Network, told: &[ReportedComing], out: &mut K) -> Status
     requires range { IsInRange network.now }
     requires names { All (λ one. HasNames network.now one.coming) told.now }
     ensures gives { Over K.Sink out.old out.new (Gives (told_answer network.now told.now) result) }

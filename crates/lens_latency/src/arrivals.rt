@@ -11,7 +11,7 @@ use tte_reports::RecordTaker;
 
 /// A frame that came to a receiver from its virtual link's sender.
 #[derive(Clone, Copy)]
-pub struct Arrival {
+pub struct FrameArrival {
     pub vl: VlId,
     pub device: DeviceId,
     /// How long it was on its way, in units of 2^-16 ns of world time.
@@ -23,7 +23,7 @@ pub struct Arrival {
 pub struct Followed {
     /// For each record the world time at which the frame that it is of left its sender, if it did.
     pub departures: Vec<Option<u64>>,
-    pub arrivals: Vec<Arrival>,
+    pub arrivals: Vec<FrameArrival>,
 }
 
 impl RecordTaker for Followed {
@@ -67,13 +67,13 @@ fn departure_by(departures: &[Option<u64>], note: &Note) -> Option<u64>
 }
 
 /// The frame that the record delivers, if it left its sender at a time that is known.
-fn arrival_by(departure: Option<u64>, note: &Note) -> Option<Arrival>
+fn arrival_by(departure: Option<u64>, note: &Note) -> Option<FrameArrival>
     ensures { result ≡ arrival_by departure (amount note.now.time) note.now.body }
 {
     match &note.body {
         NoteBody::Delivered { device, vl, .. } => {
             let left = departure?;
-            Some(Arrival {
+            Some(FrameArrival {
                 vl: *vl,
                 device: *device,
                 time: note.time.0.unsigned_abs().saturating_sub(left),
@@ -109,7 +109,10 @@ fn push_departure(
 }
 
 /// Adds the arrival, if there is one.
-fn push_some(arrivals: &mut Vec<Arrival>, arrival: Option<Arrival>) -> Result<(), OutOfMemory>
+fn push_some(
+    arrivals: &mut Vec<FrameArrival>,
+    arrival: Option<FrameArrival>,
+) -> Result<(), OutOfMemory>
     ensures { OnOk result (arrivals.new.items ≡ arrivals.old.items ++ cons_option arrival []) }
 {
     let Some(arrival) = arrival else {

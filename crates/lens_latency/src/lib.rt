@@ -10,9 +10,9 @@ mod seeing;
 mod trips;
 
 pub use answering::{Latency, latency_of_network};
-pub use arrivals::Arrival;
+pub use arrivals::FrameArrival;
 pub use comings::{Coming, comings_by, is_end_system};
 pub use laws::latency_law;
 pub use lines::push_names;
-pub use seeing::{Seen, Told};
+pub use seeing::{ReportedComing, SeenFrames};
 pub use trips::Trip;

@@ -4,7 +4,7 @@ ghost use Rattle.lens_latency.specs.Lines.{coming_text, ends_text, latency_line,
 ghost use Rattle.lens_latency.specs.Lines.{trip_text, window_text};
 ghost use Rattle.{lens_latency.specs.Comings.HasNames, net_plan.specs.Ranges.IsInRange};
 
-use crate::{Coming, Seen, Told, Trip};
+use crate::{Coming, ReportedComing, SeenFrames, Trip};
 use net_plan::Network;
 use tte_io::LineText;
 
@@ -78,7 +78,7 @@ pub(crate) fn make_latency_line(line: &mut LineText, network: &Network, coming: 
 
 /// Adds the least and the greatest time that was seen.
 #[tactic(auto, unfolding(crate::specs::Lines::ends_text))]
-fn push_ends(line: &mut LineText, seen: &Seen)
+fn push_ends(line: &mut LineText, seen: &SeenFrames)
     requires { length line.old + 54 ≤ 4096 }
     ensures text { line.new ≡ line.old ++ ends_text seen.now }
     ensures grows { length line.new ≤ length line.old + 54 }
@@ -91,7 +91,7 @@ fn push_ends(line: &mut LineText, seen: &Seen)
 
 /// Adds how many were seen, and after how long.
 #[tactic(auto, unfolding(crate::specs::Lines::seen_text))]
-fn push_seen(line: &mut LineText, seen: Option<Seen>)
+fn push_seen(line: &mut LineText, seen: Option<SeenFrames>)
     requires { length line.old + 80 ≤ 4096 }
     ensures text { line.new ≡ line.old ++ seen_text seen }
     ensures grows { length line.new ≤ length line.old + 80 }
@@ -108,7 +108,7 @@ fn push_seen(line: &mut LineText, seen: Option<Seen>)
 
 /// Makes the line of a virtual link and a receiver with what a report shows.
 #[tactic(auto, unfolding(crate::specs::Lines::told_line))]
-pub(crate) fn make_told_line(line: &mut LineText, network: &Network, told: &Told)
+pub(crate) fn make_told_line(line: &mut LineText, network: &Network, told: &ReportedComing)
     requires range { IsInRange network.now }
     requires names { HasNames network.now told.now.coming }
     ensures { line.new ≡ told_line network.now told.now }

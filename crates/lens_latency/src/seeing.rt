@@ -8,7 +8,7 @@ ghost use Rattle.{run_law.specs.records.Happenings.happenings, tte_audit.specs.N
 ghost use Rattle.tte_reports.specs.{Commands.IsRead, Reports.{IsReportOf, IsSomeReport}};
 ghost use Rattle.tte_units.specs.declared.units.Units.{Units as UnitsValue};
 
-use crate::arrivals::{Arrival, Followed};
+use crate::arrivals::{Followed, FrameArrival};
 use crate::comings::{Coming, comings_of};
 use net_plan::Network;
 use std::alloc::Global;
@@ -17,7 +17,7 @@ use tte_reports::{AuditedReport, take_records};
 
 /// How many frames came, and how long they were on their way, in units of 2^-16 ns of world time.
 #[derive(Clone, Copy, PartialEq, Eq)]
-pub struct Seen {
+pub struct SeenFrames {
     /// At least 1.
     pub count: u64,
     pub least: u64,
@@ -26,31 +26,31 @@ pub struct Seen {
 
 /// How the frames of a virtual link come to a receiver, and how a report shows that they came, if any did.
 #[derive(Clone, Copy)]
-pub struct Told {
+pub struct ReportedComing {
     pub coming: Coming,
-    pub seen: Option<Seen>,
+    pub seen: Option<SeenFrames>,
 }
 
 /// Is it a frame of the virtual link that came to the receiver?
-fn is_of(coming: &Coming, arrival: &Arrival) -> bool
+fn is_of(coming: &Coming, arrival: &FrameArrival) -> bool
     ensures { result ≡ is_of coming.now arrival.now }
 {
     arrival.vl.0 == coming.vl.0 && arrival.device.0 == coming.device.0
 }
 
 /// The same with one frame more, which was on its way so long.
-fn with_time(seen: Option<Seen>, time: u64) -> Option<Seen>
+fn with_time(seen: Option<SeenFrames>, time: u64) -> Option<SeenFrames>
     requires { IfSome seen (λ some. some.count < 2 ^ 63) }
     ensures { result ≡ with_time seen time }
 {
     let Some(seen) = seen else {
-        return Some(Seen {
+        return Some(SeenFrames {
             count: 1,
             least: time,
             most: time,
         });
     };
-    Some(Seen {
+    Some(SeenFrames {
         count: seen.count + 1,
         least: seen.least.min(time),
         most: seen.most.max(time),
@@ -58,7 +58,7 @@ fn with_time(seen: Option<Seen>, time: u64) -> Option<Seen>
 }
 
 /// What these arrivals show of it.
-fn seen_of(coming: &Coming, arrivals: &[Arrival]) -> Option<Seen>
+fn seen_of(coming: &Coming, arrivals: &[FrameArrival]) -> Option<SeenFrames>
     ensures { AreSeen (times_of coming.now arrivals.now) result }
 {
     let mut seen = None;
@@ -76,13 +76,13 @@ fn seen_of(coming: &Coming, arrivals: &[Arrival]) -> Option<Seen>
 fn tell_all(
     alloc: Global,
     comings: &[Coming],
-    arrivals: &[Arrival],
-) -> Result<Vec<Told>, OutOfMemory>
+    arrivals: &[FrameArrival],
+) -> Result<Vec<ReportedComing>, OutOfMemory>
     ensures { IfOk result (λ told. AreTold arrivals.now comings.now told.items) }
 {
     let mut told = Vec::new(alloc);
     'comings: for coming in comings {
-        let one = Told {
+        let one = ReportedComing {
             coming: *coming,
             seen: seen_of(coming, arrivals),
         };
@@ -101,7 +101,7 @@ fn arrivals_in(
     alloc: Global,
     network: &Network,
     report: &AuditedReport,
-) -> Result<Vec<Arrival>, OutOfMemory>
+) -> Result<Vec<FrameArrival>, OutOfMemory>
     requires named { IsNamed network.now }
     requires report { IsSomeReport network.now report.now.octets }
     ensures { IfOk result (λ arrivals. (notes : List NoteValue) (end : UnitsValue)
@@ -123,7 +123,7 @@ pub(crate) fn told_by(
     alloc: Global,
     network: &Network,
     report: &AuditedReport,
-) -> Result<Vec<Told>, OutOfMemory>
+) -> Result<Vec<ReportedComing>, OutOfMemory>
     requires named { IsNamed network.now }
     requires read { IsRead network.now report.now }
     ensures names { IfOk result (λ told. All (λ one. HasNames network.now one.coming) told.items) }

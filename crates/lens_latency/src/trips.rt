@@ -19,7 +19,7 @@ pub struct Trip {
 
 /// A row at one of the two ends of a trip.
 #[derive(Clone, Copy)]
-pub(crate) enum Hop {
+pub(crate) enum TripEnd {
     /// The one that leaves the sender.
     First,
     /// The one that enters the receiver.
@@ -27,24 +27,24 @@ pub(crate) enum Hop {
 }
 
 /// Is the row at this end?
-fn joins(hop: Hop, entry: &Entry) -> bool
+fn joins(hop: TripEnd, entry: &Entry) -> bool
     ensures { IsTrue result ↔ Joins hop entry.now }
 {
     match hop {
-        Hop::First => entry.source() == entry.vl.sender,
-        Hop::Last(device) => entry.target() == device,
+        TripEnd::First => entry.source() == entry.vl.sender,
+        TripEnd::Last(device) => entry.target() == device,
     }
 }
 
 /// Is the row the virtual link's, on the channel, and at this end?
-fn is_hop(network: &Network, vl: VlId, channel: Channel, hop: Hop, entry: &Entry) -> bool
+fn is_hop(network: &Network, vl: VlId, channel: Channel, hop: TripEnd, entry: &Entry) -> bool
     ensures { IsTrue result ↔ IsHop network.now vl channel hop entry.now }
 {
     entry.row.vl == vl && network.is_switch_of(entry.link.parent, channel) && joins(hop, entry)
 }
 
 /// The first row of the virtual link on the channel that is at this end.
-fn row_at(network: &Network, vl: VlId, channel: Channel, hop: Hop) -> Option<Entry>
+fn row_at(network: &Network, vl: VlId, channel: Channel, hop: TripEnd) -> Option<Entry>
     requires { IsInRange network.now }
     ensures first { IsFirstOf network.now (IsHop network.now vl channel hop) result }
     ensures range { IfSome result (IsEntryInRange network.now) }
@@ -88,7 +88,7 @@ pub(crate) fn trip_on(
     requires { IsInRange network.now }
     ensures { IsTrip network.now vl device channel result }
 {
-    let first = row_at(network, vl, channel, Hop::First)?;
-    let last = row_at(network, vl, channel, Hop::Last(device))?;
+    let first = row_at(network, vl, channel, TripEnd::First)?;
+    let last = row_at(network, vl, channel, TripEnd::Last(device))?;
     Some(trip_of(network, &first, &last))
 }

@@ -5,7 +5,7 @@ use Rattle.lens_overview.proofs.{LawColumns.{brought_cell, cell_brought}, LawLin
 use Rattle.lens_overview.proofs.LawBars.{IsBarOf, IsGreatest, bar_greatest, bar_of, picture_bar}
 use Rattle.lens_overview.proofs.{LawClocks.{abs_close, by_apart}, NoneMissed.none_are}
 use Rattle.lens_overview.specs.{Bars.{bars_of, greatest_of}, Lines.piece_line, News.news_of, Pieces.{pieces_of, told_of}, Rows.rows_of}
-use Rattle.lens_overview.specs.declared.{grid.Pen.Pen, news.News.News, pieces.Piece.Piece}
+use Rattle.lens_overview.specs.declared.{grid.GridPen.GridPen, news.News.News, pieces.Piece.Piece}
 use Rattle.{lens_svg.specs.{Sketching.moment, Titles.title_of}, schedule_tables.specs.Rules.KeepsRules, tte_reports.{proofs.{Safely.report_well, Times.none_later}, specs.Reports.IsReportOf}}
 use Rattle.std.proofs.lemmas.Int.{ints}
 use Rattle.tte_units.specs.Amount.{amount}
@@ -154,7 +154,7 @@ spread_told network ns column spread greatest = by greatest.is
         from_news h.0 h.1 h.2 h.3 (told_note network (scenario_under network (events_of ns)) (happenings network ns) ns [] h.0 h.1)
 
 bar_true : (title : List ℕ) (network : Network) (octets : List ℕ) (ns : List Note) (end : Units) (line : List ℕ) → KeepsRules network → IsReportOf network octets ns end
-    → (pen : Pen) (width height spread : ℕ) → line ≡ piece_line network title (pieces.Bar pen width height spread)
+    → (pen : GridPen) (width height spread : ℕ) → line ≡ piece_line network title (pieces.Bar pen width height spread)
     → IsBarOf (grid_for network ns) (bars_of (grid_for network ns) (news_by network ns ns)) 0 (pieces.Bar pen width height spread)
     → IsTrueBar network ns line
 bar_true title network octets ns end line rules r pen width height spread is bar =

@@ -2,8 +2,8 @@
 use Rattle.lens_overview.proofs.LawRows.{in_each}
 use Rattle.lens_overview.specs.{Bars.{bars_of, greater, raised}, Grids.{column_of, pen_at}, Lines.{bar_line, bar_part, caption_line, caption_part, extent_line, piece_line, rail_part, records_part, spread_line, stroke_part, tick_line, tick_part}}
 use Rattle.lens_overview.specs.Pieces.{bar_at, bar_height, bars_from, below, bottom_of, front, not_begun, picture_of, row_pieces, rows_from, stride_of, stroke_to, strokes_from, ticks, top}
-use Rattle.lens_overview.specs.{Rows.Row, Shades.{is_blank, is_same}, Signs.sign_line, declared.{grid.{Grid.Grid, Pen.Pen}, label.Label.Label, news.News.News}}
-use Rattle.lens_overview.specs.declared.{pieces.{Begun.Begun, Piece.Piece}, shade.Shade.Shade}
+use Rattle.lens_overview.specs.{Rows.Row, Shades.{is_blank, is_same}, Signs.sign_line, declared.{grid.{Grid.Grid, GridPen.GridPen}, label.Label.Label, news.News.News}}
+use Rattle.lens_overview.specs.declared.{pieces.{BegunStroke.BegunStroke, Piece.Piece}, shade.Shade.Shade}
 use Rattle.{lens_svg.specs.{Elements.opening_line, Sketching.with_at, Titles.{heading_line, title_line}}, net_plan.specs.declared.network.Network.Network}
 use Rattle.run_law.{proofs.runs.Places.in_parts, specs.records.Order.IsIn}
 use Rattle.std.proofs.Common.{◌*◌, ◌+◌, ◌++◌, ◌-◌, ◌/◌, ◌<◌, ◌∙◌, ◌∷◌, ◌≡◌, ◌≤◌, ◌⊎◌, Bool, List, None, Option, Some, [], ap, arith, false, fold, get_or, if◌then◌else◌, inl, inr, length, refl, replicate, suc, sym, true, ℕ}
@@ -14,7 +14,7 @@ use Rattle.tte_units.proofs.general_lemmas.Options.{one}
 use Rattle.lens_overview.specs.declared.label.Kind.TheVariants as kinds
 use Rattle.lens_overview.specs.declared.label.Label.TheVariants as labels
 use Rattle.lens_overview.specs.declared.pieces.Piece.TheVariants as pieces
-use Rattle.lens_overview.specs.declared.signs.Sign.TheVariants as signs
+use Rattle.lens_overview.specs.declared.signs.OverviewSign.TheVariants as signs
 
 -- ---- lines of bars
 
@@ -23,9 +23,9 @@ octet_at n line = get_or line n 0
 
 -- the piece is a bar
 abbrev pub IsBar : Piece → Type 0
-IsBar piece = (pen : Pen) × (width : ℕ) × (height : ℕ) × (spread : ℕ) × (piece ≡ pieces.Bar pen width height spread)
+IsBar piece = (pen : GridPen) × (width : ℕ) × (height : ℕ) × (spread : ℕ) × (piece ≡ pieces.Bar pen width height spread)
 
-stroke_class : (network : Network) (title : List ℕ) (label : Label) (y : ℕ) (shade : Shade) (from to : Pen) (rest : List ℕ)
+stroke_class : (network : Network) (title : List ℕ) (label : Label) (y : ℕ) (shade : Shade) (from to : GridPen) (rest : List ℕ)
     → piece_line network title (pieces.Stroke (record { label = label; y = y; shade = shade; from = from; to = to })) ≡ codes "<path class=\"bar" ++ rest → ⊥
 unfolding stroke_part
 stroke_class network title (labels.Count kinds.Event) y shade from to rest same = let octet = ap (octet_at 13) same in omega (arith, octet)
@@ -90,11 +90,11 @@ bars_are grid greatest from (bar ∷ bars) piece i =
           of = rest.of;
         }
 
-module _ (pen : Pen) (width height spread : ℕ) where
+module _ (pen : GridPen) (width height spread : ℕ) where
   abbrev bar : Piece
   bar = pieces.Bar pen width height spread
 
-  no_stroke : (grid : Grid) (label : Label) (y : ℕ) (begun : Begun) (column : ℕ) → IsIn bar (stroke_to grid label y begun column) → ⊥
+  no_stroke : (grid : Grid) (label : Label) (y : ℕ) (begun : BegunStroke) (column : ℕ) → IsIn bar (stroke_to grid label y begun column) → ⊥
   no_stroke grid label y begun column i = by (is_blank begun.shade) i
     where
       by : (b : Bool) → IsIn bar (if b then [] else pieces.Stroke (record {
@@ -108,7 +108,7 @@ module _ (pen : Pen) (width height spread : ℕ) where
       by false (inl e) = cc
       by false (inr i) = i
 
-  no_strokes : (grid : Grid) (label : Label) (y : ℕ) (begun : Begun) (column : ℕ) (cells : List Shade)
+  no_strokes : (grid : Grid) (label : Label) (y : ℕ) (begun : BegunStroke) (column : ℕ) (cells : List Shade)
       → IsIn bar (strokes_from grid label y begun column cells) → ⊥
   no_strokes grid label y begun column [] i = no_stroke grid label y begun grid.columns i
   no_strokes grid label y begun column (shade ∷ cells) i =
@@ -146,7 +146,7 @@ module _ (pen : Pen) (width height spread : ℕ) where
       let h = in_each tick ((grid.columns - 1) / stride_of grid.columns + 1) bar i in
       other (pen_at grid (stride_of grid.columns * h.0)) (bottom + 8) h.1
     where
-      other : (at : Pen) (down : ℕ) → bar ≡ pieces.Tick at down → ⊥
+      other : (at : GridPen) (down : ℕ) → bar ≡ pieces.Tick at down → ⊥
       other at down e = cc
 
   no_front : (grid : Grid) (bottom : ℕ) (greatest : Option ℕ) (records : ℕ) → IsIn bar (front grid bottom greatest records) → ⊥

@@ -1,6 +1,6 @@
 -- How far apart clocks are, and whose they are.
 use Rattle.lens_overview.proofs.LawRows.{in_each}
-use Rattle.lens_overview.specs.{Ranges.each_below, Spreads.{apart, ends_at, greater, lesser, local_at, spread_at, spread_by, with_local}, declared.spread.Ends.Ends}
+use Rattle.lens_overview.specs.{Ranges.each_below, Spreads.{apart, ends_at, greater, lesser, local_at, spread_at, spread_by, with_local}, declared.spread.LocalExtremes.LocalExtremes}
 use Rattle.net_plan.specs.declared.ids.DeviceId.{DeviceId}
 use Rattle.run_law.proofs.device.States.{is_in}
 use Rattle.run_law.specs.{declared.note.NoteBody.NoteBody, device.{LocalClocks.local, States.{is_synchronised, state_after}}, law.Safety.IsInStep}
@@ -17,25 +17,25 @@ either true x y = inl refl
 either false x y = inr refl
 
 -- the value is an end that was, or one of the clocks
-abbrev IsEnd : Option Ends → List (Option ℤ) → ℤ → Type 0
-IsEnd o os v = ((e : Ends) × (o ≡ Some e) × ((v ≡ e.least) ⊎ (v ≡ e.greatest))) ⊎ IsIn (Some v) os
+abbrev IsEnd : Option LocalExtremes → List (Option ℤ) → ℤ → Type 0
+IsEnd o os v = ((e : LocalExtremes) × (o ≡ Some e) × ((v ≡ e.least) ⊎ (v ≡ e.greatest))) ⊎ IsIn (Some v) os
 
 -- of one more clock
-end_before : (o : Option Ends) (x : Option ℤ) (e : Ends) (os : List (Option ℤ)) (v : ℤ) → with_local o x ≡ Some e → (v ≡ e.least) ⊎ (v ≡ e.greatest)
+end_before : (o : Option LocalExtremes) (x : Option ℤ) (e : LocalExtremes) (os : List (Option ℤ)) (v : ℤ) → with_local o x ≡ Some e → (v ≡ e.least) ⊎ (v ≡ e.greatest)
     → IsEnd o (x ∷ os) v
 end_before o None e os v is at = inl (e, is, at)
 end_before None (Some l) e os v is at =
     let made : record { least = l; greatest = l } ≡ e = one (Some (record { least = l; greatest = l })) (record { least = l; greatest = l }) e refl is in
     elim at [
-      | inl low ↦ inr (inl (ap (λ (z : ℤ). Some z) (low ∙ sym (ap (λ (x : Ends). x.least) made))))
-      | inr high ↦ inr (inl (ap (λ (z : ℤ). Some z) (high ∙ sym (ap (λ (x : Ends). x.greatest) made))))
+      | inl low ↦ inr (inl (ap (λ (z : ℤ). Some z) (low ∙ sym (ap (λ (x : LocalExtremes). x.least) made))))
+      | inr high ↦ inr (inl (ap (λ (z : ℤ). Some z) (high ∙ sym (ap (λ (x : LocalExtremes). x.greatest) made))))
     ]
 end_before (Some d) (Some l) e os v is at =
-    let own : Ends = record { least = lesser d.least l; greatest = greater d.greatest l } in
+    let own : LocalExtremes = record { least = lesser d.least l; greatest = greater d.greatest l } in
     let made : own ≡ e = one (Some own) own e refl is in
     elim at [
-      | inl low ↦ least_of (low ∙ sym (ap (λ (x : Ends). x.least) made)) (either (int_le d.least l) d.least l)
-      | inr high ↦ greatest_of (high ∙ sym (ap (λ (x : Ends). x.greatest) made)) (either (int_le d.greatest l) l d.greatest)
+      | inl low ↦ least_of (low ∙ sym (ap (λ (x : LocalExtremes). x.least) made)) (either (int_le d.least l) d.least l)
+      | inr high ↦ greatest_of (high ∙ sym (ap (λ (x : LocalExtremes). x.greatest) made)) (either (int_le d.greatest l) l d.greatest)
     ]
   where
     least_of : v ≡ lesser d.least l → (lesser d.least l ≡ d.least) ⊎ (lesser d.least l ≡ l) → IsEnd (Some d) (Some l ∷ os) v
@@ -46,7 +46,7 @@ end_before (Some d) (Some l) e os v is at =
     greatest_of same (inl new) = inr (inl (ap (λ (z : ℤ). Some z) (same ∙ new)))
     greatest_of same (inr old) = inl (d, refl, inr (same ∙ old))
 
-ends_are : (os : List (Option ℤ)) (o : Option Ends) (e : Ends) (v : ℤ) → fold with_local o os ≡ Some e → (v ≡ e.least) ⊎ (v ≡ e.greatest) → IsEnd o os v
+ends_are : (os : List (Option ℤ)) (o : Option LocalExtremes) (e : LocalExtremes) (v : ℤ) → fold with_local o os ≡ Some e → (v ≡ e.least) ⊎ (v ≡ e.greatest) → IsEnd o os v
 ends_are [] o e v is at = inl (e, is, at)
 ends_are (x ∷ os) o e v is at = by (ends_are os (with_local o x) e v is at)
   where
@@ -74,7 +74,7 @@ module _ (s : Scenario) (hs : List Happening) (t : ℕ) where
   abbrev local_of : ℕ → Option ℤ
   local_of place = local_at s hs t (record { 0 = place })
 
-  end_shows : (count : ℕ) (e : Ends) (v : ℤ) → ends_at s hs t count ≡ Some e → (v ≡ e.least) ⊎ (v ≡ e.greatest) → Shows v
+  end_shows : (count : ℕ) (e : LocalExtremes) (v : ℤ) → ends_at s hs t count ≡ Some e → (v ≡ e.least) ⊎ (v ≡ e.greatest) → Shows v
   end_shows count e v is at = by (ends_are (each_below local_of count) None e v is at)
     where
       shown : (device : DeviceId) → Some v ≡ local_at s hs t device → Shows v
@@ -98,7 +98,7 @@ module _ (s : Scenario) (hs : List Happening) (t : ℕ) where
     pub high : Shows greatest
     pub is : n ≡ unsigned_abs (greatest -ℤ least)
 
-  some_apart : (o : Option Ends) (n : ℕ) → option_map apart o ≡ Some n → (e : Ends) × (o ≡ Some e) × (n ≡ apart e)
+  some_apart : (o : Option LocalExtremes) (n : ℕ) → option_map apart o ≡ Some n → (e : LocalExtremes) × (o ≡ Some e) × (n ≡ apart e)
   some_apart None n e = absurd cc
   some_apart (Some ends) n e = (ends, refl, sym (one (Some (apart ends)) (apart ends) n refl e))
 

@@ -2,7 +2,7 @@
 use Rattle.lens_flows.specs.declared.judge.flow.Flow.{Flow}
 use Rattle.lens_overview.proofs.{LawStrokes.same_shade, LawTexts.is_flow}
 use Rattle.lens_overview.specs.{Cells.{Missed, cells_of, flow_cells, is_alike, is_any}, LawParts.IsRowOf, Labels.{is_of_vl, with_receiver}, Ranges.{all_below, each_below}, Shades.is_same}
-use Rattle.lens_overview.specs.Rows.{Row, Told, calm_below, count_rows, filled_row, is_like, is_turned, joined, lane_at, lane_rows, losses, others_row, passage_rows, passages_at, raised, rows_of, start_of, title_row, upper_rows, with_flows}
+use Rattle.lens_overview.specs.Rows.{Row, ToldSoFar, calm_below, count_rows, filled_row, is_like, is_turned, joined, lane_at, lane_rows, losses, others_row, passage_rows, passages_at, raised, rows_of, start_of, title_row, upper_rows, with_flows}
 use Rattle.lens_overview.specs.declared.{label.{Kind.Kind, Label.Label}, rows.Calm.Calm, shade.Shade.{Shade, TheVariants.Blank}}
 use Rattle.net_plan.{proofs.SameIds.same_vl, specs.declared.{ids.VlId.VlId, network.Network.Network, tables.Device.Device}}
 use Rattle.run_law.{proofs.runs.Places.{in_left, in_parts}, specs.records.Order.IsIn}
@@ -37,39 +37,39 @@ other_below : (rows_at : ℕ → List Row) (n : ℕ) → ((k : ℕ) → AreOther
 other_below rows_at zero each = other_none
 other_below rows_at (suc n) each = other_both (all_below rows_at n) (rows_at n) (other_below rows_at n each) (each n)
 
-other_filled : (told : Told) (label : Label) → is_flow label ≡ false → AreOther (filled_row told label)
+other_filled : (told : ToldSoFar) (label : Label) → is_flow label ≡ false → AreOther (filled_row told label)
 other_filled told label other =
     let cells = cells_of told.grid told.news label Blank in
     other_if (is_any cells) (record { label = label; cells = cells } ∷ []) [] (other_one (record { label = label; cells = cells }) other) other_none
 
 -- the lane of a device at the place
-abbrev lane_of : Told → ℕ → Device → List Row
+abbrev lane_of : ToldSoFar → ℕ → Device → List Row
 lane_of told k d =
     if is_turned told.news (record { 0 = k })
     then record { label = labels.Lane (record { 0 = k }); cells = cells_of told.grid told.news (labels.Lane (record { 0 = k })) (start_of d.start) } ∷ []
     else []
 
-other_lane : (network : Network) (told : Told) (k : ℕ) → AreOther (lane_at network told k)
+other_lane : (network : Network) (told : ToldSoFar) (k : ℕ) → AreOther (lane_at network told k)
 other_lane network told k = by (slice_get network.device k)
   where
     by : (o : Option Device) → AreOther (option_map_or (lane_of told k) o [])
     by None = other_none
     by (Some d) = other_if (is_turned told.news (record { 0 = k })) _ [] (other_one _ refl) other_none
 
-other_others : (told : Told) (calm : Calm) → AreOther (others_row told calm)
+other_others : (told : ToldSoFar) (calm : Calm) → AreOther (others_row told calm)
 other_others told calm = other_if (calm.synchronised == 0 && calm.off == 0) [] _ other_none (other_one _ refl)
 
-other_counts : (told : Told) (all : List Kind) → AreOther (count_rows told all)
+other_counts : (told : ToldSoFar) (all : List Kind) → AreOther (count_rows told all)
 other_counts told [] = other_none
 other_counts told (kind ∷ all) =
     other_both (filled_row told (labels.Count kind)) (count_rows told all) (other_filled told (labels.Count kind) refl) (other_counts told all)
 
-other_passages : (told : Told) (k : ℕ) → AreOther (passages_at told k)
+other_passages : (told : ToldSoFar) (k : ℕ) → AreOther (passages_at told k)
 other_passages told k =
     other_both (filled_row told (labels.Passage (record { 0 = k }) ways.Up)) (filled_row told (labels.Passage (record { 0 = k }) ways.Down))
     (other_filled told (labels.Passage (record { 0 = k }) ways.Up) refl) (other_filled told (labels.Passage (record { 0 = k }) ways.Down) refl)
 
-pub other_upper : (network : Network) (told : Told) → AreOther (upper_rows network told)
+pub other_upper : (network : Network) (told : ToldSoFar) → AreOther (upper_rows network told)
 other_upper network told =
     let events = filled_row told (labels.Count kinds.Event) in
     let states = title_row groups.States in
@@ -239,7 +239,7 @@ module _ (cells_for : Flow → List Shade) where
 
 -- ---- the rows of a picture
 
-module _ (network : Network) (told : Told) (missed : List Missed) (flows : List Flow) where
+module _ (network : Network) (told : ToldSoFar) (missed : List Missed) (flows : List Flow) where
   -- the cells of a flow
   abbrev pub cells_in : Flow → List Shade
   cells_in flow = flow_cells told.grid told.news told.last missed flow.vl flow.device
@@ -287,5 +287,5 @@ long_each f (suc n) =
     let rest = long_each f n in
     omega (arith, more, rest)
 
-pub long_flow : (network : Network) (told : Told) (missed : List Missed) (flow : Flow) → length (cells_in network told missed [] flow) ≡ told.grid.columns
+pub long_flow : (network : Network) (told : ToldSoFar) (missed : List Missed) (flow : Flow) → length (cells_in network told missed [] flow) ≡ told.grid.columns
 long_flow network told missed flow = long_each _ told.grid.columns

@@ -5,7 +5,7 @@ use Rattle.lens_overview.proofs.{LawColumns.at_place, LawNews.{note_told, told_f
 use Rattle.lens_overview.specs.{Bars.{bars_of, greatest_of}, Cells.{Missed, cells_of, cut, filled_from, flow_cells, is_alike, is_any, is_same_way, shade_at, taken, turned}, Grids.{column_of, grid_of, pen_at}, Labels.is_of_vl}
 use Rattle.lens_overview.specs.{LawParts.HasStroke, LawStates.{HasCells, IsTurn, device_after, device_cell, way_after, way_cell}, Lines.ribbon_line, News.{change_at, change_of, cycle_of, last_cycle, news_in, news_of, repeats_by, struck}}
 use Rattle.lens_overview.specs.Pieces.{not_begun, told_of, strokes_from}
-use Rattle.lens_overview.specs.Rows.{Row, Told, calm_below, count_rows, filled_row, is_like, is_turn, is_turned, joined, lane_at, lane_rows, losses, others_row, passage_rows, passages_at, raised, start_of, title_row, upper_rows, with_flows}
+use Rattle.lens_overview.specs.Rows.{Row, ToldSoFar, calm_below, count_rows, filled_row, is_like, is_turn, is_turned, joined, lane_at, lane_rows, losses, others_row, passage_rows, passages_at, raised, start_of, title_row, upper_rows, with_flows}
 use Rattle.lens_overview.specs.{Ranges.all_below, Shades.is_blank, declared.{grid.Grid.Grid, label.Label.Label, news.{Change.Change, News.News}}}
 use Rattle.lens_overview.specs.declared.{pieces.Ribbon.Ribbon, shade.Shade.Shade}
 use Rattle.net_plan.specs.declared.{event.What.What, ids.{DeviceId.DeviceId, LinkId.LinkId, VlId.VlId}, network.Network.Network, tables.{Device.Device, Way.Way}}
@@ -284,7 +284,7 @@ other_joined flow cells (r ∷ rs) row other (inr i) = by (is_like flow.vl cells
     by true more = inr i
     by false more = inr more
 
-other_kept : (told : Told) (missed : List Missed) (flows : List Flow) (rs : List Row) (row : Row) → is_flow row.label ≡ false → IsIn row rs
+other_kept : (told : ToldSoFar) (missed : List Missed) (flows : List Flow) (rs : List Row) (row : Row) → is_flow row.label ≡ false → IsIn row rs
     → IsIn row (with_flows told missed rs flows)
 other_kept told missed [] rs row other i = i
 other_kept told missed (f ∷ flows) rs row other i =

@@ -2,7 +2,7 @@
 use Rattle.lens_overview.specs.{Grids.pen_at, Ranges.each_below}
 use Rattle.lens_overview.specs.Pieces.{bar_at, bars_from, below, bottom_of, front, not_begun, picture_of, row_pieces, rows_from, stride_of, strokes_from, ticks, top}
 use Rattle.lens_overview.specs.Rows.{Row}
-use Rattle.lens_overview.specs.declared.{grid.{Grid.Grid, Pen.Pen}, pieces.{Piece.Piece, Ribbon.Ribbon}}
+use Rattle.lens_overview.specs.declared.{grid.{Grid.Grid, GridPen.GridPen}, pieces.{Piece.Piece, Ribbon.Ribbon}}
 use Rattle.run_law.{proofs.runs.Places.{in_left, in_parts, in_right}, specs.records.Order.IsIn}
 use Rattle.std.proofs.Common.{◌*◌, ◌+◌, ◌++◌, ◌-◌, ◌/◌, ◌∷◌, ◌≡◌, ◌⊎◌, List, None, Option, Some, [], inl, inr, refl, subst, suc, zero, ℕ}
 use Rattle.lens_overview.specs.declared.pieces.Piece.TheVariants as pieces
@@ -102,7 +102,7 @@ no_ticks grid bottom ribbon i =
     let h = in_each tick ((grid.columns - 1) / stride_of grid.columns + 1) (pieces.Stroke ribbon) i in
     other (pen_at grid (stride_of grid.columns * h.0)) (bottom + 8) h.1
   where
-    other : (pen : Pen) (down : ℕ) → pieces.Stroke ribbon ≡ pieces.Tick pen down → ⊥
+    other : (pen : GridPen) (down : ℕ) → pieces.Stroke ribbon ≡ pieces.Tick pen down → ⊥
     other pen down e = cc
 
 module _ (grid : Grid) (bottom : ℕ) (greatest : Option ℕ) (records : ℕ) (ribbon : Ribbon) where
@@ -124,7 +124,7 @@ module _ (grid : Grid) (rows : List Row) (bars : List (Option ℕ)) (greatest : 
   bottom = bottom_of top rows
 
   abbrev end : List Piece
-  end = pieces.Shared Rattle.lens_overview.specs.declared.signs.Sign.TheVariants.Close ∷ []
+  end = pieces.Shared Rattle.lens_overview.specs.declared.signs.OverviewSign.TheVariants.Close ∷ []
 
   abbrev lower : List Piece
   lower = bars_from grid greatest 0 bars ++ (rows_from grid top rows ++ end)

@@ -5,7 +5,7 @@ use Rattle.lens_overview.proofs.{LawRows.{IsOfRow, picture_stroke}, LawStrokes.{
 use Rattle.lens_overview.specs.{Bars.{bars_of, greatest_of}, Cells.{Missed, cells_of, flow_cells, is_any, shade_at}, Grids.{grid_of, pen_at}, Labels.with_receiver}
 use Rattle.lens_overview.specs.{LawStates.{IsStrokeAlong, device_cell, way_cell}, Lines.{piece_line, ribbon_line}, News.{last_cycle, news_in}}
 use Rattle.lens_overview.specs.{Pieces.{not_begun, told_of}, Ranges.all_below, Shades.is_blank}
-use Rattle.lens_overview.specs.Rows.{Row, Told, calm_below, count_rows, filled_row, is_like, is_turned, joined, lane_at, lane_rows, losses, others_row, passage_rows, passages_at, raised, rows_of, start_of, title_row, upper_rows, with_flows}
+use Rattle.lens_overview.specs.Rows.{Row, ToldSoFar, calm_below, count_rows, filled_row, is_like, is_turned, joined, lane_at, lane_rows, losses, others_row, passage_rows, passages_at, raised, rows_of, start_of, title_row, upper_rows, with_flows}
 use Rattle.lens_overview.specs.declared.{grid.Grid.Grid, label.{Group.Group, Kind.Kind, Label.Label}, news.News.News, pieces.Ribbon.Ribbon, rows.Calm.Calm, shade.Shade.Shade}
 use Rattle.net_plan.specs.declared.{ids.{DeviceId.DeviceId, LinkId.LinkId}, network.Network.Network, tables.{Device.Device, Way.Way}}
 use Rattle.run_law.{proofs.runs.Places.in_parts, specs.records.{Happenings.Happening, Order.IsIn}}
@@ -20,7 +20,7 @@ use Rattle.lens_overview.specs.declared.pieces.Piece.TheVariants as pieces
 use Rattle.lens_overview.specs.declared.shade.Shade.TheVariants as shades
 use Rattle.net_plan.specs.declared.tables.Way.TheVariants as ways
 
-module _ (network : Network) (told : Told) where
+module _ (network : Network) (told : ToldSoFar) where
   -- the cells of such a row are those of its device or way
   abbrev pub MadeAs : Label → List Shade → Type 0
   MadeAs (labels.Lane device) cells =

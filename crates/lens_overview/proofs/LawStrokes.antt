@@ -1,6 +1,6 @@
 -- The strokes of a row, and its cells.
 use Rattle.lens_overview.specs.{Cells.shade_at, Grids.pen_at, Pieces.{not_begun, stroke_to, strokes_from}, Shades.{code_of, is_blank, is_same}}
-use Rattle.lens_overview.specs.declared.{grid.Grid.Grid, label.Label.Label, pieces.{Begun.Begun, Piece.{Piece, TheVariants.Stroke}, Ribbon.Ribbon}, shade.Shade.Shade}
+use Rattle.lens_overview.specs.declared.{grid.Grid.Grid, label.Label.Label, pieces.{BegunStroke.BegunStroke, Piece.{Piece, TheVariants.Stroke}, Ribbon.Ribbon}, shade.Shade.Shade}
 use Rattle.run_law.{proofs.runs.Places.{in_left, in_parts, in_right}, specs.records.Order.IsIn}
 use Rattle.std.proofs.Common.{◌+◌, ◌++◌, ◌<◌, ◌∙◌, ◌∷◌, ◌≡◌, ◌≤◌, add-one, Bool, List, [], ap, arith, drop, false, if◌then◌else◌, inl, inr, length, refl, subst, suc, sym, true, zero, ℕ}
 use Rattle.std.{proofs.lemmas.Bool.{Decides.nat_tests, cases_lt, false≢true}, specs.Prelude.◌==◌}
@@ -73,7 +73,7 @@ module _ (grid : Grid) (label : Label) (y : ℕ) (all : List Shade) where
     pub there : IsIn (stroke (shade_at all column) first last) among
 
   -- the cells that are left are those from the column on, and those before it have the shade that has begun
-  pub record IsAt (begun : Begun) (column : ℕ) (cells : List Shade) : Type 0 where
+  pub record IsAt (begun : BegunStroke) (column : ℕ) (cells : List Shade) : Type 0 where
     pub left : drop column all ≡ cells
     pub whole : column + length cells ≡ grid.columns
     pub begins : begun.column ≤ column
@@ -89,7 +89,7 @@ module _ (grid : Grid) (label : Label) (y : ℕ) (all : List Shade) where
     each = λ column low high. absurd (omega (arith, high));
   }
 
-  same_at : (begun : Begun) (column : ℕ) (shade : Shade) (cells : List Shade) → IsAt begun column (shade ∷ cells) → begun.shade ≡ shade
+  same_at : (begun : BegunStroke) (column : ℕ) (shade : Shade) (cells : List Shade) → IsAt begun column (shade ∷ cells) → begun.shade ≡ shade
       → IsAt begun (column + 1) cells
   same_at begun column shade cells at same =
       let low = at.begins in
@@ -107,7 +107,7 @@ module _ (grid : Grid) (label : Label) (y : ℕ) (all : List Shade) where
         ];
       }
 
-  other_at : (begun : Begun) (column : ℕ) (shade : Shade) (cells : List Shade) → IsAt begun column (shade ∷ cells)
+  other_at : (begun : BegunStroke) (column : ℕ) (shade : Shade) (cells : List Shade) → IsAt begun column (shade ∷ cells)
       → IsAt (record { shade = shade; column = column }) (column + 1) cells
   other_at begun column shade cells at =
       let size = at.whole in
@@ -123,7 +123,7 @@ module _ (grid : Grid) (label : Label) (y : ℕ) (all : List Shade) where
 
   -- ---- each stroke is one of cells
 
-  stroke_is : (begun : Begun) (column : ℕ) (piece : Piece) → (is_blank begun.shade ≡ false → begun.column < column)
+  stroke_is : (begun : BegunStroke) (column : ℕ) (piece : Piece) → (is_blank begun.shade ≡ false → begun.column < column)
       → AreOf begun.shade begun.column column → IsIn piece (stroke_to grid label y begun column) → IsStroke piece
   stroke_is begun column piece has each i = by (is_blank begun.shade) refl i
     where
@@ -133,7 +133,7 @@ module _ (grid : Grid) (label : Label) (y : ℕ) (all : List Shade) where
           record { shade = begun.shade; first = begun.column; last = column; is = is; seen = e; some = has e; each = each }
       by false e (inr i) = absurd i
 
-  pub strokes_are : (begun : Begun) (column : ℕ) (cells : List Shade) (piece : Piece) → IsAt begun column cells
+  pub strokes_are : (begun : BegunStroke) (column : ℕ) (cells : List Shade) (piece : Piece) → IsAt begun column cells
       → IsIn piece (strokes_from grid label y begun column cells) → IsStroke piece
   strokes_are begun column [] piece at i =
       let size = at.whole in
@@ -160,7 +160,7 @@ module _ (grid : Grid) (label : Label) (y : ℕ) (all : List Shade) where
 
   -- ---- each cell that is not blank has one
 
-  stroke_in : (begun : Begun) (column : ℕ) → is_blank begun.shade ≡ false
+  stroke_in : (begun : BegunStroke) (column : ℕ) → is_blank begun.shade ≡ false
       → IsIn (stroke begun.shade begun.column column) (stroke_to grid label y begun column)
   stroke_in begun column seen =
       subst (λ (b : Bool). IsIn (stroke begun.shade begun.column column) (if b then [] else stroke begun.shade begun.column column ∷ []))
@@ -184,7 +184,7 @@ module _ (grid : Grid) (label : Label) (y : ℕ) (all : List Shade) where
     there = in_right (stroke (shade_at all k) s.first s.last) ps qs s.there;
   }
 
-  struck_by : (begun : Begun) (column k : ℕ) → begun.column ≤ k → k < column → is_blank begun.shade ≡ false → shade_at all k ≡ begun.shade
+  struck_by : (begun : BegunStroke) (column k : ℕ) → begun.column ≤ k → k < column → is_blank begun.shade ≡ false → shade_at all k ≡ begun.shade
       → IsStruck (stroke_to grid label y begun column) k
   struck_by begun column k low high seen is = record {
     first = begun.column;
@@ -195,7 +195,7 @@ module _ (grid : Grid) (label : Label) (y : ℕ) (all : List Shade) where
   }
 
   -- the strokes where the next cell is so
-  next_strokes : (b : Bool) (begun : Begun) (column : ℕ) (shade : Shade) (cells : List Shade) → is_same begun.shade shade ≡ b
+  next_strokes : (b : Bool) (begun : BegunStroke) (column : ℕ) (shade : Shade) (cells : List Shade) → is_same begun.shade shade ≡ b
       → strokes_from grid label y begun column (shade ∷ cells)
       ≡ (if b then strokes_from grid label y begun (column + 1) cells else stroke_to grid label y begun column
       ++ strokes_from grid label y (record { shade = shade; column = column }) (column + 1) cells)
@@ -204,7 +204,7 @@ module _ (grid : Grid) (label : Label) (y : ℕ) (all : List Shade) where
       ++ strokes_from grid label y (record { shade = shade; column = column }) (column + 1) cells) e
 
   -- that has begun
-  begun_struck : (begun : Begun) (column : ℕ) (cells : List Shade) (k : ℕ) → IsAt begun column cells → begun.column ≤ k → k < column
+  begun_struck : (begun : BegunStroke) (column : ℕ) (cells : List Shade) (k : ℕ) → IsAt begun column cells → begun.column ≤ k → k < column
       → is_blank begun.shade ≡ false → IsStruck (strokes_from grid label y begun column cells) k
   begun_struck begun column [] k at low high seen =
       let size = at.whole in
@@ -225,7 +225,7 @@ module _ (grid : Grid) (label : Label) (y : ℕ) (all : List Shade) where
           (struck_by begun column k low high seen (at.each k low high)))
 
   -- and each later one
-  pub all_struck : (begun : Begun) (column : ℕ) (cells : List Shade) (k : ℕ) → IsAt begun column cells → column ≤ k → k < grid.columns
+  pub all_struck : (begun : BegunStroke) (column : ℕ) (cells : List Shade) (k : ℕ) → IsAt begun column cells → column ≤ k → k < grid.columns
       → is_blank (shade_at all k) ≡ false → IsStruck (strokes_from grid label y begun column cells) k
   all_struck begun column [] k at low high seen = let size = at.whole in absurd (omega (arith, size, low, high))
   all_struck begun column (shade ∷ cells) k at low high seen =
@@ -269,7 +269,7 @@ label_in : Label → Piece → Label
 label_in d (Stroke ribbon) = ribbon.label
 label_in d piece = d
 
-to_label : (grid : Grid) (label : Label) (y : ℕ) (begun : Begun) (column : ℕ) (ribbon : Ribbon) → IsIn (Stroke ribbon) (stroke_to grid label y begun column)
+to_label : (grid : Grid) (label : Label) (y : ℕ) (begun : BegunStroke) (column : ℕ) (ribbon : Ribbon) → IsIn (Stroke ribbon) (stroke_to grid label y begun column)
     → ribbon.label ≡ label
 unfolding label_in
 to_label grid label y begun column ribbon i = by (is_blank begun.shade) i
@@ -280,7 +280,7 @@ to_label grid label y begun column ribbon i = by (is_blank begun.shade) i
     by false (inr none) = absurd none
 
 -- a stroke of a row's cells shows what the row does
-pub stroke_label : (grid : Grid) (label : Label) (y : ℕ) (begun : Begun) (column : ℕ) (cells : List Shade) (ribbon : Ribbon)
+pub stroke_label : (grid : Grid) (label : Label) (y : ℕ) (begun : BegunStroke) (column : ℕ) (cells : List Shade) (ribbon : Ribbon)
     → IsIn (Stroke ribbon) (strokes_from grid label y begun column cells) → ribbon.label ≡ label
 stroke_label grid label y begun column [] ribbon i = to_label grid label y begun grid.columns ribbon i
 stroke_label grid label y begun column (shade ∷ cells) ribbon i =

@@ -1,13 +1,13 @@
 -- How the lines of a picture begin.
 use Rattle.lens_overview.specs.Lines.{bar_line, bar_part, caption_line, caption_part, extent_line, piece_line, rail_part, records_part, ribbon_line, spread_line, stroke_part, tick_line, tick_part}
-use Rattle.lens_overview.specs.{Signs.sign_line, declared.{grid.Pen.Pen, label.Label.Label, pieces.{Piece.Piece, Ribbon.Ribbon}, shade.Shade.Shade}}
+use Rattle.lens_overview.specs.{Signs.sign_line, declared.{grid.GridPen.GridPen, label.Label.Label, pieces.{Piece.Piece, Ribbon.Ribbon}, shade.Shade.Shade}}
 use Rattle.{lens_svg.specs.{Elements.opening_line, Titles.{heading_line, title_line}}, net_plan.specs.declared.network.Network.Network}
 use Rattle.std.{proofs.{Common.{◌++◌, ◌≡◌, Bool, List, ap, arith, false, get_or, refl, true, ℕ}, lemmas.Bool.false≢true}, specs.Prelude.codes}
 use Rattle.lens_overview.specs.declared.label.Kind.TheVariants as kinds
 use Rattle.lens_overview.specs.declared.label.Label.TheVariants as labels
 use Rattle.lens_overview.specs.declared.pieces.Piece.TheVariants as pieces
 use Rattle.lens_overview.specs.declared.shade.Shade.TheVariants as shades
-use Rattle.lens_overview.specs.declared.signs.Sign.TheVariants as signs
+use Rattle.lens_overview.specs.declared.signs.OverviewSign.TheVariants as signs
 
 -- the octet at the place of a line
 abbrev octet_at : ℕ → List ℕ → ℕ
@@ -24,7 +24,7 @@ abbrev pub flow_stroke : List ℕ
 flow_stroke = codes "<path class=\"flow "
 
 -- a stroke whose line begins so is one of such a row
-flow_class : (network : Network) (label : Label) (y : ℕ) (shade : Shade) (from to : Pen) (rest : List ℕ)
+flow_class : (network : Network) (label : Label) (y : ℕ) (shade : Shade) (from to : GridPen) (rest : List ℕ)
     → ribbon_line network (record { label = label; y = y; shade = shade; from = from; to = to }) ≡ flow_stroke ++ rest → is_flow label ≡ true
 unfolding stroke_part
 flow_class network (labels.Flow vl device) y shade from to rest same = refl
@@ -33,7 +33,7 @@ flow_class network (labels.Count kinds.Event) y shade from to rest same = let oc
 flow_class network label y shade from to rest same = let octet = ap (octet_at 13) same in absurd (omega (arith, octet))
 
 -- and one whose line says that a frame is missing has that shade
-missing_class : (network : Network) (label : Label) (y : ℕ) (shade : Shade) (from to : Pen) (rest : List ℕ) → is_flow label ≡ true
+missing_class : (network : Network) (label : Label) (y : ℕ) (shade : Shade) (from to : GridPen) (rest : List ℕ) → is_flow label ≡ true
     → ribbon_line network (record { label = label; y = y; shade = shade; from = from; to = to }) ≡ codes "<path class=\"flow missing" ++ rest → shade ≡ shades.Missing
 unfolding stroke_part
 missing_class network (labels.Flow vl device) y shades.Missing from to rest flow same = refl
@@ -69,7 +69,7 @@ is_lane (labels.Lane device) = true
 is_lane (labels.Others synchronised off) = true
 is_lane label = false
 
-lane_class : (network : Network) (label : Label) (y : ℕ) (shade : Shade) (from to : Pen) (rest : List ℕ)
+lane_class : (network : Network) (label : Label) (y : ℕ) (shade : Shade) (from to : GridPen) (rest : List ℕ)
     → ribbon_line network (record { label = label; y = y; shade = shade; from = from; to = to }) ≡ codes "<path class=\"lane " ++ rest → is_lane label ≡ true
 unfolding stroke_part
 lane_class network (labels.Lane device) y shade from to rest same = refl
@@ -92,7 +92,7 @@ abbrev pub is_passage : Label → Bool
 is_passage (labels.Passage link way) = true
 is_passage label = false
 
-passage_class : (network : Network) (label : Label) (y : ℕ) (shade : Shade) (from to : Pen) (rest : List ℕ)
+passage_class : (network : Network) (label : Label) (y : ℕ) (shade : Shade) (from to : GridPen) (rest : List ℕ)
     → ribbon_line network (record { label = label; y = y; shade = shade; from = from; to = to }) ≡ codes "<path class=\"passage " ++ rest → is_passage label ≡ true
 unfolding stroke_part
 passage_class network (labels.Passage link way) y shade from to rest same = refl

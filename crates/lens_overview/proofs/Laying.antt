@@ -1,6 +1,6 @@
 -- A flow that joins a row, and flows that do so one after another.
 use Rattle.lens_flows.specs.declared.judge.flow.Flow.{Flow}
-use Rattle.lens_overview.specs.{Cells.{Missed, flow_cells}, Rows.{Row, Told, is_like, joined, raised, with_flows}, declared.shade.Shade.Shade}
+use Rattle.lens_overview.specs.{Cells.{Missed, flow_cells}, Rows.{Row, ToldSoFar, is_like, joined, raised, with_flows}, declared.shade.Shade.Shade}
 use Rattle.std.proofs.{Common.{◌+◌, ◌++◌, ◌<◌, ◌∙◌, ◌∷◌, ◌≡◌, Bool, List, ap, arith, drop, get_or, if◌then◌else◌, length, set, suc, sym, take, true, ℕ}, Math.Seq.{drop-cons, set-append_seam}}
 use Rattle.std.proofs.{Common.[], lemmas.List.{Sums.fold-append, length-take-le, take-append-drop, take_more}}
 
@@ -23,7 +23,7 @@ joins_at flow cells rows p d within like =
     ∙ ap (λ (b : Bool). if b then raised row ∷ rest else row ∷ joined flow cells rest) like))
 
 -- one flow more
-pub flows_more : (told : Told) (missed : List Missed) (base now next : List Row) (flows : List Flow) (n : ℕ) (x d : Flow) → n < length flows
+pub flows_more : (told : ToldSoFar) (missed : List Missed) (base now next : List Row) (flows : List Flow) (n : ℕ) (x d : Flow) → n < length flows
     → now ≡ with_flows told missed base (take n flows) → x ≡ get_or flows n d → next ≡ with_flows told missed now (x ∷ [])
     → next ≡ with_flows told missed base (take (n + 1) flows)
 flows_more told missed base now next flows n x d within so is more =

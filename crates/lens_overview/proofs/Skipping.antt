@@ -9,7 +9,7 @@ use Rattle.std.proofs.Common.{◌∙◌, ◌∷◌, ◌≡◌, ◌≤◌, Bool, 
 use Rattle.std.{proofs.lemmas.{Bool.cases_Bool, List.take_all}, specs.{List.list_any, Option.option_map_or, Prelude.{◌||◌, filter, fold, length, slice_get, suc, take, zero}}}
 use Rattle.lens_overview.specs.declared.label.Label.TheVariants as labels
 use Rattle.lens_overview.specs.declared.news.Change.TheVariants as changes
-use Rattle.lens_overview.specs.declared.parts.Part.TheVariants as parts
+use Rattle.lens_overview.specs.declared.parts.RowSort.TheVariants as parts
 
 -- ---- lists without what makes no difference
 

@@ -1,6 +1,6 @@
 -- The columns of a picture.
 use Rattle.std.specs.Prelude.{◌*◌, ◌+◌, ◌/◌, ◌^◌, ◌≤◌, if◌then◌else◌, max, min, nat_lt, ℕ}
-use Rattle.lens_overview.specs.declared.grid.{Grid.Grid, Pen.Pen}
+use Rattle.lens_overview.specs.declared.grid.{Grid.Grid, GridPen.GridPen}
 
 -- how many columns a picture has at most
 abbrev pub most_columns : ℕ
@@ -33,7 +33,7 @@ column_of grid cycle = cycle / grid.cycles
 
 -- where a column begins: how far to the right, and its first cycle; one that no picture has begins where the last of the
 -- widest ends
-abbrev pub pen_at : Grid → ℕ → Pen
+abbrev pub pen_at : Grid → ℕ → GridPen
 pen_at grid column =
     let place = min column most_columns in
     record { x = 200 + grid.pitch * place; cycle = grid.cycles * place }

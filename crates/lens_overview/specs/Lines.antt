@@ -1,7 +1,7 @@
 -- The line of each piece of a picture.
 use Rattle.std.specs.Prelude.{◌++◌, ◌/◌, List, None, Option, Some, codes, decimal, ℕ}
 use Rattle.lens_overview.specs.{Labels.{group_word, kind_word, label_word}, Shades.shade_word, Signs.sign_line}
-use Rattle.lens_overview.specs.declared.{grid.{Grid.Grid, Pen.Pen}, label.Label.Label, pieces.{Piece.Piece, Ribbon.Ribbon}}
+use Rattle.lens_overview.specs.declared.{grid.{Grid.Grid, GridPen.GridPen}, label.Label.Label, pieces.{Piece.Piece, Ribbon.Ribbon}}
 use Rattle.lens_svg.specs.{Elements.opening_line, Numbers.micros_text, Titles.{heading_line, title_line}}
 use Rattle.net_plan.specs.{Belonging.{device_name, link_name, vl_name}, declared.network.Network.Network}
 use Rattle.{trace_text.specs.EventWords.way_text, tte_units.specs.Amount.amount}
@@ -57,25 +57,25 @@ spread_line network greatest =
     ++ apart_text (amount network.precision) ++ codes "</text></g>\n"
 
 -- a line between two columns, down to here, and the number of the cycle that begins there, above
-unfoldable pub tick_part : Pen → ℕ → List ℕ
+unfoldable pub tick_part : GridPen → ℕ → List ℕ
 tick_part pen down =
     codes "<g><path class=\"tick\" d=\"M" ++ decimal pen.x ++ codes " 146 V" ++ decimal down
     ++ codes "\"/><text class=\"time\" x=\"" ++ decimal pen.x ++ codes "\" y=\"142\">" ++ decimal pen.cycle
 
 -- the same, and the number below
-unfoldable pub tick_line : Pen → ℕ → List ℕ
+unfoldable pub tick_line : GridPen → ℕ → List ℕ
 tick_line pen down =
     tick_part pen down ++ codes "</text><text class=\"time\" x=\"" ++ decimal pen.x ++ codes "\" y=\""
     ++ decimal down ++ codes "\" dy=\"10\">" ++ decimal pen.cycle ++ codes "</text></g>\n"
 
 -- a bar so wide and so high
-unfoldable pub bar_part : Pen → ℕ → ℕ → List ℕ
+unfoldable pub bar_part : GridPen → ℕ → ℕ → List ℕ
 bar_part pen width height =
     codes "<path class=\"bar\" d=\"M" ++ decimal pen.x ++ codes " 130 h" ++ decimal width ++ codes " v-"
     ++ decimal height ++ codes " h-" ++ decimal width
 
 -- the same, and what it says
-unfoldable pub bar_line : Pen → ℕ → ℕ → ℕ → List ℕ
+unfoldable pub bar_line : GridPen → ℕ → ℕ → ℕ → List ℕ
 bar_line pen width height apart =
     bar_part pen width height ++ codes " z\"><title>spread " ++ apart_text apart ++ codes " from cycle "
     ++ decimal pen.cycle ++ codes "</title></path>\n"

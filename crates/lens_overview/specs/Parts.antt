@@ -1,8 +1,8 @@
 -- The records that fill rows of one sort.
 use Rattle.std.specs.Prelude.{Bool, List, None, Option, Some, false, filter, true, ◌≡◌}
-use Rattle.lens_overview.specs.declared.{label.Kind.Kind, news.{Change.Change, News.News}, parts.Part.Part}
+use Rattle.lens_overview.specs.declared.{label.Kind.Kind, news.{Change.Change, News.News}, parts.RowSort.RowSort}
 use Rattle.lens_overview.specs.declared.news.Change.TheVariants as changes
-use Rattle.lens_overview.specs.declared.parts.Part.TheVariants as parts
+use Rattle.lens_overview.specs.declared.parts.RowSort.TheVariants as parts
 
 -- the record is counted as something
 abbrev pub is_counted : Option Kind → Bool
@@ -23,11 +23,11 @@ is_coming (changes.Repeats copied) = true
 is_coming change = false
 
 -- it may fill rows of the sort
-abbrev pub is_of : Part → News → Bool
+abbrev pub is_of : RowSort → News → Bool
 is_of parts.Counts news = is_counted news.kind
 is_of parts.Changes news = is_turning news.change
 is_of parts.Copies news = is_coming news.change
 
 -- of all records these may fill rows of the sort
-abbrev pub ArePartOf : Part → List News → List News → Type 0
+abbrev pub ArePartOf : RowSort → List News → List News → Type 0
 ArePartOf part all some = some ≡ filter (is_of part) all

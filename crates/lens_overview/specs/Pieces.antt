@@ -3,13 +3,13 @@ use Rattle.std.specs.Prelude.{◌*◌, ◌+◌, ◌++◌, ◌-◌, ◌/◌, ◌�
 use Rattle.std.specs.Prelude.{length, min, nat_le, ℕ}
 use Rattle.lens_flows.specs.declared.judge.flow.Flow.{Flow}
 use Rattle.lens_overview.specs.{Bars.{bars_of, greatest_of}, Cells.Missed, Grids.{grid_of, pen_at, right_of, width_of}}
-use Rattle.lens_overview.specs.{Labels.height_of, News.last_cycle, Ranges.each_below, Rows.{Row, Told, rows_of}}
+use Rattle.lens_overview.specs.{Labels.height_of, News.last_cycle, Ranges.each_below, Rows.{Row, ToldSoFar, rows_of}}
 use Rattle.lens_overview.specs.Shades.{is_blank, is_same}
 use Rattle.lens_overview.specs.declared.{grid.Grid.Grid, label.Label.Label, news.News.News, pieces.Piece.Piece}
-use Rattle.lens_overview.specs.declared.{pieces.Begun.Begun, shade.Shade.{Shade, TheVariants.Blank}}
+use Rattle.lens_overview.specs.declared.{pieces.BegunStroke.BegunStroke, shade.Shade.{Shade, TheVariants.Blank}}
 use Rattle.net_plan.specs.declared.network.Network.{Network}
 use Rattle.lens_overview.specs.declared.pieces.Piece.TheVariants as pieces
-use Rattle.lens_overview.specs.declared.signs.Sign.TheVariants as signs
+use Rattle.lens_overview.specs.declared.signs.OverviewSign.TheVariants as signs
 
 -- how far down the first row is, but for its height
 abbrev pub top : ℕ
@@ -62,7 +62,7 @@ bars_from grid greatest column (bar ∷ bars) =
     bar_at grid greatest column bar ++ bars_from grid greatest (column + 1) bars
 
 -- the stroke that began so and ends before the column, if there is anything to be drawn
-abbrev pub stroke_to : Grid → Label → ℕ → Begun → ℕ → List Piece
+abbrev pub stroke_to : Grid → Label → ℕ → BegunStroke → ℕ → List Piece
 stroke_to grid label y begun column =
     if is_blank begun.shade then []
     else pieces.Stroke (record {
@@ -74,7 +74,7 @@ stroke_to grid label y begun column =
     }) ∷ []
 
 -- the strokes of the cells from this column on, where one began so
-abbrev pub strokes_from : Grid → Label → ℕ → Begun → ℕ → List Shade → List Piece
+abbrev pub strokes_from : Grid → Label → ℕ → BegunStroke → ℕ → List Shade → List Piece
 strokes_from grid label y begun column [] = stroke_to grid label y begun grid.columns
 strokes_from grid label y begun column (shade ∷ cells) =
     if is_same begun.shade shade then strokes_from grid label y begun (column + 1) cells
@@ -82,7 +82,7 @@ strokes_from grid label y begun column (shade ∷ cells) =
     ++ strokes_from grid label y (record { shade = shade; column = column }) (column + 1) cells
 
 -- before the first column
-abbrev pub not_begun : Begun
+abbrev pub not_begun : BegunStroke
 not_begun = record { shade = Blank; column = 0 }
 
 -- the name of a row and its strokes
@@ -104,7 +104,7 @@ picture_of grid rows bars greatest records =
     ++ (bars_from grid greatest 0 bars ++ (rows_from grid top rows ++ pieces.Shared signs.Close ∷ [])))
 
 -- what the rows are made of, where the records tell this
-abbrev pub told_of : List News → Told
+abbrev pub told_of : List News → ToldSoFar
 told_of all = record { news = all; last = last_cycle all; grid = grid_of (last_cycle all) }
 
 -- the picture of what records tell, of which these frames are missing

@@ -22,13 +22,13 @@ pub record Row : Type 0 where
   pub cells : List Shade
 
 -- what the rows are made of: what the records tell, the last cycle, and the columns
-pub record Told : Type 0 where
+pub record ToldSoFar : Type 0 where
   pub news : List News
   pub last : ℕ
   pub grid : Grid
 
 -- the same, where it is at hand
-abbrev pub told_by : Run → Told
+abbrev pub told_by : Run → ToldSoFar
 told_by run = record { news = run.news.now; last = run.last; grid = run.grid }
 
 -- a row without cells
@@ -36,7 +36,7 @@ abbrev pub title_row : Group → List Row
 title_row group = record { label = labels.Title group; cells = [] } ∷ []
 
 -- the row of what is shown, if a cell of it is filled
-abbrev pub filled_row : Told → Label → List Row
+abbrev pub filled_row : ToldSoFar → Label → List Row
 filled_row told label =
     let cells = cells_of told.grid told.news label shades.Blank in
     if is_any cells then record { label = label; cells = cells } ∷ [] else []
@@ -56,7 +56,7 @@ abbrev pub is_turned : List News → DeviceId → Bool
 is_turned all device = list_any (λ news. is_turn device news.change) all
 
 -- the row of the device at the place, if its state changes
-abbrev pub lane_at : Network → Told → ℕ → List Row
+abbrev pub lane_at : Network → ToldSoFar → ℕ → List Row
 lane_at network told place =
     let label = labels.Lane (record { 0 = place }) in
     option_map_or (λ d. if is_turned told.news (record { 0 = place })
@@ -77,7 +77,7 @@ calm_below network all (suc n) =
     (slice_get network.device n) calm
 
 -- the row of these others, if there are any
-abbrev pub others_row : Told → Calm → List Row
+abbrev pub others_row : ToldSoFar → Calm → List Row
 others_row told calm =
     if calm.synchronised == 0 && calm.off == 0 then []
     else record {
@@ -86,18 +86,18 @@ others_row told calm =
     } ∷ []
 
 -- the rows of the devices
-abbrev pub lane_rows : Network → Told → List Row
+abbrev pub lane_rows : Network → ToldSoFar → List Row
 lane_rows network told =
     let count = length network.device in
     all_below (lane_at network told) count ++ others_row told (calm_below network told.news count)
 
 -- the rows of both ways of the link at the place, where they are cut
-abbrev pub passages_at : Told → ℕ → List Row
+abbrev pub passages_at : ToldSoFar → ℕ → List Row
 passages_at told place =
     filled_row told (labels.Passage (record { 0 = place }) ways.Up)
     ++ filled_row told (labels.Passage (record { 0 = place }) ways.Down)
 
-abbrev pub passage_rows : Network → Told → List Row
+abbrev pub passage_rows : Network → ToldSoFar → List Row
 passage_rows network told = all_below (passages_at told) (length network.link)
 
 -- the row is one of the virtual link, with such cells
@@ -116,7 +116,7 @@ joined flow cells (row ∷ rows) =
     else row ∷ joined flow cells rows
 
 -- rows, and below them those of flows, of which these frames are missing
-abbrev pub with_flows : Told → List Missed → List Row → List Flow → List Row
+abbrev pub with_flows : ToldSoFar → List Missed → List Row → List Flow → List Row
 with_flows told missed rows flows =
     fold (λ rows flow. joined flow (flow_cells told.grid told.news told.last missed flow.vl flow.device) rows) rows flows
 
@@ -127,16 +127,16 @@ losses =
     ∷ kinds.Unsynchronised ∷ kinds.Unknown ∷ kinds.Length ∷ kinds.Early ∷ kinds.Late ∷ kinds.Repeat ∷ kinds.Refused ∷ []
 
 -- the rows of the counts of these kinds, where there are any
-abbrev pub count_rows : Told → List Kind → List Row
+abbrev pub count_rows : ToldSoFar → List Kind → List Row
 count_rows told kinds = flat_map (λ kind. filled_row told (labels.Count kind)) kinds
 
 -- the rows above those of flows, from the top: the events, the states, and the cut ways
-abbrev pub upper_rows : Network → Told → List Row
+abbrev pub upper_rows : Network → ToldSoFar → List Row
 upper_rows network told =
     filled_row told (labels.Count kinds.Event) ++ title_row groups.States ++ lane_rows network told
     ++ title_row groups.Ways ++ passage_rows network told ++ title_row groups.Flows
 
 -- all rows: below those what was delivered, and what was lost or dropped
-abbrev pub rows_of : Network → Told → List Missed → List Flow → List Row
+abbrev pub rows_of : Network → ToldSoFar → List Missed → List Flow → List Row
 rows_of network told missed flows =
     with_flows told missed (upper_rows network told) flows ++ title_row groups.Losses ++ count_rows told losses

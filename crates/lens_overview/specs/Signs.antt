@@ -1,6 +1,6 @@
 -- The lines that each picture has.
 use Rattle.std.specs.Prelude.{◌++◌, List, codes, ℕ}
-use Rattle.lens_overview.specs.declared.signs.Sign.{Sign, TheVariants.{Backdrop, Close, FrameKey, StateKey, Style}}
+use Rattle.lens_overview.specs.declared.signs.OverviewSign.{OverviewSign, TheVariants.{Backdrop, Close, FrameKey, StateKey, Style}}
 
 -- the colours
 abbrev pub style : List ℕ
@@ -65,7 +65,7 @@ abbrev pub close_line : List ℕ
 close_line = codes "</svg>\n"
 
 -- the line of a sign
-unfoldable pub sign_line : Sign → List ℕ
+unfoldable pub sign_line : OverviewSign → List ℕ
 sign_line Style = style
 sign_line Backdrop = backdrop
 sign_line FrameKey = frame_key

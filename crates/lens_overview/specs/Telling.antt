@@ -1,7 +1,7 @@
 -- What was told by the records of a report so far.
 use Rattle.std.specs.Prelude.{◌≡◌, List}
 use Rattle.{audit_law.specs.events.Readings.scenario_under, audit_sweep.specs.Indexing.IsIndex}
-use Rattle.lens_overview.specs.{News.news_in, declared.{news.News.News, telling.Told.Told}}
+use Rattle.lens_overview.specs.{News.news_in, declared.{news.News.News, telling.ToldSoFar.ToldSoFar}}
 use Rattle.net_plan.specs.declared.network.Network.{Network}
 use Rattle.{run_law.specs.{declared.note.Note.Note, records.Happenings.happenings}, tte_audit.specs.Report.events_of}
 
@@ -11,6 +11,6 @@ news_by network ns before =
     news_in network (scenario_under network (events_of ns)) (happenings network ns) before
 
 -- that was told, and the index is that of the report
-pub record IsToldSoFar (network : Network) (ns before : List Note) (told : Told) : Type 0 where
+pub record IsToldSoFar (network : Network) (ns before : List Note) (told : ToldSoFar) : Type 0 where
   pub index : IsIndex network (events_of ns) (happenings network ns) told.index.now
   pub news : told.news.items ≡ news_by network ns before

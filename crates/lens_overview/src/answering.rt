@@ -12,7 +12,7 @@ use crate::cells::Run;
 use crate::grid::Grid;
 use crate::lines::make_piece;
 use crate::news::last_cycle;
-use crate::parts::{Part, part_of};
+use crate::parts::{RowSort, part_of};
 use crate::pieces::{Piece, pieces_of};
 use crate::telling::told_by;
 use lens_flows::counts::flows_of;
@@ -68,9 +68,9 @@ fn drawn(
     let all = news.as_slice();
     let last = last_cycle(all);
     let grid = Grid::new(last);
-    let counts = part_of(alloc, all, Part::Counts)?;
-    let changes = part_of(alloc, all, Part::Changes)?;
-    let copies = part_of(alloc, all, Part::Copies)?;
+    let counts = part_of(alloc, all, RowSort::Counts)?;
+    let changes = part_of(alloc, all, RowSort::Changes)?;
+    let copies = part_of(alloc, all, RowSort::Copies)?;
     let run = Run {
         news: all,
         counts: &counts,

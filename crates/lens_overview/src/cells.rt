@@ -3,7 +3,7 @@ ghost use Rattle.std.specs.Prelude.{◌+◌, ◌<◌, ◌^◌, ◌≡◌, ◌≤
 ghost use Rattle.lens_overview.specs.Cells.{cells_of, cut, filled, filled_from, flow_cells, in_column, is_alike, is_any};
 ghost use Rattle.lens_overview.specs.Cells.{is_same_way, narrowed, seen, shade_at, taken, turned, worst};
 ghost use Rattle.lens_overview.specs.{Grids.{IsNarrow, most_columns}, Parts.ArePartOf};
-ghost use Rattle.lens_overview.specs.declared.parts.Part.TheVariants.{Changes, Copies, Counts};
+ghost use Rattle.lens_overview.specs.declared.parts.RowSort.TheVariants.{Changes, Copies, Counts};
 ghost use Rattle.lens_overview.specs.declared.shade.Shade.{Shade as ShadeValue};
 ghost use Rattle.lens_svg.specs.Sketching.{with_at};
 

@@ -19,7 +19,7 @@ pub struct Grid {
 
 /// Where a column begins.
 #[derive(Clone, Copy)]
-pub struct Pen {
+pub struct GridPen {
     /// How far to the right, in pixels.
     pub x: u64,
     /// The first cycle of the column.
@@ -68,13 +68,13 @@ impl Grid {
     }
 
     /// Where a column begins. One that no picture has begins where the last of the widest ends.
-    pub(crate) fn pen_at(self, column: u64) -> Pen
+    pub(crate) fn pen_at(self, column: u64) -> GridPen
         requires { IsNarrow self }
         ensures value { result ≡ pen_at self column }
         ensures short { result.x ≤ 700000 }
     {
         let column = column.min(MOST_COLUMNS);
-        Pen {
+        GridPen {
             x: 200 + self.pitch * column,
             cycle: self.cycles * column,
         }

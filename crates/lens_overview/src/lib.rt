@@ -18,7 +18,7 @@ mod spread;
 mod telling;
 
 pub use answering::Overview;
-pub use grid::{Grid, Pen};
+pub use grid::{Grid, GridPen};
 pub use label::{Group, Kind, Label};
 pub use laws::{colours_law, head_law, overview_law, states_law};
 pub use news::{Change, Copied, News};

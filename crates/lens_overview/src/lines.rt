@@ -7,7 +7,7 @@ ghost use Rattle.lens_overview.specs.Lines.{title_part};
 ghost use Rattle.net_plan.specs.Ranges.{IsInRange};
 ghost use Rattle.tte_io.specs.Line.{line_limit};
 
-use crate::grid::{Grid, Pen};
+use crate::grid::{Grid, GridPen};
 use crate::label::{Label, group_word, kind_word, label_word};
 use crate::pieces::{Piece, Ribbon};
 use crate::shade::shade_word;
@@ -149,7 +149,7 @@ fn make_spread(line: &mut LineText, network: &Network, greatest: Option<u128>)
 
 /// Makes the line between two columns, and the number above: at most 200 octets.
 #[tactic(auto, unfolding(crate::specs::Lines::tick_part))]
-fn make_tick_part(line: &mut LineText, pen: Pen, down: u64)
+fn make_tick_part(line: &mut LineText, pen: GridPen, down: u64)
     ensures text { line.new ≡ tick_part pen down }
     ensures short { length line.new ≤ 200 }
 {
@@ -166,7 +166,7 @@ fn make_tick_part(line: &mut LineText, pen: Pen, down: u64)
 
 /// Makes the line of a tick: a line between two columns, and the number of the cycle above and below.
 #[tactic(auto, unfolding(crate::specs::Lines::tick_line))]
-fn make_tick(line: &mut LineText, pen: Pen, down: u64)
+fn make_tick(line: &mut LineText, pen: GridPen, down: u64)
     ensures { line.new ≡ tick_line pen down }
 {
     make_tick_part(line, pen, down);
@@ -181,7 +181,7 @@ fn make_tick(line: &mut LineText, pen: Pen, down: u64)
 
 /// Makes a bar so wide and so high: at most 200 octets.
 #[tactic(auto, unfolding(crate::specs::Lines::bar_part))]
-fn make_bar_part(line: &mut LineText, pen: Pen, width: u64, height: u64)
+fn make_bar_part(line: &mut LineText, pen: GridPen, width: u64, height: u64)
     ensures text { line.new ≡ bar_part pen width height }
     ensures short { length line.new ≤ 200 }
 {
@@ -198,7 +198,7 @@ fn make_bar_part(line: &mut LineText, pen: Pen, width: u64, height: u64)
 
 /// Makes the line of a bar.
 #[tactic(auto, unfolding(crate::specs::Lines::bar_line))]
-fn make_bar(line: &mut LineText, pen: Pen, width: u64, height: u64, apart: u128)
+fn make_bar(line: &mut LineText, pen: GridPen, width: u64, height: u64, apart: u128)
     ensures { line.new ≡ bar_line pen width height apart }
 {
     make_bar_part(line, pen, width, height);

@@ -8,7 +8,7 @@ use tte_io::OutOfMemory;
 
 /// A sort of rows.
 #[derive(Clone, Copy)]
-pub(crate) enum Part {
+pub(crate) enum RowSort {
     /// Those of counts.
     Counts,
     /// Those of devices and of ways.
@@ -42,25 +42,25 @@ fn is_coming(change: Change) -> bool
 }
 
 /// May the record fill rows of this sort?
-fn is_of(part: Part, news: &News) -> bool
+fn is_of(part: RowSort, news: &News) -> bool
     ensures { result ≡ is_of part news.now }
 {
     match part {
-        Part::Counts => news.kind.is_some(),
-        Part::Changes => is_turning(news.change),
-        Part::Copies => is_coming(news.change),
+        RowSort::Counts => news.kind.is_some(),
+        RowSort::Changes => is_turning(news.change),
+        RowSort::Copies => is_coming(news.change),
     }
 }
 
 /// How many of the records may fill rows of this sort.
-fn count_of(all: &[News], part: Part) -> usize
+fn count_of(all: &[News], part: RowSort) -> usize
     ensures { result ≡ count_by (is_of part) all.now }
 {
     all.iter().filter(|news| is_of(part, news)).count()
 }
 
 /// The records that may fill rows of this sort.
-pub(crate) fn part_of(alloc: Global, all: &[News], part: Part) -> Result<Vec<News>, OutOfMemory>
+pub(crate) fn part_of(alloc: Global, all: &[News], part: RowSort) -> Result<Vec<News>, OutOfMemory>
     ensures { IfOk result (λ some. some.items ≡ filter (is_of part) all.now) }
 {
     // Room for all is taken at once: a list that grows holds its elements twice.

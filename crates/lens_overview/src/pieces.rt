@@ -8,11 +8,11 @@ ghost use Rattle.net_plan.specs.Ranges.{IsInRange};
 
 use crate::bars::{bars_of, greatest_of};
 use crate::cells::Run;
-use crate::grid::{Grid, Pen};
+use crate::grid::{Grid, GridPen};
 use crate::label::{Label, height_of};
 use crate::rows::{Row, rows_of};
 use crate::shade::{Shade, is_blank, is_same};
-use crate::signs::Sign;
+use crate::signs::OverviewSign;
 use lens_flows::judge::Flow;
 use net_plan::Network;
 use std::alloc::Global;
@@ -25,8 +25,8 @@ pub struct Ribbon {
     pub y: u64,
     pub shade: Shade,
     /// Its first column, and the one behind its last.
-    pub from: Pen,
-    pub to: Pen,
+    pub from: GridPen,
+    pub to: GridPen,
 }
 
 /// A part of a picture, which has a line.
@@ -41,15 +41,15 @@ pub enum Piece {
     /// Of how many records the picture is.
     Extent(u64),
     /// A line that each picture has.
-    Shared(Sign),
+    Shared(OverviewSign),
     /// How many columns there are, and of how many cycles.
     Caption(Grid),
     /// How far the clocks are apart at most.
     Spread(Option<u128>),
     /// Where a column begins: a line down to here.
-    Tick(Pen, u64),
+    Tick(GridPen, u64),
     /// The bar of a column: how wide and how high it is, and what it stands for.
-    Bar(Pen, u64, u64, u128),
+    Bar(GridPen, u64, u64, u128),
     /// What a row shows, how far down it is, and where it ends.
     Name(Label, u64, u64),
     Stroke(Ribbon),
@@ -106,12 +106,12 @@ fn push_front(
 {
     push(pieces, Piece::Opening(grid.width(), bottom + 30))?;
     push(pieces, Piece::Title)?;
-    push(pieces, Piece::Shared(Sign::Style))?;
-    push(pieces, Piece::Shared(Sign::Backdrop))?;
+    push(pieces, Piece::Shared(OverviewSign::Style))?;
+    push(pieces, Piece::Shared(OverviewSign::Backdrop))?;
     push(pieces, Piece::Heading)?;
     push(pieces, Piece::Extent(records))?;
-    push(pieces, Piece::Shared(Sign::FrameKey))?;
-    push(pieces, Piece::Shared(Sign::StateKey))?;
+    push(pieces, Piece::Shared(OverviewSign::FrameKey))?;
+    push(pieces, Piece::Shared(OverviewSign::StateKey))?;
     push(pieces, Piece::Caption(grid))?;
     push(pieces, Piece::Spread(greatest))
 }
@@ -186,7 +186,7 @@ fn push_bars(
 
 /// A stroke that begins, so far.
 #[derive(Clone, Copy)]
-struct Begun {
+struct BegunStroke {
     shade: Shade,
     column: u64,
 }
@@ -197,7 +197,7 @@ fn push_stroke(
     grid: Grid,
     label: Label,
     y: u64,
-    begun: Begun,
+    begun: BegunStroke,
     column: u64,
 ) -> Result<(), OutOfMemory>
     requires { IsNarrow grid }
@@ -229,7 +229,7 @@ fn push_strokes(
     requires { IsNarrow grid }
     ensures { OnOk result (pieces.new.items ≡ pieces.old.items ++ strokes_from grid label y not_begun 0 cells.now) }
 {
-    let mut begun = Begun {
+    let mut begun = BegunStroke {
         shade: Shade::Blank,
         column: 0,
     };
@@ -237,7 +237,7 @@ fn push_strokes(
         let column = place as u64;
         if !is_same(begun.shade, cells[place]) {
             push_stroke(pieces, grid, label, y, begun, column)?;
-            begun = Begun {
+            begun = BegunStroke {
                 shade: cells[place],
                 column,
             };
@@ -283,6 +283,6 @@ pub(crate) fn pieces_of(
     push_ticks(&mut pieces, run.grid, bottom)?;
     push_bars(&mut pieces, run.grid, &bars, greatest)?;
     push_rows(&mut pieces, run.grid, &rows)?;
-    push(&mut pieces, Piece::Shared(Sign::Close))?;
+    push(&mut pieces, Piece::Shared(OverviewSign::Close))?;
     Ok(pieces)
 }

@@ -4,7 +4,7 @@ ghost use Rattle.lens_overview.specs.Signs.{sign_line};
 
 /// A line that each picture has.
 #[derive(Clone, Copy)]
-pub enum Sign {
+pub enum OverviewSign {
     /// The colours.
     Style,
     /// The background.
@@ -58,7 +58,7 @@ const STATE_KEY: &str = "\
 
 const CLOSE: &str = "</svg>\n";
 
-impl Sign {
+impl OverviewSign {
     /// The line, ended by LF. It has at most 4,096 octets.
     #[tactic(auto, unfolding(crate::specs::Signs::sign_line))]
     pub(crate) fn line(self) -> &'static str
@@ -66,11 +66,11 @@ impl Sign {
         ensures short { length result.now ≤ 4096 }
     {
         match self {
-            Sign::Style => STYLE,
-            Sign::Backdrop => BACKDROP,
-            Sign::FrameKey => FRAME_KEY,
-            Sign::StateKey => STATE_KEY,
-            Sign::Close => CLOSE,
+            OverviewSign::Style => STYLE,
+            OverviewSign::Backdrop => BACKDROP,
+            OverviewSign::FrameKey => FRAME_KEY,
+            OverviewSign::StateKey => STATE_KEY,
+            OverviewSign::Close => CLOSE,
         }
     }
 }

@@ -13,7 +13,7 @@ use sync_state::State;
 
 /// The least and the greatest of some local clocks, in units of 2^-16 ns.
 #[derive(Clone, Copy)]
-struct Ends {
+struct LocalExtremes {
     least: i128,
     greatest: i128,
 }
@@ -98,14 +98,14 @@ fn clock_of(reading: u64, adjustment: i128) -> i128
 }
 
 /// The ends with one more clock, if there is one.
-fn with_local(ends: Option<Ends>, local: Option<i128>) -> Option<Ends>
+fn with_local(ends: Option<LocalExtremes>, local: Option<i128>) -> Option<LocalExtremes>
     requires wide { AreWide ends }
     requires fits { IfSome local IsLocal }
     ensures value { result ≡ with_local ends local }
     ensures wide { AreWide result }
 {
     match (ends, local) {
-        (Some(ends), Some(local)) => Some(Ends {
+        (Some(ends), Some(local)) => Some(LocalExtremes {
             least: if ends.least <= local {
                 ends.least
             } else {
@@ -117,7 +117,7 @@ fn with_local(ends: Option<Ends>, local: Option<i128>) -> Option<Ends>
                 ends.greatest
             },
         }),
-        (None, Some(local)) => Some(Ends {
+        (None, Some(local)) => Some(LocalExtremes {
             least: local,
             greatest: local,
         }),
@@ -126,7 +126,7 @@ fn with_local(ends: Option<Ends>, local: Option<i128>) -> Option<Ends>
 }
 
 /// How far apart the ends are.
-fn apart(ends: Ends) -> u128
+fn apart(ends: LocalExtremes) -> u128
     requires { IsLocal ends.least × IsLocal ends.greatest }
     ensures { result ≡ apart ends }
 {

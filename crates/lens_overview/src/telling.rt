@@ -15,12 +15,12 @@ use tte_reports::{AuditedReport, RecordTaker, take_records};
 
 /// What all records so far tell.
 #[derive(Drop)]
-pub(crate) struct Told<'a> {
+pub(crate) struct ToldSoFar<'a> {
     pub(crate) index: &'a Index,
     pub(crate) news: Vec<News>,
 }
 
-impl RecordTaker for Told<'_> {
+impl RecordTaker for ToldSoFar<'_> {
     ghost holds = { λ network notes before begun told. IsToldSoFar network notes before told };
 
     fn take(&mut self, network: &Network, note: &Note) -> Result<(), OutOfMemory> {
@@ -47,7 +47,7 @@ pub(crate) fn told_by(
     let Ok(news) = Vec::with_capacity(alloc, report.count() as usize) else {
         return Err(OutOfMemory);
     };
-    let mut told = Told {
+    let mut told = ToldSoFar {
         index: &report.index,
         news,
     };

@@ -1,6 +1,6 @@
 -- The best attempt of a message behind rows is one.
 use Rattle.lens_plan.proofs.Spaced.{way_one}
-use Rattle.lens_plan.specs.declared.places.{best.Attempt.Attempt, offsets.{Slot.Slot, Taken.Taken}, placing.{Placed.Placed, Trial.Trial}, scoring.Score.Score, ways.Hop.Hop}
+use Rattle.lens_plan.specs.declared.places.{best.Attempt.Attempt, offsets.{MessageRow.MessageRow, Taken.Taken}, placing.{Placed.Placed, Trial.Trial}, scoring.Score.Score, ways.Hop.Hop}
 use Rattle.lens_plan.specs.{messages.Message.Message, places.{Best.{ComesFirst, IsAttempt, IsBestBy, IsBetter, in_phase}, Fitting.{IsBestBehind}}}
 use Rattle.lens_plan.specs.places.{Offsets.IsLeastOffset, Placing.{IsPlacedAt, IsPlacedWay, delay_on, end_of, port_on, slot_of}, Same.IsSameAttempt}
 use Rattle.lens_plan.specs.places.{Scoring.score_of, Trying.{AreTried, IsPlacedTo, start_of}, Ways.IsWay}
@@ -19,7 +19,7 @@ pub record AreAlike (t u : Trial) : Type 0 where
 
 -- ---- one row
 
-least_one : {gamma beta : ℕ} {slot other : Slot} {from after : ℕ} {rows more : List Taken} {o p : ℕ} → gamma ≡ beta
+least_one : {gamma beta : ℕ} {slot other : MessageRow} {from after : ℕ} {rows more : List Taken} {o p : ℕ} → gamma ≡ beta
     → slot ≡ other → from ≡ after → rows ≡ more → IsLeastOffset gamma slot from rows o
     → IsLeastOffset beta other after more p → o ≡ p
 least_one {gamma} {beta} {slot} {other} {from} {after} {more} {o} {p} same_gamma same_slot same_from same_rows one two =
@@ -31,7 +31,7 @@ least_one {gamma} {beta} {slot} {other} {from} {after} {more} {o} {p} same_gamma
     let more = two.least o here.not_before here.clear in
     omega (arith, less, more)
 
-abbrev slot_by : Hop → Network → Message → ℕ → Slot
+abbrev slot_by : Hop → Network → Message → ℕ → MessageRow
 slot_by hop network m phase = record { link = hop.link; way = hop.way; period = m.period; phase = phase; port = port_on network m.length hop.link }
 
 slots_same : {t u : Trial} (hop : Hop) → AreAlike t u → slot_of t hop ≡ slot_of u hop

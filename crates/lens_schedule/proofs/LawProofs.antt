@@ -1,6 +1,6 @@
 -- What the lines of the picture say of the schedule.
 use Rattle.lens_schedule.specs.{Frames.frame_of, Laws.{BoxesStandApart, PlacesGrow, WindowsAreThose}, declared.scale.Scale.Scale}
-use Rattle.{lens_svg.specs.declared.element.Point.Point, net_plan.specs.declared.network.Network.Network}
+use Rattle.{lens_svg.specs.declared.element.PicturePoint.PicturePoint, net_plan.specs.declared.network.Network.Network}
 use Rattle.net_plan.{proofs.{Beta.beta_exists, Shape.rules_give_trees}, specs.Bounds.{IsBeta, beta_at}}
 use Rattle.schedule_tables.{proofs.{Entries.begun_below, Margins.shape_rules}, specs.{Entries.IsEntry, Rules.KeepsRules, Schedule.{Coincide, IsClearBefore}}}
 use Rattle.schedule_tables.specs.{Windows.{arrival_of, port_time, tolerance}, declared.{entry.Entry.Entry, rule.Rule.TheVariants.{Precision, ScheduleStart, Spacing}}}
@@ -34,12 +34,12 @@ in_order : {network : Network} {j k : ℕ} {first second : Entry} → KeepsRules
 in_order {j} {k} {first} {second} keeps is its lt link way meet =
     keeps Spacing k j first second lt is its (sym link) (sym way) (turned first second meet)
 
-clear : (network : Network) (scale : Scale) (at : Point) (first second : Entry) → IsClearBefore network first second
+clear : (network : Network) (scale : Scale) (at : PicturePoint) (first second : Entry) → IsClearBefore network first second
     → (frame_of network scale at first).port.to ≤ (frame_of network scale at second).port.from
 clear network scale at first second before =
     places_grow scale (amount first.row.offset + port_time first) (amount second.row.offset) (omega (arith, before))
 
-either : (network : Network) (scale : Scale) (at : Point) (first second : Entry)
+either : (network : Network) (scale : Scale) (at : PicturePoint) (first second : Entry)
     → IsClearBefore network first second ⊎ IsClearBefore network second first
     → ((frame_of network scale at first).port.to ≤ (frame_of network scale at second).port.from)
     ⊎ ((frame_of network scale at second).port.to ≤ (frame_of network scale at first).port.from)

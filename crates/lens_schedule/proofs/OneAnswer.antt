@@ -1,5 +1,5 @@
 -- A network has one answer of `draw`.
-use Rattle.lens_schedule.{proofs.TwigLists.twigs_once, specs.{Answer.{IsScheduleOf, picture_answer}, declared.part.Part.Part}}
+use Rattle.lens_schedule.{proofs.TwigLists.twigs_once, specs.{Answer.{IsScheduleOf, picture_answer}, declared.part.SchedulePart.SchedulePart}}
 use Rattle.lens_svg.specs.Titles.{title_of}
 use Rattle.lens_schedule.specs.Picture.{IsPicture, picture_of}
 use Rattle.{net_plan.{proofs.Trees.paths_are_unique, specs.{Paths.IsTree, declared.network.Network.Network}}, tte_forms.specs.Answering.Answer}
@@ -21,7 +21,7 @@ entries_once {network} (e ∷ es) fs one p q =
     (q.each i (get_or fs i e) (slice_get-get_or fs i e (omega (arith, lt, long)))))
 
 -- and one picture
-picture_once : {network : Network} {entries : List Entry} {ps qs : List Part} → IsTree network
+picture_once : {network : Network} {entries : List Entry} {ps qs : List SchedulePart} → IsTree network
     → IsPicture network entries ps → IsPicture network entries qs → ps ≡ qs
 picture_once {network} {entries} tree p q =
     let a = twigs_once network A (length network.device) p.a q.a paths_are_unique tree p.of_a q.of_a in

@@ -2,7 +2,7 @@
 use Rattle.lens_schedule.specs.Lanes.{column_by, lane_at, lane_of, lanes_below, lanes_of, leaves_by, link_of, port_number, way_of}
 use Rattle.lens_schedule.specs.{Answer.IsScheduleOf, Laws.RowsAreShown, Lines.{lane_line, part_line}, Scale.scale_of}
 use Rattle.lens_schedule.specs.Picture.{cycle_parts, frame_part, front_parts, full_parts, lane_part, lane_place, picture_of, sheet_of, twig_part, zone_parts}
-use Rattle.lens_schedule.specs.declared.{lanes.Lane.Lane, part.Part.{Part, TheVariants.{Bare, Close}}, picture.Sheet.Sheet, tree.Twig.Twig}
+use Rattle.lens_schedule.specs.declared.{lanes.Lane.Lane, part.SchedulePart.{SchedulePart, TheVariants.{Bare, Close}}, picture.Sheet.Sheet, tree.Twig.Twig}
 use Rattle.{lens_svg.specs.Titles.title_of, tte_forms.specs.Answering.Answer}
 use Rattle.net_plan.specs.declared.{ids.LinkId.LinkId, network.Network.Network, tables.Way.{Way, TheVariants.{Down, Up}}}
 use Rattle.schedule_tables.{proofs.EntryLemmas.one_entry, specs.{Entries.{AreEntries, IsEntry}, declared.entry.Entry.Entry}}
@@ -58,12 +58,12 @@ in_lanes network entries port (suc n) any lt =
           (subst (λ m. Contains (lane_at network entries m) lane) same here)
     ]
 
-of_two : (b : Bool) (ps qs : List Part) (part : Part) → b ≡ false → Contains qs part → Contains (if b then ps else qs) part
+of_two : (b : Bool) (ps qs : List SchedulePart) (part : SchedulePart) → b ≡ false → Contains qs part → Contains (if b then ps else qs) part
 of_two true ps qs part is at = absurd (false≢true (sym is))
 of_two false ps qs part is at = at
 
 -- a part of the cycle is one of the picture, where there are rows
-in_cycle : (network : Network) (entries : List Entry) (lanes : List Lane) (sheet : Sheet) (entry : Entry) (part : Part) → Contains entries entry
+in_cycle : (network : Network) (entries : List Entry) (lanes : List Lane) (sheet : Sheet) (entry : Entry) (part : SchedulePart) → Contains entries entry
     → Contains (full_parts network (scale_of network entries) entries lanes sheet) part → Contains (cycle_parts network entries lanes sheet) part
 in_cycle network entries lanes sheet entry part some at =
     elim (eqb_tells (length entries) 0) [
@@ -72,7 +72,7 @@ in_cycle network entries lanes sheet entry part some at =
           of_two (length entries == 0) (Bare sheet.top ∷ []) (full_parts network (scale_of network entries) entries lanes sheet) part full.0 at
     ]
 
-in_picture : (network : Network) (entries : List Entry) (a b : List Twig) (part : Part)
+in_picture : (network : Network) (entries : List Entry) (a b : List Twig) (part : SchedulePart)
     → Contains (cycle_parts network entries (lanes_of network entries) (sheet_of network (lanes_of network entries) a b)) part
     → Contains (picture_of network entries a b) part
 in_picture network entries a b part at =
@@ -83,13 +83,13 @@ in_picture network entries a b part at =
     Contains-append_left (before ++ cycle) (Close ∷ []) part (Contains-append_right before cycle part at)
 
 -- a part of the picture has its line
-in_lines : {words : List (List ℕ)} {network : Network} {a : Answer} (of : IsScheduleOf words network a) (part : Part)
+in_lines : {words : List (List ℕ)} {network : Network} {a : Answer} (of : IsScheduleOf words network a) (part : SchedulePart)
     → Contains (picture_of network of.entries of.picture.a of.picture.b) part
     → Contains a.lines (part_line network (title_of words) part)
 in_lines {words} {network} {a} of part at =
     let whole = picture_of network of.entries of.picture.a of.picture.b in
     let lines : a.lines ≡ map (part_line network (title_of words)) whole =
-    ap (λ (x : Answer). x.lines) of.is ∙ ap (λ (ps : List Part). map (part_line network (title_of words)) ps) of.picture.is in
+    ap (λ (x : Answer). x.lines) of.is ∙ ap (λ (ps : List SchedulePart). map (part_line network (title_of words)) ps) of.picture.is in
     subst (λ (ls : List (List ℕ)). Contains ls (part_line network (title_of words) part)) (sym lines) (map_in (part_line network (title_of words)) whole part at)
 
 pub rows_shown : RowsAreShown
@@ -113,7 +113,7 @@ rows_shown words network a of k entry is =
     let railed =
     Contains-append_left (zones ++ rails) boxes (lane_part lanes sheet.top lane)
     (Contains-append_right zones rails (lane_part lanes sheet.top lane) (map_in (lane_part lanes sheet.top) lanes lane with)) in
-    let show : (part : Part) → Contains (full_parts network scale entries lanes sheet) part → Contains a.lines (part_line network (title_of words) part) =
+    let show : (part : SchedulePart) → Contains (full_parts network scale entries lanes sheet) part → Contains a.lines (part_line network (title_of words) part) =
     λ part at. in_lines of part
     (in_picture network entries of.picture.a of.picture.b part (in_cycle network entries lanes sheet entry part here at)) in
     let same : lane_place lanes sheet.top lane.column (port_number lane.link lane.way)

@@ -1,7 +1,7 @@
 -- The frame of a row in the lane of its port.
 use Rattle.std.specs.Prelude.{◌%◌, ◌*◌, ◌+◌, ◌-◌, ◌/◌, max, min, ℕ}
 use Rattle.lens_schedule.specs.{Scale.x_of, declared.{frames.{Frame.Frame, Stroke.Stroke}, scale.Scale.Scale}}
-use Rattle.{lens_svg.specs.declared.element.Point.Point, net_plan.specs.declared.network.Network.Network}
+use Rattle.{lens_svg.specs.declared.element.PicturePoint.PicturePoint, net_plan.specs.declared.network.Network.Network}
 use Rattle.schedule_tables.specs.{Windows.{arrival_of, port_time, tolerance, window_end}, declared.entry.Entry.Entry}
 use Rattle.tte_units.specs.Amount.{amount}
 
@@ -23,7 +23,7 @@ abbrev pub stroke_of : Scale → ℕ → ℕ → Stroke
 stroke_of scale from to = record { from = x_of scale from; to = x_of scale to }
 
 -- its box is as long as it occupies its port, its window as long as that of the receiver
-abbrev pub frame_of : Network → Scale → Point → Entry → Frame
+abbrev pub frame_of : Network → Scale → PicturePoint → Entry → Frame
 frame_of network scale at entry = record {
   vl = entry.row.vl;
   link = entry.row.link;

@@ -3,15 +3,15 @@ use Rattle.std.specs.Option.{option_map_or}
 use Rattle.std.specs.Prelude.{◌%◌, ◌++◌, ◌/◌, List, None, Option, Some, [], codes, decimal, ℕ}
 use Rattle.lens_schedule.specs.Frames.{height_of, seat_of}
 use Rattle.lens_schedule.specs.declared.{frames.{Frame.Frame, Stroke.Stroke}, lanes.Lane.Lane}
-use Rattle.lens_schedule.specs.declared.{part.Part.Part, tree.Twig.Twig, zones.{Stretch.Stretch, Zone.Zone}}
-use Rattle.lens_schedule.specs.declared.part.Part.TheVariants.{Bare, Caption, Close, Head, Heading, Opening}
-use Rattle.lens_schedule.specs.declared.zones.Stretch.TheVariants.{Control, Late, Rest, Schedule}
-use Rattle.lens_svg.specs.{Elements.{opening_line, role_word}, Numbers.micros_text, Titles.{heading_line, title_line}, declared.element.Point.Point}
+use Rattle.lens_schedule.specs.declared.{part.SchedulePart.SchedulePart, tree.Twig.Twig, zones.{CycleStretch.CycleStretch, Zone.Zone}}
+use Rattle.lens_schedule.specs.declared.part.SchedulePart.TheVariants.{Bare, Caption, Close, Head, Heading, Opening}
+use Rattle.lens_schedule.specs.declared.zones.CycleStretch.TheVariants.{Control, Late, Rest, Schedule}
+use Rattle.lens_svg.specs.{Elements.{opening_line, role_word}, Numbers.micros_text, Titles.{heading_line, title_line}, declared.element.PicturePoint.PicturePoint}
 use Rattle.net_plan.specs.{Belonging.{device_name, link_name, vl_name}, Places.device_at}
 use Rattle.net_plan.specs.declared.{ids.{DeviceId.DeviceId, LinkId.LinkId, VlId.VlId}, network.Network.Network}
 use Rattle.trace_text.specs.EventWords.{way_text}
 use Rattle.tte_units.specs.Amount.{amount}
-use Rattle.lens_schedule.specs.declared.part.Part.TheVariants as parts
+use Rattle.lens_schedule.specs.declared.part.SchedulePart.TheVariants as parts
 
 -- the colours, the background and the names of the channels
 abbrev pub head_line : List ℕ
@@ -32,7 +32,7 @@ head_line =
     ++ codes "<text class=\"name\" x=\"962\" y=\"66\">channel b</text>\n"
 
 -- where a group of signs is
-unfoldable pub place_text : Point → List ℕ
+unfoldable pub place_text : PicturePoint → List ℕ
 place_text point =
     codes " transform=\"translate(" ++ decimal point.x ++ codes " " ++ decimal point.y ++ codes ")\""
 
@@ -59,13 +59,13 @@ link_text network None = []
 link_text network (Some link) = codes " by " ++ link_name network link
 
 -- the line from the parent
-unfoldable pub branch_text : Point → ℕ → List ℕ
+unfoldable pub branch_text : PicturePoint → ℕ → List ℕ
 branch_text at above =
     codes "<path class=\"twig\" d=\"M" ++ decimal at.x ++ codes " " ++ decimal above ++ codes " m0 5 V"
     ++ decimal at.y ++ codes " h9\"/>"
 
 -- a device beside it
-unfoldable pub device_text : Network → DeviceId → Point → List ℕ
+unfoldable pub device_text : Network → DeviceId → PicturePoint → List ℕ
 device_text network device at =
     codes "<text class=\"name " ++ role_of network device ++ codes "\" x=\"12\" y=\"3\"" ++ place_text at ++ codes ">"
     ++ device_name network device
@@ -77,12 +77,12 @@ origin_text network device link =
     ++ codes "</tspan></text>\n"
 
 -- a device in the tree of its channel
-unfoldable pub twig_line : Network → Twig → Point → ℕ → List ℕ
+unfoldable pub twig_line : Network → Twig → PicturePoint → ℕ → List ℕ
 twig_line network twig at above =
     branch_text at above ++ device_text network twig.device at ++ origin_text network twig.device twig.link
 
 -- the beginning of a group in the colour of the virtual link
-unfoldable pub group_text : VlId → Point → List ℕ
+unfoldable pub group_text : VlId → PicturePoint → List ℕ
 group_text vl at = codes "<g class=\"v" ++ decimal (vl.0 % 8) ++ codes "\"" ++ place_text at ++ codes ">"
 
 -- in which cycles frames come
@@ -94,26 +94,26 @@ unfoldable pub bare_line : ℕ → List ℕ
 bare_line y = codes "<text class=\"note\" x=\"12\" y=\"" ++ decimal y ++ codes "\">The schedule has no rows.</text>\n"
 
 -- what a stretch is drawn as, what comes in it, and what is where it ends
-abbrev pub stretch_word : Stretch → List ℕ
+abbrev pub stretch_word : CycleStretch → List ℕ
 stretch_word Control = codes "control"
 stretch_word Late = codes "late"
 stretch_word Schedule = codes "schedule"
 stretch_word Rest = codes "rest"
 
-abbrev pub stretch_text : Stretch → List ℕ
+abbrev pub stretch_text : CycleStretch → List ℕ
 stretch_text Control = codes "control frames"
 stretch_text Late = codes "late frames"
 stretch_text Schedule = codes "schedule"
 stretch_text Rest = codes ""
 
-abbrev pub end_text : Stretch → List ℕ
+abbrev pub end_text : CycleStretch → List ℕ
 end_text Control = codes "clocks are set"
 end_text Late = codes "schedule begins"
 end_text Schedule = codes "last window ends"
 end_text Rest = codes "cycle ends"
 
 -- the upper left corner and the right side of a stretch, and the others
-unfoldable pub ground_begin : Stretch → Point → ℕ → List ℕ
+unfoldable pub ground_begin : CycleStretch → PicturePoint → ℕ → List ℕ
 ground_begin stretch from right =
     codes "<path class=\"" ++ stretch_word stretch ++ codes "\" d=\"M" ++ decimal from.x ++ codes " " ++ decimal from.y
     ++ codes " H" ++ decimal right
@@ -122,12 +122,12 @@ unfoldable pub ground_rest : ℕ → ℕ → List ℕ
 ground_rest bottom left = codes " V" ++ decimal bottom ++ codes " H" ++ decimal left ++ codes " z\"/>"
 
 -- what comes in it
-unfoldable pub zone_begin : Stretch → Point → List ℕ
+unfoldable pub zone_begin : CycleStretch → PicturePoint → List ℕ
 zone_begin stretch at =
     codes "<text x=\"2\" y=\"-4\"" ++ place_text at ++ codes ">" ++ stretch_text stretch ++ codes "</text>"
 
 -- when it ends, and what is there
-unfoldable pub zone_end : Stretch → Point → ℕ → List ℕ
+unfoldable pub zone_end : CycleStretch → PicturePoint → ℕ → List ℕ
 zone_end stretch at time =
     codes "<text class=\"end\"" ++ place_text at ++ codes "><tspan x=\"0\" y=\"14\">" ++ micros_text time
     ++ codes " us</tspan><tspan x=\"0\" y=\"26\">" ++ end_text stretch ++ codes "</tspan></text>\n"
@@ -144,11 +144,11 @@ percent_text load =
     decimal (load / 100) ++ codes "." ++ decimal (load / 10 % 10) ++ decimal (load % 10) ++ codes " %"
 
 -- where a lane begins, with its line
-unfoldable pub rail_text : Point → List ℕ
+unfoldable pub rail_text : PicturePoint → List ℕ
 rail_text at = codes "<g" ++ place_text at ++ codes "><path class=\"rail\" d=\"M160 19.5 H930\"/>"
 
 -- a port with its lane
-unfoldable pub lane_line : Network → Lane → Point → List ℕ
+unfoldable pub lane_line : Network → Lane → PicturePoint → List ℕ
 lane_line network lane at =
     rail_text at ++ codes "<text class=\"port\" x=\"114\" y=\"13\">" ++ link_name network lane.link ++ codes " "
     ++ way_text lane.way ++ codes "</text><text class=\"load\" x=\"156\" y=\"13\">" ++ percent_text lane.load
@@ -184,7 +184,7 @@ frame_line network frame =
     group_text frame.vl frame.at ++ row_text network frame ++ times_text frame ++ boxes_text frame
 
 -- the line of a part
-abbrev pub part_line : Network → List ℕ → Part → List ℕ
+abbrev pub part_line : Network → List ℕ → SchedulePart → List ℕ
 part_line network title (Opening width height) = opening_line width height
 part_line network title parts.Title = title_line title
 part_line network title Heading = heading_line title

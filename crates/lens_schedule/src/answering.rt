@@ -5,7 +5,7 @@ ghost use Rattle.tte_forms.specs.{Answering.{AnswersOne, Gives, GivesAnswer}, ne
 ghost use Rattle.tte_forms.specs.Faults.{HasCause, IsWanted, PutFailed, ReadFailed};
 ghost use Rattle.tte_forms.specs.{Taking.TakesUpTo, frames.Answer.file_limit};
 
-use crate::Part;
+use crate::SchedulePart;
 use crate::picture::picture_of;
 use crate::text::make_part_line;
 use lens_svg::Title;
@@ -68,20 +68,25 @@ struct PartLines<'a> {
     title: &'a Title,
 }
 
-impl LineMaker<Part> for PartLines<'_> {
+impl LineMaker<SchedulePart> for PartLines<'_> {
     ghost fit = { λ lines. IsInRange lines.network.now };
 
     ghost takes = { λ lines part. Unit {0} };
 
     ghost text = { λ lines part. part_line lines.network.now lines.title.now part };
 
-    fn make(&self, line: &mut LineText, thing: &Part) {
+    fn make(&self, line: &mut LineText, thing: &SchedulePart) {
         make_part_line(line, self.network, self.title, thing);
     }
 }
 
 /// Puts the line of each part, and passes them on.
-fn put_parts<K: Sink>(network: &Network, title: &Title, parts: &[Part], out: &mut K) -> Status
+fn put_parts<K: Sink>(
+    network: &Network,
+    title: &Title,
+    parts: &[SchedulePart],
+    out: &mut K,
+) -> Status
     requires { IsInRange network.now }
     ensures gives { Over K.Sink out.old out.new (Gives (picture_answer network.now title.now parts.now) result) }
     ensures status { IsWanted Status.Done result (PutFailed K.Sink out.old out.new) }

@@ -5,7 +5,7 @@ ghost use Rattle.{net_plan.specs.Ranges.IsInRange, schedule_tables.specs.Entries
 ghost use Rattle.schedule_tables.specs.Windows.{port_time, window_end};
 
 use crate::Scale;
-use lens_svg::Point;
+use lens_svg::PicturePoint;
 use net_plan::{LinkId, Network, VlId, Way};
 use schedule_tables::{Entry, arrival_of, tolerance};
 
@@ -30,7 +30,7 @@ pub struct Frame {
     pub to: u64,
     pub port: Stroke,
     pub window: Stroke,
-    pub at: Point,
+    pub at: PicturePoint,
 }
 
 /// How far down in its lane a frame stands. Frames that never come in one cycle do not overlap, where their periods are
@@ -88,7 +88,7 @@ fn window_begin(network: &Network, entry: &Entry) -> u64
 }
 
 /// The frame of a row.
-pub(crate) fn frame_of(network: &Network, scale: Scale, at: Point, entry: &Entry) -> Frame
+pub(crate) fn frame_of(network: &Network, scale: Scale, at: PicturePoint, entry: &Entry) -> Frame
     requires range { IsInRange network.now }
     requires entry { IsEntryInRange network.now entry.now }
     requires scale { scale.end ≤ 2 ^ 50 }

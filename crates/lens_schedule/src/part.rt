@@ -1,11 +1,11 @@
 //! What is drawn, each as a line.
 
 use crate::{Frame, Lane, Twig, Zone};
-use lens_svg::Point;
+use lens_svg::PicturePoint;
 
 /// Something that is drawn.
 #[derive(Clone, Copy)]
-pub enum Part {
+pub enum SchedulePart {
     /// The beginning of the picture: how wide and how high it is.
     Opening(u64, u64),
     /// The name of the picture.
@@ -17,13 +17,13 @@ pub enum Part {
     /// The numbers of the network, with the count of its rows.
     Caption(u64),
     /// A device in the tree of a channel: its place, and how far down its parent's is.
-    Twig(Twig, Point, u64),
+    Twig(Twig, PicturePoint, u64),
     /// That there are no rows, so far down.
     Bare(u64),
     /// A stretch of the cycle.
     Zone(Zone),
     /// A port with its lane.
-    Lane(Lane, Point),
+    Lane(Lane, PicturePoint),
     /// A row's frame in the lane of its port.
     Frame(Frame),
     /// The end of the picture.

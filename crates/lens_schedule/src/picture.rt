@@ -9,8 +9,8 @@ use crate::frames::frame_of;
 use crate::lanes::{column_by, column_of, lanes_before, lanes_of, port_number};
 use crate::tree::{twigs_before, twigs_of};
 use crate::zones::stretches;
-use crate::{Lane, Part, Scale, Twig};
-use lens_svg::Point;
+use crate::{Lane, Scale, SchedulePart, Twig};
+use lens_svg::PicturePoint;
 use net_plan::Network;
 use schedule_tables::Entry;
 use std::alloc::{AllocError, Global};
@@ -53,19 +53,19 @@ fn sheet_of(network: &Network, lanes: &[Lane], a: &[Twig], b: &[Twig]) -> Sheet
 }
 
 /// A device in the tree of its channel.
-fn twig_part(twigs: &[Twig], twig: Twig) -> Part
+fn twig_part(twigs: &[Twig], twig: Twig) -> SchedulePart
     requires { length twigs.now ≤ 2 ^ 40 }
     ensures { result ≡ twig_part twigs.now twig }
 {
-    let at = Point {
+    let at = PicturePoint {
         x: twig.x,
         y: tree_y(twigs_before(twigs, twig.place)),
     };
-    Part::Twig(twig, at, tree_y(twigs_before(twigs, twig.parent)))
+    SchedulePart::Twig(twig, at, tree_y(twigs_before(twigs, twig.parent)))
 }
 
 /// Adds the devices of a channel.
-fn push_twigs(parts: &mut Vec<Part>, twigs: &[Twig]) -> Result<(), AllocError>
+fn push_twigs(parts: &mut Vec<SchedulePart>, twigs: &[Twig]) -> Result<(), AllocError>
     requires { length twigs.now ≤ 2 ^ 40 }
     ensures { OnOk result (parts.new.items ≡ parts.old.items ++ map (twig_part twigs.now) twigs.now) }
 {
@@ -77,7 +77,7 @@ fn push_twigs(parts: &mut Vec<Part>, twigs: &[Twig]) -> Result<(), AllocError>
 
 /// Adds the stretches of the cycle in the column of a channel.
 fn push_zones(
-    parts: &mut Vec<Part>,
+    parts: &mut Vec<SchedulePart>,
     network: &Network,
     scale: Scale,
     sheet: Sheet,
@@ -90,35 +90,35 @@ fn push_zones(
     let all = stretches();
     'stretches: for stretch in all {
         let zone = stretch.zone(network, scale, column_of(channel), sheet.top, sheet.bottom);
-        parts.push(Part::Zone(zone))?;
+        parts.push(SchedulePart::Zone(zone))?;
     }
     Ok(())
 }
 
 /// Where the lane of a port begins.
-fn lane_place(lanes: &[Lane], top: u64, column: u64, port: u64) -> Point
+fn lane_place(lanes: &[Lane], top: u64, column: u64, port: u64) -> PicturePoint
     requires lanes { length lanes.now ≤ 2 ^ 40 }
     requires top { top ≤ 2 ^ 46 }
     ensures { result ≡ lane_place lanes.now top column port }
 {
-    Point {
+    PicturePoint {
         x: column,
         y: top + 20 * lanes_before(lanes, column, port),
     }
 }
 
 /// A port in its lane.
-fn lane_part(lanes: &[Lane], top: u64, lane: Lane) -> Part
+fn lane_part(lanes: &[Lane], top: u64, lane: Lane) -> SchedulePart
     requires lanes { length lanes.now ≤ 2 ^ 40 }
     requires top { top ≤ 2 ^ 46 }
     ensures { result ≡ lane_part lanes.now top lane }
 {
     let port = port_number(lane.link, lane.way);
-    Part::Lane(lane, lane_place(lanes, top, lane.column, port))
+    SchedulePart::Lane(lane, lane_place(lanes, top, lane.column, port))
 }
 
 /// Adds the ports.
-fn push_lanes(parts: &mut Vec<Part>, lanes: &[Lane], top: u64) -> Result<(), AllocError>
+fn push_lanes(parts: &mut Vec<SchedulePart>, lanes: &[Lane], top: u64) -> Result<(), AllocError>
     requires lanes { length lanes.now ≤ 2 ^ 40 }
     requires top { top ≤ 2 ^ 46 }
     ensures { OnOk result (parts.new.items ≡ parts.old.items ++ map (lane_part lanes.now top) lanes.now) }
@@ -130,7 +130,13 @@ fn push_lanes(parts: &mut Vec<Part>, lanes: &[Lane], top: u64) -> Result<(), All
 }
 
 /// A row's frame in the lane of its port.
-fn frame_part(network: &Network, scale: Scale, lanes: &[Lane], top: u64, entry: &Entry) -> Part
+fn frame_part(
+    network: &Network,
+    scale: Scale,
+    lanes: &[Lane],
+    top: u64,
+    entry: &Entry,
+) -> SchedulePart
     requires range { IsInRange network.now }
     requires entry { IsEntryInRange network.now entry.now }
     requires scale { scale.end ≤ 2 ^ 50 }
@@ -140,12 +146,12 @@ fn frame_part(network: &Network, scale: Scale, lanes: &[Lane], top: u64, entry: 
 {
     let port = port_number(entry.row.link, entry.row.way);
     let at = lane_place(lanes, top, column_by(network, entry.row.link), port);
-    Part::Frame(frame_of(network, scale, at, entry))
+    SchedulePart::Frame(frame_of(network, scale, at, entry))
 }
 
 /// Adds the frames.
 fn push_frames(
-    parts: &mut Vec<Part>,
+    parts: &mut Vec<SchedulePart>,
     network: &Network,
     scale: Scale,
     lanes: &[Lane],
@@ -168,7 +174,7 @@ fn push_frames(
 
 /// Adds the cycle with its lanes and frames.
 fn push_full(
-    parts: &mut Vec<Part>,
+    parts: &mut Vec<SchedulePart>,
     network: &Network,
     scale: Scale,
     entries: &[Entry],
@@ -192,7 +198,7 @@ fn push_full(
 
 /// Adds the cycle, or that there are no rows.
 fn push_cycle(
-    parts: &mut Vec<Part>,
+    parts: &mut Vec<SchedulePart>,
     network: &Network,
     entries: &[Entry],
     lanes: &[Lane],
@@ -205,7 +211,7 @@ fn push_cycle(
     ensures { OnOk result (parts.new.items ≡ parts.old.items ++ cycle_parts network.now entries.now lanes.now sheet) }
 {
     if entries.len() == 0 {
-        parts.push(Part::Bare(sheet.top))?;
+        parts.push(SchedulePart::Bare(sheet.top))?;
         Ok(())
     } else {
         push_full(
@@ -220,15 +226,15 @@ fn push_cycle(
 }
 
 /// Adds the beginning: how high the picture is, what each has, and the numbers of the network.
-fn push_front(parts: &mut Vec<Part>, sheet: Sheet, rows: u64) -> Result<(), AllocError>
+fn push_front(parts: &mut Vec<SchedulePart>, sheet: Sheet, rows: u64) -> Result<(), AllocError>
     requires { IsSmall sheet }
     ensures { OnOk result (parts.new.items ≡ parts.old.items ++ front_parts sheet rows) }
 {
-    parts.push(Part::Opening(1900, sheet.bottom + 40))?;
-    parts.push(Part::Title)?;
-    parts.push(Part::Head)?;
-    parts.push(Part::Heading)?;
-    parts.push(Part::Caption(rows))?;
+    parts.push(SchedulePart::Opening(1900, sheet.bottom + 40))?;
+    parts.push(SchedulePart::Title)?;
+    parts.push(SchedulePart::Head)?;
+    parts.push(SchedulePart::Heading)?;
+    parts.push(SchedulePart::Caption(rows))?;
     Ok(())
 }
 
@@ -240,7 +246,7 @@ fn parts_of(
     lanes: &[Lane],
     a: &[Twig],
     b: &[Twig],
-) -> Result<Vec<Part>, AllocError>
+) -> Result<Vec<SchedulePart>, AllocError>
     requires range { IsInRange network.now }
     requires rows { All (IsEntryInRange network.now) entries.now }
     requires lanes { length lanes.now ≤ 2 ^ 40 }
@@ -254,7 +260,7 @@ fn parts_of(
     push_twigs(&mut parts, a)?;
     push_twigs(&mut parts, b)?;
     push_cycle(&mut parts, network, entries, lanes, sheet)?;
-    parts.push(Part::Close)?;
+    parts.push(SchedulePart::Close)?;
     Ok(parts)
 }
 
@@ -263,7 +269,7 @@ pub(crate) fn picture_of(
     alloc: Global,
     network: &Network,
     entries: &[Entry],
-) -> Result<Vec<Part>, AllocError>
+) -> Result<Vec<SchedulePart>, AllocError>
     requires range { IsInRange network.now }
     requires tree { IsTree network.now }
     requires links { length network.now.link ≤ 128 }

@@ -11,10 +11,10 @@ ghost use Rattle.tte_io.specs.Line.{line_limit};
 ghost use Rattle.net_plan.specs.Ranges.{IsInRange};
 
 use crate::frames::{height_of, seat_of};
-use crate::{Frame, Lane, Part, Stretch, Stroke, Twig, Zone};
+use crate::{CycleStretch, Frame, Lane, SchedulePart, Stroke, Twig, Zone};
 use lens_svg::{
-    Element, Point, Title, make_element_line, make_heading_line, make_title_line, push_device,
-    push_link, push_micros, push_vl, role_word,
+    Element, PicturePoint, Title, make_element_line, make_heading_line, make_title_line,
+    push_device, push_link, push_micros, push_vl, role_word,
 };
 use net_plan::{DeviceId, LinkId, Network, VlId};
 use trace_text::way_text;
@@ -45,7 +45,7 @@ fn head_text() -> &'static str
 
 /// Adds where a group of signs is: at most 70 octets.
 #[tactic(auto, unfolding(crate::specs::Lines::place_text))]
-fn push_place(line: &mut LineText, point: Point)
+fn push_place(line: &mut LineText, point: PicturePoint)
     requires { length line.old + 70 ≤ line_limit }
     ensures text { line.new ≡ line.old ++ place_text point }
     ensures grows { length line.new ≤ length line.old + 70 }
@@ -115,7 +115,7 @@ fn push_uplink(line: &mut LineText, network: &Network, link: Option<LinkId>)
 
 /// Adds the line from the parent: at most 100 octets.
 #[tactic(auto, unfolding(crate::specs::Lines::branch_text))]
-fn push_branch(line: &mut LineText, at: Point, above: u64)
+fn push_branch(line: &mut LineText, at: PicturePoint, above: u64)
     requires { length line.old + 100 ≤ line_limit }
     ensures text { line.new ≡ line.old ++ branch_text at above }
     ensures grows { length line.new ≤ length line.old + 100 }
@@ -132,7 +132,7 @@ fn push_branch(line: &mut LineText, at: Point, above: u64)
 
 /// Adds a device beside it: at most 140 octets.
 #[tactic(auto, unfolding(crate::specs::Lines::device_text))]
-fn push_beside(line: &mut LineText, network: &Network, device: DeviceId, at: Point)
+fn push_beside(line: &mut LineText, network: &Network, device: DeviceId, at: PicturePoint)
     requires range { IsInRange network.now }
     requires room { length line.old + 140 ≤ line_limit }
     ensures text { line.new ≡ line.old ++ device_text network.now device at }
@@ -161,7 +161,7 @@ fn push_origin(line: &mut LineText, network: &Network, device: DeviceId, link: O
 }
 
 #[tactic(auto, unfolding(crate::specs::Lines::twig_line))]
-fn make_twig(line: &mut LineText, network: &Network, twig: &Twig, at: Point, above: u64)
+fn make_twig(line: &mut LineText, network: &Network, twig: &Twig, at: PicturePoint, above: u64)
     requires { IsInRange network.now }
     ensures { line.new ≡ twig_line network.now twig.now at above }
 {
@@ -173,7 +173,7 @@ fn make_twig(line: &mut LineText, network: &Network, twig: &Twig, at: Point, abo
 
 /// Adds the beginning of a group in the colour of the virtual link: at most 110 octets.
 #[tactic(auto, unfolding(crate::specs::Lines::group_text))]
-fn push_group(line: &mut LineText, vl: VlId, at: Point)
+fn push_group(line: &mut LineText, vl: VlId, at: PicturePoint)
     requires { length line.old + 110 ≤ line_limit }
     ensures text { line.new ≡ line.old ++ group_text vl at }
     ensures grows { length line.new ≤ length line.old + 110 }
@@ -209,47 +209,47 @@ fn make_bare(line: &mut LineText, y: u64)
 }
 
 /// What a stretch is drawn as.
-fn stretch_word(stretch: Stretch) -> &'static str
+fn stretch_word(stretch: CycleStretch) -> &'static str
     ensures text { result.now ≡ stretch_word stretch }
     ensures short { length result.now ≤ 20 }
 {
     match stretch {
-        Stretch::Control => "control",
-        Stretch::Late => "late",
-        Stretch::Schedule => "schedule",
-        Stretch::Rest => "rest",
+        CycleStretch::Control => "control",
+        CycleStretch::Late => "late",
+        CycleStretch::Schedule => "schedule",
+        CycleStretch::Rest => "rest",
     }
 }
 
 /// What comes in it.
-fn stretch_text(stretch: Stretch) -> &'static str
+fn stretch_text(stretch: CycleStretch) -> &'static str
     ensures text { result.now ≡ stretch_text stretch }
     ensures short { length result.now ≤ 20 }
 {
     match stretch {
-        Stretch::Control => "control frames",
-        Stretch::Late => "late frames",
-        Stretch::Schedule => "schedule",
-        Stretch::Rest => "",
+        CycleStretch::Control => "control frames",
+        CycleStretch::Late => "late frames",
+        CycleStretch::Schedule => "schedule",
+        CycleStretch::Rest => "",
     }
 }
 
 /// What is where it ends.
-fn end_text(stretch: Stretch) -> &'static str
+fn end_text(stretch: CycleStretch) -> &'static str
     ensures text { result.now ≡ end_text stretch }
     ensures short { length result.now ≤ 20 }
 {
     match stretch {
-        Stretch::Control => "clocks are set",
-        Stretch::Late => "schedule begins",
-        Stretch::Schedule => "last window ends",
-        Stretch::Rest => "cycle ends",
+        CycleStretch::Control => "clocks are set",
+        CycleStretch::Late => "schedule begins",
+        CycleStretch::Schedule => "last window ends",
+        CycleStretch::Rest => "cycle ends",
     }
 }
 
 /// Makes the upper left corner and the right side of a stretch: at most 120 octets.
 #[tactic(auto, unfolding(crate::specs::Lines::ground_begin))]
-fn make_ground(line: &mut LineText, stretch: Stretch, from: Point, right: u64)
+fn make_ground(line: &mut LineText, stretch: CycleStretch, from: PicturePoint, right: u64)
     ensures text { line.new ≡ ground_begin stretch from right }
     ensures short { length line.new ≤ 120 }
 {
@@ -280,7 +280,7 @@ fn push_ground(line: &mut LineText, bottom: u64, left: u64)
 
 /// Adds what comes in it: at most 130 octets.
 #[tactic(auto, unfolding(crate::specs::Lines::zone_begin))]
-fn push_begin(line: &mut LineText, stretch: Stretch, at: Point)
+fn push_begin(line: &mut LineText, stretch: CycleStretch, at: PicturePoint)
     requires { length line.old + 130 ≤ line_limit }
     ensures text { line.new ≡ line.old ++ zone_begin stretch at }
     ensures grows { length line.new ≤ length line.old + 130 }
@@ -294,7 +294,7 @@ fn push_begin(line: &mut LineText, stretch: Stretch, at: Point)
 
 /// Adds when it ends, and what is there.
 #[tactic(auto, unfolding(crate::specs::Lines::zone_end))]
-fn push_end(line: &mut LineText, stretch: Stretch, at: Point, time: u64)
+fn push_end(line: &mut LineText, stretch: CycleStretch, at: PicturePoint, time: u64)
     requires { length line.old + 300 ≤ line_limit }
     ensures { line.new ≡ line.old ++ zone_end stretch at time }
 {
@@ -333,7 +333,7 @@ fn push_percent(line: &mut LineText, load: u64)
 
 /// Makes the beginning of a lane, with its line: at most 130 octets.
 #[tactic(auto, unfolding(crate::specs::Lines::rail_text))]
-fn make_rail(line: &mut LineText, at: Point)
+fn make_rail(line: &mut LineText, at: PicturePoint)
     ensures text { line.new ≡ rail_text at }
     ensures short { length line.new ≤ 130 }
 {
@@ -344,7 +344,7 @@ fn make_rail(line: &mut LineText, at: Point)
 }
 
 #[tactic(auto, unfolding(crate::specs::Lines::lane_line))]
-fn make_lane(line: &mut LineText, network: &Network, lane: &Lane, at: Point)
+fn make_lane(line: &mut LineText, network: &Network, lane: &Lane, at: PicturePoint)
     requires { IsInRange network.now }
     ensures { line.new ≡ lane_line network.now lane.now at }
 {
@@ -436,27 +436,32 @@ fn make_frame(line: &mut LineText, network: &Network, frame: &Frame)
 }
 
 /// Makes the line of a part of the picture of this title, ended by LF.
-pub(crate) fn make_part_line(line: &mut LineText, network: &Network, title: &Title, part: &Part)
+pub(crate) fn make_part_line(
+    line: &mut LineText,
+    network: &Network,
+    title: &Title,
+    part: &SchedulePart,
+)
     requires { IsInRange network.now }
     ensures { line.new ≡ part_line network.now title.now part.now }
 {
     match part {
-        Part::Opening(width, height) => {
+        SchedulePart::Opening(width, height) => {
             make_element_line(line, network, Element::Opening(*width, *height));
         }
-        Part::Title => make_title_line(line, title),
-        Part::Heading => make_heading_line(line, title),
-        Part::Head => {
+        SchedulePart::Title => make_title_line(line, title),
+        SchedulePart::Heading => make_heading_line(line, title),
+        SchedulePart::Head => {
             line.clear();
             line.push(head_text());
         }
-        Part::Caption(rows) => make_caption(line, network, *rows),
-        Part::Twig(twig, at, above) => make_twig(line, network, twig, *at, *above),
-        Part::Bare(y) => make_bare(line, *y),
-        Part::Zone(zone) => make_zone(line, zone),
-        Part::Lane(lane, at) => make_lane(line, network, lane, *at),
-        Part::Frame(frame) => make_frame(line, network, frame),
-        Part::Close => {
+        SchedulePart::Caption(rows) => make_caption(line, network, *rows),
+        SchedulePart::Twig(twig, at, above) => make_twig(line, network, twig, *at, *above),
+        SchedulePart::Bare(y) => make_bare(line, *y),
+        SchedulePart::Zone(zone) => make_zone(line, zone),
+        SchedulePart::Lane(lane, at) => make_lane(line, network, lane, *at),
+        SchedulePart::Frame(frame) => make_frame(line, network, frame),
+        SchedulePart::Close => {
             line.clear();
             line.push("</svg>\n");
         }

@@ -4,12 +4,12 @@ ghost use Rattle.lens_schedule.specs.Zones.{end_of, left_of, right_of, stretches
 ghost use Rattle.net_plan.specs.Ranges.{IsInRange};
 
 use crate::Scale;
-use lens_svg::Point;
+use lens_svg::PicturePoint;
 use net_plan::Network;
 
 /// A stretch of the cycle, in the order of time.
 #[derive(Clone, Copy)]
-pub enum Stretch {
+pub enum CycleStretch {
     /// Control frames come, until the clocks are set.
     Control,
     /// Late control frames may come, until the schedule begins.
@@ -24,38 +24,38 @@ pub enum Stretch {
 /// ends.
 #[derive(Clone, Copy)]
 pub struct Zone {
-    pub stretch: Stretch,
-    pub from: Point,
-    pub to: Point,
+    pub stretch: CycleStretch,
+    pub from: PicturePoint,
+    pub to: PicturePoint,
     pub time: u64,
 }
 
 /// All stretches.
-const STRETCHES: [Stretch; 4] = [
-    Stretch::Control,
-    Stretch::Late,
-    Stretch::Schedule,
-    Stretch::Rest,
+const STRETCHES: [CycleStretch; 4] = [
+    CycleStretch::Control,
+    CycleStretch::Late,
+    CycleStretch::Schedule,
+    CycleStretch::Rest,
 ];
 
 /// All stretches.
-pub(crate) fn stretches() -> &'static [Stretch]
+pub(crate) fn stretches() -> &'static [CycleStretch]
     ensures { result.now ≡ stretches }
 {
     &STRETCHES
 }
 
-impl Stretch {
+impl CycleStretch {
     /// When it ends.
     fn end(self, network: &Network, scale: Scale) -> u64
         requires { IsInRange network.now }
         ensures { result ≡ end_of network.now scale self }
     {
         match self {
-            Stretch::Control => network.correction.amount(),
-            Stretch::Late => network.tt_start.amount(),
-            Stretch::Schedule => scale.end,
-            Stretch::Rest => network.cycle.amount(),
+            CycleStretch::Control => network.correction.amount(),
+            CycleStretch::Late => network.tt_start.amount(),
+            CycleStretch::Schedule => scale.end,
+            CycleStretch::Rest => network.cycle.amount(),
         }
     }
 
@@ -67,10 +67,10 @@ impl Stretch {
         ensures bound { result ≤ 930 }
     {
         match self {
-            Stretch::Control => 160,
-            Stretch::Late => 230,
-            Stretch::Schedule => scale.x_of(network.tt_start.amount()),
-            Stretch::Rest => 870,
+            CycleStretch::Control => 160,
+            CycleStretch::Late => 230,
+            CycleStretch::Schedule => scale.x_of(network.tt_start.amount()),
+            CycleStretch::Rest => 870,
         }
     }
 
@@ -82,10 +82,10 @@ impl Stretch {
         ensures bound { result ≤ 930 }
     {
         match self {
-            Stretch::Control => 230,
-            Stretch::Late => scale.x_of(network.tt_start.amount()),
-            Stretch::Schedule => 870,
-            Stretch::Rest => 930,
+            CycleStretch::Control => 230,
+            CycleStretch::Late => scale.x_of(network.tt_start.amount()),
+            CycleStretch::Schedule => 870,
+            CycleStretch::Rest => 930,
         }
     }
 
@@ -105,11 +105,11 @@ impl Stretch {
     {
         Zone {
             stretch: self,
-            from: Point {
+            from: PicturePoint {
                 x: column + self.left(network, scale),
                 y: top,
             },
-            to: Point {
+            to: PicturePoint {
                 x: column + self.right(network, scale),
                 y: bottom,
             },

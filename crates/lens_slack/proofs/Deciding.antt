@@ -1,14 +1,14 @@
 -- A rule that is an inequality is kept at a place exactly where all its bounds there are.
 use Rattle.lens_slack.specs.Bounds.{IsBoundAt, begin_bound, calc_bound, clear_time, correction_bound, end_bound, entering_bound, found, gap_bound}
 use Rattle.{lens_slack.specs.{Laws.BoundsDecide, Tightest.IsEnough}, net_plan.specs.Bounds.gamma_of, tte_units.specs.{Amount.amount, OctetTime.octet_time}}
-use Rattle.lens_slack.specs.{Spots.{IsSpotAt, device_of, row_of}, declared.spot.{Beside.TheVariants.{Before, Behind}, Finding.Finding, Spot.Spot}}
+use Rattle.lens_slack.specs.{Spots.{IsSpotAt, device_of, row_of}, declared.spot.{Beside.TheVariants.{Before, Behind}, Finding.Finding, BoundedNumber.BoundedNumber}}
 use Rattle.{net_plan.specs.declared.ids.RowId.RowId, std.proofs.lemmas.Bool.{cases_lt, le-ltb, lt-ltb}, tte_units.specs.declared.speed.Speed.Speed}
 use Rattle.{net_plan.specs.declared.{network.Network.Network, tables.Link.Link}, schedule_tables.specs.declared.{entry.Entry.Entry, rule.Rule.Rule}}
 use Rattle.{schedule_checker.proofs.Selection.{all_of_each, each_of_all}, schedule_tables.specs.Schedule.{ComesInTime, EndsInCycle, IsClearBefore, StandsApart}}
 use Rattle.{schedule_tables.specs.Delays.{CorrectionFits, DelaysFit, ErrorsSettle, PrecisionFits, ScheduleFits, delay_on, pcf_port_time}, std.specs.Prelude.◌↔◌}
 use Rattle.{schedule_tables.specs.Windows.{window_end}, std.proofs.Common.{◌*◌, ◌+◌, ◌<◌, ◌≡◌, ◌≤◌, ◌⊎◌, arith, inl, inr, refl, subst, sym, ℕ}}
 use Rattle.schedule_tables.specs.declared.rule.Rule.TheVariants.{Correction, Delays, Forwarding, Precision, ScheduleStart, Settling, Spacing, WindowEnds}
-use Rattle.lens_slack.specs.declared.spot.Spot.TheVariants as spots
+use Rattle.lens_slack.specs.declared.spot.BoundedNumber.TheVariants as spots
 use Rattle.tte_units.specs.declared.speed.Speed.TheVariants as speeds
 
 -- what is the same is as much
@@ -17,10 +17,10 @@ enough_by f g same enough = subst IsEnough (sym same) enough
 
 -- the bounds of a rule at a place are kept
 abbrev AreEnough : Network → Rule → ℕ → Type 0
-AreEnough network rule place = (spot : Spot) (n : ℕ) (f : Finding) → IsSpotAt rule place spot → IsBoundAt network spot n f → IsEnough f
+AreEnough network rule place = (spot : BoundedNumber) (n : ℕ) (f : Finding) → IsSpotAt rule place spot → IsBoundAt network spot n f → IsEnough f
 
 -- a bound of a spot that is this one
-moved : (network : Network) (n : ℕ) (f : Finding) (spot other : Spot) → spot ≡ other → IsBoundAt network spot n f → IsBoundAt network other n f
+moved : (network : Network) (n : ℕ) (f : Finding) (spot other : BoundedNumber) → spot ≡ other → IsBoundAt network spot n f → IsBoundAt network other n f
 moved network n f spot other same bound = subst (λ s. IsBoundAt network s n f) same bound
 
 -- ---- the rules of times

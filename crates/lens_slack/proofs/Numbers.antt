@@ -2,16 +2,16 @@
 use Rattle.{lens_slack.{proofs.Ones.{some_at, some_of}, specs.{Lines.spot_index, declared.spot.Measure.Measure}}, schedule_tables.specs.declared.rule.Rule.Rule}
 use Rattle.lens_slack.{proofs.Writable.device_by, specs.Spots.{IsFoundAt, IsSpotAt, IsTightestOf, channel_of, device_of, row_of, rule_of, spot_at, spots_of}}
 use Rattle.{lens_slack.specs.{Bounds.{IsBoundAt, clear_time, gap_bound}, declared.spot.Finding.Finding}, net_plan.specs.declared.network.Network.Network}
-use Rattle.lens_slack.specs.{Tightest.{ComesFirst, IsEnough, IsFirstTightest, IsTightestAt}, declared.spot.{Beside.TheVariants.{Before, Behind}, Spot.Spot}}
+use Rattle.lens_slack.specs.{Tightest.{ComesFirst, IsEnough, IsFirstTightest, IsTightestAt}, declared.spot.{Beside.TheVariants.{Before, Behind}, BoundedNumber.BoundedNumber}}
 use Rattle.{net_plan.specs.{Paths.IsTree, Places.device_at}, std.proofs.lemmas.Bool.cases_lt, tte_units.specs.Amount.amount}
 use Rattle.schedule_tables.specs.declared.rule.Rule.TheVariants.{Correction, Delays, Forwarding, Precision, ScheduleStart, Settling, Spacing, WindowEnds}
 use Rattle.std.proofs.{Common.{◌*◌, ◌+◌, ◌<◌, ◌∙◌, ◌≡◌, None, Option, Some, ap, arith, inl, inr, length, refl, subst, sym, ℕ}, lemmas.Option.slice_get_within}
 use Rattle.{std.specs.Prelude.{◌%◌, Bool, false, if◌then◌else◌, nat_lt, true}, tte_units.specs.declared.frames.channel.Channel.{Channel, TheVariants.{A, B}}}
 use Rattle.lens_slack.specs.declared.spot.Measure.TheVariants as measures
-use Rattle.lens_slack.specs.declared.spot.Spot.TheVariants as spots
+use Rattle.lens_slack.specs.declared.spot.BoundedNumber.TheVariants as spots
 
 -- the spot is the one of this number
-pub record IsNumbered (network : Network) (measure : Measure) (number : ℕ) (spot : Spot) : Type 0 where
+pub record IsNumbered (network : Network) (measure : Measure) (number : ℕ) (spot : BoundedNumber) : Type 0 where
   pub within : number < spots_of measure network
   pub is : spot_at measure number ≡ spot
 
@@ -33,23 +33,23 @@ path_numbered network place B within = record { within = omega (arith, within); 
 -- measures, and no places
 module _ (network : Network) where
   -- a spot that a rule bounds at a place, by a measure
-  pub record HasNumber (rule : Rule) (spot : Spot) : Type 0 where
+  pub record HasNumber (rule : Rule) (spot : BoundedNumber) : Type 0 where
     pub measure : Measure
     pub number : ℕ
     pub of_rule : rule_of measure ≡ rule
     pub numbered : IsNumbered network measure number spot
 
-  moved : (n : ℕ) (f : Finding) (spot other : Spot) → spot ≡ other → IsBoundAt network spot n f → IsBoundAt network other n f
+  moved : (n : ℕ) (f : Finding) (spot other : BoundedNumber) → spot ≡ other → IsBoundAt network spot n f → IsBoundAt network other n f
   moved n f spot other same bound = subst (λ s. IsBoundAt network s n f) same bound
 
-  moved_number : (rule : Rule) (spot other : Spot) → spot ≡ other → HasNumber rule other → HasNumber rule spot
+  moved_number : (rule : Rule) (spot other : BoundedNumber) → spot ≡ other → HasNumber rule other → HasNumber rule spot
   moved_number rule spot other same has = subst (HasNumber rule) (sym same) has
 
   coming_within : (place n : ℕ) (f : Finding) → IsBoundAt network (spots.Coming (row_of place)) n f → place < length network.row
   coming_within place n f (inl own) = slice_get_within network.row place own.1.entry.row own.1.is_entry.row
   coming_within place n f (inr its) = slice_get_within network.row place its.entry.row its.is_entry.row
 
-  pub has_number : (rule : Rule) (place : ℕ) (spot : Spot) (n : ℕ) (f : Finding) → IsSpotAt rule place spot → IsBoundAt network spot n f → HasNumber rule spot
+  pub has_number : (rule : Rule) (place : ℕ) (spot : BoundedNumber) (n : ℕ) (f : Finding) → IsSpotAt rule place spot → IsBoundAt network spot n f → HasNumber rule spot
   has_number Delays place spot n f (channel, same) bound =
       let member = (moved n f spot (spots.Path (device_of place) channel) same bound).1.member in
       let within = device_by network (device_of place) _ (device_at network (device_of place)) refl member in
@@ -127,14 +127,14 @@ module _ (network : Network) where
   number_spot measures.Comings n = refl
 
   -- a bound names its spot
-  gap_spot : (spot : Spot) (b : Bool) (f g : Finding) → f.spot ≡ spot → g.spot ≡ spot → (λ (h : Finding). h.spot ≡ spot) (if b then f else g)
+  gap_spot : (spot : BoundedNumber) (b : Bool) (f g : Finding) → f.spot ≡ spot → g.spot ≡ spot → (λ (h : Finding). h.spot ≡ spot) (if b then f else g)
   gap_spot spot true f g first second = first
   gap_spot spot false f g first second = second
 
   name : (f g : Finding) → f ≡ g → f.spot ≡ g.spot
   name f g same = ap (λ (h : Finding). h.spot) same
 
-  pub bound_spot : (spot : Spot) (n : ℕ) (f : Finding) → IsBoundAt network spot n f → f.spot ≡ spot
+  pub bound_spot : (spot : BoundedNumber) (n : ℕ) (f : Finding) → IsBoundAt network spot n f → f.spot ≡ spot
   bound_spot (spots.Path device channel) n f (at, a) = name f _ a.is
   bound_spot spots.Settled n f (at, a) = name f _ a.is
   bound_spot spots.Precision n f (inl (at, a)) = name f _ a.is
@@ -170,7 +170,7 @@ met_by Has (Some f) first met n g has short =
 
 -- where the tightest is enough, all are
 module _ (network : Network) (tree : IsTree network) where
-  pub spot_met : (spot : Spot) → ((f : Finding) → IsTightestAt network spot (Some f) → IsEnough f) → (n : ℕ) (g : Finding) → IsBoundAt network spot n g
+  pub spot_met : (spot : BoundedNumber) → ((f : Finding) → IsTightestAt network spot (Some f) → IsEnough f) → (n : ℕ) (g : Finding) → IsBoundAt network spot n g
       → IsEnough g
   spot_met spot met n g bound = enough_unless g (λ short. some_at network tree spot (λ o first. met_by (IsBoundAt network spot) o first met n g bound short))
 
@@ -180,7 +180,7 @@ module _ (network : Network) (tree : IsTree network) where
       enough_unless g (λ short. some_of network tree measure (λ o first. met_by (IsFoundAt network measure) o first met n g is short))
 
   -- so all bounds at a spot of a measure
-  pub bounds_met : (measure : Measure) → ((f : Finding) → IsTightestOf network measure (Some f) → IsEnough f) → (number : ℕ) (spot : Spot)
+  pub bounds_met : (measure : Measure) → ((f : Finding) → IsTightestOf network measure (Some f) → IsEnough f) → (number : ℕ) (spot : BoundedNumber)
       → IsNumbered network measure number spot → (n : ℕ) (g : Finding) → IsBoundAt network spot n g → IsEnough g
   bounds_met measure met number spot numbered n g bound =
       spot_met spot

@@ -1,6 +1,6 @@
 -- A spot has one bound of each number, and so one first tightest, which exists where it has any.
 use Rattle.lens_slack.{proofs.Keeping.{Below, IsAt, next_tightest, none_below, tightest_of_all}, specs.Tightest.{ComesFirst, IsFirstTightest, IsTightestAt}}
-use Rattle.lens_slack.specs.{Bounds.{IsBoundAt, IsEnteringBound, begin_bound, entering_bound, found, gap_bound}, declared.spot.{Finding.Finding, Spot.Spot}}
+use Rattle.lens_slack.specs.{Bounds.{IsBoundAt, IsEnteringBound, begin_bound, entering_bound, found, gap_bound}, declared.spot.{Finding.Finding, BoundedNumber.BoundedNumber}}
 use Rattle.{lens_slack.specs.Keeping.tighter_of, net_plan.proofs.Beta.beta_is_unique, std.specs.Prelude.slice_get, tte_units.specs.Amount.amount}
 use Rattle.{lens_slack.specs.Spots.{IsFoundAt, IsTightestOf, spot_at, spots_of}, schedule_tables.specs.{Windows.window_end, declared.entry.Entry.Entry}}
 use Rattle.{lens_slack.specs.declared.spot.Measure.Measure, net_plan.specs.declared.network.Network.Network, schedule_tables.proofs.EntryLemmas.one_entry}
@@ -8,7 +8,7 @@ use Rattle.{net_plan.{proofs.Trees.paths_are_unique, specs.Bounds.{IsBeta, gamma
 use Rattle.{net_plan.specs.{Paths.IsTree, declared.ids.LinkId.LinkId}, std.proofs.lemmas.Option.slice_get_within, tte_units.proofs.general_lemmas.Options.one}
 use Rattle.std.proofs.Common.{◌*◌, ◌+◌, ◌<◌, ◌∙◌, ◌≡◌, List, None, Option, Some, ap, arith, inl, inr, length, pos, refl, subst, suc, sym, zero, ℕ}
 use Rattle.std.proofs.lemmas.Int.{ints}
-use Rattle.lens_slack.specs.declared.spot.Spot.TheVariants as spots
+use Rattle.lens_slack.specs.declared.spot.BoundedNumber.TheVariants as spots
 
 -- each number has one finding at most
 abbrev pub IsOneEach : (ℕ → Finding → Type 0) → Type 0
@@ -56,7 +56,7 @@ module _ (network : Network) (tree : IsTree network) where
       a.is ∙ ap (λ (e : Entry). entering_bound network (record { 0 = row }) e a.entry) first
       ∙ ap (entering_bound network (record { 0 = row }) b.entering) its ∙ sym b.is
 
-  pub bound_one : (spot : Spot) → IsOneEach (IsBoundAt network spot)
+  pub bound_one : (spot : BoundedNumber) → IsOneEach (IsBoundAt network spot)
   bound_one (spots.Path device channel) n f g (at, a) (here, b) =
       let by : ℕ → List LinkId → Finding = λ x ls. found (spots.Path device channel) (amount network.dmax) (x + delay_on network ls) in
       let same = beta_same a.beta b.beta a.is_beta b.is_beta in
@@ -94,7 +94,7 @@ module _ (network : Network) (tree : IsTree network) where
   bound_one (spots.Coming row) n f g (inr a) (inr b) = entering_one row.0 n f g a b
 
   -- how many bounds a spot has at most
-  abbrev bounds_of : Spot → ℕ
+  abbrev bounds_of : BoundedNumber → ℕ
   bounds_of (spots.Path device channel) = 1
   bounds_of spots.Settled = 1
   bounds_of spots.Precision = 2
@@ -105,7 +105,7 @@ module _ (network : Network) (tree : IsTree network) where
   bounds_of (spots.Gap row) = row.0
   bounds_of (spots.Coming row) = length network.row + 1
 
-  bound_within : (spot : Spot) (n : ℕ) (f : Finding) → IsBoundAt network spot n f → n < bounds_of spot
+  bound_within : (spot : BoundedNumber) (n : ℕ) (f : Finding) → IsBoundAt network spot n f → n < bounds_of spot
   bound_within (spots.Path device channel) n f (at, a) = omega (arith, at)
   bound_within spots.Settled n f (at, a) = omega (arith, at)
   bound_within spots.Precision n f (inl (at, a)) = omega (arith, at)
@@ -121,10 +121,10 @@ module _ (network : Network) (tree : IsTree network) where
 
   -- ---- one first tightest at a spot, and of a measure
 
-  pub one_at : (spot : Spot) (o p : Option Finding) → IsTightestAt network spot o → IsTightestAt network spot p → o ≡ p
+  pub one_at : (spot : BoundedNumber) (o p : Option Finding) → IsTightestAt network spot o → IsTightestAt network spot p → o ≡ p
   one_at spot o p is other = one_first (IsBoundAt network spot) (bound_one spot) o p is other
 
-  pub some_at : (spot : Spot) → ((o : Option Finding) → IsTightestAt network spot o → ⊥) → ⊥
+  pub some_at : (spot : BoundedNumber) → ((o : Option Finding) → IsTightestAt network spot o → ⊥) → ⊥
   some_at spot deny = some_first (IsBoundAt network spot) (bound_one spot) (bounds_of spot) (bound_within spot) deny
 
   pub found_one : (measure : Measure) → IsOneEach (IsFoundAt network measure)

@@ -6,7 +6,7 @@ use Rattle.{lens_slack.{proofs.FirstShort.short_or, specs.Finds.IsFoundIn}, net_
 use Rattle.lens_slack.{proofs.Numbers.{bound_spot, channel_number, has_number, path_number, spot_met}, specs.Laws.{IsFirstShort, KeepsOthers, SlackRefuses}}
 use Rattle.lens_slack.specs.{Lines.{spot_index, spot_rule}, Steps.{all_steps, rule_steps}, declared.spot.Measure.Measure, Inequalities.IsInequality}
 use Rattle.{lens_slack.specs.Spots.{IsSpotAt, rule_of, spot_at, spots_of}, schedule_tables.specs.declared.rule.Rule.{Rule, TheVariants.WindowEnds}}
-use Rattle.{lens_slack.specs.{Tightest.{IsEnough, IsTightestAt}, declared.spot.{Finding.Finding, Spot.Spot}}, net_plan.specs.declared.network.Network.Network}
+use Rattle.{lens_slack.specs.{Tightest.{IsEnough, IsTightestAt}, declared.spot.{Finding.Finding, BoundedNumber.BoundedNumber}}, net_plan.specs.declared.network.Network.Network}
 use Rattle.{net_plan.proofs.Shape.rules_give_trees, std.proofs.Common.{◌*◌, ◌+◌, ◌<◌, ◌∙◌, ◌≡◌, ◌≤◌, ◌⊎◌, List, Some, ap, arith, inl, inr, refl, subst, sym, ℕ}}
 use Rattle.{schedule_tables.specs.Rules.{IsFirstBroken, IsKeptAt, KeepsBelow}, tte_units.specs.declared.frames.channel.Channel.TheVariants.{A, B}}
 use Rattle.schedule_tables.specs.declared.rule.Rule.TheVariants.{Correction, Delays, Forwarding, Precision, ScheduleStart, Settling, Spacing}
@@ -101,12 +101,12 @@ module _ (network : Network) (rule : Rule) (place : ℕ) (fs : List Finding) whe
 -- ---- the place
 
 -- a spot of an earlier place has an earlier number
-pub record IsBefore (measure : Measure) (number : ℕ) (spot : Spot) : Type 0 where
+pub record IsBefore (measure : Measure) (number : ℕ) (spot : BoundedNumber) : Type 0 where
   pub n : ℕ
   pub less : n < number
   pub is : spot_at measure n ≡ spot
 
-before : (measure : Measure) (place number : ℕ) (spot : Spot) → place < spot_index (spot_at measure number) → IsSpotAt (rule_of measure) place spot
+before : (measure : Measure) (place number : ℕ) (spot : BoundedNumber) → place < spot_index (spot_at measure number) → IsSpotAt (rule_of measure) place spot
     → IsBefore measure number spot
 before measures.Paths place number spot more (A, same) = record {
   n = 2 * place + channel_number A;

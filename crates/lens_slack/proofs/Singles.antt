@@ -7,7 +7,7 @@ use Rattle.{net_plan.specs.Places.IsDeviceOf, std.proofs.lemmas.Int.ints, tte_un
 use Rattle.{net_plan.specs.declared.ids.{DeviceId.DeviceId, LinkId.LinkId}, schedule_tables.{proofs.EntryLemmas.one_entry, specs.Windows.window_end}}
 use Rattle.{net_plan.specs.declared.network.Network.Network, std.proofs.Common.{◌*◌, ◌+◌, ◌∙◌, ◌≡◌, List, None, Some, ap, arith, inl, inr, pos, refl, sym, ℕ}}
 use Rattle.{schedule_tables.specs.{Entries.{IsEntry, source_of}, declared.entry.Entry.Entry}, tte_units.specs.declared.frames.channel.Channel.Channel}
-use Rattle.lens_slack.specs.declared.spot.Spot.TheVariants as spots
+use Rattle.lens_slack.specs.declared.spot.BoundedNumber.TheVariants as spots
 
 -- ---- numbers of the whole network
 

@@ -5,10 +5,10 @@ use Rattle.net_plan.specs.{Places.device_at, declared.{ids.{DeviceId.DeviceId, R
 use Rattle.schedule_tables.specs.declared.entry.Entry.{Entry}
 use Rattle.tte_units.specs.Amount.{amount}
 use Rattle.lens_slack.specs.declared.{measuring.Ending.Ending, spot.Beside.TheVariants.{Before, Behind}, step.Step.TheVariants.{Judged, Listed, Measured}}
-use Rattle.lens_slack.specs.{Tightest.IsTightestAt, Writing.IsWritable, declared.{spot.{Finding.Finding, Measure.Measure, Spot.Spot}, step.Step.Step}}
+use Rattle.lens_slack.specs.{Tightest.IsTightestAt, Writing.IsWritable, declared.{spot.{Finding.Finding, Measure.Measure, BoundedNumber.BoundedNumber}, step.Step.Step}}
 use Rattle.lens_slack.specs.{Bounds.{IsBoundAt, calc_bound, clear_time}, Finds.{AreFound, AreOf, some_found}, Spots.{IsSpotOf, IsTightestOf, spot_at, spots_of}}
 use Rattle.lens_slack.specs.declared.spot.Measure.TheVariants as measures
-use Rattle.lens_slack.specs.declared.spot.Spot.TheVariants as spots
+use Rattle.lens_slack.specs.declared.spot.BoundedNumber.TheVariants as spots
 
 as_writable : {network : Network} (f : Finding) {g : Finding} → f ≡ g → IsWritable network g → IsWritable network f
 as_writable {network} f same writable = subst (IsWritable network) (sym same) writable
@@ -28,7 +28,7 @@ gap_by network row earlier entry true within vl = record { spot = within; next =
 gap_by network row earlier entry false within vl = record { spot = within; next = vl }
 
 module _ (network : Network) where
-  pub bound_writable : (spot : Spot) (n : ℕ) (f : Finding) → IsSpotOf network spot → IsBoundAt network spot n f
+  pub bound_writable : (spot : BoundedNumber) (n : ℕ) (f : Finding) → IsSpotOf network spot → IsBoundAt network spot n f
       → IsWritable network f
   bound_writable (spots.Path device channel) n f of_network bound = grind (arith, as_writable, device_by)
   bound_writable spots.Settled n f of_network bound =
@@ -65,7 +65,7 @@ module _ (network : Network) where
   spot_within measures.Comings n within = within
 
   -- the tightest at a spot, where there is one
-  some_at : (spot : Spot) (f : Option Finding) → IsSpotOf network spot → IsTightestAt network spot f
+  some_at : (spot : BoundedNumber) (f : Option Finding) → IsSpotOf network spot → IsTightestAt network spot f
       → All (IsWritable network) (some_found f)
   some_at spot None of_network tightest = All-nil (IsWritable network)
   some_at spot (Some f) of_network (n, is, first) =

@@ -1,16 +1,16 @@
 -- What a network has where a rule bounds a number of it, and what the rule wants there at least.
 use Rattle.std.specs.Prelude.{if◌then◌else◌, ◌*◌, ◌+◌, ◌<◌, ◌≡◌, ◌≢◌, ◌⊎◌, List, Some, nat_lt, pos, slice_get, ℕ}
 use Rattle.lens_slack.specs.declared.spot.{Beside.TheVariants.{Before, Behind, Calc, Nothing}, Finding.Finding}
-use Rattle.{lens_slack.specs.declared.spot.Spot.Spot, net_plan.specs.declared.ids.{DeviceId.DeviceId, LinkId.LinkId}}
+use Rattle.{lens_slack.specs.declared.spot.BoundedNumber.BoundedNumber, net_plan.specs.declared.ids.{DeviceId.DeviceId, LinkId.LinkId}}
 use Rattle.net_plan.specs.{Bounds.{IsBeta, gamma_of}, Places.IsDeviceOf, declared.{ids.RowId.RowId, tables.Link.Link}}
 use Rattle.{net_plan.specs.Paths.IsPath, tte_units.specs.Amount.amount}
 use Rattle.{net_plan.specs.declared.network.Network.Network, tte_units.specs.declared.frames.channel.Channel.Channel}
 use Rattle.schedule_tables.specs.{Delays.{delay_on, pcf_port_time}, Entries.{IsEntry, source_of, target_of}}
 use Rattle.schedule_tables.specs.{Schedule.Coincide, Windows.{port_time, window_end}, declared.entry.Entry.Entry}
-use Rattle.lens_slack.specs.declared.spot.Spot.TheVariants as spots
+use Rattle.lens_slack.specs.declared.spot.BoundedNumber.TheVariants as spots
 
 -- at this spot the network has so much, and so much is wanted
-abbrev pub found : Spot → ℕ → ℕ → Finding
+abbrev pub found : BoundedNumber → ℕ → ℕ → Finding
 found spot has wants = record { spot = spot; has = has; wants = wants; beside = Nothing }
 
 -- dmax, and beta with the delays of the device's path on the channel
@@ -144,7 +144,7 @@ abbrev pub IsComingBound : Network → RowId → ℕ → Finding → Type 0
 IsComingBound network row n f = ((n ≡ 0) × IsSenderBound network row f) ⊎ IsEnteringBound network row n f
 
 -- this is the bound of this number at the spot; a spot has none, one or several
-abbrev pub IsBoundAt : Network → Spot → ℕ → Finding → Type 0
+abbrev pub IsBoundAt : Network → BoundedNumber → ℕ → Finding → Type 0
 IsBoundAt network (spots.Path device channel) n f = (n ≡ 0) × IsPathBound network device channel f
 IsBoundAt network spots.Settled n f = (n ≡ 0) × IsSettledBound network f
 IsBoundAt network spots.Precision n f = IsPrecisionBound network n f

@@ -1,6 +1,6 @@
 -- What `slack` has to do with the rules and with `check`.
 use Rattle.std.specs.{List.All, Prelude.{◌++◌, ◌<◌, ◌↔◌, ◌∷◌, ◌≡◌, List, ℕ}}
-use Rattle.lens_slack.specs.declared.{measuring.Ending.Ending, spot.{Finding.Finding, Spot.Spot}}
+use Rattle.lens_slack.specs.declared.{measuring.Ending.Ending, spot.{Finding.Finding, BoundedNumber.BoundedNumber}}
 use Rattle.lens_slack.specs.{Answer.IsSlackOf, Bounds.IsBoundAt, Finds.IsFoundIn, Spots.IsSpotAt, Tightest.IsEnough}
 use Rattle.lens_slack.specs.{Inequalities.IsInequality, Lines.{spot_index, spot_rule}, Steps.{all_steps, rule_steps}}
 use Rattle.net_plan.specs.{Ranges.IsInRange, declared.network.Network.Network}
@@ -13,7 +13,7 @@ abbrev pub BoundsDecide : Type 0
 BoundsDecide =
     (network : Network) (rule : Rule) (place : ℕ) → IsInequality rule
     → IsKeptAt rule network place
-    ↔ ((spot : Spot) (n : ℕ) (f : Finding) → IsSpotAt rule place spot → IsBoundAt network spot n f → IsEnough f)
+    ↔ ((spot : BoundedNumber) (n : ℕ) (f : Finding) → IsSpotAt rule place spot → IsBoundAt network spot n f → IsEnough f)
 
 -- the answer is Done exactly where the network keeps all rules, that is, where `check` accepts it
 abbrev pub SlackAccepts : Type 0

@@ -1,7 +1,7 @@
 -- The lines that `slack` writes.
 use Rattle.std.specs.{Fmt.decimal, Option.option_map_or}
 use Rattle.std.specs.Prelude.{if◌then◌else◌, ◌++◌, ◌-◌, ◌==◌, List, [], codes, nat_lt, slice_get, ℕ}
-use Rattle.{lens_slack.specs.{Spots.device_of, declared.spot.Spot.Spot}, net_plan.specs.declared.ids.RowId.RowId}
+use Rattle.{lens_slack.specs.{Spots.device_of, declared.spot.BoundedNumber.BoundedNumber}, net_plan.specs.declared.ids.RowId.RowId}
 use Rattle.lens_slack.specs.declared.spot.{Beside.{Beside, TheVariants.{Before, Behind, Calc}}, Finding.Finding}
 use Rattle.net_plan.specs.{Belonging.{device_name, link_name, vl_name}, declared.network.Network.Network}
 use Rattle.tte_units.specs.declared.frames.channel.Channel.{Channel, TheVariants.{A, B}}
@@ -12,7 +12,7 @@ use Rattle.schedule_tables.specs.declared.rule.Rule.TheVariants.{Limits, LinksDi
 use Rattle.schedule_tables.specs.declared.rule.Rule.TheVariants.{Precision, RowsOfDevice, ScheduleStart, Senders}
 use Rattle.schedule_tables.specs.declared.rule.Rule.TheVariants.{Settling, Sources, Spacing, Targets, VlIdsDiffer}
 use Rattle.trace_text.specs.EventWords.{way_text}
-use Rattle.lens_slack.specs.declared.spot.Spot.TheVariants as spots
+use Rattle.lens_slack.specs.declared.spot.BoundedNumber.TheVariants as spots
 
 -- the name of a channel
 abbrev pub channel_text : Channel → List ℕ
@@ -26,7 +26,7 @@ row_text network row =
     (slice_get network.row row.0) []
 
 -- the rule that bounds the number at the spot
-abbrev pub spot_rule : Spot → Rule
+abbrev pub spot_rule : BoundedNumber → Rule
 spot_rule (spots.Path device channel) = Delays
 spot_rule spots.Settled = Settling
 spot_rule spots.Precision = Precision
@@ -38,7 +38,7 @@ spot_rule (spots.Gap row) = Spacing
 spot_rule (spots.Coming row) = Forwarding
 
 -- the place at which the rule is judged there
-abbrev pub spot_index : Spot → ℕ
+abbrev pub spot_index : BoundedNumber → ℕ
 spot_index (spots.Path device channel) = device.0
 spot_index (spots.Window row) = row.0
 spot_index (spots.Gap row) = row.0
@@ -46,7 +46,7 @@ spot_index (spots.Coming row) = row.0
 spot_index other = 0
 
 -- what the spot is called: a device and a channel, a key of the file, or a row
-abbrev pub spot_text : Network → Spot → List ℕ
+abbrev pub spot_text : Network → BoundedNumber → List ℕ
 spot_text network (spots.Path device channel) = device_name network device ++ codes " " ++ channel_text channel
 spot_text network spots.Settled = codes "settled"
 spot_text network spots.Precision = codes "precision"

@@ -5,9 +5,9 @@ use Rattle.tte_units.specs.declared.frames.channel.Channel.{Channel, TheVariants
 use Rattle.schedule_tables.specs.declared.rule.Rule.TheVariants.{Correction, Delays, Forwarding, Precision}
 use Rattle.schedule_tables.specs.declared.rule.Rule.{Rule, TheVariants.{ScheduleStart, Settling, Spacing, WindowEnds}}
 use Rattle.lens_slack.specs.{Tightest.{IsFirstTightest, IsTightestAt}, declared.spot.Finding.Finding}
-use Rattle.lens_slack.specs.declared.spot.{Measure.Measure, Spot.Spot}
+use Rattle.lens_slack.specs.declared.spot.{Measure.Measure, BoundedNumber.BoundedNumber}
 use Rattle.lens_slack.specs.declared.spot.Measure.TheVariants as measures
-use Rattle.lens_slack.specs.declared.spot.Spot.TheVariants as spots
+use Rattle.lens_slack.specs.declared.spot.BoundedNumber.TheVariants as spots
 
 -- the rule whose bounds these are
 abbrev pub rule_of : Measure → Rule
@@ -54,7 +54,7 @@ spots_of measures.Comings network = length network.row
 spots_of other network = 1
 
 -- the spot of this number: those of a device are on channel a and on channel b
-abbrev pub spot_at : Measure → ℕ → Spot
+abbrev pub spot_at : Measure → ℕ → BoundedNumber
 spot_at measures.Paths n = spots.Path (device_of (n / 2)) (channel_of (n % 2))
 spot_at measures.Settled n = spots.Settled
 spot_at measures.Precision n = spots.Precision
@@ -66,7 +66,7 @@ spot_at measures.Gaps n = spots.Gap (row_of n)
 spot_at measures.Comings n = spots.Coming (row_of n)
 
 -- the spot is one that the rule bounds at the place; a rule without places bounds its spots at each
-abbrev pub IsSpotAt : Rule → ℕ → Spot → Type 0
+abbrev pub IsSpotAt : Rule → ℕ → BoundedNumber → Type 0
 IsSpotAt Delays place spot = (channel : Channel) × (spot ≡ spots.Path (device_of place) channel)
 IsSpotAt Settling place spot = spot ≡ spots.Settled
 IsSpotAt Precision place spot = spot ≡ spots.Precision
@@ -78,7 +78,7 @@ IsSpotAt Forwarding place spot = spot ≡ spots.Coming (row_of place)
 IsSpotAt other place spot = ⊥
 
 -- the row of the spot, where it has one, is the network's
-abbrev pub IsSpotOf : Network → Spot → Type 0
+abbrev pub IsSpotOf : Network → BoundedNumber → Type 0
 IsSpotOf network (spots.Window row) = row.0 < length network.row
 IsSpotOf network (spots.Gap row) = row.0 < length network.row
 IsSpotOf network (spots.Coming row) = row.0 < length network.row

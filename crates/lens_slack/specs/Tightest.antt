@@ -1,7 +1,7 @@
 -- Which of several findings has the least room.
 use Rattle.std.specs.Prelude.{◌+◌, ◌<◌, ◌≡◌, ◌≤◌, ◌⊎◌, Bool, None, Option, Some, nat_lt, ℕ}
 use Rattle.net_plan.specs.declared.network.Network.{Network}
-use Rattle.lens_slack.specs.{Bounds.IsBoundAt, declared.spot.{Finding.Finding, Spot.Spot}}
+use Rattle.lens_slack.specs.{Bounds.IsBoundAt, declared.spot.{Finding.Finding, BoundedNumber.BoundedNumber}}
 
 -- the network has what is wanted
 abbrev pub IsEnough : Finding → Type 0
@@ -25,5 +25,5 @@ IsFirstTightest Has None = (n : ℕ) (f : Finding) → Has n f → ⊥
 IsFirstTightest Has (Some f) = (n : ℕ) × Has n f × ((k : ℕ) (g : Finding) → Has k g → ComesFirst n f k g)
 
 -- the first of the tightest bounds at the spot
-abbrev pub IsTightestAt : Network → Spot → Option Finding → Type 0
+abbrev pub IsTightestAt : Network → BoundedNumber → Option Finding → Type 0
 IsTightestAt network spot f = IsFirstTightest (IsBoundAt network spot) f

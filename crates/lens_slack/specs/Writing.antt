@@ -1,13 +1,13 @@
 -- Which findings and places have a line: those that name what the network has.
 use Rattle.std.specs.Prelude.{◌<◌, length, ℕ}
 use Rattle.lens_slack.specs.declared.measuring.Ending.{Ending, TheVariants.{Broken, Whole}}
-use Rattle.lens_slack.specs.declared.spot.{Beside.{Beside, TheVariants.{Before, Behind}}, Finding.Finding, Spot.Spot}
+use Rattle.lens_slack.specs.declared.spot.{Beside.{Beside, TheVariants.{Before, Behind}}, Finding.Finding, BoundedNumber.BoundedNumber}
 use Rattle.{net_plan.specs.declared.network.Network.Network, schedule_tables.specs.declared.rule.Rule.Rule}
 use Rattle.schedule_checker.specs.Judging.{places_of}
-use Rattle.lens_slack.specs.declared.spot.Spot.TheVariants as spots
+use Rattle.lens_slack.specs.declared.spot.BoundedNumber.TheVariants as spots
 
 -- the device or the row of the spot is one of the network's
-abbrev pub HasSpot : Network → Spot → Type 0
+abbrev pub HasSpot : Network → BoundedNumber → Type 0
 HasSpot network (spots.Path device channel) = device.0 < length network.device
 HasSpot network (spots.Window row) = row.0 < length network.row
 HasSpot network (spots.Gap row) = row.0 < length network.row

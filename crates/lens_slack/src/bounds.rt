@@ -6,10 +6,10 @@ ghost use Rattle.schedule_tables.specs.{Entries.{IsEntry, IsEntryInRange, source
 ghost use Rattle.lens_slack.specs.Bounds.{AreOfPort, EntersSource, IsErrorsBound, begin_bound, calc_bound, clear_time};
 ghost use Rattle.lens_slack.specs.Bounds.{correction_bound, end_bound, entering_bound, found, gap_bound};
 ghost use Rattle.lens_slack.specs.{Keeping.IsSmall, Spots.IsSpotOf, Tightest.IsTightestAt};
-ghost use Rattle.lens_slack.specs.declared.spot.Spot.TheVariants as spots;
+ghost use Rattle.lens_slack.specs.declared.spot.BoundedNumber.TheVariants as spots;
 
 use crate::tightest::tighter_of;
-use crate::{Beside, Finding, Spot};
+use crate::{Beside, BoundedNumber, Finding};
 use net_plan::{DeviceId, Link, Network, RowId, VirtualLink};
 use schedule_checker::{Plan, delay_on, pcf_port_time};
 use schedule_tables::{Entry, entry_of, window_of};
@@ -17,27 +17,30 @@ use tte_units::Units;
 use tte_units::frames::Channel;
 
 /// The tightest bound at the spot, and the first where several are as tight.
-pub(crate) fn tightest_at(plan: &Plan<'_>, spot: Spot) -> Option<Finding>
+pub(crate) fn tightest_at(plan: &Plan<'_>, spot: BoundedNumber) -> Option<Finding>
     requires plan { IsPlan plan.now }
     requires spot { IsSpotOf plan.now.network.now spot }
     ensures tightest { IsTightestAt plan.now.network.now spot result }
     ensures small { IfSome result IsSmall }
 {
     match spot {
-        Spot::Path(device, channel) => path_bound(plan, device, channel),
-        Spot::Settled => Some(settled_bound(plan)),
-        Spot::Precision => tighter_of(Some(errors_bound(plan)), Some(calc_bound(plan.network))),
-        Spot::Correction => Some(correction_bound(plan.network)),
-        Spot::Begin => begin_bound(plan.network),
-        Spot::End => Some(end_bound(plan.network)),
-        Spot::Window(row) => Some(window_bound(plan.network, row)),
-        Spot::Gap(row) => gap_bound(plan.network, row),
-        Spot::Coming(row) => coming_bound(plan.network, row),
+        BoundedNumber::Path(device, channel) => path_bound(plan, device, channel),
+        BoundedNumber::Settled => Some(settled_bound(plan)),
+        BoundedNumber::Precision => tighter_of(
+            Some(errors_bound(plan)),
+            Some(calc_bound(plan.network)),
+        ),
+        BoundedNumber::Correction => Some(correction_bound(plan.network)),
+        BoundedNumber::Begin => begin_bound(plan.network),
+        BoundedNumber::End => Some(end_bound(plan.network)),
+        BoundedNumber::Window(row) => Some(window_bound(plan.network, row)),
+        BoundedNumber::Gap(row) => gap_bound(plan.network, row),
+        BoundedNumber::Coming(row) => coming_bound(plan.network, row),
     }
 }
 
 /// At the spot the network has so much, and so much is wanted.
-fn found(spot: Spot, has: u64, wants: u64) -> Finding
+fn found(spot: BoundedNumber, has: u64, wants: u64) -> Finding
     ensures { result ≡ found spot has wants }
 {
     Finding {
@@ -71,7 +74,11 @@ fn path_bound(plan: &Plan<'_>, device: DeviceId, channel: Channel) -> Option<Fin
     }
     let delay = delay_on(network, &network.path(device, channel));
     let wants = beta_amount(network, plan.beta) + delay;
-    Some(found(Spot::Path(device, channel), network.dmax.amount(), wants))
+    Some(found(
+        BoundedNumber::Path(device, channel),
+        network.dmax.amount(),
+        wants,
+    ))
 }
 
 /// The errors of a resynchronisation: `8*beta + 12*gamma + 40*grain`.
@@ -92,7 +99,7 @@ fn settled_bound(plan: &Plan<'_>) -> Finding
     ensures small { IsSmall result }
 {
     found(
-        Spot::Settled,
+        BoundedNumber::Settled,
         plan.network.settled.amount(),
         errors_of(plan),
     )
@@ -106,7 +113,7 @@ fn errors_bound(plan: &Plan<'_>) -> Finding
 {
     let network = plan.network;
     let wants = network.settled.amount() + 2 * errors_of(plan);
-    found(Spot::Precision, network.precision.amount(), wants)
+    found(BoundedNumber::Precision, network.precision.amount(), wants)
 }
 
 /// The precision, and the time of a compression.
@@ -116,7 +123,7 @@ fn calc_bound(network: &Network) -> Finding
     ensures small { IsSmall result }
 {
     Finding {
-        spot: Spot::Precision,
+        spot: BoundedNumber::Precision,
         has: network.precision.amount(),
         wants: network.calc.amount(),
         beside: Beside::Calc,
@@ -130,7 +137,11 @@ fn correction_bound(network: &Network) -> Finding
     ensures small { IsSmall result }
 {
     let heard = 2 * network.dmax.amount() + network.calc.amount() + 10 * network.precision.amount();
-    found(Spot::Correction, network.correction.amount(), heard)
+    found(
+        BoundedNumber::Correction,
+        network.correction.amount(),
+        heard,
+    )
 }
 
 /// Where the schedule begins, and when the last protocol control frame has left the link for which that takes longest.
@@ -156,7 +167,7 @@ fn begin_with(network: &Network, link: &Link) -> Finding
         + network.dmax.amount()
         + 4 * network.precision.amount();
     found(
-        Spot::Begin,
+        BoundedNumber::Begin,
         network.tt_start.amount(),
         heard + pcf_port_time(link),
     )
@@ -169,7 +180,7 @@ fn end_bound(network: &Network) -> Finding
     ensures small { IsSmall result }
 {
     let wants = network.tt_start.amount() + 4 * network.precision.amount();
-    found(Spot::End, network.cycle.amount(), wants)
+    found(BoundedNumber::End, network.cycle.amount(), wants)
 }
 
 /// The cycle, and the end of the row's window with room for the precision.
@@ -181,7 +192,7 @@ fn window_bound(network: &Network, row: RowId) -> Finding
 {
     let window = window_of(network, &entry_of(network, row));
     let wants = window.to.amount() + 4 * network.precision.amount();
-    found(Spot::Window(row), network.cycle.amount(), wants)
+    found(BoundedNumber::Window(row), network.cycle.amount(), wants)
 }
 
 /// The tightest gap between the row and an earlier one of its port that occurs in one cycle with it.
@@ -253,7 +264,7 @@ fn gap_between(network: &Network, row: RowId, earlier: &Entry, entry: &Entry) ->
         (earlier, entry, Beside::Behind(next))
     };
     Finding {
-        spot: Spot::Gap(row),
+        spot: BoundedNumber::Gap(row),
         has: later.row.offset.amount(),
         wants: clear_time(network, first),
         beside,
@@ -281,7 +292,7 @@ fn coming_bound(network: &Network, row: RowId) -> Option<Finding>
     let entry = entry_of(network, row);
     if entry.source() == entry.vl.sender {
         Some(found(
-            Spot::Coming(row),
+            BoundedNumber::Coming(row),
             entry.row.offset.amount(),
             network.tt_start.amount(),
         ))
@@ -323,5 +334,5 @@ fn entering_with(network: &Network, row: RowId, entering: &Entry, entry: &Entry)
         return None;
     }
     let wants = window_of(network, entering).to.amount() + 1;
-    Some(found(Spot::Coming(row), entry.row.offset.amount(), wants))
+    Some(found(BoundedNumber::Coming(row), entry.row.offset.amount(), wants))
 }

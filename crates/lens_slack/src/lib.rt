@@ -14,4 +14,4 @@ mod tightest;
 pub use laws::slack_law;
 pub use lines::make_finding_line;
 pub use slacking::{put_broken, slack_of_network, slack_of_rule};
-pub use spot::{Beside, Finding, Measure, Spot};
+pub use spot::{Beside, BoundedNumber, Finding, Measure};

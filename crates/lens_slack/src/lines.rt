@@ -5,7 +5,7 @@ ghost use Rattle.lens_slack.specs.Lines.{channel_text, demand_text, finding_line
 ghost use Rattle.lens_slack.specs.Lines.{place_text, rest_text, row_text, spot_index, spot_rule, spot_text, sum_line};
 ghost use Rattle.lens_slack.specs.{Lines.{want_text, where_text}, Writing.{HasPlace, HasSpot, IsNextOf}};
 
-use crate::{Beside, Finding, Spot};
+use crate::{Beside, BoundedNumber, Finding};
 use net_plan::{DeviceId, LinkId, Network, RowId, VlId};
 use schedule_tables::Rule;
 use trace_text::way_text;
@@ -23,29 +23,33 @@ fn channel_text(channel: Channel) -> &'static str
 }
 
 /// The rule that bounds the number at the spot.
-fn rule_at(spot: Spot) -> Rule
+fn rule_at(spot: BoundedNumber) -> Rule
     ensures { result ≡ spot_rule spot }
 {
     match spot {
-        Spot::Path(_, _) => Rule::Delays,
-        Spot::Settled => Rule::Settling,
-        Spot::Precision => Rule::Precision,
-        Spot::Correction => Rule::Correction,
-        Spot::Begin | Spot::End => Rule::ScheduleStart,
-        Spot::Window(_) => Rule::WindowEnds,
-        Spot::Gap(_) => Rule::Spacing,
-        Spot::Coming(_) => Rule::Forwarding,
+        BoundedNumber::Path(_, _) => Rule::Delays,
+        BoundedNumber::Settled => Rule::Settling,
+        BoundedNumber::Precision => Rule::Precision,
+        BoundedNumber::Correction => Rule::Correction,
+        BoundedNumber::Begin | BoundedNumber::End => Rule::ScheduleStart,
+        BoundedNumber::Window(_) => Rule::WindowEnds,
+        BoundedNumber::Gap(_) => Rule::Spacing,
+        BoundedNumber::Coming(_) => Rule::Forwarding,
     }
 }
 
 /// The place at which the rule is judged there.
-fn index_at(spot: Spot) -> u32
+fn index_at(spot: BoundedNumber) -> u32
     ensures { result ≡ spot_index spot }
 {
     match spot {
-        Spot::Path(device, _) => device.0,
-        Spot::Window(row) | Spot::Gap(row) | Spot::Coming(row) => row.0,
-        Spot::Settled | Spot::Precision | Spot::Correction | Spot::Begin | Spot::End => 0,
+        BoundedNumber::Path(device, _) => device.0,
+        BoundedNumber::Window(row) | BoundedNumber::Gap(row) | BoundedNumber::Coming(row) => row.0,
+        BoundedNumber::Settled
+        | BoundedNumber::Precision
+        | BoundedNumber::Correction
+        | BoundedNumber::Begin
+        | BoundedNumber::End => 0,
     }
 }
 
@@ -66,7 +70,7 @@ fn push_row(line: &mut LineText, network: &Network, row: RowId)
 }
 
 /// Adds what the spot is called.
-fn push_spot(line: &mut LineText, network: &Network, spot: Spot)
+fn push_spot(line: &mut LineText, network: &Network, spot: BoundedNumber)
     requires range { IsInRange network.now }
     requires spot { HasSpot network.now spot }
     requires room { length line.old + 38 ≤ 4096 }
@@ -74,17 +78,18 @@ fn push_spot(line: &mut LineText, network: &Network, spot: Spot)
     ensures grows { length line.new ≤ length line.old + 38 }
 {
     match spot {
-        Spot::Path(device, channel) => {
+        BoundedNumber::Path(device, channel) => {
             line.append(network.device_name(device));
             line.push(" ");
             line.push(channel_text(channel));
         }
-        Spot::Settled => line.push("settled"),
-        Spot::Precision => line.push("precision"),
-        Spot::Correction => line.push("correction"),
-        Spot::Begin => line.push("tt_start"),
-        Spot::End => line.push("tt_start_end"),
-        Spot::Window(row) | Spot::Gap(row) | Spot::Coming(row) => push_row(line, network, row),
+        BoundedNumber::Settled => line.push("settled"),
+        BoundedNumber::Precision => line.push("precision"),
+        BoundedNumber::Correction => line.push("correction"),
+        BoundedNumber::Begin => line.push("tt_start"),
+        BoundedNumber::End => line.push("tt_start_end"),
+        BoundedNumber::Window(row) | BoundedNumber::Gap(row) | BoundedNumber::Coming(row) =>
+            push_row(line, network, row),
     }
 }
 

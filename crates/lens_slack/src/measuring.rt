@@ -8,7 +8,7 @@ ghost use Rattle.net_plan.specs.{Ranges.{IsInRange}, declared.network.Network.{N
 use crate::bounds::tightest_at;
 use crate::step::Step;
 use crate::tightest::tighter_of;
-use crate::{Finding, Measure, Spot};
+use crate::{BoundedNumber, Finding, Measure};
 use net_plan::{DeviceId, Network, RowId, rules_give_trees};
 use schedule_checker::{Plan, PlanRule, broken_plan, groups_of, judge_shape};
 use schedule_tables::{Rule, entries_of};
@@ -186,21 +186,24 @@ fn spots_of(network: &Network, measure: Measure) -> u64
 }
 
 /// The spot of this number, of those that the measure looks at.
-fn spot_at(measure: Measure, number: u64) -> Spot
+fn spot_at(measure: Measure, number: u64) -> BoundedNumber
     requires within { (network : NetworkValue) × IsInRange network × (number < spots_of measure network) }
     ensures value { result ≡ spot_at measure number }
     ensures of_network { (network : NetworkValue) → number < spots_of measure network → IsSpotOf network result }
 {
     match measure {
-        Measure::Paths => Spot::Path(DeviceId((number / 2) as u32), channel_of(number % 2)),
-        Measure::Settled => Spot::Settled,
-        Measure::Precision => Spot::Precision,
-        Measure::Correction => Spot::Correction,
-        Measure::Begin => Spot::Begin,
-        Measure::End => Spot::End,
-        Measure::Windows => Spot::Window(RowId(number as u32)),
-        Measure::Gaps => Spot::Gap(RowId(number as u32)),
-        Measure::Comings => Spot::Coming(RowId(number as u32)),
+        Measure::Paths => BoundedNumber::Path(
+            DeviceId((number / 2) as u32),
+            channel_of(number % 2),
+        ),
+        Measure::Settled => BoundedNumber::Settled,
+        Measure::Precision => BoundedNumber::Precision,
+        Measure::Correction => BoundedNumber::Correction,
+        Measure::Begin => BoundedNumber::Begin,
+        Measure::End => BoundedNumber::End,
+        Measure::Windows => BoundedNumber::Window(RowId(number as u32)),
+        Measure::Gaps => BoundedNumber::Gap(RowId(number as u32)),
+        Measure::Comings => BoundedNumber::Coming(RowId(number as u32)),
     }
 }
 

@@ -4,7 +4,7 @@ use tte_units::frames::Channel;
 
 /// A number of the network that a rule bounds from below.
 #[derive(Clone, Copy, PartialEq, Eq)]
-pub enum Spot {
+pub enum BoundedNumber {
     /// Dmax, for the path of a device on a channel.
     Path(DeviceId, Channel),
     /// The spread of the starts.
@@ -54,7 +54,7 @@ pub enum Beside {
 /// What the network has at a spot, and what a rule wants there at least, in units of 2^-16 ns.
 #[derive(Clone, Copy, PartialEq, Eq)]
 pub struct Finding {
-    pub spot: Spot,
+    pub spot: BoundedNumber,
     pub has: u64,
     pub wants: u64,
     pub beside: Beside,

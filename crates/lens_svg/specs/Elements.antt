@@ -2,7 +2,7 @@
 use Rattle.std.specs.{Option.option_map_or, Prelude.{true, ℕ, ⊤}}
 use Rattle.std.specs.Prelude.{◌++◌, ◌==◌, Bool, List, None, Option, Some, [], codes, decimal, false, if◌then◌else◌}
 use Rattle.lens_svg.specs.{Layout.last_time, Numbers.micros_text, declared.mark.Hue.Hue}
-use Rattle.lens_svg.specs.{Marks.{ground_text, hue_text}, declared.{element.{Band.Band, Point.Point}, layout.Span.Span}}
+use Rattle.lens_svg.specs.{Marks.{ground_text, hue_text}, declared.{element.{Band.Band, PicturePoint.PicturePoint}, layout.Span.Span}}
 use Rattle.lens_svg.specs.declared.element.{Band.TheVariants.{Ground, Wait}, Element.{Element, TheVariants.Window}}
 use Rattle.lens_svg.specs.declared.element.Element.TheVariants.{Bar, Caption, Gauge, Lack, Opening, Rail, Spread, Tick, Way}
 use Rattle.net_plan.specs.{Belonging.{HasDevice, device_name}, declared.{ids.DeviceId.DeviceId, tables.Role.Role}}
@@ -11,7 +11,7 @@ use Rattle.tte_units.specs.declared.frames.channel.Channel.{Channel, TheVariants
 use Rattle.net_plan.specs.declared.{network.Network.Network, tables.Role.TheVariants.{Client, Cm, Master, Relay}}
 
 -- a place: how far to the right and how far down
-abbrev pub point_text : Point → List ℕ
+abbrev pub point_text : PicturePoint → List ℕ
 point_text point = decimal point.x ++ codes " " ++ decimal point.y
 
 -- the words of a stroke along a lane
@@ -74,7 +74,7 @@ caption_line span records precision =
     ++ extent_text records precision
 
 -- a stroke along a lane
-unfoldable pub bar_line : Band → Point → ℕ → List ℕ
+unfoldable pub bar_line : Band → PicturePoint → ℕ → List ℕ
 bar_line band point to =
     codes "<path class=\"" ++ band_text band ++ codes "\" d=\"M" ++ point_text point ++ codes " H" ++ decimal to
     ++ codes "\"/>\n"
@@ -86,7 +86,7 @@ rail_line network device y to =
     ++ codes "\"/>" ++ name_part network device ++ role_part network device
 
 -- an instant: a line through all lanes, and its time in microseconds
-unfoldable pub tick_line : Point → ℕ → List ℕ
+unfoldable pub tick_line : PicturePoint → ℕ → List ℕ
 tick_line point time =
     codes "<g><path class=\"tick\" d=\"M" ++ point_text point
     ++ codes " V168\"/><text class=\"time\" transform=\"translate(" ++ point_text point
@@ -98,13 +98,13 @@ gone_text true = codes " gone"
 gone_text false = []
 
 -- a frame's way
-unfoldable pub way_line : Hue → Bool → Point → Point → List ℕ
+unfoldable pub way_line : Hue → Bool → PicturePoint → PicturePoint → List ℕ
 way_line hue gone from to =
     codes "<path class=\"way " ++ hue_text hue ++ gone_text gone ++ codes "\" d=\"M" ++ point_text from ++ codes " L"
     ++ point_text to ++ codes "\"/>\n"
 
 -- a clock beside the last mark of its lane: a bar, and how many nanoseconds it lies beyond the least
-unfoldable pub gauge_line : Point → ℕ → ℕ → List ℕ
+unfoldable pub gauge_line : PicturePoint → ℕ → ℕ → List ℕ
 gauge_line point width nanos =
     codes "<g transform=\"translate(" ++ point_text point
     ++ codes ")\"><path class=\"frame\" d=\"M10 0 h50\"/><path class=\"clock\" d=\"M10 0 h" ++ decimal width
@@ -127,7 +127,7 @@ abbrev pub spread_line : ℕ → ℕ → ℕ → ℕ → List ℕ
 spread_line y width apart most = spread_bar y width ++ spread_words apart most
 
 -- the box of a window round a mark, with a tick where in the window the frame came
-unfoldable pub window_line : Point → ℕ → List ℕ
+unfoldable pub window_line : PicturePoint → ℕ → List ℕ
 window_line point tick =
     codes "<g class=\"window\"><path d=\"M" ++ point_text point
     ++ codes " m-12 -8 h24 v16 h-24 z\"/><path class=\"came\" d=\"M" ++ point_text point ++ codes " m-12 -8 m"

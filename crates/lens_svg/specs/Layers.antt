@@ -4,7 +4,7 @@ use Rattle.std.specs.Prelude.{option_and_then, option_map}
 use Rattle.lens_svg.specs.{Lanes.{bottom_of, y_of}, Sketching.mark_at, declared.element.Band.TheVariants.{Ground, Wait}}
 use Rattle.lens_svg.specs.{Layout.{right_of, width_of}, declared.mark.Look.{Look, TheVariants.{Gone, Turned, Waited}}}
 use Rattle.lens_svg.specs.{Plan.Plan, Views.is_shown, declared.layer.MarkLayer.{MarkLayer, TheVariants.{Ticks, Turns, Waits, Ways}}}
-use Rattle.lens_svg.specs.declared.element.{Element.{Element, TheVariants.{Bar, Lack, Opening, Rail, Tick, Way}}, Point.Point}
+use Rattle.lens_svg.specs.declared.element.{Element.{Element, TheVariants.{Bar, Lack, Opening, Rail, Tick, Way}}, PicturePoint.PicturePoint}
 use Rattle.lens_svg.specs.declared.{layer.LaneLayer.{LaneLayer, TheVariants.{Grounds, Rails}}, mark.Mark.Mark}
 use Rattle.net_plan.specs.declared.{ids.DeviceId.DeviceId, network.Network.Network}
 
@@ -27,7 +27,7 @@ height_at network plan place = y_of network plan.view.kept (device_of place)
 -- its lane's ground where the picture begins, or its name and its lane
 abbrev pub of_lane : LaneLayer → Network → Plan → ℕ → Option Element
 of_lane Grounds network plan place =
-    let start : Point = record { x = 140; y = height_at network plan place } in
+    let start : PicturePoint = record { x = 140; y = height_at network plan place } in
     option_map (λ shade. Bar (Ground shade) start (right_of plan.pen)) (slice_get plan.grounds place)
 of_lane Rails network plan place = Some (Rail (device_of place) (height_at network plan place) (right_of plan.pen))
 
@@ -37,7 +37,7 @@ on_lane layer network plan place =
     if is_shown plan.view.kept place then of_lane layer network plan place else None
 
 -- where a mark is
-abbrev pub point_of : Mark → Point
+abbrev pub point_of : Mark → PicturePoint
 point_of mark = record { x = mark.x; y = mark.y }
 
 -- the lane's ground from the mark on, where the record changes it

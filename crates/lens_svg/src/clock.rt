@@ -5,7 +5,7 @@ ghost use Rattle.lens_svg.specs.Clocks.{gauge_of, greater, is_among, lesser, loc
 ghost use Rattle.lens_svg.specs.{Clocks.{spread_at, spread_of, told_by, told_in}, Elements.HasNames};
 ghost use Rattle.net_plan.specs.Ranges.{IsInRange};
 
-use crate::element::{Element, Point};
+use crate::element::{Element, PicturePoint};
 use crate::lanes::{bottom_of, y_of};
 use crate::{Sketch, Span};
 use net_plan::{DeviceId, Network, What};
@@ -225,7 +225,7 @@ fn gauge_at(network: &Network, sketch: &Sketch, ends: Ends, told: Told) -> Eleme
     } else {
         share(50, beyond, ends.greatest.apart(ends.least))
     };
-    let place = Point {
+    let place = PicturePoint {
         x: sketch.pen().most,
         y: y_of(network, sketch.kept(), told.device),
     };

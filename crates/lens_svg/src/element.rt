@@ -16,7 +16,7 @@ use tte_units::frames::Channel;
 
 /// A place in the picture, in pixels from its left and from its top.
 #[derive(Clone, Copy)]
-pub struct Point {
+pub struct PicturePoint {
     pub x: u64,
     pub y: u64,
 }
@@ -36,26 +36,26 @@ pub enum Element {
     /// Which part of the run is drawn, and how many records there are in it.
     Caption(Span, u64),
     /// A stroke along a lane, from a place to so far to the right.
-    Bar(Band, Point, u64),
+    Bar(Band, PicturePoint, u64),
     /// A device's name, and the line of its lane: how far down it is, and how far to the right it ends.
     Rail(DeviceId, u64, u64),
     /// An instant: where it stands, with the end of the lanes there, and its time.
-    Tick(Point, u64),
+    Tick(PicturePoint, u64),
     /// A frame's way from one mark to another, and whether it ends there.
-    Way(Hue, bool, Point, Point),
+    Way(Hue, bool, PicturePoint, PicturePoint),
     /// A clock: the last mark of its lane, how long its bar is, and how many nanoseconds it lies beyond the least.
-    Gauge(Point, u64, u64),
+    Gauge(PicturePoint, u64, u64),
     /// How far down the lanes end, how long the bar is, how many nanoseconds the clocks are apart, and how many they
     /// may be.
     Spread(u64, u64, u64, u64),
     /// The window of a frame that was taken: its mark, and how far the tick stands in the box.
-    Window(Point, u64),
+    Window(PicturePoint, u64),
     /// That no record is drawn.
     Lack,
 }
 
 /// Adds a place: at most 41 octets.
-fn push_point(line: &mut LineText, point: Point)
+fn push_point(line: &mut LineText, point: PicturePoint)
     requires { length line.old + 41 ≤ line_limit }
     ensures text { line.new ≡ line.old ++ point_text point }
     ensures grows { length line.new ≤ length line.old + 41 }
@@ -167,7 +167,7 @@ fn push_below(line: &mut LineText, network: &Network, device: DeviceId)
 }
 
 #[tactic(auto, unfolding(crate::specs::Elements::bar_line))]
-fn make_bar(line: &mut LineText, band: Band, point: Point, to: u64)
+fn make_bar(line: &mut LineText, band: Band, point: PicturePoint, to: u64)
     ensures { line.new ≡ bar_line band point to }
 {
     line.clear();
@@ -197,7 +197,7 @@ fn make_rail(line: &mut LineText, network: &Network, device: DeviceId, y: u64, t
 }
 
 #[tactic(auto, unfolding(crate::specs::Elements::tick_line))]
-fn make_tick(line: &mut LineText, point: Point, time: u64)
+fn make_tick(line: &mut LineText, point: PicturePoint, time: u64)
     ensures { line.new ≡ tick_line point time }
 {
     line.clear();
@@ -219,7 +219,7 @@ fn gone_text(gone: bool) -> &'static str
 }
 
 #[tactic(auto, unfolding(crate::specs::Elements::way_line))]
-fn make_way(line: &mut LineText, hue: Hue, gone: bool, from: Point, to: Point)
+fn make_way(line: &mut LineText, hue: Hue, gone: bool, from: PicturePoint, to: PicturePoint)
     ensures { line.new ≡ way_line hue gone from to }
 {
     line.clear();
@@ -291,7 +291,7 @@ fn make_caption(line: &mut LineText, span: Span, records: u64, precision: u64)
 }
 
 #[tactic(auto, unfolding(crate::specs::Elements::gauge_line))]
-fn make_gauge(line: &mut LineText, point: Point, width: u64, nanos: u64)
+fn make_gauge(line: &mut LineText, point: PicturePoint, width: u64, nanos: u64)
     ensures { line.new ≡ gauge_line point width nanos }
 {
     line.clear();
@@ -339,7 +339,7 @@ fn make_spread(line: &mut LineText, y: u64, width: u64, apart: u64, most: u64)
 }
 
 #[tactic(auto, unfolding(crate::specs::Elements::window_line))]
-fn make_window(line: &mut LineText, point: Point, tick: u64)
+fn make_window(line: &mut LineText, point: PicturePoint, tick: u64)
     ensures { line.new ≡ window_line point tick }
 {
     line.clear();

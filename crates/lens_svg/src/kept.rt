@@ -16,11 +16,11 @@ pub struct Flags {
 
 /// All records and devices, or those that have flags.
 #[derive(Drop)]
-pub struct Kept {
+pub struct DrawnRecords {
     pub flags: Option<Flags>,
 }
 
-impl Model for Kept {
+impl Model for DrawnRecords {
     ghost use Rattle.{lens_svg.specs.Views.Choice, std.specs.Prelude.{Option, option_map}};
 
     ghost Value = { Option Choice };
@@ -28,7 +28,7 @@ impl Model for Kept {
     ghost view = { λ k. option_map (λ f. record { records = f.records.items; lanes = f.lanes.items }) k.flags };
 }
 
-impl Kept {
+impl DrawnRecords {
     /// Is the record of this number one of them?
     pub fn holds(&self, number: u64) -> bool
         ensures { result ≡ is_kept self.now number }

@@ -3,7 +3,7 @@ ghost use Rattle.std.specs.Prelude.{◌≡◌, ◌≤◌, ◌^◌, length};
 ghost use Rattle.lens_svg.specs.{Lanes.{bottom_of, count_to, is_over, lane_of, rank_at, rank_in, start_of, y_of}, Views.is_shown};
 ghost use Rattle.net_plan.specs.Ranges.{IsInRange};
 
-use crate::{Ground, Kept};
+use crate::{DrawnRecords, Ground};
 use net_plan::{Device, DeviceId, Network, Role};
 use tte_units::frames::Channel;
 
@@ -40,7 +40,7 @@ fn is_over(devices: &[Device], place: usize, other: usize) -> bool
 }
 
 /// Which lane is the device's, from 0 at the top.
-fn lane_of(network: &Network, kept: &Kept, device: DeviceId) -> u64
+fn lane_of(network: &Network, kept: &DrawnRecords, device: DeviceId) -> u64
     ensures value { result ≡ lane_of network.now kept.now device }
     ensures few { result ≤ length network.now.device }
 {
@@ -55,7 +55,7 @@ fn lane_of(network: &Network, kept: &Kept, device: DeviceId) -> u64
 }
 
 /// How many devices have a lane.
-fn count_of_lanes(network: &Network, kept: &Kept) -> u64
+fn count_of_lanes(network: &Network, kept: &DrawnRecords) -> u64
     ensures value { result ≡ count_to (is_shown kept.now) (length network.now.device) }
     ensures few { result ≤ length network.now.device }
 {
@@ -69,7 +69,7 @@ fn count_of_lanes(network: &Network, kept: &Kept) -> u64
 }
 
 /// How far down the device's lane is.
-pub(crate) fn y_of(network: &Network, kept: &Kept, device: DeviceId) -> u64
+pub(crate) fn y_of(network: &Network, kept: &DrawnRecords, device: DeviceId) -> u64
     requires { IsInRange network.now }
     ensures { result ≡ y_of network.now kept.now device }
 {
@@ -77,7 +77,7 @@ pub(crate) fn y_of(network: &Network, kept: &Kept, device: DeviceId) -> u64
 }
 
 /// How far down the lanes end.
-pub(crate) fn bottom_of(network: &Network, kept: &Kept) -> u64
+pub(crate) fn bottom_of(network: &Network, kept: &DrawnRecords) -> u64
     requires { IsInRange network.now }
     ensures value { result ≡ bottom_of network.now kept.now }
     ensures few { result ≤ 2 ^ 40 }

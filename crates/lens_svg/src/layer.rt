@@ -5,7 +5,7 @@ ghost use Rattle.net_plan.specs.declared.network.Network.{Network as NetworkValu
 ghost use Rattle.lens_svg.specs.Layers.{height_at, is_gone, lack_of, may_wait, of_lane, on_lane, on_mark, opening_of};
 ghost use Rattle.lens_svg.specs.Layers.{tick_of, turn_of, wait_between, wait_of, way_of};
 
-use crate::element::{Band, Element, Point};
+use crate::element::{Band, Element, PicturePoint};
 use crate::lanes::{bottom_of, y_of};
 use crate::{Look, Mark, Sketch};
 use net_plan::{DeviceId, Network};
@@ -75,7 +75,11 @@ fn of_lane(layer: LaneLayer, network: &Network, sketch: &Sketch, place: usize) -
     let right = sketch.pen().right();
     match layer {
         LaneLayer::Grounds => match sketch.ground_at(place) {
-            Some(ground) => Some(Element::Bar(Band::Ground(ground), Point { x: 140, y }, right)),
+            Some(ground) => Some(Element::Bar(
+                Band::Ground(ground),
+                PicturePoint { x: 140, y },
+                right,
+            )),
             None => None,
         },
         LaneLayer::Rails => Some(Element::Rail(DeviceId(place as u32), y, right)),
@@ -108,7 +112,7 @@ fn turn_of(sketch: &Sketch, mark: &Mark) -> Option<Element>
     match mark.look {
         Look::Turned(ground) => Some(Element::Bar(
             Band::Ground(ground),
-            Point {
+            PicturePoint {
                 x: mark.x,
                 y: mark.y,
             },
@@ -124,7 +128,7 @@ fn tick_of(network: &Network, sketch: &Sketch, mark: &Mark) -> Option<Element>
     ensures { result ≡ tick_of network.now sketch.now mark.now }
 {
     if mark.first {
-        let place = Point {
+        let place = PicturePoint {
             x: mark.x,
             y: bottom_of(network, sketch.kept()),
         };
@@ -149,7 +153,7 @@ fn wait_between(cause: &Mark, mark: &Mark) -> Option<Element>
     ensures { result ≡ wait_between cause.now mark.now }
 {
     if cause.device.0 == mark.device.0 && cause.time < mark.time {
-        let place = Point {
+        let place = PicturePoint {
             x: cause.x,
             y: cause.y,
         };
@@ -196,11 +200,11 @@ fn way_of(sketch: &Sketch, mark: &Mark) -> Option<Element>
     Some(Element::Way(
         mark.hue,
         is_gone(mark.look),
-        Point {
+        PicturePoint {
             x: cause.x,
             y: cause.y,
         },
-        Point {
+        PicturePoint {
             x: mark.x,
             y: mark.y,
         },

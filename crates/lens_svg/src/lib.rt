@@ -21,8 +21,8 @@ mod window;
 
 pub use bodies::{scene_of, seat_of};
 pub use clock::{Clocks, Ends, Told, gauge_of, spread_of};
-pub use element::{Band, Element, Point, make_element_line, role_word};
-pub use kept::{Flags, Kept, flag_at};
+pub use element::{Band, Element, PicturePoint, make_element_line, role_word};
+pub use kept::{DrawnRecords, Flags, flag_at};
 pub use lanes::rank_in;
 pub use laws::{arrows_law, hues_law, lanes_law, order_law, title_law};
 pub use layer::{LaneLayer, MarkLayer, lack_of, on_lane, on_mark, opening_of};

@@ -8,7 +8,7 @@ use crate::bodies::{look_of, own_hue, scene_of, seat_of};
 use crate::kept::side_if;
 use crate::lanes::{start_of, y_of};
 use crate::layout::{Side, side_of};
-use crate::{Ground, Hue, Kept, Look, Mark, Pen, Span, Title};
+use crate::{DrawnRecords, Ground, Hue, Look, Mark, Pen, Span, Title};
 use net_plan::{Device, Network};
 use run_law::{Note, NoteBody, cause_of};
 use std::alloc::Global;
@@ -20,7 +20,7 @@ use tte_io::OutOfMemory;
 #[derive(Drop)]
 pub struct Sketch {
     span: Span,
-    kept: Kept,
+    kept: DrawnRecords,
     title: Title,
     pen: Pen,
     /// How far to the right the last instant stands that is drawn, or 0.
@@ -91,7 +91,7 @@ impl Sketch {
         alloc: Global,
         network: &Network,
         span: Span,
-        kept: Kept,
+        kept: DrawnRecords,
         title: Title,
     ) -> Result<Sketch, OutOfMemory>
         ensures { IfOk result (λ s.
@@ -296,7 +296,7 @@ impl Sketch {
     }
 
     /// Which records and devices are drawn.
-    pub(crate) fn kept(&self) -> &Kept
+    pub(crate) fn kept(&self) -> &DrawnRecords
         ensures { result.now ≡ self.now.view.kept }
     {
         &self.kept

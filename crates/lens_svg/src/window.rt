@@ -4,7 +4,7 @@ ghost use Rattle.lens_svg.specs.{Clocks.IsWide, Windows.{came_of, tick_in, windo
 ghost use Rattle.net_plan.specs.Ranges.{IsInRange};
 
 use crate::clock::{distance, share};
-use crate::element::Point;
+use crate::element::PicturePoint;
 use crate::{Look, Mark};
 use net_plan::{LinkId, Network, RowId, VlId};
 use run_law::place_in_cycle;
@@ -14,7 +14,7 @@ use schedule_tables::{Window, entry_of, window_of};
 /// frame came.
 #[derive(Clone, Copy)]
 pub struct Came {
-    pub place: Point,
+    pub place: PicturePoint,
     pub tick: u64,
 }
 
@@ -54,7 +54,7 @@ pub fn came_of(network: &Network, mark: &Mark, clock: i128) -> Option<Came>
     match mark.look {
         Look::Taken(link, vl) => match window_by(network, vl, link) {
             Some(window) => Some(Came {
-                place: Point {
+                place: PicturePoint {
                     x: mark.x,
                     y: mark.y,
                 },

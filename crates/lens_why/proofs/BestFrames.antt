@@ -10,7 +10,7 @@ use Rattle.{lens_why.specs.Corrections.{told_on, value_of, with_hearing}, sync_s
 use Rattle.lens_why.specs.declared.{ground.Best.Best, seeking.Sought.TheVariants.Frame}
 use Rattle.run_law.proofs.law.FirstPlaces.{front_founded, in_filter, none_kept}
 use Rattle.{lens_why.specs.declared.ground.Ground.TheVariants.{Clique, Corrected}, sync_state.specs.declared.membership.frame.HeardFrame.HeardFrame}
-use Rattle.{lens_why.specs.declared.ground.Told.Told}
+use Rattle.{lens_why.specs.declared.ground.BestHeard.BestHeard}
 use Rattle.run_law.{proofs.{records.Members.in_kept, runs.Lacking.behind_first}, specs.scenario.Scenarios.Scenario}
 use Rattle.sync_state.specs.{Standing.next_point, declared.state.State.State, membership.Hearing.Hearing}
 use Rattle.audit_sweep.specs.Indexing.{before_corrections}
@@ -180,7 +180,7 @@ module _ (network : Network) (octets : List ℕ) (ns : List Note) (end : Units) 
       quiet_before changed.2.0 (omega (arith, seven)) changed.2.1.next
   after_clique state cause whys.On told is = absurd cc
   after_clique state cause whys.Frame told is = absurd cc
-  after_clique state cause whys.Correction told is = absurd cc
+  after_clique state cause whys.RecordedCorrection told is = absurd cc
 
 abbrev pub best : ℕ → Members → ℤ → Best
 best n members v = record { number = n; members = members; value = v }
@@ -223,14 +223,14 @@ corrected_is s hs h device cycle t heard adjustment a b at is changed said_a sai
     ∙ ap (λ (o : Option Best). Corrected (channel_ground s hs h device cycle A) o) (said_b ∙ each B)
 
 -- what is told of both channels is the ground of a clique
-pub clique_is : (s : Scenario) (hs : List Happening) (h : Happening) (device : DeviceId) (t : ℕ) (heard : Summary) (a b : Option Told) (outside : Members)
+pub clique_is : (s : Scenario) (hs : List Happening) (h : Happening) (device : DeviceId) (t : ℕ) (heard : Summary) (a b : Option BestHeard) (outside : Members)
     (threshold : ℕ) → t ≡ time_of h → heard ≡ heard_at_point s hs device t → a ≡ told_on s.network hs h device A heard
     → b ≡ told_on s.network hs h device B heard → outside ≡ heard.outside → threshold ≡ s.network.sync_threshold
     → Clique a b outside threshold ≡ clique_ground s hs h device
 clique_is s hs h device t heard a b outside threshold at is first second others enough =
     let so : heard ≡ heard_at_point s hs device (time_of h) = is ∙ ap (heard_at_point s hs device) at in
-    ap (λ (o : Option Told). Clique o b outside threshold) first
-    ∙ ap (λ (o : Option Told). Clique (told_on s.network hs h device A heard) o outside threshold) second
+    ap (λ (o : Option BestHeard). Clique o b outside threshold) first
+    ∙ ap (λ (o : Option BestHeard). Clique (told_on s.network hs h device A heard) o outside threshold) second
     ∙ ap (λ (m : Members). Clique (told_on s.network hs h device A heard) (told_on s.network hs h device B heard) m threshold) others
     ∙ ap (λ (n : ℕ). Clique (told_on s.network hs h device A heard) (told_on s.network hs h device B heard) heard.outside n) enough
     ∙ ap (λ (m : Summary). Clique (told_on s.network hs h device A m) (told_on s.network hs h device B m) m.outside s.network.sync_threshold) so

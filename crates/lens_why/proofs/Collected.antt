@@ -8,9 +8,9 @@ use Rattle.audit_law.proofs.collections_lemmas.Stepping.{AreBefore, are-ignored,
 use Rattle.compression.proofs.{Elements.{Ordered, Ordered-from}, Standing.AreClusters-unique}
 use Rattle.std.proofs.lemmas.List.{Elements.{All-nil, filter_map-append}, append-nil}
 use Rattle.{compression.specs.Clusters.{AreClusters, Cluster, Point}, tte_reports.specs.Reports.IsReportOf}
-use Rattle.{compression.specs.{Collection.{joined, opening}, declared.taken.Taken.Taken}, std.specs.Prelude.{filter_map, fold, option_map, take}}
+use Rattle.{compression.specs.{LastCollection.{joined, opening}, declared.taken.Taken.Taken}, std.specs.Prelude.{filter_map, fold, option_map, take}}
 use Rattle.compression.specs.Role.{open_at, role}
-use Rattle.{compression.specs.declared.taken.Taken.TheVariants.{Joined, Opened, OtherCycle, Repeat}, lens_why.specs.declared.collecting.Collection.Collection}
+use Rattle.{compression.specs.declared.taken.Taken.TheVariants.{Joined, Opened, OtherCycle, Repeat}, lens_why.specs.declared.collecting.LastCollection.LastCollection}
 use Rattle.{lens_why.proofs.LastRecords.{before_number, own_at}, run_law.specs.declared.note.Note.Note, std.proofs.lemmas.List.Sums.fold_push}
 use Rattle.run_law.specs.device.States.{cycle_in}
 use Rattle.precision_law.proofs.records.Behind.{after_last_at}
@@ -182,7 +182,7 @@ module _ (network : Network) (d : DeviceId) where
 -- ---- the records of a report
 
 -- behind the records of lower numbers than this, the last collection is this
-pub record IsCollectedUpTo (network : Network) (device : DeviceId) (hs : List Happening) (number at : ℕ) (last : Option Collection) : Type 0 where
+pub record IsCollectedUpTo (network : Network) (device : DeviceId) (hs : List Happening) (number at : ℕ) (last : Option LastCollection) : Type 0 where
   pub within : at ≤ number
   pub is : last ≡ option_map told_of (last_collection network device (take (at - 1) hs))
 
@@ -191,7 +191,7 @@ module _ (network : Network) (octets : List ℕ) (ns : List Note) (end : Units) 
   pub collected_none : IsCollectedUpTo network device (happenings network ns) number 1 None
   collected_none = record { within = (before_number network octets ns end of number h there).some; is = refl }
 
-  pub collected_more : (at : ℕ) (last more : Option Collection) → 1 ≤ at → at < number
+  pub collected_more : (at : ℕ) (last more : Option LastCollection) → 1 ≤ at → at < number
       → IsCollectedUpTo network device (happenings network ns) number at last
       → ((g : Happening) (before : List Happening) → IsThere network ns at g → last ≡ option_map told_of (last_collection network device before)
       → more ≡ option_map told_of (last_collection network device (before ++ g ∷ [])))
@@ -207,7 +207,7 @@ module _ (network : Network) (octets : List ℕ) (ns : List Note) (end : Units) 
             ∙ ap (λ (n : ℕ). option_map told_of (last_collection network device (take n (happenings network ns)))) (sym next);
       }
 
-  pub collected_all : (at : ℕ) (last : Option Collection) → number ≤ at → IsCollectedUpTo network device (happenings network ns) number at last
+  pub collected_all : (at : ℕ) (last : Option LastCollection) → number ≤ at → IsCollectedUpTo network device (happenings network ns) number at last
       → last ≡ option_map told_of (last_collection network device (records_before (place_of h) (happenings network ns)))
   collected_all at last past so =
       let within = so.within in
@@ -218,11 +218,11 @@ module _ (network : Network) (octets : List ℕ) (ns : List Note) (end : Units) 
       ∙ ap (λ gs. option_map told_of (last_collection network device gs)) (sym b.are)
 
 -- what is told is the ground
-pub collected_is : (network : Network) (hs : List Happening) (device : DeviceId) (h : Happening) (carried : Carried) (master : ℕ) (last : Option Collection)
+pub collected_is : (network : Network) (hs : List Happening) (device : DeviceId) (h : Happening) (carried : Carried) (master : ℕ) (last : Option LastCollection)
     → carried ≡ carried_by h → master ≡ master_of carried.members.0
     → last ≡ option_map told_of (last_collection network device (records_before (place_of h) hs))
     → Collected master carried.cycle last ≡ collected_ground network hs device h
 collected_is network hs device h carried master last said is before =
     ap (λ (m : ℕ). Collected m carried.cycle last) (is ∙ ap (λ (c : Carried). master_of c.members.0) said)
     ∙ ap (λ (c : Carried). Collected (master_of (members_in h)) c.cycle last) said
-    ∙ ap (λ (o : Option Collection). Collected (master_of (members_in h)) (cycle_in h) o) before
+    ∙ ap (λ (o : Option LastCollection). Collected (master_of (members_in h)) (cycle_in h) o) before

@@ -5,7 +5,7 @@ use Rattle.{audit_law.proofs.law_lemmas.Emitting.before_is_front}
 use Rattle.lens_why.proofs.{BestFrames.{before_all, before_founded, caused, none_later, summary_is}, LastRecords.parted_there}
 use Rattle.lens_why.specs.Corrections.{channel_ground, clique_ground, corrected_ground, heard_at_point, said_by, told_by}
 use Rattle.lens_why.specs.Decisions.{IsCorrectedBy, IsStateBy, value_told}
-use Rattle.lens_why.specs.declared.ground.Told.{Told}
+use Rattle.lens_why.specs.declared.ground.BestHeard.{BestHeard}
 use Rattle.net_plan.specs.declared.{ids.DeviceId.DeviceId, network.Network.Network}
 use Rattle.run_law.{proofs.law.FirstPlaces.{same_earlier, split}, specs.{declared.note.{Note.Note, NoteBody.NoteBody}, runs.DueRecords.IsDue}}
 use Rattle.run_law.specs.device.States.{adjustment_after, adjustment_before}
@@ -16,7 +16,7 @@ use Rattle.{tte_audit.specs.{Named.IsNamed, Report.scenario_of}, tte_reports.{pr
 use Rattle.std.proofs.Common.{◌<◌, ◌∙◌, ◌∷◌, ◌≡◌, ◌≤◌, Bool, List, None, Option, Some, ap}
 use Rattle.std.proofs.Common.{arith, false, if◌then◌else◌, inl, inr, refl, subst, sym, true, ℕ, ℤ}
 use Rattle.{std.proofs.lemmas.Bool.cases_lt, std.specs.Prelude.{IfSome, IsSomeAnd, nat_le, option_and_then, option_map}}
-use Rattle.sync_state.specs.{Plan.expected_at, Standing.{Standing, point_in}, Verdicts.{HasVerdict, deviation_on}, correction.Correction.correction_of}
+use Rattle.sync_state.specs.{Plan.expected_at, Standing.{Standing, point_in}, Verdicts.{HasVerdict, deviation_on}, correction.RecordedCorrection.correction_of}
 use Rattle.sync_state.specs.{correction.Deviation.deviation_of, declared.{answers.Verdict.Verdict, membership.frame.HeardFrame.HeardFrame, state.State.State}}
 use Rattle.sync_state.specs.membership.{Members.count_of, Summary.{Summarizes, best_on}}
 use Rattle.tte_units.specs.declared.{frames.channel.Channel.{Channel, TheVariants.{A, B}}, units.Units.Units}
@@ -48,7 +48,7 @@ said_so s hs h device cycle adjustment channel (Some frame) = by (nat_le s.netwo
     by true e = rw e refl
     by false e = rw e refl
 
-module _ (tell : HeardFrame → Told) (same : ((f : HeardFrame) → (tell f).members ≡ f.members)) where
+module _ (tell : HeardFrame → BestHeard) (same : ((f : HeardFrame) → (tell f).members ≡ f.members)) where
   -- the best frame of too few masters is told so, and one that is outnumbered
   few_told : (threshold : ℕ) (o : Option HeardFrame) → (IsSomeAnd o (λ f. threshold ≤ count_of f.members) → ⊥)
       → IfSome (option_map tell o) (λ told. count_of told.members < threshold)

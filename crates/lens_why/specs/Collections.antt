@@ -3,12 +3,12 @@
 use Rattle.std.specs.{List.{Contains, last_or}, Prelude.{option_and_then, option_map, pos, ℕ, ℤ}}
 use Rattle.std.specs.Prelude.{◌*◌, ◌+◌, ◌-ℤ◌, ◌≡◌, ◌≤ℤ◌, List, None, Option, Some, fold, if◌then◌else◌, int_lt}
 use Rattle.{audit_devices.specs.Keeping.records_before, lens_why.specs.declared.ground.Ground.Ground}
-use Rattle.compression.specs.{Clusters.{AreClusters, Cluster, Point, point_at}, Collection.{joined, opening}}
+use Rattle.compression.specs.{Clusters.{AreClusters, Cluster, Point, point_at}, LastCollection.{joined, opening}}
 use Rattle.{compression.specs.Middle.{middle_of, relative}, net_plan.specs.declared.ids.DeviceId.DeviceId}
 use Rattle.{compression.specs.{OneCluster.AreInOrder, Role.role_in}, tte_units.specs.declared.units.Units.Units}
 use Rattle.compression.specs.declared.taken.Taken.{Taken, TheVariants.{Joined, Opened, OtherCycle, Repeat}}
 use Rattle.{lens_why.specs.Seeking.last_sought, tte_reports.specs.Reports.IsReportOf, tte_units.specs.Amount.amount}
-use Rattle.{lens_why.specs.declared.collecting.Collection.Collection, net_plan.specs.declared.network.Network.Network}
+use Rattle.{lens_why.specs.declared.collecting.LastCollection.LastCollection, net_plan.specs.declared.network.Network.Network}
 use Rattle.{lens_why.specs.declared.collecting.Given.Given, tte_units.specs.declared.frames.members.Members.Members}
 use Rattle.lens_why.specs.declared.{ground.Ground.TheVariants.{Collected, Middle}, seeking.Sought.TheVariants.Opening}
 use Rattle.run_law.specs.{control.Collections.{master_of, observation_window, points_of}, device.States.cycle_in}
@@ -39,7 +39,7 @@ abbrev pub last_collection : Network → DeviceId → List Happening → Option 
 last_collection network device hs = last_of (observation_window network) (points_of hs device)
 
 -- what is told of a collection
-abbrev pub told_of : Cluster → Collection
+abbrev pub told_of : Cluster → LastCollection
 told_of c = record { opened = record { 0 = c.opened }; ends = c.end; cycle = c.cycle; members = c.members }
 
 -- the point of a frame

@@ -6,7 +6,7 @@ use Rattle.{audit_devices.specs.Keeping.records_before, tte_units.specs.declared
 use Rattle.{audit_law.specs.law.CorrectionNumbers.heard_since_point, net_plan.specs.declared.network.Network.Network}
 use Rattle.{lens_why.specs.Seeking.last_sought, run_law.specs.records.Ranks.place_of, sync_state.specs.Plan.expected_at}
 use Rattle.{audit_sweep.specs.Indexing.before_corrections, lens_why.specs.declared.ground.Ground.Ground}
-use Rattle.{lens_why.specs.declared.ground.Best.Best, lens_why.specs.declared.ground.Told.Told}
+use Rattle.{lens_why.specs.declared.ground.Best.Best, lens_why.specs.declared.ground.BestHeard.BestHeard}
 use Rattle.lens_why.specs.declared.{ground.Ground.TheVariants.{Clique, Corrected}, seeking.Sought.TheVariants.Frame}
 use Rattle.{net_plan.specs.declared.ids.DeviceId.DeviceId, run_law.specs.records.Happenings.{Happening, time_of}}
 use Rattle.tte_units.specs.declared.frames.channel.Channel.{Channel, TheVariants.{A, B}}
@@ -81,14 +81,14 @@ is_clique AsyncClique = true
 is_clique other = false
 
 -- what is told of the best frame of its channel: the last record before this that told it, and its members
-abbrev pub told_by : Network → List Happening → Happening → DeviceId → Channel → HeardFrame → Told
+abbrev pub told_by : Network → List Happening → Happening → DeviceId → Channel → HeardFrame → BestHeard
 told_by network hs h device channel frame = record {
   number = last_sought network (Frame device channel frame) (records_before (place_of h) hs);
   members = frame.members;
 }
 
 -- what is told of the channel's best frame, if there is one
-abbrev pub told_on : Network → List Happening → Happening → DeviceId → Channel → Summary → Option Told
+abbrev pub told_on : Network → List Happening → Happening → DeviceId → Channel → Summary → Option BestHeard
 told_on network hs h device channel heard = option_map (told_by network hs h device channel) (best_on channel heard)
 
 -- the ground of the device's state by a clique, with this record: the best frame of each channel, the members of those

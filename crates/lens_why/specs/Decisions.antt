@@ -4,7 +4,7 @@ use Rattle.std.specs.Prelude.{All, Bool, IfSome, IsSomeAnd, List, None, Option, 
 use Rattle.std.specs.Prelude.{neg_ℤ, not, option_map, pos, true, unwrap_or, ℕ, ℤ}
 use Rattle.{lens_why.specs.Grounds.{entry_given, ground_of}, net_plan.specs.declared.network.Network.Network}
 use Rattle.{lens_why.specs.{Records.clock_given, Seeking.{cut_told, turns}}, std.specs.List.last_or}
-use Rattle.lens_why.specs.declared.{collecting.Collection.Collection, ground.{Best.Best, Ground.Ground}}
+use Rattle.lens_why.specs.declared.{collecting.LastCollection.LastCollection, ground.{Best.Best, Ground.Ground}}
 use Rattle.lens_why.specs.declared.ground.Ground.TheVariants.{Clique, Collected, Corrected, CutBy, Gate, Heard}
 use Rattle.lens_why.specs.declared.ground.Ground.TheVariants.{Held, Missed, Unsynchronised}
 use Rattle.net_plan.specs.declared.{ids.{DeviceId.DeviceId, LinkId.LinkId}, tables.Way.Way}
@@ -17,7 +17,7 @@ use Rattle.run_law.specs.records.Happenings.{Happening, happenings, numbered, ti
 use Rattle.run_law.specs.scenario.{Devices.{is_relay, start_of}, Scenarios.{Scenario, is_turned_on_at}, Ways.way_from}
 use Rattle.run_law.specs.timed.Arrivals.{occurs_in}
 use Rattle.schedule_tables.specs.{Rules.KeepsRules, declared.entry.Entry.Entry}
-use Rattle.sync_state.specs.{correction.Correction.correction_of}
+use Rattle.sync_state.specs.{correction.RecordedCorrection.correction_of}
 use Rattle.sync_state.specs.{Standing.state_at_start, membership.Members.count_of}
 use Rattle.sync_state.specs.declared.state.State.{State, TheVariants.Integrating}
 use Rattle.{tte_audit.specs.Report.scenario_of, tte_reports.specs.Reports.IsReportOf}
@@ -70,17 +70,17 @@ IsHeardBy point P (Heard p a expected off most) = (p ≡ point) × (off ≡ ((p.
 IsHeardBy point P other = ⊥
 
 -- has the collection a point of the master?
-abbrev pub has_told : Collection → ℕ → Bool
+abbrev pub has_told : LastCollection → ℕ → Bool
 has_told c master = not (bit_and c.members (2 ^ master) == 0)
 
 -- the collection is open at the point, is of the cycle, and has a point of the master, or has none
-pub record IsOpenFor (point : Units) (cycle master : ℕ) (has : Bool) (c : Collection) : Type 0 where
+pub record IsOpenFor (point : Units) (cycle master : ℕ) (has : Bool) (c : LastCollection) : Type 0 where
   pub until : point.0 ≤ℤ c.ends
   pub same : cycle ≡ c.cycle
   pub has_master : has_told c master ≡ has
 
 -- the frame of the cycle was judged by the last collection before it, and so it goes with its master and that
-abbrev pub IsCollectedBy : ℕ → (ℕ → Option Collection → Type 0) → Ground → Type 0
+abbrev pub IsCollectedBy : ℕ → (ℕ → Option LastCollection → Type 0) → Ground → Type 0
 IsCollectedBy cycle P (Collected master of_cycle last) = (of_cycle ≡ cycle) × P master last
 IsCollectedBy cycle P other = ⊥
 

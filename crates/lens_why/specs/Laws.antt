@@ -6,7 +6,7 @@ use Rattle.{lens_why.specs.Grounds.ground_of, net_plan.specs.{Places.row_of, dec
 use Rattle.{lens_why.specs.declared.ground.{Best.Best, Ground.Ground}, net_plan.specs.declared.ids.DeviceId.DeviceId}
 use Rattle.lens_why.specs.declared.ground.Ground.TheVariants.{Clique, Corrected, CutBy, Middle, Taken, Unsynchronised}
 use Rattle.{lens_why.specs.declared.ground.Ground.TheVariants.Window, schedule_tables.specs.declared.entry.Entry.Entry}
-use Rattle.{lens_why.specs.declared.ground.Told.Told, run_law.specs.{declared.note.Note.Note, records.Causes.last_from}}
+use Rattle.{lens_why.specs.declared.ground.BestHeard.BestHeard, run_law.specs.{declared.note.Note.Note, records.Causes.last_from}}
 use Rattle.{precision_law.specs.traffic.Taken.SaysTaken, tte_units.specs.declared.units.Units.Units}
 use Rattle.run_law.specs.{law.FirstLaws.IsBeginning, records.{Happenings.{Happening, happenings, numbered}, Order.IsIn}}
 use Rattle.{schedule_tables.specs.{Entries.IsEntry, Rules.KeepsRules}, tte_reports.specs.Reports.IsReportOf}
@@ -70,7 +70,7 @@ best_number None = []
 best_number (Some best) = best.number ∷ []
 
 -- the record that told the best frame of a channel, if there is one
-abbrev pub told_number : Option Told → List ℕ
+abbrev pub told_number : Option BestHeard → List ℕ
 told_number None = []
 told_number (Some told) = told.number ∷ []
 

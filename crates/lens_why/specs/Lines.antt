@@ -2,8 +2,8 @@
 use Rattle.std.specs.{Fmt.{decimal, signed_decimal}, Int.{to_be_bytes, w32}, List.flat_map}
 use Rattle.std.specs.Prelude.{if◌then◌else◌, ◌++◌, ◌∷◌, Bool, List, None, Option, Some, [], codes, false, true, ℕ, ℤ}
 use Rattle.{hex.specs.Hex.encode_lower, report_text.specs.NoteLine.note_line, run_law.specs.declared.note.Note.Note}
-use Rattle.{lens_why.specs.{Grounds.ground_of, declared.ground.Told.Told}, run_law.specs.scenario.Scenarios.Scenario}
-use Rattle.lens_why.specs.declared.collecting.Collection.{Collection}
+use Rattle.{lens_why.specs.{Grounds.ground_of, declared.ground.BestHeard.BestHeard}, run_law.specs.scenario.Scenarios.Scenario}
+use Rattle.lens_why.specs.declared.collecting.LastCollection.{LastCollection}
 use Rattle.tte_units.specs.declared.frames.members.Members.{Members}
 use Rattle.{lens_why.specs.declared.ground.{Best.Best, Ground.Ground}, sync_state.specs.membership.Members.count_of}
 use Rattle.lens_why.specs.declared.ground.Ground.TheVariants.{Clique, Clock, Collected, Corrected, CutBy, Dispatched}
@@ -21,7 +21,7 @@ best_text (Some best) =
     ++ (codes " value " ++ signed_decimal best.value)))
 
 -- a channel's best frame: the record of it, its members, and how many they are
-unfoldable pub told_text : Option Told → List ℕ
+unfoldable pub told_text : Option BestHeard → List ℕ
 told_text None = codes "none"
 told_text (Some told) =
     decimal told.number ++ (codes " members " ++ (members_text told.members
@@ -34,7 +34,7 @@ outside_text outside threshold =
     ++ (codes " threshold " ++ decimal threshold))))
 
 -- a collection: the point that opened it, the last reading at which it is open, and the cycle of its frames
-unfoldable pub collection_text : Option Collection → List ℕ
+unfoldable pub collection_text : Option LastCollection → List ℕ
 collection_text None = codes "none"
 collection_text (Some c) =
     signed_decimal c.opened.0 ++ (codes " ends " ++ (signed_decimal c.ends ++ (codes " cycle " ++ decimal c.cycle)))

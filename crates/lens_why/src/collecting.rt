@@ -4,7 +4,7 @@ ghost use Rattle.{lens_why.specs.Collections.{sent_ground, taken_to, told_of}, t
 ghost use Rattle.{std.specs.Prelude.pos, tte_units.specs.Amount.amount};
 ghost use Rattle.{audit_devices.specs.Effects.carried_by, tte_units.specs.declared.units.Units.{Units as UnitsValue}};
 ghost use Rattle.{audit_devices.specs.Keeping.records_before, run_law.specs.records.Happenings.{Happening, happenings}};
-ghost use Rattle.compression.specs.{Clusters.Cluster, Collection.{joined_end, opening}, Role.{has_point_of, role_in}};
+ghost use Rattle.compression.specs.{Clusters.Cluster, LastCollection.{joined_end, opening}, Role.{has_point_of, role_in}};
 ghost use Rattle.{device_rules.specs.Widths.IsWide, lens_why.specs.Records.IsThere, tte_audit.specs.Named.IsNamed};
 ghost use Rattle.lens_why.specs.Collections.{as_point, behind_point, collected_ground, last_collection, middle_told};
 ghost use Rattle.run_law.specs.{control.Collections.{ends_stretch, point_by}, declared.note.Note.{Note as NoteValue}};
@@ -20,7 +20,7 @@ use tte_units::{Units, magnitude};
 
 /// The last collection of a compression master so far. Readings are in units of 2^-16 ns.
 #[derive(Clone, Copy, PartialEq, Eq)]
-pub struct Collection {
+pub struct LastCollection {
     /// The point that opened it.
     pub opened: Units,
     /// The last reading at which it is open.
@@ -106,7 +106,7 @@ fn collection_before(
     network: &Network,
     number: u64,
     device: DeviceId,
-) -> Option<Collection>
+) -> Option<LastCollection>
     requires named { IsNamed network.now }
     requires read { IsRead network.now report.now }
     ensures { (notes : List NoteValue) (end : UnitsValue) (h : Happening)
@@ -127,8 +127,8 @@ fn behind_record(
     network: &Network,
     number: u64,
     device: DeviceId,
-    last: Option<Collection>,
-) -> Option<Collection>
+    last: Option<LastCollection>,
+) -> Option<LastCollection>
     requires named { IsNamed network.now }
     requires read { IsRead network.now report.now }
     ensures { (notes : List NoteValue) (end : UnitsValue) (h : Happening) (before : List Happening)
@@ -154,8 +154,8 @@ fn behind(
     device: DeviceId,
     carried: Carried,
     body: &NoteBody,
-    last: Option<Collection>,
-) -> Option<Collection>
+    last: Option<LastCollection>,
+) -> Option<LastCollection>
     ensures { (hs : List Happening) (h : Happening) → h.note.body ≡ body.now → carried ≡ carried_by h
         → last ≡ option_map told_of (last_collection network.now device hs)
         → result ≡ option_map told_of (last_collection network.now device (hs ++ h ∷ [])) }
@@ -241,7 +241,7 @@ fn given_by(device: DeviceId, carried: Carried, body: &NoteBody) -> Option<Given
 }
 
 /// The last collection behind one more point.
-fn behind_point(ow: u64, last: Option<Collection>, given: Given) -> Option<Collection>
+fn behind_point(ow: u64, last: Option<LastCollection>, given: Given) -> Option<LastCollection>
     requires { given.master < 64 }
     ensures { (c : Option Cluster) → last ≡ option_map told_of c
         → result ≡ option_map told_of (behind_point (pos ow) c (as_point given)) }
@@ -259,11 +259,11 @@ fn behind_point(ow: u64, last: Option<Collection>, given: Given) -> Option<Colle
 }
 
 /// The collection that a point opens.
-fn opening(ow: u64, given: Given) -> Collection
+fn opening(ow: u64, given: Given) -> LastCollection
     requires { given.master < 64 }
     ensures { result ≡ told_of (opening (pos ow) (as_point given)) }
 {
-    Collection {
+    LastCollection {
         opened: given.point,
         ends: i128::from(given.point.0) + i128::from(ow),
         cycle: given.cycle,
@@ -272,7 +272,7 @@ fn opening(ow: u64, given: Given) -> Collection
 }
 
 /// The collection, which is open, behind a point that joins it or does not count.
-fn within(ow: u64, collection: Collection, given: Given) -> Collection
+fn within(ow: u64, collection: LastCollection, given: Given) -> LastCollection
     requires { given.master < 64 }
     ensures { (c : Cluster) → collection ≡ told_of c → Some result ≡ option_map told_of
         (taken_to (pos ow) (Some c) (as_point given) (role_in (Some c) (as_point given))) }
@@ -280,7 +280,7 @@ fn within(ow: u64, collection: Collection, given: Given) -> Collection
     if given.cycle != collection.cycle || has_point_of(collection, given.master) {
         return collection;
     }
-    Collection {
+    LastCollection {
         ends: joined_end(ow, collection, given.point),
         members: collection.members | 1 << given.master,
         ..collection
@@ -288,7 +288,7 @@ fn within(ow: u64, collection: Collection, given: Given) -> Collection
 }
 
 /// Has it a point of the master?
-fn has_point_of(collection: Collection, master: u32) -> bool
+fn has_point_of(collection: LastCollection, master: u32) -> bool
     requires { master < 64 }
     ensures { (c : Cluster) → collection ≡ told_of c → result ≡ has_point_of c master }
 {
@@ -296,7 +296,7 @@ fn has_point_of(collection: Collection, master: u32) -> bool
 }
 
 /// Where it ends with the point of a further master.
-fn joined_end(ow: u64, collection: Collection, point: Units) -> i128
+fn joined_end(ow: u64, collection: LastCollection, point: Units) -> i128
     ensures { (c : Cluster) → collection ≡ told_of c → result ≡ joined_end (pos ow) c point.0 }
 {
     let window = i128::from(ow);

@@ -8,7 +8,7 @@ ghost use Rattle.{net_plan.specs.{Belonging.HasDevice, Ranges.IsInRange}, tte_re
 ghost use Rattle.{run_law.specs.declared.judgement.Why.Why, tte_units.specs.declared.units.Units.{Units as UnitsValue}};
 ghost use Rattle.run_law.specs.{declared.note.Note.{Note as NoteValue}, records.Happenings.{Happening, happenings}};
 
-use crate::ground::{Best, Ground, Told, beyond};
+use crate::ground::{Best, BestHeard, Ground, beyond};
 use crate::seeking::{Sought, last_before};
 use device_rules::joined_adjustment;
 use net_plan::{DeviceId, Network};
@@ -39,7 +39,7 @@ pub(crate) fn corrected(
     let at = magnitude(time);
     let heard = report.index.heard(network, device, at);
     let adjustment = report.index.adjustment_before(network, device, at);
-    let correction = Correction {
+    let correction = RecordedCorrection {
         number,
         device,
         cycle,
@@ -64,7 +64,7 @@ pub(crate) fn corrected(
 
 /// A correction by the record of the number: of the device, which has this adjustment, at the point of the cycle.
 #[derive(Clone, Copy)]
-struct Correction {
+struct RecordedCorrection {
     number: u64,
     device: DeviceId,
     cycle: u32,
@@ -75,7 +75,7 @@ struct Correction {
 fn said_on(
     report: &AuditedReport,
     network: &Network,
-    correction: Correction,
+    correction: RecordedCorrection,
     best: Option<HeardFrame>,
     channel: Channel,
 ) -> Option<Best>
@@ -97,7 +97,7 @@ fn said_on(
 fn said_by(
     report: &AuditedReport,
     network: &Network,
-    correction: Correction,
+    correction: RecordedCorrection,
     frame: HeardFrame,
     channel: Channel,
 ) -> Option<Best>
@@ -153,7 +153,7 @@ fn told_on(
     device: DeviceId,
     heard: &Heard,
     channel: Channel,
-) -> Option<Told>
+) -> Option<BestHeard>
     requires named { IsNamed network.now }
     requires read { IsRead network.now report.now }
     ensures { (notes : List NoteValue) (end : UnitsValue) (h : Happening)
@@ -161,7 +161,7 @@ fn told_on(
         → result ≡ told_on network.now (happenings network.now notes) h device channel heard.now }
 {
     match heard.best(channel) {
-        Some(frame) => Some(Told {
+        Some(frame) => Some(BestHeard {
             number: last_before(
                 report,
                 network,
@@ -175,7 +175,7 @@ fn told_on(
 }
 
 /// How far the clock is behind by a frame of this point.
-fn value(network: &Network, correction: Correction, point: Units) -> i128
+fn value(network: &Network, correction: RecordedCorrection, point: Units) -> i128
     requires range { IsInRange network.now }
     requires wide { IsWide correction.adjustment }
     ensures { result ≡ value_of network.now correction.device correction.cycle correction.adjustment point }

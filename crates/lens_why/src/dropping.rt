@@ -27,7 +27,7 @@ use tte_units::{Units, magnitude};
 /// What comes to the device by the link at the time, from the record of the number `cause`, and is dropped with the
 /// record of the number.
 #[derive(Clone, Copy)]
-pub(crate) struct Passage {
+pub(crate) struct DroppedPassage {
     pub(crate) number: u64,
     pub(crate) time: Units,
     pub(crate) device: DeviceId,
@@ -39,7 +39,7 @@ pub(crate) struct Passage {
 pub(crate) fn dropped(
     report: &AuditedReport,
     network: &Network,
-    passage: Passage,
+    passage: DroppedPassage,
     reason: Reason,
 ) -> Ground
     requires named { IsNamed network.now }
@@ -75,7 +75,7 @@ pub(crate) fn dropped(
 
 /// The entry by which the time-triggered frame comes to the device by the link that the record of the number `cause`
 /// gave.
-fn entry_given(index: &Index, network: &Network, passage: Passage) -> Option<Entry>
+fn entry_given(index: &Index, network: &Network, passage: DroppedPassage) -> Option<Entry>
     requires { IsInRange network.now }
     ensures is { (befallen : List Event) (hs : List Happening) → IsIndex network.now befallen hs index.now
         → result ≡ entry_given network.now passage.device passage.link (numbered hs passage.cause) }
@@ -121,7 +121,7 @@ fn is_row_with(network: &Network, id: u16, row: &Row) -> bool
 }
 
 /// The cycle and the place in which the frame came, and between which places it is taken.
-fn beside(index: &Index, network: &Network, passage: Passage) -> Ground
+fn beside(index: &Index, network: &Network, passage: DroppedPassage) -> Ground
     requires range { IsInRange network.now }
     requires index { IsSomeIndex network.now index.now }
     requires there { HasDevice network.now passage.device }
@@ -137,7 +137,7 @@ fn beside(index: &Index, network: &Network, passage: Passage) -> Ground
 }
 
 /// The same, of a frame of the entry.
-fn missed(index: &Index, network: &Network, passage: Passage, entry: &Entry) -> Ground
+fn missed(index: &Index, network: &Network, passage: DroppedPassage, entry: &Entry) -> Ground
     requires range { IsInRange network.now }
     requires index { IsSomeIndex network.now index.now }
     requires there { HasDevice network.now passage.device }
@@ -166,7 +166,7 @@ fn cycle_before(index: &Index, network: &Network, device: DeviceId, time: Units)
 }
 
 /// The cycle in which the frame came, and the last record before by which the device took one of its virtual link.
-fn repeated(report: &AuditedReport, network: &Network, passage: Passage) -> Ground
+fn repeated(report: &AuditedReport, network: &Network, passage: DroppedPassage) -> Ground
     requires named { IsNamed network.now }
     requires read { IsRead network.now report.now }
     requires there { HasDevice network.now passage.device }
@@ -184,7 +184,12 @@ fn repeated(report: &AuditedReport, network: &Network, passage: Passage) -> Grou
 }
 
 /// The same, of a frame of the entry.
-fn taken(report: &AuditedReport, network: &Network, passage: Passage, entry: &Entry) -> Ground
+fn taken(
+    report: &AuditedReport,
+    network: &Network,
+    passage: DroppedPassage,
+    entry: &Entry,
+) -> Ground
     requires named { IsNamed network.now }
     requires read { IsRead network.now report.now }
     requires there { HasDevice network.now passage.device }
@@ -208,7 +213,7 @@ fn taken(report: &AuditedReport, network: &Network, passage: Passage, entry: &En
 }
 
 /// How many octets the frame has, and how many those of its virtual link have.
-fn of_length(index: &Index, network: &Network, passage: Passage) -> Ground
+fn of_length(index: &Index, network: &Network, passage: DroppedPassage) -> Ground
     requires { IsInRange network.now }
     ensures { (befallen : List Event) (hs : List Happening) → IsIndex network.now befallen hs index.now → result
         ≡ length_ground (option_map_or (λ g. length g.octets) (numbered hs passage.cause) 0)
@@ -244,7 +249,7 @@ fn unknown(index: &Index, network: &Network, number: u64) -> Ground
 }
 
 /// The state of the device, which has no common time, and the last record before by which it came to it.
-fn unsynchronised(report: &AuditedReport, network: &Network, passage: Passage) -> Ground
+fn unsynchronised(report: &AuditedReport, network: &Network, passage: DroppedPassage) -> Ground
     requires named { IsNamed network.now }
     requires read { IsRead network.now report.now }
     requires there { HasDevice network.now passage.device }

@@ -14,9 +14,9 @@ ghost use Rattle.run_law.specs.declared.note.Note.{Note as NoteValue};
 ghost use Rattle.{tte_audit.specs.Named.IsNamed, tte_units.specs.Amount.amount};
 ghost use Rattle.{tte_reports.specs.Reports.IsReportOf, tte_units.specs.declared.units.Units.{Units as UnitsValue}};
 
-use crate::collecting::{Collection, collected, sent_for};
+use crate::collecting::{LastCollection, collected, sent_for};
 use crate::correcting::{clique, corrected};
-use crate::dropping::{Passage, dropped};
+use crate::dropping::{DroppedPassage, dropped};
 use crate::seeking::cut_before;
 use audit_sweep::{Index, Permanence};
 use device_rules::{joined_adjustment, way_from};
@@ -41,7 +41,7 @@ pub struct Best {
 
 /// The best frame that a device has heard on a channel.
 #[derive(Clone, Copy, PartialEq, Eq)]
-pub struct Told {
+pub struct BestHeard {
     /// The number of the record that told the frame, or 0.
     pub number: u64,
     /// The masters that the frame stands for.
@@ -67,14 +67,14 @@ pub enum Ground {
     /// of the cycle, how far beyond that its local clock stands at the point, and how far it may.
     Heard(Units, i128, i128, i128, u64),
     /// The master of a frame, its cycle, and the last collection of the points before it, if there is one.
-    Collected(u32, u32, Option<Collection>),
+    Collected(u32, u32, Option<LastCollection>),
     /// The number of the record that opened a collection, and the middle of its points, from the first on.
     Middle(u64, i128),
     /// What the channels A and B say to a correction, where they have a frame of enough masters.
     Corrected(Option<Best>, Option<Best>),
     /// The best frames of the channels A and B where a device comes to a clique, if there are such, the members of
     /// those heard outside their time, and how many masters are enough.
-    Clique(Option<Told>, Option<Told>, Members, u32),
+    Clique(Option<BestHeard>, Option<BestHeard>, Members, u32),
     /// The number of the record of the event that cut the way.
     CutBy(u64),
     /// Where in its cycle a frame came to a device, and where the device takes it: from the one place to the other.
@@ -141,7 +141,7 @@ pub(crate) fn ground_of(
             cause,
             reason,
         } => {
-            let passage = Passage {
+            let passage = DroppedPassage {
                 number: note.number,
                 time: note.time,
                 device: *device,

@@ -12,8 +12,8 @@ mod lines;
 mod seeking;
 
 pub use answering::Why;
-pub use collecting::Collection;
-pub use ground::{Best, Ground, Told};
+pub use collecting::LastCollection;
+pub use ground::{Best, BestHeard, Ground};
 pub use laws::{
     best_law, collections_law, decisions_law, middles_law, names_law, row_law, why_law, windows_law,
 };

@@ -6,7 +6,7 @@ ghost use Rattle.{net_plan.specs.Ranges.IsInRange, tte_io.specs.Line.line_limit}
 ghost use Rattle.{report_text.specs.{NoteWords.members_text, Ranges.IsNoteOf}, tte_forms.specs.Faults.PutFailed};
 ghost use Rattle.{sync_state.specs.membership.Members.count_of, tte_forms.specs.Putting.{Over, Puts}};
 
-use crate::{Best, Collection, Ground, Told};
+use crate::{Best, BestHeard, Ground, LastCollection};
 use itoa::Buffer;
 use net_plan::Network;
 use report_text::{state_text, write_in};
@@ -205,7 +205,7 @@ fn push_off(line: &mut LineText, off: i128, most: u64)
 
 /// Adds the last collection before a frame, if there is one.
 #[tactic(auto, unfolding(crate::specs::Lines::collection_text))]
-fn push_collection(line: &mut LineText, last: Option<Collection>)
+fn push_collection(line: &mut LineText, last: Option<LastCollection>)
     requires room { length line.old + 150 ≤ line_limit }
     ensures text { line.new ≡ line.old ++ collection_text last }
     ensures grows { length line.new ≤ length line.old + 150 }
@@ -224,7 +224,7 @@ fn push_collection(line: &mut LineText, last: Option<Collection>)
 
 /// Adds the master of a frame, its cycle, and the last collection before it.
 #[tactic(auto, unfolding(crate::specs::Lines::ground_text))]
-fn push_collected(line: &mut LineText, master: u32, cycle: u32, last: Option<Collection>)
+fn push_collected(line: &mut LineText, master: u32, cycle: u32, last: Option<LastCollection>)
     requires room { length line.old + 300 ≤ line_limit }
     ensures text { line.new ≡ line.old ++ ground_text (Ground.Collected master cycle last) }
     ensures grows { length line.new ≤ length line.old + 300 }
@@ -281,7 +281,7 @@ fn push_corrected(line: &mut LineText, a: Option<Best>, b: Option<Best>)
 
 /// Adds the best frame of a channel, if there is one.
 #[tactic(auto, unfolding(crate::specs::Lines::told_text))]
-fn push_told(line: &mut LineText, told: Option<Told>)
+fn push_told(line: &mut LineText, told: Option<BestHeard>)
     requires room { length line.old + 80 ≤ line_limit }
     ensures text { line.new ≡ line.old ++ told_text told }
     ensures grows { length line.new ≤ length line.old + 80 }
@@ -324,8 +324,8 @@ fn push_outside(line: &mut LineText, outside: Members, threshold: u32)
 #[tactic(auto, unfolding(crate::specs::Lines::ground_text))]
 fn push_clique(
     line: &mut LineText,
-    a: Option<Told>,
-    b: Option<Told>,
+    a: Option<BestHeard>,
+    b: Option<BestHeard>,
     outside: Members,
     threshold: u32,
 )

@@ -5,57 +5,57 @@ use Rattle.toml.specs.Data.{Data, Items, Members, as_array, as_integer, as_str, 
 use Rattle.toml.specs.Data.{no_members}
 use Rattle.tte_units.specs.{Amount.units_of, declared.units.Units.Units}
 use Rattle.net_file.specs.{KeyTexts.key_text, Numbering.Numbering, Values.number_within, declared.spots.Spot.Spot}
-use Rattle.net_file.specs.{Steps.{◌>>=◌, Read, where_there}, declared.{keys.KeyName.KeyName, spots.Place.Place}}
+use Rattle.net_file.specs.{Steps.{◌>>=◌, Read, where_there}, declared.{keys.KeyName.KeyName, spots.TableSpot.TableSpot}}
 use Rattle.net_file.specs.declared.refusal.FileRefusal.TheVariants.{Kind, Missing, Name, Range, Unknown}
 
 -- a key of a table
-abbrev pub spot : Place → KeyName → Spot
+abbrev pub spot : TableSpot → KeyName → Spot
 spot at key = record { table = at.table; index = at.index; key = key }
 
 -- the value of a key
-unfoldable pub value_of : Place → KeyName → Data → Read Data
+unfoldable pub value_of : TableSpot → KeyName → Data → Read Data
 value_of at key entries = ok_or (get (key_text key) entries) (Missing (spot at key))
 
 -- a whole number, without regard to its range
-unfoldable pub integer_of : Place → KeyName → Data → Read ℤ
+unfoldable pub integer_of : TableSpot → KeyName → Data → Read ℤ
 integer_of at key entries = do
   value ← value_of at key entries
   ok_or (as_integer value) (Kind (spot at key))
 
 -- a whole number that means something
-unfoldable pub number : {A : Type 0} → (ℤ → Option A) → Place → KeyName → Data → Read A
+unfoldable pub number : {A : Type 0} → (ℤ → Option A) → TableSpot → KeyName → Data → Read A
 number meaning at key entries = do
   number ← integer_of at key entries
   ok_or (meaning number) (Range (spot at key))
 
 -- a whole number from low to high
-unfoldable pub whole : ℕ → ℕ → Place → KeyName → Data → Read ℕ
+unfoldable pub whole : ℕ → ℕ → TableSpot → KeyName → Data → Read ℕ
 whole low high at key entries = number (number_within low high) at key entries
 
 -- a text, without regard to what it says
-unfoldable pub text_of : Place → KeyName → Data → Read (List ℕ)
+unfoldable pub text_of : TableSpot → KeyName → Data → Read (List ℕ)
 text_of at key entries = do
   value ← value_of at key entries
   ok_or (as_str value) (Kind (spot at key))
 
 -- a text that means something
-unfoldable pub word : {A : Type 0} → (List ℕ → Option A) → Place → KeyName → Data → Read A
+unfoldable pub word : {A : Type 0} → (List ℕ → Option A) → TableSpot → KeyName → Data → Read A
 word meaning at key entries = do
   text ← text_of at key entries
   ok_or (meaning text) (Range (spot at key))
 
 -- a number of units of time from low to high
-unfoldable pub time : ℕ → ℕ → Place → KeyName → Data → Read Units
+unfoldable pub time : ℕ → ℕ → TableSpot → KeyName → Data → Read Units
 time low high at key entries = do
   number ← whole low high at key entries
   Ok (units_of number)
 
 -- a number of units of time from low to high, or none where the key is absent
-unfoldable pub time_if_there : ℕ → ℕ → Place → KeyName → Data → Read (Option Units)
+unfoldable pub time_if_there : ℕ → ℕ → TableSpot → KeyName → Data → Read (Option Units)
 time_if_there low high at key entries = where_there (get (key_text key) entries) (time low high at key entries)
 
 -- the number of the thing that a text names
-unfoldable pub named : Numbering → Place → KeyName → Data → Read ℕ
+unfoldable pub named : Numbering → TableSpot → KeyName → Data → Read ℕ
 named numbering at key entries = do
   text ← text_of at key entries
   ok_or (numbering text) (Name (spot at key))
@@ -75,7 +75,7 @@ has_only keys None = true
 has_only keys (Some members) = are_keys_of keys members
 
 -- a table has no key beyond these
-unfoldable pub nothing_else : List KeyName → Place → Data → Read (Unit {0})
+unfoldable pub nothing_else : List KeyName → TableSpot → Data → Read (Unit {0})
 nothing_else keys at entries = if has_only keys (as_table entries) then Ok tt else Err (Unknown at.table at.index)
 
 -- each item of an array is a table
@@ -90,5 +90,5 @@ tables_in spot (Some value) = do
   items ← ok_or (as_array value) (Kind spot)
   if are_tables items then Ok items else Err (Kind spot)
 
-unfoldable pub tables : Place → KeyName → Data → Read Items
+unfoldable pub tables : TableSpot → KeyName → Data → Read Items
 tables at key entries = tables_in (spot at key) (get (key_text key) entries)

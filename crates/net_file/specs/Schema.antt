@@ -3,7 +3,7 @@ use Rattle.std.specs.{Option.unwrap_or, Prelude.{not, ℕ}, Str.is_utf8}
 use Rattle.std.specs.Prelude.{◌++◌, ◌^◌, ◌∷◌, ◌≡◌, Err, IsUtf8, List, None, Ok, Option, Some, [], if◌then◌else◌, length}
 use Rattle.net_file.specs.{Numbering.{Numbering, first_of}, declared.refusal.FileRefusal.TheVariants.NotToml}
 use Rattle.net_file.specs.Reading.{named, nothing_else, number, tables, time, time_if_there, whole, word}
-use Rattle.{net_file.specs.{Steps.{◌>>=◌, Read, only_if}, declared.spots.Place.Place}, toml.specs.Parse.parse_document}
+use Rattle.{net_file.specs.{Steps.{◌>>=◌, Read, only_if}, declared.spots.TableSpot.TableSpot}, toml.specs.Parse.parse_document}
 use Rattle.net_file.specs.Values.{channel_of, ethertype_of, hex_number, name_of, role_of, speed_of, way_of}
 use Rattle.{net_file.specs.declared.keys.KeyName.KeyName, toml.specs.Data.{Data, Items, Members, item, no_items, table}}
 use Rattle.net_plan.specs.{Bearers.{device_names, link_names, vl_names}, declared.tables.VirtualLink.VirtualLink}
@@ -14,7 +14,7 @@ use Rattle.net_file.specs.declared.keys.KeyName.TheVariants as keys
 use Rattle.net_file.specs.declared.spots.TableName.TheVariants as places
 
 -- the whole document
-abbrev pub document : Place
+abbrev pub document : TableSpot
 document = record { table = places.Top; index = 0 }
 
 -- the keys of the top table
@@ -74,7 +74,7 @@ device_keys roles.Cm = keys.Name ∷ keys.Role ∷ keys.Mac ∷ keys.Channel ∷
 device_keys roles.Relay = keys.Name ∷ keys.Role ∷ keys.Mac ∷ keys.Channel ∷ keys.Start ∷ []
 
 -- the table of a device
-abbrev pub device_at : ℕ → Place
+abbrev pub device_at : ℕ → TableSpot
 device_at index = record { table = places.Device; index = index }
 
 -- the device of a table
@@ -94,7 +94,7 @@ abbrev pub link_keys : List KeyName
 link_keys = keys.Name ∷ keys.Child ∷ keys.Parent ∷ keys.Wire ∷ keys.Jitter ∷ keys.Hold ∷ keys.Speed ∷ []
 
 -- the table of a link
-abbrev pub link_at : ℕ → Place
+abbrev pub link_at : ℕ → TableSpot
 link_at index = record { table = places.Link; index = index }
 
 -- the link of a table, whose ends are named among the devices
@@ -123,7 +123,7 @@ abbrev pub vl_keys : List KeyName
 vl_keys = keys.Name ∷ keys.Id ∷ keys.Length ∷ keys.Ethertype ∷ keys.Sender ∷ keys.Period ∷ keys.Phase ∷ []
 
 -- the table of a virtual link
-abbrev pub vl_at : ℕ → Place
+abbrev pub vl_at : ℕ → TableSpot
 vl_at index = record { table = places.Vl; index = index }
 
 -- the virtual link of a table, whose sender is named among the devices
@@ -152,7 +152,7 @@ abbrev pub row_keys : List KeyName
 row_keys = keys.Vl ∷ keys.Link ∷ keys.Way ∷ keys.Offset ∷ []
 
 -- the table of a row
-abbrev pub row_at : ℕ → Place
+abbrev pub row_at : ℕ → TableSpot
 row_at index = record { table = places.Row; index = index }
 
 -- the row of a table, whose virtual link and link are named among those

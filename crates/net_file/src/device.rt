@@ -6,7 +6,7 @@ ghost use Rattle.net_file.specs.declared.keys.KeyName.TheVariants as keys;
 
 use crate::index::next_index;
 use crate::reader::Reader;
-use crate::spots::Place;
+use crate::spots::TableSpot;
 use crate::values::LONGEST;
 use crate::{FileRefusal, KeyName, TableName};
 use net_plan::{Device, Role};
@@ -73,7 +73,7 @@ fn read_device(index: u32, table: &Value) -> Result<Device, FileRefusal>
     ensures value { result ≡ device_of index (view table.now) }
 {
     let table = Reader {
-        place: Place {
+        place: TableSpot {
             table: TableName::Device,
             index,
         },

@@ -2,7 +2,7 @@ ghost use Rattle.std.specs.Prelude.{◌≡◌, IfOk};
 ghost use Rattle.{net_file.specs.Schema.document_of, net_plan.specs.Ranges.IsInRange, toml.specs.View.view};
 
 use crate::reader::Reader;
-use crate::spots::Place;
+use crate::spots::TableSpot;
 use crate::values::LONGEST;
 use crate::{FileRefusal, KeyName, TableName};
 use net_plan::{Devices, Links, Network, Rows, VirtualLinks};
@@ -33,7 +33,7 @@ const KEYS: [KeyName; 19] = [
 ];
 
 /// The place of the whole document.
-pub(crate) const DOCUMENT: Place = Place {
+pub(crate) const DOCUMENT: TableSpot = TableSpot {
     table: TableName::Top,
     index: 0,
 };

@@ -6,7 +6,7 @@ ghost use Rattle.net_file.specs.{Numbering.{IsBelow, first_of, numbering}, Schem
 use crate::index::next_index;
 use crate::names::Names;
 use crate::reader::Reader;
-use crate::spots::Place;
+use crate::spots::TableSpot;
 use crate::values::LONGEST;
 use crate::{FileRefusal, KeyName, TableName};
 use net_plan::{Device, DeviceId, Link};
@@ -30,7 +30,7 @@ fn read_link(devices: &Names<'_>, index: u32, table: &Value) -> Result<Link, Fil
     ensures value { result ≡ link_of (numbering devices.now.numbers) index (view table.now) }
 {
     let table = Reader {
-        place: Place {
+        place: TableSpot {
             table: TableName::Link,
             index,
         },

@@ -7,7 +7,7 @@ ghost use Rattle.net_file.specs.Values.{channel_of, ethertype_of, hex_number, na
 ghost use Rattle.{net_plan.specs.NameText.IsNameText, toml.specs.View.{items_view, table_view, view}};
 
 use crate::names::Names;
-use crate::spots::Place;
+use crate::spots::TableSpot;
 use crate::values::{
     channel_of, ethertype_of, mac_of, marker_of, name_of, number_within, role_of, speed_of, way_of,
 };
@@ -21,7 +21,7 @@ use tte_units::{Speed, Units};
 /// is missing, then that its value is of another kind, then that it is out of range.
 #[derive(Clone, Copy)]
 pub(crate) struct Reader<'a> {
-    pub(crate) place: Place,
+    pub(crate) place: TableSpot,
     pub(crate) table: &'a Value,
 }
 

@@ -6,7 +6,7 @@ ghost use Rattle.net_file.specs.{Numbering.{IsBelow, first_of, numbering}, Schem
 use crate::index::next_index;
 use crate::names::Names;
 use crate::reader::Reader;
-use crate::spots::Place;
+use crate::spots::TableSpot;
 use crate::values::LONGEST;
 use crate::{FileRefusal, KeyName, TableName};
 use net_plan::{Link, LinkId, Row, VirtualLink, VlId};
@@ -27,7 +27,7 @@ fn read_row(
     ensures value { result ≡ row_of (numbering vls.now.numbers) (numbering links.now.numbers) index (view table.now) }
 {
     let table = Reader {
-        place: Place {
+        place: TableSpot {
             table: TableName::Row,
             index,
         },

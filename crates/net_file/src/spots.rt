@@ -15,7 +15,7 @@ pub enum TableName {
 
 /// A table of a network file.
 #[derive(Clone, Copy, PartialEq, Eq)]
-pub(crate) struct Place {
+pub(crate) struct TableSpot {
     pub(crate) table: TableName,
     /// Its place in its array, from 0. It is 0 for the whole document.
     pub(crate) index: u32,

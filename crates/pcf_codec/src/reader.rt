@@ -14,11 +14,11 @@ use tte_units::frames::Pcf;
 #[derive(Drop)]
 pub struct PcfReader {
     octets: [u8; PCF_LENGTH],
-    progress: Progress,
+    progress: ReadState,
 }
 
 #[derive(Clone, Copy)]
-enum Progress {
+enum ReadState {
     // So many octets of an unfinished frame are there.
     Filling(usize),
     Whole(Pcf),
@@ -46,7 +46,7 @@ impl PcfReader {
     {
         PcfReader {
             octets: [0; PCF_LENGTH],
-            progress: Progress::Filling(0),
+            progress: ReadState::Filling(0),
         }
     }
 
@@ -63,22 +63,22 @@ impl PcfReader {
             → Reads self.new (stream ++ taken_of self.old piece.now) given }
     {
         let held = match self.progress {
-            Progress::Refused(refusal) => return Err(refusal),
-            Progress::Whole(_) => return Ok(0),
-            Progress::Filling(held) => held,
+            ReadState::Refused(refusal) => return Err(refusal),
+            ReadState::Whole(_) => return Ok(0),
+            ReadState::Filling(held) => held,
         };
         let count = fill(&mut self.octets, held, piece);
         if held + count < PCF_LENGTH {
-            self.progress = Progress::Filling(held + count);
+            self.progress = ReadState::Filling(held + count);
             return Ok(count);
         }
         match decode(&self.octets) {
             Ok(frame) => {
-                self.progress = Progress::Whole(frame);
+                self.progress = ReadState::Whole(frame);
                 Ok(count)
             }
             Err(refusal) => {
-                self.progress = Progress::Refused(refusal);
+                self.progress = ReadState::Refused(refusal);
                 Err(refusal)
             }
         }
@@ -92,8 +92,8 @@ impl PcfReader {
             → Reads self.new stream (given ++ option_to_list result) }
     {
         match self.progress {
-            Progress::Whole(frame) => {
-                self.progress = Progress::Filling(0);
+            ReadState::Whole(frame) => {
+                self.progress = ReadState::Filling(0);
                 Some(frame)
             }
             _ => None,
@@ -106,9 +106,9 @@ impl PcfReader {
         ensures { result ≡ ended self.now }
     {
         match self.progress {
-            Progress::Refused(refusal) => Err(refusal),
-            Progress::Whole(_) => Ok(()),
-            Progress::Filling(held) => unfinished(&self.octets[..held]),
+            ReadState::Refused(refusal) => Err(refusal),
+            ReadState::Whole(_) => Ok(()),
+            ReadState::Filling(held) => unfinished(&self.octets[..held]),
         }
     }
 }

@@ -1,5 +1,5 @@
 -- What is kept of rows in their groups.
-use Rattle.{schedule_checker.specs.{Groups.{AreGroups, places_in}, declared.groups.Places.Places}, tte_units.proofs.general_lemmas.Options.some_same}
+use Rattle.{schedule_checker.specs.{Groups.{AreGroups, places_in}, declared.groups.RowPlaces.RowPlaces}, tte_units.proofs.general_lemmas.Options.some_same}
 use Rattle.{schedule_checker.specs.declared.groups.Groups.Groups, std.proofs.lemmas.List.Elements.{Contains-append_left, Contains-append_right}}
 use Rattle.{schedule_tables.specs.declared.entry.Entry.Entry, std.proofs.{Common.{true, zero, ℕ, ⊎_elim}, lemmas.Option.slice_get_within}}
 use Rattle.std.proofs.Common.{◌++◌, ◌+◌, ◌<◌, ◌==◌, ◌∷◌, ◌≡◌, Bool, Global, List, Some, Vec, [], ap, arith, false, if◌then◌else◌, length, refl, subst, suc, sym}
@@ -28,14 +28,14 @@ new b xs n e = subst (λ b. Contains (grown b xs n) n) (sym e) (Contains-append_
 -- ---- rows in groups
 
 -- the first n rows stand in the groups of their numbers
-abbrev pub HasPlaces : (Entry → ℕ) → List Entry → ℕ → Places → Type 0
+abbrev pub HasPlaces : (Entry → ℕ) → List Entry → ℕ → RowPlaces → Type 0
 HasPlaces number es n places = (k : ℕ) (e : Entry) → k < n → slice_get es k ≡ Some e → Contains (places_in places (number e)) k
 
 -- the place is put into the group of this number
-abbrev pub Puts : ℕ → ℕ → Places → Places → Type 0
+abbrev pub Puts : ℕ → ℕ → RowPlaces → RowPlaces → Type 0
 Puts number n old now = (other : ℕ) → places_in now other ≡ grown (other == number) (places_in old other) n
 
-pub one_more : (number : Entry → ℕ) (es : List Entry) (n : ℕ) (e : Entry) (old now : Places) → slice_get es n ≡ Some e → Puts (number e) n old now
+pub one_more : (number : Entry → ℕ) (es : List Entry) (n : ℕ) (e : Entry) (old now : RowPlaces) → slice_get es n ≡ Some e → Puts (number e) n old now
     → HasPlaces number es n old → HasPlaces number es (n + 1) now
 one_more number es n e old now at puts has k x below here =
     let xs = places_in old (number x) in

@@ -2,10 +2,10 @@
 use Rattle.std.specs.{List.Contains, Option.option_map_or, Prelude.{◌≡◌, List, Some, [], slice_get, ℕ}}
 use Rattle.net_plan.specs.declared.ids.{LinkId.LinkId, VlId.VlId}
 use Rattle.schedule_tables.specs.{Entries.AreEntries, declared.entry.Entry.Entry}
-use Rattle.schedule_checker.specs.declared.{both_channels.Kin.Kin, groups.{Groups.Groups, Places.Places}}
+use Rattle.schedule_checker.specs.declared.{both_channels.Kin.Kin, groups.{Groups.Groups, RowPlaces.RowPlaces}}
 
 -- the places in the group of the number
-abbrev pub places_in : Places → ℕ → List ℕ
+abbrev pub places_in : RowPlaces → ℕ → List ℕ
 places_in places number = option_map_or (λ group. group.items) (slice_get places.groups.items number) []
 
 -- each row of the virtual link stands at one of these places

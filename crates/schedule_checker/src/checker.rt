@@ -3,7 +3,7 @@ ghost use Rattle.{net_plan.specs.Ranges.IsInRange, schedule_tables.specs.Rules.K
 ghost use Rattle.{schedule_checker.specs.Refusals.IsUnfitBy, schedule_tables.specs.Numbers.number_of};
 
 use crate::groups::groups_of;
-use crate::judge::{Broken, Plan, judge_plan, judge_shape};
+use crate::judge::{BrokenRule, Plan, judge_plan, judge_shape};
 use crate::{RuleBroken, Unfit};
 use net_plan::{Network, rules_give_trees};
 use schedule_tables::{Accepted, entries_of};
@@ -56,7 +56,7 @@ fn judge(alloc: Global, network: &Network) -> Result<(), Unfit>
 }
 
 /// What is told of a rule that is broken: its number and the place.
-fn told_of(broken: Broken) -> RuleBroken
+fn told_of(broken: BrokenRule) -> RuleBroken
     ensures number { result.number ≡ number_of broken.rule }
     ensures index { result.index ≡ broken.place }
 {

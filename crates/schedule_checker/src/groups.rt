@@ -9,16 +9,16 @@ use std::alloc::{AllocError, Global};
 
 /// Places of rows, in groups by a number that each row names.
 #[derive(Drop)]
-pub struct Places {
+pub struct RowPlaces {
     groups: Vec<Vec<usize>>,
 }
 
-impl Places {
+impl RowPlaces {
     /// No place.
-    fn new(alloc: Global) -> Places
+    fn new(alloc: Global) -> RowPlaces
         ensures { result.groups.items ≡ [] }
     {
-        Places {
+        RowPlaces {
             groups: Vec::new(alloc),
         }
     }
@@ -58,16 +58,16 @@ impl Places {
 /// The places of the rows of each virtual link, and of those that go by each link.
 #[derive(Drop)]
 pub struct Groups {
-    by_vl: Places,
-    by_link: Places,
+    by_vl: RowPlaces,
+    by_link: RowPlaces,
 }
 
 /// The groups of the rows whose entries these are.
 pub fn groups_of(alloc: Global, entries: &[Entry]) -> Result<Groups, OutOfMemory>
     ensures { IfOk result (AreGroups entries.now) }
 {
-    let mut by_vl = Places::new(alloc);
-    let mut by_link = Places::new(alloc);
+    let mut by_vl = RowPlaces::new(alloc);
+    let mut by_link = RowPlaces::new(alloc);
     for place in 0..entries.len() {
         let row = &entries[place].row;
         by_vl.push(alloc, row.vl.0, place)?;
@@ -77,14 +77,14 @@ pub fn groups_of(alloc: Global, entries: &[Entry]) -> Result<Groups, OutOfMemory
 }
 
 impl Groups {
-    /// Places, and those of all rows of the virtual link among them.
+    /// Places of rows, and those of all rows of the virtual link among them.
     pub(crate) fn of_vl(&self, vl: VlId) -> &[usize]
         ensures { (entries : List EntryValue) → AreGroups entries self.now → HasRowsOf entries vl result.now }
     {
         self.by_vl.of(vl.0)
     }
 
-    /// Places, and those of all rows that go by the link among them.
+    /// Places of rows, and those of all rows that go by the link among them.
     pub(crate) fn by_link(&self, link: LinkId) -> &[usize]
         ensures { (entries : List EntryValue) → AreGroups entries self.now → HasRowsBy entries link result.now }
     {

@@ -13,7 +13,7 @@ use tte_units::Units;
 
 /// A rule that the network breaks, and the first place at which it does.
 #[derive(Clone, Copy)]
-pub struct Broken {
+pub struct BrokenRule {
     pub rule: Rule,
     pub place: u32,
 }
@@ -28,7 +28,7 @@ pub struct Plan<'a> {
 }
 
 /// Judges the rules of the network's shape, in their order.
-pub fn judge_shape(network: &Network) -> Result<(), Broken>
+pub fn judge_shape(network: &Network) -> Result<(), BrokenRule>
     requires { IsInRange network.now }
     ensures kept { OnOk result (KeepsBelow 8 network.now) }
     ensures told { IfErr result (λ broken. IsFirstBroken network.now broken.rule broken.place) }
@@ -38,7 +38,7 @@ pub fn judge_shape(network: &Network) -> Result<(), Broken>
     'rules: for rule in &ShapeRule::ALL {
         match broken_shape(*rule, network) {
             None => (),
-            Some(place) => return Err(Broken {
+            Some(place) => return Err(BrokenRule {
                 rule: rule.rule(),
                 place,
             }),
@@ -63,7 +63,7 @@ fn broken_shape(rule: ShapeRule, network: &Network) -> Option<u32>
 }
 
 /// Judges the rules behind those of the shape, in their order.
-pub(crate) fn judge_plan(plan: &Plan<'_>) -> Result<(), Broken>
+pub(crate) fn judge_plan(plan: &Plan<'_>) -> Result<(), BrokenRule>
     requires plan { IsPlan plan.now }
     requires shape { KeepsBelow 8 plan.now.network.now }
     ensures kept { OnOk result (KeepsRules plan.now.network.now) }
@@ -72,7 +72,7 @@ pub(crate) fn judge_plan(plan: &Plan<'_>) -> Result<(), Broken>
     'rules: for rule in &PlanRule::ALL {
         match broken_plan(*rule, plan) {
             None => (),
-            Some(place) => return Err(Broken {
+            Some(place) => return Err(BrokenRule {
                 rule: rule.rule(),
                 place,
             }),

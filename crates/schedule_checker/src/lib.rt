@@ -19,7 +19,7 @@ mod virtual_links;
 
 pub use checker::check;
 pub use groups::{Groups, groups_of};
-pub use judge::{Broken, Plan, broken_plan, judge_shape};
+pub use judge::{BrokenRule, Plan, broken_plan, judge_shape};
 pub use laws::refusal_is_one;
 pub use parts::PlanRule;
 pub use refusal::{RuleBroken, Unfit};

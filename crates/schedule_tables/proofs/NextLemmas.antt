@@ -5,7 +5,7 @@ use Rattle.{schedule_tables.proofs.OrderLemmas.{below_more, not_below_more, same
 use Rattle.schedule_tables.specs.{Dispatches.{ComesBehind, HasNoNextRow, IsBelow, IsDispatched, IsNextRow, dispatch_order}, declared.tables.TimedRow.TimedRow}
 use Rattle.{schedule_tables.specs.Entries.IsEntry, std.specs.Option.option_map_or, tte_units.specs.Amount.amount}
 use Rattle.schedule_tables.specs.{Slots.{AreBelow, AreSlotsOf, IsFirstSlot, IsSlotOf, key_of, numbers_of, place_by}, declared.slot.Whose.TheVariants.Whole}
-use Rattle.{schedule_tables.specs.declared.{entry.Entry.Entry, slot.{Place.Place, Slot.Slot}}, tte_units.proofs.general_lemmas.Naturals.cases_of}
+use Rattle.{schedule_tables.specs.declared.{entry.Entry.Entry, slot.{DispatchPlace.DispatchPlace, Slot.Slot}}, tte_units.proofs.general_lemmas.Naturals.cases_of}
 use Rattle.std.proofs.Common.{◌%◌, ◌+◌, ◌<◌, ◌∙◌, ◌∷◌, ◌≡◌, ◌≤◌, List, None, Option, Some, [], ap, arith, get_or, inl, inr, length, refl, subst, sym, ℕ, ⊎_elim}
 
 -- a row's place by its entry
@@ -18,15 +18,15 @@ below_first : (a b c : ℕ) → IsBelow (a ∷ b ∷ c ∷ []) (0 ∷ 0 ∷ 0 �
 below_first a b c h = grind (arith, h)
 
 -- the place is behind that of the row, or the first where there is no row
-abbrev pub IsBoundOf : Network → Option RowId → Place → Type 0
+abbrev pub IsBoundOf : Network → Option RowId → DispatchPlace → Type 0
 IsBoundOf n None place = numbers_of place ≡ 0 ∷ 0 ∷ 0 ∷ []
 IsBoundOf n (Some row) place = (e : Entry) × (dispatch_order n row ≡ numbers_of (place_by e row))
     × (numbers_of place ≡ amount e.row.offset ∷ e.row.link.0 ∷ (row.0 + 1) ∷ [])
 
-pub no_row : (n : Network) (after : Option RowId) (place : Place) → after ≡ None → numbers_of place ≡ 0 ∷ 0 ∷ 0 ∷ [] → IsBoundOf n after place
+pub no_row : (n : Network) (after : Option RowId) (place : DispatchPlace) → after ≡ None → numbers_of place ≡ 0 ∷ 0 ∷ 0 ∷ [] → IsBoundOf n after place
 no_row n after place none first = rw none first
 
-pub some_row : {n : Network} {rows : List TimedRow} (after : Option RowId) (place : Place) (row : RowId)
+pub some_row : {n : Network} {rows : List TimedRow} (after : Option RowId) (place : DispatchPlace) (row : RowId)
     (timed : TimedRow) → AreTimedRows n (length n.row) rows → after ≡ Some row → place ≡ timed.behind
     → row.0 < length rows → timed ≡ get_or rows row.0 timed → IsBoundOf n after place
 some_row {rows} after place row timed are some there within found =
@@ -34,7 +34,7 @@ some_row {rows} after place row timed are some there within found =
     rw some (t.entry, place_is row t.is, ap numbers_of (there ∙ t.behind))
 
 -- what is not below the bound comes behind the row
-comes_behind : (n : Network) (after : Option RowId) (place it : Place) (row : RowId) → IsBoundOf n after place
+comes_behind : (n : Network) (after : Option RowId) (place it : DispatchPlace) (row : RowId) → IsBoundOf n after place
     → dispatch_order n row ≡ numbers_of it → (IsBelow (numbers_of it) (numbers_of place) → ⊥) → ComesBehind n after row
 comes_behind n None place it row of at from = tt
 comes_behind n (Some other) place it row (e, is, behind) at from =
@@ -42,7 +42,7 @@ comes_behind n (Some other) place it row (e, is, behind) at from =
     (λ below. from (subst (λ xs. IsBelow (numbers_of it) xs) (sym behind) below)))
 
 -- what comes behind the row is not below the bound
-not_below : (n : Network) (after : Option RowId) (place it : Place) (row : RowId) → IsBoundOf n after place
+not_below : (n : Network) (after : Option RowId) (place it : DispatchPlace) (row : RowId) → IsBoundOf n after place
     → dispatch_order n row ≡ numbers_of it → ComesBehind n after row → IsBelow (numbers_of it) (numbers_of place) → ⊥
 not_below n None place it row of at behind below = below_first it.offset it.link.0 it.row.0 (subst (λ xs. IsBelow (numbers_of it) xs) of below)
 not_below n (Some other) place it row (e, is, more) at behind below =
@@ -77,10 +77,10 @@ is_slot {cycle} is periods = record {
 }
 
 -- the bound of the search
-abbrev pub bound_of : DeviceId → ℕ → Place → Slot
+abbrev pub bound_of : DeviceId → ℕ → DispatchPlace → Slot
 bound_of device cycle place = record { device = device; residue = cycle % 64; place = place }
 
-module _ (n : Network) (device : DeviceId) (cycle : ℕ) (after : Option RowId) (place : Place) where
+module _ (n : Network) (device : DeviceId) (cycle : ℕ) (after : Option RowId) (place : DispatchPlace) where
   -- the slot of a row that is dispatched behind the other is not below it
   not_low : {row : RowId} (is : IsDispatched n device cycle row) → IsBoundOf n after place → ComesBehind n after row
       → IsBelow (key_of (slot_of n device cycle row is)) (key_of (bound_of device cycle place)) → ⊥
@@ -144,7 +144,7 @@ beyond a b d r xs ys zs from other =
     ]
 
 -- where the slot is of another device or residue, there is no next row
-pub is_no_next_row : {n : Network} (device : DeviceId) (cycle : ℕ) (after : Option RowId) (place : Place)
+pub is_no_next_row : {n : Network} (device : DeviceId) (cycle : ℕ) (after : Option RowId) (place : DispatchPlace)
     {slots : List Slot} {s : Slot} → AreSlotsOf n slots → ((k : ℕ) → HasPeriod n k) → IsBoundOf n after place
     → (s.device.0 ≡ device.0 → s.residue ≡ cycle % 64 → ⊥) → IsFirstSlot slots (bound_of device cycle place) s
     → HasNoNextRow n device cycle after

@@ -14,7 +14,7 @@ pub use accepted::Accepted;
 pub use entry::{Entry, entries_of, entry_of};
 pub use laws::{entries_law, margins_law};
 pub use rule::Rule;
-pub use slot::{Place, RESIDUES, Slot, Whose, first_slot, slots_of};
+pub use slot::{DispatchPlace, RESIDUES, Slot, Whose, first_slot, slots_of};
 pub use tables::Tables;
 pub use tte_units::OutOfMemory;
 pub use window::{Window, arrival_of, tolerance, window_of};

@@ -4,7 +4,7 @@ use Rattle.{schedule_tables.proofs.EntryLemmas.in_range, switch_ports.{proofs.{E
 use Rattle.{std.proofs.lemmas.{Bool.and_from, List.Elements.{Contains-get_or, filter-append}}, switch_ports.proofs.RowKeys.{fit_reopened, fit_taken, of_taken}}
 use Rattle.switch_ports.proofs.Words.{◌&&◌, ◌*◌, ◌++◌, ◌+ℤ◌, ◌+◌, ◌<ℤ◌, ◌<◌, ◌==◌, ◌^◌, ◌∙◌, ◌∷◌, ◌≡◌, ◌≤ℤ◌, ◌≤◌, AreChained, AreEach, Awaits, AwaitsIn}
 use Rattle.switch_ports.proofs.Words.{AwaitsSo, Bool, Changes, ClockTask, Contains, Departure, Departures, DeviceId, HasDepartures, Held, Integrating, IsBegun}
-use Rattle.switch_ports.proofs.Words.{IsDeparture, IsInRange, IsLeaving, Joining, KnowsNext, LeavingRow, List, Moment, Network, Node, None, Off, Option, Row}
+use Rattle.switch_ports.proofs.Words.{IsDeparture, IsInRange, IsLeaving, Joining, KnowsNext, SwitchRow, List, Moment, Network, Node, None, Off, Option, Row}
 use Rattle.switch_ports.proofs.Words.{RowId, Some, StandsAs, State, Switch, Synchronised, TakenFrame, VlId, [], amount, amount_most, ap, arith, cases_Bool}
 use Rattle.switch_ports.proofs.Words.{dispatch_at, dispatching, false, get_or, held_by, held_in, if◌then◌else◌, in_none, inl, inr, int_lt, ints, length}
 use Rattle.switch_ports.proofs.Words.{option_and_then, option_map, option_map_or, pos, refl, subst, sym, through, true, value_of, with_taking, ℕ, ℤ}
@@ -62,7 +62,7 @@ has_row : {f : Departure → Departure} {old new : List Departure} (place : ℕ)
 has_row {f} {new} place each of (d, (k, lt, at), is) =
     let lt' : k < length new = subst (λ n. k < n) (sym each.count) lt in
     let same : get_or new k d ≡ f d = each.each k d lt ∙ ap f at in
-    (f d, subst (Contains new) same (Contains-get_or new k d lt'), ap (λ (o : LeavingRow). o.row.0) (of d) ∙ is)
+    (f d, subst (Contains new) same (Contains-get_or new k d lt'), ap (λ (o : SwitchRow). o.row.0) (of d) ∙ is)
 
 pub departs_each : {network : Network} {device : DeviceId} {f : Departure → Departure} {old new : Departures}
     {before : List TakenFrame} (after : List TakenFrame) → Changes f old new → ((d : Departure) → (f d).of ≡ d.of)
@@ -130,9 +130,9 @@ fresh_fit : {network : Network} {device : DeviceId} {d : Departure} → IsInRang
     → IsFit d
 fresh_fit {network} {d} range is =
     let entry = in_range network d.of.row.0 is.of.entry range is.of.is in record {
-      offset = subst (λ (o : LeavingRow). o.offset ≤ 2 ^ 40) (sym is.of.kept) (amount_most entry.row.offset);
-      period = subst (λ (o : LeavingRow). 1 ≤ o.period) (sym is.of.kept) entry.vl.period_least;
-      link = subst (λ (o : LeavingRow). o.link.0 < 2 ^ 32) (sym is.of.kept) (let a = entry.row.link in let b = range.few_links in omega (arith, a, b));
+      offset = subst (λ (o : SwitchRow). o.offset ≤ 2 ^ 40) (sym is.of.kept) (amount_most entry.row.offset);
+      period = subst (λ (o : SwitchRow). 1 ≤ o.period) (sym is.of.kept) entry.vl.period_least;
+      link = subst (λ (o : SwitchRow). o.link.0 < 2 ^ 32) (sym is.of.kept) (let a = entry.row.link in let b = range.few_links in omega (arith, a, b));
       place =
           let a = is.place in let b = got_within network.row d.of.row.0 is.of.entry.row is.of.is.row in let c = range.few_rows in omega (arith, a, b, c);
       held = rw is.held tt;
@@ -173,15 +173,15 @@ awaits_fresh Synchronised {network} {device} {ds} adjustment changed local begun
 -- ---- the frame of a row
 
 -- where the row's frame of a cycle is dispatched
-pub value_is : {network : Network} {device : DeviceId} {of : LeavingRow} (cycle : ℕ) → IsLeaving network device of
+pub value_is : {network : Network} {device : DeviceId} {of : SwitchRow} (cycle : ℕ) → IsLeaving network device of
     → value_of network (dispatching of.row cycle) ≡ value_in (amount network.cycle) of cycle
 value_is {network} {of} cycle is =
     let offset : offset_of network of.row ≡ of.offset =
-    ap (λ (o : Option Row). option_map_or (λ r. amount r.offset) o 0) is.is.row ∙ sym (ap (λ (o : LeavingRow). o.offset) is.kept) in
+    ap (λ (o : Option Row). option_map_or (λ r. amount r.offset) o 0) is.is.row ∙ sym (ap (λ (o : SwitchRow). o.offset) is.kept) in
     ap (λ n. pos (cycle * amount network.cycle + n)) offset
 
 -- what is held of a taking
-pub held_so : (length : ℕ) (of : LeavingRow) (cycle : ℕ) (at : ℤ) (h : Held) → held_by length of cycle at ≡ Some h
+pub held_so : (length : ℕ) (of : SwitchRow) (cycle : ℕ) (at : ℤ) (h : Held) → held_by length of cycle at ≡ Some h
     → (h ≡ held_in length of cycle) × (is_dispatch_in of cycle ≡ true) × (at <ℤ value_in length of cycle)
 held_so length of cycle at h e = elim (cases_Bool (is_dispatch_in of cycle && int_lt at (value_in length of cycle))) [
   | inl y ↦
@@ -191,7 +191,7 @@ held_so length of cycle at h e = elim (cases_Bool (is_dispatch_in of cycle && in
   | inr n ↦ absurd (let f : None ≡ Some h = rw n at e in cc)
 ]
 
-pub held_of : (length : ℕ) (of : LeavingRow) (cycle : ℕ) (at : ℤ) → is_dispatch_in of cycle ≡ true → at <ℤ value_in length of cycle
+pub held_of : (length : ℕ) (of : SwitchRow) (cycle : ℕ) (at : ℤ) → is_dispatch_in of cycle ≡ true → at <ℤ value_in length of cycle
     → held_by length of cycle at ≡ Some (held_in length of cycle)
 held_of length of cycle at occurs lt =
     let y : (is_dispatch_in of cycle && int_lt at (value_in length of cycle)) ≡ true = and_from _ _ occurs (int_lt-from _ _ lt) in rw y refl

@@ -4,7 +4,7 @@ use Rattle.run_law.specs.machines.Tasks.{HasFrame}
 use Rattle.{schedule_tables.{proofs.EntryLemmas.one_entry, specs.Windows.OccursIn}, std.proofs.Common.◌%◌, tte_units.proofs.general_lemmas.Options.mapped}
 use Rattle.switch_ports.proofs.Words.{◌&&◌, ◌+ℤ◌, ◌-ℤ◌, ◌<ℤ◌, ◌==◌, ◌∙◌, ◌≡◌, ◌≤ℤ◌, ◌⊎◌, All-contains, Awaits, AwaitsIn, AwaitsSo, Contains, Departure}
 use Rattle.switch_ports.proofs.Words.{Departures, Device, DeviceId, Dispatch, Entry, Held, IfSome, IsAccepted, IsDeparture, IsEntry, IsLeaving, IsPending}
-use Rattle.switch_ports.proofs.Words.{IsSomeAnd, LeavingRow, Network, Node, None, Option, Precedes, RowId, Some, StandsAs, State, Switch, Synchronised}
+use Rattle.switch_ports.proofs.Words.{IsSomeAnd, SwitchRow, Network, Node, None, Option, Precedes, RowId, Some, StandsAs, State, Switch, Synchronised}
 use Rattle.switch_ports.proofs.Words.{TakenFrame, Task, VlId, amount, ap, arith, correcting, dispatch_at, dispatching, doing, emitting, false, held_by, held_in}
 use Rattle.switch_ports.proofs.Words.{inl, inr, ints, is_end, is_end_system, nat_le, option_and_then, option_map, option_map_or, reading_for, refl, sending}
 use Rattle.switch_ports.{proofs.Words.{subst, sym, true, value_of, ℕ, ℤ}, specs.{Departing.last_of, Leaving.{IsFirstOf, dispatch_by, is_dispatch_in, value_in}}}
@@ -24,7 +24,7 @@ no_sender {network} device {entry} accepted not_end is sends =
 
 -- ---- what a row holds is what the device has at hand
 
-module _ (of : LeavingRow) (vl : VirtualLink) (cycle : ℕ) (e : of.period ≡ vl.period) (f : of.phase ≡ vl.phase) where
+module _ (of : SwitchRow) (vl : VirtualLink) (cycle : ℕ) (e : of.period ≡ vl.period) (f : of.phase ≡ vl.phase) where
   occurs_so : OccursIn vl cycle → is_dispatch_in of cycle ≡ true
   occurs_so o = let a = o.begun in let b = o.in_phase in rw e (rw f (grind (arith, a, b)))
 
@@ -33,26 +33,26 @@ module _ (of : LeavingRow) (vl : VirtualLink) (cycle : ℕ) (e : of.period ≡ v
       let h : (nat_le 1 cycle && cycle % vl.period == vl.phase) ≡ true = rw (sym e) (rw (sym f) o) in
       record { begun = grind (arith, h); in_phase = grind (arith, h) }
 
-from_last : (length : ℕ) (of : LeavingRow) (cycle : ℕ) (value : ℤ) (o : Option TakenFrame) → is_dispatch_in of cycle ≡ true → value ≡ value_in length of cycle
+from_last : (length : ℕ) (of : SwitchRow) (cycle : ℕ) (value : ℤ) (o : Option TakenFrame) → is_dispatch_in of cycle ≡ true → value ≡ value_in length of cycle
     → IsSomeAnd o (λ t. (t.cycle ≡ cycle) × (t.at <ℤ value)) → option_and_then (λ t. held_by length of t.cycle t.at) o ≡ Some (held_in length of cycle)
 from_last length of cycle value None occurs v some = absurd some
 from_last length of cycle value (Some t) occurs v (e, lt) =
     ap (λ n. held_by length of n t.at) e ∙ held_of length of cycle t.at occurs (subst (λ z. t.at <ℤ z) v lt)
 
-to_last : (length : ℕ) (of : LeavingRow) (h : Held) (o : Option TakenFrame) → option_and_then (λ t. held_by length of t.cycle t.at) o ≡ Some h
+to_last : (length : ℕ) (of : SwitchRow) (h : Held) (o : Option TakenFrame) → option_and_then (λ t. held_by length of t.cycle t.at) o ≡ Some h
     → (h ≡ held_in length of h.cycle) × (is_dispatch_in of h.cycle ≡ true) × IsSomeAnd o (λ t. (t.cycle ≡ h.cycle) × (t.at <ℤ value_in length of h.cycle))
 to_last length of h None e = absurd cc
 to_last length of h (Some t) e = grind (arith, held_so, held_in)
 
-module _ {network : Network} {device : DeviceId} {of : LeavingRow} (is : IsLeaving network device of) where
+module _ {network : Network} {device : DeviceId} {of : SwitchRow} (is : IsLeaving network device of) where
   its_vl : of.vl ≡ is.entry.row.vl
-  its_vl = ap (λ (o : LeavingRow). o.vl) is.kept
+  its_vl = ap (λ (o : SwitchRow). o.vl) is.kept
 
   its_period : of.period ≡ is.entry.vl.period
-  its_period = ap (λ (o : LeavingRow). o.period) is.kept
+  its_period = ap (λ (o : SwitchRow). o.period) is.kept
 
   its_phase : of.phase ≡ is.entry.vl.phase
-  its_phase = ap (λ (o : LeavingRow). o.phase) is.kept
+  its_phase = ap (λ (o : SwitchRow). o.phase) is.kept
 
 pub frame_held : {network : Network} {device : DeviceId} {node : Node} {d : Departure} {cycle : ℕ}
     → IsAccepted network → is_end network device ≡ false → IsDeparture network device node.taken d

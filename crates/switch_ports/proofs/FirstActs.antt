@@ -4,7 +4,7 @@ use Rattle.{schedule_tables.specs.Dispatches.dispatch_order, std.specs.Prelude.{
 use Rattle.switch_ports.proofs.{Awaiting.value_is, Dispatching.{IsDispatch, dispatch_bound, dispatch_is, leaves_so, next_is, next_of, no_dispatch, not_sooner}}
 use Rattle.switch_ports.proofs.Pending.{IsCorrection, IsEmission, correction_bound, correction_pending, emission_at, kind_of, no_correction, pending_correction}
 use Rattle.switch_ports.proofs.Words.{◌*◌, ◌+ℤ◌, ◌+◌, ◌-ℤ◌, ◌<ℤ◌, ◌<◌, ◌∙◌, ◌∷◌, ◌≡◌, ◌≤ℤ◌, ◌≤◌, ◌⊎◌, All-contains, Cluster, Compressed, Contains, DeviceId}
-use Rattle.switch_ports.proofs.Words.{Dispatch, IfSome, IsAccepted, IsLeast, IsLeaving, IsPending, LeavingRow, List, MayCall, Moment, Network, Node, None}
+use Rattle.switch_ports.proofs.Words.{Dispatch, IfSome, IsAccepted, IsLeast, IsLeaving, IsPending, SwitchRow, List, MayCall, Moment, Network, Node, None}
 use Rattle.switch_ports.proofs.Words.{Option, Precedes, Row, RowId, Some, StandsAs, Switch, Task, Units, [], acting, amount, ap, arith, cases_Bool, correcting}
 use Rattle.switch_ports.proofs.Words.{dispatch_at, dispatching, doing, emission, emissions, emitting, held_in, in_none, inl, inr, ints, its_amount}
 use Rattle.switch_ports.proofs.Words.{mul-le-mul_right, nat_le, next_point, option_map_or, pos, reading_for, refl, sending, subst, sym, through, ℕ, ℤ}
@@ -123,17 +123,17 @@ order_clash o' l' r' o l r c' c L p adjustment reading precision ends prec due i
           omega (arith, far, to, ends)
     ]
 
-order_is : {network : Network} {device : DeviceId} {of : LeavingRow} → IsLeaving network device of
+order_is : {network : Network} {device : DeviceId} {of : SwitchRow} → IsLeaving network device of
     → dispatch_order network of.row ≡ of.offset ∷ of.link.0 ∷ of.row.0 ∷ []
 order_is {of} is =
     ap (λ (o : Option Row). option_map_or (λ r. amount r.offset ∷ r.link.0 ∷ of.row.0 ∷ []) o []) is.is.row
-    ∙ ap (λ (x : LeavingRow). x.offset ∷ x.link.0 ∷ of.row.0 ∷ []) (sym is.kept)
+    ∙ ap (λ (x : SwitchRow). x.offset ∷ x.link.0 ∷ of.row.0 ∷ []) (sym is.kept)
 
-ends_in : {network : Network} {device : DeviceId} {of : LeavingRow} → IsAccepted network
+ends_in : {network : Network} {device : DeviceId} {of : SwitchRow} → IsAccepted network
     → IsLeaving network device of → of.offset + 4 * amount network.precision ≤ amount network.cycle
 ends_in {of} accepted is =
     let ends = accepted.rules rules.WindowEnds of.row.0 is.entry is.is in
-    let offset : of.offset ≡ amount is.entry.row.offset = ap (λ (x : LeavingRow). x.offset) is.kept in
+    let offset : of.offset ≡ amount is.entry.row.offset = ap (λ (x : SwitchRow). x.offset) is.kept in
     omega (arith, ends, offset)
 
 module _ (s : Switch) (network : Network) (device : DeviceId) (node : Node) where

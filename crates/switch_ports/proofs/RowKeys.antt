@@ -2,9 +2,9 @@
 use Rattle.{device_rules.specs.least_key.Trees.no_key, std.specs.{List.All, Prelude.{nat_eq, nat_lt}}, switch_ports.proofs.EachRow.all_each}
 use Rattle.std.proofs.{Common.{◌%◌, ◌≢◌, Global, Vec, replicate}, lemmas.{Bool.{cases_eq, eq-eqb}, List.{Elements.Contains-get_or, length-set, map-set}}}
 use Rattle.std.proofs.lemmas.List.{ext_get_or, get_or-map, get_or-replicate, get_or-set_other, get_or-set_same, get_or_default, length-map, length-replicate}
-use Rattle.switch_ports.{proofs.RowOrder.chained_each, specs.{Departing.{IsReady, IsReopeningAt, Sets, bound_of}, declared.departures.Taking.Taking}}
+use Rattle.switch_ports.{proofs.RowOrder.chained_each, specs.{Departing.{IsReady, IsReopeningAt, Sets, bound_of}, declared.departures.TakenFrameAt.TakenFrameAt}}
 use Rattle.switch_ports.proofs.Words.{◌*◌, ◌+◌, ◌<◌, ◌==◌, ◌^◌, ◌∙◌, ◌≡◌, ◌≤◌, ◌⊎◌, AreChained, Bool, Changes, Contains, Departure, Departures, Held, IfSome}
-use Rattle.switch_ports.proofs.Words.{IsTakingAt, LeavingRow, List, None, Option, Precedes, Some, amount_most, ap, arith, cases_Bool, dispatch_at, eqb-true}
+use Rattle.switch_ports.proofs.Words.{IsTakingAt, SwitchRow, List, None, Option, Precedes, Some, amount_most, ap, arith, cases_Bool, dispatch_at, eqb-true}
 use Rattle.switch_ports.proofs.Words.{false, get_or, held_by, if◌then◌else◌, in_all, inl, inr, int_lt, ints, its_amount, length, map, option_and_then}
 use Rattle.switch_ports.proofs.Words.{option_map, option_map_or, refl, slice_get, slice_get-get_or, slice_set, subst, sym, true, with_taking, ℕ, ℤ}
 use Rattle.switch_ports.specs.Leaving.{AreKeys, IsFirstOf, IsFit, IsHeldFit, IsLast, awaited_of, closed, dispatch_by, key_at, key_by, reopened, with_held}
@@ -15,7 +15,7 @@ pub awaited_fit : (changed : ℤ) (o : Option Held) → IfSome o IsHeldFit → I
 awaited_fit changed None fit = tt
 awaited_fit changed (Some held) fit = elim (cases_Bool (int_lt changed held.value.0)) [ inl y ↦ rw y fit | inr n ↦ rw n tt ]
 
-held_fit : (length : ℕ) (of : LeavingRow) (cycle : ℕ) (at : ℤ) → cycle * length ≤ 2 ^ 62 → of.offset ≤ 2 ^ 40 → IfSome (held_by length of cycle at) IsHeldFit
+held_fit : (length : ℕ) (of : SwitchRow) (cycle : ℕ) (at : ℤ) → cycle * length ≤ 2 ^ 62 → of.offset ≤ 2 ^ 40 → IfSome (held_by length of cycle at) IsHeldFit
 held_fit length of cycle at a b = grind (arith, cases_Bool, int_lt, length, ints)
 
 fit_with : (changed : ℤ) (o : Option Held) {d : Departure} → IfSome o IsHeldFit → IsFit d
@@ -61,7 +61,7 @@ no_departure = grind arith
 
 module _ (adjustment : ℤ) where
   -- a dispatch of no lesser key does not come before the other
-  not_before : (a b : LeavingRow) (x y : Held) → IsHeldFit x → IsHeldFit y → a.link.0 < 2 ^ 32 → a.place < 2 ^ 32
+  not_before : (a b : SwitchRow) (x y : Held) → IsHeldFit x → IsHeldFit y → a.link.0 < 2 ^ 32 → a.place < 2 ^ 32
       → b.link.0 < 2 ^ 32 → b.place < 2 ^ 32 → (b.row.0 < a.row.0 → b.place < a.place) → key_at a x ≤ key_at b y
       → Precedes (dispatch_at adjustment b y) (dispatch_at adjustment a x) → ⊥
   not_before a b x y fx fy la pa lb pb rise le (inl lt) =
@@ -75,7 +75,7 @@ module _ (adjustment : ℤ) where
       let less = rise lt in omega (arith, ints, la, pa, lb, pb, le, same, less, e, ex, ey)
 
   -- a row whose key is that of none awaits none
-  none_awaited : (of : LeavingRow) (o : Option Held) → IfSome o IsHeldFit → of.link.0 < 2 ^ 32 → of.place < 2 ^ 32
+  none_awaited : (of : SwitchRow) (o : Option Held) → IfSome o IsHeldFit → of.link.0 < 2 ^ 32 → of.place < 2 ^ 32
       → no_key ≤ option_map_or (key_at of) o no_key → option_map (dispatch_at adjustment of) o ≡ None
   none_awaited of None fit link place le = refl
   none_awaited of (Some held) fit link place le =
@@ -177,7 +177,7 @@ module _ (adjustment : ℤ) where
       (sym (get_or-map key_by ds.rows.items k no_departure key inside) ∙ ap (λ (keys : List ℕ). get_or keys k key)
       (sym ready.keys) ∙ at)
 
-no_key_of : (of : LeavingRow) (o : Option Held) → o ≡ None → option_map_or (key_at of) o no_key ≡ no_key
+no_key_of : (of : SwitchRow) (o : Option Held) → o ≡ None → option_map_or (key_at of) o no_key ≡ no_key
 no_key_of of o none = ap (λ (x : Option Held). option_map_or (key_at of) x no_key) none
 
 -- rows of which no frame has been taken have no keys
@@ -303,7 +303,7 @@ pub taken_all : {f : Departure → Departure} {vl : ℕ} {old new : Departures} 
 taken_all h =
     record { rows = record { count = h.rows.count; each = λ k d lt. h.rows.done k d (omega arith) lt }; lasts = h.lasts; keys = h.keys }
 
-module _ (length : ℕ) (changed : ℤ) (taking : Taking) (d : Departure) where
+module _ (length : ℕ) (changed : ℤ) (taking : TakenFrameAt) (d : Departure) where
   -- a frame of another virtual link changes nothing
   pub other_same : (d.of.vl.0 ≡ taking.vl.0 → ⊥) → with_taking length changed taking d ≡ d
   other_same other = grind (arith, cases_Bool, eqb-true)

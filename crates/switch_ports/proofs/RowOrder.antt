@@ -2,7 +2,7 @@
 use Rattle.{schedule_tables.specs.Entries.source_of, std.proofs.Common.◌≢◌, tte_units.proofs.general_lemmas.Naturals.below_next}
 use Rattle.{std.proofs.lemmas.List.{Elements.{All-push, Contains-push}, length-set}, switch_ports.specs.Leaving.{HasRow, IsFresh, IsLast, fresh_row, place_in}}
 use Rattle.switch_ports.proofs.Words.{◌++◌, ◌+◌, ◌<◌, ◌==◌, ◌∙◌, ◌∷◌, ◌≡◌, ◌≤◌, AreChained, AreEach, AreLeaving, Contains-append_left, Departure, DeviceId}
-use Rattle.switch_ports.proofs.Words.{Entry, IsEntry, LeavingRow, List, Network, None, Option, RowId, Some, [], ap, arith, cases_Bool, eqb-true, get_or, inl}
+use Rattle.switch_ports.proofs.Words.{Entry, IsEntry, SwitchRow, List, Network, None, Option, RowId, Some, [], ap, arith, cases_Bool, eqb-true, get_or, inl}
 use Rattle.switch_ports.proofs.Words.{inr, length, length-map, map, refl, slice_set, subst, suc, sym, zero, ℕ}
 
 -- ---- one row more
@@ -171,7 +171,7 @@ same_of {old} k d each of lt = ap (λ (x : Departure). x.of) (each.each k d lt) 
 last_each : {f : Departure → Departure} {old new : List Departure} (vl bound : ℕ) (o : Option ℕ) → AreEach f old new
     → ((d : Departure) → (f d).of ≡ d.of) → bound ≤ length old → IsLast old vl bound o → IsLast new vl bound o
 last_each vl bound None each of le h = λ k d lt is.
-    h k d lt (ap (λ (x : LeavingRow). x.vl.0) (sym (same_of k d each of (omega (arith, lt, le)))) ∙ is)
+    h k d lt (ap (λ (x : SwitchRow). x.vl.0) (sym (same_of k d each of (omega (arith, lt, le)))) ∙ is)
 last_each vl bound (Some place) each of le h = grind (arith, same_of)
 
 -- the order stays

@@ -39,5 +39,5 @@ pub use Rattle.switch_ports.specs.Departing.{Awaits, AwaitsIn, AwaitsSo, Changes
 pub use Rattle.switch_ports.specs.Leaving.{AreChained, AreEach, AreLeaving, IsLeaving, Precedes, dispatch_at, held_by, held_in, with_taking}
 pub use Rattle.switch_ports.specs.{Sites.{IsSiteOf, port_of}, Standing.{HasCollected, IsAccepted, StandsAs}, Standpoints.standpoint_of}
 pub use Rattle.switch_ports.specs.Steady.{IsFair, is_timed}
-pub use Rattle.switch_ports.specs.declared.departures.{Departure.Departure, Departures.Departures, Dispatch.Dispatch, Held.Held, LeavingRow.LeavingRow}
+pub use Rattle.switch_ports.specs.declared.departures.{Departure.Departure, Departures.Departures, Dispatch.Dispatch, Held.Held, SwitchRow.SwitchRow}
 pub use Rattle.switch_ports.specs.declared.{site.Port.Port, switch.Switch.Switch}

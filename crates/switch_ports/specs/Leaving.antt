@@ -4,14 +4,14 @@ use Rattle.std.specs.Prelude.{◌%◌, ◌&&◌, ◌*◌, ◌+◌, ◌-ℤ◌, �
 use Rattle.std.specs.Prelude.{None, Option, Some, if◌then◌else◌, int_lt, length, nat_le, option_map, pos, slice_get}
 use Rattle.{device_rules.specs.least_key.Trees.no_key, tte_units.specs.{Amount.amount, declared.units.Units.Units}}
 use Rattle.net_plan.specs.{Ranges.IsWithin, declared.{ids.{DeviceId.DeviceId, RowId.RowId}, network.Network.Network}}
-use Rattle.{schedule_tables.specs.Entries.{IsEntry, source_of}, switch_ports.specs.declared.departures.Taking.Taking}
+use Rattle.{schedule_tables.specs.Entries.{IsEntry, source_of}, switch_ports.specs.declared.departures.TakenFrameAt.TakenFrameAt}
 use Rattle.{schedule_tables.specs.declared.entry.Entry.Entry, switch_ports.specs.declared.departures.Held.Held}
-use Rattle.switch_ports.specs.declared.departures.{Departure.Departure, Dispatch.Dispatch, LeavingRow.LeavingRow}
+use Rattle.switch_ports.specs.declared.departures.{Departure.Departure, Dispatch.Dispatch, SwitchRow.SwitchRow}
 
 -- ---- rows
 
 -- what is kept of the entry of a row
-abbrev pub leaving_by : ℕ → Option ℕ → RowId → Entry → LeavingRow
+abbrev pub leaving_by : ℕ → Option ℕ → RowId → Entry → SwitchRow
 leaving_by place before row entry = record {
   row = row;
   link = entry.row.link;
@@ -28,7 +28,7 @@ abbrev pub fresh_row : ℕ → Option ℕ → RowId → Entry → Departure
 fresh_row place before row entry = record { of = leaving_by place before row entry; held = None; awaited = None }
 
 -- the row is kept as its entry says, and leaves the device
-pub record IsLeaving (network : Network) (device : DeviceId) (of : LeavingRow) : Type 0 where
+pub record IsLeaving (network : Network) (device : DeviceId) (of : SwitchRow) : Type 0 where
   pub entry : Entry
   pub is : IsEntry network of.row.0 entry
   pub leaves : source_of entry ≡ device
@@ -63,19 +63,19 @@ pub record AreChained (rows : List Departure) (lasts : List (Option ℕ)) : Type
 -- ---- frames
 
 -- the local value at which the row's frame of a cycle is dispatched, in cycles of this length
-abbrev pub value_in : ℕ → LeavingRow → ℕ → ℤ
+abbrev pub value_in : ℕ → SwitchRow → ℕ → ℤ
 value_in length of cycle = pos (cycle * length + of.offset)
 
 -- does the row's virtual link occur in the cycle?
-abbrev pub is_dispatch_in : LeavingRow → ℕ → Bool
+abbrev pub is_dispatch_in : SwitchRow → ℕ → Bool
 is_dispatch_in of cycle = nat_le 1 cycle && cycle % of.period == of.phase
 
 -- the frame of the cycle, as the row dispatches it
-abbrev pub held_in : ℕ → LeavingRow → ℕ → Held
+abbrev pub held_in : ℕ → SwitchRow → ℕ → Held
 held_in length of cycle = record { cycle = cycle; value = record { 0 = value_in length of cycle } }
 
 -- the frame taken in the cycle at the local value, if the row dispatches it behind that
-abbrev pub held_by : ℕ → LeavingRow → ℕ → ℤ → Option Held
+abbrev pub held_by : ℕ → SwitchRow → ℕ → ℤ → Option Held
 held_by length of cycle at =
     if is_dispatch_in of cycle && int_lt at (value_in length of cycle) then Some (held_in length of cycle) else None
 
@@ -89,7 +89,7 @@ abbrev pub with_held : ℤ → Option Held → Departure → Departure
 with_held changed held d = record d { held = held; awaited = awaited_of changed held }
 
 -- the row when a frame is taken
-abbrev pub with_taking : ℕ → ℤ → Taking → Departure → Departure
+abbrev pub with_taking : ℕ → ℤ → TakenFrameAt → Departure → Departure
 with_taking length changed taking d =
     if d.of.vl.0 == taking.vl.0 then with_held changed (held_by length d.of taking.cycle taking.at.0) d else d
 
@@ -128,7 +128,7 @@ pub record IsFit (d : Departure) : Type 0 where
   pub awaited : IfSome d.awaited IsHeldFit
 
 -- the cycle of the taking begins in the range of runs
-pub record IsTakingFit (length : Units) (taking : Taking) : Type 0 where
+pub record IsTakingFit (length : Units) (taking : TakenFrameAt) : Type 0 where
   pub from_zero : pos 0 ≤ℤ length.0
   pub cycle : taking.cycle * amount length ≤ 2 ^ 62
 
@@ -153,7 +153,7 @@ pub record AreLeaving (network : Network) (device : DeviceId) (bound : ℕ) (row
 -- ---- dispatches
 
 -- the dispatch of this frame by the row, where the local clock has this adjustment
-abbrev pub dispatch_at : ℤ → LeavingRow → Held → Dispatch
+abbrev pub dispatch_at : ℤ → SwitchRow → Held → Dispatch
 dispatch_at adjustment of held = record {
   at = record { 0 = held.value.0 -ℤ adjustment };
   link = of.link;
@@ -185,7 +185,7 @@ IsFirstOf adjustment rows (Some next) =
 -- ---- keys
 
 -- the key of the frame: by its local value, then by the row's link, then by the row's place
-abbrev pub key_at : LeavingRow → Held → ℕ
+abbrev pub key_at : SwitchRow → Held → ℕ
 key_at of held = amount held.value * 2 ^ 64 + (of.link.0 * 2 ^ 32 + of.place)
 
 -- the key of what the row has still to dispatch

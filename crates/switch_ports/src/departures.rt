@@ -20,7 +20,7 @@ const PLACES: u64 = 1 << 32;
 
 /// A row that leaves the switch.
 #[derive(Clone, Copy)]
-pub struct LeavingRow {
+pub struct SwitchRow {
     pub row: RowId,
     pub link: LinkId,
     pub vl: VlId,
@@ -47,7 +47,7 @@ pub struct Held {
 /// A row that leaves the switch, and the frame that it dispatches.
 #[derive(Clone, Copy)]
 pub struct Departure {
-    pub of: LeavingRow,
+    pub of: SwitchRow,
     /// The last frame of the virtual link that the switch took, if the row's place came behind.
     pub held: Option<Held>,
     /// The same, while it is still to be dispatched.
@@ -56,7 +56,7 @@ pub struct Departure {
 
 /// A frame of a virtual link that the switch takes, in a cycle of its own and at a local value.
 #[derive(Clone, Copy)]
-pub struct Taking {
+pub struct TakenFrameAt {
     pub vl: VlId,
     pub cycle: u32,
     pub at: Units,
@@ -115,7 +115,13 @@ impl Departures {
     }
 
     /// Keeps a frame that is taken for the rows of its virtual link, in the place of an earlier one.
-    pub(crate) fn take(&mut self, length: Units, taking: Taking, changed: Units, adjustment: Units)
+    pub(crate) fn take(
+        &mut self,
+        length: Units,
+        taking: TakenFrameAt,
+        changed: Units,
+        adjustment: Units,
+    )
         requires ready { IsReady self.old }
         requires taking { IsTakingFit length taking }
         requires small { IsSmall adjustment.0 }
@@ -203,7 +209,7 @@ impl Departures {
 
 impl Departure {
     /// Keeps the frame, which is one of the row's virtual link.
-    pub fn take(&mut self, length: Units, taking: &Taking, changed: Units)
+    pub fn take(&mut self, length: Units, taking: &TakenFrameAt, changed: Units)
         requires fit { IsFit self.old }
         requires taking { IsTakingFit length taking.now }
         ensures { self.new ≡ with_held changed.0
@@ -254,10 +260,10 @@ impl Departure {
     }
 }
 
-impl LeavingRow {
+impl SwitchRow {
     /// The frame that is taken, as the row dispatches it. It is None where the row's place has passed,
     /// or the virtual link does not occur in the cycle.
-    pub fn held(&self, length: Units, taking: &Taking) -> Option<Held>
+    pub fn held(&self, length: Units, taking: &TakenFrameAt) -> Option<Held>
         requires offset { self.now.offset ≤ 2 ^ 40 }
         requires period { 1 ≤ self.now.period }
         requires taking { IsTakingFit length taking.now }
@@ -334,7 +340,7 @@ fn departure_of(place: usize, before: Option<usize>, row: RowId, entry: &Entry) 
     ensures { result ≡ fresh_row place before row entry.now }
 {
     Departure {
-        of: LeavingRow {
+        of: SwitchRow {
             row,
             link: entry.row.link,
             vl: entry.row.vl,

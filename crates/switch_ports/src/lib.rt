@@ -15,7 +15,7 @@ mod standpoint;
 mod switch;
 mod timed;
 
-pub use departures::{Departure, Dispatch, Held, LeavingRow, Taking};
+pub use departures::{Departure, Dispatch, Held, SwitchRow, TakenFrameAt};
 pub use site::{Peer, Port, Site};
 pub use standpoint::Standpoint;
 pub use switch::Switch;

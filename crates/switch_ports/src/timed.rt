@@ -8,7 +8,7 @@ ghost use Rattle.{run_law.specs.machines.{Calls.IsLinkAt, Nodes.TakenFrame}, swi
 ghost use Rattle.switch_ports.specs.{Departing.{IsKeptSo, IsReady}, Standpoints.{IsAlive, standpoint_of}};
 ghost use Rattle.{switch_ports.specs.Sites.IsSiteOf, tte_units.specs.Amount.amount};
 
-use crate::departures::Taking;
+use crate::departures::TakenFrameAt;
 use crate::{Standpoint, Switch};
 use device_rules::{Heading, is_off};
 use net_plan::LinkId;
@@ -38,7 +38,7 @@ impl Switch {
         let taken = self.intake.take(length, link, heading, local);
         match taken {
             Ok((vl, cycle)) => {
-                let taking = Taking {
+                let taking = TakenFrameAt {
                     vl,
                     cycle,
                     at: local,

@@ -1,7 +1,7 @@
 -- Records without an event.
 use Rattle.tte_audit.proofs.Words.{◌++◌, ◌+◌, ◌∷◌, ◌≡◌, AreTold, Bool, Event, Follows, List, MayCome, Network, Note, NoteBody, Units, [], events_of, false}
 use Rattle.tte_audit.proofs.Words.{is_some, refl, subst, sym, true, with_event}
-use Rattle.tte_audit.{proofs.Telling.{fault_stays, followed, goes_on}, specs.{Report.HasNoEvent, declared.passes.Told.Told}}
+use Rattle.tte_audit.{proofs.Telling.{fault_stays, followed, goes_on}, specs.{Report.HasNoEvent, declared.passes.RecordsTold.RecordsTold}}
 use Rattle.run_law.specs.declared.note.NoteBody.TheVariants as bodies
 
 -- it may come, and adds no event
@@ -14,7 +14,7 @@ module _ (network : Network) (befallen : List Event) (time : Units) where
   goes_by (bodies.Event line what) h = absurd h
   goes_by body h = record { may = tt; same = refl }
 
-module _ (network : Network) (notes : List Note) (note : Note) (old new : Told) where
+module _ (network : Network) (notes : List Note) (note : Note) (old new : RecordsTold) where
   by_fault : (b : Bool) → is_some old.fault ≡ b → AreTold network notes old → HasNoEvent note.body
       → new.fault ≡ old.fault → new.records ≡ old.records + 1 → new.befallen ≡ old.befallen
       → AreTold network (notes ++ note ∷ []) new

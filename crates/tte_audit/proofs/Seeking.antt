@@ -1,5 +1,5 @@
 -- The events of a report are found before its records are read.
-use Rattle.{report_text.proofs.SameReports.same_note, tte_audit.specs.{Named.IsNamed, Swift.{AreAt, IsAt, IsSought, IsSoughtOn}, declared.swift.Sought.Sought}}
+use Rattle.{report_text.proofs.SameReports.same_note, tte_audit.specs.{Named.IsNamed, Swift.{AreAt, IsAt, IsSought, IsSoughtOn}, declared.swift.EventSearch.EventSearch}}
 use Rattle.tte_audit.proofs.{EventsRead.{events_on, right_none, right_on}, Meet.apart_of, Words.{length-append, note_text, refl, subst, sym, with_event, ℕ}}
 use Rattle.tte_audit.proofs.Parts.{line_of, one_text}
 use Rattle.tte_audit.proofs.Words.{◌++◌, ◌∷◌, ◌≡◌, BeginsWithRecord, Follows, List, MayCome, Network, Note, [], ap, arith, events_of, length}
@@ -30,7 +30,7 @@ module _ (network : Network) (report : List ℕ) where
   at_more (p ∷ ps) (n ∷ ns) old new = (old.0, at_more ps ns old.1 new)
 
   -- no events
-  pub none_sought : (sought : Sought) → sought.places.items ≡ []
+  pub none_sought : (sought : EventSearch) → sought.places.items ≡ []
       → Follows network sought.befallen.watch sought.befallen.history sought.befallen.count sought.befallen.end []
       → IsSought network report [] sought
   none_sought sought none follows = record {
@@ -40,8 +40,8 @@ module _ (network : Network) (report : List ℕ) where
   }
 
   -- one record more
-  pub one_sought : (front : List ℕ) {octets left : List ℕ} {notes : List Note} {note : Note} {old : Sought}
-      (new : Sought) → IsSought network report notes old → report ≡ front ++ octets
+  pub one_sought : (front : List ℕ) {octets left : List ℕ} {notes : List Note} {note : Note} {old : EventSearch}
+      (new : EventSearch) → IsSought network report notes old → report ≡ front ++ octets
       → BeginsWithRecord network note octets left → MayCome network (events_of notes) note.time note.body
       → Follows network new.befallen.watch new.befallen.history new.befallen.count new.befallen.end
       (with_event (events_of notes) note.time note.body) → new.places.items ≡ old.places.items ++ length octets ∷ []

@@ -1,13 +1,13 @@
 -- The records of a report are told one by one.
 use Rattle.{std.specs.Prelude.MatchOption, tte_units.proofs.general_lemmas.Options.{none_at, some_of}}
-use Rattle.tte_audit.{proofs.EventsRead.{events_on, fault_here, fault_on, few_events, right_none, right_on}, specs.declared.passes.Told.Told}
+use Rattle.tte_audit.{proofs.EventsRead.{events_on, fault_here, fault_on, few_events, right_none, right_on}, specs.declared.passes.RecordsTold.RecordsTold}
 use Rattle.tte_audit.proofs.Words.{◌++◌, ◌+◌, ◌∙◌, ◌∷◌, ◌≡◌, ◌≤◌, AreTold, Event, Follows, IsEventFault, List, MayCome, Network, None, Note, Option, Some, []}
 use Rattle.tte_audit.{proofs.Words.{ap, arith, events_of, false, is_some, length, length-append, subst, sym, true, with_event, ℕ}, specs.Telling.AreFollowed}
 
-abbrev Judged : Network → List Note → Told → Option ℕ → Type 0
+abbrev Judged : Network → List Note → RecordsTold → Option ℕ → Type 0
 Judged network notes told fault = MatchOption fault (AreFollowed network notes told) (λ n. IsEventFault network notes n)
 
-module _ (network : Network) (notes : List Note) (told : Told) where
+module _ (network : Network) (notes : List Note) (told : RecordsTold) where
   pub followed : AreTold network notes told → is_some told.fault ≡ false → AreFollowed network notes told
   followed h none = subst (Judged network notes told) (none_at told.fault none) h.judged
 
@@ -19,7 +19,7 @@ module _ (network : Network) (notes : List Note) (told : Told) where
       let own = followed h none in
       omega (arith, own.follows.counted, few_events notes, h.counted)
 
-pub none_told : {network : Network} (told : Told) → told.records ≡ 0 → told.fault ≡ None
+pub none_told : {network : Network} (told : RecordsTold) → told.records ≡ 0 → told.fault ≡ None
     → Follows network told.befallen.watch told.befallen.history told.befallen.count told.befallen.end []
     → AreTold network [] told
 none_told {network} told zero none follows =
@@ -28,7 +28,7 @@ none_told {network} told zero none follows =
 one_more : (notes : List Note) (note : Note) (k n : ℕ) → k ≡ length notes → n ≡ k + 1 → n ≡ length (notes ++ note ∷ [])
 one_more notes note k n counted next = omega (arith, counted, next, length-append notes (note ∷ []))
 
-module _ {network : Network} {notes : List Note} (note : Note) {old : Told} (new : Told)
+module _ {network : Network} {notes : List Note} (note : Note) {old : RecordsTold} (new : RecordsTold)
     (h : AreTold network notes old) where
   -- behind a fault
   pub fault_stays : is_some old.fault ≡ true → new.fault ≡ old.fault → new.records ≡ old.records + 1

@@ -1,7 +1,7 @@
 -- The audit of a report of which the events are sought first.
 use Rattle.std.specs.{Prelude.{◌++◌, ◌+◌, ◌<◌, ◌∷◌, ◌≡◌, ◌≤◌, ◌⊎◌, List, [], length, ℕ}}
 use Rattle.{audit_sweep.specs.declared.sweep.Sweep.Sweep, net_plan.specs.declared.network.Network.Network}
-use Rattle.{run_law.specs.declared.note.Note.Note, tte_audit.specs.declared.swift.{Left.Left, Sought.Sought}}
+use Rattle.{run_law.specs.declared.note.Note.Note, tte_audit.specs.declared.swift.{Left.Left, EventSearch.EventSearch}}
 use Rattle.tte_audit.specs.{Following.Follows, LineSwept.IsTaken}
 use Rattle.tte_audit.specs.Report.{AreEventsRight, BeginsWithRecord, HasNoEvent, IsNextLine, events_of}
 
@@ -29,14 +29,14 @@ AreAt network report (place ∷ places) (note ∷ notes) =
     IsAt network report place note × AreAt network report places notes
 
 -- the events of these records are right and were followed, and their lines begin at the places
-pub record IsSought (network : Network) (report : List ℕ) (notes : List Note) (sought : Sought) : Type 0 where
+pub record IsSought (network : Network) (report : List ℕ) (notes : List Note) (sought : EventSearch) : Type 0 where
   pub right : AreEventsRight network notes
   pub follows : Follows network sought.befallen.watch sought.befallen.history sought.befallen.count
       sought.befallen.end (events_of notes)
   pub placed : AreAt network report sought.places.items notes
 
 -- the same, of these records and at most one more
-pub record IsSoughtOn (network : Network) (report : List ℕ) (notes : List Note) (sought : Sought) : Type 0 where
+pub record IsSoughtOn (network : Network) (report : List ℕ) (notes : List Note) (sought : EventSearch) : Type 0 where
   pub more : List Note
   pub is : IsSought network report more sought
   pub few : length more ≤ length notes + 1

@@ -6,28 +6,28 @@ use Rattle.{report_text.specs.Ranges.IsNoteOf, tte_audit.specs.{Answers.IsEvents
 use Rattle.{run_law.specs.declared.note.Note.Note, tte_units.specs.declared.units.Units.Units}
 use Rattle.tte_audit.specs.Report.{AreEventsRight, BeginsWithLine, EndWith, IsEventFault, IsNextLine, IsOfEvents}
 use Rattle.tte_audit.specs.Report.{events_of}
-use Rattle.tte_audit.specs.declared.{passes.{ReportEvents.ReportEvents, Told.Told}, refusal.AuditRefusal.AuditRefusal}
+use Rattle.tte_audit.specs.declared.{passes.{ReportEvents.ReportEvents, RecordsTold.RecordsTold}, refusal.AuditRefusal.AuditRefusal}
 use Rattle.tte_audit.specs.declared.refusal.AuditRefusal.TheVariants as refusals
 
 -- the events of these records are right and were followed
-pub record AreFollowed (network : Network) (notes : List Note) (told : Told) : Type 0 where
+pub record AreFollowed (network : Network) (notes : List Note) (told : RecordsTold) : Type 0 where
   pub right : AreEventsRight network notes
   pub follows : Follows network told.befallen.watch told.befallen.history told.befallen.count told.befallen.end
       (events_of notes)
 
 -- these records were told, and either their events are right or this is the first record whose event is not
-pub record AreTold (network : Network) (notes : List Note) (told : Told) : Type 0 where
+pub record AreTold (network : Network) (notes : List Note) (told : RecordsTold) : Type 0 where
   pub counted : told.records ≡ length notes
   pub judged : MatchOption told.fault (AreFollowed network notes told) (λ n. IsEventFault network notes n)
 
 -- one record more was told
-abbrev pub IsToldOf : {E : Type 0} → Told → Told → Note → Result (Unit {0}) E → Type 0
+abbrev pub IsToldOf : {E : Type 0} → RecordsTold → RecordsTold → Note → Result (Unit {0}) E → Type 0
 IsToldOf old new note result =
     (network : Network) (notes : List Note) → AreTold network notes old → IsNoteOf network note
     → IfOk result (λ _. AreTold network (notes ++ note ∷ []) new)
 
 -- the next line was told and these octets are left, or it is that of no record of its number, or memory ran out
-abbrev pub IsLineTold : Network → Told → Told → List ℕ → Result (Bor (List ℕ)) AuditRefusal → Type 0
+abbrev pub IsLineTold : Network → RecordsTold → RecordsTold → List ℕ → Result (Bor (List ℕ)) AuditRefusal → Type 0
 IsLineTold network old new octets (Ok left) =
     (note : Note) × IsNextLine network (old.records + 1) octets left.now note
     × ((notes : List Note) → AreTold network notes old → AreTold network (notes ++ note ∷ []) new)
@@ -36,7 +36,7 @@ IsLineTold network old new octets (Err refusal) =
     ⊎ ((refusal ≡ refusals.Form (old.records + 1)) × (BeginsWithLine network (old.records + 1) octets → ⊥))
 
 -- the end of these records, whose events are right, or the first whose event is not
-abbrev pub EndsThem : Network → List Note → Told → Result Units AuditRefusal → Type 0
+abbrev pub EndsThem : Network → List Note → RecordsTold → Result Units AuditRefusal → Type 0
 EndsThem network notes told result =
     MatchResult result (λ end. AreFollowed network notes told × EndWith (events_of notes) end)
     (λ refusal. (n : ℕ) × (refusal ≡ refusals.Events n) × IsEventsFault network notes n)

@@ -35,18 +35,18 @@ pub(crate) fn audited(alloc: Global, accepted: &Accepted, report: &[u8]) -> Opti
 
 // The events that were found, and how much of the report was left at the line of each.
 #[derive(Drop)]
-struct Sought<'a> {
+struct EventSearch<'a> {
     befallen: Befallen<'a>,
     places: Vec<usize>,
 }
 
-impl<'a> Sought<'a> {
+impl<'a> EventSearch<'a> {
     // None.
-    fn new(alloc: Global, accepted: &'a Accepted) -> Option<Sought<'a>>
+    fn new(alloc: Global, accepted: &'a Accepted) -> Option<EventSearch<'a>>
         ensures { (report : List ℕ) → IfSome result (IsSought accepted.now report []) }
     {
         match Befallen::new(alloc, accepted) {
-            Ok(befallen) => Some(Sought {
+            Ok(befallen) => Some(EventSearch {
                 befallen,
                 places: Vec::new(alloc),
             }),
@@ -101,12 +101,12 @@ impl<'a> Sought<'a> {
 }
 
 // Finds the events of the report.
-fn seek<'a>(alloc: Global, accepted: &'a Accepted, report: &[u8]) -> Option<Sought<'a>>
+fn seek<'a>(alloc: Global, accepted: &'a Accepted, report: &[u8]) -> Option<EventSearch<'a>>
     requires { length report.now < 2 ^ 32 }
     ensures { IfSome result (λ sought. (notes : List NoteValue) × IsSought accepted.now report.now notes sought) }
 {
     let network = named_network(accepted);
-    let mut sought = match Sought::new(alloc, accepted) {
+    let mut sought = match EventSearch::new(alloc, accepted) {
         Some(sought) => sought,
         None => return None,
     };
@@ -234,13 +234,18 @@ fn behind_place<'p>(places: &'p [usize], place: usize) -> Option<&'p [usize]>
 }
 
 // Sweeps the report, of which the events were found.
-fn swept(alloc: Global, network: &Network, report: &[u8], sought: Sought) -> Option<PassedReport>
+fn swept(
+    alloc: Global,
+    network: &Network,
+    report: &[u8],
+    sought: EventSearch,
+) -> Option<PassedReport>
     requires named { IsNamed network.now }
     requires short { length report.now < 2 ^ 32 }
     requires sought { (notes : List NoteValue) × IsSought network.now report.now notes sought }
     ensures { IfSome result (IsPassed network.now report.now) }
 {
-    let Sought { befallen, places } = sought;
+    let EventSearch { befallen, places } = sought;
     let end = match befallen.end {
         Some(end) => end,
         None => return None,

@@ -3,24 +3,24 @@ use std::fmt;
 
 /// A command and the arguments behind it.
 #[derive(Clone, Copy)]
-pub struct Form(&'static str, &'static [Argument]);
+pub struct CommandForm(&'static str, &'static [Argument]);
 
 /// The forms of `tte`.
-const TTE: &[Form] = &[
-    Form("show", &[Argument::Frames]),
-    Form("check", &[Argument::Network]),
-    Form("run", &[Argument::Network, Argument::Trace]),
-    Form(
+const TTE: &[CommandForm] = &[
+    CommandForm("show", &[Argument::Frames]),
+    CommandForm("check", &[Argument::Network]),
+    CommandForm("run", &[Argument::Network, Argument::Trace]),
+    CommandForm(
         "storm",
         &[Argument::Network, Argument::Seed, Argument::Cycles],
     ),
-    Form(
+    CommandForm(
         "stamp",
         &[Argument::Network, Argument::Trace, Argument::Granule],
     ),
-    Form("audit", &[Argument::Network, Argument::Report]),
-    Form("capture", &[Argument::Capture]),
-    Form(
+    CommandForm("audit", &[Argument::Network, Argument::Report]),
+    CommandForm("capture", &[Argument::Capture]),
+    CommandForm(
         "wire",
         &[
             Argument::Network,
@@ -29,7 +29,7 @@ const TTE: &[Form] = &[
             Argument::Way,
         ],
     ),
-    Form(
+    CommandForm(
         "vote",
         &[
             Argument::Network,
@@ -42,25 +42,25 @@ const TTE: &[Form] = &[
 ];
 
 /// The forms of `lens`. Those of one command stand by their length, the shorter first.
-const LENS: &[Form] = &[
-    Form("slack", &[Argument::Network]),
-    Form("slack", &[Argument::Network, Argument::Rule]),
-    Form("least", &[Argument::Network]),
-    Form("sheet", &[Argument::Network]),
-    Form("plan", &[Argument::Network, Argument::Messages]),
-    Form("latency", &[Argument::Network]),
-    Form("latency", &[Argument::Network, Argument::Report]),
-    Form(
+const LENS: &[CommandForm] = &[
+    CommandForm("slack", &[Argument::Network]),
+    CommandForm("slack", &[Argument::Network, Argument::Rule]),
+    CommandForm("least", &[Argument::Network]),
+    CommandForm("sheet", &[Argument::Network]),
+    CommandForm("plan", &[Argument::Network, Argument::Messages]),
+    CommandForm("latency", &[Argument::Network]),
+    CommandForm("latency", &[Argument::Network, Argument::Report]),
+    CommandForm(
         "why",
         &[Argument::Network, Argument::Report, Argument::Record],
     ),
-    Form("draw", &[Argument::Network]),
-    Form("draw", &[Argument::Network, Argument::Report]),
-    Form(
+    CommandForm("draw", &[Argument::Network]),
+    CommandForm("draw", &[Argument::Network, Argument::Report]),
+    CommandForm(
         "draw",
         &[Argument::Network, Argument::Report, Argument::Cycle],
     ),
-    Form(
+    CommandForm(
         "draw",
         &[
             Argument::Network,
@@ -69,7 +69,7 @@ const LENS: &[Form] = &[
             Argument::Name,
         ],
     ),
-    Form(
+    CommandForm(
         "draw",
         &[
             Argument::Network,
@@ -78,7 +78,7 @@ const LENS: &[Form] = &[
             Argument::To,
         ],
     ),
-    Form(
+    CommandForm(
         "draw",
         &[
             Argument::Network,
@@ -88,24 +88,24 @@ const LENS: &[Form] = &[
             Argument::AnyName,
         ],
     ),
-    Form("page", &[Argument::Network, Argument::Report]),
-    Form("clocks", &[Argument::Network, Argument::Report]),
-    Form("flows", &[Argument::Network, Argument::Report]),
-    Form(
+    CommandForm("page", &[Argument::Network, Argument::Report]),
+    CommandForm("clocks", &[Argument::Network, Argument::Report]),
+    CommandForm("flows", &[Argument::Network, Argument::Report]),
+    CommandForm(
         "events",
         &[Argument::Network, Argument::Seed, Argument::Cycles],
     ),
 ];
 
 /// The forms of a program's command lines.
-pub fn forms_of(program: Program) -> &'static [Form] {
+pub fn forms_of(program: Program) -> &'static [CommandForm] {
     match program {
         Program::Tte => TTE,
         Program::Lens => LENS,
     }
 }
 
-impl Form {
+impl CommandForm {
     /// The command.
     pub fn command(self) -> &'static str {
         self.0
@@ -117,7 +117,7 @@ impl Form {
     }
 }
 
-impl fmt::Display for Form {
+impl fmt::Display for CommandForm {
     fn fmt<W: fmt::Write>(&self, f: &mut fmt::Formatter<W>) -> fmt::Result {
         f.write_str(self.0)?;
         for argument in self.1 {

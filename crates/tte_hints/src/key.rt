@@ -73,13 +73,13 @@ fn keys_of(table: TableName) -> &'static [KeyName] {
 
 /// A table of a document.
 #[derive(Clone, Copy)]
-pub(crate) struct Place {
+pub(crate) struct TablePlace {
     pub(crate) table: TableName,
     /// Its place in its array, from 0.
     pub(crate) index: u32,
 }
 
-impl Place {
+impl TablePlace {
     /// The array of the document that it stands in. None for the document itself.
     fn array(self) -> Option<KeyName> {
         match self.table {
@@ -100,7 +100,7 @@ impl Place {
     }
 }
 
-impl fmt::Display for Place {
+impl fmt::Display for TablePlace {
     fn fmt<W: fmt::Write>(&self, f: &mut fmt::Formatter<W>) -> fmt::Result {
         match self.array() {
             Some(array) => write!(f, "{} {}: ", array.text(), self.index),
@@ -110,7 +110,7 @@ impl fmt::Display for Place {
 }
 
 /// The first key of a table of a document that no such table has.
-pub(crate) fn unknown_key(document: &Value, place: Place) -> Option<&str> {
+pub(crate) fn unknown_key(document: &Value, place: TablePlace) -> Option<&str> {
     let known = keys_of(place.table);
     place
         .of(document)?
@@ -131,8 +131,8 @@ impl Wanted {
     }
 
     /// Its table.
-    fn place(self) -> Place {
-        Place {
+    fn place(self) -> TablePlace {
+        TablePlace {
             table: self.0.table,
             index: self.0.index,
         }

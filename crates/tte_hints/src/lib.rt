@@ -25,7 +25,7 @@ mod vote;
 mod wording;
 
 pub use argument::Argument;
-pub use form::{Form, forms_of};
+pub use form::{CommandForm, forms_of};
 pub use hinting::{Called, hint};
 pub use program::Program;
 pub use running::{Answers, run_program};

@@ -1,7 +1,7 @@
 ghost use Rattle.net_plan.specs.Ranges.{IsInRange};
 
 use crate::layout::stray_octets;
-use crate::part::{Part, parts_of};
+use crate::part::{WordKind, parts_of};
 use net_plan::Network;
 use std::alloc::Global;
 use std::fmt;
@@ -40,7 +40,7 @@ fn layout_fault(text: &[u8]) -> Option<&'static str> {
 const COMMENT: &str = "it has a comment; a trace has none";
 
 /// That no word stands for a part.
-fn missing_word(alloc: Global, place: u32, part: Part) -> Option<String> {
+fn missing_word(alloc: Global, place: u32, part: WordKind) -> Option<String> {
     format!(in alloc;
         "word {place}, {part}, is missing; it must be {}",
         part.must_be()
@@ -49,7 +49,7 @@ fn missing_word(alloc: Global, place: u32, part: Part) -> Option<String> {
 }
 
 /// What is wrong with a word that may not stand for a part.
-fn wrong_word(alloc: Global, place: u32, part: Part, word: &[u8]) -> Option<String> {
+fn wrong_word(alloc: Global, place: u32, part: WordKind, word: &[u8]) -> Option<String> {
     if word.is_empty() {
         return format!(in alloc;
             "a space too many stands before word {place}; one space stands between two words, none at either end"

@@ -3,7 +3,7 @@ ghost use Rattle.net_plan.specs.Ranges.{IsInRange};
 
 use crate::encoding::not_text;
 use crate::hinting::{Called, FILE_LIMIT};
-use crate::key::{Place, Wanted, unknown_key};
+use crate::key::{TablePlace, Wanted, unknown_key};
 use net_file::{FileRefusal, find_fault, read_network};
 use net_plan::Network;
 use schedule_checker::{Unfit, check};
@@ -46,7 +46,7 @@ fn no_toml(alloc: Global, called: Called<'_>, octets: &[u8]) -> Option<String>
 }
 
 /// Which key of a table is unknown.
-fn no_key(alloc: Global, called: Called<'_>, octets: &[u8], place: Place) -> Option<String> {
+fn no_key(alloc: Global, called: Called<'_>, octets: &[u8], place: TablePlace) -> Option<String> {
     let document = document_of(alloc, octets)?;
     let path = called.first_path();
     match unknown_key(&document, place) {
@@ -100,7 +100,7 @@ fn no_network(
             no_value(alloc, called, Wanted::at(spot))
         }
         FileRefusal::Unknown(table, index) => {
-            no_key(alloc, called, octets, Place { table, index })
+            no_key(alloc, called, octets, TablePlace { table, index })
         }
         FileRefusal::Name(spot) => no_name(alloc, called, octets, Wanted::at(spot)),
         FileRefusal::OutOfMemory => None,

@@ -13,7 +13,7 @@ const FASTEST: u64 = 1_000_000_000;
 
 /// What a word of an event's line is.
 #[derive(Clone, Copy)]
-pub(crate) enum Part {
+pub(crate) enum WordKind {
     Time,
     /// The word that says what happens to the network.
     Event,
@@ -26,65 +26,112 @@ pub(crate) enum Part {
 }
 
 /// The parts of each event's line, by the word of the event.
-const LINES: &[(&str, &[Part])] = &[
-    ("rate", &[Part::Time, Part::Event, Part::Device, Part::Rate]),
+const LINES: &[(&str, &[WordKind])] = &[
+    (
+        "rate",
+        &[
+            WordKind::Time,
+            WordKind::Event,
+            WordKind::Device,
+            WordKind::Rate,
+        ],
+    ),
     (
         "wire",
-        &[Part::Time, Part::Event, Part::Link, Part::Way, Part::Delay],
+        &[
+            WordKind::Time,
+            WordKind::Event,
+            WordKind::Link,
+            WordKind::Way,
+            WordKind::Delay,
+        ],
     ),
     (
         "hold",
-        &[Part::Time, Part::Event, Part::Link, Part::Way, Part::Delay],
+        &[
+            WordKind::Time,
+            WordKind::Event,
+            WordKind::Link,
+            WordKind::Way,
+            WordKind::Delay,
+        ],
     ),
-    ("cut", &[Part::Time, Part::Event, Part::Link, Part::Way]),
-    ("heal", &[Part::Time, Part::Event, Part::Link, Part::Way]),
-    ("on", &[Part::Time, Part::Event, Part::Device]),
-    ("break", &[Part::Time, Part::Event, Part::Device]),
-    ("send", &[Part::Time, Part::Event, Part::Link, Part::Frame]),
-    ("end", &[Part::Time, Part::Event]),
+    (
+        "cut",
+        &[
+            WordKind::Time,
+            WordKind::Event,
+            WordKind::Link,
+            WordKind::Way,
+        ],
+    ),
+    (
+        "heal",
+        &[
+            WordKind::Time,
+            WordKind::Event,
+            WordKind::Link,
+            WordKind::Way,
+        ],
+    ),
+    ("on", &[WordKind::Time, WordKind::Event, WordKind::Device]),
+    (
+        "break",
+        &[WordKind::Time, WordKind::Event, WordKind::Device],
+    ),
+    (
+        "send",
+        &[
+            WordKind::Time,
+            WordKind::Event,
+            WordKind::Link,
+            WordKind::Frame,
+        ],
+    ),
+    ("end", &[WordKind::Time, WordKind::Event]),
 ];
 
 /// The parts of a line with this word for its event: the first two where it is none.
-pub(crate) fn parts_of(event: &[u8]) -> &'static [Part] {
+pub(crate) fn parts_of(event: &[u8]) -> &'static [WordKind] {
     for (word, parts) in LINES {
         if word.as_bytes() == event {
             return parts;
         }
     }
-    &[Part::Time, Part::Event]
+    &[WordKind::Time, WordKind::Event]
 }
 
-impl Part {
+impl WordKind {
     /// Its name in the pages.
     pub(crate) fn name(self) -> &'static str {
         match self {
-            Part::Time => "TIME",
-            Part::Event => "the event",
-            Part::Device => "DEVICE",
-            Part::Link => "LINK",
-            Part::Way => "WAY",
-            Part::Delay => "UNITS",
-            Part::Rate => "PPB",
-            Part::Frame => "HEX",
+            WordKind::Time => "TIME",
+            WordKind::Event => "the event",
+            WordKind::Device => "DEVICE",
+            WordKind::Link => "LINK",
+            WordKind::Way => "WAY",
+            WordKind::Delay => "UNITS",
+            WordKind::Rate => "PPB",
+            WordKind::Frame => "HEX",
         }
     }
 
     /// What it must be.
     pub(crate) fn must_be(self) -> &'static str {
         match self {
-            Part::Time | Part::Delay => {
+            WordKind::Time | WordKind::Delay => {
                 "a whole number of units of 2^-16 ns (65536000 to the microsecond) from 0 to 2^60, with no sign, no \
                  leading zero and no other unit"
             }
-            Part::Event => "rate, wire, hold, cut, heal, on, break, send or end",
-            Part::Device => "the name of a device of the network",
-            Part::Link => "the name of a link of the network",
-            Part::Way => "up or down",
-            Part::Rate => {
+            WordKind::Event => "rate, wire, hold, cut, heal, on, break, send or end",
+            WordKind::Device => "the name of a device of the network",
+            WordKind::Link => "the name of a link of the network",
+            WordKind::Way => "up or down",
+            WordKind::Rate => {
                 "a whole number of parts per 10^9 (1000 to the ppm) from -1000000000 to 1000000000, with no plus \
                  sign, no leading zero and no unit"
             }
-            Part::Frame => "a frame of 60 to 1514 octets, two hexadecimal digits to each",
+            WordKind::Frame => "a frame of 60 to 1514 octets, two hexadecimal digits to each",
         }
     }
 
@@ -93,18 +140,18 @@ impl Part {
         requires { IsInRange network.now }
     {
         match self {
-            Part::Time | Part::Delay => is_number(LATEST, word),
-            Part::Event => LINES.iter().any(|line| line.0.as_bytes() == word),
-            Part::Device => device_spelled(network, word).is_some(),
-            Part::Link => link_spelled(network, word).is_some(),
-            Part::Way => is_way(word),
-            Part::Rate => is_rate(word),
-            Part::Frame => is_frame(word),
+            WordKind::Time | WordKind::Delay => is_number(LATEST, word),
+            WordKind::Event => LINES.iter().any(|line| line.0.as_bytes() == word),
+            WordKind::Device => device_spelled(network, word).is_some(),
+            WordKind::Link => link_spelled(network, word).is_some(),
+            WordKind::Way => is_way(word),
+            WordKind::Rate => is_rate(word),
+            WordKind::Frame => is_frame(word),
         }
     }
 }
 
-impl fmt::Display for Part {
+impl fmt::Display for WordKind {
     fn fmt<W: fmt::Write>(&self, f: &mut fmt::Formatter<W>) -> fmt::Result {
         f.write_str(self.name())
     }

@@ -1,4 +1,4 @@
-use crate::{Argument, Form, Program, forms_of};
+use crate::{Argument, CommandForm, Program, forms_of};
 use std::alloc::Global;
 use std::fmt;
 use tte_forms::Words;
@@ -23,8 +23,8 @@ impl fmt::Display for Commands {
 
 /// Where words first differ from a form, and how.
 #[derive(Clone, Copy)]
-struct Misfit<'a> {
-    form: Form,
+struct FormMisfit<'a> {
+    form: CommandForm,
     /// Which argument, from 0.
     place: u32,
     fault: Fault<'a>,
@@ -39,7 +39,7 @@ enum Fault<'a> {
 }
 
 /// The text of a misfit.
-fn told(alloc: Global, misfit: Misfit<'_>) -> Option<String> {
+fn told(alloc: Global, misfit: FormMisfit<'_>) -> Option<String> {
     let form = misfit.form;
     match misfit.fault {
         Fault::Missing(argument) => format!(in alloc; "{argument} is missing in: {form}").ok(),
@@ -56,7 +56,7 @@ fn told(alloc: Global, misfit: Misfit<'_>) -> Option<String> {
 const MOST_ARGUMENTS: u32 = 8;
 
 /// Where the words behind the command first differ from those of a form. None where they don't.
-fn misfit_of<'a>(form: Form, words: &'a Words) -> Option<Misfit<'a>> {
+fn misfit_of<'a>(form: CommandForm, words: &'a Words) -> Option<FormMisfit<'a>> {
     let mut behind = 1;
     for (argument, place) in form.arguments().iter().zip(1..MOST_ARGUMENTS) {
         let argument = *argument;
@@ -68,10 +68,10 @@ fn misfit_of<'a>(form: Form, words: &'a Words) -> Option<Misfit<'a>> {
             Some(word) => Fault::Wrong(argument, word),
             None => Fault::Missing(argument),
         };
-        return Some(Misfit { form, place, fault });
+        return Some(FormMisfit { form, place, fault });
     }
     let fault = Fault::Surplus(words.get(behind)?);
-    Some(Misfit {
+    Some(FormMisfit {
         form,
         place: behind,
         fault,
@@ -79,7 +79,7 @@ fn misfit_of<'a>(form: Form, words: &'a Words) -> Option<Misfit<'a>> {
 }
 
 /// That a part of a run ends before it begins.
-fn backward(alloc: Global, form: Form, words: &Words) -> Option<String> {
+fn backward(alloc: Global, form: CommandForm, words: &Words) -> Option<String> {
     match form.arguments() {
         [_, _, Argument::From, Argument::To]
         | [_, _, Argument::From, Argument::To, Argument::AnyName] => {
@@ -98,7 +98,7 @@ fn arguments_fault(
     command: &str,
     words: &Words,
 ) -> Option<String> {
-    let mut nearest: Option<Misfit<'_>> = None;
+    let mut nearest: Option<FormMisfit<'_>> = None;
     for form in forms_of(program) {
         if form.command() != command {
             continue;
@@ -114,7 +114,7 @@ fn arguments_fault(
 }
 
 /// The first form of a command of the program, if it has the command.
-fn form_of(program: Program, command: &str) -> Option<Form> {
+fn form_of(program: Program, command: &str) -> Option<CommandForm> {
     forms_of(program)
         .iter()
         .find(|form| form.command() == command)

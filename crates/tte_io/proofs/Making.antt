@@ -4,7 +4,7 @@ use Rattle.std.{proofs.{Common.{length, refl, subst, sym, true, ℕ}, KnownBytes
 use Rattle.tte_io.specs.{Line.{IsLine, IsTooLong, ahead_limit, lf}, NextLine.NextLine, declared.lines.LineTaken.{LineTaken, TheVariants.{End, Long, Whole}}}
 use Rattle.tte_io.specs.{Progress.{progress_after, reader_state}, Steps.{Advances, Fills}}
 use Rattle.tte_io.specs.{ReaderState.{KeepsEnd, LineReaderState, at_end, pending}, declared.lines.Progress.{Progress, TheVariants.{Taken, TooLong, Unfinished}}}
-use Rattle.tte_io.specs.declared.taking.Step.TheVariants as step
+use Rattle.tte_io.specs.declared.taking.AheadStep.TheVariants as step
 
 -- what was pending and what was read are the line so far and what is ahead
 pub record Making (before : List ℕ) (left_before : Option (List ℕ)) (line ahead : List ℕ) (left : Option (List ℕ)) : Type 0 where

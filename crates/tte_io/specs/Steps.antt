@@ -1,7 +1,7 @@
 -- The steps of taking a line.
 use Rattle.std.specs.{Io.KnownBytes.Consumes, Prelude.{◌++◌, ◌∷◌, ◌≡◌, ◌≢◌, ◌≤◌, List, Option, [], length, ℕ}}
-use Rattle.tte_io.specs.{Line.{IsLine, IsTooLong, ahead_limit, lf}, declared.taking.Step.Step}
-use Rattle.tte_io.specs.declared.taking.Step.TheVariants.{Ended, TooLong, Unfinished}
+use Rattle.tte_io.specs.{Line.{IsLine, IsTooLong, ahead_limit, lf}, declared.taking.AheadStep.AheadStep}
+use Rattle.tte_io.specs.declared.taking.AheadStep.TheVariants.{Ended, TooLong, Unfinished}
 
 -- a read adds to what is ahead, and only where nothing is
 pub record Fills (ahead : List ℕ) (left : Option (List ℕ)) (ahead_after : List ℕ)
@@ -13,7 +13,7 @@ pub record Fills (ahead : List ℕ) (left : Option (List ℕ)) (ahead_after : Li
   pub needed : read ≢ [] → ahead ≡ []
 
 -- the octets ahead go into the line, up to an LF, unless they make it too long
-abbrev pub Advances : List ℕ → List ℕ → Step → List ℕ → List ℕ → Type 0
+abbrev pub Advances : List ℕ → List ℕ → AheadStep → List ℕ → List ℕ → Type 0
 Advances line ahead Ended line_after ahead_after = IsLine line_after × (line ++ ahead ≡ line_after ++ lf ∷ ahead_after)
 Advances line ahead Unfinished line_after ahead_after =
     IsLine line_after × (line_after ≡ line ++ ahead) × (ahead_after ≡ [])

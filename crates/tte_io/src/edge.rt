@@ -1,7 +1,7 @@
 ghost use Rattle.std.specs.Prelude.{◌≡◌, ◌≤◌, false, IfOk, None, OnErr, OnOk};
 ghost use Rattle.tte_io.specs.Faults.{Rose};
 
-use crate::held::Held;
+use crate::held::HeldOctets;
 use crate::{OutOfMemory, Sink, SinkFailed, Source, SourceFailed};
 use std::alloc::Global;
 use std::fs;
@@ -105,7 +105,7 @@ impl<'a, R: Files> Source for LazyFile<'a, R> {
 #[derive(Drop)]
 pub struct StdSink<'a, R: Print> {
     rt: &'a R,
-    held: Held,
+    held: HeldOctets,
     puts: u64,
     faults: u64,
 }
@@ -125,7 +125,7 @@ impl<'a, R: Print> StdSink<'a, R> {
     {
         StdSink {
             rt,
-            held: Held::new(),
+            held: HeldOctets::new(),
             puts: 0,
             faults: 0,
         }

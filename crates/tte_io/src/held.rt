@@ -8,12 +8,12 @@ const ROOM: usize = 16_384;
 
 /// Octets that were put and are not written yet.
 #[derive(Drop)]
-pub(crate) struct Held {
+pub(crate) struct HeldOctets {
     octets: [u8; ROOM],
     len: usize,
 }
 
-impl Model for Held {
+impl Model for HeldOctets {
     ghost use Rattle.std.specs.Prelude.{ℕ, List, take, ◌≤◌};
     ghost use Rattle.tte_io.specs.Holding.{held_limit};
 
@@ -24,11 +24,11 @@ impl Model for Held {
     ghost invariant = { λ h. h.len ≤ held_limit };
 }
 
-impl Held {
-    pub(crate) fn new() -> Held
+impl HeldOctets {
+    pub(crate) fn new() -> HeldOctets
         ensures { result ≡ [] }
     {
-        Held {
+        HeldOctets {
             octets: [0; ROOM],
             len: 0,
         }

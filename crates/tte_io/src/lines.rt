@@ -3,7 +3,7 @@ ghost use Rattle.std.specs.Prelude.{false, length, true, ℕ};
 ghost use Rattle.tte_io.specs.Faults.{Rose};
 
 use crate::ahead::Ahead;
-use crate::taking::{Step, advance, take_line};
+use crate::taking::{AheadStep, advance, take_line};
 use crate::{LineText, Source, SourceFailed};
 use std::marker::Model;
 
@@ -89,15 +89,15 @@ impl LineReader {
             return Some(LineTaken::End);
         }
         match advance(&mut self.ahead, &mut self.line) {
-            Step::Ended => {
+            AheadStep::Ended => {
                 self.progress = Progress::Taken;
                 Some(LineTaken::Whole)
             }
-            Step::TooLong => {
+            AheadStep::TooLong => {
                 self.progress = Progress::TooLong;
                 Some(LineTaken::Long)
             }
-            Step::Unfinished => None,
+            AheadStep::Unfinished => None,
         }
     }
 

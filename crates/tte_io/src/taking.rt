@@ -8,7 +8,7 @@ use crate::{LineTaken, LineText, Source, SourceFailed};
 use memchr::memchr;
 
 /// What the octets ahead brought.
-pub(crate) enum Step {
+pub(crate) enum AheadStep {
     /// The line's end.
     Ended,
     /// All of them are of the line, and its end has not come.
@@ -28,7 +28,7 @@ fn before_lf(octets: &[u8]) -> usize
 
 /// Moves the octets ahead into the line, up to the LF, which it lets go. A line that they would
 /// make too long stays as it is.
-pub(crate) fn advance(ahead: &mut Ahead, line: &mut LineText) -> Step
+pub(crate) fn advance(ahead: &mut Ahead, line: &mut LineText) -> AheadStep
     requires { IsLine line.old }
     ensures advances { Advances line.old ahead.old result line.new ahead.new }
     ensures shorter { length ahead.new ≤ length ahead.old }
@@ -37,15 +37,15 @@ pub(crate) fn advance(ahead: &mut Ahead, line: &mut LineText) -> Step
     let count = before_lf(octets);
     let has_end = count < octets.len();
     if count > line.room_left() {
-        return Step::TooLong;
+        return AheadStep::TooLong;
     }
     line.append(&octets[..count]);
     if has_end {
         ahead.consume(count + 1);
-        Step::Ended
+        AheadStep::Ended
     } else {
         ahead.consume(count);
-        Step::Unfinished
+        AheadStep::Unfinished
     }
 }
 
@@ -88,9 +88,9 @@ pub(crate) fn take_line<S: Source>(
             return Ok(at_end(line));
         }
         match advance(ahead, line) {
-            Step::Ended => return Ok(LineTaken::Whole),
-            Step::TooLong => return Ok(LineTaken::Long),
-            Step::Unfinished => {}
+            AheadStep::Ended => return Ok(LineTaken::Whole),
+            AheadStep::TooLong => return Ok(LineTaken::Long),
+            AheadStep::Unfinished => {}
         }
     }
 }

@@ -4,7 +4,7 @@ use Rattle.std.proofs.lemmas.{Bool.{both_ways, cases_lt}, List.Sorted.IsPermutat
 use Rattle.std.specs.{List.Sorted.IsPermutation, Prelude.{◌↔◌, IsSomeAnd, false, true}}
 use Rattle.net_plan.{proofs.SameIds.link_is, specs.declared.{ids.{DeviceId.DeviceId, LinkId.LinkId}, network.Network.Network, tables.Link.Link}}
 use Rattle.run_law.specs.{control.Leaving.Gives, declared.note.NoteBody.NoteBody, records.Order.IsIn}
-use Rattle.world_state.{proofs.queue_lemmas.Bags.in_permuted, specs.{declared.{giving.{Ends.Ends, Giving.Giving}, queue.Entry.Entry}, queue.Places.numbers_of}}
+use Rattle.world_state.{proofs.queue_lemmas.Bags.in_permuted, specs.{declared.{giving.{Directions.Directions, Giving.Giving}, queue.Entry.Entry}, queue.Places.numbers_of}}
 use Rattle.world_state.specs.{Giving.{ArePutTo, IsGivenBy, entry_at_port, place_at_port}, declared.contents.{Content.Content, WayState.WayState}}
 use Rattle.world_state.specs.Sound.{AreBelow}
 
@@ -14,7 +14,7 @@ pub nothing_put : (n : ℕ) (network : Network) (ups downs : List WayState) (bod
 nothing_put n network ups downs body giving old none = grind arith
 
 -- which links it is given to, the link's two devices tell
-pub given_by_ends : (network : Network) (ends : Ends) (device : DeviceId) (i : ℕ) (link : Link) → i < length network.link → link ≡ get_or network.link i link
+pub given_by_ends : (network : Network) (ends : Directions) (device : DeviceId) (i : ℕ) (link : Link) → i < length network.link → link ≡ get_or network.link i link
     → IsGivenBy network ends device (record { 0 = i }) ↔ (((ends.up ≡ true) × (link.child ≡ device)) ⊎ ((ends.down ≡ true) × (link.parent ≡ device)))
 given_by_ends network ends device i link there is =
     let Goes = λ (found : Option Link). (((ends.up ≡ true) × IsSomeAnd found (λ l. l.child ≡ device))
@@ -23,7 +23,7 @@ given_by_ends network ends device i link there is =
     subst Goes (sym (slice_get_read network.link (length network.link) i link refl there is)) (λ x. x, λ x. x)
 
 -- one that is given to no link by its ends
-pub no_link : (network : Network) (ends : Ends) (device : DeviceId) (link : LinkId) → ends.up ≡ false → ends.down ≡ false
+pub no_link : (network : Network) (ends : Directions) (device : DeviceId) (link : LinkId) → ends.up ≡ false → ends.down ≡ false
     → IsGivenBy network ends device link → ⊥
 no_link network ends device link up down (inl own) = both_ways ends.up up own.0
 no_link network ends device link up down (inr own) = both_ways ends.down down own.0

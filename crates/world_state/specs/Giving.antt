@@ -8,7 +8,7 @@ use Rattle.{net_plan.specs.declared.ids.LinkId.LinkId, run_law.specs.control.{Le
 use Rattle.{net_plan.specs.declared.network.Network.Network, run_law.specs.control.Wires.{time_on_port, timed}}
 use Rattle.{run_law.specs.declared.note.NoteBody.NoteBody, world_state.specs.declared.queue.Entry.Entry}
 use Rattle.run_law.specs.scenario.{Devices.{IsParentOf, is_parent_of}, Ways.{receiver_of, way_from}}
-use Rattle.{tte_units.specs.declared.frames.pcf.Pcf.Pcf, world_state.specs.{Views.octets_of, declared.giving.Ends.Ends}}
+use Rattle.{tte_units.specs.declared.frames.pcf.Pcf.Pcf, world_state.specs.{Views.octets_of, declared.giving.Directions.Directions}}
 use Rattle.world_state.specs.declared.contents.{Content.{Content, TheVariants.{Port, Wire}}, WayState.WayState}
 use Rattle.world_state.specs.declared.{contents.{Timed.Timed, Waits.Waits}, giving.Giving.Giving, queue.DueAt.DueAt}
 use Rattle.world_state.specs.declared.contents.Signal.TheVariants as signals
@@ -25,7 +25,7 @@ hold_by network ups downs device link =
     option_map_or (λ w. w.hold) (slice_get (if is_parent_of network device link then downs else ups) link.0) 0
 
 -- what is given so goes to the link, of which the device is the child or the parent
-abbrev pub IsGivenBy : Network → Ends → DeviceId → LinkId → Type 0
+abbrev pub IsGivenBy : Network → Directions → DeviceId → LinkId → Type 0
 IsGivenBy network ends device link =
     ((ends.up ≡ true) × IsChildOf network device link) ⊎ ((ends.down ≡ true) × IsParentOf network device link)
 

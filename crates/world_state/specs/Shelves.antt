@@ -2,7 +2,7 @@
 use Rattle.std.specs.{Option.option_map_or, Prelude.{slice_get, ℕ}}
 use Rattle.std.specs.Prelude.{◌<◌, ◌≡◌, List, None, Option, Some, flat_map, length, option_and_then, option_to_list}
 use Rattle.run_law.specs.{declared.note.NoteBody.NoteBody, records.Order.IsIn}
-use Rattle.world_state.specs.declared.contents.{Holding.Holding, Spot.Spot}
+use Rattle.world_state.specs.declared.contents.{Holding.Holding, HoldSpot.HoldSpot}
 use Rattle.run_law.specs.declared.note.NoteBody.TheVariants as kinds
 
 -- a shelf: what stands at its places
@@ -27,7 +27,7 @@ abbrev pub at_place : ℕ → Places → Option Holding
 at_place place shelf = option_and_then (λ o. o) (slice_get shelf place)
 
 -- the frame of a virtual link that a switch holds
-abbrev pub frame_at : Shelved → Spot → Option Holding
+abbrev pub frame_at : Shelved → HoldSpot → Option Holding
 frame_at shelved spot = option_and_then (at_place spot.vl.0) (slice_get shelved.shelves spot.device.0)
 
 -- how many places the shelf of a device has
@@ -35,7 +35,7 @@ abbrev pub places_of : Shelved → ℕ → ℕ
 places_of shelved device = option_map_or (λ (s : Places). length s) (slice_get shelved.shelves device) 0
 
 -- there is a place for the frame of the virtual link at the switch
-abbrev pub HasPlace : Shelved → Spot → Type 0
+abbrev pub HasPlace : Shelved → HoldSpot → Type 0
 HasPlace shelved spot = spot.vl.0 < places_of shelved spot.device.0
 
 -- there are more places, and nothing stands at those that are new
@@ -53,16 +53,16 @@ AreShelved shelves = (k j : ℕ) (s : Places) (h : Holding) → slice_get shelve
     → IsPlaced k j h
 
 -- it is held, by this switch and of this virtual link
-pub record IsHeldAt (items : List Holding) (spot : Spot) (h : Holding) : Type 0 where
+pub record IsHeldAt (items : List Holding) (spot : HoldSpot) (h : Holding) : Type 0 where
   pub there : IsIn h items
   pub device : h.device ≡ spot.device
   pub vl : h.vl ≡ spot.vl
 
 -- the switch holds no frame of the virtual link
-abbrev pub NoneHeld : List Holding → Spot → Type 0
+abbrev pub NoneHeld : List Holding → HoldSpot → Type 0
 NoneHeld items spot = (h : Holding) → IsIn h items → h.device ≡ spot.device → h.vl ≡ spot.vl → ⊥
 
 -- where the frame stands that a switch takes by the record
-abbrev pub spot_of : NoteBody → Option Spot
+abbrev pub spot_of : NoteBody → Option HoldSpot
 spot_of (kinds.Accepted device link cause vl cycle) = Some (record { device = device; vl = vl })
 spot_of other = None

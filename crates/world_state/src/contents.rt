@@ -74,7 +74,7 @@ pub struct Holding {
 
 /// A switch, and a virtual link of which it may hold a frame.
 #[derive(Clone, Copy)]
-pub struct Spot {
+pub struct HoldSpot {
     /// The switch.
     pub device: DeviceId,
     /// The virtual link.

@@ -7,7 +7,7 @@ ghost use Rattle.world_state.specs.{Frames.{IsOneMore, room_of, waiter_of}, Soun
 ghost use Rattle.world_state.specs.Giving.{ArePutTo, CameBy, IsGivenBy, IsYoung, awaited_by, entry_at_port, place_at_port};
 
 use crate::OutOfMemory;
-use crate::contents::{Content, Spot, WayState};
+use crate::contents::{Content, HoldSpot, WayState};
 use crate::frames::Frames;
 use crate::queue::{DueAt, UnderWay};
 use crate::shelves::Shelves;
@@ -36,7 +36,7 @@ fn is_above(network: &Network, device: DeviceId, link: LinkId) -> bool
 /// To which of its links a device gives a frame: to those that lead up to its parents, and to those that lead down from
 /// it?
 #[derive(Clone, Copy)]
-pub struct Ends {
+pub struct Directions {
     /// To those of which it is the child.
     pub up: bool,
     /// To those of which it is the parent.
@@ -51,16 +51,16 @@ fn both(one: bool, other: bool) -> bool
 }
 
 /// To which of its links the device gives the frame of the record.
-fn ends_of(network: &Network, body: &PlainBody, device: DeviceId) -> Ends
+fn ends_of(network: &Network, body: &PlainBody, device: DeviceId) -> Directions
     requires by { CameBy (length network.now.link) body.now }
     ensures { (link : LinkOf) → Gives network.now body.now device link ↔ IsGivenBy network.now result device link }
 {
     match &body.kind {
-        PlainKind::Sent { device: master, .. } => Ends {
+        PlainKind::Sent { device: master, .. } => Directions {
             up: device == *master,
             down: false,
         },
-        PlainKind::Compressed { device: cm, .. } => Ends {
+        PlainKind::Compressed { device: cm, .. } => Directions {
             up: false,
             down: device == *cm,
         },
@@ -70,12 +70,12 @@ fn ends_of(network: &Network, body: &PlainBody, device: DeviceId) -> Ends
             ..
         } => {
             let passes = both(device == *relay, is_relay(network, device));
-            Ends {
+            Directions {
                 up: both(passes, is_above(network, device, *by)),
                 down: both(passes, is_child(network, device, *by)),
             }
         }
-        _ => Ends {
+        _ => Directions {
             up: false,
             down: false,
         },
@@ -83,7 +83,7 @@ fn ends_of(network: &Network, body: &PlainBody, device: DeviceId) -> Ends
 }
 
 /// Is it given to none?
-fn gives_none(ends: Ends) -> bool
+fn gives_none(ends: Directions) -> bool
     ensures { IsTrue result → (ends.up ≡ false) × (ends.down ≡ false) }
 {
     !ends.up && !ends.down
@@ -91,7 +91,7 @@ fn gives_none(ends: Ends) -> bool
 
 /// Is a frame that the device gives so given to the link?
 #[inline(always)]
-fn is_given(link: &Link, ends: Ends, device: DeviceId) -> bool
+fn is_given(link: &Link, ends: Directions, device: DeviceId) -> bool
     ensures { IsTrue result ↔ (((ends.up ≡ true) × (link.now.child ≡ device))
         ⊎ ((ends.down ≡ true) × (link.now.parent ≡ device))) }
 {
@@ -271,7 +271,7 @@ pub fn make_room(
     stored: &mut Shelves,
     network: &Network,
     waiter: Option<DeviceId>,
-    taker: Option<Spot>,
+    taker: Option<HoldSpot>,
 ) -> Result<(), OutOfMemory>
     requires few { length network.now.link < 2 ^ 32 }
     ensures entries { under_way.new.entries ≡ under_way.old.entries }

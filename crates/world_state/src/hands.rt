@@ -1,7 +1,7 @@
 ghost use Rattle.std.specs.Prelude.{◌≡◌, ◌≤◌, ◌<◌, ◌-◌, Some, vec_capacity};
 ghost use Rattle.world_state.specs.Acting.{IsHand, IsHeldIn, dispatched_by};
 
-use crate::contents::{Settled, Spot, Timed};
+use crate::contents::{HoldSpot, Settled, Timed};
 use crate::outcomes::bare;
 use crate::packets::Packet;
 use crate::shelves::Shelves;
@@ -31,7 +31,7 @@ fn copied(octets: &Timed, room: &mut Vec<u8>) -> Timed
 }
 
 /// The frame of the virtual link that the switch holds.
-fn held(stored: &Shelves, spot: Spot, room: &mut Vec<u8>) -> Option<AtHand>
+fn held(stored: &Shelves, spot: HoldSpot, room: &mut Vec<u8>) -> Option<AtHand>
     requires { 1514 ≤ vec_capacity room.old }
     ensures { IsHeldIn stored.now.items spot.device spot.vl result }
 {
@@ -62,7 +62,7 @@ pub fn at_hand(
         });
     }
     let vl = entry.row.vl;
-    held(stored, Spot { device, vl }, room)
+    held(stored, HoldSpot { device, vl }, room)
 }
 
 /// The record of its dispatch, where its way is cut or not.

@@ -26,7 +26,7 @@ pub enum Kept<M: Machine + Drop> {
 
 /// What a device shows of itself.
 #[derive(Clone, Copy)]
-pub struct Shown {
+pub struct ShownState {
     /// Its state.
     pub state: State,
     /// Its adjustment.
@@ -57,11 +57,11 @@ impl<M: Machine + Drop> Kept<M> {
     }
 
     /// Both.
-    pub fn shown(&self) -> Shown
+    pub fn shown(&self) -> ShownState
         ensures { (network : Network) (device : DeviceId)
             → IsStateOf (keeps M.stands) network device self.now result.state result.adjustment }
     {
-        Shown {
+        ShownState {
             state: self.state(),
             adjustment: self.adjustment(),
         }

@@ -49,7 +49,7 @@ fn port_time(network: &Network, link: LinkId, frame: &Timed) -> u64
 
 /// What is sent on a link: by which device, when, by which record, and how long it is on the port.
 #[derive(Clone, Copy)]
-pub struct Sending {
+pub struct PortSending {
     /// The device that sends it.
     pub device: DeviceId,
     /// The link.
@@ -68,7 +68,7 @@ fn wire_place(
     network: &Network,
     ups: &[WayState],
     downs: &[WayState],
-    sending: Sending,
+    sending: PortSending,
 ) -> Option<DueAt>
     requires ups { length ups.now ≡ length network.now.link }
     requires downs { length downs.now ≡ length network.now.link }
@@ -125,7 +125,7 @@ pub fn sent_by(
     match &body.kind {
         PlainKind::Left { device, link, .. } => {
             let frame = frame?;
-            let sending = Sending {
+            let sending = PortSending {
                 device: *device,
                 link: *link,
                 time,
@@ -140,7 +140,7 @@ pub fn sent_by(
         }
         PlainKind::TtSent { device, link, .. } => {
             let octets = octets?;
-            let sending = Sending {
+            let sending = PortSending {
                 device: *device,
                 link: *link,
                 time,

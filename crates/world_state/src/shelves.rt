@@ -2,7 +2,7 @@ ghost use Rattle.std.specs.Prelude.{◌≡◌, [], ◌<◌, Some, slice_set, opt
 ghost use Rattle.world_state.specs.Shelves.{HasPlace, IsHeldAt, IsLengthened, NoneHeld, at_place, frame_at};
 ghost use Rattle.world_state.specs.Storing.{IsHeldInstead};
 
-use crate::contents::{Holding, Spot};
+use crate::contents::{HoldSpot, Holding};
 use net_plan::{DeviceId, VlId};
 use std::alloc::{AllocError, Global};
 use std::marker::Model;
@@ -105,7 +105,7 @@ impl Shelves {
     }
 
     /// Makes a place for the frame of the virtual link at the switch.
-    pub fn reserve(&mut self, spot: Spot) -> Result<(), AllocError>
+    pub fn reserve(&mut self, spot: HoldSpot) -> Result<(), AllocError>
         ensures items { self.new.items ≡ self.old.items }
         ensures place { OnOk result (HasPlace self.new spot) }
     {
@@ -124,7 +124,7 @@ impl Shelves {
     }
 
     /// The frame of the virtual link that the switch holds.
-    pub fn get(&self, spot: Spot) -> Option<&Holding>
+    pub fn get(&self, spot: HoldSpot) -> Option<&Holding>
         ensures is { option_copied result ≡ frame_at self.now spot }
         ensures held { MatchOption (frame_at self.now spot) (NoneHeld self.now.items spot)
             (IsHeldAt self.now.items spot) }

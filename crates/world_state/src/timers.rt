@@ -23,7 +23,7 @@ pub struct Timer {
 
 /// A slot, and its timer.
 #[derive(Clone, Copy, Debug, PartialEq, Eq)]
-pub struct Due {
+pub struct SlotTimer {
     pub time: u64,
     pub rank: u8,
     pub slot: usize,
@@ -102,7 +102,7 @@ impl Timers {
 
     /// The slot that is due first, of those at one time that of the lowest rank, and of these the lowest, unless none is
     /// ever due.
-    pub fn first(&self) -> Option<Due>
+    pub fn first(&self) -> Option<SlotTimer>
         ensures first { IfSome result (λ due. IsFirst self.now due) }
         ensures none { IfNone result (AreFrom never self.now) }
     {
@@ -112,7 +112,7 @@ impl Timers {
             return None;
         }
         let order = order_of(key);
-        Some(Due {
+        Some(SlotTimer {
             time,
             rank: rank_of(order),
             slot: slot_of(order),

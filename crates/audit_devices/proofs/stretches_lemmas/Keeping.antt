@@ -2,8 +2,8 @@
 use Rattle.{audit_devices.{proofs.{Kept.test_chain, Partitions.parted_on}, specs.Effects.carried_by}, run_law.specs.records.Ranks.place_of}
 use Rattle.audit_devices.{proofs.stretches_lemmas.Turning.{IsQuiet, points_ended, points_given, points_quiet}, specs.declared.stretches.kept.Entry.Entry}
 use Rattle.audit_devices.specs.{Keeping.records_before, stretches.Keeping.{IsOfRecord, Keeps, KeepsAll, StandsFor, StandsForSome, Stretches, entry_before}}
-use Rattle.{audit_devices.specs.declared.stretches.change.Change.TheVariants.{Ends, Gives}, audit_law.specs.declared.collections.gathering.Gathering.Gathering}
-use Rattle.audit_devices.specs.{declared.stretches.change.Change.Change, stretches.{Changes.{change_by, collector_in}, Points.{MayBring, points_with}}}
+use Rattle.{audit_devices.specs.declared.stretches.change.CollectionChange.TheVariants.{Ends, Gives}, audit_law.specs.declared.collections.gathering.Gathering.Gathering}
+use Rattle.audit_devices.specs.{declared.stretches.change.CollectionChange.CollectionChange, stretches.{Changes.{change_by, collector_in}, Points.{MayBring, points_with}}}
 use Rattle.{audit_law.specs.collections.{Gathered.Gathers, Kept.History}, run_law.specs.{control.Collections.points_of, records.Happenings.Happening}}
 use Rattle.{compression.specs.Clusters.Point, run_law.specs.scenario.Devices.is_cm, std.{proofs.lemmas.Bool.cases_order, specs.Prelude.{IfSome, slice_set}}}
 use Rattle.{net_plan.specs.declared.{ids.DeviceId.DeviceId, network.Network.Network}, std.{proofs.Common.{subst, suc, sym, true, zero, ℕ}, specs.List.last_or}}
@@ -12,7 +12,7 @@ use Rattle.std.proofs.Common.{◌++◌, ◌<◌, ◌∙◌, ◌∷◌, ◌≡◌
 use Rattle.{std.specs.List.Sorted.IsPartitionedBy, tte_units.proofs.general_lemmas.Lists.{filter_off, filter_on, got_within, last_pushed, set_other, set_same}}
 
 -- the points behind a record of the device that changes its collections
-pub points_then : (hs : List Happening) (h : Happening) (d : DeviceId) (change : Change) → change_by h.note.body ≡ Some change
+pub points_then : (hs : List Happening) (h : Happening) (d : DeviceId) (change : CollectionChange) → change_by h.note.body ≡ Some change
     → collector_in h.note.body ≡ Some d → points_of (hs ++ h ∷ []) d ≡ points_with (points_of hs d) change (carried_by h)
 points_then hs h d Ends is of = points_ended hs h d is of
 points_then hs h d (Gives p) is of = points_given hs h d p is of
@@ -147,9 +147,9 @@ all_on {network} hs h {d} {new} all of within kept keeps device stretches there 
         (keeps device stretches (sym (set_other all d.0 device.0 new not) ∙ there) cm)
 
 -- what a record may bring to its compression master
-pub may_bring : (hs : List Happening) (h : Happening) (d : DeviceId) (change : Change) → change_by h.note.body ≡ Some change
+pub may_bring : (hs : List Happening) (h : Happening) (d : DeviceId) (change : CollectionChange) → change_by h.note.body ≡ Some change
     → IfSome (change_by h.note.body) (MayBring (points_of hs d)) → MayBring (points_of hs d) change
-may_bring hs h d change is may = subst (λ (o : Option Change). IfSome o (MayBring (points_of hs d))) is may
+may_bring hs h d change is may = subst (λ (o : Option CollectionChange). IfSome o (MayBring (points_of hs d))) is may
 
 -- ---- at first
 

@@ -1,6 +1,6 @@
 -- What one more record makes of the points of a stretch.
-use Rattle.audit_devices.specs.{declared.stretches.change.Change.TheVariants.{Ends, Gives}, stretches.Changes.{change_by, collector_in, permanence_change}}
-use Rattle.{audit_devices.specs.declared.stretches.change.Change.Change, run_law.specs.control.Collections.{ends_stretch, master_of, point_by, points_of}}
+use Rattle.audit_devices.specs.{declared.stretches.change.CollectionChange.TheVariants.{Ends, Gives}, stretches.Changes.{change_by, collector_in, permanence_change}}
+use Rattle.{audit_devices.specs.declared.stretches.change.CollectionChange.CollectionChange, run_law.specs.control.Collections.{ends_stretch, master_of, point_by, points_of}}
 use Rattle.{compression.specs.Clusters.{Point, point_at}, run_law.specs.records.{Happenings.Happening, Order.IsIn}, tte_units.specs.declared.units.Units.Units}
 use Rattle.{net_plan.proofs.SameIds.other_device, run_law.{proofs.records.Order.after_more, specs.{device.States.cycle_in, records.Ranks.members_in}}}
 use Rattle.{net_plan.specs.declared.ids.DeviceId.DeviceId, run_law.specs.declared.note.NoteBody.NoteBody, tte_units.proofs.general_lemmas.Lists.after_one}
@@ -53,7 +53,7 @@ given_point d h body p c e = absurd cc
 
 -- no change of the device's collections
 abbrev pub IsQuiet : DeviceId → NoteBody → Type 0
-IsQuiet d body = (c : Change) → change_by body ≡ Some c → collector_in body ≡ Some d → ⊥
+IsQuiet d body = (c : CollectionChange) → change_by body ≡ Some c → collector_in body ≡ Some d → ⊥
 
 quiet_goes_on : (d : DeviceId) (body : NoteBody) → IsQuiet d body → ends_stretch d body ≡ false
 quiet_goes_on d (notes.Permanent other link cause point judgements.Integrates) not = other_device d other (not Ends refl)

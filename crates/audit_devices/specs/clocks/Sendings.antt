@@ -1,7 +1,7 @@
 -- What a master sends next, where no record of it comes between.
 use Rattle.std.specs.Prelude.{◌+◌, ◌<◌, ◌≡◌, ◌≤◌, List, MatchOption, Option, false, ℕ}
 use Rattle.{audit_devices.specs.Showing.{Shown, Shows}, run_law.specs.records.Happenings.{Happening, earlier}}
-use Rattle.{audit_devices.specs.declared.clocks.sending.Sending.Sending, net_plan.specs.declared.ids.DeviceId.DeviceId}
+use Rattle.{audit_devices.specs.declared.clocks.sending.MasterSending.MasterSending, net_plan.specs.declared.ids.DeviceId.DeviceId}
 use Rattle.run_law.specs.{scenario.Scenarios.{Scenario, is_broken, is_turned_on_at}, timed.Dispatching.Sends}
 
 -- at each time later than `after`, up to `until`, the records before show this of the device, and it is correct and not
@@ -17,7 +17,7 @@ abbrev pub NoneSent : Scenario → List Happening → DeviceId → ℕ → ℕ �
 NoneSent s hs device after before = (t cycle : ℕ) → after < t → t < before → Sends s hs device t cycle → ⊥
 
 -- it sends this, later than `after`, up to `until`, and nothing before
-pub record IsNextSending (s : Scenario) (hs : List Happening) (device : DeviceId) (after until : ℕ) (sending : Sending)
+pub record IsNextSending (s : Scenario) (hs : List Happening) (device : DeviceId) (after until : ℕ) (sending : MasterSending)
     : Type 0 where
   pub later : after < sending.time
   pub timely : sending.time ≤ until
@@ -25,6 +25,6 @@ pub record IsNextSending (s : Scenario) (hs : List Happening) (device : DeviceId
   pub none_before : NoneSent s hs device after sending.time
 
 -- what it sends next, or none where it sends nothing
-abbrev pub IsNextSendingOrNone : Scenario → List Happening → DeviceId → ℕ → ℕ → Option Sending → Type 0
+abbrev pub IsNextSendingOrNone : Scenario → List Happening → DeviceId → ℕ → ℕ → Option MasterSending → Type 0
 IsNextSendingOrNone s hs device after until result =
     MatchOption result (NoneSent s hs device after (until + 1)) (IsNextSending s hs device after until)

@@ -1,7 +1,7 @@
 -- The points of a compression master's stretch, and what its collections have of them.
 use Rattle.std.specs.{List.Contains, Prelude.{◌++◌, ◌∷◌, ◌≡◌, ◌≤ℤ◌, All, IfSome, List, Some, [], map, pos, true, ⊤}}
 use Rattle.audit_devices.specs.{declared.effect.Carried.Carried, stretches.Changes.{change_by, collector_in}}
-use Rattle.audit_devices.specs.declared.stretches.change.Change.{Change, TheVariants.{Ends, Gives}}
+use Rattle.audit_devices.specs.declared.stretches.change.CollectionChange.{CollectionChange, TheVariants.{Ends, Gives}}
 use Rattle.{audit_law.specs.collections.Gathered.Gathers, run_law.specs.scenario.Devices.is_cm}
 use Rattle.{audit_law.specs.collections.Kept.{History, emitted}, net_plan.specs.declared.network.Network.Network}
 use Rattle.audit_law.specs.declared.collections.{emitted.Emitted.Emitted, gathering.Gathering.Gathering}
@@ -11,12 +11,12 @@ use Rattle.run_law.specs.{control.Collections.{master_of, observation_window, po
 use Rattle.tte_units.specs.Amount.{amount}
 
 -- the points of the stretch behind a change, which a frame with this cycle and these members brings
-abbrev pub points_with : List Point → Change → Carried → List Point
+abbrev pub points_with : List Point → CollectionChange → Carried → List Point
 points_with points Ends carried = []
 points_with points (Gives point) carried = points ++ point_at point.0 (master_of carried.members.0) carried.cycle ∷ []
 
 -- where the change gives a point, none of these is later
-abbrev pub MayBring : List Point → Change → Type 0
+abbrev pub MayBring : List Point → CollectionChange → Type 0
 MayBring points Ends = ⊤
 MayBring points (Gives point) = All (λ p. p.reading ≤ℤ point.0) points
 

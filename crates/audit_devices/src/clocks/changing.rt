@@ -8,7 +8,7 @@ ghost use Rattle.sync_state.specs.declared.answers.Verdict.TheVariants.{AsyncCli
 ghost use Rattle.sync_state.specs.declared.state.State.TheVariants.{Integrating, Joining};
 
 use crate::Shown;
-use crate::clocks::{Moment, Point, coming_point};
+use crate::clocks::{DeviceMoment, Point, coming_point};
 use device_rules::PointVerdict;
 use net_plan::{DeviceId, Network, What};
 use run_law::{Judgement, NoteBody, Why};
@@ -85,7 +85,7 @@ pub fn changes_state(
     network: &Network,
     device: DeviceId,
     shown: &Shown,
-    moment: Moment,
+    moment: DeviceMoment,
     heard: &Heard,
     bringer: Bringer,
     said: StateChange,
@@ -121,7 +121,7 @@ fn is_brought(bringer: Bringer, said: StateChange, wanted: Bringer, state: State
 }
 
 /// Is the device joining?
-fn is_joining(shown: &Shown, moment: Moment) -> bool
+fn is_joining(shown: &Shown, moment: DeviceMoment) -> bool
     ensures { (s : Scenario) (hs : List Happening) (network : NetworkValue) (device : DeviceIdValue) (t : ℕ)
         → StandsAt s hs network device t moment shown.now → IsTrue result ↔ (state_before s hs device t ≡ Joining) }
 {

@@ -8,7 +8,7 @@ ghost use Rattle.net_plan.specs.{Ranges.IsInRange, declared.ids.DeviceId.{Device
 ghost use Rattle.sync_state.specs.{Standing.next_point, declared.answers.Verdict.{TheVariants.Corrected, Verdict}};
 
 use crate::Shown;
-use crate::clocks::{Moment, reaches};
+use crate::clocks::{DeviceMoment, reaches};
 use device_rules::{PointStanding, PointVerdict, correction_value, verdict};
 use net_plan::{DeviceId, Network};
 use sync_state::State;
@@ -33,7 +33,7 @@ pub struct Correction {
 
 /// The cycle of the correction point that comes to the device at the moment. This is what the records of earlier times
 /// show.
-pub fn coming_cycle(network: &Network, shown: &Shown, moment: Moment) -> Option<u64>
+pub fn coming_cycle(network: &Network, shown: &Shown, moment: DeviceMoment) -> Option<u64>
     requires { IsInRange network.now }
     ensures { (s : Scenario) (hs : List Happening) (device : DeviceIdValue) (t cycle : ℕ)
         → StandsAt s hs network.now device t moment shown.now
@@ -56,7 +56,7 @@ pub fn coming_point(
     network: &Network,
     device: DeviceId,
     shown: &Shown,
-    moment: Moment,
+    moment: DeviceMoment,
     heard: &Heard,
 ) -> Option<Point>
     requires { IsInRange network.now }
@@ -77,7 +77,7 @@ pub fn corrects(
     network: &Network,
     device: DeviceId,
     shown: &Shown,
-    moment: Moment,
+    moment: DeviceMoment,
     heard: &Heard,
     said: Correction,
 ) -> bool
@@ -117,7 +117,7 @@ fn is_sum(shown: &Shown, said: Correction) -> bool
 }
 
 /// The cycle of the device's next correction point, where its state has one.
-fn next_point(network: &Network, shown: &Shown, moment: Moment) -> Option<u64>
+fn next_point(network: &Network, shown: &Shown, moment: DeviceMoment) -> Option<u64>
     requires { IsInRange network.now }
     ensures { (s : Scenario) (hs : List Happening) (device : DeviceIdValue) (t : ℕ)
         → StandsAt s hs network.now device t moment shown.now → result ≡ next_point (standing_at s hs device t) }
@@ -131,7 +131,7 @@ fn next_point(network: &Network, shown: &Shown, moment: Moment) -> Option<u64>
 }
 
 /// Where the device stands at its correction point of the cycle.
-fn standing(shown: &Shown, moment: Moment, cycle: u64) -> PointStanding
+fn standing(shown: &Shown, moment: DeviceMoment, cycle: u64) -> PointStanding
     ensures fits { IsWide result.adjustment }
     ensures is { (s : Scenario) (hs : List Happening) (network : NetworkValue) (device : DeviceIdValue) (t : ℕ)
         → StandsAt s hs network device t moment shown.now → cycle ≡ next_number s hs device t

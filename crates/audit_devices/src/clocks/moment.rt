@@ -9,23 +9,23 @@ use net_plan::DeviceId;
 
 /// What befalls a device at a time.
 #[derive(Clone, Copy)]
-pub struct Moment {
+pub struct DeviceMoment {
     pub readings: Readings,
     /// Is it turned on at this very time?
     pub turned_on: bool,
     pub broken: bool,
 }
 
-impl Moment {
+impl DeviceMoment {
     /// What befalls the device at a time up to 2^60, by the events.
-    pub fn of(events: &EventHistory, device: DeviceId, time: u64) -> Moment
+    pub fn of(events: &EventHistory, device: DeviceId, time: u64) -> DeviceMoment
         requires some { RemembersSome events.now }
         requires limit { time ≤ 2 ^ 60 }
         ensures { (network : Network) (befallen : List Event) → Remembers network befallen events.now
             → HasDevice network device → IsMoment (scenario_under network befallen) device time result }
     {
         reading_law();
-        Moment {
+        DeviceMoment {
             readings: readings_at(events, device, time),
             turned_on: events.is_turned_on_at(device, time),
             broken: events.is_broken(device, time),

@@ -4,7 +4,7 @@ ghost use Rattle.{audit_devices.specs.clocks.Moments.StandsAt, run_law.specs.rec
 ghost use Rattle.net_plan.specs.declared.{ids.DeviceId.DeviceId, network.Network.Network};
 ghost use Rattle.run_law.specs.{device.LocalClocks.Reaches, scenario.Scenarios.Scenario, timed.Dispatching.IsUp};
 
-use crate::clocks::Moment;
+use crate::clocks::DeviceMoment;
 use crate::{Readings, Shown};
 use sync_state::State;
 
@@ -31,7 +31,7 @@ fn has_crossed(at_change: i128, before: i128, now: i128, value: i128) -> bool
 }
 
 /// Is the device synchronised and correct at the moment? This is what the records of earlier times show.
-pub fn is_up(shown: &Shown, moment: Moment) -> bool
+pub fn is_up(shown: &Shown, moment: DeviceMoment) -> bool
     ensures { (s : Scenario) (hs : List Happening) (network : Network) (device : DeviceId) (t : ℕ)
         → StandsAt s hs network device t moment shown.now → IsTrue result ↔ IsUp s hs device t }
 {

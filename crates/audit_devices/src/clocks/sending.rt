@@ -8,7 +8,7 @@ ghost use Rattle.run_law.specs.{device.LocalClocks.Reaches, scenario.Scenarios.S
 
 use crate::Shown;
 use crate::clocks::network::begun;
-use crate::clocks::{Moment, Series, is_up, next_crossing, reaches};
+use crate::clocks::{DeviceMoment, Series, is_up, next_crossing, reaches};
 use audit_law::events::{EventHistory, reading_law};
 use device_rules::is_master;
 use net_plan::{DeviceId, Network};
@@ -16,13 +16,19 @@ use sync_state::State;
 
 /// When a master sends the control frame of a cycle.
 #[derive(Clone, Copy, PartialEq, Eq)]
-pub struct Sending {
+pub struct MasterSending {
     pub cycle: u128,
     pub time: u64,
 }
 
 /// Does the device send the control frame of the cycle at the moment? This is what the records of earlier times show.
-pub fn sends(network: &Network, device: DeviceId, shown: &Shown, moment: Moment, cycle: u32) -> bool
+pub fn sends(
+    network: &Network,
+    device: DeviceId,
+    shown: &Shown,
+    moment: DeviceMoment,
+    cycle: u32,
+) -> bool
     requires { IsInRange network.now }
     ensures { (s : Scenario) (hs : List Happening) (t : ℕ) → StandsAt s hs network.now device t moment shown.now
         → IsTrue result ↔ Sends s hs device t cycle }
@@ -34,7 +40,7 @@ pub fn sends(network: &Network, device: DeviceId, shown: &Shown, moment: Moment,
 }
 
 /// Does the device's clock reach the beginning of the cycle, which is not the silent one?
-fn begins(network: &Network, shown: &Shown, moment: Moment, cycle: u32) -> bool
+fn begins(network: &Network, shown: &Shown, moment: DeviceMoment, cycle: u32) -> bool
     requires { IsInRange network.now }
     ensures { (s : Scenario) (hs : List Happening) (device : DeviceIdValue) (t : ℕ)
         → StandsAt s hs network.now device t moment shown.now
@@ -52,7 +58,7 @@ pub fn next_sending(
     shown: &Shown,
     after: u64,
     until: u64,
-) -> Option<Sending>
+) -> Option<MasterSending>
     requires range { IsInRange network.now }
     requires some { RemembersSome events.now }
     requires limit { until ≤ 2 ^ 60 }
@@ -69,7 +75,7 @@ pub fn next_sending(
         return None;
     }
     match next_crossing(events, device, shown, after, until, beginnings(network)) {
-        Some(crossed) => Some(Sending {
+        Some(crossed) => Some(MasterSending {
             cycle: crossed.number + 1,
             time: crossed.time,
         }),

@@ -8,7 +8,7 @@ use tte_units::Units;
 
 /// What a record does to the collections of its device.
 #[derive(Clone, Copy)]
-pub(crate) enum Change {
+pub(crate) enum CollectionChange {
     /// It ends the stretch of points.
     Ends,
     /// It gives a point.
@@ -38,7 +38,7 @@ pub(crate) fn collector_in(body: &NoteBody) -> Option<DeviceId>
 }
 
 /// What a record of this body does to the collections of its device, if anything.
-pub(crate) fn change_by(body: &NoteBody) -> Option<Change>
+pub(crate) fn change_by(body: &NoteBody) -> Option<CollectionChange>
     ensures { result ≡ change_by body.now }
 {
     match body {
@@ -60,26 +60,26 @@ pub(crate) fn change_by(body: &NoteBody) -> Option<Change>
 }
 
 /// A frame that is permanent gives its point, but ends the stretch where it tells the device the time.
-fn permanence_change(point: Units, verdict: Judgement) -> Change
+fn permanence_change(point: Units, verdict: Judgement) -> CollectionChange
     ensures { result ≡ permanence_change point verdict }
 {
     match verdict {
-        Judgement::Integrates => Change::Ends,
+        Judgement::Integrates => CollectionChange::Ends,
         Judgement::Opened
         | Judgement::Joined
         | Judgement::Repeat
         | Judgement::Within
         | Judgement::Outside
-        | Judgement::Ignored => Change::Gives(point),
+        | Judgement::Ignored => CollectionChange::Gives(point),
     }
 }
 
 /// A frame that is sent ends the stretch where it tells the device the time.
-fn emission_change(verdict: Judgement) -> Option<Change>
+fn emission_change(verdict: Judgement) -> Option<CollectionChange>
     ensures { result ≡ emission_change verdict }
 {
     match verdict {
-        Judgement::Integrates => Some(Change::Ends),
+        Judgement::Integrates => Some(CollectionChange::Ends),
         Judgement::Opened
         | Judgement::Joined
         | Judgement::Repeat
@@ -90,11 +90,13 @@ fn emission_change(verdict: Judgement) -> Option<Change>
 }
 
 /// A change of the state ends the stretch, but being turned on does not.
-fn state_change(why: Why) -> Option<Change>
+fn state_change(why: Why) -> Option<CollectionChange>
     ensures { result ≡ state_change why }
 {
     match why {
         Why::On => None,
-        Why::Frame | Why::Correction | Why::SyncClique | Why::AsyncClique => Some(Change::Ends),
+        Why::Frame | Why::Correction | Why::SyncClique | Why::AsyncClique => Some(
+            CollectionChange::Ends,
+        ),
     }
 }

@@ -8,7 +8,7 @@ ghost use Rattle.{net_plan.specs.declared.ids.DeviceId.DeviceId, run_law.specs.c
 ghost use Rattle.net_plan.specs.declared.network.Network as networks;
 
 use crate::Carried;
-use crate::stretches::change::Change;
+use crate::stretches::change::CollectionChange;
 use audit_law::collections::{CollectionHistory, Gathering};
 use net_plan::Network;
 use run_law::plain::Place;
@@ -59,7 +59,7 @@ impl Kept {
     pub(crate) fn take(
         &mut self,
         place: Place,
-        change: Change,
+        change: CollectionChange,
         carried: Carried,
     ) -> Result<(), AllocError>
         ensures { (network : networks.Network) (hs : List Happening) (h : Happening) (device : DeviceId)
@@ -74,7 +74,7 @@ impl Kept {
     }
 
     // The gathering behind a change. It is the latest of the collections, and for now there is none in its place.
-    fn next(&mut self, change: Change, carried: Carried) -> Result<Gathering, AllocError>
+    fn next(&mut self, change: CollectionChange, carried: Carried) -> Result<Gathering, AllocError>
         ensures latest { IfOk result (λ g. IsLatest self.new.collections g) }
         ensures gathers { IfOk result (λ g. (points : List Point) → Gathers self.old.collections self.old.latest points
             → MayBring points change → Gathers self.new.collections g (points_with points change carried)) }
@@ -87,8 +87,8 @@ impl Kept {
         let latest = self.latest;
         self.latest = Gathering::none();
         match change {
-            Change::Ends => Ok(Gathering::none()),
-            Change::Gives(point) => {
+            CollectionChange::Ends => Ok(Gathering::none()),
+            CollectionChange::Gives(point) => {
                 let master = carried.members.0.trailing_zeros();
                 let (_, gathering) = self
                     .collections

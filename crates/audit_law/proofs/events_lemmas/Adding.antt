@@ -4,7 +4,7 @@ use Rattle.audit_law.proofs.events_lemmas.Keeping.{AreDevicesTold, AreWaysTold, 
 use Rattle.audit_law.proofs.events_lemmas.{Keeping.{remembers_more, steps_more, turned_first, turned_stays, way_stays, ways_set}, Valuing.{set_more, set_stays}}
 use Rattle.{audit_law.specs.declared.events.history.DeviceHistory.DeviceHistory, run_law.specs.scenario.Ways.{cut_set, hold_set, is_way_of, wire_of, wire_set}}
 use Rattle.audit_law.specs.{declared.events.history.{EventHistory.EventHistory, WayHistory.WayHistory}, events.Remembering.{MayBefall, Remembers, way_place}}
-use Rattle.{audit_law.specs.declared.events.settings.{Change.Change, Settings.Settings}, run_law.specs.scenario.Rates.{rate_steps, step_by}, std.specs.List.All}
+use Rattle.{audit_law.specs.declared.events.settings.{Setting.Setting, Settings.Settings}, run_law.specs.scenario.Rates.{rate_steps, step_by}, std.specs.List.All}
 use Rattle.{audit_law.specs.events.Clocks.clocks_after, net_plan.specs.declared.{ids.LinkId.LinkId, tables.Way.Way}, tte_units.specs.declared.units.Units.Units}
 use Rattle.{audit_law.specs.events.Settings.{IsSetBy, change_to, value_at}, run_law.specs.scenario.Hypothesis.{IsWithinHypothesis, breaks_at}}
 use Rattle.{drift_clock.specs.{RateSteps.RateStep, Readings.value_after}, std.specs.Prelude.{slice_get, slice_set}, tte_units.specs.declared.rates.Ppb.Ppb}
@@ -178,12 +178,12 @@ rate_set network all event device rate devices told new are at what past first m
     let before = told.clock.changes.items in
     let clock_is : value_at told.clock.initial before time ≡ value_after stepped_segment fresh steps =
     ap (λ c. value_at c before time) h.fresh ∙ ap (λ l. value_at fresh l time) h.clock
-    ∙ value_last time fresh steps (subst (λ (l : List (Change Segment)). All (λ c. c.from ≤ time) l) h.clock past) in
+    ∙ value_last time fresh steps (subst (λ (l : List (Setting Segment)). All (λ c. c.from ≤ time) l) h.clock past) in
     devices_set {network = network} all {behind = all ++ event ∷ []} {device = device} devices {new = new_device} are
     (record {
       fresh = first ∙ h.fresh;
       clock = more
-          ∙ ap (λ (l : List (Change Segment)). l ++ change_to time (stepped_segment (value_at told.clock.initial before time) time rate.0) ∷ []) h.clock
+          ∙ ap (λ (l : List (Setting Segment)). l ++ change_to time (stepped_segment (value_at told.clock.initial before time) time rate.0) ∷ []) h.clock
           ∙ ap (λ c. clocks_after fresh steps ++ change_to time (stepped_segment c time rate.0) ∷ []) clock_is
           ∙ sym (clocks_more fresh steps step)
           ∙ ap (clocks_after fresh) (sym (steps_more all event device (Some step)

@@ -3,7 +3,7 @@ use Rattle.std.proofs.Common.{if◌then◌else◌, ◌++◌, ◌<◌, ◌^◌, �
 use Rattle.std.{proofs.{Common.{zero, ℕ}, lemmas.Bool.{cases_lt, le-leb, lt-leb}}, specs.List.{All, AllWithin, Sorted.IsNonDecreasingBy}}
 use Rattle.drift_clock.specs.{RateSteps.{IsHistory, RateStep, up_to}, Readings.{reading_at, value_after}, Segment.{Segment, segment_reading, stepped_segment}}
 use Rattle.audit_law.{proofs.events_lemmas.Valuing.value_before, specs.events.Settings.{change_to, value_at}}
-use Rattle.audit_law.specs.{declared.events.settings.Change.Change, events.Clocks.{AreClocks, GoOn, IsReadable, clocks_after, clocks_reading}}
+use Rattle.audit_law.specs.{declared.events.settings.Setting.Setting, events.Clocks.{AreClocks, GoOn, IsReadable, clocks_after, clocks_reading}}
 use Rattle.drift_clock.specs.{Counts.rounded, SegmentLaws.keeps_count}
 
 -- steps in the order of time, from a time on and up to 2^60, each to a slow rate
@@ -95,7 +95,7 @@ pub clock_reads : (rho least t : ℕ) (clock : Segment) (steps : List RateStep) 
 clock_reads rho least t clock steps h = ap (λ c. segment_reading c t) (clock_value rho least t clock steps h)
 
 -- it can be read then
-pub value_ready : (clock : Segment) (changes : List (Change Segment)) (t : ℕ) → clock.at ≤ t → All IsReadable changes → (value_at clock changes t).at ≤ t
+pub value_ready : (clock : Segment) (changes : List (Setting Segment)) (t : ℕ) → clock.at ≤ t → All IsReadable changes → (value_at clock changes t).at ≤ t
 value_ready clock [] t begun each = begun
 value_ready clock (c ∷ cs) t begun each =
     let rest : All IsReadable cs = λ k d lt. each (suc k) d (omega (arith, lt)) in
@@ -121,7 +121,7 @@ pub clocks_more : (clock : Segment) (steps : List RateStep) (s : RateStep) → c
     ++ change_to s.at (stepped_segment (value_after stepped_segment clock steps) s.at s.rate) ∷ []
 clocks_more clock [] s = refl
 clocks_more clock (x ∷ steps) s =
-    ap (λ (l : List (Change Segment)). change_to x.at (stepped_segment clock x.at x.rate) ∷ l) (clocks_more (stepped_segment clock x.at x.rate) steps s)
+    ap (λ (l : List (Setting Segment)). change_to x.at (stepped_segment clock x.at x.rate) ∷ l) (clocks_more (stepped_segment clock x.at x.rate) steps s)
 
 -- ---- a history
 

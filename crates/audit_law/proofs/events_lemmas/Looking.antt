@@ -3,7 +3,7 @@ use Rattle.{audit_law.proofs.events_lemmas.{Adding.cut_event, Keeping.begun_more
 use Rattle.audit_law.{proofs.events_lemmas.Befalling.{AreEventsFrom, events_from, steps_from, steps_up_to}, specs.declared.events.settings.Settings.Settings}
 use Rattle.audit_law.{proofs.events_lemmas.Clocking.{StepsFrom, are_clocks, clock_reads, clocks_up_to}, specs.events.Clocks.{AreClocks, clocks_reading}}
 use Rattle.audit_law.specs.{declared.events.history.{DeviceHistory.DeviceHistory, EventHistory.EventHistory}, events.Readings.{clock_reading, scenario_under}}
-use Rattle.{audit_law.specs.declared.events.settings.Change.Change, net_plan.specs.declared.{network.Network.Network, tables.Way.{TheVariants.{Down, Up}, Way}}}
+use Rattle.{audit_law.specs.declared.events.settings.Setting.Setting, net_plan.specs.declared.{network.Network.Network, tables.Way.{TheVariants.{Down, Up}, Way}}}
 use Rattle.{audit_law.specs.events.Beginnings.IsReadyFor, net_plan.specs.{Belonging.{HasLink, IsOfNetwork}, declared.ids.{DeviceId.DeviceId, LinkId.LinkId}}}
 use Rattle.audit_law.specs.events.{Remembering.{MayBefall, Remembers, TellsDevice, way_place}, Settings.{IsSetBy, change_to, changes_by, value_at}}
 use Rattle.{net_plan.specs.declared.event.{Event.Event, What.What}, run_law.proofs.scenario.Devices.all_within, std.specs.Prelude.{option_map, slice_index_or}}
@@ -13,7 +13,7 @@ use Rattle.{std.{proofs.Common.{sym, true, zero, ℕ}, specs.List.{All, cons_opt
 
 -- ---- the changes are in the order of time
 
-more_later : {V : Type 0} (least time : ℕ) (m : Option V) (cs : List (Change V)) → least ≤ time → All (λ c. time ≤ c.from) cs
+more_later : {V : Type 0} (least time : ℕ) (m : Option V) (cs : List (Setting V)) → least ≤ time → All (λ c. time ≤ c.from) cs
     → All (λ c. least ≤ c.from) (cons_option (option_map (change_to time) m) cs)
 more_later least time None cs le h k d lt = let behind = h k d lt in omega (arith, le, behind)
 more_later least time (Some v) cs le h zero d lt = le
@@ -25,7 +25,7 @@ changes_later rho least setting [] h k d lt = absurd (omega (arith, lt))
 changes_later rho least setting (e ∷ es) h k d lt =
     more_later least (amount e.time) (setting e.what) (changes_by setting es) h.0 (changes_later rho (amount e.time) setting es h.3) k d lt
 
-more_sorted : {V : Type 0} (time : ℕ) (m : Option V) (cs : List (Change V)) → All (λ c. time ≤ c.from) cs → IsNonDecreasingBy (λ c. c.from) cs
+more_sorted : {V : Type 0} (time : ℕ) (m : Option V) (cs : List (Setting V)) → All (λ c. time ≤ c.from) cs → IsNonDecreasingBy (λ c. c.from) cs
     → IsNonDecreasingBy (λ c. c.from) (cons_option (option_map (change_to time) m) cs)
 more_sorted time None cs later sorted i j d le lt = sorted i j d le lt
 more_sorted time (Some v) cs later sorted zero zero d le lt = omega arith
@@ -51,7 +51,7 @@ pub looked_up : {V : Type 0} {network : Network} {all : List Event} {history : E
     → result ≡ last_set (scenario_under network all) setting initial time
 looked_up {V} {network} {all} {setting} {initial} {settings} time result h told found =
     let order = changes_sorted network.rho 0 setting all (events_from all h.range h.within h.begun) in
-    found (subst (λ (l : List (Change V)). IsNonDecreasingBy (λ c. c.from) l) (sym told.changes) order)
+    found (subst (λ (l : List (Setting V)). IsNonDecreasingBy (λ c. c.from) l) (sym told.changes) order)
     ∙ ap (λ v. value_at v settings.changes.items time) told.first
     ∙ ap (λ l. value_at initial l time) told.changes
     ∙ sym (last_is setting initial time all)
@@ -109,6 +109,6 @@ devices_ready {network} {all} {history} {event} h may begun k d lt =
     (begun_more all event h.begun begun) in
     record {
       clocks = told_clocks network all history device h tells;
-      later = subst (λ (l : List (Change Segment)). All (λ c. c.from ≤ amount event.time) l) (sym tells.clock)
+      later = subst (λ (l : List (Setting Segment)). All (λ c. c.from ≤ amount event.time) l) (sym tells.clock)
           (clocks_up_to (amount event.time) fresh (rate_steps all device) (steps_up_to network.rho 0 all event device from));
     }

@@ -1,5 +1,5 @@
 -- When a clock first reaches a value, over the steps of its rate.
-use Rattle.audit_law.{proofs.events_lemmas.Clocking.value_ready, specs.{declared.events.settings.Change.Change, events.Settings.{change_to, later_than, value_at}}}
+use Rattle.audit_law.{proofs.events_lemmas.Clocking.value_ready, specs.{declared.events.settings.Setting.Setting, events.Settings.{change_to, later_than, value_at}}}
 use Rattle.audit_law.{proofs.events_lemmas.Valuing.{all_later, value_before}, specs.events.{Beginnings.IsSought, Reaches.IsFirstReach}}
 use Rattle.audit_law.specs.events.Clocks.{AreClocks, GoOn, HasReached, IsReadable, IsShortOf, clocks_reading, reading_then}
 use Rattle.drift_clock.{proofs.Rounding.rounded-mono, specs.{Counts.{gain, rounded}, Segment.{Segment, segment_count, segment_reading}}}
@@ -9,15 +9,15 @@ use Rattle.std.specs.{List.{All, AllWithin, Sorted.{IsNonDecreasingBy, IsPartiti
 
 -- ---- what is left behind a time
 
-behind_late : (c : Change Segment) (cs : List (Change Segment)) (t : ℕ) → IsNonDecreasingBy (λ x. x.from) (c ∷ cs) → t < c.from
+behind_late : (c : Setting Segment) (cs : List (Setting Segment)) (t : ℕ) → IsNonDecreasingBy (λ x. x.from) (c ∷ cs) → t < c.from
     → AllWithin (λ x. t < x.from) (c ∷ cs) 0 (length (c ∷ cs))
 behind_late c cs t order lt k d low high = let first = order 0 k d (omega arith) high in omega (arith, lt, first)
 
-pub tail_order : (c : Change Segment) (cs : List (Change Segment)) → IsNonDecreasingBy (λ x. x.from) (c ∷ cs) → IsNonDecreasingBy (λ x. x.from) cs
+pub tail_order : (c : Setting Segment) (cs : List (Setting Segment)) → IsNonDecreasingBy (λ x. x.from) (c ∷ cs) → IsNonDecreasingBy (λ x. x.from) cs
 tail_order c cs order i j d le lt = order (suc i) (suc j) d (omega (arith, le)) (omega (arith, lt))
 
 -- the value at a later time, from the value at the first
-pub value_split : (v : Segment) (changes : List (Change Segment)) (from t : ℕ) → from ≤ t → IsNonDecreasingBy (λ c. c.from) changes
+pub value_split : (v : Segment) (changes : List (Setting Segment)) (from t : ℕ) → from ≤ t → IsNonDecreasingBy (λ c. c.from) changes
     → value_at v changes t ≡ value_at (value_at v changes from) (later_than from changes) t
 value_split v [] from t le order = refl
 value_split v (c ∷ cs) from t le order = elim (cases_lt from c.from) [
@@ -36,13 +36,13 @@ value_split v (c ∷ cs) from t le order = elim (cases_lt from c.from) [
 ]
 
 -- what is later is in order, can be read, is later, and goes on from the clock
-pub record IsLeft (clock : Segment) (start : ℕ) (later : List (Change Segment)) : Type 0 where
+pub record IsLeft (clock : Segment) (start : ℕ) (later : List (Setting Segment)) : Type 0 where
   pub order : IsNonDecreasingBy (λ c. c.from) later
   pub each : All IsReadable later
   pub after : All (λ c. start ≤ c.from) later
   pub go_on : GoOn clock later
 
-pub left_behind : (v : Segment) (changes : List (Change Segment)) (from : ℕ) → IsNonDecreasingBy (λ c. c.from) changes → All IsReadable changes
+pub left_behind : (v : Segment) (changes : List (Setting Segment)) (from : ℕ) → IsNonDecreasingBy (λ c. c.from) changes → All IsReadable changes
     → GoOn v changes → IsLeft (value_at v changes from) from (later_than from changes)
 left_behind v [] from order each on = record { order = order; each = each; after = λ k d lt. absurd (omega (arith, lt)); go_on = tt }
 left_behind v (c ∷ cs) from order each on = elim (cases_lt from c.from) [
@@ -59,7 +59,7 @@ left_behind v (c ∷ cs) from order each on = elim (cases_lt from c.from) [
       (left_behind c.value cs from (tail_order c cs order) (λ k d lt. each (suc k) d (omega (arith, lt))) on.1))
 ]
 
-left_tail : {clock : Segment} {start : ℕ} (c : Change Segment) (cs : List (Change Segment))
+left_tail : {clock : Segment} {start : ℕ} (c : Setting Segment) (cs : List (Setting Segment))
     → IsLeft clock start (c ∷ cs) → IsLeft c.value c.from cs
 left_tail c cs left = record {
   order = tail_order c cs left.order;
@@ -69,7 +69,7 @@ left_tail c cs left = record {
 }
 
 -- the clock stays until the next change
-steady : {clock : Segment} (c : Change Segment) (cs : List (Change Segment)) {start : ℕ} (x : ℕ)
+steady : {clock : Segment} (c : Setting Segment) (cs : List (Setting Segment)) {start : ℕ} (x : ℕ)
     → IsLeft clock start (c ∷ cs) → x < c.from → value_at clock (c ∷ cs) x ≡ clock
 steady {clock} c cs x left lt = value_before clock (c ∷ cs) x (behind_late c cs x left.order lt)
 
@@ -86,7 +86,7 @@ reads_on clock s t le =
     rounded_rises clock.grain (segment_count clock s) (segment_count clock t) (omega (arith, gained))
 
 -- from a clock on, over its later changes
-reads_more : (clock : Segment) (start : ℕ) (later : List (Change Segment)) (t : ℕ) → IsLeft clock start later → start ≤ t
+reads_more : (clock : Segment) (start : ℕ) (later : List (Setting Segment)) (t : ℕ) → IsLeft clock start later → start ≤ t
     → segment_reading clock start ≤ clocks_reading clock later t
 reads_more clock start [] t left le = reads_on clock start t le
 reads_more clock start (c ∷ cs) t left le = elim (cases_lt t c.from) [
@@ -100,7 +100,7 @@ reads_more clock start (c ∷ cs) t left le = elim (cases_lt t c.from) [
       (omega (arith, first, same, rest))
 ]
 
-reads_above : (clock : Segment) (start : ℕ) (later : List (Change Segment)) → IsLeft clock start later
+reads_above : (clock : Segment) (start : ℕ) (later : List (Setting Segment)) → IsLeft clock start later
     → All (λ c. segment_reading clock start ≤ reading_then c) later
 reads_above clock start [] left k d lt = absurd (omega (arith, lt))
 reads_above clock start (c ∷ cs) left zero d lt =
@@ -113,7 +113,7 @@ reads_above clock start (c ∷ cs) left (suc k) d lt =
     let rest = reads_above c.value c.from cs (left_tail c cs left) k d (omega (arith, lt)) in
     omega (arith, first, same, rest)
 
-pub rising : (clock : Segment) (start : ℕ) (later : List (Change Segment)) → IsLeft clock start later → IsNonDecreasingBy reading_then later
+pub rising : (clock : Segment) (start : ℕ) (later : List (Setting Segment)) → IsLeft clock start later → IsNonDecreasingBy reading_then later
 rising clock start [] left i j d le lt = absurd (omega (arith, lt))
 rising clock start (c ∷ cs) left zero zero d le lt = omega arith
 rising clock start (c ∷ cs) left zero (suc j) d le lt =
@@ -125,13 +125,13 @@ rising clock start (c ∷ cs) left (suc i) (suc j) d le lt =
 -- ---- the search by halves
 
 -- the changes below `low` read less than the goal, those from `high` on at least the goal
-pub record IsHalved (goal : ℤ) (changes : List (Change Segment)) (low high : ℕ) : Type 0 where
+pub record IsHalved (goal : ℤ) (changes : List (Setting Segment)) (low high : ℕ) : Type 0 where
   pub within : low ≤ high
   pub bound : high ≤ length changes
   pub short : AllWithin (IsShortOf goal) changes 0 low
   pub reached : AllWithin (HasReached goal) changes high (length changes)
 
-pub halves_begin : (goal : ℤ) (changes : List (Change Segment)) → IsHalved goal changes 0 (length changes)
+pub halves_begin : (goal : ℤ) (changes : List (Setting Segment)) → IsHalved goal changes 0 (length changes)
 halves_begin goal changes = record {
   within = omega arith;
   bound = omega arith;
@@ -139,7 +139,7 @@ halves_begin goal changes = record {
   reached = λ k d low high. absurd (omega (arith, low, high));
 }
 
-module _ {goal : ℤ} {changes : List (Change Segment)} {low high : ℕ} (middle : ℕ) (c d : Change Segment)
+module _ {goal : ℤ} {changes : List (Setting Segment)} {low high : ℕ} (middle : ℕ) (c d : Setting Segment)
     (order : IsNonDecreasingBy reading_then changes) (h : IsHalved goal changes low high) where
   pub halves_up : middle < high → c ≡ slice_index_or changes middle d → IsShortOf goal c
       → IsHalved goal changes (middle + 1) high
@@ -173,7 +173,7 @@ module _ {goal : ℤ} {changes : List (Change Segment)} {low high : ℕ} (middle
             omega (arith, ints, first, up);
       }
 
-pub halves_end : {goal : ℤ} {changes : List (Change Segment)} {low high : ℕ} → IsHalved goal changes low high
+pub halves_end : {goal : ℤ} {changes : List (Setting Segment)} {low high : ℕ} → IsHalved goal changes low high
     → high ≤ low → IsPartitionPoint (IsShortOf goal) (HasReached goal) changes low
 halves_end h done =
     let within = h.within in
@@ -182,11 +182,11 @@ halves_end h done =
 -- ---- the clock that reaches the goal
 
 -- the clock as the last of so many changes leaves it, or else as it is at first
-abbrev pub set_last : Change Segment → List (Change Segment) → ℕ → Change Segment
+abbrev pub set_last : Setting Segment → List (Setting Segment) → ℕ → Setting Segment
 set_last first later zero = first
 set_last first later (suc k) = slice_index_or later k first
 
-set_last_behind : (first c : Change Segment) (cs : List (Change Segment)) (k : ℕ) → k ≤ length cs → set_last first (c ∷ cs) (suc k) ≡ set_last c cs k
+set_last_behind : (first c : Setting Segment) (cs : List (Setting Segment)) (k : ℕ) → k ≤ length cs → set_last first (c ∷ cs) (suc k) ≡ set_last c cs k
 set_last_behind first c cs zero le = refl
 set_last_behind first c cs (suc k) le = get_or_default cs k first c (omega (arith, le))
 
@@ -213,7 +213,7 @@ reached_later r s from later goal until (Some time) le before same found =
     )
 
 -- a goal that the next change has reached is first reached as the clock goes on up to it
-reached_first : {clock : Segment} {start : ℕ} (c : Change Segment) (cs : List (Change Segment)) (goal : ℤ)
+reached_first : {clock : Segment} {start : ℕ} (c : Setting Segment) (cs : List (Setting Segment)) (goal : ℤ)
     (until : ℕ) (result : Option ℕ) → IsLeft clock start (c ∷ cs) → HasReached goal c
     → IsFirstReach (segment_reading clock) start goal until result
     → IsFirstReach (clocks_reading clock (c ∷ cs)) start goal until result
@@ -250,7 +250,7 @@ reached_first {clock} {start} c cs goal until (Some time) left more found =
     )
 
 -- the one before that place
-pub set_last_at : (first c : Change Segment) (later : List (Change Segment)) (count : ℕ) → count ≤ length later → (count ≡ 0 → ⊥)
+pub set_last_at : (first c : Setting Segment) (later : List (Setting Segment)) (count : ℕ) → count ≤ length later → (count ≡ 0 → ⊥)
     → c ≡ slice_index_or later (count - 1) c → c ≡ set_last first later count
 set_last_at first c later zero bound some is = absurd (some refl)
 set_last_at first c later (suc k) bound some is =
@@ -258,7 +258,7 @@ set_last_at first c later (suc k) bound some is =
     is ∙ ap (λ n. slice_index_or later n c) place ∙ get_or_default later k c first (omega (arith, bound))
 
 -- a goal that is not reached before the next change is first reached behind it
-reached_behind : {clock : Segment} {start : ℕ} (c : Change Segment) (cs : List (Change Segment)) (goal : ℤ)
+reached_behind : {clock : Segment} {start : ℕ} (c : Setting Segment) (cs : List (Setting Segment)) (goal : ℤ)
     (until : ℕ) (result : Option ℕ) → IsLeft clock start (c ∷ cs) → IsShortOf goal c
     → IsFirstReach (clocks_reading c.value cs) c.from goal until result
     → IsFirstReach (clocks_reading clock (c ∷ cs)) start goal until result
@@ -275,7 +275,7 @@ reached_behind {clock} {start} c cs goal until result left less found =
     λ x ge. ap (λ b. segment_reading (value_at (if b then c.value else clock) cs x) x) (sym (le-leb c.from x ge)) in
     reached_later (clocks_reading c.value cs) reading start c.from goal until result sooner before behind found
 
-pub reached_set_last : (first : Change Segment) (later : List (Change Segment)) (goal : ℤ) (count : ℕ) (until : ℕ) (result : Option ℕ)
+pub reached_set_last : (first : Setting Segment) (later : List (Setting Segment)) (goal : ℤ) (count : ℕ) (until : ℕ) (result : Option ℕ)
     → IsLeft first.value first.from later → count ≤ length later → IsPartitionPoint (IsShortOf goal) (HasReached goal) later count
     → IsFirstReach (segment_reading (set_last first later count).value) (set_last first later count).from goal until result
     → IsFirstReach (clocks_reading first.value later) first.from goal until result
@@ -291,14 +291,14 @@ reached_set_last first (c ∷ cs) goal (suc k) until result left bound part foun
     )
     (subst (λ x. IsFirstReach (segment_reading x.value) x.from goal until result) (set_last_behind first c cs k (omega (arith, bound))) found))
 
-module _ (initial : Segment) (changes : List (Change Segment)) (from : ℕ) where
+module _ (initial : Segment) (changes : List (Setting Segment)) (from : ℕ) where
   -- what is left of the clocks from a time on
   pub left_of : AreClocks initial changes → IsLeft (value_at initial changes from) from (later_than from changes)
   left_of are = left_behind initial changes from are.in_order are.each are.go_on
 
   -- the first reach is that of the clock which the changes that read less set last
   pub first_of_last : (goal : ℤ) (count : ℕ) → AreClocks initial changes → count ≤ length (later_than from changes)
-      → IsPartitionPoint (IsShortOf goal) (HasReached goal) (later_than from changes) count → (last : Change Segment)
+      → IsPartitionPoint (IsShortOf goal) (HasReached goal) (later_than from changes) count → (last : Setting Segment)
       → last ≡ set_last (change_to from (value_at initial changes from)) (later_than from changes) count
       → (until : ℕ) (result : Option ℕ) → IsFirstReach (segment_reading last.value) last.from goal until result
       → IsFirstReach (clocks_reading initial changes) from goal until result

@@ -1,5 +1,5 @@
 -- The value of a setting at a time.
-use Rattle.audit_law.specs.{declared.events.settings.{Change.Change, Settings.Settings}, events.Settings.{IsSetBy, change_to, changes_by, later_than, value_at}}
+use Rattle.audit_law.specs.{declared.events.settings.{Setting.Setting, Settings.Settings}, events.Settings.{IsSetBy, change_to, changes_by, later_than, value_at}}
 use Rattle.{net_plan.specs.declared.event.Event.Event, std.proofs.Common.{refl, suc, sym, true, zero, ℕ}, tte_units.proofs.general_lemmas.Lists.append_none}
 use Rattle.{net_plan.specs.declared.event.What.What, std.specs.List.{AllWithin, cons_option, last_or}, tte_units.specs.Amount.amount}
 use Rattle.std.proofs.Common.{◌++◌, ◌+◌, ◌-◌, ◌<◌, ◌∙◌, ◌∷◌, ◌≡◌, ◌≤◌, List, None, Option, Some, [], ap, arith, false, if◌then◌else◌, length, nat_le, nat_lt}
@@ -9,10 +9,10 @@ use Rattle.std.{proofs.lemmas.List.Elements.filter_map-append, specs.List.Sorted
 -- ---- where the changes up to a time end
 
 -- changes in order are parted by a time
-pub parted : {V : Type 0} (changes : List (Change V)) (time : ℕ) → IsNonDecreasingBy (λ c. c.from) changes → IsPartitionedBy (λ c. nat_le c.from time) changes
+pub parted : {V : Type 0} (changes : List (Setting V)) (time : ℕ) → IsNonDecreasingBy (λ c. c.from) changes → IsPartitionedBy (λ c. nat_le c.from time) changes
 parted changes time order i j d le within last = grind (arith, leb-true, le-leb)
 
-pub part_at : {V : Type 0} (changes : List (Change V)) (time place : ℕ)
+pub part_at : {V : Type 0} (changes : List (Setting V)) (time place : ℕ)
     → IsPartitionPoint (λ c. nat_le c.from time ≡ true) (λ c. nat_le c.from time ≡ false) changes place
     → IsPartitionPoint (λ c. c.from ≤ time) (λ c. time < c.from) changes place
 part_at changes time place h = grind (arith, leb-true, leb-false)
@@ -28,7 +28,7 @@ below count n next bound = omega (arith, next, bound)
 -- ---- the value there
 
 -- later changes change nothing
-pub value_before : {V : Type 0} (v : V) (changes : List (Change V)) (time : ℕ)
+pub value_before : {V : Type 0} (v : V) (changes : List (Setting V)) (time : ℕ)
     → AllWithin (λ c. time < c.from) changes 0 (length changes) → value_at v changes time ≡ v
 value_before v [] time late = refl
 value_before v (c ∷ cs) time late =
@@ -37,7 +37,7 @@ value_before v (c ∷ cs) time late =
     ∙ value_before v cs time (λ k d low high. late (suc k) d (omega arith) (omega (arith, high)))
 
 -- the last change up to the time counts
-pub value_found : {V : Type 0} (v : V) (changes : List (Change V)) (time place : ℕ) (d : Change V) → place < length changes
+pub value_found : {V : Type 0} (v : V) (changes : List (Setting V)) (time place : ℕ) (d : Setting V) → place < length changes
     → IsPartitionPoint (λ c. c.from ≤ time) (λ c. time < c.from) changes (place + 1) → value_at v changes time ≡ (slice_index_or changes place d).value
 value_found v [] time place d within h = absurd (omega (arith, within))
 value_found v (c ∷ cs) time zero d within h =
@@ -53,15 +53,15 @@ value_found v (c ∷ cs) time (suc k) d within h =
     )
 
 -- the changes behind that place are the later ones
-pub all_later : {V : Type 0} (changes : List (Change V)) (time : ℕ) → AllWithin (λ c. time < c.from) changes 0 (length changes)
+pub all_later : {V : Type 0} (changes : List (Setting V)) (time : ℕ) → AllWithin (λ c. time < c.from) changes 0 (length changes)
     → changes ≡ later_than time changes
 all_later [] time late = refl
 all_later {V} (c ∷ cs) time late =
     let first : nat_lt time c.from ≡ true = le-leb (suc time) c.from (let l = late 0 c (omega arith) (omega arith) in omega (arith, l)) in
-    ap (λ (l : List (Change V)). c ∷ l) (all_later cs time (λ k d low high. late (suc k) d (omega arith) (omega (arith, high))))
+    ap (λ (l : List (Setting V)). c ∷ l) (all_later cs time (λ k d low high. late (suc k) d (omega arith) (omega (arith, high))))
     ∙ sym (ap (λ b. if b then c ∷ later_than time cs else later_than time cs) first)
 
-pub later_found : {V : Type 0} (changes : List (Change V)) (time place : ℕ)
+pub later_found : {V : Type 0} (changes : List (Setting V)) (time place : ℕ)
     → IsPartitionPoint (λ c. c.from ≤ time) (λ c. time < c.from) changes place → drop place changes ≡ later_than time changes
 later_found [] time zero h = refl
 later_found [] time (suc k) h = refl
@@ -76,7 +76,7 @@ later_found (c ∷ cs) time (suc k) h =
 
 -- ---- a setting by events
 
-one_change : {V : Type 0} (t time : ℕ) (v : V) (m : Option V) (cs : List (Change V))
+one_change : {V : Type 0} (t time : ℕ) (v : V) (m : Option V) (cs : List (Setting V))
     → value_at v (cons_option (option_map (change_to time) m) cs) t ≡ value_at (if nat_le time t then unwrap_or m v else v) cs t
 one_change t time v (Some w) cs = refl
 one_change t time v None cs = grind (arith, nat_le)
@@ -124,7 +124,7 @@ module _ {V : Type 0} (setting : What → Option V) (initial : V) (events : List
       → IsSetBy setting initial events old → IsSetBy setting initial (events ++ event ∷ []) new
   set_more v new is first more h = record {
     first = first ∙ h.first;
-    changes = more ∙ ap (λ (l : List (Change V)). l ++ change_to (amount event.time) v ∷ []) h.changes ∙ sym
+    changes = more ∙ ap (λ (l : List (Setting V)). l ++ change_to (amount event.time) v ∷ []) h.changes ∙ sym
         (set_by setting events event (Some v) is);
   }
 

@@ -4,7 +4,7 @@ ghost use Rattle.drift_clock.specs.{Reach.IsReach, Segment.segment_reading};
 ghost use Rattle.audit_law.specs.events.Clocks.{AreClocks, HasReached, IsReadable, IsShortOf, clocks_reading, reading_then};
 ghost use Rattle.audit_law.specs.events.Reaches.{IsFirstReach};
 
-use crate::events::settings::{Change, Settings};
+use crate::events::settings::{Setting, Settings};
 use drift_clock::{Clock, SegmentClock};
 use tte_units::Units;
 
@@ -37,7 +37,7 @@ pub(crate) fn reach(
 
 // The clock from which on the goal is sought: as the last change leaves it at which it still reads less, or else as it
 // is at `from`.
-fn last_short(clocks: &Settings<SegmentClock>, from: u64, goal: Units) -> Change<SegmentClock>
+fn last_short(clocks: &Settings<SegmentClock>, from: u64, goal: Units) -> Setting<SegmentClock>
     requires clocks { AreClocks clocks.now.initial clocks.now.changes.items }
     requires limit { from ≤ 2 ^ 60 }
     ensures readable { IsReadable result }
@@ -48,7 +48,7 @@ fn last_short(clocks: &Settings<SegmentClock>, from: u64, goal: Units) -> Change
     let later = clocks.after(from);
     let count = count_short(later, goal);
     if count == 0 {
-        Change {
+        Setting {
             from,
             value: clocks.at(from),
         }
@@ -58,7 +58,7 @@ fn last_short(clocks: &Settings<SegmentClock>, from: u64, goal: Units) -> Change
 }
 
 // At how many changes the clock reads less than the goal. Readings never fall, so these are the first ones.
-fn count_short(changes: &[Change<SegmentClock>], goal: Units) -> usize
+fn count_short(changes: &[Setting<SegmentClock>], goal: Units) -> usize
     requires each { All IsReadable changes.now }
     requires rising { IsNonDecreasingBy reading_then changes.now }
     ensures bound { result ≤ length changes.now }
@@ -78,7 +78,7 @@ fn count_short(changes: &[Change<SegmentClock>], goal: Units) -> usize
 }
 
 // Does the clock read less than the goal when it changes?
-fn is_short(change: &Change<SegmentClock>, goal: Units) -> bool
+fn is_short(change: &Setting<SegmentClock>, goal: Units) -> bool
     requires readable { IsReadable change.now }
     ensures short { result ≡ true → IsShortOf goal.0 change.now }
     ensures reached { result ≡ false → HasReached goal.0 change.now }

@@ -6,7 +6,7 @@ use std::alloc::{AllocError, Global};
 
 /// From a time on, a value that is set.
 #[derive(Clone, Copy)]
-pub struct Change<V> {
+pub struct Setting<V> {
     pub from: u64,
     pub value: V,
 }
@@ -15,7 +15,7 @@ pub struct Change<V> {
 #[derive(Drop)]
 pub struct Settings<V> {
     pub(crate) initial: V,
-    pub(crate) changes: Vec<Change<V>>,
+    pub(crate) changes: Vec<Setting<V>>,
 }
 
 impl<V: Copy> Settings<V> {
@@ -37,7 +37,7 @@ impl<V: Copy> Settings<V> {
             (λ _. self.new.changes.items ≡ self.old.changes.items ++ record { from = from; value = value } ∷ [])
             (λ _. self.new.changes.items ≡ self.old.changes.items) }
     {
-        self.changes.push(Change { from, value })?;
+        self.changes.push(Setting { from, value })?;
         Ok(())
     }
 
@@ -64,7 +64,7 @@ impl<V: Copy> Settings<V> {
     }
 
     /// The changes that come later than a time.
-    pub fn after(&self, time: u64) -> &[Change<V>]
+    pub fn after(&self, time: u64) -> &[Setting<V>]
         ensures { IsNonDecreasingBy (λ c. c.from) self.now.changes.items
             → result.now ≡ later_than time self.now.changes.items }
     {

@@ -11,6 +11,6 @@ mod trace;
 
 pub use keeping::frame_in;
 pub use law::delivery_law;
-pub use octets::Octets;
+pub use octets::OctetsOfRecord;
 pub use trace::FrameTrace;
 pub use tte_units::OutOfMemory;

@@ -1,5 +1,5 @@
 -- What the kinds of events draw.
-use Rattle.fault_hypothesis.specs.declared.storm.draw.{Choice.{Choice, TheVariants.{Cut, Heal, Hold, Rate, Wire}}, Draw.Draw}
+use Rattle.fault_hypothesis.specs.declared.storm.draw.{Choice.{Choice, TheVariants.{Cut, Heal, Hold, Rate, Wire}}, StormDraw.StormDraw}
 use Rattle.fault_hypothesis.specs.storm.{Choosing.{choice_of, device_of, hold_of, link_of, rate_of, way_of, wire_of}, Events.{IsChosen, IsDrawn}}
 use Rattle.{net_plan.specs.{Places.link_at, declared.tables.Way.Way}, std.specs.Prelude.{IsSomeAnd, MatchOption}, tte_units.specs.declared.rates.Ppb.Ppb}
 use Rattle.{net_plan.specs.declared.{event.{Event.Event, What.What}, ids.LinkId.LinkId, tables.Link.Link}, tte_units.specs.declared.units.Units.Units}
@@ -7,11 +7,11 @@ use Rattle.{net_plan.specs.declared.{ids.DeviceId.DeviceId, network.Network.Netw
 use Rattle.net_plan.specs.declared.event.What.TheVariants as kinds
 
 -- what is chosen is drawn where the words choose its kind
-pub drawn_by : (network : Network) (before : List Event) (time : Units) (draw : Draw) (choice : Choice) (what : What) → choice ≡ choice_of draw.kind
+pub drawn_by : (network : Network) (before : List Event) (time : Units) (draw : StormDraw) (choice : Choice) (what : What) → choice ≡ choice_of draw.kind
     → IsChosen network before time draw choice what → IsDrawn network before time draw what
 drawn_by network before time draw choice what chosen is = subst (λ k. IsChosen network before time draw k what) chosen is
 
-module _ (network : Network) (before : List Event) (time : Units) (draw : Draw) (link : LinkId) (way : Way)
+module _ (network : Network) (before : List Event) (time : Units) (draw : StormDraw) (link : LinkId) (way : Way)
     (delay : Units) (found : Link) (link_is : link ≡ link_of network draw) (at : link_at network link ≡ Some found)
     (way_is : way ≡ way_of draw) where
   -- the wire delay of a link
@@ -37,11 +37,11 @@ module _ (network : Network) (before : List Event) (time : Units) (draw : Draw) 
       (sym there) same
 
 -- the kinds that no link's own numbers bound
-pub rate_drawn : (network : Network) (before : List Event) (time : Units) (draw : Draw) (device : DeviceId) (rate : Ppb)
+pub rate_drawn : (network : Network) (before : List Event) (time : Units) (draw : StormDraw) (device : DeviceId) (rate : Ppb)
     → device ≡ device_of network draw → rate ≡ rate_of network draw → IsChosen network before time draw Rate (kinds.Rate device rate)
 rate_drawn network before time draw device rate device_is rate_is = cc
 
-module _ (network : Network) (before : List Event) (time : Units) (draw : Draw) (link : LinkId) (way : Way)
+module _ (network : Network) (before : List Event) (time : Units) (draw : StormDraw) (link : LinkId) (way : Way)
     (link_is : link ≡ link_of network draw) (way_is : way ≡ way_of draw) where
   pub cut_drawn : IsChosen network before time draw Cut (kinds.Cut link way)
   cut_drawn = cc

@@ -1,5 +1,5 @@
 -- Only the last event of a storm is the end.
-use Rattle.fault_hypothesis.specs.declared.storm.draw.{Choice.{Choice, TheVariants.{Cut, Heal, Hold, On, Rate, Strike, Wire}}, Draw.Draw}
+use Rattle.fault_hypothesis.specs.declared.storm.draw.{Choice.{Choice, TheVariants.{Cut, Heal, Hold, On, Rate, Strike, Wire}}, StormDraw.StormDraw}
 use Rattle.{fault_hypothesis.specs.storm.Choosing.{choice_of, link_of}, net_plan.specs.declared.{event.What.{TheVariants.End, What}, network.Network.Network}}
 use Rattle.{fault_hypothesis.specs.storm.Events.{IsChosen, IsEventOf, IsStormEvent}, std.proofs.Common.{◌*◌, ◌∙◌, ◌≡◌, List, None, Some, ap, inl, inr, sym, ℕ}}
 use Rattle.{net_plan.specs.{Places.link_at, declared.event.Event.Event}, std.specs.Prelude.{IsSomeAnd, Option}, tte_units.specs.declared.units.Units.Units}
@@ -8,7 +8,7 @@ some_and : {X : Type 0} (o : Option X) (P : X → Type 0) → IsSomeAnd o P → 
 some_and None P is none = is
 some_and (Some x) P is none = none x is
 
-module _ (network : Network) (before : List Event) (time : Units) (draw : Draw) where
+module _ (network : Network) (before : List Event) (time : Units) (draw : StormDraw) where
   -- what is chosen is no end
   chosen_goes_on : (choice : Choice) (what : What) → IsChosen network before time draw choice what → what ≡ End → ⊥
   chosen_goes_on Rate what is end = cc

@@ -3,7 +3,7 @@ use Rattle.fault_hypothesis.{proofs.storm_lemmas.Masters.master_is_end, specs.st
 use Rattle.fault_hypothesis.{proofs.storm_lemmas.SameOctets.same_octets, specs.declared.storm.draw.Choice.TheVariants.{Cut, Heal, Hold, On, Rate, Strike, Wire}}
 use Rattle.fault_hypothesis.{proofs.storm_lemmas.Storms.storms_within, specs.storm.Events.{AreStormEvents, IsChosen, IsEventOf, IsStormEvent}}
 use Rattle.fault_hypothesis.{proofs.storm_lemmas.Within.{any_split, broken_is_master}, specs.storm.Striking.{IsLastMaster, SendsForged, Strikes, forged}}
-use Rattle.{fault_hypothesis.specs.declared.storm.draw.{Choice.Choice, Draw.Draw}, net_plan.specs.declared.{ids.DeviceId.DeviceId, network.Network.Network}}
+use Rattle.{fault_hypothesis.specs.declared.storm.draw.{Choice.Choice, StormDraw.StormDraw}, net_plan.specs.declared.{ids.DeviceId.DeviceId, network.Network.Network}}
 use Rattle.{fault_hypothesis.specs.storm.Laws.StormIsOne, net_plan.specs.declared.tables.Device.Device, run_law.specs.scenario.Faults.{Breaks, IsBroken}}
 use Rattle.run_law.proofs.scenario.Devices.{within_front}
 use Rattle.{net_plan.specs.{Places.link_at, declared.{event.{Event.Event, What.What}, tables.Link.Link}}, tte_units.specs.declared.units.Units.Units}
@@ -59,7 +59,7 @@ one_last {a} {b} last other =
     ]
 
 -- a broken master has one forged send
-one_send : {network : Network} (before : List Event) {device : DeviceId} {time : Units} {draw : Draw} {w v : What}
+one_send : {network : Network} (before : List Event) {device : DeviceId} {time : Units} {draw : StormDraw} {w v : What}
     → KeepsRules network → AreWithinHypothesis network before → IsBroken before device
     → SendsForged network device time draw w → SendsForged network device time draw v → w ≡ v
 one_send {network} before {device} {time} {draw} rules within broken a b =
@@ -83,7 +83,7 @@ one_send {network} before {device} {time} {draw} rules within broken a b =
     a.sends ∙ same ∙ sym b.sends
 
 -- a strike is one
-one_strike : {network : Network} {before : List Event} {time : Units} {draw : Draw} {w v : What} → KeepsRules network
+one_strike : {network : Network} {before : List Event} {time : Units} {draw : StormDraw} {w v : What} → KeepsRules network
     → AreWithinHypothesis network before → Strikes network before time draw w → Strikes network before time draw v
     → w ≡ v
 one_strike rules within (inl a) (inl b) =
@@ -99,7 +99,7 @@ one_of_some None f w v a b = absurd a
 one_of_some (Some x) f w v a b = a ∙ sym b
 
 -- what is chosen is one
-one_chosen : (network : Network) (before : List Event) (time : Units) (draw : Draw) (choice : Choice) (w v : What) → KeepsRules network
+one_chosen : (network : Network) (before : List Event) (time : Units) (draw : StormDraw) (choice : Choice) (w v : What) → KeepsRules network
     → AreWithinHypothesis network before → IsChosen network before time draw choice w → IsChosen network before time draw choice v → w ≡ v
 one_chosen network before time draw Rate w v rules within a b = a ∙ sym b
 one_chosen network before time draw Wire w v rules within a b =
@@ -115,7 +115,7 @@ abbrev at_time : Units → What → Event
 at_time time what = record { time = time; what = what }
 
 -- a step has one event
-one_event : {network : Network} {before : List Event} {time : Units} {draw : Draw} {a b : Event} → KeepsRules network
+one_event : {network : Network} {before : List Event} {time : Units} {draw : StormDraw} {a b : Event} → KeepsRules network
     → AreWithinHypothesis network before → IsEventOf network before time draw a
     → IsEventOf network before time draw b → a ≡ b
 one_event {network} {before} {time} {draw} rules within is other =

@@ -1,6 +1,6 @@
 -- Which events of a storm are within the hypothesis.
 use Rattle.{fault_hypothesis.specs.Watching.Watches, std.proofs.lemmas.{Bool.cases_Bool, Int.ints}, tte_units.specs.{Amount.amount, declared.rates.Ppb.Ppb}}
-use Rattle.{fault_hypothesis.specs.declared.storm.draw.Draw.Draw, run_law.specs.scenario.Hypothesis.{AreWithinHypothesis, ComesTooEarly, IsWithinHypothesis}}
+use Rattle.{fault_hypothesis.specs.declared.storm.draw.StormDraw.StormDraw, run_law.specs.scenario.Hypothesis.{AreWithinHypothesis, ComesTooEarly, IsWithinHypothesis}}
 use Rattle.{fault_hypothesis.specs.{declared.watch.Watch.Watch, storm.{Known.KnowsBroken, Striking.IsMaster}}, net_plan.specs.declared.network.Network.Network}
 use Rattle.{fault_hypothesis.specs.storm.Events.{AreNoLater, IsEventOf, substitute}, run_law.specs.declared.outside.Outside.TheVariants.{TooFewMasters, Wire}}
 use Rattle.{net_plan.specs.Places.{device_at, is_master}, std.specs.{List.Any, Prelude.{IsSomeAnd, unsigned_abs}}, tte_units.specs.declared.units.Units.Units}
@@ -83,7 +83,7 @@ module _ (network : Network) (before : List Event) (event : Event) (what : event
   substitute_within NotOff v = let is = v.what in absurd cc
 
 -- the event of a step is within the hypothesis
-pub step_within : {network : Network} {before : List Event} {time : Units} {draw : Draw} {event : Event}
+pub step_within : {network : Network} {before : List Event} {time : Units} {draw : StormDraw} {event : Event}
     → IsEventOf network before time draw event → AreNoLater before time
     → time.0 ≤ℤ pos (2 ^ 20 * amount network.cycle) → IsWithinHypothesis network before event
 step_within {network} {before} {time} of_step no_later in_run =

@@ -1,7 +1,7 @@
 -- The events of a storm, step by step.
 use Rattle.std.specs.Prelude.{◌*◌, ◌++◌, ◌+◌, ◌/◌, ◌<◌, ◌∷◌, ◌≡◌, ◌≤ℤ◌, ◌⊎◌, IsSomeAnd, List, [], length, pos, ℕ}
 use Rattle.fault_hypothesis.specs.declared.storm.draw.Choice.TheVariants.{Cut, Heal, Hold, On, Rate, Strike, Wire}
-use Rattle.fault_hypothesis.specs.{declared.storm.draw.{Choice.Choice, Draw.Draw}, storm.Striking.Strikes}
+use Rattle.fault_hypothesis.specs.{declared.storm.draw.{Choice.Choice, StormDraw.StormDraw}, storm.Striking.Strikes}
 use Rattle.fault_hypothesis.specs.storm.Choosing.{choice_of, device_of, hold_of, link_of, rate_of, way_of, wire_of}
 use Rattle.{fault_hypothesis.specs.storm.Words.draw_at, tte_units.specs.declared.units.Units.Units}
 use Rattle.net_plan.specs.Places.{link_at}
@@ -10,7 +10,7 @@ use Rattle.{net_plan.specs.declared.network.Network.Network, run_law.specs.scena
 use Rattle.net_plan.specs.declared.event.What.TheVariants as kinds
 
 -- this befalls the network where an event of this kind is chosen, given the events before
-abbrev pub IsChosen : Network → List Event → Units → Draw → Choice → What → Type 0
+abbrev pub IsChosen : Network → List Event → Units → StormDraw → Choice → What → Type 0
 IsChosen network before time draw Rate what = what ≡ kinds.Rate (device_of network draw) (rate_of network draw)
 IsChosen network before time draw Wire what =
     IsSomeAnd (link_at network (link_of network draw))
@@ -24,7 +24,7 @@ IsChosen network before time draw On what = what ≡ kinds.On (device_of network
 IsChosen network before time draw Strike what = Strikes network before time draw what
 
 -- this befalls the network by the words of a step, given the events before
-abbrev pub IsDrawn : Network → List Event → Units → Draw → What → Type 0
+abbrev pub IsDrawn : Network → List Event → Units → StormDraw → What → Type 0
 IsDrawn network before time draw what = IsChosen network before time draw (choice_of draw.kind) what
 
 -- what stands for an event that the hypothesis refuses: the rate of device 0 is set to 0
@@ -33,7 +33,7 @@ substitute = kinds.Rate (record { 0 = 0 }) (record { 0 = pos 0 })
 
 -- the event at the time by the words of a step: what is drawn where that is within the hypothesis, given
 -- the events before, and otherwise the substitute
-pub record IsEventOf (network : Network) (before : List Event) (time : Units) (draw : Draw) (event : Event) : Type
+pub record IsEventOf (network : Network) (before : List Event) (time : Units) (draw : StormDraw) (event : Event) : Type
     0 where
   pub drawn : What
   pub is_drawn : IsDrawn network before time draw drawn

@@ -1,6 +1,6 @@
 -- The strikes of a storm: a master breaks, and then sends forged frames.
 use Rattle.std.specs.Prelude.{◌%◌, ◌+◌, ◌/◌, ◌<◌, ◌≡◌, ◌⊎◌, IsSomeAnd, List, Some, slice_index, true, ℕ}
-use Rattle.fault_hypothesis.specs.{declared.storm.draw.Draw.Draw, storm.Choosing.channel_of}
+use Rattle.fault_hypothesis.specs.{declared.storm.draw.StormDraw.StormDraw, storm.Choosing.channel_of}
 use Rattle.{hex.specs.Hex.IsBytes, net_plan.specs.Paths.IsUplink, tte_units.specs.Amount.amount}
 use Rattle.net_plan.specs.{Places.{device_at, is_master}, declared.{event.Event.Event, ids.DeviceId.DeviceId}}
 use Rattle.net_plan.specs.declared.{event.What.TheVariants.{Break, Send}, network.Network.Network, tables.Device.Device}
@@ -19,7 +19,7 @@ pub record IsLastMaster (network : Network) (device : DeviceId) : Type 0 where
 
 -- the frame that a broken master of this member number forges at the time: the one that it would send
 -- if it were correct, but for its clock, which the third word chooses
-abbrev pub forged : Network → Device → ℕ → Units → Draw → Pcf
+abbrev pub forged : Network → Device → ℕ → Units → StormDraw → Pcf
 forged network master member time draw = record {
   destination = network.pcf_destination;
   source = master.mac;
@@ -32,7 +32,7 @@ forged network master member time draw = record {
 }
 
 -- the broken master sends its forged frame by its link of the channel that is chosen
-pub record SendsForged (network : Network) (device : DeviceId) (time : Units) (draw : Draw) (what : What) : Type 0 where
+pub record SendsForged (network : Network) (device : DeviceId) (time : Units) (draw : StormDraw) (what : What) : Type 0 where
   pub master : Device
   pub member : ℕ
   pub link : LinkId
@@ -53,7 +53,7 @@ pub record BreaksLast (network : Network) (before : List Event) (what : What) : 
   pub breaks : what ≡ Break master
 
 -- a strike: the last master breaks where none is broken, and otherwise the broken one sends
-abbrev pub Strikes : Network → List Event → Units → Draw → What → Type 0
+abbrev pub Strikes : Network → List Event → Units → StormDraw → What → Type 0
 Strikes network before time draw what =
     BreaksLast network before what
     ⊎ ((device : DeviceId) × IsBroken before device × SendsForged network device time draw what)

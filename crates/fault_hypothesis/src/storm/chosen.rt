@@ -7,12 +7,12 @@ ghost use Rattle.{net_plan.specs.Ranges.{IsInRange, IsWithin}, schedule_tables.s
 ghost use Rattle.trace_text.specs.Ranges.{IsEventInRange, IsRate, IsTime, IsWhatInRange};
 
 use crate::Watch;
-use crate::storm::draw::{Choice, Draw};
+use crate::storm::draw::{Choice, StormDraw};
 use crate::storm::strike::{forged_send, last_master};
 use net_plan::{DeviceId, Event, Link, LinkId, Network, What};
 use tte_units::{Ppb, Units};
 
-fn rate(network: &Network, draw: Draw) -> Ppb
+fn rate(network: &Network, draw: StormDraw) -> Ppb
     requires { network.now.rho ≤ 1000000 }
     ensures value { result ≡ rate_of network.now draw }
     ensures range { IsRate result }
@@ -21,7 +21,7 @@ fn rate(network: &Network, draw: Draw) -> Ppb
     Ppb(above as i32 - network.rho as i32)
 }
 
-fn wire(link: &Link, draw: Draw) -> Units
+fn wire(link: &Link, draw: StormDraw) -> Units
     requires jitter { IsWithin 0 (2 ^ 40) link.now.jitter }
     requires wire { IsWithin 1 (2 ^ 40) link.now.wire }
     ensures value { result ≡ wire_of link.now draw }
@@ -31,7 +31,7 @@ fn wire(link: &Link, draw: Draw) -> Units
     Units(link.wire.0 + more as i64)
 }
 
-fn hold(link: &Link, draw: Draw) -> Units
+fn hold(link: &Link, draw: StormDraw) -> Units
     requires { IsWithin 0 (2 ^ 40) link.now.hold }
     ensures value { result ≡ hold_of link.now draw }
     ensures range { IsTime result }
@@ -52,7 +52,7 @@ fn draw_in(
     network: &Network,
     broken: Option<DeviceId>,
     time: Units,
-    draw: Draw,
+    draw: StormDraw,
     what: &mut What,
 ) -> bool
     requires range { IsInRange network.now }
@@ -84,7 +84,7 @@ fn strike_in(
     network: &Network,
     broken: Option<DeviceId>,
     time: Units,
-    draw: Draw,
+    draw: StormDraw,
     what: &mut What,
 ) -> bool
     requires range { IsInRange network.now }
@@ -120,7 +120,7 @@ pub(crate) fn choose_event(
     network: &Network,
     watch: &Watch<'_>,
     time: Units,
-    draw: Draw,
+    draw: StormDraw,
     event: &mut Event,
 )
     requires range { IsInRange network.now }

@@ -8,7 +8,7 @@ use tte_units::frames::Channel;
 
 /// The three words of a step: what kind of event comes, where, and how much.
 #[derive(Clone, Copy)]
-pub struct Draw {
+pub struct StormDraw {
     pub kind: u32,
     pub place: u32,
     pub size: u32,
@@ -27,7 +27,7 @@ pub(crate) enum Choice {
     Strike,
 }
 
-impl Draw {
+impl StormDraw {
     /// The kind of event that is chosen.
     pub(crate) fn choice(self) -> Choice
         ensures { result ≡ choice_of self.kind }

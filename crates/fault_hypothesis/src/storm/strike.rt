@@ -4,7 +4,7 @@ ghost use Rattle.net_plan.specs.{Belonging.IsOfNetwork, declared.ids.DeviceId.{D
 ghost use Rattle.{pcf_codec.specs.Spelling.{IsPadding, Spells}, trace_text.specs.Ranges.{IsFrame, IsWhatInRange}};
 ghost use Rattle.fault_hypothesis.specs.storm.Striking.{IsLastMaster, IsMaster, SendsForged, forged};
 
-use crate::storm::draw::Draw;
+use crate::storm::draw::StormDraw;
 use net_plan::{Device, DeviceId, Network, Octets, Role, What};
 use pcf_codec::{PCF_LENGTH, encode};
 use tte_units::Units;
@@ -31,7 +31,7 @@ pub(crate) fn forged_send(
     network: &Network,
     device: DeviceId,
     time: Units,
-    draw: Draw,
+    draw: StormDraw,
 ) -> Option<What>
     requires range { IsInRange network.now }
     requires early { pos 0 ≤ℤ time.0 }
@@ -71,7 +71,13 @@ fn kept(octets: &[u8]) -> Octets
 }
 
 // The frame that the broken master forges.
-fn forged_frame(network: &Network, master: &Device, member: u32, time: Units, draw: Draw) -> Pcf
+fn forged_frame(
+    network: &Network,
+    master: &Device,
+    member: u32,
+    time: Units,
+    draw: StormDraw,
+) -> Pcf
     requires range { IsInRange network.now }
     requires member { member < 32 }
     requires early { pos 0 ≤ℤ time.0 }

@@ -1,7 +1,7 @@
 ghost use Rattle.std.specs.Prelude.{◌≡◌, ◌+◌, ◌<◌, ◌^◌};
 ghost use Rattle.fault_hypothesis.specs.storm.Words.{draw_from, state_at, word_at};
 
-use crate::storm::draw::Draw;
+use crate::storm::draw::StormDraw;
 use rand_core::utils::NextWord;
 use rand_pcg::Lcg64Xsh32;
 
@@ -38,7 +38,7 @@ impl Words {
     }
 
     /// The next three words. Fewer than 2^62 were drawn.
-    pub fn draw(&mut self) -> Draw
+    pub fn draw(&mut self) -> StormDraw
         requires { self.old.drawn < 2 ^ 62 }
         ensures words { result ≡ draw_from self.old.seed self.old.drawn }
         ensures drawn { self.new.drawn ≡ self.old.drawn + 3 }
@@ -47,6 +47,6 @@ impl Words {
         let kind = self.word();
         let place = self.word();
         let size = self.word();
-        Draw { kind, place, size }
+        StormDraw { kind, place, size }
     }
 }

@@ -1,7 +1,7 @@
 -- What is answered where a name is given: how, safely, to its end, and once.
 use Rattle.lens.specs.{Limit.report_limit, draw.Keeping.{AreFlags, AreLanes, IsKept, StandsIn, Tells}}
 use Rattle.lens.specs.draw.Naming.{AnswersNamed, CompletesNamed, IsKeptAnswer, IsNamedAnswer, IsNamedStatus, IsUnknown, LeavesNamed, LeavesUnnamed, Names, unknown_answer, view_of}
-use Rattle.lens.specs.{declared.{draw.subject.Subject.{Subject, TheVariants.{Frames, Lane}}, forms.Part.Part}, draw.{Answer.draw_answer, Spans.span_of}}
+use Rattle.lens.specs.{declared.{draw.subject.Subject.{Subject, TheVariants.{Frames, Lane}}, forms.RunPart.RunPart}, draw.{Answer.draw_answer, Spans.span_of}}
 use Rattle.{lens_svg.specs.{Views.flag_at, declared.layout.Span.Span}, schedule_checker.specs.Refusals.RefusalIsOne}
 use Rattle.net_plan.specs.{Bearers.IsFirstBearer, declared.network.Network.Network}
 use Rattle.net_plan.specs.declared.ids.{DeviceId.DeviceId, VlId.VlId}
@@ -95,7 +95,7 @@ one_lanes {network} {span} {records} {ns} {xs} {ys} p q =
     tells_same (unwrap_or (slice_get xs i) false) (unwrap_or (slice_get ys i) false)
     ((note : Note) × IsIn note ns × StandsIn network span records note i) (p.each i inside) (q.each i inside))
 
-kept_one : (words : List (List ℕ)) (part : Part) (subject : Subject) → IsOneFor (IsKeptAnswer words part subject)
+kept_one : (words : List (List ℕ)) (part : RunPart) (subject : Subject) → IsOneFor (IsKeptAnswer words part subject)
 kept_one words part subject network octets ns end a b rules of p q =
     let span = span_of network part in
     let records = one_flags p.are_kept q.are_kept in
@@ -108,7 +108,7 @@ kept_one words part subject network octets ns end a b rules of p q =
 
 -- ---- how it is given
 
-module _ (words : List (List ℕ)) (part : Part) (name : List ℕ) (network : Network) where
+module _ (words : List (List ℕ)) (part : RunPart) (name : List ℕ) (network : Network) where
   pub named_given : (subject : Subject) (second : Option (List ℕ)) (status : Status) (old new : Shown)
       → Names network name subject → ForOctets second
       (λ report. GivesAnswer (IsReportAnswer report_limit (IsKeptAnswer words part subject) report network) status
@@ -148,17 +148,17 @@ unread_unnamed name (Some octets) Unread unread = λ network other unknown. unre
 -- ---- safely
 
 -- the answers for the records, of whatever is named
-abbrev KeptOfAny : List (List ℕ) → Part → AnswersFor
+abbrev KeptOfAny : List (List ℕ) → RunPart → AnswersFor
 KeptOfAny words part network ns end a = (subject : Subject) × IsKeptAnswer words part subject network ns end a
 
-report_of_any : (words : List (List ℕ)) (part : Part) (subject : Subject) {report : List ℕ} {network : Network}
+report_of_any : (words : List (List ℕ)) (part : RunPart) (subject : Subject) {report : List ℕ} {network : Network}
     (a : Answer) → IsReportAnswer report_limit (IsKeptAnswer words part subject) report network a
     → IsReportAnswer report_limit (KeptOfAny words part) report network a
 report_of_any words part subject a (inl h) = inl h
 report_of_any words part subject a (inr (fits, inl h)) = inr (fits, inl h)
 report_of_any words part subject a (inr (fits, inr h)) = inr (fits, inr (h.0, h.1, h.2, (subject, h.3)))
 
-module _ (words : List (List ℕ)) (part : Part) (name : List ℕ) where
+module _ (words : List (List ℕ)) (part : RunPart) (name : List ℕ) where
   done_known : {report : List ℕ} {network : Network} (a : Answer) → Done ≡ a.status
       → IsNamedAnswer words part name report network a → IsReportAnswer report_limit
       (KeptOfAny words part) report network a
@@ -216,7 +216,7 @@ module _ (words : List (List ℕ)) (part : Part) (name : List ℕ) where
       (subst (λ s. IsReportAnswer report_limit (IsKeptAnswer words part s) report network a)
       (one_subject network name h.0 subject h.1 names) h.2)
 
-module _ (words : List (List ℕ)) (part : Part) (name octets report : List ℕ) (status : Status) (old new : Shown) (SourceRose SinkRose : Type 0)
+module _ (words : List (List ℕ)) (part : RunPart) (name octets report : List ℕ) (status : Status) (old new : Shown) (SourceRose SinkRose : Type 0)
     (read : status ≡ ReadFault → SourceRose) (write : status ≡ WriteFault → SinkRose) (quiet : SourceRose → ⊥) (calm : SinkRose → ⊥) where
   -- the whole answer was given, or memory ran out
   abbrev Whole : Type 0
@@ -246,7 +246,7 @@ module _ (words : List (List ℕ)) (part : Part) (name octets report : List ℕ)
   answers_named : GivesAnswer (IsNetworkAnswer (IsNamedAnswer words part name report) octets) status old new → AnswersNamed words part name octets report status
   answers_named given = answers_by (whole_or_less given)
 
-pub named_completed : (words : List (List ℕ)) (part : Part) (name : List ℕ) (first second : Option (List ℕ)) (status : Status) (old new : Shown) (SourceRose SinkRose : Type 0)
+pub named_completed : (words : List (List ℕ)) (part : RunPart) (name : List ℕ) (first second : Option (List ℕ)) (status : Status) (old new : Shown) (SourceRose SinkRose : Type 0)
     → GivesFiles (λ report. IsNamedAnswer words part name report) first second status old new → (status ≡ ReadFault → SourceRose)
     → (status ≡ WriteFault → SinkRose) → CompletesNamed words part name first second SourceRose SinkRose status
 named_completed words part name (Some octets) (Some report) status old new SourceRose SinkRose given read write = λ quiet calm.
@@ -256,7 +256,7 @@ named_completed words part name None second status old new SourceRose SinkRose g
 
 -- ---- once
 
-module _ (one : RefusalIsOne) (words : List (List ℕ)) (part : Part) (name : List ℕ) where
+module _ (one : RefusalIsOne) (words : List (List ℕ)) (part : RunPart) (name : List ℕ) where
   named_both : {report octets : List ℕ} {network : Network} → MeansAccepted octets network → (a b : Answer)
       → IsNamedAnswer words part name report network a → IsNamedAnswer words part name report network b → a ≡ b
   named_both means a b (inl p) (inl q) = p.1 ∙ sym q.1

@@ -1,7 +1,7 @@
 -- The events of a storm are of the network, and their numbers lie in their ranges.
 use Rattle.fault_hypothesis.proofs.storm_lemmas.{Belongings.{some_device, some_link, uplink_within}, Storms.{storm_number, storm_time, time_in_run}}
 use Rattle.fault_hypothesis.{proofs.storm_lemmas.Masters.master_within, specs.storm.Events.{IsChosen, IsDrawn, IsStormEvent, substitute, time_of}}
-use Rattle.fault_hypothesis.specs.{declared.storm.draw.Draw.Draw, storm.Choosing.{channel_of, choice_of, device_of, hold_of, link_of, rate_of, way_of, wire_of}}
+use Rattle.fault_hypothesis.specs.{declared.storm.draw.StormDraw.StormDraw, storm.Choosing.{channel_of, choice_of, device_of, hold_of, link_of, rate_of, way_of, wire_of}}
 use Rattle.{fault_hypothesis.specs.storm.Striking.Strikes, net_plan.specs.Ranges.{IsInRange, IsLinkInRange}, tte_units.proofs.general_lemmas.Lists.in_all}
 use Rattle.{fault_hypothesis.specs.storm.Words.draw_at, net_plan.specs.declared.{event.What.What, tables.Link.Link}, tte_units.specs.declared.units.Units.Units}
 use Rattle.{net_plan.specs.{Belonging.IsOfNetwork, Places.link_at}, schedule_tables.specs.Rules.KeepsRules, tte_units.specs.Amount.amount}
@@ -21,7 +21,7 @@ ranged_as {network} what same ranged = subst (IsRanged network) (sym same) range
 
 -- ---- what a draw chooses
 
-module _ (network : Network) (range : IsInRange network) (rules : KeepsRules network) (draw : Draw) where
+module _ (network : Network) (range : IsInRange network) (rules : KeepsRules network) (draw : StormDraw) where
   device_there : (device_of network draw).0 < length network.device
   device_there = mod-lt draw.place (some_device network rules)
 

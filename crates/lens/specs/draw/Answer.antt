@@ -1,7 +1,7 @@
 -- What `draw` answers for a report.
 use Rattle.std.specs.Prelude.{◌≡◌, ◌++◌, if◌then◌else◌, List, None, ℕ}
 use Rattle.{lens.specs.draw.Picture.{back_lines, front_lines, picture_lines}, lens_svg.specs.declared.layout.Span.Span}
-use Rattle.lens.specs.{declared.forms.Part.Part, draw.Spans.span_of}
+use Rattle.lens.specs.{declared.forms.RunPart.RunPart, draw.Spans.span_of}
 use Rattle.lens_svg.specs.{Clocks.Clocks, Sketching.{fits, plan_of}, declared.{mark.Mark.Mark, window.Came.Came}}
 use Rattle.{run_law.specs.declared.note.Note.Note, tte_forms.specs.Answering.Answer}
 use Rattle.lens_svg.specs.{Plan.Plan, Titles.title_of, Views.View}
@@ -34,5 +34,5 @@ IsDrawAnswer words span network notes end a =
     IsViewAnswer (record { span = span; kept = None; title = title_of words }) network notes end a
 
 -- the answer for a part of the run
-abbrev pub IsPartAnswer : List (List ℕ) → Part → Network → List Note → Units → Answer → Type 0
+abbrev pub IsPartAnswer : List (List ℕ) → RunPart → Network → List Note → Units → Answer → Type 0
 IsPartAnswer words part network notes end a = IsDrawAnswer words (span_of network part) network notes end a

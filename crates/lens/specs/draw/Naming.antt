@@ -1,6 +1,6 @@
 -- What `draw` answers where a name is given.
 use Rattle.std.specs.Prelude.{◌≡◌, ◌≤◌, ◌⊎◌, Bool, List, None, Option, Some, codes, length, ℕ}
-use Rattle.lens.specs.{declared.{draw.subject.Subject.{Subject, TheVariants.{Frames, Lane}}, forms.Part.Part}, draw.Keeping.{AreFlags, AreLanes}}
+use Rattle.lens.specs.{declared.{draw.subject.Subject.{Subject, TheVariants.{Frames, Lane}}, forms.RunPart.RunPart}, draw.Keeping.{AreFlags, AreLanes}}
 use Rattle.{lens.specs.{Limit.report_limit, draw.{Answer.IsViewAnswer, Spans.span_of}}, lens_svg.specs.{Titles.title_of, Views.View, declared.layout.Span.Span}}
 use Rattle.net_plan.specs.Bearers.{HasNoBearer, IsFirstBearer, device_names, vl_names}
 use Rattle.net_plan.specs.declared.network.Network.{Network}
@@ -33,7 +33,7 @@ view_of words span records lanes =
     record { span = span; kept = Some (record { records = records; lanes = lanes }); title = title_of words }
 
 -- the answer for the records of a report: the picture of those in the part that are kept, in their lanes
-pub record IsKeptAnswer (words : List (List ℕ)) (part : Part) (subject : Subject) (network : Network) (ns : List Note)
+pub record IsKeptAnswer (words : List (List ℕ)) (part : RunPart) (subject : Subject) (network : Network) (ns : List Note)
     (end : Units) (a : Answer) : Type 0 where
   pub records : List Bool
   pub lanes : List Bool
@@ -42,7 +42,7 @@ pub record IsKeptAnswer (words : List (List ℕ)) (part : Part) (subject : Subje
   pub is : IsViewAnswer (view_of words (span_of network part) records lanes) network ns end a
 
 -- the answer for an accepted network and the octets of a report, of which the name may be unknown
-abbrev pub IsNamedAnswer : List (List ℕ) → Part → List ℕ → List ℕ → Network → Answer → Type 0
+abbrev pub IsNamedAnswer : List (List ℕ) → RunPart → List ℕ → List ℕ → Network → Answer → Type 0
 IsNamedAnswer words part name report network a =
     (IsUnknown network name × (a ≡ unknown_answer))
     ⊎ ((subject : Subject) × Names network name subject
@@ -65,7 +65,7 @@ LeavesUnnamed name (Some octets) Unread =
 
 -- an accepted network that has no such name is answered so, and the report of one that has, if it isn't too long, is
 -- drawn to the end, unless memory ran out
-pub record AnswersNamed (words : List (List ℕ)) (part : Part) (name octets report : List ℕ) (status : Status)
+pub record AnswersNamed (words : List (List ℕ)) (part : RunPart) (name octets report : List ℕ) (status : Status)
     : Type 0 where
   pub unknown : (network : Network) → MeansAccepted octets network → IsUnknown network name
       → (status ≡ OutOfMemory) ⊎ (status ≡ NameRefused)
@@ -74,7 +74,7 @@ pub record AnswersNamed (words : List (List ℕ)) (part : Part) (name octets rep
       → (status ≡ OutOfMemory) ⊎ ((a : Answer) × IsKeptAnswer words part subject network ns end a × (status ≡ a.status))
 
 -- so it is, where the octets are told and no count of faults rose
-abbrev pub CompletesNamed : List (List ℕ) → Part → List ℕ → Option (List ℕ) → Option (List ℕ) → Type 0 → Type 0 → Status
+abbrev pub CompletesNamed : List (List ℕ) → RunPart → List ℕ → Option (List ℕ) → Option (List ℕ) → Type 0 → Type 0 → Status
     → Type 0
 CompletesNamed words part name (Some octets) (Some report) SourceRose SinkRose status =
     (SourceRose → ⊥) → (SinkRose → ⊥) → AnswersNamed words part name octets report status

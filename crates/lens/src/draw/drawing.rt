@@ -11,7 +11,7 @@ ghost use Rattle.tte_forms.specs.{Answering.{Gives, GivesAnswer}, Faults.{HasCau
 use crate::draw::marks::put_back;
 use crate::draw::putting::put_front;
 use crate::draw::windows::windows_of;
-use lens_svg::{Came, Clocks, Kept, Sketch, Span, Title};
+use lens_svg::{Came, Clocks, DrawnRecords, Sketch, Span, Title};
 use net_plan::Network;
 use run_law::Note;
 use std::alloc::Global;
@@ -38,7 +38,7 @@ impl<'a, K: Sink> ReportCommand<K> for Draw<'a> {
     ghost audits = { λ command status is. is };
 
     fn put(&self, alloc: Global, network: &Network, report: &AuditedReport, out: &mut K) -> Status {
-        let kept = Kept { flags: None };
+        let kept = DrawnRecords { flags: None };
         let title = Title::of(self.words);
         draw_known(alloc, network, report, self.span, kept, title, out)
     }
@@ -50,7 +50,7 @@ pub(crate) fn draw_known<K: Sink>(
     network: &Network,
     report: &AuditedReport,
     span: Span,
-    kept: Kept,
+    kept: DrawnRecords,
     title: Title,
     out: &mut K,
 ) -> Status
@@ -97,7 +97,7 @@ fn draft_of(
     alloc: Global,
     network: &Network,
     span: Span,
-    kept: Kept,
+    kept: DrawnRecords,
     title: Title,
     report: &AuditedReport,
 ) -> Result<Draft, OutOfMemory>

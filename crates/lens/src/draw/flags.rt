@@ -19,12 +19,12 @@ use tte_units::magnitude;
 
 /// Which of the records so far are of a thing.
 #[derive(Drop)]
-struct Own {
+struct OwnFlags {
     subject: Subject,
     flags: Vec<bool>,
 }
 
-impl RecordTaker for Own {
+impl RecordTaker for OwnFlags {
     ghost holds = { λ network notes before begun own. (own.subject ≡ begun.subject)
         × AreOwn network begun.subject notes before own.flags.items };
 
@@ -60,7 +60,7 @@ fn own_flags(
     let Ok(flags) = Vec::with_capacity(alloc, report.count() as usize) else {
         return Err(OutOfMemory);
     };
-    let mut own = Own { subject, flags };
+    let mut own = OwnFlags { subject, flags };
     take_records(report, network, &mut own)?;
     Ok(own.flags)
 }

@@ -14,9 +14,9 @@ use crate::draw::drawing::draw_known;
 use crate::draw::flags::kept_flags;
 use crate::draw::spans::span_of;
 use crate::draw::subject::{Subject, subject_named};
-use crate::forms::Part;
+use crate::forms::RunPart;
 use crate::questions::REPORT_LIMIT;
-use lens_svg::{Kept, Title};
+use lens_svg::{DrawnRecords, Title};
 use net_plan::Network;
 use schedule_tables::Accepted;
 use std::alloc::Global;
@@ -28,7 +28,7 @@ use tte_reports::{AuditedReport, ReportCommand, answer_accepted};
 #[derive(Drop)]
 struct DrawKept<'a> {
     words: &'a Words,
-    part: Part,
+    part: RunPart,
     subject: Subject,
 }
 
@@ -59,7 +59,7 @@ fn draw_kept<K: Sink>(
     network: &Network,
     report: &AuditedReport,
     words: &Words,
-    part: Part,
+    part: RunPart,
     subject: Subject,
     out: &mut K,
 ) -> Status
@@ -76,7 +76,7 @@ fn draw_kept<K: Sink>(
         Ok(flags) => flags,
         Err(_) => return Status::OutOfMemory,
     };
-    let kept = Kept { flags: Some(flags) };
+    let kept = DrawnRecords { flags: Some(flags) };
     let title = Title::of(words);
     draw_known(alloc, network, report, span, kept, title, out)
 }
@@ -90,7 +90,7 @@ pub(crate) fn draw_named<A: Source, B: Source, K: Sink>(
     first: &mut A,
     second: &mut B,
     words: &Words,
-    part: Part,
+    part: RunPart,
     name: &str,
     out: &mut K,
 ) -> Status
@@ -120,7 +120,7 @@ fn draw_accepted<B: Source, K: Sink>(
     accepted: &Accepted,
     second: &mut B,
     words: &Words,
-    part: Part,
+    part: RunPart,
     name: &str,
     out: &mut K,
 ) -> Status

@@ -2,16 +2,16 @@
 ghost use Rattle.std.specs.Prelude.{◌≡◌};
 ghost use Rattle.lens.specs.draw.Spans.{span_of};
 
-use crate::forms::Part;
+use crate::forms::RunPart;
 use lens_svg::Span;
 use net_plan::Network;
 
 /// The world times of the part: those of a cycle from its beginning to the next one's less 1.
-pub(crate) fn span_of(network: &Network, part: Part) -> Span
+pub(crate) fn span_of(network: &Network, part: RunPart) -> Span
     ensures { result ≡ span_of network.now part }
 {
     match part {
-        Part::Cycle { number } => {
+        RunPart::Cycle { number } => {
             let number = u64::from(number);
             let cycle = network.cycle.0.unsigned_abs();
             let next = (number + 1).saturating_mul(cycle);
@@ -20,6 +20,6 @@ pub(crate) fn span_of(network: &Network, part: Part) -> Span
                 to: next.saturating_sub(1),
             }
         }
-        Part::Times { from, to } => Span { from, to },
+        RunPart::Times { from, to } => Span { from, to },
     }
 }

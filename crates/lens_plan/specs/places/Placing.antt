@@ -1,6 +1,6 @@
 -- The places of a message's rows along a way, in a phase.
 use Rattle.std.specs.{List.All, Option.option_map_or, Prelude.{◌*◌, ◌+◌, ◌^◌, ◌∷◌, ◌≡◌, ◌≤◌, List, [], ℕ}}
-use Rattle.lens_plan.specs.declared.places.{offsets.Slot.Slot, placing.{Placed.Placed, Trial.Trial}, ways.Hop.Hop}
+use Rattle.lens_plan.specs.declared.places.{offsets.MessageRow.MessageRow, placing.{Placed.Placed, Trial.Trial}, ways.Hop.Hop}
 use Rattle.lens_plan.specs.places.Offsets.{AreSmall, IsLeastOffset}
 use Rattle.net_plan.specs.{Bounds.gamma_of, Places.link_at, Ranges.IsInRange}
 use Rattle.net_plan.specs.declared.{ids.LinkId.LinkId, network.Network.Network}
@@ -15,7 +15,7 @@ abbrev pub delay_on : Network → LinkId → ℕ
 delay_on network link = option_map_or (λ l. amount l.wire + amount l.jitter) (link_at network link) 0
 
 -- the row of the hop
-abbrev pub slot_of : Trial → Hop → Slot
+abbrev pub slot_of : Trial → Hop → MessageRow
 slot_of trial hop = record {
   link = hop.link;
   way = hop.way;

@@ -3,7 +3,7 @@ ghost use Rattle.{lens_plan.specs.messages.Steps.{IsFault, IsRead}, net_plan.spe
 ghost use Rattle.lens_plan.specs.messages.{Lines.{AreNoMessages, fault_at, is_passed, messages_read}, Reading.message_reader};
 ghost use Rattle.{lens_plan.specs.places.Fitting.IsAsked, trace_text.specs.Steps.words};
 
-use crate::messages::line::Line;
+use crate::messages::line::MessageWords;
 use crate::messages::lines::Lines;
 use crate::messages::refusal::LineFault;
 use crate::{Message, MessageRefusal, NoMessages, RefusedLine};
@@ -25,7 +25,7 @@ fn message_of(
     ensures asked { IfOk result (IsAsked network.now) }
     ensures fault { IfErr result (IsFault (message_reader network.now earlier.now (words text.now))) }
 {
-    let mut line = Line::of(text);
+    let mut line = MessageWords::of(text);
     let head = match line.head(network, earlier) {
         Ok(head) => head,
         Err(refusal) => return Err(LineFault::Refused(refusal)),

@@ -9,13 +9,13 @@ use trace_text::Words;
 
 /// The words of a line that are left, the next one at hand.
 #[derive(Drop)]
-pub(crate) struct Line<'a> {
+pub(crate) struct MessageWords<'a> {
     // It is None where the line has ended.
     next: Option<&'a [u8]>,
     rest: Words<'a>,
 }
 
-impl<'a> Model for Line<'a> {
+impl<'a> Model for MessageWords<'a> {
     ghost use Rattle.std.specs.Prelude.{◌≡◌, IfNone, List, [], ℕ};
     ghost use Rattle.lens_plan.specs.messages.Steps.{words_from};
 
@@ -26,14 +26,14 @@ impl<'a> Model for Line<'a> {
     ghost invariant = { λ l. IfNone l.next (l.rest ≡ []) };
 }
 
-impl<'a> Line<'a> {
+impl<'a> MessageWords<'a> {
     /// The words of a line.
-    pub(crate) fn of(line: &'a [u8]) -> Line<'a>
+    pub(crate) fn of(line: &'a [u8]) -> MessageWords<'a>
         ensures { result ≡ words line.now }
     {
         let mut rest = Words::of(line);
         let next = rest.next_word();
-        Line { next, rest }
+        MessageWords { next, rest }
     }
 
     /// Has the line ended?

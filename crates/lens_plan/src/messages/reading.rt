@@ -3,7 +3,7 @@ ghost use Rattle.lens_plan.specs.messages.{Message.{gives_id, id_is_taken, name_
 ghost use Rattle.lens_plan.specs.messages.Reading.{ethertype, head, id, name, timing};
 ghost use Rattle.lens_plan.specs.messages.Words.{number, time};
 
-use crate::messages::line::Line;
+use crate::messages::line::MessageWords;
 use crate::messages::words::is_name_text;
 use crate::{Message, MessageRefusal};
 use net_plan::{Name, Network};
@@ -90,7 +90,7 @@ fn id_is_taken(network: &Network, earlier: &[Message], id: u16) -> bool
     vl_has_id(network, id) || message_gives_id(earlier, id)
 }
 
-impl<'a> Line<'a> {
+impl<'a> MessageWords<'a> {
     /// The message's name.
     #[tactic(auto, using(trace_text::proofs::Bearing::name_is_utf8), unfolding(crate::specs::messages::Reading::name))]
     fn name(&mut self, network: &Network, earlier: &[Message]) -> Result<Name, MessageRefusal>

@@ -3,7 +3,7 @@ ghost use Rattle.{lens_plan.specs.messages.Steps.{IsFault, IsRead, Reads}, net_p
 ghost use Rattle.lens_plan.specs.messages.Reading.{receiver, sender, some_receivers};
 
 use crate::MessageRefusal;
-use crate::messages::line::Line;
+use crate::messages::line::MessageWords;
 use crate::messages::refusal::LineFault;
 use crate::messages::words::end_system_spelled;
 use net_plan::{DeviceId, Network};
@@ -16,7 +16,7 @@ fn is_among(device: DeviceId, others: &[DeviceId]) -> bool
     others.iter().any(|other| other.0 == device.0)
 }
 
-impl<'a> Line<'a> {
+impl<'a> MessageWords<'a> {
     /// The sender, between its two words.
     #[tactic(auto, unfolding(crate::specs::messages::Reading::sender))]
     pub(crate) fn sender(&mut self, network: &Network) -> Result<DeviceId, MessageRefusal>

@@ -7,7 +7,7 @@ ghost use Rattle.lens_plan.specs.messages.Values.{time_spelled};
 ghost use Rattle.lens_plan.specs.messages.Words.{end_system, number, period, time};
 
 use crate::MessageRefusal;
-use crate::messages::line::Line;
+use crate::messages::line::MessageWords;
 use net_plan::{DeviceId, Network};
 use trace_text::device_spelled;
 use tte_forms::number_up_to;
@@ -124,7 +124,7 @@ pub(crate) fn end_system_spelled(network: &Network, text: &[u8]) -> Option<Devic
     }
 }
 
-impl<'a> Line<'a> {
+impl<'a> MessageWords<'a> {
     /// A number from `least` to `most`.
     #[tactic(auto, unfolding(crate::specs::messages::Words::number))]
     pub(crate) fn number(&mut self, least: u64, most: u64) -> Result<u64, MessageRefusal>

@@ -7,7 +7,7 @@ ghost use Rattle.net_plan.specs.{Paths.IsTree, Ranges.IsInRange};
 use crate::Message;
 use crate::places::best::Attempt;
 use crate::places::fitting::best_behind;
-use crate::places::offsets::{Slot, Taken};
+use crate::places::offsets::{MessageRow, Taken};
 use crate::places::placing::{Placed, port_on};
 use net_plan::Network;
 use std::alloc::Global;
@@ -21,7 +21,7 @@ fn taken_of(network: &Network, message: &Message, phase: u32, placed: &Placed) -
     ensures small { AreSmall result }
 {
     Taken {
-        slot: Slot {
+        slot: MessageRow {
             link: placed.hop.link,
             way: placed.hop.way,
             period: message.period,

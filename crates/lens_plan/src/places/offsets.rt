@@ -6,7 +6,7 @@ use net_plan::{LinkId, Way};
 
 /// A row by its port, the cycles in which it occurs, and how long its frame is on the port, in units of 2^-16 ns.
 #[derive(Clone, Copy)]
-pub(crate) struct Slot {
+pub(crate) struct MessageRow {
     pub(crate) link: LinkId,
     pub(crate) way: Way,
     pub(crate) period: u32,
@@ -17,12 +17,12 @@ pub(crate) struct Slot {
 /// A row with its offset.
 #[derive(Clone, Copy)]
 pub(crate) struct Taken {
-    pub(crate) slot: Slot,
+    pub(crate) slot: MessageRow,
     pub(crate) offset: u64,
 }
 
 /// Do the two rows go by one port, and occur in one cycle?
-fn meets(one: &Slot, other: &Slot) -> bool
+fn meets(one: &MessageRow, other: &MessageRow) -> bool
     requires period { 1 ≤ one.now.period }
     requires other { 1 ≤ other.now.period }
     ensures { IsTrue result ↔ Meets one.now other.now }
@@ -32,7 +32,7 @@ fn meets(one: &Slot, other: &Slot) -> bool
 }
 
 /// Does the row, dispatched at the offset, hit the other?
-fn hits(gamma: u64, slot: &Slot, offset: u64, other: &Taken) -> bool
+fn hits(gamma: u64, slot: &MessageRow, offset: u64, other: &Taken) -> bool
     requires slot { 1 ≤ slot.now.period }
     requires port { slot.now.port ≤ 2 ^ 40 }
     requires gamma { gamma ≤ 2 ^ 42 }
@@ -47,7 +47,7 @@ fn hits(gamma: u64, slot: &Slot, offset: u64, other: &Taken) -> bool
 
 /// When a row is clear that the row, dispatched at the offset, hits: the first of such rows. It is None where it hits
 /// none.
-fn hit(gamma: u64, slot: &Slot, offset: u64, rows: &[Taken]) -> Option<u64>
+fn hit(gamma: u64, slot: &MessageRow, offset: u64, rows: &[Taken]) -> Option<u64>
     requires slot { 1 ≤ slot.now.period }
     requires port { slot.now.port ≤ 2 ^ 40 }
     requires gamma { gamma ≤ 2 ^ 42 }
@@ -67,7 +67,7 @@ fn hit(gamma: u64, slot: &Slot, offset: u64, rows: &[Taken]) -> Option<u64>
 
 /// The least offset from `from` on at which the row stands clear of these rows: each that it meets is on the port, and
 /// gamma more, before or after its own frame.
-pub(crate) fn least_offset(gamma: u64, slot: &Slot, from: u64, rows: &[Taken]) -> u64
+pub(crate) fn least_offset(gamma: u64, slot: &MessageRow, from: u64, rows: &[Taken]) -> u64
     requires slot { 1 ≤ slot.now.period }
     requires port { slot.now.port ≤ 2 ^ 40 }
     requires gamma { gamma ≤ 2 ^ 42 }

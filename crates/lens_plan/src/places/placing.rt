@@ -5,7 +5,7 @@ ghost use Rattle.lens_plan.specs.places.Placing.{delay_on, port_on, slot_of};
 ghost use Rattle.{lens_plan.specs.places.Ways.Adds, net_plan.specs.Ranges.IsInRange};
 
 use crate::Message;
-use crate::places::offsets::{Slot, Taken, least_offset};
+use crate::places::offsets::{MessageRow, Taken, least_offset};
 use crate::places::ways::Hop;
 use net_plan::{LinkId, Network};
 use tte_io::OutOfMemory;
@@ -60,13 +60,13 @@ fn delay_on(network: &Network, link: LinkId) -> u64
 }
 
 /// The row of the hop.
-fn slot_of(trial: &Trial<'_>, hop: Hop) -> Slot
+fn slot_of(trial: &Trial<'_>, hop: Hop) -> MessageRow
     requires { IsTrial trial.now }
     ensures value { result ≡ slot_of trial.now hop }
     ensures port { result.port ≤ 2 ^ 40 }
 {
     let message = trial.message;
-    Slot {
+    MessageRow {
         link: hop.link,
         way: hop.way,
         period: message.period,

@@ -4,7 +4,7 @@ ghost use Rattle.lens_plan.specs.places.{Offsets.AreSmall, There.{AreThere, take
 ghost use Rattle.net_plan.specs.{Ranges.{IsInRange}, declared.network.Network.{Network as NetworkValue}};
 ghost use Rattle.schedule_tables.specs.Entries.{IsEntryInRange};
 
-use crate::places::offsets::{Slot, Taken};
+use crate::places::offsets::{MessageRow, Taken};
 use net_plan::{Network, RowId};
 use schedule_tables::{Entry, entry_of};
 use std::alloc::Global;
@@ -17,7 +17,7 @@ fn taken_by(entry: &Entry) -> Taken
     ensures small { AreSmall result }
 {
     Taken {
-        slot: Slot {
+        slot: MessageRow {
             link: entry.row.link,
             way: entry.row.way,
             period: entry.vl.period,

@@ -2,7 +2,7 @@
 use Rattle.{lens_slack.proofs.least_lemmas.SamePlan.{beta_is, path_back}, std.proofs.Common.{◌*◌, ◌+◌, ◌≡◌, ◌≤◌, arith, max, pos, refl, subst, sym, ℕ}}
 use Rattle.lens_slack.{proofs.least_lemmas.SameShape.{rules_below, shape_with}, specs.least.Parts.{IsLongest, IsPortTimeOf, IsStartOf, IsSteady, drift_over}}
 use Rattle.{lens_slack.specs.{Bounds.IsBoundAt, Tightest.IsEnough, least.Least.Suffices}, schedule_checker.specs.Timing.errors_of}
-use Rattle.{lens_slack.specs.declared.{least.times.Times.Times, spot.Spot.TheVariants.Begin}, net_plan.specs.Bounds.{IsBeta, IsGreatest, gamma_of}}
+use Rattle.{lens_slack.specs.declared.{least.times.Times.Times, spot.BoundedNumber.TheVariants.Begin}, net_plan.specs.Bounds.{IsBeta, IsGreatest, gamma_of}}
 use Rattle.{lens_slack.specs.{declared.spot.Finding.Finding, least.Times.with_times}, net_plan.specs.declared.{ids.DeviceId.DeviceId, network.Network.Network}}
 use Rattle.{net_plan.specs.Ranges.IsInRange, tte_units.specs.Amount.amount}
 use Rattle.schedule_tables.specs.{Delays.{CorrectionFits, DelaysFit, ErrorsSettle, PrecisionFits, delay_on, pcf_port_time}, Rules.KeepsBelow}

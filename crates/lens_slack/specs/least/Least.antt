@@ -3,7 +3,7 @@ use Rattle.std.specs.Prelude.{ℕ}
 use Rattle.lens_slack.specs.Bounds.{IsBoundAt}
 use Rattle.{lens_slack.specs.{Tightest.IsEnough, declared.spot.Finding.Finding}, schedule_tables.specs.Rules.KeepsBelow}
 use Rattle.{lens_slack.specs.declared.least.times.Times.Times, net_plan.specs.declared.network.Network.Network}
-use Rattle.lens_slack.specs.{declared.spot.Spot.TheVariants.Begin, least.Times.{AreAtMost, with_times}}
+use Rattle.lens_slack.specs.{declared.spot.BoundedNumber.TheVariants.Begin, least.Times.{AreAtMost, with_times}}
 
 -- the network keeps rules 1 to 11, and its schedule begins as late as rule 12 wants; whether the cycle has room for
 -- that is not asked

@@ -8,7 +8,7 @@ ghost use Rattle.lens_slack.specs.least.Answer.{IsLeastAnswer, IsLeastOf, room_o
 use crate::least::Times;
 use crate::least::computing::least_times;
 use crate::least::lines::{make_keys, make_least_line};
-use crate::{Beside, Finding, Spot, make_finding_line, put_broken};
+use crate::{Beside, BoundedNumber, Finding, make_finding_line, put_broken};
 use net_plan::Network;
 use schedule_checker::judge_shape;
 use std::alloc::Global;
@@ -108,7 +108,7 @@ fn room_of(network: &Network, times: &Times) -> Finding
     ensures { result ≡ room_of network.now times.now }
 {
     Finding {
-        spot: Spot::End,
+        spot: BoundedNumber::End,
         has: network.cycle.amount(),
         wants: times.tt_start + 4 * times.precision,
         beside: Beside::Nothing,

@@ -1,7 +1,7 @@
 use crate::judges::networks::master;
 use audit_devices::Shown;
 use audit_devices::clocks::{
-    Moment, Point, Sending, coming_cycle, coming_point, next_sending, reaches, sends,
+    DeviceMoment, MasterSending, Point, coming_cycle, coming_point, next_sending, reaches, sends,
 };
 use audit_law::events::EventHistory;
 use device_rules::PointVerdict;
@@ -15,19 +15,19 @@ fn a_lone_master_sends_and_then_loses_the_time(rt: HostRuntime) -> Result<(), Fa
     let events = EventHistory::new(rt.alloc(), &network)?;
     let device = DeviceId(0);
     let shown = Shown::new(&network, device);
-    let sending = Sending {
+    let sending = MasterSending {
         cycle: 1,
         time: 131_072_000_000,
     };
     assert!(rt; next_sending(&network, &events, device, &shown, 0, 1 << 40) == Some(sending));
-    let moment = Moment::of(&events, device, sending.time);
+    let moment = DeviceMoment::of(&events, device, sending.time);
     let told = [
         reaches(&shown, moment.readings, 131_072_000_000),
         sends(&network, device, &shown, moment, 1),
         sends(&network, device, &shown, moment, 2),
     ];
     assert!(rt; told == [true, true, false]);
-    let later = Moment::of(&events, device, 149_422_080_000);
+    let later = DeviceMoment::of(&events, device, 149_422_080_000);
     let cycles = [
         coming_cycle(&network, &shown, moment),
         coming_cycle(&network, &shown, later),

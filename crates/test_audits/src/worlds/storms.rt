@@ -1,5 +1,5 @@
 use fault_hypothesis::Watch;
-use fault_hypothesis::storm::{Draw, Storm, Words};
+use fault_hypothesis::storm::{Storm, StormDraw, Words};
 use net_plan::{Event, What};
 use schedule_tables::Accepted;
 use std::process::Abort;
@@ -122,7 +122,7 @@ const DRAWN: [[u32; 3]; 3] = [
 ];
 
 /// The words of a step as they were drawn.
-fn in_turn(draw: Draw) -> [u32; 3] {
+fn in_turn(draw: StormDraw) -> [u32; 3] {
     [draw.kind, draw.place, draw.size]
 }
 

@@ -1,8 +1,8 @@
 use std::test::Fail;
-use world_state::timers::{Due, NEVER, Timers};
+use world_state::timers::{NEVER, SlotTimer, Timers};
 
-fn at(time: u64, rank: u8, slot: usize) -> Option<Due> {
-    Some(Due { time, rank, slot })
+fn at(time: u64, rank: u8, slot: usize) -> Option<SlotTimer> {
+    Some(SlotTimer { time, rank, slot })
 }
 
 #[test]

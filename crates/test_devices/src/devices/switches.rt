@@ -7,7 +7,7 @@ use run_law::{Arrival, Reason};
 use std::alloc::{AllocError, Global};
 use std::process::Abort;
 use std::test::Fail;
-use switch_ports::{Departure, Held, LeavingRow, Peer, Port, Site, Standpoint, Taking};
+use switch_ports::{Departure, Held, Peer, Port, Site, Standpoint, SwitchRow, TakenFrameAt};
 use sync_state::{State, SyncPlan};
 use tte_units::Units;
 use tte_units::frames::{Channel, Mac, Members, Pcf, PcfKind};
@@ -81,7 +81,7 @@ fn departure(link: u8, place: u8, held: Option<Held>, awaited: Option<Held>) -> 
     requires awaited { IfSome awaited IsHeldFit }
     ensures { IsFit result }
 {
-    let of = LeavingRow {
+    let of = SwitchRow {
         row: RowId(7),
         link: LinkId(u32::from(link)),
         vl: VlId(5),
@@ -103,10 +103,10 @@ fn held(cycle: u32, value: u16) -> Held
     }
 }
 
-fn taking(cycle: u32, at: i64) -> Taking
+fn taking(cycle: u32, at: i64) -> TakenFrameAt
     ensures { result.cycle ≡ cycle }
 {
-    Taking {
+    TakenFrameAt {
         vl: VlId(5),
         cycle,
         at: Units(at),

@@ -1,4 +1,4 @@
-use lens::forms::{Form, Part, Question, read_form};
+use lens::forms::{Form, Question, RunPart, read_form};
 use schedule_tables::Rule;
 use std::alloc::Global;
 use std::process::Abort;
@@ -39,7 +39,7 @@ enum Read {
     Schedule,
     Plan,
     Report(Question),
-    Named(Part),
+    Named(RunPart),
     Events(u64, u32),
 }
 
@@ -144,11 +144,11 @@ const TIMES: &[(&str, &str, u64, u64)] = &[
 fn words_of_draw_are_read(rt: HostRuntime) -> Result<(), Fail> {
     let alloc = rt.alloc();
     for (cycle, number) in CYCLES {
-        let part = Part::Cycle { number: *number };
+        let part = RunPart::Cycle { number: *number };
         try_question(&rt, alloc, &["draw", "a", "b", cycle], Question::Draw(part))?;
     }
     for (first, last, from, to) in TIMES {
-        let part = Part::Times {
+        let part = RunPart::Times {
             from: *from,
             to: *to,
         };
@@ -163,30 +163,30 @@ fn words_of_draw_are_read(rt: HostRuntime) -> Result<(), Fail> {
 }
 
 // A cycle and a name, and names behind two times, of which one reads as a time.
-const NAMED: &[(&[&str], Part, &str)] = &[
+const NAMED: &[(&[&str], RunPart, &str)] = &[
     (
         &["draw", "a", "b", "5", "x_1"],
-        Part::Cycle { number: 5 },
+        RunPart::Cycle { number: 5 },
         "x_1",
     ),
     (
         &["draw", "a", "b", "5", "4s"],
-        Part::Cycle { number: 5 },
+        RunPart::Cycle { number: 5 },
         "4s",
     ),
     (
         &["draw", "a", "b", "5", "ms"],
-        Part::Cycle { number: 5 },
+        RunPart::Cycle { number: 5 },
         "ms",
     ),
     (
         &["draw", "a", "b", "0", "7", "x"],
-        Part::Times { from: 0, to: 7 },
+        RunPart::Times { from: 0, to: 7 },
         "x",
     ),
     (
         &["draw", "a", "b", "0", "7", "7us"],
-        Part::Times { from: 0, to: 7 },
+        RunPart::Times { from: 0, to: 7 },
         "7us",
     ),
 ];

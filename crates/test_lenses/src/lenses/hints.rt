@@ -3,7 +3,7 @@ use std::alloc::Global;
 use std::process::Abort;
 use std::test::Fail;
 use std::{slice, str};
-use tte_hints::{Form, Program, forms_of};
+use tte_hints::{CommandForm, Program, forms_of};
 use tte_io::{MemorySink, SteadySource};
 use worked_network::words_of;
 
@@ -22,7 +22,7 @@ fn usage(rt: &impl Abort, alloc: Global) -> Result<MemorySink, Fail> {
 fn is_next(
     rt: &impl Abort,
     alloc: Global,
-    forms: &mut slice::Iter<'_, Form>,
+    forms: &mut slice::Iter<'_, CommandForm>,
     text: &str,
 ) -> Result<(), Fail> {
     let form = forms.next().ok_or("a form is lacking")?;

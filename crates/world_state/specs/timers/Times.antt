@@ -1,7 +1,7 @@
 -- Timers of slots, and the first.
 use Rattle.run_law.specs.records.Order.{IsBefore}
 use Rattle.std.specs.Prelude.{◌-◌, ◌<◌, ◌^◌, ◌∷◌, ◌≡◌, ◌≢◌, ◌≤◌, All, List, Some, [], length, slice_get, ℕ}
-use Rattle.world_state.specs.declared.timers.{Due.Due, Timer.Timer}
+use Rattle.world_state.specs.declared.timers.{SlotTimer.SlotTimer, Timer.Timer}
 
 -- the time of a slot that is never due
 abbrev pub never : ℕ
@@ -17,7 +17,7 @@ AreFrom time timers = All (λ (t : Timer). time ≤ t.time) timers
 
 -- the slot has this timer, whose time is a true one; none has an earlier, or one of the same time and a lower rank, and
 -- none below it has the same
-pub record IsFirst (timers : List Timer) (due : Due) : Type 0 where
+pub record IsFirst (timers : List Timer) (due : SlotTimer) : Type 0 where
   pub inside : due.slot < length timers
   pub timer : slice_get timers due.slot ≡ Some (record { time = due.time; rank = due.rank })
   pub true_time : due.time ≢ never

@@ -4,7 +4,7 @@ use Rattle.{audit_law.specs.law.Owed.Pays, net_plan.specs.declared.ids.VlId.VlId
 use Rattle.audit_sweep.proofs.{records_lemmas.dispatches_lemmas.Rows.{no_row, placed}, unpaid_lemmas.Among.{first_of_both, first_of_more}}
 use Rattle.audit_sweep.{proofs.unpaid_lemmas.dispatches_lemmas.RowFacts.reached_later, specs.records.dispatches.Leaving.{AreRowsOn, IsRowOn, leaving_by}}
 use Rattle.audit_sweep.specs.{declared.records.dispatches.leaving.LeavingRow.LeavingRow, unpaid.dispatches.Frames.{IsBy, IsTold, OwesFrame, dispatch_of}}
-use Rattle.audit_sweep.specs.{declared.unpaid.dispatches.debtor.Frame.Frame, unpaid.{Unpaid.TellsFirstAmong, points.FirstUnpaid.TellsFirstUnpaid}}
+use Rattle.audit_sweep.specs.{declared.unpaid.dispatches.debtor.RowFrame.RowFrame, unpaid.{Unpaid.TellsFirstAmong, points.FirstUnpaid.TellsFirstUnpaid}}
 use Rattle.{net_plan.specs.declared.ids.{DeviceId.DeviceId, LinkId.LinkId}, run_law.specs.{records.Happenings.Happening, timed.Dispatching.Dispatches}}
 use Rattle.{run_law.specs.scenario.Scenarios.Scenario, schedule_tables.specs.Entries.source_of, std.proofs.lemmas.{Bool.cases_lt, Option.slice_get_within}}
 use Rattle.std.proofs.Common.{◌+◌, ◌<◌, ◌∙◌, ◌≡◌, ◌≤◌, ◌⊎◌, List, None, Option, Some, ap, arith, inl, inr, length, refl, slice_index_or, subst, sym, ℕ}
@@ -13,7 +13,7 @@ use Rattle.audit_law.specs.law.Owed as debts
 -- ---- a row
 
 -- what is owed by a row of the link is dispatched
-owes_dispatches : {s : Scenario} {hs : List Happening} {link : LinkId} {row : LeavingRow} {t : ℕ} {frame : Frame}
+owes_dispatches : {s : Scenario} {hs : List Happening} {link : LinkId} {row : LeavingRow} {t : ℕ} {frame : RowFrame}
     → IsRowOn s.network link row → OwesFrame s hs row t frame
     → Dispatches s hs row.device t link frame.cause row.vl frame.cycle
 owes_dispatches on owes = grind arith

@@ -2,7 +2,7 @@
 use Rattle.audit_devices.{proofs.clocks_lemmas.Reached.{come_reaches, reaches_come}, specs.clocks.Finding.{CrossesAt, IsNextCrossing, NoneCrossed, value_in}}
 use Rattle.{audit_devices.specs.Showing.{Shown, Shows}, audit_law.specs.events.Readings.ReadsOn, run_law.specs.timed.Dispatching.IsUp}
 use Rattle.{audit_devices.specs.declared.clocks.finding.{Crossed.Crossed, Series.Series}, sync_state.specs.declared.state.State.TheVariants.Synchronised}
-use Rattle.audit_sweep.{proofs.unpaid_lemmas.points_lemmas.Sendings.{one_crossed, shown_up}, specs.declared.unpaid.dispatches.debtor.Frame.Frame}
+use Rattle.audit_sweep.{proofs.unpaid_lemmas.points_lemmas.Sendings.{one_crossed, shown_up}, specs.declared.unpaid.dispatches.debtor.RowFrame.RowFrame}
 use Rattle.audit_sweep.specs.{declared.records.dispatches.leaving.LeavingRow.LeavingRow, records.dispatches.Leavings.{AreLeavings, cycle_of, leaving_value}}
 use Rattle.{audit_sweep.specs.records.dispatches.Dispatched.IsAtHand, run_law.specs.{records.Happenings.{Happening, earlier}, scenario.Scenarios.Scenario}}
 use Rattle.audit_sweep.specs.unpaid.{dispatches.Frames.{AreTold, IsTold, LacksOne, OwesFrame}, points.FirstUnpaid.{ArePaid, IsFirstUnpaid}}
@@ -17,7 +17,7 @@ pub record IsCrossed (s : Scenario) (shown : Shown) (row : LeavingRow) (series :
   pub crosses : CrossesAt (s.reading row.device) shown (value_in series number) t
 
 module _ (s : Scenario) (hs : List Happening) (shown : Shown) (row : LeavingRow) (series : Series) where
-  pub owed_crossed : {t : ℕ} {frame : Frame} → AreLeavings s.network row series
+  pub owed_crossed : {t : ℕ} {frame : RowFrame} → AreLeavings s.network row series
       → Shows s (earlier t hs) row.device shown → OwesFrame s hs row t frame
       → IsCrossed s shown row series t frame.cycle
   owed_crossed {t} {frame} are shows owes =
@@ -50,7 +50,7 @@ module _ (s : Scenario) (hs : List Happening) (shown : Shown) (row : LeavingRow)
   }
 
   -- at a crossing nothing is dispatched but a frame of its cycle
-  crossed_cycle : {after until : ℕ} {crossed : Crossed} {frame : Frame} → ReadsOn (s.reading row.device)
+  crossed_cycle : {after until : ℕ} {crossed : Crossed} {frame : RowFrame} → ReadsOn (s.reading row.device)
       → 2 ^ 32 ≤ series.step → AreLeavings s.network row series → Shows s (earlier crossed.time hs) row.device shown
       → IsNextCrossing (s.reading row.device) shown series after until crossed
       → OwesFrame s hs row crossed.time frame → frame.cycle ≡ cycle_of row crossed.number
@@ -68,7 +68,7 @@ module _ (s : Scenario) (hs : List Happening) (shown : Shown) (row : LeavingRow)
 
 module _ (s : Scenario) (hs : List Happening) (link : LinkId) (shown : Shown) (row : LeavingRow) (series : Series)
     (after until : ℕ) (crossed : Crossed) where
-  told_then : {frame : Frame} → ReadsOn (s.reading row.device) → 2 ^ 32 ≤ series.step
+  told_then : {frame : RowFrame} → ReadsOn (s.reading row.device) → 2 ^ 32 ≤ series.step
       → AreLeavings s.network row series → Shows s (earlier crossed.time hs) row.device shown
       → IsNextCrossing (s.reading row.device) shown series after until crossed
       → (IsUp s hs row.device crossed.time → AreTold s hs link row crossed.time (cycle_of row crossed.number))

@@ -8,7 +8,7 @@ ghost use Rattle.run_law.specs.{device.LocalClocks.Reaches, scenario.Scenarios.S
 
 use crate::records::dispatches::holding::is_at_hand;
 use crate::records::dispatches::{Dispatch, LeavingRow};
-use audit_devices::clocks::{Moment, is_up, reaches};
+use audit_devices::clocks::{DeviceMoment, is_up, reaches};
 use audit_devices::{Shown, Taking};
 use net_plan::{DeviceId, Network};
 
@@ -19,7 +19,7 @@ pub fn dispatches(
     rows: &[LeavingRow],
     device: DeviceId,
     shown: &Shown,
-    moment: Moment,
+    moment: DeviceMoment,
     accepted: Option<Taking>,
     dispatch: &Dispatch,
 ) -> bool
@@ -40,7 +40,7 @@ fn is_some_dispatched(
     rows: &[LeavingRow],
     device: DeviceId,
     shown: &Shown,
-    moment: Moment,
+    moment: DeviceMoment,
     accepted: Option<Taking>,
     dispatch: &Dispatch,
 ) -> bool
@@ -64,7 +64,7 @@ fn is_dispatched(
     row: &LeavingRow,
     device: DeviceId,
     shown: &Shown,
-    moment: Moment,
+    moment: DeviceMoment,
     accepted: Option<Taking>,
     dispatch: &Dispatch,
 ) -> bool
@@ -84,7 +84,7 @@ fn is_ready(
     row: &LeavingRow,
     device: DeviceId,
     shown: &Shown,
-    moment: Moment,
+    moment: DeviceMoment,
     accepted: Option<Taking>,
     dispatch: &Dispatch,
 ) -> bool
@@ -108,7 +108,7 @@ fn is_ready(
 }
 
 /// Does the device's clock reach the value at the moment?
-fn reaches_value(shown: &Shown, moment: Moment, value: u128) -> bool
+fn reaches_value(shown: &Shown, moment: DeviceMoment, value: u128) -> bool
     requires { value ≤ 2 ^ 100 }
     ensures { (s : Scenario) (hs : List Happening) (network : NetworkValue) (device : DeviceIdValue) (t : ℕ)
         → StandsAt s hs network device t moment shown.now

@@ -10,7 +10,7 @@ ghost use Rattle.audit_sweep.specs.records.dispatches.Judged.{DispatchesSome, Is
 
 use crate::records::Kept;
 use crate::records::dispatches::{Dispatch, Exits, dispatches, sends_some};
-use audit_devices::clocks::Moment;
+use audit_devices::clocks::DeviceMoment;
 use audit_devices::{Shown, Takings};
 use audit_law::events::EventHistory;
 use device_rules::way_from;
@@ -133,7 +133,7 @@ fn leaves(
         dispatch.now.cause dispatch.now.vl dispatch.now.cycle }
 {
     let rows = exits.on(dispatch.link);
-    let moment = Moment::of(events, at.device, at.time);
+    let moment = DeviceMoment::of(events, at.device, at.time);
     let accepted = takings.last_accepted(at.device, dispatch.vl, at.time);
     dispatches(network, rows, at.device, shown, moment, accepted, dispatch)
 }

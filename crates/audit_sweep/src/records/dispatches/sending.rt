@@ -11,7 +11,7 @@ ghost use Rattle.net_plan.specs.declared.{event.Event.Event, network.Network.{Ne
 
 use crate::records::dispatches::{Exits, LeavingRow};
 use audit_devices::Shown;
-use audit_devices::clocks::{Moment, Series, is_up, next_crossing};
+use audit_devices::clocks::{DeviceMoment, Series, is_up, next_crossing};
 use audit_law::events::{EventHistory, reading_law};
 use net_plan::{DeviceId, LinkId, Network};
 
@@ -35,7 +35,7 @@ pub fn sends_some(
         → Shows (scenario_under network.now befallen) (earlier time hs) device shown.now → AreFoundByNumber hs
         → IsTrue result ↔ SendsSome (scenario_under network.now befallen) hs device time link }
 {
-    is_up(shown, Moment::of(events, device, time))
+    is_up(shown, DeviceMoment::of(events, device, time))
         && sends_by_some(network, events, exits.on(link), device, shown, time)
 }
 

@@ -19,7 +19,7 @@ pub struct RowDebtor<'a> {
 
 /// A frame of a row.
 #[derive(Clone, Copy)]
-pub(crate) struct Frame {
+pub(crate) struct RowFrame {
     /// The record by which a switch took it, or 0 at the sender.
     pub(crate) cause: u64,
     pub(crate) cycle: u64,

@@ -10,8 +10,8 @@ ghost use Rattle.run_law.specs.{records.Happenings.{Happening, earlier}, timed.D
 
 use crate::records::dispatches::{At, LeavingRow, is_at_hand, is_cut};
 use crate::unpaid::dispatches::RowDebtor;
-use crate::unpaid::dispatches::debtor::Frame;
-use audit_devices::clocks::{Crossed, Moment, is_up};
+use crate::unpaid::dispatches::debtor::RowFrame;
+use audit_devices::clocks::{Crossed, DeviceMoment, is_up};
 use audit_devices::{Shown, Taking};
 use net_plan::LinkId;
 use run_law::plain::Place;
@@ -42,7 +42,7 @@ impl RowDebtor<'_> {
             → IsUp (scenario_of self.now befallen) hs row.now.device crossed.time
             → AreTold (scenario_of self.now befallen) hs link row.now crossed.time (cycle_of row.now crossed.number) }
     {
-        let moment = Moment::of(self.events, row.device, crossed.time);
+        let moment = DeviceMoment::of(self.events, row.device, crossed.time);
         if is_up(shown, moment) {
             self.lacks_one(link, row, crossed.time, row.cycle_of(crossed.number as u64))
         } else {
@@ -60,13 +60,13 @@ impl RowDebtor<'_> {
             (AreTold (scenario_of self.now befallen) hs link row.now time cycle) }
     {
         let accepted = self.takings.last_accepted(row.device, row.vl, time);
-        let own = Frame { cause: 0, cycle };
+        let own = RowFrame { cause: 0, cycle };
         if self.lacks(link, row, time, accepted, own) {
             return true;
         }
         match accepted {
             Some(taking) => {
-                let taken = Frame {
+                let taken = RowFrame {
                     cause: taking.number,
                     cycle,
                 };
@@ -83,7 +83,7 @@ impl RowDebtor<'_> {
         row: &LeavingRow,
         time: u64,
         accepted: Option<Taking>,
-        frame: Frame,
+        frame: RowFrame,
     ) -> bool
         requires link { HasLink self.now.network.now link }
         ensures { (befallen : List Event) (hs : List Happening) → AreKnown befallen hs self.now
@@ -94,7 +94,7 @@ impl RowDebtor<'_> {
             (IsAtHand self.now.network.now hs row.now.device row.now.sender row.now.vl time frame.cause frame.cycle
             → IsTold (scenario_of self.now befallen) hs link row.now time frame) }
     {
-        let Frame { cause, cycle } = frame;
+        let RowFrame { cause, cycle } = frame;
         if is_at_hand(self.network, row.device, row.sender, accepted, cause, cycle) {
             !self.is_told(link, row, time, frame)
         } else {
@@ -103,13 +103,13 @@ impl RowDebtor<'_> {
     }
 
     // Does a record tell that the row's device dispatches the frame at the time, or loses it on a cut way?
-    fn is_told(&self, link: LinkId, row: &LeavingRow, time: u64, frame: Frame) -> bool
+    fn is_told(&self, link: LinkId, row: &LeavingRow, time: u64, frame: RowFrame) -> bool
         requires link { HasLink self.now.network.now link }
         ensures { (befallen : List Event) (hs : List Happening) → AreKnown befallen hs self.now
             → IsTrue result ↔ IsTold (scenario_of self.now befallen) hs link row.now time frame }
     {
         let device = row.device;
-        let Frame { cause, cycle } = frame;
+        let RowFrame { cause, cycle } = frame;
         let at = At { device, time };
         if is_cut(self.network, self.events, at, link) {
             return self.places.has(&Place::of_loss(time, device, link, cause));

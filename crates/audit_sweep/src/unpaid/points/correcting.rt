@@ -14,7 +14,7 @@ ghost use Rattle.audit_law.specs.law.Owed as debts;
 
 use crate::records::places::Places;
 use crate::unpaid::points::first::earlier;
-use audit_devices::clocks::{Moment, Point, Series, coming_point, next_crossing};
+use audit_devices::clocks::{DeviceMoment, Point, Series, coming_point, next_crossing};
 use audit_devices::{Shown, Standings};
 use audit_law::events::EventHistory;
 use device_rules::{PointVerdict, correction_value};
@@ -166,7 +166,7 @@ fn is_untold(
         → (cycle : ℕ) → OwesAt (scenario_under network.now befallen) hs device time cycle
         → IsTold (scenario_under network.now befallen) hs device time cycle }
 {
-    let moment = Moment::of(events, device, time);
+    let moment = DeviceMoment::of(events, device, time);
     let heard = standings
         .before_rank(device, time, Rank::Corrected)
         .heard_since(network, moment.readings.before);

@@ -13,7 +13,7 @@ ghost use Rattle.audit_law.specs.law.Owed as debts;
 
 use crate::records::places::Places;
 use crate::unpaid::points::first::earlier;
-use audit_devices::clocks::{Crossed, Moment, beginnings, is_up, next_crossing};
+use audit_devices::clocks::{Crossed, DeviceMoment, beginnings, is_up, next_crossing};
 use audit_devices::{Shown, Standings};
 use audit_law::events::{EventHistory, reading_law};
 use device_rules::is_master;
@@ -139,7 +139,7 @@ fn is_unsent(
         → IsUp (scenario_under network.now befallen) hs device crossed.time
         → IsSent (scenario_under network.now befallen) hs device crossed.time (crossed.number + 1) }
 {
-    let moment = Moment::of(events, device, crossed.time);
+    let moment = DeviceMoment::of(events, device, crossed.time);
     if is_up(shown, moment) {
         !is_sent(places, device, crossed.time, (crossed.number + 1) as u64)
     } else {

@@ -10,7 +10,7 @@ ghost use Rattle.device_rules.specs.frames.traced.Keeping.{kept_frame, kept_octe
 ghost use Rattle.device_rules.specs.frames.traced.Keeping.{traced_by, view_of, views_of};
 
 use crate::frames::traced::OutOfMemory;
-use crate::frames::traced::kept::{Kept, Piece};
+use crate::frames::traced::kept::{KeptFrame, SentPiece};
 use crate::frames::{dispatched_frame, integration_frame};
 use net_plan::{Network, VlId, What};
 use pcf_codec::decode;
@@ -18,10 +18,10 @@ use run_law::NoteBody;
 use tte_units::frames::Pcf;
 
 /// No octets.
-const NO_OCTETS: Piece = Piece { from: 0, len: 0 };
+const NO_OCTETS: SentPiece = SentPiece { from: 0, len: 0 };
 
 /// What is kept of the record of this number, from 1. It is None exactly where there is none.
-pub(crate) fn kept_at(records: &[Kept], number: u64) -> Option<Kept>
+pub(crate) fn kept_at(records: &[KeptFrame], number: u64) -> Option<KeptFrame>
     ensures { result ≡ at_number records.now number }
 {
     if number == 0 {
@@ -34,7 +34,7 @@ pub(crate) fn kept_at(records: &[Kept], number: u64) -> Option<Kept>
 }
 
 /// The octets that stand there.
-pub(crate) fn piece_in(pool: &[u8], piece: Piece) -> &[u8]
+pub(crate) fn piece_in(pool: &[u8], piece: SentPiece) -> &[u8]
     requires { IsPieceOf pool.now piece }
     ensures { result.now ≡ piece_in pool.now piece }
 {
@@ -53,19 +53,19 @@ pub fn frame_in(octets: &[u8]) -> Option<Pcf>
 }
 
 /// The control frame that is kept.
-fn frame_of(pool: &[u8], kept: Kept) -> Option<Pcf>
+fn frame_of(pool: &[u8], kept: KeptFrame) -> Option<Pcf>
     requires { IsHeld pool.now kept }
     ensures { result ≡ kept_frame pool.now kept }
 {
     match kept {
-        Kept::Control(frame) | Kept::Silent(frame) => Some(frame),
-        Kept::Send(piece) => frame_in(piece_in(pool, piece)),
-        Kept::Nothing | Kept::Made(_, _) | Kept::Came(_) => None,
+        KeptFrame::Control(frame) | KeptFrame::Silent(frame) => Some(frame),
+        KeptFrame::Send(piece) => frame_in(piece_in(pool, piece)),
+        KeptFrame::Nothing | KeptFrame::Made(_, _) | KeptFrame::Came(_) => None,
     }
 }
 
 /// The control frame of the record of this number.
-fn frame_from(pool: &[u8], records: &[Kept], number: u64) -> Option<Pcf>
+fn frame_from(pool: &[u8], records: &[KeptFrame], number: u64) -> Option<Pcf>
     requires { All (IsHeld pool.now) records.now }
     ensures { (network : NetworkValue) (hs : List Happening) → views_of network pool.now records.now ≡ map traced hs
         → result ≡ frame_from hs number }
@@ -77,20 +77,22 @@ fn frame_from(pool: &[u8], records: &[Kept], number: u64) -> Option<Pcf>
 }
 
 /// What a record keeps whose cause this is kept of: the same octets.
-fn handed_on(kept: Kept) -> Kept
+fn handed_on(kept: KeptFrame) -> KeptFrame
     ensures held { (pool : List ℕ) → IsHeld pool kept → IsHeld pool result }
     ensures view { (network : NetworkValue) (pool : List ℕ)
         → view_of network pool result ≡ came (kept_octets network pool kept) }
 {
     match kept {
-        Kept::Made(vl, cycle) => Kept::Made(vl, cycle),
-        Kept::Send(piece) | Kept::Came(piece) => Kept::Came(piece),
-        Kept::Nothing | Kept::Control(_) | Kept::Silent(_) => Kept::Came(NO_OCTETS),
+        KeptFrame::Made(vl, cycle) => KeptFrame::Made(vl, cycle),
+        KeptFrame::Send(piece) | KeptFrame::Came(piece) => KeptFrame::Came(piece),
+        KeptFrame::Nothing | KeptFrame::Control(_) | KeptFrame::Silent(_) => KeptFrame::Came(
+            NO_OCTETS,
+        ),
     }
 }
 
 /// What a record keeps whose cause has this number: the same octets.
-fn came_from(records: &[Kept], number: u64) -> Kept
+fn came_from(records: &[KeptFrame], number: u64) -> KeptFrame
     ensures held { (pool : List ℕ) → All (IsHeld pool) records.now → IsHeld pool result }
     ensures view { (network : NetworkValue) (pool : List ℕ) (hs : List Happening)
         → views_of network pool records.now ≡ map traced hs
@@ -98,29 +100,29 @@ fn came_from(records: &[Kept], number: u64) -> Kept
 {
     match kept_at(records, number) {
         Some(kept) => handed_on(kept),
-        None => Kept::Came(NO_OCTETS),
+        None => KeptFrame::Came(NO_OCTETS),
     }
 }
 
 /// A control frame that the record shows, if there is one.
-fn control(frame: Option<Pcf>) -> Kept
+fn control(frame: Option<Pcf>) -> KeptFrame
     ensures held { (pool : List ℕ) → IsHeld pool result }
     ensures view { (network : NetworkValue) (pool : List ℕ) → view_of network pool result ≡ control frame }
 {
     match frame {
-        Some(frame) => Kept::Control(frame),
-        None => Kept::Nothing,
+        Some(frame) => KeptFrame::Control(frame),
+        None => KeptFrame::Nothing,
     }
 }
 
 /// A control frame that the record does not show, if there is one.
-fn silent(frame: Option<Pcf>) -> Kept
+fn silent(frame: Option<Pcf>) -> KeptFrame
     ensures held { (pool : List ℕ) → IsHeld pool result }
     ensures view { (network : NetworkValue) (pool : List ℕ) → view_of network pool result ≡ silent frame }
 {
     match frame {
-        Some(frame) => Kept::Silent(frame),
-        None => Kept::Nothing,
+        Some(frame) => KeptFrame::Silent(frame),
+        None => KeptFrame::Nothing,
     }
 }
 
@@ -135,7 +137,7 @@ fn with_clock(clock: u64, frame: Option<Pcf>) -> Option<Pcf>
 }
 
 /// A control frame that the record shows with its own transparent clock: that of the record of this number.
-fn reclocked(pool: &[u8], records: &[Kept], number: u64, clock: u64) -> Kept
+fn reclocked(pool: &[u8], records: &[KeptFrame], number: u64, clock: u64) -> KeptFrame
     requires { All (IsHeld pool.now) records.now }
     ensures held { IsHeld pool.now result }
     ensures view { (network : NetworkValue) (hs : List Happening)
@@ -146,21 +148,21 @@ fn reclocked(pool: &[u8], records: &[Kept], number: u64, clock: u64) -> Kept
 }
 
 /// The frame of a dispatch: its sender makes it, or it is that of the cause.
-fn dispatched(records: &[Kept], cause: u64, vl: VlId, cycle: u32) -> Kept
+fn dispatched(records: &[KeptFrame], cause: u64, vl: VlId, cycle: u32) -> KeptFrame
     ensures held { (pool : List ℕ) → All (IsHeld pool) records.now → IsHeld pool result }
     ensures view { (network : NetworkValue) (pool : List ℕ) (hs : List Happening)
         → views_of network pool records.now ≡ map traced hs → view_of network pool result
         ≡ came (if cause == 0 then tt_frame network vl cycle else octets_from hs cause) }
 {
     if cause == 0 {
-        Kept::Made(vl, cycle)
+        KeptFrame::Made(vl, cycle)
     } else {
         came_from(records, cause)
     }
 }
 
 /// Puts octets behind those of the other `send` events, and answers where they stand.
-fn store(pool: &mut Vec<u8>, octets: &[u8]) -> Result<Piece, OutOfMemory>
+fn store(pool: &mut Vec<u8>, octets: &[u8]) -> Result<SentPiece, OutOfMemory>
     requires { length octets.now ≤ 1514 }
     ensures grows { Grows pool.old.items pool.new.items }
     ensures there { IfOk result (IsPieceOf pool.new.items) }
@@ -168,7 +170,7 @@ fn store(pool: &mut Vec<u8>, octets: &[u8]) -> Result<Piece, OutOfMemory>
 {
     let from = pool.len();
     match pool.extend_from_slice(octets) {
-        Ok(()) => Ok(Piece {
+        Ok(()) => Ok(SentPiece {
             from,
             len: octets.len(),
         }),
@@ -177,7 +179,7 @@ fn store(pool: &mut Vec<u8>, octets: &[u8]) -> Result<Piece, OutOfMemory>
 }
 
 /// What is kept of an event.
-fn kept_event(pool: &mut Vec<u8>, what: &What) -> Result<Kept, OutOfMemory>
+fn kept_event(pool: &mut Vec<u8>, what: &What) -> Result<KeptFrame, OutOfMemory>
     ensures grows { Grows pool.old.items pool.new.items }
     ensures held { IfOk result (IsHeld pool.new.items) }
     ensures view { (network : NetworkValue) (hs : List Happening) (line : ℕ)
@@ -185,7 +187,7 @@ fn kept_event(pool: &mut Vec<u8>, what: &What) -> Result<Kept, OutOfMemory>
 {
     match what {
         What::Send(_, octets) => match store(pool, octets.as_slice()) {
-            Ok(piece) => Ok(Kept::Send(piece)),
+            Ok(piece) => Ok(KeptFrame::Send(piece)),
             Err(error) => Err(error),
         },
         What::Rate(_, _)
@@ -195,7 +197,7 @@ fn kept_event(pool: &mut Vec<u8>, what: &What) -> Result<Kept, OutOfMemory>
         | What::Heal(_, _)
         | What::On(_)
         | What::Break(_)
-        | What::End => Ok(Kept::Nothing),
+        | What::End => Ok(KeptFrame::Nothing),
     }
 }
 
@@ -204,9 +206,9 @@ fn kept_event(pool: &mut Vec<u8>, what: &What) -> Result<Kept, OutOfMemory>
 pub(crate) fn kept_of(
     network: &Network,
     pool: &mut Vec<u8>,
-    records: &[Kept],
+    records: &[KeptFrame],
     body: &NoteBody,
-) -> Result<Kept, OutOfMemory>
+) -> Result<KeptFrame, OutOfMemory>
     requires range { IsInRange network.now }
     requires held { All (IsHeld pool.old.items) records.now }
     ensures grows { Grows pool.old.items pool.new.items }
@@ -217,14 +219,14 @@ pub(crate) fn kept_of(
     match body {
         NoteBody::Event { what, .. } => kept_event(pool, what),
         NoteBody::Sent { device, cycle } => {
-            Ok(Kept::Control(dispatched_frame(network, *device, *cycle)))
+            Ok(KeptFrame::Control(dispatched_frame(network, *device, *cycle)))
         }
         NoteBody::Compressed {
             device,
             cycle,
             members,
             ..
-        } => Ok(Kept::Control(integration_frame(network, *device, *cycle, *members))),
+        } => Ok(KeptFrame::Control(integration_frame(network, *device, *cycle, *members))),
         NoteBody::Left { cause, clock, .. } => Ok(reclocked(pool, records, *cause, *clock)),
         NoteBody::Arrived { cause, clock, .. } => Ok(reclocked(pool, records, *cause, *clock)),
         NoteBody::Permanent { cause, .. } => Ok(silent(frame_from(pool, records, *cause))),
@@ -240,6 +242,6 @@ pub(crate) fn kept_of(
         | NoteBody::State { .. }
         | NoteBody::Lost { .. }
         | NoteBody::Dropped { .. }
-        | NoteBody::Clock { .. } => Ok(Kept::Nothing),
+        | NoteBody::Clock { .. } => Ok(KeptFrame::Nothing),
     }
 }

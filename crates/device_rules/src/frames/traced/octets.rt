@@ -7,12 +7,12 @@ pub(crate) const MOST_OCTETS: usize = 1514;
 
 /// The octets of a record's frame, kept in place: at most 1,514.
 #[derive(Drop)]
-pub struct Octets {
+pub struct OctetsOfRecord {
     octets: [u8; MOST_OCTETS],
     len: usize,
 }
 
-impl Model for Octets {
+impl Model for OctetsOfRecord {
     ghost use Rattle.std.specs.Prelude.{ℕ, List, ◌≤◌, take};
 
     ghost Value = { List ℕ };
@@ -22,15 +22,15 @@ impl Model for Octets {
     ghost invariant = { λ o. o.len ≤ 1514 };
 }
 
-impl Octets {
+impl OctetsOfRecord {
     /// Keeps at most 1,514 octets.
-    pub(crate) fn new(octets: &[u8]) -> Octets
+    pub(crate) fn new(octets: &[u8]) -> OctetsOfRecord
         requires { length octets.now ≤ 1514 }
         ensures { result ≡ octets.now }
     {
         let mut kept = [0; MOST_OCTETS];
         kept[..octets.len()].copy_from_slice(octets);
-        Octets {
+        OctetsOfRecord {
             octets: kept,
             len: octets.len(),
         }

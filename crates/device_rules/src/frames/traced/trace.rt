@@ -4,9 +4,9 @@ ghost use Rattle.run_law.specs.declared.note.Note.{Note as NoteValue};
 ghost use Rattle.device_rules.specs.frames.traced.{Keeping.Keeps, RecordOctets.octets_of};
 
 use crate::frames::traced::keeping::{kept_at, kept_of};
-use crate::frames::traced::kept::Kept;
+use crate::frames::traced::kept::KeptFrame;
 use crate::frames::traced::showing::shown;
-use crate::frames::traced::{Octets, OutOfMemory};
+use crate::frames::traced::{OctetsOfRecord, OutOfMemory};
 use run_law::Note;
 use schedule_tables::Accepted;
 use std::alloc::Global;
@@ -18,7 +18,7 @@ pub struct FrameTrace<'a> {
     accepted: &'a Accepted,
     // The octets of the `send` events, one behind another.
     pool: Vec<u8>,
-    records: Vec<Kept>,
+    records: Vec<KeptFrame>,
 }
 
 impl<'a> Model for FrameTrace<'a> {
@@ -67,7 +67,7 @@ impl<'a> FrameTrace<'a> {
 
     /// The octets of the record of this number. It is None exactly where the record's kind has none, or where no such
     /// record has come.
-    pub fn octets(&self, number: u64) -> Option<Octets>
+    pub fn octets(&self, number: u64) -> Option<OctetsOfRecord>
         ensures { (network : Network) (notes : List NoteValue) → Keeps network notes self.now
             → result ≡ octets_of network notes number }
     {

@@ -1,4 +1,4 @@
-use Rattle.lens_latency.{proofs.SeenTimes.{few_taken, seen_off, seen_on}, specs.declared.seeing.Seen.Seen}
+use Rattle.lens_latency.{proofs.SeenTimes.{few_taken, seen_off, seen_on}, specs.declared.seeing.SeenFrames.SeenFrames}
 use Rattle.std.proofs.Common.{◌<◌, ◌^◌, ◌∙◌, ◌≤◌, IfSome, None, Option, Some, arith, length, rules, sym, ℕ}
 use Rattle.lens_latency.proofs.seeing.seen_of.Goals.{else-is_of, then-is_of}
 use Rattle.lens_latency.proofs.seeing.seen_of.Goals as goal
@@ -9,7 +9,7 @@ with_time-seen-requires c =
     let all : length c.args.arrivals.now < 2 ^ 63 = search rules in
     by c.arrivals.seen (length c.args.arrivals.now) all few
   where
-    by : (seen : Option Seen) (n : ℕ) → n < 2 ^ 63 → IfSome seen (λ s. s.count ≤ n) → IfSome seen (λ s. s.count < 2 ^ 63)
+    by : (seen : Option SeenFrames) (n : ℕ) → n < 2 ^ 63 → IfSome seen (λ s. s.count ≤ n) → IfSome seen (λ s. s.count < 2 ^ 63)
     by None n all few = few
     by (Some seen) n all few = omega (arith, all, few)
 

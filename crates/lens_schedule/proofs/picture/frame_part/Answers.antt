@@ -1,4 +1,4 @@
-use Rattle.lens_schedule.specs.{Frames.frame_of, Lanes.column_by, Picture.lane_place, declared.part.Part.TheVariants.Frame}
+use Rattle.lens_schedule.specs.{Frames.frame_of, Lanes.column_by, Picture.lane_place, declared.part.SchedulePart.TheVariants.Frame}
 use Rattle.std.proofs.Common.{◌∙◌, ap}
 use Rattle.lens_schedule.proofs.picture.frame_part.Goals as goal
 

@@ -1,10 +1,10 @@
 use Rattle.{lens_slack.proofs.Singles.{correction_first, end_first, precision_first}, net_plan.specs.declared.network.Network.Network}
-use Rattle.{lens_slack.specs.{Tightest.IsTightestAt, declared.spot.{Finding.Finding, Spot.Spot}}, std.proofs.Common.{◌≡◌, subst, sym}}
+use Rattle.{lens_slack.specs.{Tightest.IsTightestAt, declared.spot.{Finding.Finding, BoundedNumber.BoundedNumber}}, std.proofs.Common.{◌≡◌, subst, sym}}
 use Rattle.std.specs.Prelude.{Option, Some}
-use Rattle.lens_slack.specs.declared.spot.Spot.TheVariants as spots
+use Rattle.lens_slack.specs.declared.spot.BoundedNumber.TheVariants as spots
 use Rattle.lens_slack.proofs.bounds.tightest_at.Goals as goal
 
-at_spot : (network : Network) (spot other : Spot) (o : Option Finding) → spot ≡ other → IsTightestAt network other o → IsTightestAt network spot o
+at_spot : (network : Network) (spot other : BoundedNumber) (o : Option Finding) → spot ≡ other → IsTightestAt network other o → IsTightestAt network spot o
 at_spot network spot other o same tightest = subst (λ s. IsTightestAt network s o) (sym same) tightest
 
 pub returns-in-Path-clause-tightest : goal.returns-in-Path-clause-tightest

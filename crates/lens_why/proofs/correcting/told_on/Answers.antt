@@ -1,9 +1,9 @@
 use Rattle.{lens_why.specs.Corrections.told_by, std.specs.Prelude.option_map}
-use Rattle.{lens_why.specs.declared.ground.Told.Told, run_law.specs.records.Happenings.happenings, std.proofs.Common.{◌∙◌, Option, Some, ap, sym, ℕ}}
+use Rattle.{lens_why.specs.declared.ground.BestHeard.BestHeard, run_law.specs.records.Happenings.happenings, std.proofs.Common.{◌∙◌, Option, Some, ap, sym, ℕ}}
 use Rattle.{sync_state.specs.declared.membership.frame.HeardFrame.HeardFrame, tte_units.specs.declared.frames.members.Members.Members}
 use Rattle.lens_why.proofs.correcting.told_on.Goals as goal
 
-abbrev told : ℕ → Members → Told
+abbrev told : ℕ → Members → BestHeard
 told n members = record { number = n; members = members }
 
 pub returns-in-Some : goal.returns-in-Some

@@ -5,7 +5,7 @@ use Rattle.std.proofs.Common.{◌&&◌, ◌*◌, ◌++◌, ◌+◌, ◌<◌, ◌
 use Rattle.{std.proofs.{Common.{nat_lt, refl, subst, sym, true, ℕ}, Math.Bool.and-true}, tte_units.proofs.general_lemmas.Bools.{both_left, both_right}}
 use Rattle.std.{proofs.lemmas.Bool.{eq-eqb, eqb-true, false_from_ne_true as not_true, or_parts}, specs.declared.cmp.Ordering.TheVariants.{Equal, Greater, Less}}
 use Rattle.tte_observers.proofs.votes_lemmas.ballots_lemmas.Casting.{is_of, none_taken, seat_cast, seat_stays, some_taken}
-use Rattle.tte_observers.specs.{declared.votes.{ballots.seats.{Delivery.Delivery, Seats.Seats}, law.voters.Voters.Voters}, votes.law.Ballots.is_delivery}
+use Rattle.tte_observers.specs.{declared.votes.{ballots.seats.{BallotDelivery.BallotDelivery, Seats.Seats}, law.voters.Voters.Voters}, votes.law.Ballots.is_delivery}
 use Rattle.tte_observers.specs.votes.ballots.Keeping.{AreBallots, AreCast, delivery_in, is_voter, key_of, none_cast, seats_at, seats_with}
 
 -- ---- a ballot that the record is not of
@@ -36,7 +36,7 @@ ballots_none hs h voters ballots none are cycle device c d =
     }) (are cycle device c d)
 
 -- what the delivery is of, for a seat of a ballot
-of_voter : (voter : VlId) (cycle : ℕ) (device : DeviceId) (d : Delivery) → is_of voter cycle device d ≡ true
+of_voter : (voter : VlId) (cycle : ℕ) (device : DeviceId) (d : BallotDelivery) → is_of voter cycle device d ≡ true
     → (device.0 ≡ d.device.0) × (voter.0 ≡ d.vl.0) × (cycle ≡ d.cycle)
 of_voter voter cycle device d e =
     let rest = both_right (device.0 == d.device.0) (voter.0 == d.vl.0 && cycle == d.cycle) e in (
@@ -46,7 +46,7 @@ of_voter voter cycle device d e =
     )
 
 -- the delivery is of no virtual link of the vote
-pub ballots_other : (hs : List Happening) (h : Happening) (voters : Voters) (ballots : BTreeMap ℕ Seats) (d : Delivery)
+pub ballots_other : (hs : List Happening) (h : Happening) (voters : Voters) (ballots : BTreeMap ℕ Seats) (d : BallotDelivery)
     → delivery_in h.note.body ≡ Some d → is_voter voters d.vl ≡ false → AreBallots hs voters ballots → AreBallots (hs ++ h ∷ []) voters ballots
 ballots_other hs h voters ballots d taken none are cycle device c e =
     let two = or_parts (d.vl.0 == voters.first.0 || d.vl.0 == voters.second.0) (d.vl.0 == voters.third.0) none in
@@ -87,7 +87,7 @@ same_keys a b c d small less e = (omega (arith, small, less, e), omega (arith, s
 abbrev pub found : Option Seats → Seats
 found o = unwrap_or o none_cast
 
-module _ (hs : List Happening) (h : Happening) (voters : Voters) (old new : BTreeMap ℕ Seats) (d : Delivery) (number : ℕ)
+module _ (hs : List Happening) (h : Happening) (voters : Voters) (old new : BTreeMap ℕ Seats) (d : BallotDelivery) (number : ℕ)
     (taken : delivery_in h.note.body ≡ Some d) (last : number ≡ length hs + 1) (are : AreBallots hs voters old)
     (in_cycle : d.cycle < 2 ^ 32) (of_device : d.device.0 < 2 ^ 32)
     (put : Updates nat_cmp old new (key_of d.cycle d.device)

@@ -3,7 +3,7 @@ use Rattle.{net_plan.specs.declared.ids.{DeviceId.DeviceId, VlId.VlId}, tte_unit
 use Rattle.{run_law.proofs.law.FirstPlaces.{numbered_front, numbered_next}, tte_observers.specs.votes.law.Ballots.{delivery_of, is_delivery}}
 use Rattle.{run_law.specs.{declared.note.NoteBody.NoteBody, records.Happenings.Happening}, std.{proofs.lemmas.Option.same_Some, specs.Prelude.if◌then◌else◌}}
 use Rattle.std.proofs.Common.{◌&&◌, ◌++◌, ◌+◌, ◌==◌, ◌∙◌, ◌∷◌, ◌≡◌, Bool, List, None, Option, Some, [], ap, cond, false, find, length, refl, true, ℕ}
-use Rattle.tte_observers.specs.{declared.votes.ballots.seats.Delivery.Delivery, votes.ballots.Keeping.{IsCastBy, delivery_in, seat_with}}
+use Rattle.tte_observers.specs.{declared.votes.ballots.seats.BallotDelivery.BallotDelivery, votes.ballots.Keeping.{IsCastBy, delivery_in, seat_with}}
 use Rattle.run_law.specs.declared.note.NoteBody.TheVariants as notes
 
 -- ---- what is taken by a record
@@ -13,10 +13,10 @@ none_taken (notes.Delivered other link cause of_vl of_cycle) vl cycle device e =
 none_taken other vl cycle device e = refl
 
 -- is it this ballot and this virtual link that the delivery is of?
-abbrev pub is_of : VlId → ℕ → DeviceId → Delivery → Bool
+abbrev pub is_of : VlId → ℕ → DeviceId → BallotDelivery → Bool
 is_of vl cycle device d = device.0 == d.device.0 && (vl.0 == d.vl.0 && cycle == d.cycle)
 
-pub some_taken : (body : NoteBody) (d : Delivery) (vl : VlId) (cycle : ℕ) (device : DeviceId) → delivery_in body ≡ Some d
+pub some_taken : (body : NoteBody) (d : BallotDelivery) (vl : VlId) (cycle : ℕ) (device : DeviceId) → delivery_in body ≡ Some d
     → is_delivery vl cycle device body ≡ is_of vl cycle device d
 some_taken (notes.Delivered other link cause of_vl of_cycle) d vl cycle device e = ap (is_of vl cycle device) (same_Some _ _ e)
 some_taken other d vl cycle device e = absurd cc

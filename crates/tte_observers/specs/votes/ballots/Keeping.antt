@@ -6,13 +6,13 @@ use Rattle.{device_rules.specs.frames.traced.Keeping.Keeps, net_plan.specs.decla
 use Rattle.{device_rules.specs.frames.traced.RecordOctets.octets_of, net_plan.specs.declared.network.Network.Network}
 use Rattle.{run_law.specs.declared.note.Note.Note, tte_observers.specs.votes.tmr.Vote.{Votes, no_votes, with_payload}}
 use Rattle.run_law.specs.{declared.note.NoteBody.NoteBody, records.Happenings.{Happening, happenings, numbered}}
-use Rattle.tte_observers.specs.declared.votes.ballots.{seats.Delivery.Delivery, votes.KeptVotes.KeptVotes}
+use Rattle.tte_observers.specs.declared.votes.ballots.{seats.BallotDelivery.BallotDelivery, votes.KeptVotes.KeptVotes}
 use Rattle.tte_observers.specs.declared.votes.{ballots.seats.Seats.Seats, law.voters.Voters.Voters}
 use Rattle.tte_observers.specs.votes.law.Ballots.{ballot_of, delivery_of, payload_in}
 use Rattle.run_law.specs.declared.note.NoteBody.TheVariants as notes
 
 -- what is taken by a record of this body, if something is
-abbrev pub delivery_in : NoteBody → Option Delivery
+abbrev pub delivery_in : NoteBody → Option BallotDelivery
 delivery_in (notes.Delivered device link cause vl cycle) = Some (record { vl = vl; cycle = cycle; device = device })
 delivery_in other = None
 

@@ -7,7 +7,7 @@ ghost use Rattle.tte_observers.specs.votes.ballots.Keeping.{AreBallots, delivery
 
 use crate::votes::ballots::OutOfMemory;
 use crate::votes::ballots::seats::{
-    Delivery, NONE_CAST, Seats, delivery_in, is_voter, key_of, seats_with,
+    BallotDelivery, NONE_CAST, Seats, delivery_in, is_voter, key_of, seats_with,
 };
 use crate::votes::law::Voters;
 use run_law::NoteBody;
@@ -27,7 +27,7 @@ pub(crate) fn seats_at(ballots: &BTreeMap<u64, Seats>, key: u64) -> Seats
 fn take(
     ballots: &mut BTreeMap<u64, Seats>,
     voters: Voters,
-    delivery: Delivery,
+    delivery: BallotDelivery,
     number: u64,
 ) -> Result<(), OutOfMemory>
     ensures { (hs : List Happening) (h : Happening) → AreBallots hs voters ballots.old

@@ -15,7 +15,7 @@ pub(crate) struct Seats {
 
 /// A device takes a frame of the virtual link, in this cycle of its own.
 #[derive(Clone, Copy)]
-pub(crate) struct Delivery {
+pub(crate) struct BallotDelivery {
     pub vl: VlId,
     pub cycle: u32,
     pub device: DeviceId,
@@ -29,7 +29,7 @@ pub(crate) const NONE_CAST: Seats = Seats {
 };
 
 /// What is taken by a record of this body, if something is.
-pub(crate) fn delivery_in(body: &NoteBody) -> Option<Delivery>
+pub(crate) fn delivery_in(body: &NoteBody) -> Option<BallotDelivery>
     ensures { result ≡ delivery_in body.now }
 {
     match body {
@@ -38,7 +38,7 @@ pub(crate) fn delivery_in(body: &NoteBody) -> Option<Delivery>
             vl,
             cycle,
             ..
-        } => Some(Delivery {
+        } => Some(BallotDelivery {
             vl: *vl,
             cycle: *cycle,
             device: *device,

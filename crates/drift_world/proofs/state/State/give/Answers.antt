@@ -4,7 +4,7 @@ use Rattle.drift_world.{proofs.state.State.give.Goals.After-unwrap-first, specs.
 use Rattle.drift_world.proofs.Words.{◌++◌, ◌+◌, ◌<◌, ◌∙◌, ◌∷◌, ◌≡◌, ChangesOnly, DeviceId, HasItsOctets, IfSome, List, NoSourceBefore, Note, Option, Settled}
 use Rattle.drift_world.proofs.Words.{Stands, StandsAt, World, [], ap, behind, changed_device, happenings, keeps, note_of, place_of, refl}
 use Rattle.std.{proofs.lemmas.List.Elements.{All-head, All-tail}, specs.Prelude.{All, option_to_list}}
-use Rattle.world_state.specs.{Frames.room_of, Shelves.HasPlace, declared.contents.Spot.Spot}
+use Rattle.world_state.specs.{Frames.room_of, Shelves.HasPlace, declared.contents.HoldSpot.HoldSpot}
 use Rattle.drift_world.proofs.state.State.give.Given as given
 use Rattle.drift_world.proofs.state.State.give.Goals as goal
 
@@ -87,7 +87,7 @@ give_first-requires-clause-capacity g c =
 pub give_first-requires-clause-place : goal.give_first-requires-clause-place
 give_first-requires-clause-place g c =
     let whole = whole_is g (goal.at.give_first-requires-clause-place g c).After-unwrap-first in
-    subst (λ (o : Option Spot). IfSome o (HasPlace c.make_room.new.stored))
+    subst (λ (o : Option HoldSpot). IfSome o (HasPlace c.make_room.new.stored))
     (c.first_taker-spot.ensures c.unwrap-first.result c.pop_front.new.self.items whole) c.in_default.ensures.place
 
 pub returns-clause-stands : goal.returns-clause-stands

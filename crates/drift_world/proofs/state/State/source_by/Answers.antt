@@ -1,6 +1,6 @@
 use Rattle.drift_world.proofs.Foremost.{arrival_first, clock_first, departure_first, due_after, events_first, from_some, none_before, place_after, placed}
 use Rattle.drift_world.proofs.{Foremost.slot_first, state.State.source_by.Goals.{else-self-2-via-else-self-2, else-self-2-via-then-self-2+else-self-as_slice}}
-use Rattle.drift_world.proofs.Words.{Due, DueAt, IsFirst, ap, arith, both_ways, length, refl}
+use Rattle.drift_world.proofs.Words.{SlotTimer, DueAt, IsFirst, ap, arith, both_ways, length, refl}
 use Rattle.drift_world.proofs.state.State.source_by.Goals as goal
 
 pub returns-then-self-clause-foremost : goal.returns-then-self-clause-foremost
@@ -30,7 +30,7 @@ returns-in-Some-clause-foremost g c =
 pub returns-in-Some-slot_at-clause-foremost : goal.returns-in-Some-slot_at-clause-foremost
 returns-in-Some-slot_at-clause-foremost g c =
     let first = c.in-Some-slot_at.first in
-    let d : Due = record { time = c.args.self.now.time; rank = first.rank; slot = first.slot } in
+    let d : SlotTimer = record { time = c.args.self.now.time; rank = first.rank; slot = first.slot } in
     record {
       there = c.source_of_slot.ensures.there;
       nothing = slot_first g.C.Clock.last_step g.C.Clock.reading g.M.Machine.stands c.args.network.now c.args.self.now c.args.place c.args.due

@@ -1,10 +1,10 @@
-use Rattle.drift_world.proofs.Words.{◌-◌, ◌∙◌, ◌∷◌, ◌≡◌, ◌≤◌, DeviceId, Due, IfNone, Option, Waits, [], ap, arith, inl, length, refl, subst, sym, ℕ}
+use Rattle.drift_world.proofs.Words.{◌-◌, ◌∙◌, ◌∷◌, ◌≡◌, ◌≤◌, DeviceId, SlotTimer, IfNone, Option, Waits, [], ap, arith, inl, length, refl, subst, sym, ℕ}
 use Rattle.drift_world.proofs.{Sources.{due_acts, due_part, due_ripe, slot_high}, state.State.source_of_slot.Given.Over}
 use Rattle.drift_world.{proofs.state.State.source_of_slot.Goals.{After-of_rank, else-slot-devices, then-slot-devices+in_default}, specs.{Parts.part_rank, Turns.IsActive}}
 use Rattle.drift_world.proofs.state.State.source_of_slot.Goals as goal
 
 -- the timer that is due
-abbrev due : (g : Over) (c : After-of_rank g) → Due
+abbrev due : (g : Over) (c : After-of_rank g) → SlotTimer
 due g c = record { time = c.args.self.now.time; rank = c.args.rank; slot = c.args.slot }
 
 -- the slot is for the acts of a device: else a frame that waits were permanent

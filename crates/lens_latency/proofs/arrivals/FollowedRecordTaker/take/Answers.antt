@@ -1,4 +1,4 @@
-use Rattle.lens_latency.{proofs.Followings.followed_more, specs.{Following.{IsFollowed, arrival_by, departure_by}, declared.arrivals.Arrival.Arrival}}
+use Rattle.lens_latency.{proofs.Followings.followed_more, specs.{Following.{IsFollowed, arrival_by, departure_by}, declared.arrivals.FrameArrival.FrameArrival}}
 use Rattle.std.{proofs.Common.{◌++◌, ◌∙◌, ◌∷◌, ◌≡◌, Option, [], ap, subst, sym, ℕ}, specs.List.cons_option}
 use Rattle.tte_units.specs.Amount.{amount}
 use Rattle.lens_latency.proofs.arrivals.FollowedRecordTaker.take.Goals as goal
@@ -17,7 +17,7 @@ returns c octets notes before begun next so =
     c.arrival_by.ensures ∙ ap (λ d. arrival_by d (amount note.time) note.body) departure in
     let more : c.push_some.new.arrivals.items ≡ arrivals
     ++ cons_option (arrival_by (departure_by kept (amount note.time) note.body) (amount note.time) note.body) [] =
-    c.in_ok-push_some.ensures ∙ ap (λ (a : Option Arrival). arrivals ++ cons_option a []) arrival in
+    c.in_ok-push_some.ensures ∙ ap (λ (a : Option FrameArrival). arrivals ++ cons_option a []) arrival in
     subst (λ ds. IsFollowed network notes (before ++ note ∷ []) ds c.push_some.new.arrivals.items) (sym kept_more)
     (subst (λ xs. IsFollowed network notes (before ++ note ∷ []) (kept ++ departure_by kept (amount note.time) note.body ∷ []) xs) (sym more)
     (followed_more network notes before octets note kept arrivals c.requires.named next so))

@@ -1,12 +1,12 @@
 use Rattle.fault_hypothesis.proofs.{storm.storm.Storm.next_event.Goals.{else-self-steps-2, then-self-steps-2}, storm_lemmas.Within.{end_within, step_within}}
 use Rattle.{fault_hypothesis.specs.{Watching.Watches, storm.Events.{AreNoLater, time_of}}, run_law.specs.scenario.Hypothesis.IsWithinHypothesis}
-use Rattle.fault_hypothesis.specs.{declared.storm.draw.Draw.Draw, storm.{Events.IsEventOf, Progress.Progress, Words.{draw_at, draw_from}}}
+use Rattle.fault_hypothesis.specs.{declared.storm.draw.StormDraw.StormDraw, storm.{Events.IsEventOf, Progress.Progress, Words.{draw_at, draw_from}}}
 use Rattle.net_plan.specs.declared.{event.{Event.Event, What.TheVariants.End}, network.Network.Network}
 use Rattle.{std.proofs.Common.{◌∙◌, ◌≡◌, List, ap, arith, inl, inr, refl, subst, sym}, tte_units.specs.declared.units.Units.Units}
 use Rattle.fault_hypothesis.proofs.storm.storm.Storm.next_event.Goals as goal
 
 -- an event of a step, said of equal values
-is_of : (m n : Network) (es : List Event) (t u : Units) (d f : Draw) (x y : Event) → m ≡ n → t ≡ u → d ≡ f → y ≡ x → IsEventOf m es t d x → IsEventOf n es u f y
+is_of : (m n : Network) (es : List Event) (t u : Units) (d f : StormDraw) (x y : Event) → m ≡ n → t ≡ u → d ≡ f → y ≡ x → IsEventOf m es t d x → IsEventOf n es u f y
 is_of m n es t u d f x y over at draw is h =
     subst (λ k. IsEventOf k es u f y) over
     (subst (λ k. IsEventOf m es k f y) at (subst (λ k. IsEventOf m es t k y) draw (subst (IsEventOf m es t d) (sym is) h)))

@@ -1,5 +1,0 @@
-use Rattle.tte_audit.proofs.{Quiet.passed_on, Words.refl}
-use Rattle.tte_audit.proofs.passes.Told.pass.Goals as goal
-
-pub returns : goal.returns
-returns c network notes note told quiet = passed_on network notes note c.args.self.now _ told quiet refl refl refl

@@ -1,5 +1,0 @@
-use Rattle.tte_audit.proofs.Seeking.{none_sought}
-use Rattle.tte_audit.proofs.swift.Sought.new.Goals as goal
-
-pub returns-in-Ok : goal.returns-in-Ok
-returns-in-Ok c report = none_sought c.args.accepted.now report _ c.new-in-Ok.ensures.items c.in-Ok.ensures
