@@ -8,7 +8,7 @@ use Rattle.audit_law.proofs.collections_lemmas.Stepping.{AreBefore, are-ignored,
 use Rattle.compression.proofs.{Elements.{Ordered, Ordered-from}, Standing.AreClusters-unique}
 use Rattle.std.proofs.lemmas.List.{Elements.{All-nil, filter_map-append}, append-nil}
 use Rattle.{compression.specs.Clusters.{AreClusters, Cluster, Point}, tte_reports.specs.Reports.IsReportOf}
-use Rattle.{compression.specs.{LastCollection.{joined, opening}, declared.taken.Taken.Taken}, std.specs.Prelude.{filter_map, fold, option_map, take}}
+use Rattle.{compression.specs.{Collection.{joined, opening}, declared.taken.Taken.Taken}, std.specs.Prelude.{filter_map, fold, option_map, take}}
 use Rattle.compression.specs.Role.{open_at, role}
 use Rattle.{compression.specs.declared.taken.Taken.TheVariants.{Joined, Opened, OtherCycle, Repeat}, lens_why.specs.declared.collecting.LastCollection.LastCollection}
 use Rattle.{lens_why.proofs.LastRecords.{before_number, own_at}, run_law.specs.declared.note.Note.Note, std.proofs.lemmas.List.Sums.fold_push}

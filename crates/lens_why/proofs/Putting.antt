@@ -2,7 +2,7 @@
 use Rattle.{lens_why.specs.{Lines.{ground_line, is_told, told_lines}, declared.ground.Ground.Ground}, tte_forms.specs.Putting.{PutFails, PutsLines, Shown}}
 use Rattle.{net_plan.specs.declared.network.Network.Network, report_text.specs.NoteLine.note_line, run_law.specs.declared.note.Note.Note}
 use Rattle.{std.proofs.Common.{◌∷◌, ◌≡◌, Bool, List, [], false, subst, sym, true, ℕ}, tte_forms.proofs.Puts.{PutsLines-fails, PutsLines-more, PutsLines-none}}
-use Rattle.{std.specs.{Io.KnownBytes.Appends, Prelude.if◌then◌else◌}, tte_io.specs.{Faults.next_count, BestHeard.AppendsFront}}
+use Rattle.{std.specs.{Io.KnownBytes.Appends, Prelude.if◌then◌else◌}, tte_io.specs.{Faults.next_count, Told.AppendsFront}}
 
 module _ (network : Network) (note : Note) (said : Ground) where
   abbrev line : List ℕ

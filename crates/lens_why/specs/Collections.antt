@@ -3,7 +3,7 @@
 use Rattle.std.specs.{List.{Contains, last_or}, Prelude.{option_and_then, option_map, pos, ℕ, ℤ}}
 use Rattle.std.specs.Prelude.{◌*◌, ◌+◌, ◌-ℤ◌, ◌≡◌, ◌≤ℤ◌, List, None, Option, Some, fold, if◌then◌else◌, int_lt}
 use Rattle.{audit_devices.specs.Keeping.records_before, lens_why.specs.declared.ground.Ground.Ground}
-use Rattle.compression.specs.{Clusters.{AreClusters, Cluster, Point, point_at}, LastCollection.{joined, opening}}
+use Rattle.compression.specs.{Clusters.{AreClusters, Cluster, Point, point_at}, Collection.{joined, opening}}
 use Rattle.{compression.specs.Middle.{middle_of, relative}, net_plan.specs.declared.ids.DeviceId.DeviceId}
 use Rattle.{compression.specs.{OneCluster.AreInOrder, Role.role_in}, tte_units.specs.declared.units.Units.Units}
 use Rattle.compression.specs.declared.taken.Taken.{Taken, TheVariants.{Joined, Opened, OtherCycle, Repeat}}

@@ -4,7 +4,7 @@ ghost use Rattle.{lens_why.specs.Collections.{sent_ground, taken_to, told_of}, t
 ghost use Rattle.{std.specs.Prelude.pos, tte_units.specs.Amount.amount};
 ghost use Rattle.{audit_devices.specs.Effects.carried_by, tte_units.specs.declared.units.Units.{Units as UnitsValue}};
 ghost use Rattle.{audit_devices.specs.Keeping.records_before, run_law.specs.records.Happenings.{Happening, happenings}};
-ghost use Rattle.compression.specs.{Clusters.Cluster, LastCollection.{joined_end, opening}, Role.{has_point_of, role_in}};
+ghost use Rattle.compression.specs.{Clusters.Cluster, Collection.{joined_end, opening}, Role.{has_point_of, role_in}};
 ghost use Rattle.{device_rules.specs.Widths.IsWide, lens_why.specs.Records.IsThere, tte_audit.specs.Named.IsNamed};
 ghost use Rattle.lens_why.specs.Collections.{as_point, behind_point, collected_ground, last_collection, middle_told};
 ghost use Rattle.run_law.specs.{control.Collections.{ends_stretch, point_by}, declared.note.Note.{Note as NoteValue}};

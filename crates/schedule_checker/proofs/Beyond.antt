@@ -2,7 +2,7 @@
 use Rattle.std.proofs.Common.{◌<◌, ◌∷◌, ◌≡◌, ◌≤◌, Bool, List, None, Some, [], ap, arith, cond, false, get_or, length, refl, subst, true, ℕ, ⊎_elim}
 use Rattle.std.proofs.lemmas.{Bool.{cases_lt, ne_eqb}, List.{Elements.All-tail, Sums.sum_by-cons}, Option.{slice_get_cases, slice_get_within}}
 use Rattle.std.specs.{List.{All, count_by}, Prelude.slice_get}
-use Rattle.net_plan.specs.{RowPlaces.is_end_system, Ranges.{IsInRange, IsLinkInRange, IsRowInRange}, declared.{network.Network.Network, tables.Device.Device}}
+use Rattle.net_plan.specs.{Places.is_end_system, Ranges.{IsInRange, IsLinkInRange, IsRowInRange}, declared.{network.Network.Network, tables.Device.Device}}
 use Rattle.net_plan.specs.declared.tables.{Link.Link, Row.Row, Way.{Way, TheVariants.{Down, Up}}}
 use Rattle.schedule_tables.specs.{Entries.source_by, Rules.{IsKept, IsKeptAt}, Schedule.{HasFewRows, leaves}, declared.rule.Rule.{Rule, TheVariants.WindowEnds}}
 use Rattle.schedule_tables.specs.declared.rule.Rule.TheVariants.{BothChannels, CompressionMasters, Connections, Correction, Delays, DevicesDiffer, Forwarding}

@@ -1,5 +1,5 @@
 -- What holds of a network's entries, said of its virtual links.
-use Rattle.{net_plan.specs.RowPlaces.IsEndSystem, schedule_checker.proofs.SomePlaces.HoldsBy, std.specs.{Bool.Decides, List.{All, slice_get}}}
+use Rattle.{net_plan.specs.Places.IsEndSystem, schedule_checker.proofs.SomePlaces.HoldsBy, std.specs.{Bool.Decides, List.{All, slice_get}}}
 use Rattle.{net_plan.specs.declared.{ids.{DeviceId.DeviceId, VlId.VlId}, network.Network.Network, tables.Row.Row}, std.proofs.lemmas.Bool.Decides.Decides-like}
 use Rattle.{net_plan.specs.declared.tables.VirtualLink.VirtualLink, schedule_checker.proofs.EntryPlaces.{all_of_earlier, earlier_of_all, entry_at, stands_at}}
 use Rattle.tte_units.{proofs.general_lemmas.Options.some_same, specs.declared.frames.channel.Channel.{Channel, TheVariants.{A, B}}}

@@ -1,6 +1,6 @@
 -- Paths by first uplinks, and devices that are connected on both channels.
 use Rattle.{net_plan.specs.{Paths.{IsFirstPath, IsFirstUplink, IsUplink}, Rules.IsConnected}, tte_units.proofs.general_lemmas.Options.{at_known, closed}}
-use Rattle.net_plan.specs.{RowPlaces.{IsCmOf, IsSwitchOf, link_at}, declared.{ids.{DeviceId.DeviceId, LinkId.LinkId}, network.Network.Network, tables.Link.Link}}
+use Rattle.net_plan.specs.{Places.{IsCmOf, IsSwitchOf, link_at}, declared.{ids.{DeviceId.DeviceId, LinkId.LinkId}, network.Network.Network, tables.Link.Link}}
 use Rattle.{schedule_checker.specs.Shape.{IsConnectedOn, LeadsToCmWithin}, tte_units.specs.declared.frames.channel.Channel.{Channel, TheVariants.{A, B}}}
 use Rattle.std.proofs.{Common.{◌-◌, ◌<◌, ◌∙◌, ◌∷◌, ◌≡◌, ◌≢◌, ◌≤◌, List, Some, [], ap, arith, length, suc, zero, ℕ, ⊎_elim}, lemmas.Bool.cases_lt}
 use Rattle.std.specs.Prelude.{IsSomeAnd, slice_get}

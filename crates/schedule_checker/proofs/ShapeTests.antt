@@ -1,7 +1,7 @@
 -- Tests of roles, channels and links.
 use Rattle.std.proofs.{Common.{◌&&◌, ◌≡◌, ◌≤◌, Bool, None, Option, Some, ap, arith, eqb, false, leb, not, refl, true, ℕ}, lemmas.Bool.false≢true}
 use Rattle.std.{proofs.lemmas.Bool.Decides.{Decides-and, Decides-eqb, Decides-like, nat_tests}, specs.{Bool.Decides, Prelude.IsSomeAnd}}
-use Rattle.net_plan.specs.{RowPlaces.{IsSwitchOf, device_at}, declared.{ids.DeviceId.DeviceId, network.Network.Network, tables.{Device.Device, Link.Link}}}
+use Rattle.net_plan.specs.{Places.{IsSwitchOf, device_at}, declared.{ids.DeviceId.DeviceId, network.Network.Network, tables.{Device.Device, Link.Link}}}
 use Rattle.net_plan.specs.declared.tables.Role.{Role, TheVariants.{Client, Cm, Master, Relay}}
 use Rattle.tte_units.specs.declared.frames.channel.Channel.{Channel, TheVariants.{A, B}}
 

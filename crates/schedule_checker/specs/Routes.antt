@@ -1,6 +1,6 @@
 -- How the rows of a virtual link enter devices.
 use Rattle.std.specs.Prelude.{◌≡◌, ◌≢◌, ◌⊎◌, List, Some, slice_get, ℕ}
-use Rattle.net_plan.specs.{RowPlaces.IsEndSystem, declared.{ids.{DeviceId.DeviceId, VlId.VlId}, network.Network.Network}}
+use Rattle.net_plan.specs.{Places.IsEndSystem, declared.{ids.{DeviceId.DeviceId, VlId.VlId}, network.Network.Network}}
 use Rattle.tte_units.specs.declared.frames.channel.Channel.{Channel, TheVariants.{A, B}}
 use Rattle.schedule_tables.specs.{Entries.{IsOnChannel, source_of, target_of}, Schedule.{EntersOn, IsSwitch, LeavesOn}}
 use Rattle.schedule_tables.specs.declared.entry.Entry.{Entry}

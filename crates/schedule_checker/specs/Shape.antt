@@ -1,7 +1,7 @@
 -- Parts of the rules of a network's shape.
 use Rattle.std.specs.Prelude.{◌≤◌, ◌⊎◌, List, length, ℕ}
 use Rattle.net_plan.specs.{Paths.{IsFirstPath, IsUplink, LeadsToCm}, declared.tables.Role.TheVariants.Relay}
-use Rattle.net_plan.specs.{RowPlaces.{IsDeviceOf, IsEndSystem, IsRoleOf, IsSwitchOf}, declared.network.Network.Network}
+use Rattle.net_plan.specs.{Places.{IsDeviceOf, IsEndSystem, IsRoleOf, IsSwitchOf}, declared.network.Network.Network}
 use Rattle.net_plan.specs.{Rules.{ExactlyOne, IsChildOf}, declared.{ids.LinkId.LinkId, tables.Link.Link}}
 use Rattle.{net_plan.specs.declared.ids.DeviceId.DeviceId, tte_units.specs.declared.frames.channel.Channel.Channel}
 

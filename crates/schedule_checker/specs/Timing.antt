@@ -1,6 +1,6 @@
 -- Parts of the rules of times.
 use Rattle.std.specs.Prelude.{◌*◌, ◌+◌, ◌≤◌, List, ℕ}
-use Rattle.{net_plan.specs.{Bounds.gamma_of, Paths.IsPath, RowPlaces.IsDeviceOf}, tte_units.specs.Amount.amount}
+use Rattle.{net_plan.specs.{Bounds.gamma_of, Paths.IsPath, Places.IsDeviceOf}, tte_units.specs.Amount.amount}
 use Rattle.{net_plan.specs.declared.ids.{DeviceId.DeviceId, LinkId.LinkId}, schedule_tables.specs.Delays.delay_on}
 use Rattle.{net_plan.specs.declared.network.Network.Network, tte_units.specs.declared.frames.channel.Channel.Channel}
 

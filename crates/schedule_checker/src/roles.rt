@@ -1,5 +1,5 @@
 ghost use Rattle.std.specs.Prelude.{◌↔◌, IsTrue};
-ghost use Rattle.{net_plan.specs.RowPlaces.IsEndSystem, schedule_tables.specs.Schedule.IsSwitch};
+ghost use Rattle.{net_plan.specs.Places.IsEndSystem, schedule_tables.specs.Schedule.IsSwitch};
 
 use net_plan::{DeviceId, Network};
 

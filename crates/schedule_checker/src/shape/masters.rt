@@ -1,6 +1,6 @@
 ghost use Rattle.std.specs.Prelude.{◌≡◌, ◌≢◌, ◌≤◌, ◌↔◌, ◌≤ℤ◌, ◌+◌, true, IsTrue, IfNone, IfSome, is_some, length};
 ghost use Rattle.std.specs.List.{All, count_by};
-ghost use Rattle.{net_plan.specs.RowPlaces.is_master, schedule_checker.specs.Parts.part_of_demand};
+ghost use Rattle.{net_plan.specs.Places.is_master, schedule_checker.specs.Parts.part_of_demand};
 ghost use Rattle.net_plan.specs.Rules.{HasOffSwitch, MastersSuffice, MembersDiffer, masters, most_masters};
 ghost use Rattle.tte_units.specs.declared.frames.channel.Channel.{Channel as ChannelValue};
 

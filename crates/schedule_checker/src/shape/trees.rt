@@ -1,5 +1,5 @@
 ghost use Rattle.std.specs.Prelude.{◌<◌, ◌↔◌, ◌≡◌, ◌≤◌, IfNone, IfSome, IsTrue, Some, length};
-ghost use Rattle.net_plan.specs.{Paths.IsUplink, RowPlaces.{IsCmOf, IsRoleOf, IsSwitchOf}, Ranges.IsInRange};
+ghost use Rattle.net_plan.specs.{Paths.IsUplink, Places.{IsCmOf, IsRoleOf, IsSwitchOf}, Ranges.IsInRange};
 ghost use Rattle.net_plan.specs.Rules.{ExactlyOne, HasOneCm, IsChildOf, IsConnected, JoinsChildToSwitch};
 ghost use Rattle.schedule_checker.specs.{Parts.part_of_channel, Shape.{IsConnectedOn, JoinsOn, LeadsToCmWithin}};
 

@@ -1,5 +1,5 @@
 use Rattle.{lens_why.proofs.Putting.{put_alone, put_both, put_half, put_none}, std.proofs.Common.{◌∙◌, List, subst, sym, ℕ}, tte_forms.specs.Putting.shown_by}
-use Rattle.{std.specs.Io.KnownBytes.Appends, tte_io.specs.BestHeard.AppendsFront}
+use Rattle.{std.specs.Io.KnownBytes.Appends, tte_io.specs.Told.AppendsFront}
 use Rattle.lens_why.proofs.lines.put_record.Goals as goal
 
 pub returns-in-Err-clause-puts : goal.returns-in-Err-clause-puts

@@ -1,4 +1,4 @@
-use Rattle.{net_plan.specs.RowPlaces.IsEndSystem, schedule_checker.proofs.RouteLemmas.{alike, alike_back}, std.proofs.lemmas.Bool.Decides.Decides-like}
+use Rattle.{net_plan.specs.Places.IsEndSystem, schedule_checker.proofs.RouteLemmas.{alike, alike_back}, std.proofs.lemmas.Bool.Decides.Decides-like}
 use Rattle.std.{proofs.Common.rules, specs.Cmp.booleans_Decides}
 use Rattle.schedule_checker.proofs.both_channels.Kin.enters_alike.Goals as goal
 

@@ -1,4 +1,4 @@
-use Rattle.{net_plan.specs.RowPlaces.is_master, schedule_checker.proofs.ShapePairs.PairsBelow, std.proofs.Common.◌≢◌}
+use Rattle.{net_plan.specs.Places.is_master, schedule_checker.proofs.ShapePairs.PairsBelow, std.proofs.Common.◌≢◌}
 use Rattle.schedule_checker.proofs.shape.masters.members_differ.Given as goal
 
 -- the masters so far have different members

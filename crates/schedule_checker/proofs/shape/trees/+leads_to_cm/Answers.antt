@@ -1,5 +1,5 @@
 use Rattle.std.proofs.{Common.{◌∙◌, ◌≡◌, ◌≢◌, List, Some, ap, get_or, sym}, lemmas.{Bool.false≢true, Option.slice_get-get_or}}
-use Rattle.net_plan.specs.{RowPlaces.{IsCmOf, link_at}, declared.tables.Link.Link}
+use Rattle.net_plan.specs.{Places.{IsCmOf, link_at}, declared.tables.Link.Link}
 use Rattle.schedule_checker.proofs.ShapePaths.{leads_by, leads_nowhere, leads_on, uplink_within}
 use Rattle.schedule_checker.proofs.shape.trees.+leads_to_cm.Goals as goal
 

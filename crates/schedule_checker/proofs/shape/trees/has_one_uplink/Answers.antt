@@ -1,4 +1,4 @@
-use Rattle.net_plan.specs.{RowPlaces.IsSwitchOf, declared.{ids.LinkId.LinkId, tables.Link.Link}}
+use Rattle.net_plan.specs.{Places.IsSwitchOf, declared.{ids.LinkId.LinkId, tables.Link.Link}}
 use Rattle.{schedule_checker.proofs.{ShapeLists.decides_one, ShapeTests.{decides_uplink, uplink_test}}, std.proofs.Common.{◌≡◌, refl, rules, tests, ℕ}}
 use Rattle.std.proofs.lemmas.{Bool.Decides.same_from_decides, Iterator.{Consumers.{YieldsList-from_filter, count_from_yields_List}, YieldsList-from_slice}}
 use Rattle.schedule_checker.proofs.shape.trees.has_one_uplink.Goals as goal
