@@ -1,4 +1,4 @@
-ghost use Rattle.std.specs.Prelude.{◌≡◌, ◌<◌, ◌-◌, ◌^◌, ◌∷◌, ◌++◌, [], List, IfOk, IfSome, OnOk, Some, ℕ, length};
+ghost use Rattle.std.specs.Prelude.{◌≡◌, ◌<◌, ◌≤◌, ◌∷◌, ◌++◌, [], List, IfOk, IfSome, OnOk, Some, ℕ, length};
 ghost use Rattle.{audit_devices.specs.Lasting.end_of, net_plan.specs.Ranges.IsInRange};
 
 use crate::history::History;
