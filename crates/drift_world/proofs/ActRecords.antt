@@ -29,7 +29,7 @@ module _ (other network : Network) (now : ℕ) (hs : List Happening) where
   order_then (Some z) old new put order =
       order_put order (is_put_in network now z old new put.0 put.1 order)
 
-  one_by : (o : Option Settled) (old new : List Settled) → IsSomePut o old new → InOrder (all_at old) → IsOwn other network now hs o
+  pub one_by : (o : Option Settled) (old new : List Settled) → IsSomePut o old new → InOrder (all_at old) → IsOwn other network now hs o
       → ArePutIn other hs now (body_of o) (all_at old) (all_at new)
   one_by None old new put order own = ap all_at put
   one_by (Some z) old new put order own = (

@@ -33,8 +33,8 @@ no_port network ups downs (Dropped a b c d) frame octets time number = tt
 no_port network ups downs (Clock a b c d) frame octets time number = tt
 
 -- what it launches is under way, or waits, and what a switch took by it is held
-abbrev pub LaunchesOn : {C M : Type 0} → (C → ℕ → ℕ) → Scenario → Network → Type 0
-LaunchesOn {C} {M} reading s network =
+abbrev pub LaunchesOn : {C : Type 0} → Type 0 → (C → ℕ → ℕ) → Scenario → Network → Type 0
+LaunchesOn {C} M reading s network =
     (state after : State C M) (notes : List Note) (first : Settled) (giving : Option Giving)
     (entries : List (Entry Content)) (held : List Holding)
     → IsNext reading s notes (world_of network state) first.body
@@ -53,8 +53,8 @@ LaunchesOn {C} {M} reading s network =
       stored = map (stored_as network) held;
     })
 
-module _ {C M : Type 0} (reading : C → ℕ → ℕ) (s : Scenario) where
-  launched_so : LaunchesOn {C = C} {M = M} reading s s.network
+module _ {C : Type 0} (M : Type 0) (reading : C → ℕ → ℕ) (s : Scenario) where
+  launched_so : LaunchesOn M reading s s.network
   launched_so state after notes first giving entries held next own may out sent stored =
       let number = length notes + 1 in
       let x : Happening =
@@ -85,5 +85,5 @@ module _ {C M : Type 0} (reading : C → ℕ → ℕ) (s : Scenario) where
       }
 
   -- and so it is on the scenario's network, by whatever name
-  pub launched_on : (network : Network) → s.network ≡ network → LaunchesOn {C = C} {M = M} reading s network
-  launched_on network same = subst (LaunchesOn {C = C} {M = M} reading s) same launched_so
+  pub launched_on : (network : Network) → s.network ≡ network → LaunchesOn M reading s network
+  launched_on network same = subst (LaunchesOn M reading s) same launched_so

@@ -93,7 +93,7 @@ returns-clause-launched g c = λ s notes next own.
     subst (λ k. IsStoredBy first.body first.octets k w.stored.items three.stored.items) number
     (subst (λ (q : State _ _). IsStoredBy first.body first.octets (w.given + 1) q.stored.items three.stored.items) c.launch_frame.ensures.same
     c.launch_octets.ensures.stored) in
-    let step = launched_on K.reading s network (sym next.same) w two notes first given.0 three.under_way.entries
+    let step = launched_on _ K.reading s network (sym next.same) w two notes first given.0 three.under_way.entries
     three.stored.items next own (may_in K.reading network w first next own c.requires.octets) out sent held in
     let so : IsLaunched s notes first.body (world_of network w) (world_of network (record w {
       under_way = three.under_way;
