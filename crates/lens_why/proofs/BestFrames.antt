@@ -180,7 +180,7 @@ module _ (network : Network) (octets : List ℕ) (ns : List Note) (end : Units) 
       quiet_before changed.2.0 (omega (arith, seven)) changed.2.1.next
   after_clique state cause whys.On told is = absurd cc
   after_clique state cause whys.Frame told is = absurd cc
-  after_clique state cause whys.RecordedCorrection told is = absurd cc
+  after_clique state cause whys.Correction told is = absurd cc
 
 abbrev pub best : ℕ → Members → ℤ → Best
 best n members v = record { number = n; members = members; value = v }

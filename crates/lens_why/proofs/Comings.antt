@@ -38,7 +38,7 @@ module _ (s : Scenario) (ps : List Happening) (founded : IsFounded place_of (IsD
   of_state : (device : DeviceId) (t : ℕ) (state : State) (cause : ℕ) (why : Why) → ChangesState s ps device t state cause why → IsNoneOrThere ps cause
   of_state device t state cause whys.On c = inr (c.2.1, c.2.2.there)
   of_state device t state cause whys.Frame c = inr (c.1.0, c.1.1.there)
-  of_state device t state cause whys.RecordedCorrection c = inr (c.2.3, c.2.4.there)
+  of_state device t state cause whys.Correction c = inr (c.2.3, c.2.4.there)
   of_state device t state cause whys.SyncClique c = inl c.1
   of_state device t state cause whys.AsyncClique c = inl c.1
 

@@ -29,7 +29,7 @@ change_paid s {cause} m = (m.paying, m.there, told m.paying.note.body cause m.of
 pub bringer : (s : Scenario) (hs : List Happening) (device : DeviceId) (t : ℕ) (state : State) (cause : ℕ) (why : Why) → IsBrought why
     → ChangesState s hs device t state cause why → (h : Happening) × IsOfThisTime hs t cause h
 bringer s hs device t state cause whys.On b c = (c.2.1, c.2.2)
-bringer s hs device t state cause whys.RowFrame b c = (c.1.0, c.1.1)
+bringer s hs device t state cause whys.Frame b c = (c.1.0, c.1.1)
 bringer s hs device t state cause whys.Correction b c = (c.2.3, c.2.4)
 bringer s hs device t state cause whys.SyncClique b c = absurd b
 bringer s hs device t state cause whys.AsyncClique b c = absurd b
@@ -100,14 +100,14 @@ brought_change s hs cause h there (notes.Event line (On device)) is b = record {
 brought_change s hs cause h there (notes.Permanent device link from point Integrates) is b = record {
   device = device;
   state = Joining;
-  why = whys.RowFrame;
+  why = whys.Frame;
   brought = tt;
   changes = (refl, (h, record { there = there; same_time = refl }, ap (is_joined_by device) is ∙ eqb_same device.0));
 }
 brought_change s hs cause h there (notes.Compressed device opened at cycle members Integrates) is b = record {
   device = device;
   state = Joining;
-  why = whys.RowFrame;
+  why = whys.Frame;
   brought = tt;
   changes = (refl, (h, record { there = there; same_time = refl }, ap (is_joined_by device) is ∙ eqb_same device.0));
 }

@@ -14,7 +14,7 @@ without_cause : (s : Scenario) (ps : List Happening) (device : DeviceId) (t caus
     → ChangesState s ps device t state cause why → (why ≡ whys.SyncClique) ⊎ (why ≡ whys.AsyncClique)
 without_cause s ps device t cause state whys.On none c =
     let there = subst (λ n. numbered ps n ≡ Some c.2.1) none c.2.2.there in absurd cc
-without_cause s ps device t cause state whys.RowFrame none c =
+without_cause s ps device t cause state whys.Frame none c =
     let there = subst (λ n. numbered ps n ≡ Some c.1.0) none c.1.1.there in absurd cc
 without_cause s ps device t cause state whys.Correction none c =
     let there = subst (λ n. numbered ps n ≡ Some c.2.3) none c.2.4.there in absurd cc
