@@ -196,7 +196,7 @@ octets_fit {number} {w} {result} {old} {new} a all =
 -- ---- so it is worked off
 
 pub ripened : {C M : Type 0} {reading : C → ℕ → ℕ} (stands : M → Network → DeviceId → Node → Type 0)
-    (network : Network) (state : State C M) {w : Waits} (new : List Waits) (machine after : Kept M) {result : Ripe}
+    (network : Network) (state : State C M) {w : Waits} (new : List Waits) (machine after : Kept M) (result : Ripe)
     → IsPermutation state.waiting.items (w ∷ new) → AreApart state.waiting.items
     → ((clock : C) → slice_get state.clocks.items w.device.0 ≡ Some clock
     → w.point.0 ≤ℤ pos (reading clock state.time)) → w.device.0 < length state.machines.items
@@ -213,7 +213,7 @@ pub ripened : {C M : Type 0} {reading : C → ℕ → ℕ} (stands : M → Netwo
     })
     (ripe_place state.time (waiting_as w)) (Some (ripe_record w result))
     (joined_record (state.given + 1) w.device result)
-ripened {reading} stands network state {w} new machine after {result} t apart reached many own {s} {notes} is first has =
+ripened {reading} stands network state {w} new machine after result t apart reached many own {s} {notes} is first has =
     let world = world_of network state in
     let old = is.0 in
     let there = was_there w state.waiting.items new t in

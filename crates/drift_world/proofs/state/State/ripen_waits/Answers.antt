@@ -96,7 +96,7 @@ returns-clause-turns g c = λ s notes is first.
     let many = c.requires.sound.sized.machines in
     ripened g.M.Machine.stands c.args.network.now c.args.self.now c.take_first-waits.new.self.items
     c.index_mut.result.now
-    c.ripen-ripe.new.self c.take_first-waits.ensures.items c.requires.sound.fit.apart
+    c.ripen-ripe.new.self c.ripen-ripe.result c.take_first-waits.ensures.items c.requires.sound.fit.apart
     (λ clock own. c.requires.reached one clock c.take_first-waits.ensures.is own) (omega (arith, lt, many))
     (held g (goal.at.returns-clause-turns g c).After-index_mut) is first
     (subst (λ m. HasRipened (keeps g.M.Machine.stands) s.network one.device m one.link one.frame one.point c.ripen-ripe.result c.index_mut.result.now
