@@ -1,13 +1,12 @@
 pub mod Marks
 pub mod Payers
-pub mod Firsts
 pub mod PaidArrivals
 pub mod PaidLosses
 pub mod PaidChanges
 pub mod PaidPermanences
 pub mod ClockDebts
-pub mod Among
 pub mod DepartureDebts
+pub mod Brought
 pub mod Words
 pub mod points_lemmas
 pub mod dispatches_lemmas

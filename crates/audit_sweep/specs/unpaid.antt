@@ -1,5 +1,5 @@
 pub mod Payments
-pub mod Unpaid
+pub mod Sorts
 pub mod Debtors
 pub mod Changing
 pub mod Waiting

@@ -8,10 +8,10 @@ ghost use Rattle.net_plan.specs.declared.{event.Event.Event, network.Network.{Ne
 ghost use Rattle.tte_units.specs.{Amount.amount, declared.units.Units.{Units as UnitsValue}};
 
 use crate::sweep::Sweep;
-use crate::unpaid::Debtor;
 use crate::unpaid::dispatches::RowDebtor;
 use crate::unpaid::emissions::first_unemitted;
-use crate::unpaid::points::{earlier, first_unsent, first_untold};
+use crate::unpaid::points::{first_unsent, first_untold};
+use crate::unpaid::{Debtor, earlier_of};
 use tte_units::magnitude;
 
 impl Sweep<'_> {
@@ -28,20 +28,17 @@ impl Sweep<'_> {
         let debtor = self.debtor(until);
         let (network, known, places) = (self.network, &self.known, &self.places);
         let (events, standings) = (&known.events, &known.standings);
-        let arrivals = debtor.first_unpaid_arrival();
-        let permanences = debtor.first_unpaid_permanence();
+        let brought = debtor.first_unpaid();
         let emissions = first_unemitted(network, events, &known.stretches, places, until);
         let sendings = first_unsent(network, events, standings, places, until);
         let points = first_untold(network, events, standings, places, until);
-        let changes = debtor.first_unpaid_change();
-        let departures = debtor.first_unpaid_departure();
         let dispatches = self.row_debtor(until).first_undispatched();
-        let losses = debtor.first_unpaid_loss();
         let clocks = debtor.first_unpaid_clock(until);
-        let late = earlier(dispatches, earlier(losses, clocks));
-        let later = earlier(points, earlier(changes, earlier(departures, late)));
-        let rest = earlier(permanences, earlier(emissions, earlier(sendings, later)));
-        earlier(arrivals, rest)
+        let last = earlier_of(dispatches, clocks);
+        let late = earlier_of(points, last);
+        let later = earlier_of(sendings, late);
+        let rest = earlier_of(emissions, later);
+        earlier_of(brought, rest)
     }
 
     // What owes the records that other records bring, and those of clocks.

@@ -1,6 +1,7 @@
 //! The first times at which debts of a report that records bring are not paid.
 
 mod arrivals;
+mod brought;
 mod changes;
 mod clocks;
 mod debtor;
@@ -15,5 +16,6 @@ mod permanences;
 pub mod points;
 
 pub use debtor::Debtor;
+pub use earliest::earlier_of;
 pub use paid::Paid;
 pub use payments::Payments;

@@ -253,6 +253,15 @@ first_of (t ∷ rest) = t
 pub same_time : (x y : Happening) → place_of x ≡ place_of y → time_of x ≡ time_of y
 same_time x y same = ap first_of same
 
+-- a debt falls due at one time, however it is owed
+pub one_time : (s : Scenario) (hs : List Happening) (until : ℕ) → IsFounded place_of (IsDue s) hs → (o : Debt)
+    (a b : IsOwed s hs until o) → falls_due s hs until o a ≡ falls_due s hs until o b
+one_time s hs until founded o a b =
+    let x = is_payable s hs until founded o a in
+    let y = is_payable s hs until founded o b in
+    let same = has_one_place s hs until founded o {x = x.0} {y = y.0} a x.1 y.1 x.3 y.3 in
+    sym x.4 ∙ same_time x.0 y.0 same ∙ y.4
+
 pub debt_law : DebtLaw
 debt_law s hs until sound =
     let founded = founded_of_sound place_of (IsDue s) ((until + 1) ∷ []) hs sound in

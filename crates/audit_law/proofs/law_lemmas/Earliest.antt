@@ -1,110 +1,110 @@
--- The earliest of the first times of all kinds of debts.
-use Rattle.{audit_law.{proofs.law_lemmas.AllOwed.debt_law, specs.law.{DebtLaws.IsFirstDebt, Dispatched.Sending, Owed.falls_due}}, std.proofs.Common.MatchOption}
-use Rattle.audit_law.proofs.law_lemmas.Words.{◌+◌, ◌∷◌, ◌≡◌, ◌≤◌, ◌⊎◌, AreSound, Debt, DeviceId, Dispatch, Happening, IsDue, IsOwed, IsPaid, LacksNothing}
-use Rattle.audit_law.proofs.law_lemmas.Words.{LinkId, List, None, Option, Pays, Scenario, Some, [], arith, cases_lt, inl, inr, place_of, refl, subst, ℕ}
-use Rattle.{audit_law.specs.law.FirstDebts.{FirstDebtLaw, TellsFirst, earlier_of}, compression.specs.declared.compressed.Compressed.Compressed}
-use Rattle.audit_law.specs.law.Owed as debts
+-- The first time at which a debt of a sort is not paid: of one, of two sorts, of one sort after another, and of all.
+use Rattle.audit_law.specs.law.FirstDebts.{FirstDebtLaw, JoinedSortsLaw, TellsFirst, TellsUnpaid, earlier_of}
+use Rattle.audit_law.proofs.law_lemmas.Words.{◌+◌, ◌<◌, ◌≡◌, ◌≤◌, ◌⊎◌, Debt, Happening, IsDue, IsFounded, IsOwed}
+use Rattle.audit_law.proofs.law_lemmas.Words.{IsPaid, List, None, Option, Pays, Scenario, Some, arith, cases_lt, inl}
+use Rattle.audit_law.proofs.law_lemmas.Words.{inr, place_of, refl, subst, sym, ℕ}
+use Rattle.{audit_law.proofs.law_lemmas.AllOwed.{debt_law, one_time}, std.specs.Prelude.IsTrue}
+use Rattle.{audit_law.specs.law.Owed.falls_due, tte_units.proofs.general_lemmas.Naturals.below_next}
 
--- at this time, the first such, a debt falls due of which this holds and that no record pays
-record IsFirstIn (s : Scenario) (hs : List Happening) (until : ℕ) (P : Debt → Type 0) (time : ℕ) : Type 0 where
-  pub debt : Debt
-  pub of : P debt
-  pub owed : IsOwed s hs until debt
-  pub unpaid : IsPaid hs (Pays s) debt → ⊥
-  pub at : time ≡ falls_due s hs until debt owed
-  pub first : (other : Debt) → P other → (is : IsOwed s hs until other) → (IsPaid hs (Pays s) other → ⊥) → time ≤ falls_due s hs until other is
+-- of one of two sorts
+abbrev pub EitherOf : (Debt → Type 0) → (Debt → Type 0) → Debt → Type 0
+EitherOf A B o = A o ⊎ B o
 
-abbrev FirstIn : Scenario → List Happening → ℕ → (Debt → Type 0) → Option ℕ → Type 0
-FirstIn s hs until P first = MatchOption first ((o : Debt) → P o → IsOwed s hs until o → IsPaid hs (Pays s) o) (IsFirstIn s hs until P)
+-- of one of the first sorts, so many of them
+abbrev pub IsOfFirst : (ℕ → Debt → Type 0) → ℕ → Debt → Type 0
+IsOfFirst Is n o = (m : ℕ) × (m < n) × Is m o
 
--- the debt is of the kind
-abbrev OfKind : {O : Type 0} → (O → Debt) → Debt → Type 0
-OfKind {O} debt_of o = (x : O) × (debt_of x ≡ o)
+module _ (s : Scenario) (hs : List Happening) (until : ℕ) where
+  -- two sorts that are one
+  pub first_of_both : (A B C : Debt → Type 0) (a b : Option ℕ) → ((o : Debt) → C o → A o ⊎ B o)
+      → ((o : Debt) → A o → C o) → ((o : Debt) → B o → C o) → TellsFirst s hs until A a → TellsFirst s hs until B b
+      → TellsFirst s hs until C (earlier_of a b)
+  first_of_both A B C None None parts left right h g =
+      λ o is owed. elim (parts o is) [ inl p ↦ h o p owed | inr q ↦ g o q owed ]
+  first_of_both A B C None (Some u) parts left right h g = grind arith
+  first_of_both A B C (Some t) None parts left right h g = grind arith
+  first_of_both A B C (Some t) (Some u) parts left right h g =
+      elim (cases_lt u t) [
+        | inl less ↦
+            record {
+              debt = g.debt;
+              one = right g.debt g.one;
+              owed = g.owed;
+              unpaid = g.unpaid;
+              at = let due = g.at in omega (arith, due, less);
+              first = λ other is in_c not.
+                  elim (parts other in_c) [
+                    | inl p ↦ let late = h.first other is p not in omega (arith, late, less)
+                    | inr q ↦ let late = g.first other is q not in omega (arith, late, less)
+                  ];
+            }
+        | inr more ↦
+            record {
+              debt = h.debt;
+              one = left h.debt h.one;
+              owed = h.owed;
+              unpaid = h.unpaid;
+              at = let due = h.at in omega (arith, due, more);
+              first = λ other is in_c not.
+                  elim (parts other in_c) [
+                    | inl p ↦ let late = h.first other is p not in omega (arith, late, more)
+                    | inr q ↦ let late = g.first other is q not in omega (arith, late, more)
+                  ];
+            }
+      ]
 
-of_kind : {O : Type 0} (s : Scenario) (hs : List Happening) (until : ℕ) (debt_of : O → Debt) (first : Option ℕ) → TellsFirst s hs until debt_of first
-    → FirstIn s hs until (OfKind debt_of) first
-of_kind s hs until debt_of None h = λ o of owed. subst (λ d. IsOwed s hs until d → IsPaid hs (Pays s) d) of.1 (h of.0) owed
-of_kind s hs until debt_of (Some t) h = record {
-  debt = debt_of h.debt;
-  of = (h.debt, refl);
-  owed = h.owed;
-  unpaid = h.unpaid;
-  at = h.at;
-  first = λ other of is not.
-      subst (λ d. (owed : IsOwed s hs until d) → (IsPaid hs (Pays s) d → ⊥) → t ≤ falls_due s hs until d owed) of.1 (h.first of.0) is not;
-}
+  pub first_of_either : (A B : Debt → Type 0) (a b : Option ℕ) → TellsFirst s hs until A a → TellsFirst s hs until B b
+      → TellsFirst s hs until (EitherOf A B) (earlier_of a b)
+  first_of_either A B a b = first_of_both A B (EitherOf A B) a b (λ o is. is) (λ o is. inl is) (λ o is. inr is)
 
-join : (s : Scenario) (hs : List Happening) (until : ℕ) (P Q : Debt → Type 0) (a b : Option ℕ) → FirstIn s hs until P a → FirstIn s hs until Q b
-    → FirstIn s hs until (λ o. P o ⊎ Q o) (earlier_of a b)
-join s hs until P Q None None h g = λ o of owed. elim of [ inl p ↦ h o p owed | inr q ↦ g o q owed ]
-join s hs until P Q None (Some u) h g = grind arith
-join s hs until P Q (Some t) None h g = grind arith
-join s hs until P Q (Some t) (Some u) h g = elim (cases_lt u t) [
-  | inl sooner ↦ record {
-    debt = g.debt;
-    of = inr g.of;
-    owed = g.owed;
-    unpaid = g.unpaid;
-    at = omega (arith, sooner, g.at);
-    first = λ other of is not. elim of [
-      | inl p ↦ (let late = h.first other p is not in omega (arith, sooner, late))
-      | inr q ↦ (let late = g.first other q is not in omega (arith, late))
-    ];
-  }
-  | inr later ↦ record {
-    debt = h.debt;
-    of = inl h.of;
+  -- one debt alone
+  pub first_of_one : IsFounded place_of (IsDue s) hs → (x : Debt) (r : Option ℕ) → TellsUnpaid s hs until x r
+      → TellsFirst s hs until (λ o. o ≡ x) r
+  first_of_one founded x None h = λ o is owed.
+      subst (λ (y : Debt). IsOwed s hs until y → IsPaid hs (Pays s) y) (sym is) h owed
+  first_of_one founded x (Some t) h = record {
+    debt = x;
+    one = refl;
     owed = h.owed;
     unpaid = h.unpaid;
-    at = omega (arith, later, h.at);
-    first = λ other of is not. elim of [
-      | inl p ↦ (let late = h.first other p is not in omega (arith, late))
-      | inr q ↦ (let late = g.first other q is not in omega (arith, later, late))
-    ];
+    at = h.at;
+    first = λ other is same not.
+        subst (λ (y : Debt). (owed : IsOwed s hs until y) → t ≤ falls_due s hs until y owed) (sym same)
+        (λ owed. let at = h.at in let one = one_time s hs until founded x h.owed owed in omega (arith, at, one)) is;
   }
-]
 
-of_all : (s : Scenario) (hs : List Happening) (until : ℕ) (P : Debt → Type 0) (first : Option ℕ) → AreSound place_of (IsDue s) ((until + 1) ∷ []) hs
-    → ((o : Debt) → P o) → FirstIn s hs until P first → MatchOption first (LacksNothing place_of (IsDue s) ((until + 1) ∷ []) hs) (IsFirstDebt s hs until)
-of_all s hs until P None sound all h = grind (arith, debt_law)
-of_all s hs until P (Some t) sound all h =
-    record { debt = h.debt; owed = h.owed; unpaid = h.unpaid; at = h.at; first = λ other is not. h.first other (all other) is not }
+  -- more of which no other is owed
+  pub first_of_more : (A B : Debt → Type 0) (a : Option ℕ) → ((o : Debt) → A o → B o)
+      → ((o : Debt) → B o → IsOwed s hs until o → A o) → TellsFirst s hs until A a → TellsFirst s hs until B a
+  first_of_more A B None wide narrow h = λ o is owed. h o (narrow o is owed) owed
+  first_of_more A B (Some t) wide narrow h = grind arith
 
--- ---- the kinds
+  -- ---- one sort after another
 
-abbrev Kinds : Debt → Type 0
-Kinds o =
-    OfKind (λ (line : ℕ). debts.event line) o ⊎ (OfKind (λ (cause : ℕ). debts.arrival cause) o
-    ⊎ (OfKind (λ (cause : ℕ). debts.permanence cause) o
-    ⊎ (OfKind (λ (d : DeviceId × Compressed). debts.emission d.0 d.1) o ⊎ (OfKind (λ (d : Sending). debts.sending d) o
-    ⊎ (OfKind (λ (d : DeviceId × ℕ). debts.point d.0 d.1) o ⊎ (OfKind (λ (cause : ℕ). debts.change cause) o
-    ⊎ (OfKind (λ (d : ℕ × LinkId). debts.departure d.0 d.1) o ⊎ (OfKind (λ (d : Dispatch). debts.dispatch d) o
-    ⊎ (OfKind (λ (cause : ℕ). debts.loss cause) o ⊎ OfKind (λ (d : DeviceId × ℕ). debts.clock d.0 d.1) o)))))))))
+  pub first_of_none : (Is : ℕ → Debt → Type 0) → TellsFirst s hs until (IsOfFirst Is 0) None
+  first_of_none Is = λ o is owed. let lt = is.1 in absurd (omega (arith, lt))
 
-every : (o : Debt) → Kinds o
-every (debts.event line) = inl (line, refl)
-every (debts.arrival cause) = inr (inl (cause, refl))
-every (debts.permanence cause) = inr (inr (inl (cause, refl)))
-every (debts.emission device sent) = inr (inr (inr (inl ((device, sent), refl))))
-every (debts.sending d) = inr (inr (inr (inr (inl (d, refl)))))
-every (debts.point device time) = inr (inr (inr (inr (inr (inl ((device, time), refl))))))
-every (debts.change cause) = inr (inr (inr (inr (inr (inr (inl (cause, refl)))))))
-every (debts.departure cause link) = inr (inr (inr (inr (inr (inr (inr (inl ((cause, link), refl))))))))
-every (debts.dispatch d) = inr (inr (inr (inr (inr (inr (inr (inr (inl (d, refl)))))))))
-every (debts.loss cause) = inr (inr (inr (inr (inr (inr (inr (inr (inr (inl (cause, refl))))))))))
-every (debts.clock device time) = inr (inr (inr (inr (inr (inr (inr (inr (inr (inr ((device, time), refl))))))))))
+  pub first_of_next : (Is : ℕ → Debt → Type 0) (n : ℕ) (first one : Option ℕ)
+      → TellsFirst s hs until (IsOfFirst Is n) first → TellsFirst s hs until (Is n) one
+      → TellsFirst s hs until (IsOfFirst Is (n + 1)) (earlier_of first one)
+  first_of_next Is n first one =
+      first_of_both (IsOfFirst Is n) (Is n) (IsOfFirst Is (n + 1)) first one
+      (λ o is.
+      elim (below_next is.0 n is.1) [
+        | inl less ↦ inl (is.0, less, is.2)
+        | inr same ↦ inr (subst (λ (m : ℕ). Is m o) same is.2)
+      ])
+      (λ o is. let lt = is.1 in (is.0, omega (arith, lt), is.2))
+      (λ o is. (n, omega arith, is))
+
+pub joined_sorts : JoinedSortsLaw
+joined_sorts s hs until first second both a b are =
+    first_of_both s hs until (λ o. IsTrue (first o)) (λ o. IsTrue (second o)) (λ o. IsTrue (both o)) a b
+    (λ o. (are o).0) (λ o is. (are o).1 (inl is)) (λ o is. (are o).1 (inr is))
 
 pub first_debt_law : FirstDebtLaw
-first_debt_law s hs until f sound firsts =
-    of_all s hs until Kinds _ sound every
-    (join s hs until _ _ f.events _ (of_kind s hs until _ f.events firsts.events)
-    (join s hs until _ _ f.arrivals _ (of_kind s hs until _ f.arrivals firsts.arrivals)
-    (join s hs until _ _ f.permanences _ (of_kind s hs until _ f.permanences firsts.permanences)
-    (join s hs until _ _ f.emissions _ (of_kind s hs until _ f.emissions firsts.emissions)
-    (join s hs until _ _ f.sendings _ (of_kind s hs until _ f.sendings firsts.sendings)
-    (join s hs until _ _ f.points _ (of_kind s hs until _ f.points firsts.points)
-    (join s hs until _ _ f.changes _ (of_kind s hs until _ f.changes firsts.changes)
-    (join s hs until _ _ f.departures _ (of_kind s hs until _ f.departures firsts.departures)
-    (join s hs until _ _ f.dispatches _ (of_kind s hs until _ f.dispatches firsts.dispatches)
-    (join s hs until _ _ f.losses f.clocks (of_kind s hs until _ f.losses firsts.losses)
-    (of_kind s hs until _ f.clocks firsts.clocks)))))))))))
+first_debt_law s hs until None sound all = λ x lacks here.
+    let o = (debt_law s hs until sound).lacking x lacks here in
+    o.4 (all o.0 tt o.1)
+first_debt_law s hs until (Some t) sound h =
+    record { debt = h.debt; owed = h.owed; unpaid = h.unpaid; at = h.at; first = λ o is not. h.first o is tt not }

@@ -1,6 +1,6 @@
 ghost use Rattle.audit_law.specs.law.DebtLaws.{ArrivalLaw, ChangeLaw, ClockLaw, DebtLaw, DepartureLaw, DispatchLaw};
 ghost use Rattle.audit_law.specs.law.DebtLaws.{EmissionLaw, EventLaw, LackLaw, LossLaw, PermanenceLaw, PointLaw};
-ghost use Rattle.audit_law.specs.law.{DebtLaws.{SendingLaw, SettledLaw}, FirstDebts.FirstDebtLaw};
+ghost use Rattle.audit_law.specs.law.{DebtLaws.{SendingLaw, SettledLaw}, FirstDebts.{FirstDebtLaw, JoinedSortsLaw}};
 
 /// A founded list of records owes, for each frame that a record gives to a link, one record of its leaving: that it
 /// left, met a cut way or was too old. What is due by a leaving is so owed, and what is so owed is due.
@@ -81,8 +81,10 @@ pub fn settled_law()
     ensures { SettledLaw }
 {}
 
-/// The earliest of the first times of all kinds of debts at which one of it is not paid is that of the first debt of
-/// all. Where there is none, a list whose records are all sound lacks nothing.
+/// The first time at which a debt of two sorts together is not paid is the earlier of theirs, so that of all kinds is
+/// the earliest of the kinds'. The first time at which any debt is not paid is that of the first debt of all; where
+/// there is none, a list whose records are all sound lacks nothing.
 pub fn first_debt_law()
-    ensures { FirstDebtLaw }
+    ensures joined { JoinedSortsLaw }
+    ensures all { FirstDebtLaw }
 {}

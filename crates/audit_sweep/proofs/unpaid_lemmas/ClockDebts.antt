@@ -1,8 +1,8 @@
 -- The clocks that are owed at the end.
 use Rattle.{audit_law.proofs.law_lemmas.EndingClocks.place_of_clock, audit_sweep.specs.unpaid.Clocks.{IsOnlyEnd, IsUntold, IsUntoldDevice}}
-use Rattle.{audit_law.specs.law.EndClocks.IsClockOf, net_plan.proofs.SameIds.same_device}
-use Rattle.audit_sweep.proofs.unpaid_lemmas.Words.{◌+◌, ◌<◌, ◌∙◌, ◌∷◌, ◌≡◌, ◌≤◌, DeviceId, Happening, HasClockAt, IsPaid, List, None, NoteBody, Pays, Scenario}
-use Rattle.audit_sweep.proofs.unpaid_lemmas.Words.{Some, TellsFirst, [], ap, arith, cases_lt, refl, subst, sym, time_of, ℕ}
+use Rattle.{audit_law.specs.law.{EndClocks.IsClockOf, Owed.falls_due}, audit_sweep.specs.unpaid.Sorts.IsClockDebt, net_plan.proofs.SameIds.same_device}
+use Rattle.audit_sweep.proofs.unpaid_lemmas.Words.{◌+◌, ◌<◌, ◌∙◌, ◌∷◌, ◌≡◌, ◌≤◌, Debt, DeviceId, Happening, HasClockAt, IsOwed, IsPaid, List, None, NoteBody, Pays}
+use Rattle.audit_sweep.proofs.unpaid_lemmas.Words.{Scenario, Some, TellsFirst, [], ap, arith, cases_lt, refl, subst, sym, time_of, ℕ}
 use Rattle.{run_law.specs.records.Ranks.{members_in, place_at}, std.proofs.lemmas.Option.slice_get_within, tte_units.proofs.general_lemmas.Lists.some_at}
 use Rattle.audit_law.specs.law.Owed as debts
 use Rattle.run_law.specs.declared.note.NoteBody.TheVariants as notes
@@ -49,34 +49,42 @@ module _ (s : Scenario) (hs : List Happening) where
       let h = paid.0 in
       (h, paid.1, place_of_clock (time_of h) (members_in h) device h.note.body paid.2.1 ∙ ap (λ (t : ℕ). t ∷ 14 ∷ device.0 ∷ []) paid.2.0)
 
+  -- a clock is owed at the end
+  at_end : (until : ℕ) {end : ℕ} → IsOnlyEnd s.events end → (o : Debt) → IsClockDebt o → (owed : IsOwed s hs until o)
+      → falls_due s hs until o owed ≡ end
+  at_end until one (debts.clock device time) is owed = one.only time owed.ends
+  at_end until one other is owed = absurd is
+
   -- where the end is later, none is owed
-  pub none_owed : (until : ℕ) {end : ℕ} → IsOnlyEnd s.events end → until < end
-      → TellsFirst s hs until (λ (o : DeviceId × ℕ). debts.clock o.0 o.1) None
-  none_owed until one late = λ o owed.
+  pub none_owed : (until : ℕ) {end : ℕ} → IsOnlyEnd s.events end → until < end → (o : Debt) → IsClockDebt o
+      → IsOwed s hs until o → IsPaid hs (Pays s) o
+  none_owed until one late (debts.clock device time) is owed =
       let timely = owed.timely in
-      let at = one.only o.1 owed.ends in
+      let at = one.only time owed.ends in
       absurd (omega (arith, timely, at, late))
+  none_owed until one late other is owed = absurd is
 
   -- where each clock is told, each is paid
-  pub all_told : (until : ℕ) {end : ℕ} → IsOnlyEnd s.events end → IsUntold s.network hs end None
-      → TellsFirst s hs until (λ (o : DeviceId × ℕ). debts.clock o.0 o.1) None
-  all_told until {end} one all = λ o owed.
-      let at = one.only o.1 owed.ends in
-      let has = all o.0 (slice_get_within s.network.device o.0.0 owed.is owed.there) in
-      subst (λ (t : ℕ). IsPaid hs (Pays s) (debts.clock o.0 t)) (sym at) (paid_there o.0 end has)
+  pub all_told : (until : ℕ) {end : ℕ} → IsOnlyEnd s.events end → IsUntold s.network hs end None → (o : Debt)
+      → IsClockDebt o → IsOwed s hs until o → IsPaid hs (Pays s) o
+  all_told until {end} one all (debts.clock device time) is owed =
+      let has = all device (slice_get_within s.network.device device.0 owed.is owed.there) in
+      subst (λ (t : ℕ). IsPaid hs (Pays s) (debts.clock device t)) (sym (one.only time owed.ends))
+      (paid_there device end has)
+  all_told until one all other is owed = absurd is
 
   -- where one is not told, it is owed at the end
   pub one_untold : (until : ℕ) {end : ℕ} {device : DeviceId} → IsOnlyEnd s.events end → end ≤ until
-      → IsUntoldDevice s.network hs end device → TellsFirst s hs until (λ (o : DeviceId × ℕ). debts.clock o.0 o.1)
-      (Some end)
+      → IsUntoldDevice s.network hs end device → TellsFirst s hs until IsClockDebt (Some end)
   one_untold until {end} {device} one timely none =
       let found = some_at s.network.device device.0 none.there in
       record {
-        debt = (device, end);
+        debt = debts.clock device end;
         owed = record { is = found.0; there = found.1; ends = one.ends; timely = timely };
+        one = tt;
         unpaid = λ paid. none.untold (there_paid device end paid);
         at = refl;
-        first = λ other is not. let at = one.only other.1 is.ends in omega (arith, at);
+        first = λ other is one_of not. let at = at_end until one other one_of is in omega (arith, at);
       }
 
 -- the devices below the next are those below this one, and this one

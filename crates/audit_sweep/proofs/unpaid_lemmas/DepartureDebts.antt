@@ -1,9 +1,11 @@
 -- The leavings that are owed, and what pays them.
 use Rattle.{audit_law.proofs.law_lemmas.Departing.{departs_in_whole, departure_law, record_place, same_place}, audit_sweep.specs.records.wires.Departings.giver}
+use Rattle.{audit_law.proofs.law_lemmas.Earliest.IsOfFirst, audit_sweep.proofs.records_lemmas.wires_lemmas.Givers.given_within}
 use Rattle.audit_law.specs.law.Departures.{IsDueByLeaving, OwesDeparture, TellsDeparture, leaves_at, leaving_record}
-use Rattle.audit_sweep.proofs.{records_lemmas.wires_lemmas.LeavingTimes.giver_is, unpaid_lemmas.Payers.{one_time, paid_at_place}}
-use Rattle.audit_sweep.proofs.unpaid_lemmas.Words.{◌↔◌, ◌∙◌, ◌≡◌, DeviceId, Happening, IsDue, IsFounded, IsIn, IsPaid, KeptRecord, LinkId, List, NoteBody, Pays}
-use Rattle.audit_sweep.proofs.unpaid_lemmas.Words.{Scenario, Some, ap, device_named, numbered, numbered_in, place_of, refl, subst, sym, time_of, true, ℕ}
+use Rattle.audit_sweep.proofs.{records_lemmas.wires_lemmas.LeavingTimes.giver_is, unpaid_lemmas.Payers.paid_at_place}
+use Rattle.audit_sweep.proofs.unpaid_lemmas.Words.{◌↔◌, ◌∙◌, ◌≡◌, ◌≤◌, Debt, DeviceId, Happening, IsDue, IsFounded, IsIn, IsLeavingDebtOf, IsOwed, IsPaid, KeptRecord}
+use Rattle.audit_sweep.proofs.unpaid_lemmas.Words.{LinkId, List, NoteBody, Pays, Scenario, Some, ap, device_named, length, numbered}
+use Rattle.audit_sweep.proofs.unpaid_lemmas.Words.{numbered_in, place_of, refl, same_some, subst, sym, time_of, true, ℕ}
 use Rattle.audit_sweep.specs.{records.{Keeping.{kept_of, record_of}, places.Placing.HasRecordAt}, unpaid.Leavings.{leaving_place, may_give}}
 use Rattle.{net_plan.specs.{Belonging.HasDevice, declared.network.Network.Network}, run_law.specs.scenario.Devices.is_relay, std.proofs.Common.arith}
 use Rattle.run_law.specs.{control.Leaving.{Departs, Departure, Gives, departure, leaves, on_cut_way, too_old}, records.Ranks.{members_in, place_at}}
@@ -55,11 +57,6 @@ module _ (s : Scenario) (hs : List Happening) (until cause : ℕ) (link : LinkId
       (departs_in_whole hs here.behind here.parts
       by.departs) departs)
 
-  -- a leaving falls due at one time
-  pub departure_time : IsFounded place_of (IsDue s) hs → (a b : OwesDeparture s hs until cause link)
-      → leaves_at s a.device link a.giving ≡ leaves_at s b.device link b.giving
-  departure_time founded a b = grind (arith, one_time, departure_law)
-
 -- ---- over links and records
 
 -- a record that gives a frame to a link may do so
@@ -70,8 +67,25 @@ gives_may network (notes.Compressed cm opened at cycle members verdict) device l
 gives_may network (notes.Arrived relay by from clock) device link a = subst (λ d. is_relay network d ≡ true) a.0 a.1.relay
 gives_may network body device link a = absurd a
 
--- one debt of a record and a link
-pub same_pair : (o : ℕ × LinkId) (n : ℕ) (l : LinkId) → o.0 ≡ n → o.1.0 ≡ l.0 → o ≡ (n, l)
-same_pair o n l first second =
-    let link : o.1 ≡ l = ap (λ (k : ℕ). let x : LinkId = record { 0 = k } in x) second in
-    ap (λ (m : ℕ). let p : ℕ × LinkId = (m, o.1) in p) first ∙ ap (λ (k : LinkId). let p : ℕ × LinkId = (n, k) in p) link
+-- the leaving of the frame of the record by the link of a number
+abbrev pub IsLeavingAt : ℕ → ℕ → Debt → Type 0
+IsLeavingAt n place = λ o. o ≡ debts.departure n (record { 0 = place })
+
+-- a leaving that is owed is by a link of the network
+pub leaving_within : (s : Scenario) (hs : List Happening) (until n count : ℕ) → length s.network.link ≤ count
+    → (o : Debt) → IsLeavingDebtOf n o → IsOwed s hs until o → IsOfFirst (IsLeavingAt n) count o
+leaving_within s hs until n count all (debts.departure cause link) is owed =
+    let has = given_within s.network owed.giving.note.body owed.device link owed.gives in
+    (link.0, omega (arith, has, all), ap (λ (m : ℕ). debts.departure m link) is)
+leaving_within s hs until n count all other is owed = absurd is
+
+-- a record that may give no frame to a link owes no leaving
+pub none_leaves : (s : Scenario) (hs : List Happening) (until n : ℕ) (h : Happening) → numbered hs n ≡ Some h
+    → (may_give s.network (kept_of h.note.body) ≡ true → ⊥) → (o : Debt) → IsLeavingDebtOf n o → IsOwed s hs until o
+    → IsPaid hs (Pays s) o
+none_leaves s hs until n h there never (debts.departure cause link) is owed =
+    let one = same_some (numbered hs n) owed.giving h
+    (subst (λ m. numbered hs m ≡ Some owed.giving) is owed.there) there in
+    let gives = subst (λ (g : Happening). Gives s.network g.note.body owed.device link) one owed.gives in
+    absurd (never (gives_may s.network h.note.body owed.device link gives))
+none_leaves s hs until n h there never other is owed = absurd is

@@ -1,7 +1,7 @@
 -- What pays the debts of arrivals.
 use Rattle.audit_law.{proofs.law_lemmas.Arriving.arrival_law, specs.law.Arrivals.{IsDueByArrival, OwesArrival, TellsArrival, arrival_record}}
-use Rattle.{audit_sweep.proofs.unpaid_lemmas.Firsts.AreOfRecords, run_law.specs.declared.steps.Arrival.Arrival}
-use Rattle.audit_sweep.proofs.unpaid_lemmas.{Payers.{one_time, payer_due}, Words.{cause_of, numbered_within, paid_by, place_of, refl, sym, true, ℕ}}
+use Rattle.run_law.specs.declared.steps.Arrival.{Arrival}
+use Rattle.audit_sweep.proofs.unpaid_lemmas.{Payers.payer_due, Words.{cause_of, numbered_within, paid_by, place_of, refl, sym, true, ℕ}}
 use Rattle.audit_sweep.proofs.unpaid_lemmas.Words.{◌∙◌, ◌≡◌, Happening, IsDue, IsFounded, IsMarked, IsPaid, List, NoteBody, Paid, Pays, Scenario, ap, arith}
 use Rattle.audit_law.specs.law.Owed as debts
 use Rattle.run_law.specs.declared.note.NoteBody.TheVariants as notes
@@ -46,12 +46,3 @@ module _ (s : Scenario) (hs : List Happening) (until cause : ℕ) (founded : IsF
       let few = numbered_within due.before d.cause d.arrives.putting d.arrives.there in
       let number = d.due.number in
       record { paying = m; there = paid.1; behind = omega (arith, few, number, same); of_cause = so.0; pays = so.1 }
-
-  -- an arrival falls due at one time
-  pub arrival_time : (a b : OwesArrival s hs until cause) → a.time ≡ b.time
-  arrival_time a b =
-      one_time s until (IsDueByArrival s) (OwesArrival s hs until) (λ x c. TellsArrival c x.note.body) (λ ps x d. d.due)
-      (arrival_law s hs until founded) cause a b
-
-pub arrivals_of_records : (s : Scenario) (hs : List Happening) (until : ℕ) → AreOfRecords s hs until (λ cause. debts.arrival cause)
-arrivals_of_records s hs until cause owed = (owed.arrives.putting, owed.arrives.there)

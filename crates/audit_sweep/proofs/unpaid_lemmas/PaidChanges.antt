@@ -1,7 +1,7 @@
 -- What pays the debts of changes of state.
 use Rattle.{audit_law.{proofs.law_lemmas.Changing.change_law, specs.law.DueRecords.ChangesState}, sync_state.specs.declared.state.State.State}
 use Rattle.{audit_law.specs.law.Changes.{IsBrought, IsDueByChange, OwesChange, TellsChange}, run_law.specs.declared.judgement.Judgement.TheVariants.Integrates}
-use Rattle.audit_sweep.proofs.{PermanentFrames.none_some, unpaid_lemmas.{Firsts.AreOfRecords, Payers.{one_time, payer_due}, Words.{sym, time_of, true, ℕ}}}
+use Rattle.audit_sweep.proofs.{PermanentFrames.none_some, unpaid_lemmas.{Payers.payer_due, Words.{sym, time_of, true, ℕ}}}
 use Rattle.audit_sweep.proofs.unpaid_lemmas.Words.{◌∙◌, ◌≡◌, ◌≤◌, DeviceId, Happening, IsDue, IsFounded, IsMarked, IsPaid, List, NoteBody, Paid, Pays, Scenario}
 use Rattle.audit_sweep.proofs.unpaid_lemmas.Words.{Some, ap, arith, cause_of, false, is_broken, numbered, numbered_within, paid_by, place_of, refl, same_some}
 use Rattle.{audit_sweep.specs.unpaid.Changing.HasChange, net_plan.specs.declared.event.What.TheVariants.On, tte_units.proofs.general_lemmas.Naturals.eqb_same}
@@ -51,14 +51,7 @@ module _ (s : Scenario) (hs : List Happening) (until : ℕ) where
       let number = d.due.number in
       record { paying = m; there = paid.1; behind = omega (arith, few, number, same); of_cause = so.0; pays = so.1 }
 
-  -- it falls due at one time
-  pub change_time : {cause : ℕ} → IsFounded place_of (IsDue s) hs → (a b : OwesChange s hs until cause)
-      → a.time ≡ b.time
-  change_time {cause} founded a b =
-      one_time s until (IsDueByChange s) (OwesChange s hs until) (λ x c. TellsChange c x.note.body) (λ ps x d. d.due)
-      (change_law s hs until founded) cause a b
-
-  pub changes_of_records : AreOfRecords s hs until (λ cause. debts.change cause)
+  pub changes_of_records : (cause : ℕ) → OwesChange s hs until cause → (h : Happening) × (numbered hs cause ≡ Some h)
   changes_of_records cause owed =
       let from = bringer s hs owed.device owed.time owed.state cause owed.why owed.brought owed.changes in
       (from.0, from.1.there)

@@ -1,6 +1,5 @@
 -- What pays the debts of losses.
-use Rattle.audit_sweep.proofs.unpaid_lemmas.Firsts.{AreOfRecords}
-use Rattle.audit_sweep.proofs.unpaid_lemmas.{Payers.{one_time, payer_due}, Words.{cause_of, numbered_within, paid_by, place_of, refl, sym, true, ℕ}}
+use Rattle.audit_sweep.proofs.unpaid_lemmas.{Payers.payer_due, Words.{cause_of, numbered_within, paid_by, place_of, refl, sym, true, ℕ}}
 use Rattle.audit_sweep.proofs.unpaid_lemmas.Words.{◌∙◌, ◌≡◌, Happening, IsDue, IsFounded, IsMarked, IsPaid, List, NoteBody, Paid, Pays, Scenario, ap, arith}
 use Rattle.audit_law.{proofs.law_lemmas.LosingSends.loss_law, specs.law.LostSends.{IsDueBySend, OwesLoss, TellsLoss}}
 use Rattle.audit_law.specs.law.Owed as debts
@@ -35,12 +34,3 @@ module _ (s : Scenario) (hs : List Happening) (until cause : ℕ) (founded : IsF
       let few = numbered_within due.before d.cause d.lost.event d.lost.is.there in
       let number = d.due.number in
       record { paying = m; there = paid.1; behind = omega (arith, few, number, same); of_cause = so.0; pays = so.1 }
-
-  -- a loss falls due at one time
-  pub loss_time : (a b : OwesLoss s hs until cause) → a.time ≡ b.time
-  loss_time a b =
-      one_time s until (IsDueBySend s) (OwesLoss s hs until) (λ x c. TellsLoss c x.note.body) (λ ps x d. d.due)
-      (loss_law s hs until founded) cause a b
-
-pub losses_of_records : (s : Scenario) (hs : List Happening) (until : ℕ) → AreOfRecords s hs until (λ cause. debts.loss cause)
-losses_of_records s hs until cause owed = (owed.lost.event, owed.lost.is.there)

@@ -1,7 +1,7 @@
 -- What pays the debts of permanences.
 use Rattle.audit_law.{proofs.law_lemmas.Ripening.permanence_law, specs.law.Permanences.{IsDueByPermanence, OwesPermanence, TellsPermanence, permanence_record}}
-use Rattle.audit_sweep.proofs.unpaid_lemmas.{Firsts.AreOfRecords, Words.{numbered_within, paid_by, place_of, refl, same_some, subst, sym, time_of, true, ℕ}}
-use Rattle.{audit_sweep.proofs.unpaid_lemmas.Payers.{one_time, payer_due}, drift_clock.specs.Reach.IsReach, net_plan.specs.declared.network.Network.Network}
+use Rattle.audit_sweep.proofs.unpaid_lemmas.Words.{numbered_within, paid_by, place_of, refl, same_some, subst, sym, time_of, true, ℕ}
+use Rattle.{audit_sweep.proofs.unpaid_lemmas.Payers.payer_due, drift_clock.specs.Reach.IsReach, net_plan.specs.declared.network.Network.Network}
 use Rattle.audit_sweep.proofs.unpaid_lemmas.Words.{◌∙◌, ◌≡◌, DeviceId, Happening, IsDue, IsFounded, IsMarked, IsPaid, IsPaidSo, LinkId, List, None, NoteBody}
 use Rattle.audit_sweep.proofs.unpaid_lemmas.Words.{Option, Paid, Pays, Scenario, Some, TellsUnpaid, ap, arith, both_ways, cause_of, false, numbered}
 use Rattle.audit_sweep.specs.{declared.unpaid.permanences.Waiting.Waiting, unpaid.{Payments.is_old, Waiting.{IsPermanentBy, IsReached, IsReachedBy, IsWaiting}}}
@@ -55,17 +55,6 @@ module _ (s : Scenario) (hs : List Happening) (until : ℕ) where
       let few = numbered_within due.before d.cause d.becomes.permanent.arrival d.becomes.permanent.there in
       let number = d.due.number in
       record { paying = m; there = paid.1; behind = omega (arith, few, number, same); of_cause = so.0; pays = so.1 }
-
-  -- it falls due at one time
-  pub permanence_time : {cause : ℕ} → IsFounded place_of (IsDue s) hs → (a b : OwesPermanence s hs until cause)
-      → a.time ≡ b.time
-  permanence_time {cause} founded a b =
-      one_time s until (IsDueByPermanence s) (OwesPermanence s hs until) (λ x c. TellsPermanence c x.note.body)
-      (λ ps x d. d.due)
-      (permanence_law s hs until founded) cause a b
-
-  pub permanences_of_records : AreOfRecords s hs until (λ cause. debts.permanence cause)
-  permanences_of_records cause owed = (owed.permanent.arrival, owed.permanent.there)
 
   -- what is owed of a record waits
   waits_so : {cause : ℕ} (h : Happening) → numbered hs cause ≡ Some h → (o : OwesPermanence s hs until cause)
@@ -132,5 +121,5 @@ module _ (s : Scenario) (hs : List Happening) (until cause : ℕ) where
   permanence_unpaid {paid} (Some t) founded so none by = record {
     owed = by.0;
     unpaid = λ p. both_ways paid.permanence none (so.permanence.1 (permanence_marked s hs until founded by.0 p));
-    due = λ is. by.1 ∙ permanence_time s hs until founded by.0 is;
+    at = by.1;
   }

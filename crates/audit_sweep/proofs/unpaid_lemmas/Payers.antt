@@ -1,23 +1,8 @@
 -- When debts fall due, and what pays them.
 use Rattle.audit_sweep.proofs.unpaid_lemmas.Words.{◌↔◌, ◌∙◌, ◌≡◌, Happening, IsDue, IsFounded, IsIn, IsPaid, List, Scenario, Some, numbered, numbered_in}
-use Rattle.audit_sweep.{proofs.unpaid_lemmas.Words.{place_of, subst, sym, time_of, ℕ}, specs.records.{places.Placing.HasRecordAt, wires.Signals.ShowsByCause}}
-use Rattle.audit_law.proofs.law_lemmas.{AllOwed.same_time, Debts.{due_by_part, due_in, one_due}, Determined.due_is_determined, Numbered.founded_at}
+use Rattle.audit_sweep.{proofs.unpaid_lemmas.Words.{place_of, subst, sym, ℕ}, specs.records.{places.Placing.HasRecordAt, wires.Signals.ShowsByCause}}
+use Rattle.audit_law.proofs.law_lemmas.{Debts.{due_by_part, due_in, one_due}, Determined.due_is_determined, Numbered.founded_at}
 use Rattle.audit_law.specs.law.{DebtLaws.AreOwed, Debts.{IsDueIn, IsPartOf}}
-
--- a debt falls due at one time, however it is owed
-pub one_time : {O : Type 0} (s : Scenario) {hs : List Happening} (until : ℕ)
-    (IsDueSo : List Happening → Happening → Type 0) (IsOwed : O → Type 0) {falls : (o : O) → IsOwed o → ℕ}
-    (Pays : Happening → O → Type 0) → IsPartOf IsDueSo (IsDue s) → AreOwed s hs until IsDueSo IsOwed falls Pays
-    → (o : O) (a b : IsOwed o) → falls o a ≡ falls o b
-one_time s {hs} until IsDueSo IsOwed {falls} Pays part debts o a b =
-    let x = debts.some o a in
-    let y = debts.some o b in
-    let same = debts.one o x.0 y.0 a (due_by_part place_of (IsDue s) IsDueSo part x.1)
-    (due_by_part place_of (IsDue s) IsDueSo part y.1) x.3
-    y.3 in
-    let first : time_of x.0 ≡ falls o a = x.4 in
-    let second : time_of y.0 ≡ falls o b = y.4 in
-    sym first ∙ same_time x.0 y.0 same ∙ second
 
 -- a record that pays a debt that is owed is due by it
 pub payer_due : {O : Type 0} (s : Scenario) {hs : List Happening} (until : ℕ)

@@ -1,31 +1,17 @@
-//! The first arrival of which no record tells.
+//! The arrival that a record brings, where no record tells of it.
 
-ghost use Rattle.std.specs.Prelude.{◌≡◌, List, ℕ};
-ghost use Rattle.{audit_law.specs.law.FirstDebts.TellsFirst, run_law.specs.records.Happenings.Happening};
-ghost use Rattle.audit_sweep.specs.unpaid.{Debtors.{AreKnown, scenario_of}, Unpaid.TellsUnpaid};
+ghost use Rattle.std.specs.Prelude.{List};
+ghost use Rattle.{audit_law.specs.law.FirstDebts.TellsUnpaid, run_law.specs.records.Happenings.Happening};
+ghost use Rattle.audit_sweep.specs.unpaid.Debtors.{AreKnown, scenario_of};
 ghost use Rattle.net_plan.specs.declared.event.Event.{Event};
 ghost use Rattle.audit_law.specs.law.Owed as debts;
 
 use crate::records::wires::arrival_due;
 use crate::unpaid::Debtor;
-use crate::unpaid::earliest::earlier_of;
 
 impl Debtor<'_> {
-    /// The first time at which a frame arrives of which no record tells what became. It is None exactly where one tells
-    /// of each.
-    pub fn first_unpaid_arrival(&self) -> Option<u64>
-        ensures { (befallen : List Event) (hs : List Happening) → AreKnown befallen hs self.now
-            → TellsFirst (scenario_of self.now befallen) hs self.now.until (λ (cause : ℕ). debts.arrival cause) result }
-    {
-        let mut first = None;
-        'records: for place in 0..self.payments.count() {
-            first = earlier_of(first, self.unpaid_arrival(place as u64 + 1));
-        }
-        first
-    }
-
-    // When what the record of this number put on a wire arrives, if no record tells what became of it.
-    fn unpaid_arrival(&self, number: u64) -> Option<u64>
+    /// When what the record of this number put on a wire arrives, if no record tells what became of it.
+    pub(crate) fn unpaid_arrival(&self, number: u64) -> Option<u64>
         ensures { (befallen : List Event) (hs : List Happening) → AreKnown befallen hs self.now
             → TellsUnpaid (scenario_of self.now befallen) hs self.now.until (debts.arrival number) result }
     {

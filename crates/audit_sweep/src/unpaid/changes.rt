@@ -1,37 +1,21 @@
-//! The first change of state of which no record tells.
+//! The change of state that a record brings, where no record tells of it.
 
 ghost use Rattle.std.specs.Prelude.{◌↔◌, ◌≡◌, IsTrue, List, Some, length, ℕ};
 ghost use Rattle.{audit_devices.specs.Keeping.device_count, net_plan.specs.declared.event.Event.Event};
-ghost use Rattle.{audit_law.specs.law.FirstDebts.TellsFirst, sync_state.specs.declared.state.State.TheVariants.Joining};
+ghost use Rattle.{audit_law.specs.law.FirstDebts.TellsUnpaid, audit_sweep.specs.unpaid.Changing.HasChange};
 ghost use Rattle.audit_sweep.specs.{records.Keeping.record_of, unpaid.Debtors.{AreKnown, scenario_of}};
-ghost use Rattle.audit_sweep.specs.unpaid.{Changing.HasChange, Unpaid.TellsUnpaid};
-ghost use Rattle.net_plan.specs.Belonging.{HasDevice};
+ghost use Rattle.{net_plan.specs.Belonging.HasDevice, sync_state.specs.declared.state.State.TheVariants.Joining};
 ghost use Rattle.run_law.specs.{device.States.state_before, records.Happenings.{Happening, numbered, time_of}};
 ghost use Rattle.audit_law.specs.law.Owed as debts;
 
 use crate::records::{Kept, KeptRecord};
 use crate::unpaid::Debtor;
-use crate::unpaid::earliest::earlier_of;
 use net_plan::DeviceId;
 use sync_state::State;
 
 impl Debtor<'_> {
-    /// The first time at which a record changes a device's state, and no record tells of the new one. It is None
-    /// exactly where one tells of each.
-    pub fn first_unpaid_change(&self) -> Option<u64>
-        requires standing { device_count self.now.standings.now ≡ length self.now.network.now.device }
-        ensures { (befallen : List Event) (hs : List Happening) → AreKnown befallen hs self.now
-            → TellsFirst (scenario_of self.now befallen) hs self.now.until (λ (cause : ℕ). debts.change cause) result }
-    {
-        let mut first = None;
-        'records: for place in 0..self.payments.count() {
-            first = earlier_of(first, self.unpaid_change(place as u64 + 1));
-        }
-        first
-    }
-
-    // When the record of this number changes a device's state, if no record tells of it.
-    fn unpaid_change(&self, number: u64) -> Option<u64>
+    /// When the record of this number changes a device's state, if no record tells of it.
+    pub(crate) fn unpaid_change(&self, number: u64) -> Option<u64>
         requires standing { device_count self.now.standings.now ≡ length self.now.network.now.device }
         ensures { (befallen : List Event) (hs : List Happening) → AreKnown befallen hs self.now
             → TellsUnpaid (scenario_of self.now befallen) hs self.now.until (debts.change number) result }

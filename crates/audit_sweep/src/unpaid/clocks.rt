@@ -1,11 +1,10 @@
 //! The clocks of which no record tells at the end of the events.
 
-ghost use Rattle.std.specs.Prelude.{◌↔◌, ◌∷◌, ◌≡◌, IsTrue, List, [], ℕ};
+ghost use Rattle.std.specs.Prelude.{◌↔◌, ◌∷◌, ◌≡◌, IsTrue, List, []};
 ghost use Rattle.{audit_law.specs.law.FirstDebts.TellsFirst, run_law.specs.records.Happenings.Happening};
 ghost use Rattle.{audit_sweep.specs.records.places.Placing.{ArePlacesOf, HasRecordAt}, net_plan.specs.Ranges.IsInRange};
 ghost use Rattle.audit_sweep.specs.unpaid.{Clocks.{IsOnlyEnd, IsUntold}, Debtors.{AreKnown, scenario_of}};
-ghost use Rattle.net_plan.specs.declared.{event.Event.Event, ids.DeviceId.{DeviceId as DeviceIdValue}};
-ghost use Rattle.audit_law.specs.law.Owed as debts;
+ghost use Rattle.{audit_sweep.specs.unpaid.Sorts.IsClockDebt, net_plan.specs.declared.event.Event.Event};
 
 use crate::unpaid::Debtor;
 use net_plan::DeviceId;
@@ -20,8 +19,7 @@ impl Debtor<'_> {
     pub fn first_unpaid_clock(&self, end: u64) -> Option<u64>
         requires range { IsInRange self.now.network.now }
         ensures { (befallen : List Event) (hs : List Happening) → AreKnown befallen hs self.now → IsOnlyEnd befallen end
-            → TellsFirst (scenario_of self.now befallen) hs self.now.until
-            (λ (o : DeviceIdValue × ℕ). debts.clock o.0 o.1) result }
+            → TellsFirst (scenario_of self.now befallen) hs self.now.until IsClockDebt result }
     {
         if self.until < end {
             return None;

@@ -1,49 +1,30 @@
-//! The first leaving of which no record tells.
+//! The leavings that a record brings, the first of which no record tells.
 
-ghost use Rattle.std.specs.Prelude.{◌^◌, ◌↔◌, ◌≡◌, ◌≤◌, IsTrue, List, Some, ℕ};
-ghost use Rattle.audit_law.specs.{events.Remembering.RemembersSome, law.FirstDebts.TellsFirst};
+ghost use Rattle.std.specs.Prelude.{◌^◌, ◌↔◌, ◌≡◌, ◌≤◌, IsTrue, List, Some};
+ghost use Rattle.audit_law.specs.{events.Remembering.RemembersSome, law.FirstDebts.{TellsFirst, TellsUnpaid}};
 ghost use Rattle.audit_sweep.specs.records.{Keeping.record_of, places.Placing.{ArePlacesOf, HasRecordAt}};
 ghost use Rattle.{audit_sweep.specs.unpaid.Debtors.{AreKnown, scenario_of}, device_rules.specs.Answers.departure_as};
-ghost use Rattle.audit_sweep.specs.unpaid.{Leavings.{leaving_place, may_give}, Unpaid.{TellsFirstAmong, TellsUnpaid}};
-ghost use Rattle.net_plan.specs.{Ranges.IsInRange, declared.{event.Event.Event, ids.LinkId.{LinkId as LinkIdValue}}};
+ghost use Rattle.audit_sweep.specs.unpaid.{Leavings.{leaving_place, may_give}, Sorts.IsLeavingDebtOf};
+ghost use Rattle.net_plan.specs.{Ranges.IsInRange, declared.event.Event.Event};
 ghost use Rattle.run_law.specs.records.Happenings.{Happening, numbered};
 ghost use Rattle.audit_law.specs.law.Owed as debts;
 
 use crate::records::wires::{Leaving, departure, departure_due};
 use crate::records::{Kept, KeptRecord};
-use crate::unpaid::Debtor;
-use crate::unpaid::earliest::earlier_of;
+use crate::unpaid::{Debtor, earlier_of};
 use device_rules::{Departed, is_relay};
 use net_plan::{LinkId, Network};
 use run_law::plain::Place;
 use run_law::{NoteBody, Reason};
 
 impl Debtor<'_> {
-    /// The first time at which a frame leaves by a link that it was given to, and no record tells what became of it. It
-    /// is None exactly where one tells of each. `until` is at most 2^60.
-    pub fn first_unpaid_departure(&self) -> Option<u64>
+    /// The first time at which the frame of the record of this number leaves by a link, and no record tells of it.
+    pub(crate) fn unpaid_departure(&self, number: u64) -> Option<u64>
         requires range { IsInRange self.now.network.now }
         requires some { RemembersSome self.now.history.now }
         requires limit { self.now.until ≤ 2 ^ 60 }
         ensures { (befallen : List Event) (hs : List Happening) → AreKnown befallen hs self.now
-            → TellsFirst (scenario_of self.now befallen) hs self.now.until
-            (λ (o : ℕ × LinkIdValue). debts.departure o.0 o.1) result }
-    {
-        let mut first = None;
-        'records: for place in 0..self.payments.count() {
-            first = earlier_of(first, self.unpaid_departure(place as u64 + 1));
-        }
-        first
-    }
-
-    // The first time at which the frame of the record of this number leaves by a link, and no record tells of it.
-    fn unpaid_departure(&self, number: u64) -> Option<u64>
-        requires range { IsInRange self.now.network.now }
-        requires some { RemembersSome self.now.history.now }
-        requires limit { self.now.until ≤ 2 ^ 60 }
-        ensures { (befallen : List Event) (hs : List Happening) → AreKnown befallen hs self.now
-            → TellsFirstAmong (scenario_of self.now befallen) hs self.now.until
-            (λ (o : ℕ × LinkIdValue). debts.departure o.0 o.1) (λ o. o.0 ≡ number) result }
+            → TellsFirst (scenario_of self.now befallen) hs self.now.until (IsLeavingDebtOf number) result }
     {
         let kept = match self.records.get(number) {
             Some(kept) => kept,

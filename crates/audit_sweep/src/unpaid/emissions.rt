@@ -1,6 +1,5 @@
 //! The first time at which a compression master owes the frame of a cluster and a report has no record of it.
 
-mod earliest;
 mod emitting;
 mod first;
 

@@ -1,9 +1,9 @@
-//! The first frame that is permanent of which no record tells.
+//! The permanence of the frame of a record, where no record tells of it.
 
 ghost use Rattle.std.specs.Prelude.{◌^◌, ◌≡◌, ◌≤◌, List, Some, pos, ℕ};
-ghost use Rattle.audit_law.specs.{events.Remembering.{Remembers, RemembersSome}, law.FirstDebts.TellsFirst};
+ghost use Rattle.audit_law.specs.{events.Remembering.{Remembers, RemembersSome}, law.FirstDebts.TellsUnpaid};
 ghost use Rattle.audit_sweep.specs.{records.Keeping.record_of, unpaid.Debtors.{AreKnown, scenario_of}};
-ghost use Rattle.audit_sweep.specs.unpaid.{Unpaid.TellsUnpaid, Waiting.{IsPermanentBy, IsReachedBy, IsWaitingAs}};
+ghost use Rattle.audit_sweep.specs.unpaid.Waiting.{IsPermanentBy, IsReachedBy, IsWaitingAs};
 ghost use Rattle.net_plan.specs.{Belonging.HasDevice, Ranges.IsInRange, declared.event.Event.Event};
 ghost use Rattle.run_law.specs.records.Happenings.{Happening, numbered};
 ghost use Rattle.drift_clock.specs.transparent.Points.{point_of};
@@ -11,7 +11,6 @@ ghost use Rattle.audit_law.specs.law.Owed as debts;
 
 use crate::records::{Kept, KeptRecord};
 use crate::unpaid::Debtor;
-use crate::unpaid::earliest::earlier_of;
 use device_rules::waits_for;
 use net_plan::{DeviceId, Network};
 use tte_units::Units;
@@ -27,25 +26,8 @@ pub(crate) struct Waiting {
 }
 
 impl Debtor<'_> {
-    /// The first time at which a frame is permanent at a device, and no record tells what became of it. It is None
-    /// exactly where one tells of each. `until` is at most 2^60.
-    pub fn first_unpaid_permanence(&self) -> Option<u64>
-        requires range { IsInRange self.now.network.now }
-        requires some { RemembersSome self.now.history.now }
-        requires limit { self.now.until ≤ 2 ^ 60 }
-        ensures { (befallen : List Event) (hs : List Happening) → AreKnown befallen hs self.now
-            → TellsFirst (scenario_of self.now befallen) hs self.now.until (λ (cause : ℕ).
-            debts.permanence cause) result }
-    {
-        let mut first = None;
-        'records: for place in 0..self.payments.count() {
-            first = earlier_of(first, self.unpaid_permanence(place as u64 + 1));
-        }
-        first
-    }
-
-    // When the frame of the record of this number is permanent, if no record tells what became of it.
-    fn unpaid_permanence(&self, number: u64) -> Option<u64>
+    /// When the frame of the record of this number is permanent, if no record tells what became of it.
+    pub(crate) fn unpaid_permanence(&self, number: u64) -> Option<u64>
         requires range { IsInRange self.now.network.now }
         requires some { RemembersSome self.now.history.now }
         requires limit { self.now.until ≤ 2 ^ 60 }

@@ -2,9 +2,7 @@
 //! sends, and of a correction point.
 
 mod correcting;
-mod first;
 mod sending;
 
 pub use correcting::first_untold;
-pub use first::earlier;
 pub use sending::first_unsent;

@@ -42,13 +42,6 @@ fn where_no_record_stands_the_clocks_are_owed(rt: HostRuntime) -> Result<(), Fai
     };
     let clocks = [debtor.first_unpaid_clock(7), debtor.first_unpaid_clock(8)];
     assert!(rt; clocks == [Some(7), None]);
-    let others = [
-        debtor.first_unpaid_arrival(),
-        debtor.first_unpaid_loss(),
-        debtor.first_unpaid_change(),
-        debtor.first_unpaid_permanence(),
-        debtor.first_unpaid_departure(),
-    ];
-    assert!(rt; others == [None, None, None, None, None]);
+    assert!(rt; debtor.first_unpaid() == None);
     Ok(())
 }

@@ -1,14 +1,15 @@
--- The first of what is unpaid, from one change of a stretch to the next and from one device to the next.
+-- The first of what is unpaid, from one change of a stretch to the next, and of a device.
 use Rattle.audit_devices.{proofs.stretches_lemmas.Clustering.emissions_same, specs.stretches.{Keeping.{Keeps, Stretches}, Points.{HasPoints, emissions_for}}}
 use Rattle.audit_devices.specs.{declared.stretches.history.StretchHistory.StretchHistory, stretches.Standing.{IsBehind, Stands, device_count, kept_of}}
 use Rattle.{audit_devices.specs.declared.stretches.kept.Entry.Entry, std.proofs.{Common.{slice_get, subst, sym, true, w64, ℕ, ℤ}, lemmas.Bool.cases_lt}}
 use Rattle.{audit_law.specs.{collections.Kept.{History, emissions_in}, events.Readings.ReadsOn}, compression.specs.Clusters.{AreClusters, Cluster, Point}}
 use Rattle.{audit_law.specs.declared.collections.emitted.Emitted.Emitted, compression.specs.declared.compressed.Compressed.Compressed}
 use Rattle.{audit_law.specs.declared.collections.gathering.Gathering.Gathering, audit_sweep.proofs.unpaid_lemmas.emissions_lemmas.Ascending.opens_before}
-use Rattle.{audit_law.specs.law.FirstDebts.{TellsFirst, earlier_of}, run_law.specs.{control.Collections.observation_window, records.Happenings.Happening}}
+use Rattle.audit_law.specs.law.{Debts.IsPaid, Emitted.OwesEmission, FirstDebts.{TellsFirst, earlier_of}, Owed.{Debt, IsOwed, Pays, falls_due}}
+use Rattle.{audit_sweep.specs.unpaid.Sorts.IsEmissionDebtOf, run_law.specs.{control.Collections.observation_window, records.Happenings.Happening}}
 use Rattle.audit_sweep.proofs.unpaid_lemmas.emissions_lemmas.{Joining.{HasParts, first_as, first_of_both, first_of_none}, Owing.{are_in, owed_within}}
-use Rattle.audit_sweep.specs.unpaid.emissions.{Emissions.{IsShort, IsTold, OwesAmong, OwesAt, OwesBehind, OwesWithin}, Firsts.TellsFirstOf}
-use Rattle.{drift_clock.specs.Reach.IsReach, net_plan.proofs.SameIds.same_device, run_law.{proofs.law.FirstPlaces.in_at, specs.scenario.Devices.is_cm}}
+use Rattle.audit_sweep.specs.unpaid.emissions.{Emissions.{IsShort, IsTold, OwesAt, OwesBehind, OwesWithin}, Firsts.{IsFirstOf, TellsFirstOf}}
+use Rattle.{drift_clock.specs.Reach.IsReach, run_law.{proofs.law.FirstPlaces.in_at, specs.scenario.Devices.is_cm}}
 use Rattle.{net_plan.specs.declared.{ids.DeviceId.DeviceId, network.Network.Network, tables.Device.Device}, run_law.specs.scenario.Scenarios.Scenario}
 use Rattle.std.proofs.Common.{◌+◌, ◌<◌, ◌^◌, ◌∙◌, ◌≡◌, ◌≤ℤ◌, ◌≤◌, FitsSigned, List, None, Option, Some, ap, arith, false, inl, inr, length, neg_ℤ, pos, refl}
 use Rattle.std.proofs.lemmas.Int.{ints}
@@ -92,42 +93,7 @@ module _ (s : Scenario) (hs : List Happening) (until : ℕ) (d : DeviceId) (kept
       → TellsFirstOf (OwesAt s hs until d) (IsTold s hs d) r
   entries_all n r keeps all told = grind (arith, first_as, owed_within)
 
--- ---- one device more
-
-abbrev IsToldOf : Scenario → List Happening → DeviceId × Compressed → Type 0
-IsToldOf s hs o = IsTold s hs o.0 o.1
-
--- what the device of a number owes, among all
-abbrev OwesOf : Scenario → List Happening → ℕ → DeviceId → DeviceId × Compressed → ℕ → Type 0
-OwesOf s hs until d o t = (o.0 ≡ d) × OwesAt s hs until d o.1 t
-
-module _ (s : Scenario) (hs : List Happening) (until : ℕ) where
-  of_device : (d : DeviceId) (r : Option ℕ) → TellsFirstOf (OwesAt s hs until d) (IsTold s hs d) r
-      → TellsFirstOf (OwesOf s hs until d) (IsToldOf s hs) r
-  of_device d None h = λ o t owed. subst (λ x. IsTold s hs x o.1) (sym owed.0) (h o.1 t owed.1)
-  of_device d (Some t) h = record {
-    debt = (d, h.debt);
-    owed = (refl, h.owed);
-    unpaid = h.unpaid;
-    first = λ o u owed not. h.first o.1 u owed.1 (λ told. not
-        (subst (λ x. IsTold s hs x o.1) (sym owed.0) told));
-  }
-
-  device_parts : (n : ℕ) (d : DeviceId) → d.0 ≡ n → HasParts (OwesAmong s hs until (n + 1)) (OwesAmong s hs until n)
-      (OwesOf s hs until d)
-  device_parts n d is = grind (arith, below_next, same_device)
-
-  pub devices_more : (n : ℕ) (d : DeviceId) (r q : Option ℕ) → d.0 ≡ n
-      → TellsFirstOf (OwesAmong s hs until n) (IsToldOf s hs) r → TellsFirstOf (OwesAt s hs until d) (IsTold s hs d) q
-      → TellsFirstOf (OwesAmong s hs until (n + 1)) (IsToldOf s hs) (earlier_of r q)
-  devices_more n d r q is told more =
-      first_of_both (OwesAmong s hs until (n + 1)) (OwesAmong s hs until n) (OwesOf s hs until d) (IsToldOf s hs) r q
-      (device_parts n d is) told
-      (of_device d q more)
-
-  pub devices_none : TellsFirstOf (OwesAmong s hs until 0) (IsToldOf s hs) None
-  devices_none =
-      first_of_none (OwesAmong s hs until 0) (IsToldOf s hs) (λ o t owed. let one = owed.one in omega (arith, one))
+-- ---- the first of a device
 
 -- a compression master is a device of the network
 master_there : (network : Network) (d : DeviceId) → is_cm network d ≡ true → d.0 < length network.device
@@ -138,27 +104,43 @@ pub none_of_others : (s : Scenario) (hs : List Happening) (until : ℕ) (d : Dev
     → TellsFirstOf (OwesAt s hs until d) (IsTold s hs d) None
 none_of_others s hs until d not = first_of_none (OwesAt s hs until d) (IsTold s hs d) (λ sent t o. let master = o.owes.emits.cm in absurd cc)
 
-pub first_emission : (s : Scenario) (hs : List Happening) (until n : ℕ) (r : Option ℕ) → n ≡ length s.network.device
-    → TellsFirstOf (OwesAmong s hs until n) (IsToldOf s hs) r → TellsFirst s hs until (λ (o : DeviceId × Compressed). debts.emission o.0 o.1) r
-first_emission s hs until n None all h = λ o owed.
-    let there = master_there s.network o.0 owed.emits.cm in
-    h o owed.time
-    (record {
-      one = omega (arith, there, all);
-      owed = record { owes = record { verdict = owed.verdict; emits = owed.emits }; timely = owed.timely };
-    })
-first_emission s hs until n (Some t) all h = record {
-  debt = h.debt;
-  owed = record { time = t; verdict = h.owed.owed.owes.verdict; emits = h.owed.owed.owes.emits; timely = h.owed.owed.timely };
+pub emission_within : (s : Scenario) (hs : List Happening) (until : ℕ) (device : DeviceId) (o : Debt)
+    → IsEmissionDebtOf device o → IsOwed s hs until o → device.0 < length s.network.device
+emission_within s hs until device (debts.emission other sent) is owed =
+    subst (λ (d : DeviceId). d.0 < length s.network.device) is (master_there s.network other owed.emits.cm)
+emission_within s hs until device other is owed = absurd is
+
+-- what is owed of a device by its debts
+owed_by : {s : Scenario} {hs : List Happening} {until : ℕ} {device other : DeviceId} {sent : Compressed}
+    → other ≡ device → (owed : OwesEmission s hs until other sent) → OwesAt s hs until device sent owed.time
+owed_by {s} {hs} {until} {sent} is owed =
+    subst (λ (d : DeviceId). OwesAt s hs until d sent owed.time) is
+    (record { owes = record { verdict = owed.verdict; emits = owed.emits }; timely = owed.timely })
+
+all_emitted : {s : Scenario} {hs : List Happening} {until : ℕ} {device : DeviceId}
+    → TellsFirstOf (OwesAt s hs until device) (IsTold s hs device) None → (o : Debt) → IsEmissionDebtOf device o
+    → IsOwed s hs until o → IsPaid hs (Pays s) o
+all_emitted {s} {hs} all (debts.emission other sent) is owed =
+    subst (λ (d : DeviceId). IsTold s hs d sent) (sym is) (all sent owed.time (owed_by is owed))
+all_emitted all other is owed = absurd is
+
+not_before : {s : Scenario} {hs : List Happening} {until t : ℕ} {device : DeviceId}
+    → IsFirstOf (OwesAt s hs until device) (IsTold s hs device) t → (o : Debt) (owed : IsOwed s hs until o)
+    → IsEmissionDebtOf device o → (IsPaid hs (Pays s) o → ⊥) → t ≤ falls_due s hs until o owed
+not_before {s} {hs} h (debts.emission other sent) owed is not =
+    h.first sent owed.time (owed_by is owed) (λ told. not (subst (λ (d : DeviceId). IsTold s hs d sent) (sym is) told))
+not_before h other owed is not = absurd is
+
+pub first_emission : (s : Scenario) (hs : List Happening) (until : ℕ) (device : DeviceId) (r : Option ℕ)
+    → TellsFirstOf (OwesAt s hs until device) (IsTold s hs device) r → TellsFirst s hs until (IsEmissionDebtOf device) r
+first_emission s hs until device None h = all_emitted {s = s} {hs = hs} {until = until} {device = device} h
+first_emission s hs until device (Some t) h = record {
+  debt = debts.emission device h.debt;
+  one = refl;
+  owed = record { time = t; verdict = h.owed.owes.verdict; emits = h.owed.owes.emits; timely = h.owed.timely };
   unpaid = h.unpaid;
   at = refl;
-  first = λ o owed not.
-      let there = master_there s.network o.0 owed.emits.cm in
-      h.first o owed.time
-      (record {
-        one = omega (arith, there, all);
-        owed = record { owes = record { verdict = owed.verdict; emits = owed.emits }; timely = owed.timely };
-      }) not;
+  first = not_before {s = s} {hs = hs} {until = until} {t = t} {device = device} h;
 }
 
 -- ---- what a stretch says of an entry's clusters

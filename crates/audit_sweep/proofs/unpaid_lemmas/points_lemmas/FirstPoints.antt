@@ -1,9 +1,10 @@
--- The first of all correction points that are not told of.
+-- The first correction point of a device that is not told of.
 use Rattle.{audit_devices.proofs.clocks_lemmas.Reached.changed_early, std.proofs.{Common.{Bool, fold, if◌then◌else◌, suc, zero}, lemmas.Option.slice_get_past}}
-use Rattle.{audit_law.specs.law.{CorrectionNumbers.ComesToPoint, CorrectionPoints.OwesPoint}, run_law.specs.device.States.{is_joined_by, state_with}}
-use Rattle.{audit_law.specs.law.FirstDebts.TellsFirst, audit_sweep.specs.unpaid.points.Told.AreOfDevices, sync_state.specs.Standing.{point_in, state_at_start}}
-use Rattle.audit_sweep.proofs.unpaid_lemmas.points_lemmas.Words.{◌<◌, ◌∙◌, ◌∷◌, ◌≡◌, DeviceId, Happening, Integrating, IsTold, List, None, NoteBody, Option}
-use Rattle.audit_sweep.proofs.unpaid_lemmas.points_lemmas.Words.{OwesAt, Scenario, Some, State, TellsFirstAmong, Verdict, [], ap, arith, cases_lt, earlier}
+use Rattle.{audit_law.specs.law.{CorrectionNumbers.ComesToPoint, FirstDebts.TellsFirst, Owed.{Debt, IsOwed}}, run_law.specs.device.States.{is_joined_by, state_with}}
+use Rattle.audit_sweep.{proofs.unpaid_lemmas.points_lemmas.Joining.{IsPaidBefore, first_in_time}, specs.unpaid.{Sorts.IsPointDebtOf, points.FirstUnpaid.TellsFirstUnpaid}}
+use Rattle.{audit_sweep.specs.unpaid.points.Told.AreOfDevices, sync_state.specs.Standing.{point_in, state_at_start}}
+use Rattle.audit_sweep.proofs.unpaid_lemmas.points_lemmas.Words.{◌<◌, ◌∙◌, ◌∷◌, ◌≡◌, ArePaid, DeviceId, Happening, Integrating, IsTold, List, NoteBody, Option}
+use Rattle.audit_sweep.proofs.unpaid_lemmas.points_lemmas.Words.{OwesAt, Scenario, Some, State, Verdict, [], ap, arith, cases_lt, earlier, subst, sym}
 use Rattle.audit_sweep.proofs.unpaid_lemmas.points_lemmas.Words.{false, inl, inr, ints, is_turned_on_at, length, refl, state_after, true, up_to, ℕ, ℤ}
 use Rattle.net_plan.proofs.SameIds.{other_device}
 use Rattle.{net_plan.specs.declared.tables.Device.Device, run_law.{proofs.law.FirstPlaces.in_filter, specs.device.LocalClocks.Reaches}}
@@ -66,37 +67,36 @@ later_than_start : {s : Scenario} {hs : List Happening} {device : DeviceId} (t :
 later_than_start zero reaches = grind (arith, changed_early, ints)
 later_than_start (suc t) reaches = omega arith
 
--- ---- the first of all
+-- ---- the first of a device
 
-owed_at : {s : Scenario} {hs : List Happening} {until : ℕ} {device : DeviceId} {t : ℕ}
-    (owes : OwesPoint s hs until device t) → OwesAt s hs device t owes.cycle
-owed_at owes = record { verdict = owes.verdict; comes = owes.comes; more = owes.more }
+-- a point that is owed is of a device of the network
+pub point_within : (s : Scenario) (hs : List Happening) (until : ℕ) (device : DeviceId) (o : Debt)
+    → AreOfDevices s.network hs → IsPointDebtOf device o → IsOwed s hs until o → device.0 < length s.network.device
+point_within s hs until device (debts.point other t) of is owed =
+    subst (λ (d : DeviceId). d.0 < length s.network.device) is (point_there hs of owed.comes)
+point_within s hs until device other of is owed = absurd is
 
-pub first_point : (s : Scenario) (hs : List Happening) (until count : ℕ) (r : Option ℕ) → count ≡ length s.network.device → AreOfDevices s.network hs
-    → TellsFirstAmong (OwesAt s hs) (IsTold s hs) until count r → TellsFirst s hs until (λ (o : DeviceId × ℕ). debts.point o.0 o.1) r
-first_point s hs until count None all of told = λ o owed.
-    let there = point_there hs of owed.comes in
-    let timely = owed.timely in
-    told o.0 (omega (arith, there, all)) o.1 owed.cycle (later_than_start o.1 owed.comes.reached)
-    (omega (arith, timely))
-    (owed_at owed)
-first_point s hs until count (Some t) all of told = record {
-  debt = (told.device, t);
-  owed = record {
-    cycle = told.first.what;
-    verdict = told.first.owes.verdict;
-    comes = told.first.owes.comes;
-    more = told.first.owes.more;
-    timely = told.first.timely;
-  };
-  unpaid = told.first.unpaid;
-  at = refl;
-  first = λ o owed unpaid.
-      elim (cases_lt o.1 t) [
-        | inl less ↦
-            let there = point_there hs of owed.comes in
-            absurd (unpaid (told.paid_before o.0 (omega (arith, there, all)) o.1 owed.cycle
-            (later_than_start o.1 owed.comes.reached) less (owed_at owed)))
-        | inr more ↦ more
-      ];
-}
+point_before : (s : Scenario) (hs : List Happening) (until : ℕ) (device : DeviceId) (before : ℕ)
+    → ArePaid (OwesAt s hs device) (IsTold s hs device) 0 before → (o : Debt) → IsPointDebtOf device o
+    → (owed : IsOwed s hs until o) → IsPaidBefore s hs until before o owed
+point_before s hs until device before paid (debts.point other t) is owed =
+    let its = subst (λ (d : DeviceId). ArePaid (OwesAt s hs d) (IsTold s hs d) 0 before) (sym is) paid in (
+      owed.timely,
+      λ lt. its t owed.cycle (later_than_start t owed.comes.reached) lt
+          (record { verdict = owed.verdict; comes = owed.comes; more = owed.more }),
+    )
+point_before s hs until device before paid other is owed = absurd is
+
+pub first_point : (s : Scenario) (hs : List Happening) (until : ℕ) (device : DeviceId) (r : Option ℕ)
+    → TellsFirstUnpaid (OwesAt s hs device) (IsTold s hs device) 0 until r
+    → TellsFirst s hs until (IsPointDebtOf device) r
+first_point s hs until device r =
+    first_in_time (OwesAt s hs device) (IsTold s hs device) s hs until (IsPointDebtOf device) r
+    (point_before s hs until device)
+    (λ t cycle owes timely not. (
+      debts.point device t,
+      refl,
+      record { cycle = cycle; verdict = owes.verdict; comes = owes.comes; more = owes.more; timely = timely },
+      not,
+      refl,
+    ))

@@ -1,9 +1,9 @@
--- What is unpaid first in one stretch of time after another, and of one device after another.
-use Rattle.std.specs.Prelude.{is_some, min}
-use Rattle.audit_law.specs.law.FirstDebts.{earlier_of}
-use Rattle.audit_sweep.proofs.unpaid_lemmas.points_lemmas.Words.{◌+◌, ◌<◌, ◌≡◌, ◌≤◌, ArePaid, DeviceId, IsFirstUnpaid, None, Option}
-use Rattle.audit_sweep.proofs.unpaid_lemmas.points_lemmas.Words.{Some, TellsFirstAmong, ap, arith, cases_lt, false, inl, inr, refl, subst}
-use Rattle.audit_sweep.{proofs.unpaid_lemmas.points_lemmas.Words.{sym, true, ℕ}, specs.unpaid.points.FirstUnpaid.{IsFirstAmong, TellsFirstUnpaid}}
+-- What is unpaid first in one stretch of time after another, and as debts.
+use Rattle.std.specs.Prelude.{is_some}
+use Rattle.audit_law.specs.law.{Debts.IsPaid, FirstDebts.TellsFirst, Owed.{Debt, IsOwed, Pays, falls_due}}
+use Rattle.audit_sweep.proofs.unpaid_lemmas.points_lemmas.Words.{◌+◌, ◌<◌, ◌≡◌, ◌≤◌, ArePaid, DeviceId, Happening, IsFirstUnpaid, List, None, Option, Scenario}
+use Rattle.audit_sweep.proofs.unpaid_lemmas.points_lemmas.Words.{Some, arith, cases_lt, false, inl, inr, refl, subst, true, ℕ}
+use Rattle.audit_sweep.specs.unpaid.points.FirstUnpaid.{TellsFirstUnpaid}
 
 pub paid_both : {C : Type 0} (Owes Paid : ℕ → C → Type 0) (after mid before : ℕ) → ArePaid Owes Paid after (mid + 1) → ArePaid Owes Paid mid before
     → ArePaid Owes Paid after before
@@ -29,49 +29,44 @@ tells_behind Owes Paid after mid until last None le most some paid told = absurd
 tells_behind Owes Paid after mid until last (Some t) le most some paid told =
     first_behind Owes Paid after last le most paid told
 
--- ---- one device more
-
-numbered_device : (P : DeviceId → Type 0) (n : ℕ) (d : DeviceId) → d.0 ≡ n → P (record { 0 = n }) → P d
-numbered_device P n d same p = subst P (ap (λ (k : ℕ). let x : DeviceId = record { 0 = k } in x) (sym same)) p
-
--- what holds of the devices before, and of the next one
-of_both : (P : DeviceId → Type 0) (n : ℕ) → ((d : DeviceId) → d.0 < n → P d) → P (record { 0 = n }) → (d : DeviceId) → d.0 < n + 1 → P d
-of_both P n before here d lt = grind (arith, cases_lt, numbered_device)
-
-keep_first : {C : Type 0} (Owes Paid : DeviceId → ℕ → C → Type 0) {until n t : ℕ} → IsFirstAmong Owes Paid until n t
-    → ArePaid (Owes (record { 0 = n })) (Paid (record { 0 = n })) 0 t → IsFirstAmong Owes Paid until (n + 1) t
-keep_first {C} Owes Paid first here = grind (arith, of_both)
-
-take_first : {C : Type 0} (Owes Paid : DeviceId → ℕ → C → Type 0) {until : ℕ} (n : ℕ) {t : ℕ}
-    → IsFirstUnpaid (Owes (record { 0 = n })) (Paid (record { 0 = n })) 0 until t
-    → ((d : DeviceId) → d.0 < n → ArePaid (Owes d) (Paid d) 0 t) → IsFirstAmong Owes Paid until (n + 1) t
-take_first {C} Owes Paid n first before = grind (arith, of_both)
-
-pub among_more : {C : Type 0} (Owes Paid : DeviceId → ℕ → C → Type 0) (until n : ℕ) (old new : Option ℕ) → TellsFirstAmong Owes Paid until n old
-    → TellsFirstUnpaid (Owes (record { 0 = n })) (Paid (record { 0 = n })) 0 until new → TellsFirstAmong Owes Paid until (n + 1) (earlier_of old new)
-among_more {C} Owes Paid until n None None before here = of_both (λ (d : DeviceId). ArePaid (Owes d) (Paid d) 0 (until + 1)) n before here
-among_more {C} Owes Paid until n None (Some u) before first =
-    let timely = first.timely in
-    take_first Owes Paid n first (λ d lt. paid_less (Owes d) (Paid d) 0 u (until + 1) (omega (arith, timely))
-    (before d lt))
-among_more {C} Owes Paid until n (Some t) None first here =
-    let timely = first.first.timely in
-    keep_first Owes Paid first (paid_less (Owes (record { 0 = n })) (Paid (record { 0 = n })) 0 t (until + 1)
-    (omega (arith, timely)) here)
-among_more {C} Owes Paid until n (Some t) (Some u) first second =
-    elim (cases_lt u t) [
-      | inl less ↦
-          let same : u ≡ min t u = omega (arith, less) in
-          subst (IsFirstAmong Owes Paid until (n + 1)) same
-          (take_first Owes Paid n second (λ d lt. paid_less (Owes d) (Paid d) 0 u t (omega (arith, less))
-          (first.paid_before d lt)))
-      | inr more ↦
-          let same : t ≡ min t u = omega (arith, more) in
-          subst (IsFirstAmong Owes Paid until (n + 1)) same
-          (keep_first Owes Paid first (paid_less (Owes (record { 0 = n })) (Paid (record { 0 = n })) 0 t u more
-          second.paid_before))
-    ]
-
 pub none_is : (r : Option ℕ) → is_some r ≡ false → r ≡ None
 none_is None e = refl
 none_is (Some t) e = absurd cc
+
+-- ---- as debts
+
+-- a debt of the sort that falls due at the time and is not paid
+abbrev IsUnpaidAt : Scenario → List Happening → ℕ → (Debt → Type 0) → ℕ → Type 0
+IsUnpaidAt s hs until IsOne t =
+    (o : Debt) × IsOne o × (is : IsOwed s hs until o) × (IsPaid hs (Pays s) o → ⊥) × (t ≡ falls_due s hs until o is)
+
+-- the debt falls due up to the last time, and where it does before this one it is paid
+abbrev pub IsPaidBefore : (s : Scenario) (hs : List Happening) (until before : ℕ) (o : Debt) → IsOwed s hs until o
+    → Type 0
+IsPaidBefore s hs until before o owed =
+    (falls_due s hs until o owed ≤ until) × (falls_due s hs until o owed < before → IsPaid hs (Pays s) o)
+
+-- what is so owed in the order of time are the debts of a sort
+pub first_in_time : {C : Type 0} (Owes Paid : ℕ → C → Type 0) (s : Scenario) (hs : List Happening) (until : ℕ)
+    (IsOne : Debt → Type 0) (r : Option ℕ) → ((before : ℕ) → ArePaid Owes Paid 0 before → (o : Debt) → IsOne o
+    → (owed : IsOwed s hs until o) → IsPaidBefore s hs until before o owed)
+    → ((t : ℕ) (c : C) → Owes t c → t ≤ until → (Paid t c → ⊥) → IsUnpaidAt s hs until IsOne t)
+    → TellsFirstUnpaid Owes Paid 0 until r → TellsFirst s hs until IsOne r
+first_in_time Owes Paid s hs until IsOne None paid unpaid told = λ o is owed.
+    let so = paid (until + 1) told o is owed in
+    let timely = so.0 in
+    so.1 (omega (arith, timely))
+first_in_time Owes Paid s hs until IsOne (Some t) paid unpaid told =
+    let at = unpaid t told.what told.owes told.timely told.unpaid in
+    record {
+      debt = at.0;
+      one = at.1;
+      owed = at.2;
+      unpaid = at.3;
+      at = at.4;
+      first = λ o owed is not.
+          elim (cases_lt (falls_due s hs until o owed) t) [
+            | inl less ↦ absurd (not ((paid t told.paid_before o is owed).1 less))
+            | inr more ↦ more
+          ];
+    }

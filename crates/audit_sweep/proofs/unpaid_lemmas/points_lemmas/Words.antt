@@ -16,6 +16,6 @@ pub use Rattle.run_law.specs.scenario.Scenarios.{Scenario, is_turned_on_at}
 pub use Rattle.run_law.specs.timed.Dispatching.{Sends}
 pub use Rattle.sync_state.specs.declared.{answers.Verdict.Verdict, state.State.{State, TheVariants.Integrating}}
 pub use Rattle.tte_units.specs.declared.units.Units.{Units}
-pub use Rattle.audit_sweep.specs.unpaid.points.{FirstUnpaid.{ArePaid, IsFirstUnpaid, TellsFirstAmong}, Kept.IsKept, Sent.IsSent}
+pub use Rattle.audit_sweep.specs.unpaid.points.{FirstUnpaid.{ArePaid, IsFirstUnpaid}, Kept.IsKept, Sent.IsSent}
 pub use Rattle.audit_devices.specs.Lasting.{ShowsWithin}
 pub use Rattle.audit_sweep.specs.unpaid.points.Told.{IsTold, OwesAt}

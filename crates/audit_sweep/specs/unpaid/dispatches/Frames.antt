@@ -1,6 +1,6 @@
 -- The frames of a row that its device dispatches, and the records that tell of them.
 use Rattle.std.specs.Prelude.{◌≡◌, List, pos, ℕ}
-use Rattle.audit_law.specs.law.{Debts.IsPaid, Owed.Pays}
+use Rattle.audit_law.specs.law.{Debts.IsPaid, Owed.{Debt, Pays}}
 use Rattle.{audit_law.specs.law.Dispatched.Dispatch, run_law.specs.{device.LocalClocks.Reaches, timed.Dispatching.IsUp}}
 use Rattle.audit_sweep.specs.declared.records.dispatches.leaving.LeavingRow.{LeavingRow}
 use Rattle.{audit_sweep.specs.declared.unpaid.dispatches.debtor.RowFrame.RowFrame, run_law.specs.records.Happenings.Happening}
@@ -31,11 +31,12 @@ dispatch_of link row t frame = record {
 abbrev pub IsTold : Scenario → List Happening → LinkId → LeavingRow → ℕ → RowFrame → Type 0
 IsTold s hs link row t frame = IsPaid hs (Pays s) (debts.dispatch (dispatch_of link row t frame))
 
--- the dispatch is that of a frame of the row, on the link
-pub record IsBy (s : Scenario) (hs : List Happening) (link : LinkId) (row : LeavingRow) (o : Dispatch) : Type 0 where
+-- the debt is the dispatch of a frame of the row, on the link
+pub record IsBy (s : Scenario) (hs : List Happening) (link : LinkId) (row : LeavingRow) (o : Debt) : Type 0 where
+  pub time : ℕ
   pub frame : RowFrame
-  pub owes : OwesFrame s hs row o.time frame
-  pub is : o ≡ dispatch_of link row o.time frame
+  pub owes : OwesFrame s hs row time frame
+  pub is : o ≡ debts.dispatch (dispatch_of link row time frame)
 
 -- a frame of the cycle is at hand, and no record tells of its dispatch at the time
 pub record LacksOne (s : Scenario) (hs : List Happening) (link : LinkId) (row : LeavingRow) (t cycle : ℕ) : Type 0 where

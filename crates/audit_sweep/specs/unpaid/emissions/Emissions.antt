@@ -52,12 +52,6 @@ pub record OwesWithin (s : Scenario) (hs : List Happening) (until : ℕ) (device
   pub there : slice_get entries index ≡ Some e
   pub owed : OwesBehind s hs until device collections e 0 sent time
 
--- one of the first devices, so many of them, sends this by then
-pub record OwesAmong (s : Scenario) (hs : List Happening) (until count : ℕ) (o : DeviceId × Compressed) (time : ℕ)
-    : Type 0 where
-  pub one : o.0.0 < count
-  pub owed : OwesAt s hs until o.0 o.1 time
-
 -- a record says that the device sent this
 abbrev pub IsTold : Scenario → List Happening → DeviceId → Compressed → Type 0
 IsTold s hs device sent = IsPaid hs (Pays s) (debts.emission device sent)

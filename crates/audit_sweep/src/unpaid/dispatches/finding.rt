@@ -2,17 +2,17 @@
 
 ghost use Rattle.std.specs.Prelude.{◌^◌, ◌≡◌, ◌≤◌, List};
 ghost use Rattle.audit_devices.specs.clocks.Finding.{IsSeries};
-ghost use Rattle.audit_law.specs.law.{Dispatched.Dispatch, FirstDebts.TellsFirst};
+ghost use Rattle.audit_law.specs.law.FirstDebts.{TellsFirst};
 ghost use Rattle.audit_sweep.specs.records.dispatches.{Leaving.IsRowOn, Leavings.AreLeavings};
-ghost use Rattle.audit_sweep.specs.unpaid.{Unpaid.TellsFirstAmong, dispatches.Frames.{IsBy, IsTold, OwesFrame}};
+ghost use Rattle.audit_sweep.specs.unpaid.dispatches.Frames.{IsBy, IsTold, OwesFrame};
 ghost use Rattle.audit_sweep.specs.unpaid.dispatches.Debtors.{AreKnown, AreSomeKnown, IsFit, scenario_of};
 ghost use Rattle.{audit_devices.specs.Lasting.ShowsWithin, audit_sweep.specs.unpaid.points.FirstUnpaid.TellsFirstUnpaid};
+ghost use Rattle.audit_sweep.specs.unpaid.Sorts.{IsDispatchDebt, IsDispatchDebtOn};
 ghost use Rattle.{net_plan.specs.declared.event.Event.Event, run_law.specs.records.Happenings.Happening};
-ghost use Rattle.audit_law.specs.law.Owed as debts;
 
 use crate::records::dispatches::LeavingRow;
 use crate::unpaid::dispatches::RowDebtor;
-use crate::unpaid::points::earlier;
+use crate::unpaid::earlier_of;
 use audit_devices::Shown;
 use audit_devices::clocks::{Series, next_crossing};
 use audit_law::events::reading_law;
@@ -26,11 +26,11 @@ impl RowDebtor<'_> {
         requires fit { IsFit self.now }
         requires known { AreSomeKnown self.now }
         ensures { (befallen : List Event) (hs : List Happening) → AreKnown befallen hs self.now
-            → TellsFirst (scenario_of self.now befallen) hs self.now.until (λ (o : Dispatch). debts.dispatch o) result }
+            → TellsFirst (scenario_of self.now befallen) hs self.now.until IsDispatchDebt result }
     {
         let mut first = None;
         'links: for place in 0..self.network.link.as_slice().len() {
-            first = earlier(first, self.first_on(LinkId(place as u32)));
+            first = earlier_of(first, self.first_on(LinkId(place as u32)));
         }
         first
     }
@@ -40,13 +40,12 @@ impl RowDebtor<'_> {
         requires fit { IsFit self.now }
         requires known { AreSomeKnown self.now }
         ensures { (befallen : List Event) (hs : List Happening) → AreKnown befallen hs self.now
-            → TellsFirstAmong (scenario_of self.now befallen) hs self.now.until (λ (o : Dispatch). debts.dispatch o)
-            (λ o. o.link ≡ link) result }
+            → TellsFirst (scenario_of self.now befallen) hs self.now.until (IsDispatchDebtOn link) result }
     {
         let rows = self.exits.on(link);
         let mut first = None;
         'rows: for row in rows {
-            first = earlier(first, self.first_by(link, row));
+            first = earlier_of(first, self.first_by(link, row));
         }
         first
     }
@@ -57,7 +56,7 @@ impl RowDebtor<'_> {
         requires known { AreSomeKnown self.now }
         requires row { IsRowOn self.now.network.now link row.now }
         ensures { (befallen : List Event) (hs : List Happening) → AreKnown befallen hs self.now
-            → TellsFirstAmong (scenario_of self.now befallen) hs self.now.until (λ (o : Dispatch). debts.dispatch o)
+            → TellsFirst (scenario_of self.now befallen) hs self.now.until
             (IsBy (scenario_of self.now befallen) hs link row.now) result }
     {
         match row.leavings(self.network) {

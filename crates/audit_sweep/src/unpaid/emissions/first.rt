@@ -4,13 +4,12 @@ ghost use Rattle.{audit_devices.specs.stretches.Keeping.Stretches, audit_law.spe
 ghost use Rattle.{audit_law.specs.law.{DueRecords.IsDue, FirstDebts.TellsFirst}, run_law.specs.scenario.Devices.is_cm};
 ghost use Rattle.audit_sweep.specs.unpaid.emissions.{Emissions.{IsTold, OwesAt, OwesBehind}, Kept.{IsKept, IsSomeKept}};
 ghost use Rattle.{audit_sweep.specs.unpaid.emissions.Firsts.TellsFirstOf, run_law.specs.records.Happenings.Happening};
-ghost use Rattle.{compression.specs.declared.compressed.Compressed.Compressed, run_law.specs.records.Ranks.place_of};
+ghost use Rattle.{audit_sweep.specs.unpaid.Sorts.IsEmissionDebt, run_law.specs.records.Ranks.place_of};
 ghost use Rattle.{net_plan.specs.{Belonging.HasDevice, Ranges.IsInRange}, run_law.specs.runs.Runs.IsFounded};
-ghost use Rattle.net_plan.specs.declared.{event.Event.Event, ids.DeviceId.{DeviceId as DeviceIdValue}};
-ghost use Rattle.audit_law.specs.law.Owed as debts;
+ghost use Rattle.net_plan.specs.declared.event.Event.{Event};
 
 use crate::records::places::Places;
-use crate::unpaid::emissions::earliest::earlier_of;
+use crate::unpaid::earlier_of;
 use crate::unpaid::emissions::emitting::is_unemitted;
 use audit_devices::stretches::StretchHistory;
 use audit_law::events::{EventHistory, reading_law};
@@ -33,8 +32,7 @@ pub fn first_unemitted(
     ensures { (befallen : List Event) (hs : List Happening)
         → IsKept network.now befallen hs events.now stretches.now places.now
         → IsFounded place_of (IsDue (scenario_under network.now befallen)) hs
-        → TellsFirst (scenario_under network.now befallen) hs until
-        (λ (o : DeviceIdValue × Compressed). debts.emission o.0 o.1) result }
+        → TellsFirst (scenario_under network.now befallen) hs until IsEmissionDebt result }
 {
     let mut first = None;
     'devices: for place in 0..network.device.as_slice().len() {

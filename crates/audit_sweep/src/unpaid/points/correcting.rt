@@ -7,13 +7,12 @@ ghost use Rattle.{audit_law.specs.law.FirstDebts.TellsFirst, run_law.specs.scena
 ghost use Rattle.audit_sweep.specs.unpaid.points.{FirstUnpaid.TellsFirstUnpaid, Kept.{IsKept, IsSomeKept}};
 ghost use Rattle.audit_devices.specs.Lasting.{ShowsWithin};
 ghost use Rattle.audit_sweep.specs.unpaid.points.Told.{AreOfDevices, IsTold, OwesAt};
-ghost use Rattle.net_plan.specs.declared.{event.Event.Event, ids.DeviceId.{DeviceId as DeviceIdValue}};
+ghost use Rattle.{audit_sweep.specs.unpaid.Sorts.IsPointDebt, net_plan.specs.declared.event.Event.Event};
 ghost use Rattle.run_law.specs.{control.Corrections.correction_value, records.Happenings.{Happening, earlier}};
 ghost use Rattle.sync_state.specs.declared.answers.Verdict.{TheVariants.Cleared, Verdict};
-ghost use Rattle.audit_law.specs.law.Owed as debts;
 
 use crate::records::places::Places;
-use crate::unpaid::points::first::earlier;
+use crate::unpaid::earlier_of;
 use audit_devices::clocks::{DeviceMoment, Point, Series, coming_point, next_crossing};
 use audit_devices::{Shown, Standings};
 use audit_law::events::EventHistory;
@@ -38,14 +37,13 @@ pub fn first_untold(
         → IsKept network.now befallen hs events.now standings.now places.now
         → IsFounded place_of (IsDue (scenario_under network.now befallen)) hs
         → AreOfDevices network.now hs
-        → TellsFirst (scenario_under network.now befallen) hs until (λ (o : DeviceIdValue × ℕ). debts.point o.0 o.1)
-        result }
+        → TellsFirst (scenario_under network.now befallen) hs until IsPointDebt result }
 {
     let mut first = None;
     'devices: for place in 0..network.device.as_slice().len() {
         let device = DeviceId(place as u32);
         let untold = first_untold_by(network, events, standings, places, device, until);
-        first = earlier(first, untold);
+        first = earlier_of(first, untold);
     }
     first
 }

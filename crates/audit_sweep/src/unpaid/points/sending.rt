@@ -2,17 +2,16 @@ ghost use Rattle.std.specs.Prelude.{◌+◌, ◌<◌, ◌^◌, ◌↔◌, ◌≡
 ghost use Rattle.{audit_devices.specs.{Keeping.device_count, Showing.Shows}, run_law.specs.scenario.Scenarios.Scenario};
 ghost use Rattle.{audit_law.specs.events.Readings.scenario_under, net_plan.specs.Places.{is_master as is_master_role}};
 ghost use Rattle.{audit_law.specs.events.Remembering.Remembers, run_law.specs.records.Happenings.{Happening, earlier}};
-ghost use Rattle.{audit_law.specs.law.Dispatched.Sending, run_law.specs.scenario.Devices.has_role};
-ghost use Rattle.{audit_law.specs.law.FirstDebts.TellsFirst, run_law.specs.timed.Dispatching.{IsUp, Sends}};
+ghost use Rattle.{audit_law.specs.law.FirstDebts.TellsFirst, audit_sweep.specs.unpaid.Sorts.IsSendingDebt};
+ghost use Rattle.run_law.specs.{scenario.Devices.has_role, timed.Dispatching.{IsUp, Sends}};
 ghost use Rattle.audit_sweep.specs.{records.places.Placing.ArePlacesOf, unpaid.points.FirstUnpaid.TellsFirstUnpaid};
 ghost use Rattle.audit_sweep.specs.unpaid.points.{Kept.{IsKept, IsSomeKept, RemembersSomeOf}, Sent.IsSent};
 ghost use Rattle.audit_devices.specs.Lasting.{ShowsWithin};
 ghost use Rattle.net_plan.specs.{Belonging.HasDevice, Ranges.IsInRange};
 ghost use Rattle.net_plan.specs.declared.{event.Event.Event, network.Network.{Network as NetworkValue}};
-ghost use Rattle.audit_law.specs.law.Owed as debts;
 
 use crate::records::places::Places;
-use crate::unpaid::points::first::earlier;
+use crate::unpaid::earlier_of;
 use audit_devices::clocks::{Crossed, DeviceMoment, beginnings, is_up, next_crossing};
 use audit_devices::{Shown, Standings};
 use audit_law::events::{EventHistory, reading_law};
@@ -35,13 +34,13 @@ pub fn first_unsent(
     requires limit { until ≤ 2 ^ 60 }
     ensures { (befallen : List Event) (hs : List Happening)
         → IsKept network.now befallen hs events.now standings.now places.now
-        → TellsFirst (scenario_under network.now befallen) hs until (λ (o : Sending). debts.sending o) result }
+        → TellsFirst (scenario_under network.now befallen) hs until IsSendingDebt result }
 {
     let mut first = None;
     'devices: for place in 0..network.device.as_slice().len() {
         let device = DeviceId(place as u32);
         let unsent = first_unsent_by(network, events, standings, places, device, until);
-        first = earlier(first, unsent);
+        first = earlier_of(first, unsent);
     }
     first
 }

@@ -1,5 +1,8 @@
-use Rattle.audit_law.proofs.law_lemmas.Earliest.{first_debt_law}
+use Rattle.audit_law.proofs.law_lemmas.Earliest.{first_debt_law, joined_sorts}
 use Rattle.audit_law.proofs.law.debt_laws.first_debt_law.Goals as goal
 
-pub returns : goal.returns
-returns c = first_debt_law
+pub returns-clause-joined : goal.returns-clause-joined
+returns-clause-joined c = joined_sorts
+
+pub returns-clause-all : goal.returns-clause-all
+returns-clause-all c = first_debt_law

@@ -1,5 +1,5 @@
-use Rattle.audit_sweep.proofs.unpaid_lemmas.Words.{◌∙◌, both_ways, scenario_of}
-use Rattle.audit_sweep.proofs.unpaid_lemmas.{PaidArrivals.{arrival_marked, arrival_paid, arrival_time}, Payers.shows_by_cause}
+use Rattle.audit_sweep.proofs.unpaid_lemmas.Words.{both_ways, scenario_of}
+use Rattle.audit_sweep.proofs.unpaid_lemmas.{PaidArrivals.{arrival_marked, arrival_paid}, Payers.shows_by_cause}
 use Rattle.audit_sweep.proofs.unpaid.debtor.Debtor.unpaid_arrival.Goals as goal
 
 pub returns-then-of : goal.returns-then-of
@@ -20,7 +20,7 @@ returns-in-Some-arrival_due c befallen hs known =
     record {
       owed = owes.0;
       unpaid = λ paid. both_ways c.of.result.arrival c.if-of.false (so.arrival.1 (arrival_marked s hs until n known.founded owes.0 paid));
-      due = λ is. owes.3 ∙ arrival_time s hs until n known.founded owes.0 is;
+      at = owes.3;
     }
 
 pub returns-in-None-arrival_due : goal.returns-in-None-arrival_due

@@ -1,6 +1,6 @@
 use Rattle.audit_law.specs.law.Changes.{OwesChange}
-use Rattle.audit_sweep.proofs.unpaid_lemmas.PaidChanges.{change_marked, change_of_record, change_paid, change_time, owed_change}
-use Rattle.audit_sweep.proofs.unpaid_lemmas.Words.{◌∙◌, ◌≡◌, ◌≤◌, KeptRecord, ap, arith, both_ways, scenario_of, subst, time_of}
+use Rattle.audit_sweep.proofs.unpaid_lemmas.PaidChanges.{change_marked, change_of_record, change_paid, owed_change}
+use Rattle.audit_sweep.proofs.unpaid_lemmas.Words.{◌≡◌, ◌≤◌, KeptRecord, ap, arith, both_ways, scenario_of, subst, time_of}
 use Rattle.audit_sweep.proofs.unpaid.debtor.Debtor.unpaid_change.Goals as goal
 
 pub returns-in-None : goal.returns-in-None
@@ -51,5 +51,5 @@ returns c befallen hs known =
       owed = owed;
       unpaid = λ paid. both_ways c.of.result.change c.if-of.false
           (so.change.1 (change_marked s hs until known.founded owed paid));
-      due = λ is. time ∙ change_time s hs until known.founded owed is;
+      at = time;
     }

@@ -1,6 +1,6 @@
 use Rattle.{audit_law.specs.law.Departures.leaves_at, run_law.specs.control.Leaving.{Departs, departure}}
-use Rattle.audit_sweep.proofs.unpaid_lemmas.DepartureDebts.{departure_paid, departure_time, giver_there, gives_named, owed_departs}
-use Rattle.audit_sweep.proofs.unpaid_lemmas.Words.{◌∙◌, arith, both_ways, numbered_in, scenario_of, subst, sym, time_of}
+use Rattle.audit_sweep.proofs.unpaid_lemmas.DepartureDebts.{departure_paid, giver_there, gives_named, owed_departs}
+use Rattle.audit_sweep.proofs.unpaid_lemmas.Words.{arith, both_ways, numbered_in, scenario_of, subst, sym, time_of}
 use Rattle.net_plan.specs.Belonging.{HasDevice}
 use Rattle.audit_sweep.proofs.unpaid.debtor.Debtor.unpaid_leaving.Goals as goal
 
@@ -73,5 +73,5 @@ returns c befallen hs h known there kept =
     record {
       owed = o;
       unpaid = λ p. both_ways c.has_departure.result c.if-has_departure.false (stands.1 (paid.0 p));
-      due = λ is. l.time ∙ departure_time s hs until n link known.founded o is;
+      at = l.time;
     }

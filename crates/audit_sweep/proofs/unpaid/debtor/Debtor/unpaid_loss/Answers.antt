@@ -1,4 +1,4 @@
-use Rattle.audit_sweep.proofs.unpaid_lemmas.{PaidLosses.{loss_marked, loss_paid, loss_time}, Words.{◌∙◌, both_ways, scenario_of}}
+use Rattle.audit_sweep.proofs.unpaid_lemmas.{PaidLosses.{loss_marked, loss_paid}, Words.{both_ways, scenario_of}}
 use Rattle.audit_sweep.proofs.unpaid.debtor.Debtor.unpaid_loss.Goals as goal
 
 pub returns-then-of : goal.returns-then-of
@@ -19,7 +19,7 @@ returns-in-Some-loss_due c befallen hs known =
     record {
       owed = owes.0;
       unpaid = λ paid. both_ways c.of.result.loss c.if-of.false (so.loss.1 (loss_marked s hs until n known.founded owes.0 paid));
-      due = λ is. owes.3 ∙ loss_time s hs until n known.founded owes.0 is;
+      at = owes.3;
     }
 
 pub returns-in-None-loss_due : goal.returns-in-None-loss_due

@@ -1,18 +1,35 @@
-use Rattle.audit_sweep.proofs.unpaid_lemmas.points_lemmas.Words.{◌+◌, IsTold, OwesAt, TellsFirstAmong, ap, arith, length, scenario_under, subst, sym}
-use Rattle.audit_sweep.proofs.unpaid_lemmas.points_lemmas.{FirstPoints.first_point, Joining.among_more}
+use Rattle.audit_law.{proofs.law_lemmas.Earliest.{IsOfFirst, first_of_more, first_of_next, first_of_none}, specs.law.FirstDebts.TellsFirst}
+use Rattle.audit_sweep.proofs.unpaid_lemmas.points_lemmas.{FirstPoints.{first_point, point_within}, Words.{◌+◌, Option, ap, arith, length, scenario_under}}
+use Rattle.audit_sweep.{proofs.unpaid_lemmas.points_lemmas.Words.{subst, sym, ℕ}, specs.unpaid.Sorts.{IsPointDebt, IsPointDebtOf}}
 use Rattle.audit_sweep.proofs.unpaid.points.correcting.first_untold.Goals as goal
+
+pub devices-init : goal.devices-init
+devices-init c befallen hs kept founded =
+    first_of_none (scenario_under c.args.network.now befallen) hs c.args.until
+    (λ (n : ℕ). IsPointDebtOf (record { 0 = n }))
 
 pub devices-preserved : goal.devices-preserved
 devices-preserved c befallen hs kept founded =
     let s = scenario_under c.args.network.now befallen in
-    subst (λ r. TellsFirstAmong (OwesAt s hs) (IsTold s hs) c.args.until (c.devices.place + 1) r) (sym c.earlier-first.ensures)
-    (among_more (OwesAt s hs) (IsTold s hs) c.args.until c.devices.place c.devices.first c.first_untold_by-untold.result
-    (c.devices.invariant befallen hs kept founded) (c.first_untold_by-untold.ensures befallen hs kept founded))
+    let until = c.args.until in
+    let place = c.devices.place in
+    let one = c.first_untold_by-untold.result in
+    let Is = λ (n : ℕ). IsPointDebtOf (record { 0 = n }) in
+    subst (λ (r : Option ℕ). TellsFirst s hs until (IsOfFirst Is (place + 1)) r) (sym c.earlier_of-first.ensures)
+    (first_of_next s hs until Is place c.devices.first one (c.devices.invariant befallen hs kept founded)
+    (first_point s hs until (record { 0 = place }) one (c.first_untold_by-untold.ensures befallen hs kept founded)))
 
 pub returns : goal.returns
 returns c befallen hs kept founded of =
+    let s = scenario_under c.args.network.now befallen in
+    let until = c.args.until in
     let all = ap length c.as_slice-place-end.ensures in
     let most = c.devices.auto.place-end in
     let least = c.devices-test.false in
-    first_point (scenario_under c.args.network.now befallen) hs c.args.until c.devices.place c.devices.first (omega (arith, all, most, least)) of
+    first_of_more s hs until
+    (IsOfFirst (λ (n : ℕ). IsPointDebtOf (record { 0 = n })) c.devices.place) IsPointDebt c.devices.first
+    (λ o is. (record { 0 = is.0 }, is.2))
+    (λ o is owed.
+    let there = point_within s hs until is.0 o of is.1 owed in
+    (is.0.0, omega (arith, there, all, most, least), is.1))
     (c.devices.invariant befallen hs kept founded)

@@ -1,11 +1,14 @@
-use Rattle.{audit_devices.proofs.Partitions.in_index, audit_law.specs.law.Dispatched.Dispatch}
-use Rattle.audit_sweep.proofs.{records_lemmas.dispatches_lemmas.Rows.no_row, unpaid_lemmas.dispatches_lemmas.RowDebts.{IsByFirst, all_rows, next_row, no_rows}}
-use Rattle.{audit_sweep.specs.unpaid.{Unpaid.TellsFirstAmong, dispatches.Debtors.scenario_of}, std.proofs.Common.{◌+◌, Option, subst, sym, ℕ}}
-use Rattle.audit_law.specs.law.Owed as debts
+use Rattle.{audit_devices.proofs.Partitions.in_index, audit_law.specs.law.FirstDebts.TellsFirst}
+use Rattle.audit_law.proofs.law_lemmas.Earliest.{IsOfFirst, first_of_more, first_of_next, first_of_none}
+use Rattle.audit_sweep.proofs.{records_lemmas.dispatches_lemmas.Rows.no_row, unpaid_lemmas.dispatches_lemmas.RowDebts.{IsByRow, all_rows}}
+use Rattle.audit_sweep.specs.unpaid.dispatches.{Debtors.scenario_of, Frames.IsBy}
+use Rattle.std.proofs.Common.{◌+◌, Option, slice_index_or, subst, sym, ℕ}
 use Rattle.audit_sweep.proofs.unpaid.dispatches.debtor.RowDebtor.first_on.Goals as goal
 
 pub rows-init : goal.rows-init
-rows-init c befallen hs known = no_rows (scenario_of c.args.self.now befallen) hs c.args.self.now.until c.args.link c.on-rows.result.now
+rows-init c befallen hs known =
+    let s = scenario_of c.args.self.now befallen in
+    first_of_none s hs c.args.self.now.until (IsByRow s hs c.args.link c.on-rows.result.now)
 
 pub first_by-requires-clause-row : goal.first_by-requires-clause-row
 first_by-requires-clause-row c =
@@ -16,12 +19,15 @@ pub rows-preserved : goal.rows-preserved
 rows-preserved c befallen hs known =
     let s = scenario_of c.args.self.now befallen in
     let until = c.args.self.now.until in
+    let link = c.args.link in
     let rows = c.on-rows.result.now in
     let n = c.rows.row-index in
-    subst (λ (r : Option ℕ). TellsFirstAmong s hs until (λ (o : Dispatch). debts.dispatch o) (IsByFirst s hs c.args.link rows (n + 1)) r)
-    (sym c.earlier-first.ensures)
-    (next_row s hs until c.args.link rows n c.rows.first c.first_by.result c.rows-test.true (c.rows.invariant befallen hs known)
-    (c.first_by.ensures befallen hs known))
+    let one = c.first_by.result in
+    subst (λ (r : Option ℕ). TellsFirst s hs until (IsOfFirst (IsByRow s hs link rows) (n + 1)) r)
+    (sym c.earlier_of-first.ensures)
+    (first_of_next s hs until (IsByRow s hs link rows) n c.rows.first one (c.rows.invariant befallen hs known)
+    (first_of_more s hs until (IsBy s hs link (slice_index_or rows n no_row)) (IsByRow s hs link rows n) one
+    (λ o is. (c.rows-test.true, is)) (λ o is owed. is.1) (c.first_by.ensures befallen hs known)))
 
 pub returns : goal.returns
 returns c befallen hs known =
