@@ -14,29 +14,11 @@ pub(super) fn sent(device: DeviceId, cycle: u32) -> NoteBody {
     NoteBody::Sent { device, cycle }
 }
 
-pub(super) fn left(device: DeviceId, link: LinkId, cause: u64, clock: u64) -> NoteBody {
-    NoteBody::Left {
-        device,
-        link,
-        cause,
-        clock,
-    }
-}
-
 pub(super) fn lost(device: DeviceId, link: LinkId, cause: u64) -> NoteBody {
     NoteBody::Lost {
         device,
         link,
         cause,
-    }
-}
-
-pub(super) fn arrived(device: DeviceId, link: LinkId, cause: u64, clock: u64) -> NoteBody {
-    NoteBody::Arrived {
-        device,
-        link,
-        cause,
-        clock,
     }
 }
 

@@ -1,7 +1,6 @@
-//! Tests of what drives a world: its queues, its machines, and storms with their summary.
+//! Tests of what drives a world: its queues, its machines, and the summary of a storm.
 
 mod machines;
 mod queue;
-mod storms;
 mod summary;
 mod timers;

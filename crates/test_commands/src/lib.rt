@@ -1,4 +1,4 @@
-//! Tests of the commands of `tte` over one file: what words are read as, captures, and calls that a fault ends.
+//! Tests of the commands of `tte` over one file: captures, calls that a fault ends, and the numbers of statuses.
 #![tactic(auto)]
 
 #[cfg(test)]
@@ -8,8 +8,8 @@ mod captures;
 #[cfg(test)]
 mod faults;
 #[cfg(test)]
-mod forms;
-#[cfg(test)]
 mod frames;
 #[cfg(test)]
 mod hints;
+#[cfg(test)]
+mod statuses;

@@ -39,12 +39,3 @@ pub(super) fn try_call(rt: &impl Abort, alloc: Global, call: &Call<'_>) -> Resul
     is_passed_on(rt, status, &out);
     Ok(())
 }
-
-/// A call ended as it should, if there was memory.
-pub(super) fn try_ended(rt: &impl Abort, status: Status, wanted: Status) -> Result<(), Fail> {
-    if status == Status::OutOfMemory {
-        return Err(Fail::from(OutOfMemory));
-    }
-    assert!(rt; status == wanted);
-    Ok(())
-}
