@@ -51,7 +51,7 @@ pub use Rattle.world_law.specs.device.{Deeds.{HadComeTo, HasDoneFrom, HasDoneTas
 pub use Rattle.world_law.specs.device.{Own.{IsStill, bears_on, borne, moves}, Plain.{plain, plains}, Ready.IsSteady, Recorded.dispatch_body}
 pub use Rattle.world_law.specs.device.Takings.{frames_taken, taken_by}
 pub use Rattle.world_law.specs.source.{Agreeing.{Agree, scenario}, First.NoSourceBefore, Sources.{IsActing, IsAtCorrection, IsOwnSource, IsSource, task_place}}
-pub use Rattle.world_law.specs.world.World.{AreAtPorts, AreOfNetwork, AreOnWires, AreSettled, AreWaiting, AtPort, HasTurnedOn, HaveBefallen}
+pub use Rattle.world_law.specs.world.World.{AreAtPorts, AreComing, AreOfNetwork, AreOnWires, AreWaiting, AtPort, HasTurnedOn, HaveBefallen}
 pub use Rattle.world_law.specs.world.World.{IsAtRest, IsForward, IsHeld, IsKept, IsTurnedOnBy, IsWorkedOff, OnWire, Stands, Waiting, World, act_place, clock_place}
 pub use Rattle.world_law.specs.world.World.{HasTaskAt, IsActedOut, IsJoiningNow, rows_place}
 pub use Rattle.world_law.specs.world.World.{is_at_source, is_turning, numbers_end, port_place, ripe_place, wire_place}

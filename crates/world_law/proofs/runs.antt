@@ -3,7 +3,9 @@ pub mod Next
 pub mod TaskPlaces
 pub mod Sourced
 pub mod Firsts
+pub mod Settled
 pub mod Worlds
+pub mod Over
 pub mod Agreement
 pub mod SameCauses
 pub mod Applies

@@ -1,5 +1,4 @@
 pub mod Steps
-pub mod Arriving
 pub mod Ripening
 pub mod Acting
 pub mod Repeating

@@ -47,7 +47,7 @@ pub fn run_stays_under_more()
     ensures { RunStaysUnderMore }
 {}
 
-/// Where a world stands and its first settled record is given, it stands behind that, with one frontier.
+/// Where a world stands and its first settled record is given, it stands behind that.
 pub fn given_step<C: Clock, M: Machine + Drop>()
     ensures { GivenStep C.reading M.stands }
 {}

@@ -3,7 +3,6 @@
 mod laws;
 
 pub use laws::{
-    acted_step, acted_turn, acts_add_up, acts_are_bounded, acts_bring_few, applied_step,
-    befell_step, begun, clock_step, clock_turn, correction_ends, early_at_one, heard_step,
-    heard_turn, left_step, left_turn, passed_step, ripened_step, ripened_turn,
+    acted_turn, acts_add_up, acts_are_bounded, acts_bring_few, applied_step, befell_step, begun,
+    clock_turn, correction_ends, heard_turn, left_turn, passed_step, ripened_turn,
 };

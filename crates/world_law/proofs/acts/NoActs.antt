@@ -1,5 +1,6 @@
 -- Where nothing that a world has under way is before a place, and nothing to come, no act of a device that is not worked off
 -- is before it.
+use Rattle.world_law.proofs.runs.Settled.{settled_of}
 use Rattle.world_law.proofs.runs.TaskPlaces.{acts_before, placed_so}
 use Rattle.world_law.proofs.acts.Dues.{IsPresent, act_due, came_not, done_or}
 use Rattle.world_law.proofs.Words.{◌+◌, ◌≤ℤ◌, HadComeTo, IsPending, before_later, is_at_source, task_place}
@@ -121,38 +122,40 @@ IsIdleBefore s device now node p =
 
 -- and what is to come is behind all acts of the instant that are before it; and where what stands at its source is to come,
 -- no place that is not worked off is before it
-pub record IsBehind (coming : List Happening) (cursor : List ℕ) (now : ℕ) (p : List ℕ) : Type 0 where
+pub record IsBehind (coming : List Happening) (frontier : List ℕ) (now : ℕ) (p : List ℕ) : Type 0 where
   pub of_now : (z : Happening) → IsIn z coming → time_of z ≡ now
   pub late : (z : Happening) → IsIn z coming → (device : DeviceId) → IsBefore (act_place now device) p → 4 ≤ rank z.note.body
   pub none : (t : ℕ) (device : DeviceId) → now < t → IsBefore (act_place t device) p → coming ≡ []
-  pub lone : (z : Happening) → IsIn z coming → rank z.note.body ≡ 4 → (w : List ℕ) → (IsBefore w cursor → ⊥) → IsBefore w p → ⊥
+  pub lone : (z : Happening) → IsIn z coming → rank z.note.body ≡ 4 → (w : List ℕ) → (IsBefore w frontier → ⊥)
+      → IsBefore w p → ⊥
 
 -- how it is at the present instant
 pub present : {M : Type 0} {stands : M → Network → DeviceId → Node → Type 0} {s : Scenario}
-    {hs coming : List Happening} {cursor : List ℕ} {now : ℕ} {device : DeviceId} {machine : M}
-    (k : IsKept stands s hs coming cursor now device machine) → k.up ≡ now
+    {hs coming : List Happening} {frontier : List ℕ} {now : ℕ} {device : DeviceId} {machine : M}
+    (k : IsKept stands s hs coming frontier now device machine) → k.up ≡ now
     → IsPresent s (hs ++ coming) now device k.node
 present {s} {hs} {coming} {device} k up =
     record { left = subst (λ n. IsLeft s (hs ++ coming) device n k.node) up k.left; sound = k.sound }
 
 pub kept_no_act : {M : Type 0} {stands : M → Network → DeviceId → Node → Type 0} {s : Scenario}
-    {hs coming : List Happening} {mark cursor p : List ℕ} {now t : ℕ} {device : DeviceId} {machine : M}
-    (k : IsKept stands s hs coming cursor now device machine) {task : Task} → IsLawful s (hs ++ coming) device
-    → IsBehind coming cursor now p → IsPast hs now → (IsBefore (now ∷ 2 ∷ []) p → IsWorked hs cursor now)
-    → HaveBefallen s mark now → ((q : List ℕ) → IsBefore q cursor → IsBefore q ((now + 1) ∷ [])) → now ≤ t
+    {hs coming : List Happening} {frontier p : List ℕ} {now t : ℕ} {device : DeviceId} {machine : M}
+    (k : IsKept stands s hs coming frontier now device machine) {task : Task} → IsLawful s (hs ++ coming) device
+    → IsBehind coming frontier now p → IsPast hs now → (IsBefore (now ∷ 2 ∷ []) p → IsWorked hs frontier now)
+    → HaveBefallen s frontier now → ((q : List ℕ) → IsBefore q frontier → IsBefore q ((now + 1) ∷ [])) → now ≤ t
     → IsIdleBefore s device now k.node p → IsActing s hs t device task
-    → (IsBefore (task_place s.network t device task) cursor → ⊥) → IsBefore (task_place s.network t device task) p → ⊥
-kept_no_act {M} {stands} {s} {hs} {coming} {mark} {cursor} {p} {now} {t} {device} {machine} k {task} law behind_it
+    → (IsBefore (task_place s.network t device task) frontier → ⊥) → IsBefore (task_place s.network t device task) p → ⊥
+kept_no_act {M} {stands} {s} {hs} {coming} {frontier} {p} {now} {t} {device} {machine} k {task} law behind_it
     past worked befallen later le idle a not b =
     elim (cases_lt now t) [
       | inr ge ↦ let same : t ≡ now =
           omega (arith, ge, le) in at_present (subst (λ n. IsActing s hs n device task) same a)
-          (subst (λ n. IsBefore (task_place s.network n device task) cursor → ⊥) same not)
+          (subst (λ n. IsBefore (task_place s.network n device task) frontier → ⊥) same not)
           (subst (λ n. IsBefore (task_place s.network n device task) p) same b)
       | inl lt ↦
           let empty = behind_it.none t device lt (acts_before s.network t device task p b) in
-          let k0 : (x : IsKept stands s hs [] cursor now device machine)
-          × (x.node ≡ k.node) = subst (λ l. (x : IsKept stands s hs l cursor now device machine) × (x.node ≡ k.node)) empty (k, refl)
+          let k0 : (x : IsKept stands s hs [] frontier now device machine)
+          × (x.node ≡ k.node) = subst (λ l. (x : IsKept stands s hs l frontier now device machine) × (x.node ≡ k.node))
+          empty (k, refl)
           in
           let idle0 : IsIdleBefore s device now k0.0.node p = subst (λ n. IsIdleBefore s device now n p) (sym k0.1) idle in
           let law0 : IsLawful s hs device = subst (λ l. IsLawful s l device)
@@ -160,7 +163,7 @@ kept_no_act {M} {stands} {s} {hs} {coming} {mark} {cursor} {p} {now} {t} {device
           afterwards lt k0.0 idle0 law0
     ]
   where
-    at_present : IsActing s hs now device task → (IsBefore (task_place s.network now device task) cursor → ⊥)
+    at_present : IsActing s hs now device task → (IsBefore (task_place s.network now device task) frontier → ⊥)
         → IsBefore (task_place s.network now device task) p → ⊥
     at_present a not b =
         let js = hs ++ coming in
@@ -198,10 +201,11 @@ kept_no_act {M} {stands} {s} {hs} {coming} {mark} {cursor} {p} {now} {t} {device
           ]
         ]
 
-    afterwards : now < t → (k0 : IsKept stands s hs [] cursor now device machine) → IsIdleBefore s device now k0.node p → IsLawful s hs device → ⊥
+    afterwards : now < t → (k0 : IsKept stands s hs [] frontier now device machine)
+        → IsIdleBefore s device now k0.node p → IsLawful s hs device → ⊥
     afterwards lt k0 idle0 law0 =
         let sooner : (k : ℕ) (ws : List ℕ) → IsBefore (now ∷ k ∷ ws) p = λ k ws. chain (now ∷ k ∷ ws) (task_place s.network t device task) p (inl lt) b in
-        let rest = at_rest stands s hs mark cursor now device machine k0 befallen past (worked (sooner 2 []))
+        let rest = at_rest stands s hs frontier now device machine k0 befallen past (worked (sooner 2 []))
         (record { later = later; falls = law0.steady.never_falls })
         (λ other pending. elim (cases_int (pos (s.reading device now)) (reading_for s.network k0.node other)) [
           | inl less ↦ less
@@ -215,7 +219,8 @@ kept_no_act {M} {stands} {s} {hs} {coming} {mark} {cursor} {p} {now} {t} {device
           still = λ h i from before. rest.still h i from;
           not_on = rest.off;
           not_on_later = not_on_after t device befallen lt;
-          not_broken = no_later_breaks s mark now t device befallen le ∙ sym (no_later_breaks s mark now rest.from device befallen rest.le);
+          not_broken = no_later_breaks s frontier now t device befallen le
+              ∙ sym (no_later_breaks s frontier now rest.from device befallen rest.le);
           never_falls = law0.steady.never_falls;
         } in
         let taken = k0.taken ∙ ap (λ l. frames_taken s l device) (append-nil hs) in
@@ -226,17 +231,20 @@ kept_no_act {M} {stands} {s} {hs} {coming} {mark} {cursor} {p} {now} {t} {device
 
 -- ---- all devices
 
-behind_of : (coming : List Happening) (cursor : List ℕ) (now : ℕ) (p : List ℕ) → ((z : Happening) → IsIn z coming → time_of z ≡ now)
-    → ((z : Happening) → IsIn z coming → is_at_source z.note.body ≡ true → IsBefore (place_of z) cursor)
-    → ((z : Happening) → IsIn z coming → IsBefore (place_of z) p → ⊥) → IsBehind coming cursor now p
-behind_of coming cursor now p of worked after = record {
+behind_of : (coming : List Happening) (frontier : List ℕ) (now : ℕ) (p : List ℕ)
+    → ((z : Happening) → IsIn z coming → time_of z ≡ now)
+    → ((z : Happening) → IsIn z coming → is_at_source z.note.body ≡ true → IsBefore (place_of z) frontier)
+    → ((z : Happening) → IsIn z coming → IsBefore (place_of z) p → ⊥) → IsBehind coming frontier now p
+behind_of coming frontier now p of worked after = record {
   of_now = of;
   late = λ z i device b. elim (cases_lt (rank z.note.body) 4) [
     | inr ge ↦ ge
     | inl low ↦ let at = of z i in absurd (after z i (chain (place_of z) (act_place now device) p (inr (at, inl (omega (arith, low)))) b))
   ];
   none = λ t device lt b. from t device lt b coming of after;
-  lone = λ z i four w not b. after z i (chain (place_of z) w p (before_later (place_of z) w cursor (worked z i (frame_source z.note.body four)) not) b);
+  lone = λ z i four w not b. after z i
+      (chain (place_of z) w p (before_later (place_of z) w frontier (worked z i (frame_source z.note.body four)) not)
+      b);
 }
   where
     frame_source : (body : NoteBody) → rank body ≡ 4 → is_at_source body ≡ true
@@ -250,33 +258,34 @@ behind_of coming cursor now p of worked after = record {
         let at = of_l z (inl refl) in absurd (seen z (inl refl) (chain (place_of z) (act_place t device) p (inl (omega (arith, lt, at))) b))
 
 held_no_act : {M : Type 0} {stands : M → Network → DeviceId → Node → Type 0} {s : Scenario}
-    {hs coming : List Happening} {mark cursor p : List ℕ} {now t : ℕ} {device : DeviceId} {machine : M} {task : Task}
-    → IsHeld stands s hs coming cursor now device machine → IsLawful s (hs ++ coming) device
-    → IsBehind coming cursor now p → IsPast hs now → (IsBefore (now ∷ 2 ∷ []) p → IsWorked hs cursor now)
-    → HaveBefallen s mark now → ((q : List ℕ) → IsBefore q cursor → IsBefore q ((now + 1) ∷ [])) → now ≤ t
+    {hs coming : List Happening} {frontier p : List ℕ} {now t : ℕ} {device : DeviceId} {machine : M} {task : Task}
+    → IsHeld stands s hs coming frontier now device machine → IsLawful s (hs ++ coming) device
+    → IsBehind coming frontier now p → IsPast hs now → (IsBefore (now ∷ 2 ∷ []) p → IsWorked hs frontier now)
+    → HaveBefallen s frontier now → ((q : List ℕ) → IsBefore q frontier → IsBefore q ((now + 1) ∷ [])) → now ≤ t
     → ((node : Node) → stands machine s.network device node → IsIdleBefore s device now node p)
-    → IsActing s hs t device task → (IsBefore (task_place s.network t device task) cursor → ⊥)
+    → IsActing s hs t device task → (IsBefore (task_place s.network t device task) frontier → ⊥)
     → IsBefore (task_place s.network t device task) p → ⊥
 held_no_act (inl k) law behind_it past worked befallen later le idle a not b =
     kept_no_act k law behind_it past worked befallen later le (idle k.node k.is) a not b
-held_no_act {s} {hs} {mark} {now} {t} {device} (inr k) law behind_it past worked befallen later le idle a not b =
-    broken_acts s hs device t (no_later_breaks s mark now t device befallen le ∙ k.broken) a
+held_no_act {s} {hs} {frontier} {now} {t} {device} (inr k) law behind_it past worked befallen later le idle a not b =
+    broken_acts s hs device t (no_later_breaks s frontier now t device befallen le ∙ k.broken) a
 
 module _ {C M : Type 0} (reading : C → ℕ → ℕ) (stands : M → Network → DeviceId → Node → Type 0) where
   no_acts : {s : Scenario} {world : World C M} {notes : List Note} {p : List ℕ}
       (old : Stands reading stands s world notes) → ((z : Happening) → IsIn z world.settled → IsBefore (place_of z) p
-      → ⊥) → NothingBefore stands s world p → NoActBefore s (happenings s.network notes) old.cursor p
+      → ⊥) → NothingBefore stands s world p → NoActBefore s (happenings s.network notes) old.frontier p
   no_acts {s} {world} {notes} {p} old after none t device task a not b =
       let hs = happenings s.network notes in
-      let over : (q : List ℕ) → IsBefore q (world.now ∷ []) → IsBefore q old.cursor =
-      λ q x. old.ahead q (old.of_now q x) in
+      let over : (q : List ℕ) → IsBefore q (world.now ∷ []) → IsBefore q old.frontier =
+      λ q x. old.of_now q x in
       let le : world.now ≤ t = elim (cases_lt t
       world.now) [ inl lt ↦ absurd (not (over (task_place s.network t device task) (inl lt))) | inr ge ↦ ge ] in
       elim (cases_lt device.0 (length s.network.device)) [
         | inl lt ↦
             let m = old.devices device lt in
             held_no_act m.2 (lawful reading stands s world notes old device)
-            (behind_of world.settled old.cursor world.now p old.are.of_now old.are.worked after) (are_past old)
+            (behind_of world.settled old.frontier world.now p old.are.of_now (settled_of old.are).worked after)
+            (are_past old)
             (λ two. elim (cases_Bool world.pending) [ inr told ↦ old.untold.done told | inl open_ ↦ absurd (none.befell open_ two) ]) old.befallen old.not_later le
             (λ node is u from other pending due before. none.acting device m.0 node other m.1 is pending u from due
             before) a not b

@@ -27,7 +27,8 @@ pub record IsPast (hs : List Happening) (now : ℕ) : Type 0 where
 
 -- where a record is given at the instant, what follows events is settled
 abbrev pub IsWorked : List Happening → List ℕ → ℕ → Type 0
-IsWorked hs cursor now = (number : ℕ) (h : Happening) → IsOfThisTime hs now number h → IsBefore (now ∷ 2 ∷ []) cursor
+IsWorked hs frontier now = (number : ℕ) (h : Happening) → IsOfThisTime hs now number h
+    → IsBefore (now ∷ 2 ∷ []) frontier
 
 -- records each of which stands after those before it are in the order of their times
 pub in_order : (hs : List Happening) → ((front rest : List Happening) (x : Happening) → hs ≡ front ++ x ∷ rest → AllBefore place_of front (place_of x))
@@ -46,30 +47,31 @@ pub are_past : {C M : Type 0} {reading : C → ℕ → ℕ} {stands : M → Netw
     {world : World C M} {notes : List Note} (old : Stands reading stands s world notes)
     → IsPast (happenings s.network notes) world.now
 are_past {s} {notes} old = record {
-  past = λ h i. elim (old.not_later (place_of h) (old.ahead (place_of h) (old.run.within h i))) [ inl lt ↦ omega (arith, lt) | inr bad ↦ absurd bad.1 ];
+  past = λ h i. elim (old.not_later (place_of h) (old.run.within h i))
+      [ inl lt ↦ omega (arith, lt) | inr bad ↦ absurd bad.1 ];
   in_time = in_time_of s (happenings s.network notes) old.run.founded;
 }
 
 -- ---- from the next instant on
 
 -- it has not worked off anything of a later time, and its clock never falls
-pub record IsNoLater (s : Scenario) (device : DeviceId) (cursor : List ℕ) (now : ℕ) : Type 0 where
-  pub later : (p : List ℕ) → IsBefore p cursor → IsBefore p ((now + 1) ∷ [])
+pub record IsNoLater (s : Scenario) (device : DeviceId) (frontier : List ℕ) (now : ℕ) : Type 0 where
+  pub later : (p : List ℕ) → IsBefore p frontier → IsBefore p ((now + 1) ∷ [])
   pub falls : (x y : ℕ) → x ≤ y → s.reading device x ≤ s.reading device y
 
 abbrev IsIdleAt : Scenario → DeviceId → Node → ℕ → Type 0
 IsIdleAt s device node now = (task : Task) → IsPending s.network device node task → pos (s.reading device now) <ℤ reading_for s.network node task
 
 -- where nothing of it is due at the instant, it stands at the next as it did
-left_next : {s : Scenario} {hs : List Happening} {mark : List ℕ} {device : DeviceId} {now : ℕ} {node : Node}
+left_next : {s : Scenario} {hs : List Happening} {frontier : List ℕ} {device : DeviceId} {now : ℕ} {node : Node}
     → IsQuietInstant s hs device now → ((h : Happening) → IsIn h hs → time_of h ≡ now
-    → IsAtRest s device now h.note.body) → HaveBefallen s mark now → HasCleared node
+    → IsAtRest s device now h.note.body) → HaveBefallen s frontier now → HasCleared node
     → (is_turned_on_at s device now ≡ true → IsTurnedOnBy hs device now)
     → ((x y : ℕ) → x ≤ y → s.reading device x ≤ s.reading device y) → node.broken ≡ false
     → IsIdleAt s device node now → IsLeft s hs device now node → IsLeft s hs device (now + 1) node
-left_next {s} {hs} {mark} {device} {now} {node} q still befallen r on_by falls sound idle left =
+left_next {s} {hs} {frontier} {device} {now} {node} q still befallen r on_by falls sound idle left =
     let off = not_on_after (now + 1) device befallen (omega arith) in
-    let same = no_later_breaks s mark now (now + 1) device befallen (omega arith) in
+    let same = no_later_breaks s frontier now (now + 1) device befallen (omega arith) in
     elim (cases_Bool (is_turned_on_at s device now)) [
       | inl on ↦ left_after_on q on off same (on_by on) left
       | inr not_on ↦
@@ -103,10 +105,10 @@ left_next {s} {hs} {mark} {device} {now} {node} q still befallen r on_by falls s
     never_both a b lt le = omega (arith, ints, lt, le)
 
 module _ {M : Type 0} (stands : M → Network → DeviceId → Node → Type 0) (s : Scenario) (hs : List Happening)
-    (mark cursor : List ℕ) (now : ℕ) (device : DeviceId) (machine : M) where
+    (frontier : List ℕ) (now : ℕ) (device : DeviceId) (machine : M) where
   -- where the instant is over for it
-  rests_over : (k : IsKept stands s hs [] cursor now device machine) → k.up ≡ now + 1 → HaveBefallen s mark now
-      → IsPast hs now → IsNoLater s device cursor now → Rests s hs device now k.node
+  rests_over : (k : IsKept stands s hs [] frontier now device machine) → k.up ≡ now + 1 → HaveBefallen s frontier now
+      → IsPast hs now → IsNoLater s device frontier now → Rests s hs device now k.node
   rests_over k up befallen past no_later =
       let whole : hs ++ [] ≡ hs = append-nil hs in
       let le : now + 1 ≤ k.up = omega (arith, up) in
@@ -130,8 +132,8 @@ module _ {M : Type 0} (stands : M → Network → DeviceId → Node → Type 0) 
       }
 
   -- and where it is not, but nothing of it is due
-  rests_next : (k : IsKept stands s hs [] cursor now device machine) → k.up ≡ now → HaveBefallen s mark now
-      → IsPast hs now → IsWorked hs cursor now → IsNoLater s device cursor now → IsIdleAt s device k.node now
+  rests_next : (k : IsKept stands s hs [] frontier now device machine) → k.up ≡ now → HaveBefallen s frontier now
+      → IsPast hs now → IsWorked hs frontier now → IsNoLater s device frontier now → IsIdleAt s device k.node now
       → Rests s hs device now k.node
   rests_next k up befallen past worked no_later idle =
       let whole : hs ++ [] ≡ hs = append-nil hs in
@@ -184,8 +186,8 @@ module _ {M : Type 0} (stands : M → Network → DeviceId → Node → Type 0) 
       }
 
   -- where nothing of it is due at the instant
-  pub at_rest : (k : IsKept stands s hs [] cursor now device machine) → HaveBefallen s mark now → IsPast hs now
-      → IsWorked hs cursor now → IsNoLater s device cursor now
+  pub at_rest : (k : IsKept stands s hs [] frontier now device machine) → HaveBefallen s frontier now → IsPast hs now
+      → IsWorked hs frontier now → IsNoLater s device frontier now
       → ((task : Task) → IsPending s.network device k.node task
       → pos (s.reading device now) <ℤ reading_for s.network k.node task) → Rests s hs device now k.node
   at_rest k befallen past worked no_later idle =

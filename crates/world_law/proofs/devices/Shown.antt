@@ -42,10 +42,10 @@ pub record ShowsAll (s : Scenario) (hs : List Happening) (device : DeviceId) (no
   pub adjustment : node.standing.adjustment ≡ adjustment_after s (up_to now hs) device
 
 module _ {M : Type 0} (stands : M → Network → DeviceId → Node → Type 0) (s : Scenario) (hs coming : List Happening)
-    (mark cursor : List ℕ) (now : ℕ) (device : DeviceId) (machine : M) where
+    (frontier : List ℕ) (now : ℕ) (device : DeviceId) (machine : M) where
   -- where it has not acted, its state is that before the time, but for what is that it was turned on
-  shown_before : (k : IsKept stands s hs coming cursor now device machine) → k.up ≡ now → IsWorked hs cursor now
-      → IsPast (hs ++ coming) now → HaveBefallen s mark now → ShowsAll s (hs ++ coming) device now k.node
+  shown_before : (k : IsKept stands s hs coming frontier now device machine) → k.up ≡ now → IsWorked hs frontier now
+      → IsPast (hs ++ coming) now → HaveBefallen s frontier now → ShowsAll s (hs ++ coming) device now k.node
   shown_before k up worked past befallen =
       let js = hs ++ coming in
       let q : IsQuietInstant s js device now = record {
@@ -73,8 +73,8 @@ module _ {M : Type 0} (stands : M → Network → DeviceId → Node → Type 0) 
       node_state : Node → State
       node_state node = node.standing.state
 
-  kept_shows : (k : IsKept stands s hs coming cursor now device machine) → IsWorked hs cursor now
-      → IsPast (hs ++ coming) now → HaveBefallen s mark now → ShowsAll s (hs ++ coming) device now k.node
+  kept_shows : (k : IsKept stands s hs coming frontier now device machine) → IsWorked hs frontier now
+      → IsPast (hs ++ coming) now → HaveBefallen s frontier now → ShowsAll s (hs ++ coming) device now k.node
   kept_shows k worked past befallen =
       let js = hs ++ coming in
       elim k.acted [
@@ -92,8 +92,8 @@ module _ {M : Type 0} (stands : M → Network → DeviceId → Node → Type 0) 
       ]
 
   -- so the machine of each device does
-  pub held_shows : IsHeld stands s hs coming cursor now device machine → IsWorked hs cursor now
-      → IsPast (hs ++ coming) now → HaveBefallen s mark now
+  pub held_shows : IsHeld stands s hs coming frontier now device machine → IsWorked hs frontier now
+      → IsPast (hs ++ coming) now → HaveBefallen s frontier now
       → (node : Node) × stands machine s.network device node × ShowsAll s (hs ++ coming) device now node
   held_shows (inl k) worked past befallen =
       (k.node, k.is, kept_shows k worked past befallen)

@@ -1,18 +1,18 @@
--- What a device has done by itself, as the cursor goes on.
+-- What a device has done by itself, as the frontier goes on.
 use Rattle.world_law.proofs.runs.TaskPlaces.{acts_before, task_time}
 use Rattle.world_law.proofs.Words.{◌+◌, ◌<◌, ◌∷◌, ◌≡◌, ◌≤◌, DeviceId, HadComeTo, Happening, HasDoneFrom, HasDoneTask, HasWorkedTo, IsActedOut, IsBefore}
 use Rattle.world_law.proofs.Words.{List, Node, Scenario, Task, [], act_place, arith, cases_order, chain, doing, emitting, inl, inr, subst, task_place, ℕ}
 use Rattle.world_law.specs.device.Deeds.{HasSentFrom}
 
-pub out_on : {s : Scenario} {hs : List Happening} {now : ℕ} {device : DeviceId} {cursor : List ℕ} (then_ : List ℕ)
-    → ((p : List ℕ) → IsBefore p cursor → IsBefore p then_) → IsActedOut s hs now device cursor
+pub out_on : {s : Scenario} {hs : List Happening} {now : ℕ} {device : DeviceId} {frontier : List ℕ} (then_ : List ℕ)
+    → ((p : List ℕ) → IsBefore p frontier → IsBefore p then_) → IsActedOut s hs now device frontier
     → IsActedOut s hs now device then_
 out_on then_ on out = record { past = on _ out.past; all = λ task a. on _ (out.all task a) }
 
 -- it stays so
-pub worked_on : {s : Scenario} {device : DeviceId} {node : Node} {changed : ℕ} (again : ℕ) {up : ℕ} {cursor : List ℕ}
-    (then_ : List ℕ) → changed ≡ again → ((p : List ℕ) → IsBefore p cursor → IsBefore p then_)
-    → HasWorkedTo s device node changed up cursor → HasWorkedTo s device node again up then_
+pub worked_on : {s : Scenario} {device : DeviceId} {node : Node} {changed : ℕ} (again : ℕ) {up : ℕ} {frontier : List ℕ}
+    (then_ : List ℕ) → changed ≡ again → ((p : List ℕ) → IsBefore p frontier → IsBefore p then_)
+    → HasWorkedTo s device node changed up frontier → HasWorkedTo s device node again up then_
 worked_on again then_ same on w = record {
   undone = λ deed u x from lt. w.undone deed u x (omega (arith, from, same)) lt;
   done = λ deed there. let x = w.done deed there in (x.0, subst (λ n. n ≤ x.0) same x.1, on _ x.2, x.3);

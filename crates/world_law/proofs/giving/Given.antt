@@ -2,12 +2,12 @@
 use Rattle.world_law.proofs.devices.{Plains.{adjustments_plain, changes_at_plain, filter_plain, plains_parts, states_plain, told_by_others}, Working.worked_on}
 use Rattle.world_law.proofs.{rows.AtHand.frames_by_others, runs.TaskPlaces.acts_before}
 use Rattle.run_law.proofs.{law.FirstPlaces.numbered_next, runs.NetworkRuns.one_more}
-use Rattle.world_law.specs.world.World.{AreStored, AreUntold, Befell, IsActedUpTo, IsAwaitedFor, IsAtRest, IsJustTold, is_turning, note_of}
+use Rattle.world_law.specs.world.World.{AreStored, AreUntold, Befell, IsActedUpTo, IsAwaitedFor, IsAtRest, IsJustTold, Stored, is_turning, note_of}
 use Rattle.std.proofs.lemmas.{List.length_push, Option.slice_get_cases}
-use Rattle.world_law.proofs.Words.{◌++◌, ◌+◌, ◌<◌, ◌∙◌, ◌∷◌, ◌≡◌, ◌≤◌, ◌⊎◌, AreAtPorts, AreClusters, AreOfNetwork, AreOnWires, AreSettled, AreWaiting}
-use Rattle.world_law.proofs.Words.{AtPort, Bool, Device, DeviceId, Happening, HaveBefallen, Integrating, IsActedOut, IsActing, IsBefore, IsDue}
+use Rattle.world_law.proofs.Words.{◌++◌, ◌+◌, ◌<◌, ◌∙◌, ◌∷◌, ◌≡◌, ◌≤◌, ◌⊎◌, AreAtPorts, AreClusters, AreOfNetwork, AreComing, AreOnWires, AreWaiting}
+use Rattle.world_law.proofs.Words.{AtPort, Bool, Device, DeviceId, Happening, Integrating, IsActedOut, IsActing, IsBefore, IsDue}
 use Rattle.world_law.proofs.Words.{IsFounded, IsHeld, IsIn, IsJoiningNow, IsKept, IsSource, List, Network}
-use Rattle.world_law.proofs.Words.{Node, None, NoteBody, OnWire, Pcf, Scenario, Some, Synchronised}
+use Rattle.world_law.proofs.Words.{NoSourceBefore, Node, None, Note, NoteBody, OnWire, Pcf, Scenario, Some, Synchronised, World}
 use Rattle.world_law.proofs.Words.{Task, Waiting, [], act_place, adjustment_after, amount, ap, append-nil, append_assoc, arith, before_behind}
 use Rattle.world_law.proofs.Words.{before_next_time, behind, cases_Bool, chain, changed_at, clock_place, device_at, earlier, ends_stretch, eqb-true, false}
 use Rattle.world_law.proofs.Words.{filter, filter_map, happening, happenings, if◌then◌else◌, in_left, in_parts, in_right, inl, inr, ints}
@@ -15,9 +15,10 @@ use Rattle.world_law.proofs.Words.{is_broken, is_joined_by, is_turned_on_at, key
 use Rattle.world_law.proofs.Words.{numbered, numbers_end, observation_window, place_of, plains, point_by, point_in, points_of, port_place, rank, refl}
 use Rattle.world_law.proofs.Words.{ripe_place, state_after, state_before, subst, suc, sym, task_place, time_of, true, units_of, up_to, wire_place, ℕ}
 use Rattle.world_law.proofs.{lists.Lists.behind_yes, runs.Firsts.{acting_back, arrives_later, earlier_still, gives_rank, no_higher}}
-use Rattle.world_law.proofs.runs.{Firsts.{arriving_more, departing_more, numbered_more, numbered_still}, Worlds.{first_settled_is_next, length_is}}
-use Rattle.world_law.{proofs.giving.Storing.stored_then, specs.world.Moves.{AreAwaited, AreGiven, ArePut, AreTaken, GivenStep}}
-use Rattle.world_law.proofs.giving.GivenAs.{settled_then}
+use Rattle.world_law.proofs.runs.{Firsts.{arriving_more, departing_more, numbered_more, numbered_still}, Settled.AreSettled, Worlds.{first_is_next, length_is}}
+use Rattle.world_law.proofs.runs.Over.{StandsOver, over_of}
+use Rattle.world_law.{proofs.giving.Storing.stored_then, specs.world.Moves.{AreAwaited, AreGiven, ArePut, AreTaken, GivenStep, StandsAt}}
+use Rattle.world_law.proofs.giving.GivenAs.{coming_then}
 use Rattle.world_law.proofs.giving.GivenParts.{IsGiving, over_itself, same_permanent, some_same, up_to_place, worked_by_then}
 use Rattle.world_law.specs.{device.Plain.with_number, world.World.IsDueAs}
 use Rattle.run_law.specs.declared.judgement.Judgement.TheVariants as judgements
@@ -83,10 +84,11 @@ gone_acts looking none (IsActing.dispatches link cause vl cycle d) =
 changes_by : (js gs : List Happening) (device : DeviceId) (t : ℕ) → plains js ≡ plains gs → changed_at js device t ≡ changed_at gs device t
 changes_by js gs device t same = sym (changes_at_plain js device t) ∙ ap (λ l. changed_at l device t) same ∙ changes_at_plain gs device t
 
-module _ {s : Scenario} {hs : List Happening} {z : Happening} {rest : List Happening} {mark cursor : List ℕ} {now : ℕ}
-    (g : IsGiving s hs z rest mark cursor now) {n : ℕ} (is : n ≡ length hs + 1) where
+module _ {s : Scenario} {hs : List Happening} {z : Happening} {rest : List Happening} {from to : List ℕ} {now : ℕ}
+    (g : IsGiving s hs z rest from to now) {n : ℕ} (is : n ≡ length hs + 1) where
   -- the source is worked off, though the record is given
-  worked_yet : (w : List ℕ) → IsSource s (hs ++ with_number n z ∷ []) w → IsBefore w (behind (place_of z)) → IsBefore w cursor
+  worked_yet : (w : List ℕ) → IsSource s (hs ++ with_number n z ∷ []) w → IsBefore w (behind (place_of z))
+      → IsBefore w to
   worked_yet w source under = worked_by_then g (with_number n z ∷ []) (over_itself z n) w source under
 
   here_then : (cause : ℕ) → cause ≡ n → numbered (hs ++ with_number n z ∷ []) cause ≡ Some (with_number n z)
@@ -97,7 +99,7 @@ module _ {s : Scenario} {hs : List Happening} {z : Happening} {rest : List Happe
 
   -- ---- wires
 
-  wires_then : {wires new : List OnWire} → AreOnWires s hs cursor now false wires → ArePut s (with_number n z) n wires new
+  wires_then : {wires new : List OnWire} → AreOnWires s hs to now false wires → ArePut s (with_number n z) n wires new
       → AreOnWires s (hs ++ with_number n z ∷ []) (behind (place_of z)) now false new
   wires_then {wires} {new} are put = record {
     real = λ e i. elim (put.real e i) [
@@ -129,7 +131,7 @@ module _ {s : Scenario} {hs : List Happening} {z : Happening} {rest : List Happe
 
   -- ---- ports
 
-  ports_then : {ports new : List AtPort} → AreAtPorts s hs cursor ports → AreGiven s (with_number n z) n ports new
+  ports_then : {ports new : List AtPort} → AreAtPorts s hs to ports → AreGiven s (with_number n z) n ports new
       → AreAtPorts s (hs ++ with_number n z ∷ []) (behind (place_of z)) new
   ports_then {ports} {new} are put = record {
     real = λ e i. elim (put.real e i) [
@@ -164,9 +166,10 @@ module _ {s : Scenario} {hs : List Happening} {z : Happening} {rest : List Happe
 
   -- ---- what waits
 
-  waiting_then : {waiting new : List Waiting} → HaveBefallen s mark now → AreWaiting s hs cursor now waiting → AreAwaited s (with_number n z) n waiting new
+  waiting_then : {waiting new : List Waiting} → AreWaiting s hs to now waiting
+      → AreAwaited s (with_number n z) n waiting new
       → AreWaiting s (hs ++ with_number n z ∷ []) (behind (place_of z)) now new
-  waiting_then {waiting} {new} befallen are put = record {
+  waiting_then {waiting} {new} are put = record {
     real = λ e i. elim (put.real e i) [
       | inl old ↦ let was = are.real e old in record { arrival = was.arrival; there = there_still was.arrival e.cause was.there; awaited = was.awaited }
       | inr it ↦ record { arrival = with_number n z; there = here_then e.cause it.0; awaited = it.1 }
@@ -183,7 +186,7 @@ module _ {s : Scenario} {hs : List Happening} {z : Happening} {rest : List Happe
               let yet = worked_yet _ (IsSource.ripening t e.device e.link e.cause e.point r)
               (subst (λ q. IsBefore q (behind (place_of z))) (sym at) b) in
               are.later e old t (record { frame = r.frame; permanent = same_permanent hs p there })
-              (subst (λ q. IsBefore q cursor) at yet)
+              (subst (λ q. IsBefore q to) at yet)
           | inr it ↦
               let arrival : with_number n z ≡ p.arrival = some_same (with_number n z) p.arrival _ (here_then e.cause it.0) p.there in
               let two : rank z.note.body ≡ 2 = ap (λ (h : Happening). rank h.note.body) arrival ∙ ap rank p.arrived in
@@ -238,7 +241,7 @@ module _ {s : Scenario} {hs : List Happening} {z : Happening} {rest : List Happe
             ]) a
       ]
 
-  acted_then : {up : ℕ} {device : DeviceId} (node : Node) → IsActedUpTo s hs now device node cursor up
+  acted_then : {up : ℕ} {device : DeviceId} (node : Node) → IsActedUpTo s hs now device node to up
       → IsActedUpTo s (hs ++ with_number n z ∷ []) now device node (behind (place_of z)) up
   acted_then node (inr over) = inr (over.0, λ p b. g.are.not_past z (inl refl) p (over.1 p b))
   acted_then {device} node (inl still) =
@@ -249,7 +252,8 @@ module _ {s : Scenario} {hs : List Happening} {z : Happening} {rest : List Happe
             (act_back device (acts_before s.network now device task (behind (place_of z)) b) task a),
       )
 
-  out_then : {device : DeviceId} → IsActedOut s hs now device cursor → IsActedOut s (hs ++ with_number n z ∷ []) now device (behind (place_of z))
+  out_then : {device : DeviceId} → IsActedOut s hs now device to → IsActedOut s (hs ++ with_number n z ∷ []) now device
+      (behind (place_of z))
   out_then {device} out =
       let past = g.are.not_past z (inl refl) (act_place now device) out.past in
       record { past = past; all = λ task a. g.are.not_past z (inl refl) _ (out.all task (act_back device past task a)) }
@@ -314,7 +318,7 @@ module _ {s : Scenario} {hs : List Happening} {z : Happening} {rest : List Happe
       ]
 
   kept_then : {M : Type 0} {stands : M → Network → DeviceId → Node → Type 0} {device : DeviceId} {machine : M}
-      → IsKept stands s hs (z ∷ rest) cursor now device machine
+      → IsKept stands s hs (z ∷ rest) to now device machine
       → IsKept stands s (hs ++ with_number n z ∷ []) rest (behind (place_of z)) now device machine
   kept_then {device} k =
       let later = earlier_then in
@@ -358,7 +362,7 @@ module _ {s : Scenario} {hs : List Happening} {z : Happening} {rest : List Happe
       }
 
   held_then : {M : Type 0} {stands : M → Network → DeviceId → Node → Type 0} {device : DeviceId} {machine : M}
-      → IsHeld stands s hs (z ∷ rest) cursor now device machine
+      → IsHeld stands s hs (z ∷ rest) to now device machine
       → IsHeld stands s (hs ++ with_number n z ∷ []) rest (behind (place_of z)) now device machine
   held_then (inl k) = inl (kept_then k)
   held_then {device} (inr k) = inr (record {
@@ -374,7 +378,7 @@ module _ {s : Scenario} {hs : List Happening} {z : Happening} {rest : List Happe
 
   -- ---- events
 
-  untold_then : {pending : Bool} {befell : List Befell} → pending ≡ false → AreUntold hs cursor now pending befell
+  untold_then : {pending : Bool} {befell : List Befell} → pending ≡ false → AreUntold hs to now pending befell
       → AreUntold (hs ++ with_number n z ∷ []) (behind (place_of z)) now pending befell
   untold_then {befell} told untold = record {
     done = λ same number h it. g.are.not_past z (inl refl) (now ∷ 2 ∷ []) (g.are.begun z (inl refl));
@@ -393,8 +397,8 @@ module _ {s : Scenario} {hs : List Happening} {z : Happening} {rest : List Happe
   }
 
 -- where something is settled, no event is pending
-settled_told : {hs : List Happening} {cursor : List ℕ} {now : ℕ} {pending : Bool} {befell : List Befell}
-    → AreUntold hs cursor now pending befell → IsBefore (now ∷ 2 ∷ []) cursor → pending ≡ false
+settled_told : {hs : List Happening} {to : List ℕ} {now : ℕ} {pending : Bool} {befell : List Befell}
+    → AreUntold hs to now pending befell → IsBefore (now ∷ 2 ∷ []) to → pending ≡ false
 settled_told {now} {pending} untold begun =
     elim (cases_Bool pending) [ inr told ↦ told | inl open_ ↦ absurd (never_self (now ∷ 2 ∷ []) (untold.early open_ (now ∷ 2 ∷ []) begun)) ]
 
@@ -407,31 +411,51 @@ device_in network device lt =
       | inr ge ↦ absurd (omega (arith, lt, ge.0))
     ]
 
--- it is given: then there is one frontier, behind it
-pub given_step : {C M : Type 0} (reading : C → ℕ → ℕ) (stands : M → Network → DeviceId → Node → Type 0)
-    → GivenStep reading stands
-given_step {C} {M} reading stands s world notes z rest wires ports waiting stored old settled none put given
-    awaited taken =
+-- it is given: then the frontier is behind it
+pub given_from : {C M : Type 0} {reading : C → ℕ → ℕ} {stands : M → Network → DeviceId → Node → Type 0}
+    (s : Scenario) (world : World C M) (notes : List Note) (z : Happening) (rest : List Happening) {from to : List ℕ}
+    {wires : List OnWire} {ports : List AtPort} {waiting : List Waiting} {stored : List Stored}
+    (old : StandsOver reading stands s world notes from to) → world.settled ≡ z ∷ rest
+    → NoSourceBefore s (happenings s.network notes) to (place_of z)
+    → ArePut s (happening s.network (happenings s.network notes) (note_of notes z)) (length notes + 1) world.wires wires
+    → AreGiven s (happening s.network (happenings s.network notes) (note_of notes z)) (length notes + 1) world.ports
+    ports
+    → AreAwaited s (happening s.network (happenings s.network notes) (note_of notes z)) (length notes + 1) world.waiting
+    waiting
+    → AreTaken (happening s.network (happenings s.network notes) (note_of notes z)) (length notes + 1) world.stored
+    stored
+    → StandsAt reading stands s
+    (record world {
+      wires = wires;
+      ports = ports;
+      waiting = waiting;
+      stored = stored;
+      settled = rest;
+      given = world.given + 1;
+    }) (notes ++ note_of notes z ∷ []) (behind (place_of z))
+given_from {stands} s world notes z rest {from} {to} {wires} {ports} {waiting}
+    {stored} old settled none put given awaited
+    taken =
     let hs = happenings s.network notes in
     let n = length notes + 1 in
     let x = with_number n z in
     let number : n ≡ length hs + 1 = ap (λ k. k + 1) (length_is s notes) in
-    let are : AreSettled s hs (z ∷ rest) old.mark old.cursor world.now = subst (λ l. AreSettled s hs l old.mark old.cursor world.now)
+    let are : AreSettled s hs (z ∷ rest) from to world.now = subst (λ l. AreSettled s hs l from to world.now)
     settled old.are in
     let due : IsDueAs s hs z = subst (λ l. IsDueAs s l z) (append-nil hs) (are.founded [] rest z refl).1 in
     let is_x : happening s.network hs (note_of notes z) ≡ x = sym (ap (with_number n) due.same) in
     let back : hs ++ x ∷ [] ≡ happenings s.network (notes ++ note_of notes z ∷ []) = ap (λ (h : Happening). hs ++ h ∷ []) (sym is_x)
     ∙ sym (one_more s.network notes (note_of notes z)) in
-    let giving : IsGiving s hs z rest old.mark old.cursor world.now =
-    record { forward = old.forward; are = are; first = none; past = λ p b. old.ahead p (old.of_now p b) } in
+    let giving : IsGiving s hs z rest from to world.now =
+    record { forward = old.forward; are = are; first = none; past = λ p b. old.on p (old.of_now p b) } in
     let then_ = behind (place_of z) in
     let told = settled_told old.untold (are.begun z (inl refl)) in
-    let over : (p : List ℕ) → IsBefore p old.mark → IsBefore p then_ = λ p b. are.not_past z (inl refl) p (old.ahead p b) in
+    let over : (p : List ℕ) → IsBefore p from → IsBefore p then_ = λ p b. are.not_past z (inl refl) p (old.on p b) in
     let room : length notes + suc (length rest) < numbers_end = subst (λ l. length notes + length l < numbers_end) settled old.room in
     let pushed : length (notes ++ note_of notes z ∷ []) ≡ n = length_push notes (note_of notes z) in
     let founded : IsFounded place_of (IsDue s) hs = old.run.founded in
-    let told_wires : AreOnWires s hs old.cursor world.now false world.wires = subst (λ b. AreOnWires s hs old.cursor world.now b world.wires) told
-    old.wires in (
+    let told_wires : AreOnWires s hs to world.now false world.wires = subst
+    (λ b. AreOnWires s hs to world.now b world.wires) told old.wires in (
       record {
         same = old.same;
         range = old.range;
@@ -439,10 +463,8 @@ given_step {C} {M} reading stands s world notes z rest wires ports waiting store
         forward = old.forward;
         steady = old.steady;
         precise = old.precise;
-        mark = then_;
-        cursor = then_;
-        run = first_settled_is_next s notes z rest old.mark old.cursor world.now old.run are none;
-        ahead = λ p b. b;
+        frontier = then_;
+        run = first_is_next s notes z rest from to world.now old.run are none;
         of_now = λ p b. over p (old.of_now p b);
         not_later =
             λ p b. subst (λ t. IsBefore p ((t + 1) ∷ [])) (are.of_now z (inl refl))
@@ -469,7 +491,7 @@ given_step {C} {M} reading stands s world notes z rest wires ports waiting store
               k.0,
               k.1,
               subst (λ l. IsHeld stands s l rest then_ world.now device k.0) back
-                  (held_then giving number (subst (λ l. IsHeld stands s hs l old.cursor world.now device k.0) settled k.2)),
+                  (held_then giving number (subst (λ l. IsHeld stands s hs l to world.now device k.0) settled k.2)),
             );
         early = λ fresh. absurd (never_self (world.now ∷ 2 ∷ []) (old.early fresh (world.now ∷ 2 ∷ []) (are.begun z (inl refl))));
         untold =
@@ -483,13 +505,13 @@ given_step {C} {M} reading stands s world notes z rest wires ports waiting store
             (ports_then giving number old.ports (subst (λ h. AreGiven s h n world.ports ports) is_x given));
         waiting =
             subst (λ l. AreWaiting s l then_ world.now waiting) back
-            (waiting_then giving number old.befallen old.waiting (subst (λ h. AreAwaited s h n world.waiting waiting) is_x awaited));
+            (waiting_then giving number old.waiting (subst (λ h. AreAwaited s h n world.waiting waiting) is_x awaited));
         stored =
             subst (λ l. AreStored l stored) back
             (stored_then refl old.stored (subst (λ h. AreTaken h n world.stored stored) is_x taken));
         are =
-            subst (λ l. AreSettled s l rest then_ then_ world.now) back
-            (settled_then (record { giving = giving; one = refl; founded = founded }));
+            subst (λ l. AreComing s l rest then_ world.now) back
+            (coming_then (record { giving = giving; one = refl; founded = founded }));
         shown = λ device lt ended. (
           λ b.
               let is = device_in s.network device lt in
@@ -499,5 +521,10 @@ given_step {C} {M} reading stands s world notes z rest wires ports waiting store
         );
       },
       refl,
-      refl,
     )
+
+-- so it is where the source's own record is given
+pub given_step : {C M : Type 0} (reading : C → ℕ → ℕ) (stands : M → Network → DeviceId → Node → Type 0)
+    → GivenStep reading stands
+given_step reading stands s world notes z rest wires ports waiting stored old settled none put given awaited taken =
+    given_from s world notes z rest (over_of old) settled none put given awaited taken

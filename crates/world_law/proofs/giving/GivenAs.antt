@@ -1,21 +1,22 @@
 -- The first of what is to come is given, with its number: what is settled then.
 use Rattle.run_law.proofs.runs.Places.{nothing_between}
-use Rattle.world_law.proofs.Words.{◌++◌, ◌∙◌, ◌∷◌, ◌≡◌, ◌≤◌, AllBefore, AreSettled, Happening, IsBefore, IsDue, IsFounded, IsIn, IsOwnSource, IsWorkedOff, List}
-use Rattle.world_law.proofs.Words.{Scenario, [], ap, append_assoc, arith, before_behind, behind, cases_Bool, chain, false, in_right, inl, inr, is_at_source, key}
+use Rattle.world_law.proofs.Words.{◌++◌, ◌∙◌, ◌∷◌, ◌≡◌, ◌≤◌, AllBefore, AreComing, Happening, IsBefore, IsDue, IsFounded, IsIn, IsOwnSource, IsWorkedOff, List}
+use Rattle.world_law.proofs.Words.{Scenario, [], ap, append_assoc, arith, behind, cases_Bool, chain, false, in_right, inl, inr, is_at_source, key}
 use Rattle.world_law.proofs.Words.{members_in, never_self, place_of, rank, refl, subst, sym, time_of, ℕ}
 use Rattle.world_law.proofs.giving.GivenParts.{IsGiving, all_over, beyond, up_to_place, worked_by_then}
-use Rattle.world_law.proofs.putting.{Near.{AreFrom, own_source}, Numbering.{AreOne, IsBehindIt, due_given, own_given, same_place}, Placing.own_here, PutIn.own_time}
-use Rattle.world_law.proofs.runs.{Firsts.at_least, Worlds.first_before}
+use Rattle.world_law.proofs.putting.{Near.{AreFrom, own_source}, Numbering.{AreOne, IsBehindIt, due_given, own_given, same_place}, PutIn.own_time}
+use Rattle.world_law.proofs.runs.{Firsts.at_least, Settled.own_here, Worlds.first_before}
 use Rattle.world_law.specs.world.World.{IsDueAs}
 
 -- the record is given as this one, which has its number
-pub record IsGivenAs (s : Scenario) (hs : List Happening) (z g : Happening) (rest : List Happening) (mark cursor : List ℕ) (now : ℕ) : Type 0 where
-  pub giving : IsGiving s hs z rest mark cursor now
+pub record IsGivenAs (s : Scenario) (hs : List Happening) (z g : Happening) (rest : List Happening) (from to : List ℕ)
+    (now : ℕ) : Type 0 where
+  pub giving : IsGiving s hs z rest from to now
   pub one : AreOne z g
   pub founded : IsFounded place_of (IsDue s) hs
 
-module _ {s : Scenario} {hs : List Happening} {z g : Happening} {rest : List Happening} {mark cursor : List ℕ} {now : ℕ}
-    (x : IsGivenAs s hs z g rest mark cursor now) where
+module _ {s : Scenario} {hs : List Happening} {z g : Happening} {rest : List Happening} {from to : List ℕ} {now : ℕ}
+    (x : IsGivenAs s hs z g rest from to now) where
   not_over : (q : List ℕ) → IsBefore q (behind (place_of z)) → IsBefore (place_of z) q → ⊥
   not_over q under lt = elim (up_to_place q (place_of z) under) [
     | inl e ↦ never_self (place_of z) (subst (λ p. IsBefore (place_of z) p) e lt)
@@ -96,8 +97,8 @@ module _ {s : Scenario} {hs : List Happening} {z g : Happening} {rest : List Hap
         ],
       )
 
-  pub settled_then : AreSettled s (hs ++ g ∷ []) rest (behind (place_of z)) (behind (place_of z)) now
-  settled_then =
+  pub coming_then : AreComing s (hs ++ g ∷ []) rest (behind (place_of z)) now
+  coming_then =
       let are = x.giving.are in
       let first = first_before z rest are in
       let each : (front back : List Happening) (y : Happening) → rest ≡ front ++ y ∷ back
@@ -109,7 +110,7 @@ module _ {s : Scenario} {hs : List Happening} {z g : Happening} {rest : List Hap
       (by.0, by.1, by.2, are.not_past z (inl refl) by.0 by.3) in
       record {
         of_now = λ y i. are.of_now y (inr i);
-        behind_mark = λ y i b. nothing_between (place_of z) (place_of y) (first y i) b;
+        after = λ y i b. nothing_between (place_of z) (place_of y) (first y i) b;
         founded = λ front back y e.
             let was = are.founded (z ∷ front) back y (ap (λ (l : List Happening). z ∷ l) e) in
             (λ h i. was.0 h (inr i), subst (λ l. IsDueAs s l y) (sym (append_assoc hs (g ∷ []) front)) (each front back y e).0);
@@ -120,22 +121,17 @@ module _ {s : Scenario} {hs : List Happening} {z g : Happening} {rest : List Hap
             let all : AllBefore place_of (z ∷ front) (place_of y) = λ h i. elim i
             [ inl same ↦ subst (λ k. IsBefore (place_of k) (place_of y)) (sym same) over | inr more ↦ before h more ] in
             let parts = append_assoc hs (g ∷ []) front in
-            let unmarked : IsBefore (place_of y) mark → ⊥ = λ b. are.behind_mark z (inl refl) (chain (place_of z) (place_of y) mark over b) in
+            let yet : IsBefore (place_of y) from → ⊥ = λ b. are.after z (inl refl)
+            (chain (place_of z) (place_of y) from over b) in
             let off : IsWorkedOff s (hs ++ g ∷ front) (behind (place_of z)) y =
             subst (λ l. IsWorkedOff s l (behind (place_of z)) y) parts worked in
             let it = of_it (hs ++ g ∷ front) y off.0 off.1 off.3 over in
             let was = back_to front back y e it.0 it.1 (subst (λ l. IsDueAs s l y) parts due) off in
-            let found = are.full (z ∷ front) back y (ap (λ (l : List Happening). z ∷ l) e) all none unmarked was.0
+            let found = are.full (z ∷ front) back y (ap (λ (l : List Happening). z ∷ l) e) all none yet was.0
             (was.1.0, was.1.1, was.1.2, worked_by_then x.giving (z ∷ front) (all_over x.giving front back e) was.1.0 was.1.2 was.1.3) in
             elim found.1 [
               | inl same ↦ absurd (never_self (place_of y) (subst (λ p. IsBefore p (place_of y)) (sym (ap place_of same) ∙ found.2) over))
               | inr i ↦ (found.0, i, found.2)
             ];
-        not_past = λ y i p b. elim (up_to_place p (place_of z) b) [
-          | inl e ↦ chain p (place_of y) (behind (place_of y)) (subst (λ q. IsBefore q (place_of y)) (sym e) (first y i))
-              (before_behind (place_of y))
-          | inr lt ↦ chain p (place_of y) (behind (place_of y)) (chain p (place_of z) (place_of y) lt (first y i)) (before_behind (place_of y))
-        ];
-        worked = λ y i is. are.not_past z (inl refl) (place_of y) (are.worked y (inr i) is);
         begun = λ y i. are.not_past z (inl refl) (now ∷ 2 ∷ []) (are.begun y (inr i));
       }

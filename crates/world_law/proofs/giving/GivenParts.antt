@@ -2,8 +2,8 @@
 use Rattle.{run_law.proofs.runs.Places.nothing_between, world_law.proofs.Words.{rank, refl, subst, suc, sym, time_of, ℕ}}
 use Rattle.run_law.specs.{control.Permanence.IsPermanent, scenario.{Hypothesis.breaks_at, Scenarios.events_up_to}}
 use Rattle.std.proofs.lemmas.Bool.{le-leb}
-use Rattle.world_law.proofs.runs.{Firsts.source_back, TaskPlaces.{no_task_at, second}, Worlds.first_before}
-use Rattle.world_law.proofs.Words.{◌++◌, ◌<◌, ◌∙◌, ◌∷◌, ◌≡◌, ◌≤◌, ◌⊎◌, AreSettled, DeviceId, Event, Happening, HaveBefallen, IsBefore, IsForward, IsIn}
+use Rattle.world_law.proofs.runs.{Firsts.source_back, Settled.AreSettled, TaskPlaces.{no_task_at, second}, Worlds.first_before}
+use Rattle.world_law.proofs.Words.{◌++◌, ◌<◌, ◌∙◌, ◌∷◌, ◌≡◌, ◌≤◌, ◌⊎◌, DeviceId, Event, Happening, HaveBefallen, IsBefore, IsForward, IsIn}
 use Rattle.world_law.proofs.Words.{IsSource, LinkId, List, NoSourceBefore, NoteBody, Option, Pcf, Scenario, Some, Units, [], amount, ap, arith}
 use Rattle.world_law.proofs.Words.{before_behind, before_later, before_or_not, behind, chain, either_way, in_left, inl, inr, is_at_source, is_broken, key}
 use Rattle.world_law.proofs.Words.{length, list_any, members_in, nat_le, never_self, numbered, place_of, same_kept, slice_get, true}
@@ -18,13 +18,14 @@ in_get (y ∷ xs) x (inl e) = (0, ap Some (sym e))
 in_get (y ∷ xs) x (inr i) = let more = in_get xs x i in (suc more.0, more.1)
 
 -- at a later time no other events have befallen
-pub no_later_events : {s : Scenario} {mark : List ℕ} {now : ℕ} (t : ℕ) → HaveBefallen s mark now → now ≤ t
+pub no_later_events : {s : Scenario} {frontier : List ℕ} {now : ℕ} (t : ℕ) → HaveBefallen s frontier now → now ≤ t
     → events_up_to s t ≡ events_up_to s now
 no_later_events t b le = grind (arith, same_kept, nat_le, amount, in_get, le-leb)
 
-pub no_later_breaks : (s : Scenario) (mark : List ℕ) (now t : ℕ) (device : DeviceId) → HaveBefallen s mark now → now ≤ t
+pub no_later_breaks : (s : Scenario) (frontier : List ℕ) (now t : ℕ) (device : DeviceId)
+    → HaveBefallen s frontier now → now ≤ t
     → is_broken s device t ≡ is_broken s device now
-no_later_breaks s mark now t device b le =
+no_later_breaks s frontier now t device b le =
     ap (λ (l : List Event). list_any (λ e. breaks_at device.0 e.what) l) (no_later_events t b le)
 
 pub some_same : {X : Type 0} (x y : X) (o : Option X) → o ≡ Some x → o ≡ Some y → x ≡ y
@@ -91,11 +92,12 @@ at_its_place z (IsSource.ending time device is there it) e =
 -- ---- what is worked off
 
 -- what a step that gives the first of what is to come starts from
-pub record IsGiving (s : Scenario) (hs : List Happening) (z : Happening) (rest : List Happening) (mark cursor : List ℕ) (now : ℕ) : Type 0 where
+pub record IsGiving (s : Scenario) (hs : List Happening) (z : Happening) (rest : List Happening) (from to : List ℕ)
+    (now : ℕ) : Type 0 where
   pub forward : IsForward s
-  pub are : AreSettled s hs (z ∷ rest) mark cursor now
-  pub first : NoSourceBefore s hs cursor (place_of z)
-  pub past : (p : List ℕ) → IsBefore p (now ∷ []) → IsBefore p cursor
+  pub are : AreSettled s hs (z ∷ rest) from to now
+  pub first : NoSourceBefore s hs to (place_of z)
+  pub past : (p : List ℕ) → IsBefore p (now ∷ []) → IsBefore p to
 
 -- records of the time of this one, none before it
 abbrev pub AreOver : Happening → List Happening → Type 0
@@ -106,8 +108,8 @@ pub over_itself : (z : Happening) (n : ℕ) → AreOver z (with_number n z ∷ [
 over_itself z n y (inl same) = (ap time_of same, λ b. never_self (place_of z) (subst (λ p. IsBefore p (place_of z)) (ap place_of same) b))
 over_itself z n y (inr none) = absurd none
 
-module _ {s : Scenario} {hs : List Happening} {z : Happening} {rest : List Happening} {mark cursor : List ℕ} {now : ℕ}
-    (g : IsGiving s hs z rest mark cursor now) where
+module _ {s : Scenario} {hs : List Happening} {z : Happening} {rest : List Happening} {from to : List ℕ} {now : ℕ}
+    (g : IsGiving s hs z rest from to now) where
   -- and of what is to come from it on
   pub all_over : (front back : List Happening) → rest ≡ front ++ back → AreOver z (z ∷ front)
   all_over front back e y (inl same) =
@@ -119,23 +121,26 @@ module _ {s : Scenario} {hs : List Happening} {z : Happening} {rest : List Happe
       )
 
   -- a source up to the place of the first, by others of its time that are not before it, is worked off
-  pub worked_by_then : (zs : List Happening) → AreOver z zs → (w : List ℕ) → IsSource s (hs ++ zs) w → IsBefore w (behind (place_of z)) → IsBefore w cursor
+  pub worked_by_then : (zs : List Happening) → AreOver z zs → (w : List ℕ) → IsSource s (hs ++ zs) w
+      → IsBefore w (behind (place_of z)) → IsBefore w to
   worked_by_then zs over w source under =
       let le = up_to_place w (place_of z) under in
       let at : time_of z ≡ now = g.are.of_now z (inl refl) in
       elim (source_back hs zs (time_of z) (rank z.note.body) (key (members_in z) z.note.body) g.forward
       (λ y i. (over y i).0) (λ y i. (over y i).1) source le) [
         | inl old ↦
-            elim (before_or_not w cursor) [
+            elim (before_or_not w to) [
               | inl yet ↦ yet
               | inr not ↦
                   elim le [
                     | inr lt ↦ absurd (g.first w old not lt)
-                    | inl same ↦ subst (λ p. IsBefore p cursor) (sym same) (g.are.worked z (inl refl) (at_its_place z old same))
+                    | inl same ↦ subst (λ p. IsBefore p to) (sym same)
+                        (g.are.worked z (inl refl) (at_its_place z old same))
                   ]
             ]
         | inr (inl early) ↦ g.past w (subst (λ (n : ℕ). IsBefore w (n ∷ [])) at early)
-        | inr (inr same) ↦ subst (λ p. IsBefore p cursor) (ap (λ (n : ℕ). n ∷ 2 ∷ []) (sym at) ∙ sym same) (g.are.begun z (inl refl))
+        | inr (inr same) ↦ subst (λ p. IsBefore p to) (ap (λ (n : ℕ). n ∷ 2 ∷ []) (sym at) ∙ sym same)
+            (g.are.begun z (inl refl))
       ]
 
 -- what is not before the place just behind another is behind that one

@@ -58,9 +58,9 @@ module _ (s : Scenario) (hs front back : List Happening) (w : Happening) (device
         | inr was ↦ still h was now_is
       ]
 
-  pub turned_aside : {cursor : List ℕ} {now : ℕ} → HasTurnedOn s hs (front ++ back) cursor device now
+  pub turned_aside : {frontier : List ℕ} {now : ℕ} → HasTurnedOn s hs (front ++ back) frontier device now
       → state_after s (earlier now (hs ++ (front ++ back))) device ≡ state_after s (earlier now (hs ++ (front ++ w ∷ back))) device
-      → HasTurnedOn s hs (front ++ w ∷ back) cursor device now
+      → HasTurnedOn s hs (front ++ w ∷ back) frontier device now
   turned_aside it same = record {
     off = sym same ∙ it.off;
     number = it.number;
@@ -129,10 +129,12 @@ module _ (s : Scenario) (hs front back : List Happening) (w : Happening) (device
 
   -- ---- the device
 
-  pub kept_aside : {M : Type 0} {stands : M → Network → DeviceId → Node → Type 0} {cursor : List ℕ} {now : ℕ} {machine : M} → time_of w ≡ now
+  pub kept_aside : {M : Type 0} {stands : M → Network → DeviceId → Node → Type 0} {frontier : List ℕ} {now : ℕ}
+      {machine : M} → time_of w ≡ now
       → frames_taken s (hs ++ (front ++ back)) device ≡ frames_taken s (hs ++ (front ++ w ∷ back)) device
-      → IsKept stands s hs (front ++ back) cursor now device machine → IsKept stands s hs (front ++ w ∷ back) cursor now device machine
-  kept_aside {cursor} {now} at frames k = record {
+      → IsKept stands s hs (front ++ back) frontier now device machine
+      → IsKept stands s hs (front ++ w ∷ back) frontier now device machine
+  kept_aside {frontier} {now} at frames k = record {
     node = k.node;
     is = k.is;
     sound = k.sound;
@@ -145,7 +147,7 @@ module _ (s : Scenario) (hs front back : List Happening) (w : Happening) (device
     ];
     left = left_aside k.up k.node k.left;
     taken = k.taken ∙ frames;
-    worked = worked_on _ cursor (changed_aside k.up) (λ p b. b) k.worked;
+    worked = worked_on _ frontier (changed_aside k.up) (λ p b. b) k.worked;
     bare = k.bare;
     ready = k.ready;
     still = λ same. still_aside s hs front back w device now (moves_no_other device w.note.body misses) (k.still same);
@@ -154,8 +156,10 @@ module _ (s : Scenario) (hs front back : List Happening) (w : Happening) (device
     phase = k.phase;
   }
 
-  pub out_aside : {M : Type 0} {stands : M → Network → DeviceId → Node → Type 0} {cursor : List ℕ} {now : ℕ} {machine : M}
-      → IsOut stands s hs (front ++ back) cursor now device machine → IsOut stands s hs (front ++ w ∷ back) cursor now device machine
+  pub out_aside : {M : Type 0} {stands : M → Network → DeviceId → Node → Type 0} {frontier : List ℕ}
+      {now : ℕ} {machine : M}
+      → IsOut stands s hs (front ++ back) frontier now device machine
+      → IsOut stands s hs (front ++ w ∷ back) frontier now device machine
   out_aside {now} k = record {
     node = k.node;
     is = k.is;
@@ -168,9 +172,11 @@ module _ (s : Scenario) (hs front back : List Happening) (w : Happening) (device
   }
 
   -- the device, sound or broken, stands with the record as without it
-  pub held_aside : {M : Type 0} {stands : M → Network → DeviceId → Node → Type 0} {cursor : List ℕ} {now : ℕ} {machine : M}
+  pub held_aside : {M : Type 0} {stands : M → Network → DeviceId → Node → Type 0} {frontier : List ℕ}
+      {now : ℕ} {machine : M}
       → time_of w ≡ now
       → frames_taken s (hs ++ (front ++ back)) device ≡ frames_taken s (hs ++ (front ++ w ∷ back)) device
-      → IsHeld stands s hs (front ++ back) cursor now device machine → IsHeld stands s hs (front ++ w ∷ back) cursor now device machine
+      → IsHeld stands s hs (front ++ back) frontier now device machine
+      → IsHeld stands s hs (front ++ w ∷ back) frontier now device machine
   held_aside at frames (inl k) = inl (kept_aside at frames k)
   held_aside at frames (inr k) = inr (out_aside k)

@@ -2,18 +2,18 @@
 use Rattle.world_law.proofs.devices.Working.{out_on, worked_on}
 use Rattle.{std.proofs.Common.◌↔◌, world_law.specs.world.Moves.IsWithout}
 use Rattle.world_law.specs.world.World.{IsDueAs}
-use Rattle.world_law.proofs.Words.{◌++◌, ◌∙◌, ◌∷◌, ◌≡◌, ◌⊎◌, AllBefore, AreAtPorts, AreOnWires, AreSettled, AreWaiting, AtPort, DeviceId, Happening}
+use Rattle.world_law.proofs.Words.{◌++◌, ◌∙◌, ◌∷◌, ◌≡◌, ◌⊎◌, AllBefore, AreAtPorts, AreComing, AreOnWires, AreWaiting, AtPort, DeviceId, Happening}
 use Rattle.world_law.proofs.Words.{HasTurnedOn, IsBefore, IsForward, IsHeld, IsIn, IsKept, IsOwnSource, IsSource, List, Network, Node}
 use Rattle.world_law.proofs.Words.{NoneBefore, OnWire, Pcf, Scenario, Waiting, [], amount, ap, before_behind}
-use Rattle.world_law.proofs.Words.{behind, cases_Bool, chain, either_way, false, inl, inr, is_at_source, members_in, never_self, place_of, port_place, refl, ripe_place}
+use Rattle.world_law.proofs.Words.{behind, chain, either_way, false, inl, inr, is_at_source, members_in, never_self, place_of, port_place, refl, ripe_place}
 use Rattle.world_law.proofs.Words.{Task, task_place}
-use Rattle.world_law.proofs.{Words.{ℕ, subst, sym, time_of, wire_place}, giving.GivenParts.up_to_place}
+use Rattle.world_law.proofs.{Words.{ℕ, subst, sym, time_of, true, wire_place}, giving.GivenParts.up_to_place, runs.Settled.{AreSettled, late_of}}
 
 -- what a step that works off the source at this place of the instant starts from: the frontier stands there
 pub record IsMoving (s : Scenario) (hs coming : List Happening) (now r : ℕ) (more : List ℕ) : Type 0 where
   pub forward : IsForward s
   pub later : IsBefore (now ∷ 2 ∷ []) (now ∷ r ∷ more)
-  pub are : AreSettled s hs coming (now ∷ r ∷ more) (now ∷ r ∷ more) now
+  pub are : AreComing s hs coming (now ∷ r ∷ more) now
 
 -- what is before a source is before what is just behind it
 pub stays : (at p : List ℕ) → IsBefore p at → IsBefore p (behind at)
@@ -22,10 +22,7 @@ stays at p b = chain p at (behind at) b (before_behind at)
 -- what is to come then does not stand at its source
 pub off_source : {s : Scenario} {hs coming : List Happening} {now r : ℕ} {more : List ℕ}
     → IsMoving s hs coming now r more → (z : Happening) → IsIn z coming → is_at_source z.note.body ≡ false
-off_source m z i = elim (cases_Bool (is_at_source z.note.body)) [
-  | inr no_it ↦ no_it
-  | inl is ↦ absurd (m.are.behind_mark z i (m.are.worked z i is))
-]
+off_source m z i = late_of m.are z i
 
 -- ---- the frontier goes from one place to another
 
@@ -72,7 +69,7 @@ settled_moves {s} {hs} {coming} {now} {r} {more} m all =
     let at = now ∷ r ∷ more in
     record {
       of_now = m.are.of_now;
-      behind_mark = m.are.behind_mark;
+      after = m.are.after;
       founded = m.are.founded;
       by = λ front rest z e. let was = m.are.by front rest z e in (was.0, was.1, was.2, stays at was.0 was.3);
       full = λ front back y e before none not due worked. elim (up_to_place worked.0 at worked.3) [
@@ -80,8 +77,8 @@ settled_moves {s} {hs} {coming} {now} {r} {more} m all =
         | inl here ↦ all front back y e before none due
             (subst (λ w. IsOwnSource s (hs ++ front) (time_of y) (members_in y) y.note.body w) here worked.1)
       ];
-      not_past = λ z i. not_far at (place_of z) (m.are.behind_mark z i);
-      worked = λ z i is. stays at (place_of z) (m.are.worked z i is);
+      not_past = λ z i. not_far at (place_of z) (m.are.after z i);
+      worked = λ z i is. absurd (let bad : false ≡ true = sym (off_source m z i) ∙ is in cc);
       begun = λ z i. stays at (now ∷ 2 ∷ []) (m.are.begun z i);
     }
 

@@ -1,9 +1,10 @@
 -- What is to come with a record put in at its place, whichever source of the instant it comes from.
-use Rattle.world_law.proofs.Words.{◌++◌, ◌+◌, ◌<◌, ◌∙◌, ◌∷◌, ◌≡◌, ◌≤◌, ◌⊎◌, AllBefore, AreSettled, DeviceId, Happening, IsBefore, IsDue, IsForward, IsFounded, IsIn}
+use Rattle.world_law.proofs.Words.{◌++◌, ◌+◌, ◌<◌, ◌∙◌, ◌∷◌, ◌≡◌, ◌≤◌, ◌⊎◌, AllBefore, DeviceId, Happening, IsBefore, IsDue, IsForward, IsFounded, IsIn}
 use Rattle.world_law.proofs.Words.{IsOwnSource, IsSource, LinkId, List, NoneBefore, NoteBody, Scenario, VlId, [], rows_place, ap, append_assoc, arith, bears_on}
 use Rattle.world_law.proofs.Words.{before_behind, behind, cases_Bool, cases_lt, cases_order, cause_of, chain, either_way, eqb-true, false, in_left}
 use Rattle.world_law.proofs.Words.{in_parts, in_right, inl, inr, is_at_source, is_taken_before, key, length, length-append, members_in, never_self}
 use Rattle.world_law.proofs.{Words.{place_of, rank, refl, subst, sym, time_of, true, ℕ}, putting.PutIn.{own_time, split_three, split_two}}
+use Rattle.world_law.proofs.runs.Settled.{AreSettled, own_here}
 use Rattle.world_law.proofs.{giving.GivenParts.up_to_place, putting.NearPut.{IsPlaced, two_placed}, runs.Firsts.{at_least}}
 use Rattle.world_law.proofs.{putting.Bearing.in_placed, putting.Moving.{IsAllOfIt, IsMoving, not_far, off_source, stays}, runs.Firsts.numbered_parts}
 use Rattle.world_law.proofs.putting.Near.{AreFrom, AreNear, AsFollower, IsAsideOf, due_aside, follower_or_not, hears, is_follower, is_following, known_near}
@@ -14,20 +15,6 @@ use Rattle.world_law.proofs.putting.PutShown.{AsState}
 use Rattle.schedule_tables.specs.Dispatches.{dispatch_order}
 use Rattle.run_law.specs.declared.judgement.Why.TheVariants as whys
 use Rattle.run_law.specs.declared.note.NoteBody.TheVariants as notes
-
--- ---- own sources
-
--- a record that stands at its source does so
-pub own_here : (s : Scenario) (js : List Happening) (t m : ℕ) (body : NoteBody) (p : List ℕ) → is_at_source body ≡ true → IsOwnSource s js t m body p
-    → p ≡ t ∷ rank body ∷ key m body
-own_here s js t m (notes.Arrived device link cause clock) p e o = o
-own_here s js t m (notes.Permanent device link cause point verdict) p e o = o
-own_here s js t m (notes.Compressed device opened at cycle members verdict) p e o = o
-own_here s js t m (notes.Sent device cycle) p e o = o
-own_here s js t m (notes.Corrected device cycle by adjustment) p e o = o
-own_here s js t m (notes.Left device link cause clock) p e o = o
-own_here s js t m (notes.Clock device reading adjustment state) p e o = o
-own_here s js t m other p e o = absurd cc
 
 -- ---- no record stands before its own source
 
@@ -129,7 +116,7 @@ pub well_of : {s : Scenario} {hs coming : List Happening} {now r : ℕ} {more : 
 well_of m =
     record {
       of_now = m.are.of_now;
-      after = m.are.behind_mark;
+      after = m.are.after;
       stands = m.are.founded;
       by = λ f rest z e.
           let was = m.are.by f rest z e in
@@ -239,7 +226,7 @@ causes_given {s} {hs} {coming} {now} {r} {more} m some z i it =
     let inside : (h : Happening) → IsIn h split.0 → IsIn h coming = λ h j. subst (λ l. IsIn h l) (sym split.2)
     (in_left h split.0 (z ∷ split.1) j) in
     let late : (h : Happening) → IsIn h split.0 → (2 ≤ rank h.note.body) × (is_at_source h.note.body ≡ false) = λ h j.
-    let low = at_least h now r more (m.are.of_now h (inside h j)) (m.are.behind_mark h (inside h j)) in
+    let low = at_least h now r more (m.are.of_now h (inside h j)) (m.are.after h (inside h j)) in
     (omega (arith, low, some), off_source m h (inside h j)) in
     elim (follower_or_not z.note.body) [
       | inl f ↦
@@ -492,7 +479,7 @@ settled_by {s} {hs} {now} {r} {more} well later worked all =
     let at = now ∷ r ∷ more in
     record {
       of_now = well.of_now;
-      behind_mark = well.after;
+      after = well.after;
       founded = well.stands;
       by = λ f rest z e.
           let was = well.by f rest z e in (

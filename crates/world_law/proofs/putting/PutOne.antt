@@ -1,17 +1,18 @@
 -- A source of the instant is worked off: its record is put in, or its record and the change of state that follows it.
+use Rattle.world_law.proofs.runs.Settled.{AreSettled, own_here}
 use Rattle.{run_law.specs.timed.Receptions.comes_before, tte_units.proofs.general_lemmas.Naturals.unequal, world_law.proofs.putting.Near.hears}
 use Rattle.std.proofs.lemmas.Bool.{and_left}
-use Rattle.world_law.proofs.Words.{◌&&◌, ◌++◌, ◌+◌, ◌==◌, ◌||◌, ◌∙◌, ◌∷◌, ◌≡◌, ◌≤◌, ◌⊎◌, AllBefore, AreSettled, Bool, ChangesState, DeviceId, Happening}
+use Rattle.world_law.proofs.Words.{◌&&◌, ◌++◌, ◌+◌, ◌==◌, ◌||◌, ◌∙◌, ◌∷◌, ◌≡◌, ◌≤◌, ◌⊎◌, AllBefore, Bool, ChangesState, DeviceId, Happening}
 use Rattle.world_law.proofs.Words.{Integrating, IsBefore, IsCaused, IsDue, IsFounded, IsIn, IsOwnSource, IsSource, Joining, LinkId, List, NoneBefore, NoteBody}
 use Rattle.world_law.proofs.Words.{Scenario, Some, State, Units, VlId, What, Why, [], rows_place, and_right, ap, append_assoc, arith, bears_on, before_behind}
 use Rattle.world_law.proofs.Words.{behind, cases_Bool, cases_lt, cases_order, cause_of, eqb-true, false, false_from_ne_true, if◌then◌else◌, inl, inr}
 use Rattle.world_law.proofs.Words.{is_at_source, is_joined_by, is_taken_before, is_turned_on_at, le-ltb, members_in, nat_lt, never_self, numbered}
 use Rattle.world_law.proofs.{Words.{ℕ, place_of, rank, refl, state_after, state_before, subst, suc, sym, time_of, true}, runs.Firsts.earlier_still}
 use Rattle.world_law.proofs.putting.PutShown.{AsState, numbered_here, seven}
-use Rattle.world_law.proofs.{giving.GivenParts.some_same, putting.Moving.{IsAllOfIt, IsMoving, off_source, stays}}
+use Rattle.world_law.proofs.{giving.GivenParts.some_same, putting.Moving.{IsAllOfIt, IsMoving, off_source}}
 use Rattle.world_law.proofs.Words.{in_left, in_parts, in_right}
 use Rattle.world_law.specs.world.World.{IsDueAs}
-use Rattle.world_law.proofs.putting.Placing.{IsCarried, IsPlacing, IsWell, before_it, hears_source, least_of_own, own_here, placed_well, settled_by, well_of}
+use Rattle.world_law.proofs.putting.Placing.{IsCarried, IsPlacing, IsWell, before_it, hears_source, least_of_own, placed_well, settled_by, well_of}
 use Rattle.run_law.specs.declared.judgement.Judgement.TheVariants as judgements
 use Rattle.run_law.specs.declared.judgement.Why.TheVariants as whys
 use Rattle.run_law.specs.declared.note.NoteBody.TheVariants as notes
@@ -240,17 +241,19 @@ module _ {s : Scenario} {hs front back : List Happening} {now r : ℕ} {more : L
   one_well last =
       placed_well (well_of p.moving) (placing_one p) (none_follows last)
 
--- what may stand at its source was worked off, or is this record
+-- of what is to come then only this record may stand at its source
 pub worked_then : {s : Scenario} {hs front back : List Happening} (then_ : List ℕ) {now r : ℕ} {more : List ℕ} {w : Happening}
-    → IsOne s hs front back now r more w → ((p : List ℕ) → IsBefore p (now ∷ r ∷ more) → IsBefore p then_)
-    → (is_at_source w.note.body ≡ true → IsBefore (place_of w) then_)
+    → IsOne s hs front back now r more w → (is_at_source w.note.body ≡ true → IsBefore (place_of w) then_)
     → (z : Happening) → IsIn z (front ++ w ∷ back) → is_at_source z.note.body ≡ true → IsBefore (place_of z) then_
-worked_then {front} {back} then_ {w} p on at z i is =
+worked_then {front} {back} then_ {w} p at z i is =
     elim (in_parts z front (w ∷ back) i) [
-      | inl f ↦ on (place_of z) (p.moving.are.worked z (in_left z front back f) is)
+      | inl f ↦ absurd (not_there (in_left z front back f))
       | inr (inl e) ↦ subst (λ h. IsBefore (place_of h) then_) (sym e) (at (ap (λ (h : Happening). is_at_source h.note.body) (sym e) ∙ is))
-      | inr (inr b) ↦ on (place_of z) (p.moving.are.worked z (in_right z front back b) is)
+      | inr (inr b) ↦ absurd (not_there (in_right z front back b))
     ]
+  where
+    not_there : IsIn z (front ++ back) → ⊥
+    not_there j = let bad : false ≡ true = sym (off_source p.moving z j) ∙ is in cc
 
 -- THE RECORD IS PUT IN, AND THE FRONTIER GOES BEHIND ITS SOURCE (all sources but events and their outcomes). All that is
 -- due from the source is at the record's place, whatever else is to come
@@ -260,6 +263,6 @@ pub one_by : {s : Scenario} {hs front back : List Happening} {now r : ℕ} {more
 one_by {s} {hs} {front} {now} {r} {more} {w} p last all =
     let at = now ∷ r ∷ more in
     settled_by (one_well p last) p.moving.later
-    (worked_then (behind at) p (stays at)
+    (worked_then (behind at) p
     (λ is. subst (λ q. IsBefore q (behind at))
     (own_here s (hs ++ front) (time_of w) (members_in w) w.note.body at is p.mine) (before_behind at))) all

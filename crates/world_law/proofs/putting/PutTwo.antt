@@ -1,15 +1,16 @@
 -- A record and the change of state that follows it are put in.
+use Rattle.world_law.proofs.runs.Settled.{AreSettled, own_here}
 use Rattle.{net_plan.proofs.SameIds.one_device, run_law.{proofs.law.FirstPlaces.{numbered_front, numbered_next}, specs.records.Causes.device_of}}
-use Rattle.world_law.proofs.Words.{◌++◌, ◌+◌, ◌<◌, ◌==◌, ◌∙◌, ◌∷◌, ◌≡◌, ◌≤◌, ◌⊎◌, AreSettled, ChangesState, DeviceId, Happening, IsBefore}
+use Rattle.world_law.proofs.Words.{◌++◌, ◌+◌, ◌<◌, ◌==◌, ◌∙◌, ◌∷◌, ◌≡◌, ◌≤◌, ◌⊎◌, ChangesState, DeviceId, Happening, IsBefore}
 use Rattle.world_law.proofs.Words.{IsIn, IsOwnSource, IsSource, List, NoteBody, Scenario, Some, State, Why, [], rows_place, amount, ap, append_assoc}
 use Rattle.world_law.proofs.Words.{arith, before_behind, behind, cases_lt, cause_of, eqb-true, false, false_from_ne_true, in_left, in_parts, in_right}
 use Rattle.world_law.proofs.Words.{IsOfThisTime, append-nil, inl, inr, is_at_source, length, is_joined_by, key, members_in, never_self, numbered, parted, place_of, rank}
-use Rattle.world_law.proofs.{Words.{refl, subst, suc, sym, time_of, true, ℕ}, giving.GivenParts.some_same, putting.Moving.{IsAllOfIt, stays}}
+use Rattle.world_law.proofs.{Words.{refl, subst, suc, sym, time_of, true, ℕ}, giving.GivenParts.some_same, putting.Moving.IsAllOfIt}
 use Rattle.world_law.proofs.putting.PutShown.{numbered_here, seven}
 use Rattle.world_law.specs.world.World.{IsDueAs}
 use Rattle.world_law.proofs.putting.PutOne.{Follows, IsOne, at_number, due_follows, hears_aside, placing_one, worked_then}
 use Rattle.world_law.proofs.putting.PutShown.{IsShownPair, change_of, due_of, pair_put, record_of}
-use Rattle.world_law.proofs.putting.Placing.{IsCarried, IsPlacing, IsWell, before_it, own_here, placed_well, settled_by, well_of}
+use Rattle.world_law.proofs.putting.Placing.{IsCarried, IsPlacing, IsWell, before_it, placed_well, settled_by, well_of}
 use Rattle.run_law.specs.declared.judgement.Judgement.TheVariants as judgements
 use Rattle.run_law.specs.declared.judgement.Why.TheVariants as whys
 use Rattle.run_law.specs.declared.note.NoteBody.TheVariants as notes
@@ -199,7 +200,7 @@ module _ {s : Scenario} {hs coming settled : List Happening} {now r : ℕ} {more
       let at = now ∷ r ∷ more in
       let before : (x : Happening) → IsIn x (leader ∷ (q.mid ++ q.back)) → is_at_source x.note.body ≡ true
       → IsBefore (place_of x) (behind at) = λ x there.
-      worked_then {front = []} {back = coming} (behind at) p.one (stays at)
+      worked_then {front = []} {back = coming} (behind at) p.one
       (λ is. subst (λ p_at. IsBefore p_at (behind at))
       (own_here s (hs ++ []) now (members_in leader) body at is p.one.mine) (before_behind at))
       x (subst (λ l. IsIn x (leader ∷ l)) (sym q.parts) there) in

@@ -1,5 +1,6 @@
 -- What is settled once a record that bears on no device is put in, and the frontier goes by its source.
-use Rattle.world_law.proofs.Words.{◌++◌, ◌∙◌, ◌∷◌, ◌≡◌, ◌≤◌, AreOfNetwork, AreSettled, DeviceId, Happening}
+use Rattle.world_law.proofs.runs.Settled.{AreSettled}
+use Rattle.world_law.proofs.Words.{◌++◌, ◌∙◌, ◌∷◌, ◌≡◌, ◌≤◌, AreOfNetwork, DeviceId, Happening}
 use Rattle.world_law.proofs.Words.{IsHeld, IsIn, IsOwnSource, List, Network, Node, NoteBody, Scenario}
 use Rattle.world_law.proofs.Words.{arith, behind, cause_of, in_left, in_parts, in_right, inl, inr}
 use Rattle.world_law.proofs.Words.{length, members_in, place_of, rank, refl, subst, sym, time_of, true, ℕ}
@@ -31,7 +32,7 @@ module _ {s : Scenario} {hs front back : List Happening} {now r : ℕ} {more : L
   was_late : (y : Happening) → IsIn y (front ++ back) → (time_of y ≡ now) × (8 ≤ rank y.note.body)
   was_late y i =
       let at = p.one.moving.are.of_now y i in
-      let low = at_least y now r more at (p.one.moving.are.behind_mark y i) in
+      let low = at_least y now r more at (p.one.moving.are.after y i) in
       let late = p.late in
       (at, omega (arith, low, late))
 
@@ -69,9 +70,9 @@ known_put {s} hs front back w idle =
     (idle_bears device w.note.body idle))
 
 pub held_put : {M : Type 0} {stands : M → Network → DeviceId → Node → Type 0} {s : Scenario} {hs : List Happening}
-    (front back : List Happening) {cursor : List ℕ} {now : ℕ} {device : DeviceId} {machine : M} (w : Happening)
-    → IsIdle w.note.body → time_of w ≡ now → IsHeld stands s hs (front ++ back) cursor now device machine
-    → IsHeld stands s hs (front ++ w ∷ back) cursor now device machine
+    (front back : List Happening) {frontier : List ℕ} {now : ℕ} {device : DeviceId} {machine : M} (w : Happening)
+    → IsIdle w.note.body → time_of w ≡ now → IsHeld stands s hs (front ++ back) frontier now device machine
+    → IsHeld stands s hs (front ++ w ∷ back) frontier now device machine
 held_put {s} {hs} front back {device} w idle at held =
     let misses = idle_bears device w.note.body idle in
     held_aside s hs front back w device misses at (frames_aside s hs front back w device misses (idle_taking device w.note.body idle)) held

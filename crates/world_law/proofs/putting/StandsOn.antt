@@ -1,18 +1,18 @@
 -- The source that comes first is worked off: the world stands behind it.
 use Rattle.std.proofs.{Common.◌↔◌, lemmas.Bool.cases_eq}
-use Rattle.world_law.proofs.Words.{IsIn, ◌++◌, ◌+◌, ◌<◌, ◌∙◌, ◌∷◌, ◌≡◌, ◌≤◌, AreAtPorts, AreOfNetwork, AreOnWires, AreSettled, AreWaiting, AtPort, DeviceId}
+use Rattle.world_law.proofs.Words.{IsIn, ◌++◌, ◌+◌, ◌<◌, ◌∙◌, ◌∷◌, ◌≡◌, ◌≤◌, AreAtPorts, AreComing, AreOfNetwork, AreOnWires, AreWaiting, AtPort, DeviceId}
 use Rattle.world_law.proofs.Words.{Happening, HaveBefallen, IsBefore, IsHeld, IsScenarioRun, IsSource, List, Network, NoSourceBefore, Node, Note, OnWire, Scenario, Some, Task}
-use Rattle.world_law.proofs.Words.{Stands, Waiting, World, [], ap, append-nil, arith, before_behind, before_later, before_next_time, before_or_not, behind, cases_Bool, chain, clock_place, false}
+use Rattle.world_law.proofs.Words.{Stands, Waiting, World, [], ap, append-nil, arith, before_later, before_next_time, before_or_not, behind, cases_Bool, clock_place, false}
 use Rattle.world_law.proofs.Words.{happenings, in_left, inl, inr, length, never_self, numbers_end, place_of, port_place, refl, slice_get}
-use Rattle.world_law.{proofs.{Words.{subst, sym, task_place, true, wire_place, ℕ}, runs.TaskPlaces.second}, specs.world.{Calls.IsSet, Moves.{ComesFirst, StandsBehind}}}
+use Rattle.world_law.{proofs.{Words.{subst, sym, task_place, true, wire_place, ℕ}, runs.TaskPlaces.second}, specs.world.{Calls.IsSet, Moves.ComesFirst}}
 use Rattle.world_law.proofs.putting.Moving.{IsGoing, IsMoving, all_without, goes_by, held_moves, not_there, ports_move, stays, waiting_moves, wires_move}
-use Rattle.world_law.{proofs.{giving.GivenParts.up_to_place, runs.{Firsts.{no_higher, source_back}, Worlds.run_to}}, specs.world.World.AreUntold}
+use Rattle.world_law.{proofs.{giving.GivenParts.up_to_place, runs.{Firsts.{no_higher, source_back}, Over.StandsBehind, Settled.{AreSettled, settled_of}, Worlds.run_to}}, specs.world.World.AreUntold}
 
 -- a world that stands so that its frontier is at the source that comes first, at this place of the instant
 pub record StandsHere {C M : Type 0} (reading : C → ℕ → ℕ) (stands : M → Network → DeviceId → Node → Type 0)
     (s : Scenario) (world : World C M) (notes : List Note) (r : ℕ) (more : List ℕ) : Type 0 where
   pub old : Stands reading stands s world notes
-  pub on : (p : List ℕ) → IsBefore p old.cursor → IsBefore p (world.now ∷ r ∷ more)
+  pub on : (p : List ℕ) → IsBefore p old.frontier → IsBefore p (world.now ∷ r ∷ more)
   pub moving : IsMoving s (happenings s.network notes) world.settled world.now r more
   pub run : IsScenarioRun s (world.now ∷ r ∷ more) notes
   pub befallen : HaveBefallen s (world.now ∷ r ∷ more) world.now
@@ -29,8 +29,8 @@ pub record IsNext {C M : Type 0} {reading : C → ℕ → ℕ} {stands : M → N
     {s : Scenario} {world : World C M} {notes : List Note} (old : Stands reading stands s world notes)
     (at : List ℕ) : Type 0 where
   pub later : IsBefore (world.now ∷ 2 ∷ []) at
-  pub waits : IsBefore at old.cursor → ⊥
-  pub first : NoSourceBefore s (happenings s.network notes) old.cursor at
+  pub waits : IsBefore at old.frontier → ⊥
+  pub first : NoSourceBefore s (happenings s.network notes) old.frontier at
   pub after : (z : Happening) → IsIn z world.settled → IsBefore (place_of z) at → ⊥
 
 module _ {C M : Type 0} {reading : C → ℕ → ℕ} {stands : M → Network → DeviceId → Node → Type 0} {s : Scenario}
@@ -41,16 +41,17 @@ module _ {C M : Type 0} {reading : C → ℕ → ℕ} {stands : M → Network �
   abbrev at_it : List ℕ
   at_it = world.now ∷ r ∷ more
 
-  pub up_on : IsNext old at_it → (p : List ℕ) → IsBefore p old.cursor → IsBefore p at_it
-  up_on x p b = before_later p at_it old.cursor b x.waits
+  pub up_on : IsNext old at_it → (p : List ℕ) → IsBefore p old.frontier → IsBefore p at_it
+  up_on x p b = before_later p at_it old.frontier b x.waits
 
   -- a source before it, by those given, is worked off
-  by_given : IsNext old at_it → (w : List ℕ) → IsSource s hs_of w → IsBefore w at_it → IsBefore w old.cursor
-  by_given x w source lt = elim (before_or_not w old.cursor) [ inl yet ↦ yet | inr not ↦ absurd (x.first w source not lt) ]
+  by_given : IsNext old at_it → (w : List ℕ) → IsSource s hs_of w → IsBefore w at_it → IsBefore w old.frontier
+  by_given x w source lt = elim (before_or_not w old.frontier)
+      [ inl yet ↦ yet | inr not ↦ absurd (x.first w source not lt) ]
 
   -- and by some of those to come too
   by_coming : IsNext old at_it → (front back : List Happening) → world.settled ≡ front ++ back → (w : List ℕ)
-      → IsSource s (hs_of ++ front) w → IsBefore w at_it → IsBefore w old.cursor
+      → IsSource s (hs_of ++ front) w → IsBefore w at_it → IsBefore w old.frontier
   by_coming x [] back e w source lt = by_given x w (subst (λ l. IsSource s l w) (append-nil hs_of) source) lt
   by_coming x (f ∷ front) back e w source lt =
       let inside : (y : Happening) → IsIn y (f ∷ front) → IsIn y world.settled =
@@ -58,11 +59,11 @@ module _ {C M : Type 0} {reading : C → ℕ → ℕ} {stands : M → Network �
       elim (source_back hs_of (f ∷ front) world.now r more old.forward (λ y i. old.are.of_now y (inside y i))
       (λ y i. x.after y (inside y i)) source (inr lt)) [
         | inl old_one ↦ by_given x w old_one lt
-        | inr (inl early) ↦ old.ahead w (old.of_now w early)
-        | inr (inr same) ↦ subst (λ p. IsBefore p old.cursor) (sym same) (old.are.begun f (inside f (inl refl)))
+        | inr (inl early) ↦ old.of_now w early
+        | inr (inr same) ↦ subst (λ p. IsBefore p old.frontier) (sym same) (old.are.begun f (inside f (inl refl)))
       ]
 
-  goes_up : IsNext old at_it → IsGoing s hs_of old.cursor at_it (λ p. ⊥)
+  goes_up : IsNext old at_it → IsGoing s hs_of old.frontier at_it (λ p. ⊥)
   goes_up x = record {
     on = up_on x;
     own = λ p never. absurd never;
@@ -79,24 +80,19 @@ module _ {C M : Type 0} {reading : C → ℕ → ℕ} {stands : M → Network �
         (λ b. never_self (world.now ∷ 2 ∷ []) (old.untold.early open_ (world.now ∷ 2 ∷ []) b)) x.later)
   ]
 
-  settled_up : IsNext old at_it → AreSettled s hs_of world.settled at_it at_it world.now
-  settled_up x =
+  coming_up : IsNext old at_it → AreComing s hs_of world.settled at_it world.now
+  coming_up x =
       let on = up_on x in
       record {
         of_now = old.are.of_now;
-        behind_mark = x.after;
+        after = x.after;
         founded = old.are.founded;
         by = λ front rest z e. let was = old.are.by front rest z e in (was.0, was.1, was.2, on was.0 was.3);
         full = λ front back y e before none not due off.
-            old.are.full front back y e before none (λ b. not (on (place_of y) (old.ahead (place_of y) b))) due
+            old.are.full front back y e before none (λ b. not (on (place_of y) b)) due
             (off.0, off.1, off.2, by_coming x front back e off.0 off.2 off.3);
-        not_past = λ z i p b. not_far_at (place_of z) (x.after z i) p b;
-        worked = λ z i is. absurd (x.after z i (on (place_of z) (old.are.worked z i is)));
         begun = λ z i. on (world.now ∷ 2 ∷ []) (old.are.begun z i);
       }
-    where
-      not_far_at : (q : List ℕ) → (IsBefore q at_it → ⊥) → (p : List ℕ) → IsBefore p at_it → IsBefore p (behind q)
-      not_far_at q not p b = chain p q (behind q) (before_later p q at_it b not) (before_behind q)
 
   -- the frontier goes up to the source that comes first
   pub stands_here : IsNext old at_it → StandsHere reading stands s world notes r more
@@ -107,11 +103,11 @@ module _ {C M : Type 0} {reading : C → ℕ → ℕ} {stands : M → Network �
       record {
         old = old;
         on = on;
-        moving = record { forward = old.forward; later = x.later; are = settled_up x };
-        run = run_to notes at_it old.run old.are x.first x.after (λ p b. on p (old.ahead p b));
+        moving = record { forward = old.forward; later = x.later; are = coming_up x };
+        run = run_to notes at_it old.run (settled_of old.are) x.first x.after on;
         befallen = record {
           past = old.befallen.past;
-          told = λ i e at. on _ (old.ahead _ (old.befallen.told i e at));
+          told = λ i e at. on _ (old.befallen.told i e at);
           begun = old.befallen.begun;
           sent = old.befallen.sent;
         };
@@ -119,19 +115,20 @@ module _ {C M : Type 0} {reading : C → ℕ → ℕ} {stands : M → Network �
             let k = old.devices device lt in
             (k.0, k.1, held_moves g stands (λ never. never) (λ task never. never) k.2);
         told = told;
-        wires = wires_move g world.wires (subst (λ b. AreOnWires s hs_of old.cursor world.now b world.wires) told old.wires)
+        wires = wires_move g world.wires
+            (subst (λ b. AreOnWires s hs_of old.frontier world.now b world.wires) told old.wires)
             (λ e. (λ i. (i, λ never. never), λ both. both.0));
         ports = ports_move g world.ports old.ports (λ e. (λ i. (i, λ never. never), λ both. both.0));
         waiting = waiting_moves g (λ t ws never. never) old.waiting;
       }
 
   pub comes_first : {place : List ℕ} → IsBefore (world.now ∷ 2 ∷ []) at_it → place ≡ at_it
-      → (IsBefore place old.cursor → ⊥) → ComesFirst reading stands s world notes old place
+      → (IsBefore place old.frontier → ⊥) → ComesFirst reading stands s world notes old place
       → StandsHere reading stands s world notes r more
   comes_first later at waits first = stands_here (record {
     later = later;
-    waits = λ b. waits (subst (λ q. IsBefore q old.cursor) (sym at) b);
-    first = subst (NoSourceBefore s hs_of old.cursor) at first.none;
+    waits = λ b. waits (subst (λ q. IsBefore q old.frontier) (sym at) b);
+    first = subst (NoSourceBefore s hs_of old.frontier) at first.none;
     after = λ z there b. first.after z there (subst (λ q. IsBefore (place_of z) q) (sym at) b);
   })
 
@@ -212,9 +209,8 @@ module _ {C M : Type 0} {reading : C → ℕ → ℕ} {stands : M → Network �
 
   -- ---- and the world stands behind it
 
-  pub stands_on : (place : List ℕ) (machines : List M) {wires : List OnWire} {ports : List AtPort}
-      {waiting : List Waiting} {settled : List Happening} (shown : ℕ)
-      → place ≡ here → length notes + length settled < numbers_end
+  pub stands_on : (machines : List M) {wires : List OnWire} {ports : List AtPort} {waiting : List Waiting}
+      {settled : List Happening} (shown : ℕ) → length notes + length settled < numbers_end
       → AreSettled s hs settled here (behind here) world.now → AreOfNetwork s (hs ++ settled)
       → ((device : DeviceId) → device.0 < length s.network.device
       → (machine : M) × (slice_get machines device.0 ≡ Some machine)
@@ -230,47 +226,42 @@ module _ {C M : Type 0} {reading : C → ℕ → ℕ} {stands : M → Network �
         ports = ports;
         waiting = waiting;
         early = false;
-        settled =
-            settled;
+        settled = settled;
         shown = shown;
-      }) notes (behind place)
-  stands_on place machines {wires} {ports} {waiting} shown at room are known devices on_wires at_ports awaited shown_so =
-      let old = c.old in (
-        record {
-          same = old.same;
-          range = old.range;
-          rules = old.rules;
-          forward = old.forward;
-          steady = old.steady;
-          precise = old.precise;
-          mark = here;
-          cursor = behind here;
-          run = c.run;
-          ahead = stays here;
-          of_now = λ p b. c.on p (old.ahead p (old.of_now p b));
-          not_later = λ p b. before_next_time p world.now (r ∷ (more ++ 0 ∷ [])) b;
-          limit = old.limit;
-          lines = old.lines;
-          given = old.given;
-          ended = old.ended;
-          befallen = c.befallen;
-          clocks = old.clocks;
-          broken = old.broken;
-          ways = old.ways;
-          room = room;
-          known = known;
-          devices = devices;
-          early = λ fresh. absurd (let bad : false ≡ true = fresh in cc);
-          untold = untold_on;
-          wires = subst (λ b. AreOnWires s hs (behind here) world.now b wires) (sym c.told) on_wires;
-          ports = at_ports;
-          waiting = awaited;
-          stored = old.stored;
-          are = are;
-          shown = shown_so;
-        },
-        ap behind (sym at),
-      )
+      }) notes here
+  stands_on machines {wires} {ports} {waiting} shown room are known devices on_wires at_ports awaited shown_so =
+      let old = c.old in
+      record {
+        same = old.same;
+        range = old.range;
+        rules = old.rules;
+        forward = old.forward;
+        steady = old.steady;
+        precise = old.precise;
+        run = c.run;
+        on = stays here;
+        of_now = λ p b. c.on p (old.of_now p b);
+        not_later = λ p b. before_next_time p world.now (r ∷ (more ++ 0 ∷ [])) b;
+        limit = old.limit;
+        lines = old.lines;
+        given = old.given;
+        ended = old.ended;
+        befallen = c.befallen;
+        clocks = old.clocks;
+        broken = old.broken;
+        ways = old.ways;
+        room = room;
+        known = known;
+        devices = devices;
+        early = λ fresh. absurd (let bad : false ≡ true = fresh in cc);
+        untold = untold_on;
+        wires = subst (λ b. AreOnWires s hs (behind here) world.now b wires) (sym c.told) on_wires;
+        ports = at_ports;
+        waiting = awaited;
+        stored = old.stored;
+        are = are;
+        shown = shown_so;
+      }
 
   -- where a device acts
   pub acts_on : {machines : List M} {settled : List Happening} → 4 ≤ r → r ≤ 6
@@ -280,9 +271,9 @@ module _ {C M : Type 0} {reading : C → ℕ → ℕ} {stands : M → Network �
       → (machine : M) × (slice_get machines device.0 ≡ Some machine)
       × IsHeld stands s hs settled (behind here) world.now device machine)
       → StandsBehind reading stands s (record world { early = false; machines = machines; settled = settled }) notes
-      (behind here)
+      here
   acts_on {machines} high low room are known devices =
-      stands_on here machines world.shown refl room are known devices
+      stands_on machines world.shown room are known devices
       (wires_still (λ two. omega (arith, two, high)))
       (ports_still (λ eight. omega (arith, eight, low)))
       (waiting_still (λ three. omega (arith, three, high)))

@@ -10,7 +10,7 @@ use Rattle.world_law.proofs.Words.{Happening, HasAtHand, HasDone, HasTaskAt, IsA
 use Rattle.world_law.proofs.Words.{IsSteady, KeepsRules, Link, LinkId, List, Network, Node, None, Note, Option, Reaches, RowId, Scenario, Some, Stands}
 use Rattle.world_law.proofs.Words.{Synchronised, Up, VlId, Way, World, ℕ, ℤ, amount, ap, arith, before_later, both_ways, cases_lt, device_at, dispatch_body}
 use Rattle.world_law.proofs.Words.{dispatching, doing, false, frames_taken, happenings, in_parts, in_right, inl, inr, ints, is_end, link_at, local_before}
-use Rattle.world_law.proofs.Words.{◌*◌, ◌++◌, ◌+◌, ◌<◌, ◌^◌, ◌∙◌, ◌∷◌, ◌≡◌, ◌≤◌, AllBefore, AreSettled, Device, DeviceId, Dispatches, Down, Entry}
+use Rattle.world_law.proofs.Words.{◌*◌, ◌++◌, ◌+◌, ◌<◌, ◌^◌, ◌∙◌, ◌∷◌, ◌≡◌, ◌≤◌, AllBefore, AreComing, Device, DeviceId, Dispatches, Down, Entry}
 use Rattle.world_law.proofs.rows.{AtHand.{IsReaching, at_hand, has_frame, value_is}, Reached.{ShowsAt, cycles_apart, row_ends, shows_at}}
 use Rattle.world_law.proofs.{Words.{option_map_or, place_of, pos, refl, subst, sym, task_place, time_of, true, value_of}, devices.OwnRecords.state_still}
 use Rattle.world_law.proofs.{acts.Acting.{IsUnmoved, comes_so, undone_so}, devices.Passes.not_turned_on, frames.Masters.ends_differ, putting.PutIn.split_two}
@@ -19,29 +19,31 @@ use Rattle.tte_units.proofs.general_lemmas.Integers.{whole as not_negative}
 
 -- ---- the records given and those to come
 
--- they are founded together, where those to come stand after those before them, behind the mark, and are due given them
-pub founded_with : (s : Scenario) (hs coming : List Happening) (mark : List ℕ) → IsFounded place_of (IsDue s) hs → AllBefore place_of hs mark
+-- they are founded together, where those to come stand after those before them, behind the frontier, and are due given
+-- them
+pub founded_with : (s : Scenario) (hs coming : List Happening) (frontier : List ℕ) → IsFounded place_of (IsDue s) hs
+    → AllBefore place_of hs frontier
     → ((front rest : List Happening) (z : Happening) → coming ≡ front ++ z ∷ rest → AllBefore place_of front (place_of z) × IsDueAs s (hs ++ front) z)
-    → ((z : Happening) → IsIn z coming → IsBefore (place_of z) mark → ⊥) → AreFoundedAs s (hs ++ coming)
-founded_with s hs coming mark founded within stands behind_mark ps qs x e =
+    → ((z : Happening) → IsIn z coming → IsBefore (place_of z) frontier → ⊥) → AreFoundedAs s (hs ++ coming)
+founded_with s hs coming frontier founded within stands after ps qs x e =
     elim (split_two ps qs x hs coming (sym e)) [
       | inr old ↦ as_founded s hs founded ps old.0 x old.1
       | inl new ↦
           let it = stands new.0 qs x new.2 in
           let there : IsIn x coming = subst (λ l. IsIn x l) (sym new.2) (in_right x new.0 (x ∷ qs) (inl refl)) in (
             λ y i. elim (in_parts y hs new.0 (subst (λ l. IsIn y l) new.1 i)) [
-              | inl given ↦ before_later (place_of y) (place_of x) mark (within y given) (behind_mark x there)
+              | inl given ↦ before_later (place_of y) (place_of x) frontier (within y given) (after x there)
               | inr fresh ↦ it.0 y fresh
             ],
             subst (λ l. IsDueAs s l x) (sym new.1) it.1,
           )
     ]
 
-pub whole_founded : {s : Scenario} {hs coming : List Happening} {mark cursor : List ℕ} {now : ℕ}
-    → IsFounded place_of (IsDue s) hs → AllBefore place_of hs mark → AreSettled s hs coming mark cursor now
+pub whole_founded : {s : Scenario} {hs coming : List Happening} {frontier : List ℕ} {now : ℕ}
+    → IsFounded place_of (IsDue s) hs → AllBefore place_of hs frontier → AreComing s hs coming frontier now
     → AreFoundedAs s (hs ++ coming)
-whole_founded {s} {hs} {coming} {mark} founded within are =
-    founded_with s hs coming mark founded within are.founded are.behind_mark
+whole_founded {s} {hs} {coming} {frontier} founded within are =
+    founded_with s hs coming frontier founded within are.founded are.after
 
 -- the network is in range and keeps its rules, the device's clock is steady, and the records are founded
 pub record IsLawful (s : Scenario) (hs : List Happening) (device : DeviceId) : Type 0 where

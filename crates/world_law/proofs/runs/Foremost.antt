@@ -13,14 +13,15 @@ use Rattle.world_law.proofs.{Words.{slice_get_within, subst, sym, time_of, true,
 
 -- no act that is not worked off is before the place
 abbrev pub NoActBefore : Scenario → List Happening → List ℕ → List ℕ → Type 0
-NoActBefore s hs cursor p =
-    (t : ℕ) (device : DeviceId) (task : Task) → IsActing s hs t device task → (IsBefore (task_place s.network t device task) cursor → ⊥)
+NoActBefore s hs frontier p =
+    (t : ℕ) (device : DeviceId) (task : Task) → IsActing s hs t device task
+    → (IsBefore (task_place s.network t device task) frontier → ⊥)
     → IsBefore (task_place s.network t device task) p → ⊥
 
 pub none_but_acts : {C M : Type 0} {reading : C → ℕ → ℕ} {stands : M → Network → DeviceId → Node → Type 0}
     {s : Scenario} {world : World C M} {notes : List Note} {p : List ℕ} (old : Stands reading stands s world notes)
-    → NothingBefore stands s world p → NoActBefore s (happenings s.network notes) old.cursor p → {w : List ℕ}
-    → IsSource s (happenings s.network notes) w → (IsBefore w old.cursor → ⊥) → IsBefore w p → ⊥
+    → NothingBefore stands s world p → NoActBefore s (happenings s.network notes) old.frontier p → {w : List ℕ}
+    → IsSource s (happenings s.network notes) w → (IsBefore w old.frontier → ⊥) → IsBefore w p → ⊥
 none_but_acts {world} {p} old none acts (IsSource.arriving t device link cause a) not b =
     let later = arrives_later old.forward a.arrives in
     let found = old.wires.all t device link cause a
@@ -29,7 +30,8 @@ none_but_acts {world} {p} old none acts (IsSource.arriving t device link cause a
 none_but_acts {s} {world} {notes} old none acts (IsSource.ripening t device link cause point r) not b =
     let e : Waiting = record { device = device; link = link; cause = cause; frame = r.frame; point = point } in
     let p_is = r.permanent in
-    let le : world.now ≤ t = elim (cases_lt t world.now) [ inl lt ↦ absurd (not (old.ahead _ (old.of_now _ (inl lt)))) | inr ge ↦ ge ] in
+    let le : world.now ≤ t = elim (cases_lt t world.now)
+    [ inl lt ↦ absurd (not (old.of_now _ (inl lt))) | inr ge ↦ ge ] in
     let it : IsWaitingFor s (happenings s.network notes) e = record {
       arrival = p_is.arrival;
       there = p_is.there;
@@ -42,11 +44,13 @@ none_but_acts {s} {world} {notes} old none acts (IsSource.ripening t device link
         at_point = p_is.at_point;
       };
     } in
-    let sound = sym (no_later_breaks s old.mark world.now t device old.befallen le) ∙ p_is.correct in
-    let one : (u : ℕ) → IsRipening s (happenings s.network notes) u device link cause point → IsBefore (ripe_place u e) old.cursor → ⊥ = λ u x under.
+    let sound = sym (no_later_breaks s old.frontier world.now t device old.befallen le) ∙ p_is.correct in
+    let one : (u : ℕ) → IsRipening s (happenings s.network notes) u device link cause point
+    → IsBefore (ripe_place u e) old.frontier → ⊥ = λ u x under.
     let arrival : x.permanent.arrival ≡ p_is.arrival = some_same x.permanent.arrival p_is.arrival _ x.permanent.there p_is.there in
     let reached = subst (λ h. IsReach (s.reading device) (pos (time_of h)) point.0 (pos u)) arrival x.permanent.reached in
-    not (subst (λ n. IsBefore (ripe_place n e) old.cursor) (one_reach (s.reading device) (pos (time_of p_is.arrival)) point.0 u t reached p_is.reached)
+    not (subst (λ n. IsBefore (ripe_place n e) old.frontier)
+    (one_reach (s.reading device) (pos (time_of p_is.arrival)) point.0 u t reached p_is.reached)
     under) in
     none.waiting e (old.waiting.all e it sound one) t le p_is.reached.reached b
 none_but_acts old none acts (IsSource.acting t device task a) not b = acts t device task a not b
@@ -54,17 +58,17 @@ none_but_acts {p} old none acts (IsSource.departing t device link cause d) not b
     let found = old.ports.all t device link cause d not in none.ports found.0 found.1 (subst (λ q. IsBefore q p) (sym found.2) b)
 none_but_acts {s} {world} {notes} {p} old none acts (IsSource.following t cause h it) not b =
     let i = numbered_in (happenings s.network notes) cause h it.there in
-    elim (old.not_later (place_of h) (old.ahead (place_of h) (old.run.within h i))) [
+    elim (old.not_later (place_of h) (old.run.within h i)) [
       | inr bad ↦ bad.1
       | inl few ↦ elim (cases_lt t world.now) [
-        | inl past ↦ not (old.ahead (t ∷ 2 ∷ []) (old.of_now (t ∷ 2 ∷ []) (inl past)))
+        | inl past ↦ not (old.of_now (t ∷ 2 ∷ []) (inl past))
         | inr ge ↦
             let at = it.same_time in
             let now : t ≡ world.now = omega (arith, at, few, ge) in
             elim (cases_Bool world.pending) [
               | inl open_ ↦ none.befell open_ (subst (λ (n : ℕ). IsBefore (n ∷ 2 ∷ []) p) now b)
               | inr told ↦ not
-                  (subst (λ (n : ℕ). IsBefore (n ∷ 2 ∷ []) old.cursor) (sym now)
+                  (subst (λ (n : ℕ). IsBefore (n ∷ 2 ∷ []) old.frontier) (sym now)
                   (old.untold.done told cause h (record { there = it.there; same_time = at ∙ now })))
             ]
       ]
@@ -72,16 +76,16 @@ none_but_acts {s} {world} {notes} {p} old none acts (IsSource.following t cause 
 none_but_acts old none acts (IsSource.befalling time line what it) not b =
     let told = old.befallen.told it.before it.event it.is in
     let at : amount it.event.time ∷ 1 ∷ [] ≡ amount time ∷ 1 ∷ [] = ap (λ u. amount u ∷ 1 ∷ []) (sym it.at) in
-    not (subst (λ q. IsBefore q old.cursor) at
-    (old.ahead (amount it.event.time ∷ 1 ∷ []) (chain (amount it.event.time ∷ 1 ∷ []) (amount it.event.time ∷ 1 ∷ (it.before + 1) ∷ []) old.mark
-    (inr (refl, inr (refl, tt))) told)))
+    not (subst (λ q. IsBefore q old.frontier) at
+    (chain (amount it.event.time ∷ 1 ∷ []) (amount it.event.time ∷ 1 ∷ (it.before + 1) ∷ []) old.frontier
+    (inr (refl, inr (refl, tt))) told))
 none_but_acts {s} {world} {p} old none acts (IsSource.ending time device is there ends) not b =
     let it = (old.ended time).0 ends in
     let now : amount time ≡ world.now = ap unsigned_abs it.1 in
     let place : clock_place (amount time) device ≡ clock_place world.now device = ap (λ n. clock_place n device) now in
     let lt = slice_get_within s.network.device device.0 is there in
     elim (cases_lt device.0 world.shown) [
-      | inl less ↦ not (subst (λ q. IsBefore q old.cursor) (sym place) ((old.shown device lt it.0).1 less))
+      | inl less ↦ not (subst (λ q. IsBefore q old.frontier) (sym place) ((old.shown device lt it.0).1 less))
       | inr ge ↦ none.clocks device lt it.0 ge (subst (λ q. IsBefore q p) place b)
     ]
 
@@ -104,7 +108,8 @@ acting_task {s} {hs} {device} {t} {later} {node} u left has sent rows (IsActing.
 acting_task u left has sent rows (IsActing.dispatches link cause vl cycle d) = rows link cause vl cycle d
 
 -- an event of a later time than all turns no device on
-pub not_on_after : {s : Scenario} {mark : List ℕ} {now : ℕ} (t : ℕ) (device : DeviceId) → HaveBefallen s mark now
+pub not_on_after : {s : Scenario} {frontier : List ℕ} {now : ℕ} (t : ℕ) (device : DeviceId)
+    → HaveBefallen s frontier now
     → now < t → is_turned_on_at s device t ≡ false
 not_on_after {s} t device b lt = none_any (λ e. turns_on device e.what && amount e.time == t) s.events (λ e i.
     let at = in_get s.events e i in

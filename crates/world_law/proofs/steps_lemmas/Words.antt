@@ -72,15 +72,15 @@ pub use Rattle.world_law.proofs.rows.Dispatching.{IsLawful}
 pub use Rattle.world_law.proofs.runs.{Agreement.changed_before, Foremost.not_on_after}
 pub use Rattle.world_law.proofs.runs.Firsts.{at_least, dispatches_back, dispatches_same, earlier_still, no_higher, numbered_parts, reaches_back, up_back}
 pub use Rattle.world_law.proofs.runs.TaskPlaces.{acts_before, acts_first, no_task_at, of_device, placed_so, row_order, second}
-pub use Rattle.world_law.proofs.runs.Worlds.{length_is}
+pub use Rattle.world_law.proofs.runs.{Over.StandsBehind, Settled.AreSettled, Worlds.length_is}
 pub use Rattle.world_law.specs.device.{Deeds.{HadComeTo, HasDoneFrom, HasDoneTask, HasSentFrom, HasWorkedTo}, Left.{HasTaskBy, IsLeft, is_timed}, Own.{bears_on, moves}}
 pub use Rattle.world_law.specs.device.{Plain.{plain, plains}, Ready.{IsReadyAt, IsSteady}}
 pub use Rattle.world_law.specs.device.{Recorded.{HasCleared, dispatch_body}, Takings.{frames_taken, taken_in}}
 pub use Rattle.world_law.specs.device.Told.{cleared_in, local_in, next_in, since_at}
 pub use Rattle.world_law.specs.source.{Agreeing.scenario, Applying.IsEventBody, Sources.{IsActing, IsOwnSource, IsSource, task_place}}
-pub use Rattle.world_law.specs.world.{Calls.{HasActed, IsDueNow, IsSet, moment_of}, Moves.{ArePutIn, ComesFirst, IsPutIn, IsWithout, StandsBehind, settled_as}}
+pub use Rattle.world_law.specs.world.{Calls.{HasActed, IsDueNow, IsSet, moment_of}, Moves.{ArePutIn, ComesFirst, IsPutIn, IsWithout, settled_as}}
 pub use Rattle.world_law.specs.world.Outcomes.{arrival_body}
-pub use Rattle.world_law.specs.world.World.{AreAtPorts, AreOfNetwork, AreOnWires, AreSettled, AreUntold, AreWaiting, AtPort, Befell, HasTurnedOn, HaveBefallen}
+pub use Rattle.world_law.specs.world.World.{AreAtPorts, AreComing, AreOfNetwork, AreOnWires, AreUntold, AreWaiting, AtPort, Befell, HasTurnedOn, HaveBefallen}
 pub use Rattle.world_law.specs.world.World.{IsAtRest, IsHeld, IsKept, IsOnWire, IsOut, IsTurnedOnBy, IsWaitingFor, OnWire, Stands, Waiting, World, act_place}
 pub use Rattle.world_law.specs.world.World.{clock_place, has_outcome, is_at_source, is_turning, numbers_end, port_place, rank_of_call}
 pub use Rattle.world_law.specs.world.World.{HasTaskAt, IsActedOut, IsJoiningNow, ripe_place, rows_place, wire_place}

@@ -1,4 +1,4 @@
--- The turns of a world with one frontier.
+-- The turns of a world.
 pub mod Turns
 pub mod ClockTurns
 pub mod SourceTurns

@@ -1,17 +1,17 @@
 -- A machine acts.
-use Rattle.std.specs.Prelude.{if◌then◌else◌, ◌+◌, ◌<◌, ◌∷◌, ◌≡◌, List, Some, [], false, length, slice_get, ℕ}
+use Rattle.std.specs.Prelude.{if◌then◌else◌, ◌+◌, ◌<◌, ◌∷◌, ◌≡◌, List, Some, [], length, slice_get, ℕ}
 use Rattle.{net_plan.specs.declared.{ids.DeviceId.DeviceId, network.Network.Network}, run_law.specs.machines.Nodes.Node}
 use Rattle.{run_law.specs.declared.note.Note.Note, world_law.specs.world.World.{Stands, World}}
 use Rattle.run_law.specs.machines.{Nodes.{correcting, dispatching, sending}, Tasks.{Task, doing, emitting}}
-use Rattle.{run_law.specs.records.{Order.{IsIn, behind}, Ranks.rank}, world_law.specs.source.Sources.task_place}
+use Rattle.{run_law.specs.records.Order.IsIn, world_law.specs.world.Moves.ComesFirst}
 use Rattle.run_law.specs.{declared.note.NoteBody.NoteBody, scenario.{Scenarios.Scenario, Ways.{is_cut, way_from}}}
 use Rattle.{run_law.specs.declared.steps.Act.Act, schedule_tables.specs.Entries.IsEntry}
-use Rattle.{run_law.specs.declared.steps.Ripe.Ripe, world_law.specs.world.Moves.{ArePutIn, ComesFirst, StandsBehind}}
-use Rattle.run_law.specs.records.Happenings.{Happening, happenings}
+use Rattle.run_law.specs.declared.steps.Ripe.{Ripe}
+use Rattle.run_law.specs.records.{Happenings.{Happening, happenings}, Ranks.rank}
 use Rattle.{run_law.specs.timed.Dispatching.HasAtHand, tte_units.specs.declared.units.Units.Units}
 use Rattle.{schedule_tables.specs.declared.entry.Entry.Entry, sync_state.specs.declared.answers.Verdict.Verdict}
 use Rattle.sync_state.specs.declared.state.State.{State, TheVariants.{Integrating, Joining, Synchronised}}
-use Rattle.world_law.specs.world.{Calls.{HasActed, IsDueNow, IsSet, IsStateOf, moment_of}, Outcomes.judged_as}
+use Rattle.world_law.specs.world.{Calls.{HasActed, IsDueNow, IsStateOf, moment_of}, Outcomes.judged_as}
 use Rattle.run_law.specs.declared.judgement.Why.TheVariants as whys
 use Rattle.run_law.specs.declared.note.NoteBody.TheVariants as kinds
 use Rattle.run_law.specs.declared.steps.Act.TheVariants as acts
@@ -90,14 +90,3 @@ pub record Acts {C M : Type 0} (reading : C → ℕ → ℕ) (stands : M → Net
   pub adjustment : Units
   pub stands_then : IsStateOf stands s.network device after is adjustment
   pub are : AreActBodies s (happenings s.network notes) world.now device was adjustment act bodies
-
--- it acts: the cursor goes behind the place of what it does
-abbrev pub ActedStep : {C M : Type 0} → (C → ℕ → ℕ) → (M → Network → DeviceId → Node → Type 0) → Type 0
-ActedStep {C} {M} reading stands =
-    (s : Scenario) (world : World C M) (notes : List Note) (device : DeviceId) (after : M) (bodies : List NoteBody)
-    (machines : List M) (settled : List Happening)
-    (old : Stands reading stands s world notes) → (a : Acts reading stands s world notes old device after bodies)
-    → IsSet device.0 after world.machines machines → ArePutIn s.network (happenings s.network notes) world.now bodies
-    world.settled settled
-    → StandsBehind reading stands s (record world { early = false; machines = machines; settled = settled }) notes
-    (behind (task_place s.network world.now device (task_of a.act)))

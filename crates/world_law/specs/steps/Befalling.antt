@@ -33,8 +33,7 @@ ArePutBy s hs (e ∷ befell) old new =
     (mid : List OnWire) × (h : Happening) × (numbered hs e.number ≡ Some h) × ArePut s h e.number old mid
     × ArePutBy s hs befell mid new
 
--- the outcomes of the instant's events are put in, before all else of it is worked off; there are numbers for them.
--- None of them stands at its source, so that there is one frontier
+-- the outcomes of the instant's events are put in, before all else of it is worked off; there are numbers for them
 abbrev pub BefellStep : {C M : Type 0} → (C → ℕ → ℕ) → (M → Network → DeviceId → Node → Type 0) → Type 0
 BefellStep {C} {M} reading stands =
     (s : Scenario) (world : World C M) (notes : List Note) (wires : List OnWire) (settled : List Happening)

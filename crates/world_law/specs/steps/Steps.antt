@@ -5,22 +5,21 @@ use Rattle.net_plan.specs.{Ranges.IsInRange, declared.{event.{Event.Event, What.
 use Rattle.net_plan.specs.declared.network.Network.{Network}
 use Rattle.run_law.specs.{control.Leaving.{Departure, leaves, on_cut_way, too_old}, declared.note.Note.Note}
 use Rattle.run_law.specs.{declared.note.NoteBody.NoteBody, device.States.state_before, machines.Nodes.{Node, begun_node}}
-use Rattle.run_law.specs.records.{Happenings.{Happening, happenings}, Order.{IsIn, behind}}
+use Rattle.run_law.specs.records.{Happenings.{Happening, happenings}, Order.IsIn}
 use Rattle.run_law.specs.scenario.{Scenarios.{Scenario, is_broken, is_turned_on_at}, Ways.{is_cut, way_from}}
 use Rattle.schedule_tables.specs.Rules.{KeepsRules}
-use Rattle.sync_state.specs.declared.state.State.{State, TheVariants.Off}
-use Rattle.tte_units.specs.{Amount.{amount, units_of}, declared.units.Units.Units}
+use Rattle.sync_state.specs.declared.state.State.{TheVariants.Off}
+use Rattle.tte_units.specs.Amount.{amount}
 use Rattle.world_law.specs.{device.Ready.IsSteady, source.{Agreeing.scenario, Applying.note_of_event}}
-use Rattle.world_law.specs.world.{Calls.IsStateOf, Moves.{ArePutIn, ComesFirst, IsWithout, NothingBefore, StandsAt, StandsBehind}}
+use Rattle.world_law.specs.world.Moves.{NothingBefore, StandsAt}
 use Rattle.world_law.specs.world.Outcomes.{also_befell, befallen_node, departure_body, ends_world}
 use Rattle.world_law.specs.world.World.{AreWays, AtPort, IsClockOf, IsForward, IsFromEnd, Stands, Waiting, WayNow}
-use Rattle.world_law.specs.world.World.{World, clock_place, numbers_end, port_place}
+use Rattle.world_law.specs.world.World.{World, numbers_end}
 use Rattle.net_plan.specs.declared.event.What.TheVariants as events
-use Rattle.run_law.specs.declared.note.NoteBody.TheVariants as kinds
 
 -- ---- time passes
 
--- where nothing is under way before a later time, the world stands at that time, with one frontier
+-- where nothing is under way before a later time, the world stands at that time
 abbrev pub PassedStep : {C M : Type 0} → (C → ℕ → ℕ) → (M → Network → DeviceId → Node → Type 0) → Type 0
 PassedStep {C} {M} reading stands =
     (s : Scenario) (world : World C M) (notes : List Note) (t : ℕ) (old : Stands reading stands s world notes)
@@ -40,32 +39,6 @@ departure_now s e now =
 -- its records: a broken device has none
 abbrev pub departure_bodies : Scenario → AtPort → ℕ → List NoteBody
 departure_bodies s e now = if is_broken s e.device now then [] else departure_body e (departure_now s e now) ∷ []
-
--- the first frame at a port leaves
-abbrev pub LeftStep : {C M : Type 0} → (C → ℕ → ℕ) → (M → Network → DeviceId → Node → Type 0) → Type 0
-LeftStep {C} {M} reading stands =
-    (s : Scenario) (world : World C M) (notes : List Note) (e : AtPort) (ports : List AtPort) (settled : List Happening)
-    (old : Stands reading stands s world notes) → IsIn e world.ports → e.at ≡ world.now
-    → ComesFirst reading stands s world notes old (port_place e)
-    → IsWithout port_place (port_place e) world.ports ports
-    → ArePutIn s.network (happenings s.network notes) world.now (departure_bodies s e world.now) world.settled settled
-    → StandsBehind reading stands s (record world { ports = ports; early = false; settled = settled }) notes
-    (behind (port_place e))
-
--- ---- the clock of a device is shown at the end
-
--- the clock of the next device is shown
-abbrev pub ClockStep : {C M : Type 0} → (C → ℕ → ℕ) → (M → Network → DeviceId → Node → Type 0) → Type 0
-ClockStep {C} {M} reading stands =
-    (s : Scenario) (world : World C M) (notes : List Note) (device : DeviceId) (machine : M) (state : State)
-    (adjustment : Units) (settled : List Happening)
-    (old : Stands reading stands s world notes) → device.0 < length s.network.device → world.ended ≡ true
-    → world.shown ≡ device.0 → ComesFirst reading stands s world notes old (clock_place world.now device)
-    → slice_get world.machines device.0 ≡ Some machine → IsStateOf stands s.network device machine state adjustment
-    → ArePutIn s.network (happenings s.network notes) world.now
-    (kinds.Clock device (units_of (s.reading device world.now)) adjustment state ∷ []) world.settled settled
-    → StandsBehind reading stands s (record world { early = false; settled = settled; shown = world.shown + 1 }) notes
-    (behind (clock_place world.now device))
 
 -- ---- an event befalls
 

@@ -1,6 +1,5 @@
 -- The turn of a source: of its records the one that stands where the source does is given in it, and what comes later
--- is put in. So there is one frontier: up to there the records given are the run, and each source before it is worked
--- off.
+-- is put in.
 use Rattle.std.specs.Prelude.{◌++◌, ◌+◌, ◌<◌, ◌^◌, ◌∷◌, ◌≡◌, ◌≤ℤ◌, ◌≤◌, Bool, List, Some, [], false, length, pos, slice_get}
 use Rattle.std.specs.Prelude.{true, ℕ}
 use Rattle.net_plan.specs.Ranges.{IsInRange}
@@ -87,7 +86,7 @@ pub record IsNext {C M : Type 0} (reading : C → ℕ → ℕ) (s : Scenario) (n
   pub due : IsDueAs s (happenings s.network notes) (settled_as s.network (happenings s.network notes) world.now body)
 
 -- the source at this place is worked off, and its records are of these bodies: where the first stands at its source, it
--- is the next, once the others are put in; and once it is given too, the world stands behind the place with one frontier
+-- is the next, once the others are put in; and once it is given too, the world stands behind the place
 pub record TurnsBy {C M : Type 0} (reading : C → ℕ → ℕ) (stands : M → Network → DeviceId → Node → Type 0) (s : Scenario)
     (notes : List Note) (bodies : List NoteBody) (mid : World C M) (place : List ℕ) : Type 0 where
   pub next : (body : NoteBody) (others : List NoteBody) → bodies ≡ body ∷ others → is_at_source body ≡ true
@@ -96,20 +95,13 @@ pub record TurnsBy {C M : Type 0} (reading : C → ℕ → ℕ) (stands : M → 
   pub then_stands : (new : World C M) (more : List Note) → IsTurn s notes bodies mid new more
       → StandsAt reading stands s new (notes ++ more) (behind place)
 
--- where nothing of the present instant but events is worked off, as at the beginning and once an event has befallen,
--- there is one frontier
-abbrev pub EarlyAtOne : {C M : Type 0} → (C → ℕ → ℕ) → (M → Network → DeviceId → Node → Type 0) → Type 0
-EarlyAtOne {C} {M} reading stands =
-    (s : Scenario) (world : World C M) (notes : List Note) (old : Stands reading stands s world notes)
-    → world.early ≡ true → StandsAt reading stands s world notes old.cursor
-
 -- the turn by which the clock of the next device is shown, at the end
 abbrev pub ClockTurn : {C M : Type 0} → (C → ℕ → ℕ) → (M → Network → DeviceId → Node → Type 0) → Type 0
 ClockTurn {C} {M} reading stands =
-    (s : Scenario) (world : World C M) (notes : List Note) (p : List ℕ) (device : DeviceId) (machine : M)
+    (s : Scenario) (world : World C M) (notes : List Note) (device : DeviceId) (machine : M)
     (state : State) (adjustment : Units)
-    (old : StandsAt reading stands s world notes p) → device.0 < length s.network.device → world.ended ≡ true
-    → world.shown ≡ device.0 → ComesFirst reading stands s world notes old.0 (clock_place world.now device)
+    (old : Stands reading stands s world notes) → device.0 < length s.network.device → world.ended ≡ true
+    → world.shown ≡ device.0 → ComesFirst reading stands s world notes old (clock_place world.now device)
     → slice_get world.machines device.0 ≡ Some machine → IsStateOf stands s.network device machine state adjustment
     → TurnsBy reading stands s notes (kinds.Clock device (units_of (s.reading device world.now)) adjustment state ∷ [])
     (record world { early = false; shown = world.shown + 1 }) (clock_place world.now device)
@@ -117,9 +109,9 @@ ClockTurn {C} {M} reading stands =
 -- the turn by which the first frame at a port leaves
 abbrev pub LeftTurn : {C M : Type 0} → (C → ℕ → ℕ) → (M → Network → DeviceId → Node → Type 0) → Type 0
 LeftTurn {C} {M} reading stands =
-    (s : Scenario) (world : World C M) (notes : List Note) (p : List ℕ) (e : AtPort) (ports : List AtPort)
-    (old : StandsAt reading stands s world notes p) → IsIn e world.ports → e.at ≡ world.now
-    → ComesFirst reading stands s world notes old.0 (port_place e)
+    (s : Scenario) (world : World C M) (notes : List Note) (e : AtPort) (ports : List AtPort)
+    (old : Stands reading stands s world notes) → IsIn e world.ports → e.at ≡ world.now
+    → ComesFirst reading stands s world notes old (port_place e)
     → IsWithout port_place (port_place e) world.ports ports
     → TurnsBy reading stands s notes (departure_bodies s e world.now) (record world { ports = ports; early = false })
     (port_place e)
@@ -127,11 +119,11 @@ LeftTurn {C} {M} reading stands =
 -- the turn by which the first frame on a wire arrives, and its device's machine hears it
 abbrev pub HeardTurn : {C M : Type 0} → (C → ℕ → ℕ) → (M → Network → DeviceId → Node → Type 0) → Type 0
 HeardTurn {C} {M} reading stands =
-    (s : Scenario) (world : World C M) (notes : List Note) (p : List ℕ) (e : OnWire) (machine heard : M)
+    (s : Scenario) (world : World C M) (notes : List Note) (e : OnWire) (machine heard : M)
     (octets : List ℕ) (result : Arrival)
     (machines : List M) (wires : List OnWire)
-    (old : StandsAt reading stands s world notes p) → IsIn e world.wires → e.at ≡ world.now
-    → ComesFirst reading stands s world notes old.0 (wire_place e)
+    (old : Stands reading stands s world notes) → IsIn e world.wires → e.at ≡ world.now
+    → ComesFirst reading stands s world notes old (wire_place e)
     → slice_get world.machines e.device.0 ≡ Some machine → signal_of octets ≡ e.signal
     → MayArrive s.network e.device e.link octets
     → HasHeard stands s.network e.device (moment_of s e.device world.now) e.link octets result machine heard
@@ -142,12 +134,12 @@ HeardTurn {C} {M} reading stands =
 -- the turn by which the first frame that waits is permanent
 abbrev pub RipenedTurn : {C M : Type 0} → (C → ℕ → ℕ) → (M → Network → DeviceId → Node → Type 0) → Type 0
 RipenedTurn {C} {M} reading stands =
-    (s : Scenario) (world : World C M) (notes : List Note) (p : List ℕ) (e : Waiting) (machine ripe : M)
+    (s : Scenario) (world : World C M) (notes : List Note) (e : Waiting) (machine ripe : M)
     (result : Ripe) (machines : List M)
     (waiting : List Waiting)
-    (old : StandsAt reading stands s world notes p) → IsIn e world.waiting
+    (old : Stands reading stands s world notes) → IsIn e world.waiting
     → e.point.0 ≤ℤ pos (s.reading e.device world.now)
-    → ComesFirst reading stands s world notes old.0 (ripe_place world.now e)
+    → ComesFirst reading stands s world notes old (ripe_place world.now e)
     → slice_get world.machines e.device.0 ≡ Some machine
     → HasRipened stands s.network e.device (moment_of s e.device world.now) e.link e.frame e.point result machine ripe
     → IsSet e.device.0 ripe world.machines machines → IsWithout (ripe_place world.now)
@@ -158,10 +150,10 @@ RipenedTurn {C} {M} reading stands =
 -- the turn by which a device acts
 abbrev pub ActedTurn : {C M : Type 0} → (C → ℕ → ℕ) → (M → Network → DeviceId → Node → Type 0) → Type 0
 ActedTurn {C} {M} reading stands =
-    (s : Scenario) (world : World C M) (notes : List Note) (p : List ℕ) (device : DeviceId) (after : M)
+    (s : Scenario) (world : World C M) (notes : List Note) (device : DeviceId) (after : M)
     (bodies : List NoteBody)
-    (machines : List M) (old : StandsAt reading stands s world notes p)
-    → (a : Acts reading stands s world notes old.0 device after bodies)
+    (machines : List M) (old : Stands reading stands s world notes)
+    → (a : Acts reading stands s world notes old device after bodies)
     → IsSet device.0 after world.machines machines
     → TurnsBy reading stands s notes bodies (record world { early = false; machines = machines })
     (task_place s.network world.now device (task_of a.act))

@@ -77,35 +77,25 @@ IsWithout {X} place p old new = (e : X) → IsIn e new ↔ (IsIn e old × (place
 pub record ComesFirst {C M : Type 0} (reading : C → ℕ → ℕ) (stands : M → Network → DeviceId → Node → Type 0)
     (s : Scenario) (world : World C M) (notes : List Note) (old : Stands reading stands s world notes)
     (w : List ℕ) : Type 0 where
-  pub none : NoSourceBefore s (happenings s.network notes) old.cursor w
+  pub none : NoSourceBefore s (happenings s.network notes) old.frontier w
   pub after : (z : Happening) → IsIn z world.settled → IsBefore (place_of z) w → ⊥
   pub room : length notes + length world.settled + 2 < numbers_end
 
--- the step has brought the cursor behind this place
-abbrev pub StandsBehind : {C M : Type 0} → (C → ℕ → ℕ) → (M → Network → DeviceId → Node → Type 0) → Scenario → World C M
-    → List Note → List ℕ → Type 0
-StandsBehind reading stands s world notes p = (new : Stands reading stands s world notes) × (new.cursor ≡ p)
-
--- there is one frontier, at this place: the records given are the run up to it, and what is before it is worked off
+-- the world stands with its frontier at this place
 abbrev pub StandsAt : {C M : Type 0} → (C → ℕ → ℕ) → (M → Network → DeviceId → Node → Type 0) → Scenario → World C M
     → List Note → List ℕ → Type 0
-StandsAt reading stands s world notes p = (st : Stands reading stands s world notes) × (st.mark ≡ p) × (st.cursor ≡ p)
-
--- there is one, at some place
-abbrev pub StandsOne : {C M : Type 0} → (C → ℕ → ℕ) → (M → Network → DeviceId → Node → Type 0) → Scenario → World C M
-    → List Note → Type 0
-StandsOne reading stands s world notes = (st : Stands reading stands s world notes) × (st.mark ≡ st.cursor)
+StandsAt reading stands s world notes p = (st : Stands reading stands s world notes) × (st.frontier ≡ p)
 
 -- ---- a record is given
 
 -- the first of what is settled is given: with the next number, and what it puts on wires, gives to ports, waits for
--- and takes. Then there is one frontier, behind it
+-- and takes. Then the frontier is behind it
 abbrev pub GivenStep : {C M : Type 0} → (C → ℕ → ℕ) → (M → Network → DeviceId → Node → Type 0) → Type 0
 GivenStep {C} {M} reading stands =
     (s : Scenario) (world : World C M) (notes : List Note) (z : Happening) (rest : List Happening) (wires : List OnWire)
     (ports : List AtPort) (waiting : List Waiting) (stored : List Stored)
     → (old : Stands reading stands s world notes) → world.settled ≡ z ∷ rest
-    → NoSourceBefore s (happenings s.network notes) old.cursor (place_of z)
+    → NoSourceBefore s (happenings s.network notes) old.frontier (place_of z)
     → ArePut s (happening s.network (happenings s.network notes) (note_of notes z)) (length notes + 1) world.wires wires
     → AreGiven s (happening s.network (happenings s.network notes) (note_of notes z)) (length notes + 1) world.ports
     ports
@@ -146,4 +136,4 @@ abbrev pub NothingComesBefore : {C M : Type 0} → (C → ℕ → ℕ) → (M �
 NothingComesBefore {C} {M} reading stands =
     (s : Scenario) (world : World C M) (notes : List Note) (p : List ℕ) (old : Stands reading stands s world notes)
     → ((z : Happening) → IsIn z world.settled → IsBefore (place_of z) p → ⊥)
-    → NothingBefore stands s world p → NoSourceBefore s (happenings s.network notes) old.cursor p
+    → NothingBefore stands s world p → NoSourceBefore s (happenings s.network notes) old.frontier p

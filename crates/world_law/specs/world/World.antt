@@ -149,12 +149,13 @@ pub record IsOnWire (s : Scenario) (hs : List Happening) (e : OnWire) : Type 0 w
 
 -- the wires have what the records put there, and is not worked off; but not what pending events of the instant put
 -- there
-pub record AreOnWires (s : Scenario) (hs : List Happening) (cursor : List ℕ) (now : ℕ) (pending : Bool)
+pub record AreOnWires (s : Scenario) (hs : List Happening) (frontier : List ℕ) (now : ℕ) (pending : Bool)
     (wires : List OnWire) : Type 0 where
   pub real : (e : OnWire) → IsIn e wires → (it : IsOnWire s hs e) × (pending ≡ true → time_of it.putting ≡ now → ⊥)
-      × (IsBefore (wire_place e) cursor → ⊥)
+      × (IsBefore (wire_place e) frontier → ⊥)
   pub all : (t : ℕ) (device : DeviceId) (link : LinkId) (cause : ℕ) → (a : IsArriving s hs t device link cause)
-      → (pending ≡ true → time_of a.putting ≡ now → ⊥) → (IsBefore (t ∷ 2 ∷ device.0 ∷ link.0 ∷ cause ∷ []) cursor → ⊥)
+      → (pending ≡ true → time_of a.putting ≡ now → ⊥)
+      → (IsBefore (t ∷ 2 ∷ device.0 ∷ link.0 ∷ cause ∷ []) frontier → ⊥)
       → (e : OnWire) × IsIn e wires × (wire_place e ≡ t ∷ 2 ∷ device.0 ∷ link.0 ∷ cause ∷ [])
 
 -- the record gave the frame to the link
@@ -171,10 +172,10 @@ pub record IsAtPort (s : Scenario) (hs : List Happening) (e : AtPort) : Type 0 w
   pub gave : IsGivenBy s giving e
 
 -- the ports have what the records gave them, and is not worked off
-pub record AreAtPorts (s : Scenario) (hs : List Happening) (cursor : List ℕ) (ports : List AtPort) : Type 0 where
-  pub real : (e : AtPort) → IsIn e ports → IsAtPort s hs e × (IsBefore (port_place e) cursor → ⊥)
+pub record AreAtPorts (s : Scenario) (hs : List Happening) (frontier : List ℕ) (ports : List AtPort) : Type 0 where
+  pub real : (e : AtPort) → IsIn e ports → IsAtPort s hs e × (IsBefore (port_place e) frontier → ⊥)
   pub all : (t : ℕ) (device : DeviceId) (link : LinkId) (cause : ℕ) → IsDeparting s hs t device link cause
-      → (IsBefore (t ∷ 8 ∷ device.0 ∷ link.0 ∷ cause ∷ []) cursor → ⊥)
+      → (IsBefore (t ∷ 8 ∷ device.0 ∷ link.0 ∷ cause ∷ []) frontier → ⊥)
       → (e : AtPort) × IsIn e ports × (port_place e ≡ t ∷ 8 ∷ device.0 ∷ link.0 ∷ cause ∷ [])
 
 -- for this arrival the device waits
@@ -194,14 +195,14 @@ pub record IsWaitingFor (s : Scenario) (hs : List Happening) (e : Waiting) : Typ
 
 -- the frames that wait are those of the records for whose permanence their devices wait, and that are not worked off,
 -- whether or not a reading ever comes to their points
-pub record AreWaiting (s : Scenario) (hs : List Happening) (cursor : List ℕ) (now : ℕ)
+pub record AreWaiting (s : Scenario) (hs : List Happening) (frontier : List ℕ) (now : ℕ)
     (waiting : List Waiting) : Type 0 where
   pub real : (e : Waiting) → IsIn e waiting → IsWaitingFor s hs e
   pub later : (e : Waiting) → IsIn e waiting → (t : ℕ) → IsRipening s hs t e.device e.link e.cause e.point
-      → IsBefore (ripe_place t e) cursor → ⊥
+      → IsBefore (ripe_place t e) frontier → ⊥
   pub sound : (e : Waiting) → IsIn e waiting → is_broken s e.device now ≡ false
   pub all : (e : Waiting) → IsWaitingFor s hs e → is_broken s e.device now ≡ false
-      → ((t : ℕ) → IsRipening s hs t e.device e.link e.cause e.point → IsBefore (ripe_place t e) cursor → ⊥)
+      → ((t : ℕ) → IsRipening s hs t e.device e.link e.cause e.point → IsBefore (ripe_place t e) frontier → ⊥)
       → IsIn e waiting
 
 -- ---- what switches hold
@@ -229,15 +230,16 @@ pub record AreStored (hs : List Happening) (stored : List Stored) : Type 0 where
 -- off; or that instant is over for it, where it has corrected its clock, or a frame has told it the time, so that no frame
 -- arrives any more
 abbrev pub IsActedUpTo : Scenario → List Happening → ℕ → DeviceId → Node → List ℕ → ℕ → Type 0
-IsActedUpTo s hs now device node cursor up =
-    ((up ≡ now) × ((task : Task) → IsBefore (task_place s.network now device task) cursor
+IsActedUpTo s hs now device node frontier up =
+    ((up ≡ now) × ((task : Task) → IsBefore (task_place s.network now device task) frontier
     → IsActing s hs now device task → HasDoneTask node task))
-    ⊎ ((up ≡ now + 1) × ((p : List ℕ) → IsBefore p (now ∷ 3 ∷ []) → IsBefore p cursor))
+    ⊎ ((up ≡ now + 1) × ((p : List ℕ) → IsBefore p (now ∷ 3 ∷ []) → IsBefore p frontier))
 
 -- its acts of the instant are worked off
-pub record IsActedOut (s : Scenario) (hs : List Happening) (now : ℕ) (device : DeviceId) (cursor : List ℕ) : Type 0 where
-  pub past : IsBefore (act_place now device) cursor
-  pub all : (task : Task) → IsActing s hs now device task → IsBefore (task_place s.network now device task) cursor
+pub record IsActedOut (s : Scenario) (hs : List Happening) (now : ℕ) (device : DeviceId) (frontier : List ℕ)
+    : Type 0 where
+  pub past : IsBefore (act_place now device) frontier
+  pub all : (task : Task) → IsActing s hs now device task → IsBefore (task_place s.network now device task) frontier
 
 -- the kind of call as the rank of its source
 abbrev pub rank_of_call : Phase → ℕ
@@ -260,13 +262,13 @@ pub record IsTurnedOnBy (hs : List Happening) (device : DeviceId) (now : ℕ) : 
 
 -- it is turned on at this very time: before it was off, an event's record is given, and once what befell is settled,
 -- the record that it was turned on is there
-pub record HasTurnedOn (s : Scenario) (hs coming : List Happening) (cursor : List ℕ) (device : DeviceId)
+pub record HasTurnedOn (s : Scenario) (hs coming : List Happening) (frontier : List ℕ) (device : DeviceId)
     (now : ℕ) : Type 0 where
   pub off : state_after s (earlier now (hs ++ coming)) device ≡ Off
   pub number : ℕ
   pub event : Happening
   pub befell : IsOfThisTime hs now number event
-  pub turned : IsBefore (now ∷ 2 ∷ []) cursor → IsTurnedOnBy (hs ++ coming) device now
+  pub turned : IsBefore (now ∷ 2 ∷ []) frontier → IsTurnedOnBy (hs ++ coming) device now
 
 -- the record does not move the device, or it is that it was turned on, as it was at this time
 abbrev pub IsAtRest : Scenario → DeviceId → ℕ → NoteBody → Type 0
@@ -280,8 +282,8 @@ pub record IsJustTold (s : Scenario) (hs : List Happening) (device : DeviceId) (
 
 -- the last call of the device's machine is not later than the place up to which all is worked off
 abbrev pub IsCalledBy : Node → List ℕ → ℕ → Type 0
-IsCalledBy node cursor now =
-    node.last.time.0 ≡ pos now → (p : List ℕ) → IsBefore p (now ∷ rank_of_call node.phase ∷ []) → IsBefore p cursor
+IsCalledBy node frontier now =
+    node.last.time.0 ≡ pos now → (p : List ℕ) → IsBefore p (now ∷ rank_of_call node.phase ∷ []) → IsBefore p frontier
 
 -- a task of it that stands at the place is due at the time
 abbrev pub HasTaskAt : Scenario → DeviceId → Node → ℕ → List ℕ → Type 0
@@ -303,28 +305,28 @@ pub record IsJoiningNow (s : Scenario) (hs coming : List Happening) (device : De
 -- compression master has points, and sends for them. While the instant is not over for it, no record of the instant moves
 -- it but that it was turned on; once it is, its acts are worked off, or it had none, as a frame told it the time
 pub record IsKept {M : Type 0} (stands : M → Network → DeviceId → Node → Type 0) (s : Scenario)
-    (hs coming : List Happening) (cursor : List ℕ) (now : ℕ) (device : DeviceId) (machine : M) : Type 0 where
+    (hs coming : List Happening) (frontier : List ℕ) (now : ℕ) (device : DeviceId) (machine : M) : Type 0 where
   pub node : Node
   pub is : stands machine s.network device node
   pub sound : is_broken s device now ≡ false
   pub up : ℕ
-  pub acted : IsActedUpTo s hs now device node cursor up
-  pub told : up ≡ now + 1 → IsActedOut s hs now device cursor
+  pub acted : IsActedUpTo s hs now device node frontier up
+  pub told : up ≡ now + 1 → IsActedOut s hs now device frontier
       ⊎ (IsJustTold s (hs ++ coming) device now ⊎ IsJoiningNow s hs coming device now)
   pub left : IsLeft s (hs ++ coming) device up node
   pub taken : node.taken ≡ frames_taken s (hs ++ coming) device
-  pub worked : HasWorkedTo s device node (changed_at (hs ++ coming) device up) up cursor
+  pub worked : HasWorkedTo s device node (changed_at (hs ++ coming) device up) up frontier
   pub bare : is_cm s.network device ≡ false → (node.points ≡ []) × (node.emitted ≡ [])
   pub ready : IsReadyAt (s.reading device) s.network device node now
   pub still : up ≡ now → (h : Happening) → IsIn h (hs ++ coming) → time_of h ≡ now → IsAtRest s device now h.note.body
-  pub turned : is_turned_on_at s device now ≡ true → HasTurnedOn s hs coming cursor device now
+  pub turned : is_turned_on_at s device now ≡ true → HasTurnedOn s hs coming frontier device now
   pub cleared : HasCleared node
-  pub phase : IsCalledBy node cursor now
+  pub phase : IsCalledBy node frontier now
 
 -- the machine stands for a device that is broken: it keeps the state and the adjustment of the records, and has no
 -- task. What it heard, has done and sent does not count any more
 pub record IsOut {M : Type 0} (stands : M → Network → DeviceId → Node → Type 0) (s : Scenario)
-    (hs coming : List Happening) (cursor : List ℕ) (now : ℕ) (device : DeviceId) (machine : M) : Type 0 where
+    (hs coming : List Happening) (frontier : List ℕ) (now : ℕ) (device : DeviceId) (machine : M) : Type 0 where
   pub node : Node
   pub is : stands machine s.network device node
   pub broken : is_broken s device now ≡ true
@@ -332,13 +334,13 @@ pub record IsOut {M : Type 0} (stands : M → Network → DeviceId → Node → 
   pub state : node.standing.state ≡ state_after s (up_to now (hs ++ coming)) device
   pub adjustment : node.standing.adjustment ≡ adjustment_after s (up_to now (hs ++ coming)) device
   pub ready : IsReadyAt (s.reading device) s.network device node now
-  pub phase : IsCalledBy node cursor now
+  pub phase : IsCalledBy node frontier now
 
 -- the machine stands for its device, sound or broken
 abbrev pub IsHeld : {M : Type 0} → (M → Network → DeviceId → Node → Type 0) → Scenario → List Happening → List Happening
     → List ℕ → ℕ → DeviceId → M → Type 0
-IsHeld stands s hs coming cursor now device machine =
-    IsKept stands s hs coming cursor now device machine ⊎ IsOut stands s hs coming cursor now device machine
+IsHeld stands s hs coming frontier now device machine =
+    IsKept stands s hs coming frontier now device machine ⊎ IsOut stands s hs coming frontier now device machine
 
 -- ---- what is settled
 
@@ -350,8 +352,8 @@ pub record IsDueAs (s : Scenario) (before : List Happening) (z : Happening) : Ty
 
 -- the source that the record comes from is worked off
 abbrev pub IsWorkedOff : Scenario → List Happening → List ℕ → Happening → Type 0
-IsWorkedOff s hs cursor y =
-    (w : List ℕ) × IsOwnSource s hs (time_of y) (members_in y) y.note.body w × IsSource s hs w × IsBefore w cursor
+IsWorkedOff s hs frontier y =
+    (w : List ℕ) × IsOwnSource s hs (time_of y) (members_in y) y.note.body w × IsSource s hs w × IsBefore w frontier
 
 -- does such a record stand at the very place of its source?
 abbrev pub is_at_source : NoteBody → Bool
@@ -364,23 +366,22 @@ is_at_source (notes.Left device link cause clock) = true
 is_at_source (notes.Clock device reading adjustment state) = true
 is_at_source other = false
 
--- the records that are to come are together with those given the run of the sources that are worked off, but for their
--- numbers: each stands after those before it, is due given them, and comes from such a source; each that is due by a
--- source that is worked off has a record at its place; and none is far behind the cursor
-pub record AreSettled (s : Scenario) (hs coming : List Happening) (mark cursor : List ℕ) (now : ℕ) : Type 0 where
+-- the records that are to come are together with those given the run of the sources before the frontier, but for their
+-- numbers: each is not before the frontier, stands after those before it, is due given them, and comes from such a
+-- source, behind the instant's events; and each that is due by such a source, and not before the frontier, has a record
+-- at its place
+pub record AreComing (s : Scenario) (hs coming : List Happening) (frontier : List ℕ) (now : ℕ) : Type 0 where
   pub of_now : (z : Happening) → IsIn z coming → time_of z ≡ now
-  pub behind_mark : (z : Happening) → IsIn z coming → IsBefore (place_of z) mark → ⊥
+  pub after : (z : Happening) → IsIn z coming → IsBefore (place_of z) frontier → ⊥
   pub founded : (front rest : List Happening) (z : Happening) → coming ≡ front ++ z ∷ rest
       → AllBefore place_of front (place_of z) × IsDueAs s (hs ++ front) z
   pub by : (front rest : List Happening) (z : Happening) → coming ≡ front ++ z ∷ rest
-      → IsWorkedOff s (hs ++ front) cursor z
+      → IsWorkedOff s (hs ++ front) frontier z
   pub full : (front back : List Happening) (y : Happening) → coming ≡ front ++ back
-      → AllBefore place_of front (place_of y) → NoneBefore place_of back (place_of y) → (IsBefore (place_of y) mark → ⊥)
-      → IsDueAs s (hs ++ front) y → IsWorkedOff s (hs ++ front) cursor y → (z : Happening) × IsIn z coming
-      × (place_of z ≡ place_of y)
-  pub not_past : (z : Happening) → IsIn z coming → (p : List ℕ) → IsBefore p cursor → IsBefore p (behind (place_of z))
-  pub worked : (z : Happening) → IsIn z coming → is_at_source z.note.body ≡ true → IsBefore (place_of z) cursor
-  pub begun : (z : Happening) → IsIn z coming → IsBefore (now ∷ 2 ∷ []) cursor
+      → AllBefore place_of front (place_of y) → NoneBefore place_of back (place_of y)
+      → (IsBefore (place_of y) frontier → ⊥) → IsDueAs s (hs ++ front) y → IsWorkedOff s (hs ++ front) frontier y
+      → (z : Happening) × IsIn z coming × (place_of z ≡ place_of y)
+  pub begun : (z : Happening) → IsIn z coming → IsBefore (now ∷ 2 ∷ []) frontier
 
 -- ---- the ways
 
@@ -406,9 +407,9 @@ IsFromEnd network link = IsSomeAnd (link_at network link) (λ l. is_end network 
 
 -- the events so far: they have befallen, at times from 0 on, and are in the records given; and octets are sent by end
 -- systems alone
-pub record HaveBefallen (s : Scenario) (mark : List ℕ) (now : ℕ) : Type 0 where
+pub record HaveBefallen (s : Scenario) (frontier : List ℕ) (now : ℕ) : Type 0 where
   pub past : (i : ℕ) (e : Event) → slice_get s.events i ≡ Some e → amount e.time ≤ now
-  pub told : (i : ℕ) (e : Event) → slice_get s.events i ≡ Some e → IsBefore (amount e.time ∷ 1 ∷ (i + 1) ∷ []) mark
+  pub told : (i : ℕ) (e : Event) → slice_get s.events i ≡ Some e → IsBefore (amount e.time ∷ 1 ∷ (i + 1) ∷ []) frontier
   pub begun : (i : ℕ) (e : Event) → slice_get s.events i ≡ Some e → pos 0 ≤ℤ e.time.0
   pub sent : (i : ℕ) (e : Event) (link : LinkId) (octets : List ℕ) → slice_get s.events i ≡ Some e
       → e.what ≡ events.Send link octets → IsFromEnd s.network link
@@ -428,13 +429,13 @@ has_outcome other = false
 
 -- the outcomes of the instant's events are settled, before all else of the instant; or they are pending, nothing else
 -- of the instant is worked off, and what befell is that of the records
-pub record AreUntold (hs : List Happening) (cursor : List ℕ) (now : ℕ) (pending : Bool)
+pub record AreUntold (hs : List Happening) (frontier : List ℕ) (now : ℕ) (pending : Bool)
     (befell : List Befell) : Type 0 where
   pub done : pending ≡ false → (number : ℕ) (h : Happening) → IsOfThisTime hs now number h
-      → IsBefore (now ∷ 2 ∷ []) cursor
+      → IsBefore (now ∷ 2 ∷ []) frontier
   pub none : pending ≡ false → befell ≡ []
   pub waits : pending ≡ true → (number : ℕ) × (h : Happening) × IsOfThisTime hs now number h
-  pub early : pending ≡ true → (p : List ℕ) → IsBefore p cursor → IsBefore p (now ∷ 2 ∷ [])
+  pub early : pending ≡ true → (p : List ℕ) → IsBefore p frontier → IsBefore p (now ∷ 2 ∷ [])
   pub real : (e : Befell) → IsIn e befell → (line : ℕ) × (h : Happening) × IsOfThisTime hs now e.number h
       × (h.note.body ≡ notes.Event line e.what)
   pub all : pending ≡ true → (number line : ℕ) (what : What) (h : Happening) → IsOfThisTime hs now number h
@@ -442,8 +443,8 @@ pub record AreUntold (hs : List Happening) (cursor : List ℕ) (now : ℕ) (pend
       → IsIn (record { number = number; what = what }) befell
   pub in_order : AreInOrder befell
 
--- the records given are the run of the scenario up to the mark; what is before the cursor is worked off; and each part
--- is as the events and the records leave it
+-- up to the frontier the records given are the run of the scenario, and each source before it is worked off; and each
+-- part is as the events and the records leave it
 pub record Stands {C M : Type 0} (reading : C → ℕ → ℕ) (stands : M → Network → DeviceId → Node → Type 0) (s : Scenario)
     (world : World C M) (notes : List Note) : Type 0 where
   pub same : world.network ≡ s.network
@@ -452,17 +453,15 @@ pub record Stands {C M : Type 0} (reading : C → ℕ → ℕ) (stands : M → N
   pub forward : IsForward s
   pub steady : (device : DeviceId) → IsSteady (s.reading device) (amount s.network.precision)
   pub precise : pos 0 ≤ℤ s.network.precision.0
-  pub mark : List ℕ
-  pub cursor : List ℕ
-  pub run : IsScenarioRun s mark notes
-  pub ahead : (p : List ℕ) → IsBefore p mark → IsBefore p cursor
-  pub of_now : (p : List ℕ) → IsBefore p (world.now ∷ []) → IsBefore p mark
-  pub not_later : (p : List ℕ) → IsBefore p cursor → IsBefore p ((world.now + 1) ∷ [])
+  pub frontier : List ℕ
+  pub run : IsScenarioRun s frontier notes
+  pub of_now : (p : List ℕ) → IsBefore p (world.now ∷ []) → IsBefore p frontier
+  pub not_later : (p : List ℕ) → IsBefore p frontier → IsBefore p ((world.now + 1) ∷ [])
   pub limit : world.now ≤ 2 ^ 60
   pub lines : world.lines ≡ length s.events
   pub given : world.given ≡ length notes
   pub ended : (time : Units) → EndsAt s.events time ↔ ((world.ended ≡ true) × (time.0 ≡ pos world.now))
-  pub befallen : HaveBefallen s mark world.now
+  pub befallen : HaveBefallen s frontier world.now
   pub clocks : (device : DeviceId) → device.0 < length s.network.device → (clock : C)
       × (slice_get world.clocks device.0 ≡ Some clock) × IsClockOf reading s world.now device clock
   pub broken : (device : DeviceId) → device.0 < length s.network.device
@@ -472,16 +471,16 @@ pub record Stands {C M : Type 0} (reading : C → ℕ → ℕ) (stands : M → N
   pub known : AreOfNetwork s (happenings s.network notes ++ world.settled)
   pub devices : (device : DeviceId) → device.0 < length s.network.device → (machine : M)
       × (slice_get world.machines device.0 ≡ Some machine)
-      × IsHeld stands s (happenings s.network notes) world.settled cursor world.now device machine
-  pub early : world.early ≡ true → (p : List ℕ) → IsBefore p cursor → IsBefore p (world.now ∷ 2 ∷ [])
-  pub untold : AreUntold (happenings s.network notes) cursor world.now world.pending world.befell
-  pub wires : AreOnWires s (happenings s.network notes) cursor world.now world.pending world.wires
-  pub ports : AreAtPorts s (happenings s.network notes) cursor world.ports
-  pub waiting : AreWaiting s (happenings s.network notes) cursor world.now world.waiting
+      × IsHeld stands s (happenings s.network notes) world.settled frontier world.now device machine
+  pub early : world.early ≡ true → (p : List ℕ) → IsBefore p frontier → IsBefore p (world.now ∷ 2 ∷ [])
+  pub untold : AreUntold (happenings s.network notes) frontier world.now world.pending world.befell
+  pub wires : AreOnWires s (happenings s.network notes) frontier world.now world.pending world.wires
+  pub ports : AreAtPorts s (happenings s.network notes) frontier world.ports
+  pub waiting : AreWaiting s (happenings s.network notes) frontier world.now world.waiting
   pub stored : AreStored (happenings s.network notes) world.stored
-  pub are : AreSettled s (happenings s.network notes) world.settled mark cursor world.now
+  pub are : AreComing s (happenings s.network notes) world.settled frontier world.now
   pub shown : (device : DeviceId) → device.0 < length s.network.device → world.ended ≡ true
-      → IsBefore (clock_place world.now device) cursor ↔ (device.0 < world.shown)
+      → IsBefore (clock_place world.now device) frontier ↔ (device.0 < world.shown)
 
 -- ---- what the next record is
 
@@ -492,16 +491,16 @@ note_of notes z = record z.note { number = length notes + 1 }
 -- where something is to come, and no source that is not worked off is before it, the run goes on by the first of it
 abbrev pub FirstSettledIsNext : Type 0
 FirstSettledIsNext =
-    (s : Scenario) (notes : List Note) (z : Happening) (rest : List Happening) (mark cursor : List ℕ) (now : ℕ)
-    → IsScenarioRun s mark notes → AreSettled s (happenings s.network notes) (z ∷ rest) mark cursor now
-    → NoSourceBefore s (happenings s.network notes) cursor (place_of z)
+    (s : Scenario) (notes : List Note) (z : Happening) (rest : List Happening) (frontier : List ℕ) (now : ℕ)
+    → IsScenarioRun s frontier notes → AreComing s (happenings s.network notes) (z ∷ rest) frontier now
+    → NoSourceBefore s (happenings s.network notes) frontier (place_of z)
     → IsScenarioRun s (behind (place_of z)) (notes ++ note_of notes z ∷ [])
 
 -- where nothing is to come, and no source that is not worked off is before the time, the records are the run up to it
 abbrev pub NothingSettledIsAll : Type 0
 NothingSettledIsAll =
-    (s : Scenario) (notes : List Note) (mark cursor : List ℕ) (now until : ℕ)
-    → IsScenarioRun s mark notes → AreSettled s (happenings s.network notes) [] mark cursor now
-    → ((p : List ℕ) → IsBefore p mark → IsBefore p (until ∷ []))
-    → NoSourceBefore s (happenings s.network notes) cursor (until ∷ [])
+    (s : Scenario) (notes : List Note) (frontier : List ℕ) (now until : ℕ)
+    → IsScenarioRun s frontier notes → AreComing s (happenings s.network notes) [] frontier now
+    → ((p : List ℕ) → IsBefore p frontier → IsBefore p (until ∷ []))
+    → NoSourceBefore s (happenings s.network notes) frontier (until ∷ [])
     → IsScenarioRun s (until ∷ []) notes

@@ -1,7 +1,7 @@
-ghost use Rattle.world_law.specs.steps.{Acting.ActedStep, Arriving.HeardStep, Befalling.BefellStep};
+ghost use Rattle.world_law.specs.steps.{Befalling.BefellStep, Ending.CorrectionEnds};
 ghost use Rattle.world_law.specs.steps.Repeating.{ActsAddUp, ActsAreBounded, ActsBringFew, NoActYet};
-ghost use Rattle.world_law.specs.steps.{Ending.CorrectionEnds, Ripening.RipenedStep};
-ghost use Rattle.world_law.specs.steps.{Steps.{AppliedStep, Begun, ClockStep, LeftStep, PassedStep}, Turns.{ActedTurn, ClockTurn, EarlyAtOne, HeardTurn, LeftTurn, RipenedTurn}};
+ghost use Rattle.world_law.specs.steps.Steps.{AppliedStep, Begun, PassedStep};
+ghost use Rattle.world_law.specs.steps.Turns.{ActedTurn, ClockTurn, HeardTurn, LeftTurn, RipenedTurn};
 
 use drift_clock::Clock;
 use run_law::Machine;
@@ -11,53 +11,33 @@ pub fn begun<C: Clock, M: Machine + Drop>()
     ensures { Begun C.reading M.stands }
 {}
 
-/// Where a world stands and time passes, it stands at the later time, with one frontier.
+/// Where a world stands and time passes, it stands at the later time.
 pub fn passed_step<C: Clock, M: Machine + Drop>()
     ensures { PassedStep C.reading M.stands }
 {}
 
-/// Where a world stands and a frame on a wire arrives, it stands again, once its device's machine has heard it.
-pub fn heard_step<C: Clock, M: Machine + Drop>()
-    ensures { HeardStep C.reading M.stands }
-{}
-
-/// Where a world stands and a frame at a port leaves, it stands again.
-pub fn left_step<C: Clock, M: Machine + Drop>()
-    ensures { LeftStep C.reading M.stands }
-{}
-
-/// Where a world stands and the clock of a device is shown at the end, it stands again.
-pub fn clock_step<C: Clock, M: Machine + Drop>()
-    ensures { ClockStep C.reading M.stands }
-{}
-
-/// Where a world stands, and nothing of the present instant but events is worked off, there is one frontier.
-pub fn early_at_one<C: Clock, M: Machine + Drop>()
-    ensures { EarlyAtOne C.reading M.stands }
-{}
-
-/// Where a world stands at one frontier and the clock of a device is shown at the end, it stands behind it with its record
-/// given.
+/// Where a world stands and the clock of a device is shown at the end, it stands behind it, with its record given.
 pub fn clock_turn<C: Clock, M: Machine + Drop>()
     ensures { ClockTurn C.reading M.stands }
 {}
 
-/// Where a world stands at one frontier and a frame at a port leaves, it stands behind it, with the record that stands there given.
+/// Where a world stands and a frame at a port leaves, it stands behind it, with the record that stands there given.
 pub fn left_turn<C: Clock, M: Machine + Drop>()
     ensures { LeftTurn C.reading M.stands }
 {}
 
-/// Where a world stands at one frontier and a frame on a wire arrives, it stands behind it, with the record that stands there given.
+/// Where a world stands and a frame on a wire arrives, it stands behind it, with the record that stands there given.
 pub fn heard_turn<C: Clock, M: Machine + Drop>()
     ensures { HeardTurn C.reading M.stands }
 {}
 
-/// Where a world stands at one frontier and the first frame that waits is permanent, it stands behind it, with the record that stands there given.
+/// Where a world stands and the first frame that waits is permanent, it stands behind it, with the record that stands
+/// there given.
 pub fn ripened_turn<C: Clock, M: Machine + Drop>()
     ensures { RipenedTurn C.reading M.stands }
 {}
 
-/// Where a world stands at one frontier and a device acts, it stands behind it, with the record that stands there given.
+/// Where a world stands and a device acts, it stands behind it, with the record that stands there given.
 pub fn acted_turn<C: Clock, M: Machine + Drop>()
     ensures { ActedTurn C.reading M.stands }
 {}
@@ -68,19 +48,9 @@ pub fn applied_step<C: Clock, M: Machine + Drop>()
 {}
 
 /// Where a world stands and the outcomes of the instant's events are pending, it stands behind the events once they are
-/// put in, with one frontier.
+/// put in.
 pub fn befell_step<C: Clock, M: Machine + Drop>()
     ensures { BefellStep C.reading M.stands }
-{}
-
-/// Where a world stands and the first frame that waits is permanent, it stands again.
-pub fn ripened_step<C: Clock, M: Machine + Drop>()
-    ensures { RipenedStep C.reading M.stands }
-{}
-
-/// Where a world stands and a device acts, it stands again, behind the place of what the device did.
-pub fn acted_step<C: Clock, M: Machine + Drop>()
-    ensures { ActedStep C.reading M.stands }
 {}
 
 /// Where a device has come to its correction point, nothing more is due of it at the instant.

@@ -1,13 +1,13 @@
--- A device acts: the frontier goes behind the place of what it does.
+-- A device acts: what comes of it is to come.
 use Rattle.run_law.specs.control.Hearing.{heard_by_schedule, heard_enough, is_in_schedule, last_cycle}
-use Rattle.{run_law.specs.records.Order.behind, sync_state.specs.membership.Members.count_of}
+use Rattle.sync_state.specs.membership.Members.{count_of}
 use Rattle.world_law.proofs.steps_lemmas.Words.{◌&&◌, Act, ArePutIn, Compressed, DeviceId, Happening, Integrating, IsSet}
 use Rattle.world_law.proofs.steps_lemmas.Words.{Joining, List, Members, Network, Node, Note, NoteBody, Off, Ripe, Scenario, Stands, StandsBehind, State, SyncPlan}
 use Rattle.world_law.proofs.steps_lemmas.Words.{Synchronised, World, false, happenings, heard_as, nat_le, observation_window, plan_of, ripe_as}
-use Rattle.world_law.proofs.steps_lemmas.Words.{subst, sym, task_place, true, ℕ}
-use Rattle.world_law.proofs.steps_lemmas.acting.{CorrectStep.correct_goes_by, Dispatching.dispatches_one, EmitSteps.emits_one, JoinSteps.join_goes_by}
-use Rattle.world_law.proofs.steps_lemmas.acting.{OneAct.act_goes_by, SendSteps.sends_one, Stage.{IsActOn, acts_on_it}}
-use Rattle.world_law.specs.steps.Acting.{ActedStep, Acts, AreActBodies, task_of}
+use Rattle.world_law.proofs.steps_lemmas.Words.{subst, sym, true, ◌∷◌, ℕ}
+use Rattle.world_law.proofs.steps_lemmas.acting.{CorrectStep.correct_goes_by, Dispatching.dispatches_one, EmitSteps.emits_one}
+use Rattle.world_law.proofs.steps_lemmas.acting.{First.act_rest, JoinSteps.join_goes_by, OneAct.act_goes_by, SendSteps.sends_one, Stage.{IsActOn, acts_on_it}}
+use Rattle.world_law.specs.steps.Acting.{Acts, AreActBodies, rank_of_act}
 use Rattle.run_law.specs.declared.steps.Act.TheVariants as acts
 use Rattle.run_law.specs.declared.steps.Ripe.TheVariants as ripe
 
@@ -56,7 +56,7 @@ ActsBy {C} {M} reading stands act =
     → AreActBodies s (happenings s.network notes) world.now device a.was a.adjustment act bodies
     → IsSet device.0 after world.machines machines → ArePutIn s.network (happenings s.network notes) world.now bodies world.settled settled
     → StandsBehind reading stands s (record world { early = false; machines = machines; settled = settled }) notes
-    (behind (task_place s.network world.now device (task_of act)))
+    (world.now ∷ rank_of_act act ∷ act_rest s.network device act)
 
 module _ {C M : Type 0} (reading : C → ℕ → ℕ) (stands : M → Network → DeviceId → Node → Type 0) where
   emission_by : (sent : Compressed) (heard : Ripe) → ActsBy reading stands (acts.Emit sent heard)
@@ -104,6 +104,13 @@ module _ {C M : Type 0} (reading : C → ℕ → ℕ) (stands : M → Network �
       (dispatches_one settled row on are.2 are.3 set
       (subst (λ l. ArePutIn s.network (happenings s.network notes) world.now l world.settled settled) are.4 put))
 
-  pub acted_step : ActedStep reading stands
+  -- it acts: what comes of it is to come
+  pub acted_step : (s : Scenario) (world : World C M) (notes : List Note) (device : DeviceId) (after : M)
+      (bodies : List NoteBody) (machines : List M) (settled : List Happening)
+      (old : Stands reading stands s world notes)
+      → (a : Acts reading stands s world notes old device after bodies) → IsSet device.0 after world.machines machines
+      → ArePutIn s.network (happenings s.network notes) world.now bodies world.settled settled
+      → StandsBehind reading stands s (record world { early = false; machines = machines; settled = settled }) notes
+      (world.now ∷ rank_of_act a.act ∷ act_rest s.network device a.act)
   acted_step s world notes device after bodies machines settled old a set put =
       acts_by a.act s world notes device after bodies machines settled old a (acts_on_it a) a.are set put

@@ -1,6 +1,6 @@
 -- The step by which a device comes to its correction point, whatever it comes to: the instant is over for it.
 use Rattle.world_law.proofs.steps_lemmas.Words.{◌∙◌, ◌≡◌, AsyncClique, Cleared, Corrected, DeviceId, Happening, Integrating, Joining, List, Network, Node, Note, Off}
-use Rattle.world_law.proofs.steps_lemmas.Words.{Scenario, Stands, StandsBehind, State, SyncClique, Synchronised, Units, Verdict, World, ap, behind, rows_place}
+use Rattle.world_law.proofs.steps_lemmas.Words.{Scenario, Stands, StandsBehind, State, SyncClique, Synchronised, Units, Verdict, World, ap, rows_place}
 use Rattle.world_law.proofs.steps_lemmas.{Words.{false, is_timed, point_number, true, ℕ}, acting.FirstStep.first_goes_by}
 use Rattle.world_law.proofs.steps_lemmas.acting.CorrectSteps.{IsCorrecting, alone_goes_by, cleared_goes_by, corrected_goes_by, outnumbered_goes_by}
 
@@ -25,7 +25,7 @@ module _ {C M : Type 0} {reading : C → ℕ → ℕ} {stands : M → Network �
       → IsCorrecting reading stands s world notes old device machine after cycle verdict was adjustment machines
       settled
       → StandsBehind reading stands s (record world { early = false; machines = machines; settled = settled }) notes
-      (behind (rows_place world.now device))
+      (rows_place world.now device)
   correct_goes_by Cleared was x =
       cleared_goes_by old device machine x
   correct_goes_by SyncClique was x =

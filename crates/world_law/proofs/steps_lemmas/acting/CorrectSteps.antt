@@ -63,7 +63,7 @@ one_point_step : {C M : Type 0} {reading : C → ℕ → ℕ} {stands : M → Ne
     (p.front ++ record_of s.network (happenings s.network notes) p.front world.now body
     ∷ p.back) world.now device after node then_ → IsSet device.0 after world.machines machines
     → StandsBehind reading stands s (record world { early = false; machines = machines; settled = settled }) notes
-    (behind (rows_place world.now device))
+    (rows_place world.now device)
 one_point_step {stands} {s} {world} {notes} {device} {machine} {after} {node} {body} {cycle} c st p room late a
     takes point out it
     set =
@@ -79,7 +79,7 @@ one_point_step {stands} {s} {world} {notes} {device} {machine} {after} {node} {b
     one_goes_by c st p (omega (arith, room)) a
     (all_point st2.work point
     (grown_one p.front p.back st2.work put late) out) set
-    (kept_over stands {hs = hs} {new = new} {cursor = here} after it.is st2.work.sound it.over it.ready it.cleared
+    (kept_over stands {hs = hs} {new = new} {frontier = here} after it.is st2.work.sound it.over it.ready it.cleared
     (it.taken ∙ taken_then stands s hs p.front p.back now device machine node w st2 refl takes)
     it.bare
     (turned_then stands s hs p.front p.back now device machine node st2 put) it.phase
@@ -154,7 +154,7 @@ module _ {C M : Type 0} {reading : C → ℕ → ℕ} {stands : M → Network �
       → IsCorrecting reading stands s world notes old device machine after cycle Cleared was adjustment machines
       settled
       → StandsBehind reading stands s (record world { early = false; machines = machines; settled = settled }) notes
-      (behind (rows_place world.now device))
+      (rows_place world.now device)
   cleared_goes_by {after} {cycle} {machines} {settled} x =
       let hs = happenings s.network notes in
       let now = world.now in
@@ -188,7 +188,7 @@ module _ {C M : Type 0} {reading : C → ℕ → ℕ} {stands : M → Network �
       let later : IsBefore (now ∷ 2 ∷ []) here = inr (refl, inl (omega arith)) in
       let none = none_at_point s hs world.settled now device node cycle old.range old.rules st.steady st.work
       first.pending first.due in
-      let kept = kept_over stands {hs = hs} {new = world.settled} {cursor = behind here} after act.2 st.work.sound
+      let kept = kept_over stands {hs = hs} {new = world.settled} {frontier = behind here} after act.2 st.work.sound
       over ready cleared (ap (λ (n : Node). n.taken) is ∙ st.taken)
       (bare_act s.network device node (moment_of s device now) (acts.Correct cycle Cleared) act.0 act.1 st.bare)
       (λ on. turned_by st.moving (st.turned on))
@@ -203,7 +203,7 @@ module _ {C M : Type 0} {reading : C → ℕ → ℕ} {stands : M → Network �
       ])
       st.reach (inl (out_by_acts s hs now device none)) in
       subst (λ (l : List Happening). StandsBehind reading stands s
-      (record world { early = false; machines = machines; settled = l }) notes (behind here))
+      (record world { early = false; machines = machines; settled = l }) notes here)
       (sym x.put)
       (acts_on on.here (omega arith) (omega arith) old.room
       (settled_moves st.moving
@@ -227,7 +227,7 @@ module _ {C M : Type 0} {reading : C → ℕ → ℕ} {stands : M → Network �
       → ((x : State) → state_by x verdict ≡ Integrating) → ((a : Units) → adjustment_by a verdict ≡ a)
       → ends_stretch device (kinds.State device Integrating 0 why) ≡ true
       → StandsBehind reading stands s (record world { early = false; machines = machines; settled = settled }) notes
-      (behind (rows_place world.now device))
+      (rows_place world.now device)
   clique_step {after} {cycle} {settled} {verdict} {why} x clique put outcome node_is lost kept ends
       =
       let hs = happenings s.network notes in
@@ -289,7 +289,7 @@ module _ {C M : Type 0} {reading : C → ℕ → ℕ} {stands : M → Network �
       → IsCorrecting reading stands s world notes old device machine after cycle SyncClique was adjustment machines
       settled
       → StandsBehind reading stands s (record world { early = false; machines = machines; settled = settled }) notes
-      (behind (rows_place world.now device))
+      (rows_place world.now device)
   alone_goes_by x =
       clique_step x IsClique.alone x.put
       (λ new z i e. (z, i, e)) (λ node then_ heard e. e) (λ y. refl) (λ a. refl)
@@ -300,7 +300,7 @@ module _ {C M : Type 0} {reading : C → ℕ → ℕ} {stands : M → Network �
       → IsCorrecting reading stands s world notes old device machine after cycle AsyncClique was adjustment machines
       settled
       → StandsBehind reading stands s (record world { early = false; machines = machines; settled = settled }) notes
-      (behind (rows_place world.now device))
+      (rows_place world.now device)
   outnumbered_goes_by x =
       clique_step x IsClique.outnumbered x.put
       (λ new z i e. (z, i, e)) (λ node then_ heard e. e) (λ y. refl) (λ a. refl)
@@ -317,7 +317,7 @@ pub corrected_goes_by : {C M : Type 0} {reading : C → ℕ → ℕ} {stands : M
     {settled : List Happening} → IsCorrecting reading stands s world notes old device machine after cycle
     (Corrected by) Synchronised adjustment machines settled
     → StandsBehind reading stands s (record world { early = false; machines = machines; settled = settled }) notes
-    (behind (rows_place world.now device))
+    (rows_place world.now device)
 corrected_goes_by {reading} {stands} {s} {world} {notes} {old} {device} {machine} {after} {cycle} by {adjustment} {settled} x =
     let hs = happenings s.network notes in
     let now = world.now in

@@ -14,7 +14,7 @@ use Rattle.world_law.proofs.steps_lemmas.Words.{reading_for, record_of, refl, sa
 use Rattle.world_law.proofs.steps_lemmas.Words.{◌++◌, ◌+◌, ◌∙◌, ◌∷◌, ◌≡◌, ◌≤ℤ◌, ◌≤◌, ArePutIn, Bool, Contains-push_cases, DeviceId}
 use Rattle.world_law.proofs.steps_lemmas.acting.{GoesOn.{IsPutAs, does, goes_on, left_on, put_now, sent_alike}, Kept.{may_act_now, ready_after}}
 use Rattle.world_law.proofs.steps_lemmas.acting.{OneAct.IsOneAct, Sending.{HasSentIt, as_put, did_deed, taken_then}, Stage.{IsActRecordAt, StageAt, IsActOn}}
-use Rattle.world_law.proofs.{Words.{AreSettled, IsBefore, IsOwnSource, Some, append_assoc, chain, numbered, parted}, rows.Dispatching.one_row}
+use Rattle.world_law.proofs.{Words.{AreComing, IsBefore, IsOwnSource, Some, append_assoc, chain, numbered, parted}, rows.Dispatching.one_row}
 use Rattle.world_law.proofs.{acts.Dispatched.{dispatch_told, send_apart}, steps_lemmas.Words.{way_from, with_done}, steps_lemmas.acting.Dispatches.TellsRow}
 use Rattle.world_law.proofs.steps_lemmas.acting.Work.{IsAtWork, all_earlier, reaches}
 use Rattle.run_law.specs.declared.note.NoteBody.TheVariants as kinds
@@ -147,7 +147,7 @@ row_record {s} {hs} {front} {now} {device} {link} {cause} {vl} {cycle} false is 
 
 -- where a row is not worked off, no record to come tells of its dispatch
 no_row_told : {s : Scenario} {hs coming : List Happening} {frontier : List ℕ} {now : ℕ} {device : DeviceId}
-    → AreSettled s hs coming frontier frontier now → IsFounded place_of (IsDue s) hs → IsLawful s (hs ++ coming) device
+    → AreComing s hs coming frontier now → IsFounded place_of (IsDue s) hs → IsLawful s (hs ++ coming) device
     → (z : Happening) → IsIn z coming → {link : LinkId} {cause : ℕ} {vl : VlId} {cycle : ℕ}
     (d : Dispatches s (hs ++ coming) device now link cause vl cycle)
     → (IsBefore (now ∷ 6 ∷ device.0 ∷ dispatch_order s.network (record { 0 = d.place })) frontier → ⊥)

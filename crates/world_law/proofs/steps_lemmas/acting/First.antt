@@ -143,8 +143,8 @@ pub act_next : {C M : Type 0} {reading : C → ℕ → ℕ} {stands : M → Netw
     {device : DeviceId} {machine : M} (act : Act) → ComesFirst reading stands s world notes old
     (place_of_act world.now device act) → ((z : Happening) → IsIn z world.settled
     → rank_of_act act < rank z.note.body) → IsActFirst stands s
-    (happenings s.network notes) world.settled old.cursor world.now device machine (task_of act)
-    → (IsBefore (world.now ∷ rank_of_act act ∷ act_rest s.network device act) old.cursor → ⊥)
+    (happenings s.network notes) world.settled old.frontier world.now device machine (task_of act)
+    → (IsBefore (world.now ∷ rank_of_act act ∷ act_rest s.network device act) old.frontier → ⊥)
     → IsNext old (world.now ∷ rank_of_act act ∷ act_rest s.network device act)
 act_next {stands} {s} {world} {notes} {old} {device} {machine} act first apart x waits =
     let high = late_rank act in
@@ -155,7 +155,8 @@ act_next {stands} {s} {world} {notes} {old} {device} {machine} act first apart x
           elim (Rattle.run_law.proofs.runs.Places.before_or_not v (place_of_act world.now device act)) [
             | inl sooner ↦ first.none v source not sooner
             | inr from ↦
-                act_sources stands s (happenings s.network notes) world.settled old.cursor world.now device machine (task_of act) (rank_of_act act)
+                act_sources stands s (happenings s.network notes) world.settled old.frontier world.now device machine
+                (task_of act) (rank_of_act act)
                 (act_more s.network act) x (act_stands s.network world.now device act) high (low_rank act) source not
                 b from
           ];

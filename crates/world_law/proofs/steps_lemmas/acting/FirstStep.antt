@@ -58,7 +58,7 @@ pub two_go_by : {C M : Type 0} {reading : C → ℕ → ℕ} {stands : M → Net
     (behind (world.now ∷ r ∷ more)) world.now device after
     → IsSet device.0 after world.machines machines
     → StandsBehind reading stands s (record world { early = false; machines = machines; settled = settled }) notes
-    (behind (world.now ∷ r ∷ more))
+    (world.now ∷ r ∷ more)
 two_go_by {C} {M} {reading} {stands} {s} {world} {notes} {device} {machine} {after} {node} {machines} {settled} {body} {state} {why} {r} {more} c st q room a all kept set =
     let hs = happenings s.network notes in
     let now = world.now in
@@ -84,7 +84,8 @@ two_go_by {C} {M} {reading} {stands} {s} {world} {notes} {device} {machine} {aft
     let between : length coming ≡ length (q.mid ++ q.back) = ap length q.parts in
     let one_more : length ((w ∷ q.mid) ++ q.back) ≡ length (q.mid ++ q.back) + 1 = omega arith in
     let apart_v : (other : DeviceId) → (other.0 ≡ device.0 → ⊥) → bears_on other v.note.body ≡ false = λ other not. ne_eqb other.0 device.0 not in
-    subst (λ (l : List Happening). StandsBehind reading stands s (record world { early = false; machines = machines; settled = l }) notes (behind here))
+    subst (λ (l : List Happening). StandsBehind reading stands s
+    (record world { early = false; machines = machines; settled = l }) notes here)
     (sym q.shows)
     (acts_on c high low (omega (arith, long, between, one_more, room)) (two_by pair all)
     (known_aside hs (w ∷ q.mid) q.back v (λ other le. moves_no_other other v.note.body
@@ -107,7 +108,7 @@ pub first_goes_by : {C M : Type 0} {reading : C → ℕ → ℕ} {stands : M →
     {settled : List Happening} → IsCorrecting reading stands s world notes old device machine after cycle
     (Corrected by) Joining adjustment machines settled → StandsBehind reading stands s
     (record world { early = false; machines = machines; settled = settled }) notes
-    (behind (rows_place world.now device))
+    (rows_place world.now device)
 first_goes_by {reading} {stands} {s} {world} {notes} {old} {device} {machine} {after} {cycle} by {adjustment} {settled} x =
     let hs = happenings s.network notes in
     let now = world.now in
@@ -134,7 +135,7 @@ first_goes_by {reading} {stands} {s} {world} {notes} {old} {device} {machine} {a
     let q : IsShownPair s.network hs now body device Synchronised whys.Correction world.settled settled = subst
     (λ l. IsShownPair s.network hs now body device Synchronised whys.Correction world.settled l) (sym x.put.2.2)
     (two_shown s.network hs now body device Synchronised whys.Correction (omega arith) (omega arith)
-    st.moving.are.behind_mark (causes_given st.moving (omega arith)) x.put.1 x.put.2.1) in
+    st.moving.are.after (causes_given st.moving (omega arith)) x.put.1 x.put.2.1) in
     let w = record_of s.network hs [] now body in
     let v = change_of s.network hs now body q.mid device Synchronised whys.Correction in
     let new1 = w ∷ world.settled in
@@ -184,7 +185,7 @@ first_goes_by {reading} {stands} {s} {world} {notes} {old} {device} {machine} {a
           );
     })
     (all_point st.work point g2 (w, inl refl, refl))
-    (kept_over stands {hs = hs} {new = new} {cursor = behind (rows_place now device)} after act.2 st.work.sound over
+    (kept_over stands {hs = hs} {new = new} {frontier = behind (rows_place now device)} after act.2 st.work.sound over
     ready cleared
     (ap (λ (m : Node). m.taken) is ∙ taken_then stands s hs [] world.settled now device machine
     node w st refl

@@ -105,7 +105,7 @@ pub join_goes_by : {C M : Type 0} {reading : C → ℕ → ℕ} {stands : M → 
     {device : DeviceId} {machine after : M} {sent : Compressed} {machines : List M} {settled : List Happening}
     → IsJoining reading stands s world notes old device machine after sent machines settled
     → StandsBehind reading stands s (record world { early = false; machines = machines; settled = settled }) notes
-    (behind (world.now ∷ 4 ∷ emission_rest device sent))
+    (world.now ∷ 4 ∷ emission_rest device sent)
 join_goes_by {reading} {stands} {s} {world} {notes} {old} {device} {machine} {after} {sent} {settled} x =
     let hs = happenings s.network notes in
     let now = world.now in
@@ -129,7 +129,7 @@ join_goes_by {reading} {stands} {s} {world} {notes} {old} {device} {machine} {af
     let q : IsShownPair s.network hs now body device Joining whys.Frame world.settled settled = subst
     (λ l. IsShownPair s.network hs now body device Joining whys.Frame world.settled l) (sym x.put.2.2)
     (two_shown s.network hs now body device Joining whys.Frame (omega arith) (omega arith)
-    st.moving.are.behind_mark sole x.put.1 x.put.2.1) in
+    st.moving.are.after sole x.put.1 x.put.2.1) in
     let n = length hs in
     let w = record_of s.network hs [] now body in
     let v = change_of s.network hs now body q.mid device Joining whys.Frame in
@@ -197,7 +197,7 @@ join_goes_by {reading} {stands} {s} {world} {notes} {old} {device} {machine} {af
       changes = λ there. (refl, (w, there, eq-eqb device.0 device.0 refl));
     })
     (all_one s hs new now 4 more w (omega arith) (omega arith) there refl)
-    (kept_over stands {hs = hs} {new = new} {cursor = here} after act.2 st.work.sound over ready cleared
+    (kept_over stands {hs = hs} {new = new} {frontier = here} after act.2 st.work.sound over ready cleared
     (ap (λ (m : Node). m.taken) is ∙ taken_then stands s hs [] world.settled now device machine
     node w st refl none_w
     ∙ ap (λ (l : List Happening). frames_taken s (hs ++ w ∷ l) device) q.parts

@@ -125,25 +125,27 @@ to_worked {s} {device} now frontier done sent worked le falls past =
     }
 
 -- the last call of its machine was not later than such a frontier
-pub acted_phase : (node : Node) (device : DeviceId) (now : ℕ) (cursor : List ℕ) → node.phase ≡ acting → IsBefore (act_place now device) cursor
-    → (p : List ℕ) → IsBefore p (now ∷ Rattle.world_law.specs.world.World.rank_of_call node.phase ∷ []) → IsBefore p cursor
-acted_phase node device now cursor phase past p b =
-    chain p (act_place now device) cursor
+pub acted_phase : (node : Node) (device : DeviceId) (now : ℕ) (frontier : List ℕ) → node.phase ≡ acting
+    → IsBefore (act_place now device) frontier
+    → (p : List ℕ) → IsBefore p (now ∷ Rattle.world_law.specs.world.World.rank_of_call node.phase ∷ [])
+    → IsBefore p frontier
+acted_phase node device now frontier phase past p b =
+    chain p (act_place now device) frontier
     (chain p (now ∷ 4 ∷ []) (act_place now device)
     (subst (λ (f : _). IsBefore p (now ∷ Rattle.world_law.specs.world.World.rank_of_call f ∷ [])) phase b) (inr (refl, inr (refl, tt)))) past
 
 -- while the instant is not over for it
 pub kept_on : {M : Type 0} (stands : M → Network → DeviceId → Node → Type 0) {s : Scenario} {hs new : List Happening}
-    (cursor : List ℕ) {now : ℕ} {device : DeviceId} (machine : M) {after : Node}
+    (frontier : List ℕ) {now : ℕ} {device : DeviceId} (machine : M) {after : Node}
     → stands machine s.network device after → IsAtWork s hs new now device after → HasCleared after
     → after.taken ≡ frames_taken s (hs ++ new) device → IsBare s.network device after
-    → (is_turned_on_at s device now ≡ true → HasTurnedOn s hs new cursor device now) → after.phase ≡ acting
-    → IsBefore (act_place now device) cursor → ((x y : ℕ) → x ≤ y → s.reading device x ≤ s.reading device y)
-    → ((task : Task) → IsBefore (task_place s.network now device task) cursor → IsActing s hs now device task
+    → (is_turned_on_at s device now ≡ true → HasTurnedOn s hs new frontier device now) → after.phase ≡ acting
+    → IsBefore (act_place now device) frontier → ((x y : ℕ) → x ≤ y → s.reading device x ≤ s.reading device y)
+    → ((task : Task) → IsBefore (task_place s.network now device task) frontier → IsActing s hs now device task
     → HasDoneTask after task) → ((task : Task) → HasDoneTask after task
     → HadComeTo s device after (changed_at (hs ++ new) device now) now task
-    ⊎ IsBefore (task_place s.network now device task) cursor) → IsKept stands s hs new cursor now device machine
-kept_on stands {hs} {new} cursor {now} {device} machine {after} is work cleared taken bare turned phase past falls
+    ⊎ IsBefore (task_place s.network now device task) frontier) → IsKept stands s hs new frontier now device machine
+kept_on stands {hs} {new} frontier {now} {device} machine {after} is work cleared taken bare turned phase past falls
     did worked = record {
       node = after;
       is = is;
@@ -154,13 +156,13 @@ kept_on stands {hs} {new} cursor {now} {device} machine {after} is work cleared 
       left = work.left;
       taken = taken;
       bare = bare;
-      worked = to_worked now cursor work.done work.sent worked (changed_before (hs ++ new) device now) falls
+      worked = to_worked now frontier work.done work.sent worked (changed_before (hs ++ new) device now) falls
           past;
       ready = work.ready;
       still = λ same. work.still;
       turned = turned;
       cleared = cleared;
-      phase = λ at. acted_phase after device now cursor phase past;
+      phase = λ at. acted_phase after device now frontier phase past;
     }
 
 -- no row of it is dispatched at the instant
@@ -184,31 +186,35 @@ out_by_acts s hs now device none = record { past = inr (refl, inl (omega arith))
 
 -- and where it is over: its acts are worked off, or its own frame tells it the time
 pub kept_over : {M : Type 0} (stands : M → Network → DeviceId → Node → Type 0) {s : Scenario}
-    {hs new : List Happening} {cursor : List ℕ} {now : ℕ} {device : DeviceId} (machine : M) {after : Node}
+    {hs new : List Happening} {frontier : List ℕ} {now : ℕ} {device : DeviceId} (machine : M) {after : Node}
     → stands machine s.network device after → is_broken s device now ≡ false → IsOver s (hs ++ new) now device after
     → IsReadyAt (s.reading device) s.network device after now → HasCleared after
     → after.taken ≡ frames_taken s (hs ++ new) device → IsBare s.network device after
-    → (is_turned_on_at s device now ≡ true → HasTurnedOn s hs new cursor device now) → after.phase ≡ acting
+    → (is_turned_on_at s device now ≡ true → HasTurnedOn s hs new frontier device now) → after.phase ≡ acting
     → ((x y : ℕ) → x ≤ y → s.reading device x ≤ s.reading device y)
     → ((task : Task) → HasDoneTask after task → HadComeTo s device after (changed_at (hs
-    ++ new) device (now + 1)) now task ⊎ IsBefore (task_place s.network now device task) cursor)
-    → IsBefore (act_place now device) cursor → IsActedOut s hs now device cursor ⊎ IsJoiningNow s hs new device now
-    → IsKept stands s hs new cursor now device machine
-kept_over stands {hs} {new} {cursor} {now} {device} machine {after} is sound over ready cleared taken bare turned
+    ++ new) device (now + 1)) now task ⊎ IsBefore (task_place s.network now device task) frontier)
+    → IsBefore (act_place now device) frontier → IsActedOut s hs now device frontier ⊎ IsJoiningNow s hs new device now
+    → IsKept stands s hs new frontier now device machine
+kept_over stands {hs} {new} {frontier} {now} {device} machine {after} is sound over ready cleared taken bare turned
     phase falls worked past out = record {
       node = after;
       is = is;
       sound = sound;
       up = now + 1;
-      acted = inr (refl, λ p b. chain p (act_place now device) cursor (chain p (now ∷ 3 ∷ []) (act_place now device) b (inr (refl, inl (omega arith)))) past);
+      acted = inr (
+        refl,
+        λ p b. chain p (act_place now device) frontier (chain p (now ∷ 3 ∷ []) (act_place now device) b
+            (inr (refl, inl (omega arith)))) past,
+      );
       told = λ same. elim out [ inl all ↦ inl all | inr joining ↦ inr (inr joining) ];
       left = over.left;
       taken = taken;
-      worked = to_worked now cursor over.done over.sent worked (changed_soon (hs ++ new) device now) falls past;
+      worked = to_worked now frontier over.done over.sent worked (changed_soon (hs ++ new) device now) falls past;
       bare = bare;
       ready = ready;
       still = λ same. absurd (no_step now (sym same));
       turned = turned;
       cleared = cleared;
-      phase = λ at. acted_phase after device now cursor phase past;
+      phase = λ at. acted_phase after device now frontier phase past;
     }

@@ -1,7 +1,7 @@
 -- A device acts, and puts one record: how it stands then, as the frontier goes by.
 use Rattle.world_law.proofs.acts.Dues.{IsDueTask, act_due, done_or}
 use Rattle.world_law.proofs.growing.Growing.{IsCorrection, what_is_left}
-use Rattle.world_law.proofs.putting.{Moving.stays, Placing.own_here}
+use Rattle.world_law.proofs.{putting.Moving.stays, runs.Settled.own_here}
 use Rattle.{run_law.proofs.runs.Places.nothing_between, schedule_tables.specs.Dispatches.dispatch_order}
 use Rattle.world_law.proofs.steps_lemmas.Words.{◌++◌, ◌-ℤ◌, ◌∙◌, ◌∷◌, ◌≡◌, ◌≤ℤ◌, ◌≤◌, ◌⊎◌, Act, ArePutIn, DeviceId, HadComeTo, Happening}
 use Rattle.world_law.proofs.steps_lemmas.Words.{HasDoneTask, HasTurnedOn, IsActOf, IsActing, IsAllOfIt, IsBefore, IsIn, IsLawful, IsOwnSource}
@@ -156,7 +156,7 @@ pub act_goes_by : {C M : Type 0} {reading : C → ℕ → ℕ} {stands : M → N
     {device : DeviceId} {machine after : M} {machines : List M} {settled : List Happening} {act : Act}
     → IsOneAct reading stands s world notes old device machine after machines settled act
     → StandsBehind reading stands s (record world { early = false; machines = machines; settled = settled }) notes
-    (behind (world.now ∷ rank_of_act act ∷ act_rest s.network device act))
+    (world.now ∷ rank_of_act act ∷ act_rest s.network device act)
 act_goes_by {C} {M} {stands} {s} {world} {notes} {old} {device} {machine} {after} {act} x =
     let hs = happenings s.network notes in
     let now = world.now in

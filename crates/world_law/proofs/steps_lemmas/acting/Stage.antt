@@ -81,7 +81,7 @@ stage_of {C} {M} reading stands s world notes old device machine after act lt fi
     let hs = happenings s.network notes in
     let m = old.devices device lt in
     let same : m.0 ≡ machine = same_Some m.0 machine (sym m.1 ∙ there) in
-    held (subst (λ x. IsHeld stands s hs world.settled old.cursor world.now device x) same m.2)
+    held (subst (λ x. IsHeld stands s hs world.settled old.frontier world.now device x) same m.2)
   where
     late : (z : Happening) → IsIn z world.settled → 4 ≤ rank z.note.body
     late z i = let more = apart z i in let high = late_rank act in omega (arith, more, high)
@@ -94,7 +94,7 @@ stage_of {C} {M} reading stands s world notes old device machine after act lt fi
           | inr two ↦ let at = old.are.of_now h two in omega (arith, at)
         ]
 
-    held : IsHeld stands s (happenings s.network notes) world.settled old.cursor world.now device machine
+    held : IsHeld stands s (happenings s.network notes) world.settled old.frontier world.now device machine
         → (node : Node) × StandsHere reading stands s world notes (rank_of_act act) (act_rest s.network device act)
         × StageOf stands s (happenings s.network notes) world.settled world.now device machine node act
     held (inr out) = absurd (let task = due out.node out.is in no_task s.network device out.node task.0 out.shows task.1)
@@ -103,7 +103,7 @@ stage_of {C} {M} reading stands s world notes old device machine after act lt fi
         let now = world.now in
         let task : HasTaskBy s device k.node now = due k.node k.is in
         let past = are_past old in
-        let up = up_now stands s hs world.settled old.cursor now device machine k old.not_later task in
+        let up = up_now stands s hs world.settled old.frontier now device machine k old.not_later task in
         let may = may_act_now s device k.node now k.ready (old.steady device) old.limit in
         let did = acted k.node k.is may task in
         let law = lawful reading stands s world notes old device in
@@ -111,10 +111,10 @@ stage_of {C} {M} reading stands s world notes old device machine after act lt fi
         let place = act_stands s.network now device act in
         let at = now ∷ rank_of_act act ∷ act_rest s.network device act in
         let high = late_rank act in
-        let zero = kept_from_zero stands s hs world.settled old.cursor now device machine k law in
-        let waits : IsBefore at old.cursor → ⊥ = λ b.
+        let zero = kept_from_zero stands s hs world.settled old.frontier now device machine k law in
+        let waits : IsBefore at old.frontier → ⊥ = λ b.
         acts_wait k (task_of act) law old.not_later old.are.of_now upto late first_task.pending
-        first_task.due (subst (λ q. IsBefore q old.cursor) (sym place) b) in
+        first_task.due (subst (λ q. IsBefore q old.frontier) (sym place) b) in
         let next = act_next {device = device} {machine = machine} act first apart (record {
           kept = k;
           up = up.0;
@@ -154,8 +154,9 @@ stage_of {C} {M} reading stands s world notes old device machine after act lt fi
             reach = reaches_acts s.network now device act;
             given = old.run.founded;
             before = c.run.within;
-            work = at_work stands s hs world.settled old.cursor now device machine k old.not_later old.are.of_now upto late up.0;
-            worked = λ other has. elim (before_or_not (task_place s.network now device other) old.cursor) [
+            work = at_work stands s hs world.settled old.frontier now device machine k old.not_later old.are.of_now
+                upto late up.0;
+            worked = λ other has. elim (before_or_not (task_place s.network now device other) old.frontier) [
               | inl gone ↦ inr (up_on old (rank_of_act act) (act_rest s.network device act) next
                   (task_place s.network now device other) gone)
               | inr not ↦ inl (subst (λ n. HadComeTo s device k.node (changed_at (hs ++ world.settled) device n) now other) up.0
@@ -165,7 +166,7 @@ stage_of {C} {M} reading stands s world notes old device machine after act lt fi
             calm = record {
               falls = (old.steady device).never_falls;
               off = not_on_after (now + 1) device old.befallen (omega arith);
-              broken = no_later_breaks s old.mark now (now + 1) device old.befallen (omega arith);
+              broken = no_later_breaks s old.frontier now (now + 1) device old.befallen (omega arith);
               turned = λ on. let was = k.turned on in was.turned (old.untold.done c.told was.number was.event was.befell);
             };
             steady = old.steady device;
@@ -317,7 +318,7 @@ pub one_goes_by : {C M : Type 0} {reading : C → ℕ → ℕ} {stands : M → N
     (p.front ++ record_of s.network (happenings s.network notes) p.front world.now body ∷ p.back)
     (behind (world.now ∷ r ∷ more)) world.now device after
     → StandsBehind reading stands s (record world { early = false; machines = machines; settled = settled }) notes
-    (behind (world.now ∷ r ∷ more))
+    (world.now ∷ r ∷ more)
 one_goes_by {C} {M} {reading} {stands} {s} {world} {notes} {device} {machine} {after} {node} {machines} {settled} {body} {r} {more} c st p room a all set kept =
     let hs = happenings s.network notes in
     let now = world.now in
@@ -330,7 +331,8 @@ one_goes_by {C} {M} {reading} {stands} {s} {world} {notes} {device} {machine} {a
     let one = one_act stands s hs front back now device machine node st2 p.before p.none a in
     let long = put_length front back w in
     let same_long : length world.settled ≡ length (front ++ back) = ap length p.parts in
-    subst (λ (l : List Happening). StandsBehind reading stands s (record world { early = false; machines = machines; settled = l }) notes (behind here))
+    subst (λ (l : List Happening). StandsBehind reading stands s
+    (record world { early = false; machines = machines; settled = l }) notes here)
     (sym p.shows)
     (acts_on c st.late st.low (omega (arith, long, same_long, room)) (one_by one a.lone all)
     (known_aside hs front back w (λ other le. no_row_of s device other body st.of_it a.apart le)

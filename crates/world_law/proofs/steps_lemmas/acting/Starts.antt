@@ -16,11 +16,11 @@ changed_soon hs device now =
     (λ h i. let lt = in_earlier (now + 1) hs h (in_filter _ (earlier (now + 1) hs) h i) in omega (arith, lt))
 
 module _ {M : Type 0} (stands : M → Network → DeviceId → Node → Type 0) (s : Scenario) (hs coming : List Happening)
-    (cursor : List ℕ) (now : ℕ) (device : DeviceId) (machine : M) where
+    (frontier : List ℕ) (now : ℕ) (device : DeviceId) (machine : M) where
   -- how a device stands that is kept, and has something due, is not that its instant is over
-  pub up_now : (k : IsKept stands s hs coming cursor now device machine)
-      → ((p : List ℕ) → IsBefore p cursor → IsBefore p ((now + 1) ∷ [])) → HasTaskBy s device k.node now
-      → (k.up ≡ now) × ((task : Task) → IsBefore (task_place s.network now device task) cursor
+  pub up_now : (k : IsKept stands s hs coming frontier now device machine)
+      → ((p : List ℕ) → IsBefore p frontier → IsBefore p ((now + 1) ∷ [])) → HasTaskBy s device k.node now
+      → (k.up ≡ now) × ((task : Task) → IsBefore (task_place s.network now device task) frontier
       → IsActing s hs now device task → HasDoneTask k.node task)
   up_now k later due = elim k.acted [
     | inl yet ↦ yet
@@ -36,8 +36,8 @@ module _ {M : Type 0} (stands : M → Network → DeviceId → Node → Type 0) 
 
   -- ---- it is at work
 
-  pub at_work : (k : IsKept stands s hs coming cursor now device machine)
-      → ((p : List ℕ) → IsBefore p cursor → IsBefore p ((now + 1) ∷ []))
+  pub at_work : (k : IsKept stands s hs coming frontier now device machine)
+      → ((p : List ℕ) → IsBefore p frontier → IsBefore p ((now + 1) ∷ []))
       → ((z : Happening) → IsIn z coming → time_of z ≡ now)
       → ((h : Happening) → IsIn h (hs ++ coming) → time_of h ≤ now)
       → ((z : Happening) → IsIn z coming → 4 ≤ rank z.note.body) → k.up ≡ now → IsAtWork s hs coming now device k.node
@@ -95,16 +95,16 @@ undone_task network device node (doing deed) p did = p.1.not_yet did
 
 -- so a task that is due is not worked off
 pub acts_wait : {M : Type 0} {stands : M → Network → DeviceId → Node → Type 0} {s : Scenario}
-    {hs coming : List Happening} {cursor : List ℕ} {now : ℕ} {device : DeviceId} {machine : M}
-    (k : IsKept stands s hs coming cursor now device machine) (task : Task) → IsLawful s (hs ++ coming) device
-    → ((p : List ℕ) → IsBefore p cursor → IsBefore p ((now + 1) ∷ []))
+    {hs coming : List Happening} {frontier : List ℕ} {now : ℕ} {device : DeviceId} {machine : M}
+    (k : IsKept stands s hs coming frontier now device machine) (task : Task) → IsLawful s (hs ++ coming) device
+    → ((p : List ℕ) → IsBefore p frontier → IsBefore p ((now + 1) ∷ []))
     → ((z : Happening) → IsIn z coming → time_of z ≡ now)
     → ((h : Happening) → IsIn h (hs ++ coming) → time_of h ≤ now)
     → ((z : Happening) → IsIn z coming → 4 ≤ rank z.note.body) → IsPending s.network device k.node task
     → reading_for s.network k.node task ≤ℤ pos (s.reading device now)
-    → IsBefore (task_place s.network now device task) cursor → ⊥
-acts_wait {stands} {s} {hs} {coming} {cursor} {now} {device} {machine} k task law later of past late pending due b =
-    let up = up_now stands s hs coming cursor now device machine k later (task, pending, due) in
+    → IsBefore (task_place s.network now device task) frontier → ⊥
+acts_wait {stands} {s} {hs} {coming} {frontier} {now} {device} {machine} k task law later of past late pending due b =
+    let up = up_now stands s hs coming frontier now device machine k later (task, pending, due) in
     undone_task s.network device k.node task pending
-    (up.1 task b (task_acts task law k.taken (at_work stands s hs coming cursor now device machine k later of past
+    (up.1 task b (task_acts task law k.taken (at_work stands s hs coming frontier now device machine k later of past
     late up.0) pending due))

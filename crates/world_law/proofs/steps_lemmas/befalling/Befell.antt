@@ -12,7 +12,7 @@ use Rattle.world_law.proofs.steps_lemmas.befalling.{Devices.{AreToldOf, held_tol
 use Rattle.world_law.proofs.steps_lemmas.{befalling.UnderWay.{IsTelling, goes_on, ports_told, waiting_told, wires_told}, steps.Applied.no_coming}
 use Rattle.world_law.proofs.{runs.Applies.{event_cause, event_place}, steps_lemmas.Words.{time_of, true}, steps_lemmas.befalling.Calm.{calm_joins, is_calm}}
 use Rattle.world_law.specs.world.World.{IsDueAs, IsWorkedOff}
-use Rattle.world_law.proofs.steps_lemmas.{Words.{StandsBehind, World, never_self}, turns.Turns.raised_to}
+use Rattle.world_law.proofs.{runs.Over.{StandsOver, stand_of}, steps_lemmas.Words.{World, never_self}}
 use Rattle.world_law.{proofs.steps_lemmas.steps.AppliedParts.{before_others, own_event}, specs.steps.Befalling.{BefellStep, befell_bodies}}
 use Rattle.net_plan.specs.declared.event.What.TheVariants as events
 use Rattle.run_law.specs.declared.judgement.Why.TheVariants as whys
@@ -21,12 +21,12 @@ use Rattle.run_law.specs.declared.note.NoteBody.TheVariants as notes
 -- The outcomes of the events of an instant are all that is due by them.
 
 -- what the step starts from, and the records that are settled
-pub record IsSettling (s : Scenario) (hs : List Happening) (mark cursor : List ℕ) (now : ℕ) (befell : List Befell) (settled : List Happening) : Type 0 where
-  pub telling : IsTelling hs cursor now befell
-  pub befallen : HaveBefallen s mark now
-  pub run : IsRun place_of (IsDue s) mark hs
-  pub of_now : (p : List ℕ) → IsBefore p (now ∷ []) → IsBefore p mark
-  pub ahead : (p : List ℕ) → IsBefore p mark → IsBefore p cursor
+pub record IsSettling (s : Scenario) (hs : List Happening) (frontier : List ℕ) (now : ℕ) (befell : List Befell)
+    (settled : List Happening) : Type 0 where
+  pub telling : IsTelling hs frontier now befell
+  pub befallen : HaveBefallen s frontier now
+  pub run : IsRun place_of (IsDue s) frontier hs
+  pub of_now : (p : List ℕ) → IsBefore p (now ∷ []) → IsBefore p frontier
   pub filled : IsFilled s hs now settled
   pub there : (number line : ℕ) (what : What) (h : Happening) → IsOfThisTime hs now number h → h.note.body ≡ notes.Event line what → (b : NoteBody)
       → IsIn b (bodies_of s now number what) → IsIn (settled_as s.network hs now b) settled
@@ -114,8 +114,8 @@ event_joins device (notes.Event line what) is = refl
 event_joins device other is = absurd is
 
 -- a record of the instant among those given and such outcomes is that of an event, or such an outcome
-of_instant : {hs : List Happening} (front : List Happening) {cursor : List ℕ} {now n : ℕ} {befell : List Befell}
-    {h : Happening} → IsTelling hs cursor now befell → ((z : Happening) → IsIn z front → is_calm z.note.body ≡ true)
+of_instant : {hs : List Happening} (front : List Happening) {frontier : List ℕ} {now n : ℕ} {befell : List Befell}
+    {h : Happening} → IsTelling hs frontier now befell → ((z : Happening) → IsIn z front → is_calm z.note.body ≡ true)
     → IsOfThisTime (hs ++ front) now n h → (IsOfThisTime hs now n h × IsEventBody h.note.body)
     ⊎ (is_calm h.note.body ≡ true)
 of_instant front m calm it = grind (arith, numbered_parts, numbered_in)
@@ -124,9 +124,9 @@ of_instant front m calm it = grind (arith, numbered_parts, numbered_in)
 abbrev pub StandsThere : Scenario → List Happening → ℕ → List Happening → List ℕ → Type 0
 StandsThere s hs now settled p = (b : NoteBody) × IsIn (settled_as s.network hs now b) settled × (place_of (settled_as s.network hs now b) ≡ p)
 
-module _ (s : Scenario) (hs front : List Happening) (mark cursor : List ℕ) (now : ℕ) (befell : List Befell)
+module _ (s : Scenario) (hs front : List Happening) (frontier : List ℕ) (now : ℕ) (befell : List Befell)
     (settled : List Happening) (time : Units) where
-  came : (members : ℕ) (body : NoteBody) → IsSettling s hs mark cursor now befell settled
+  came : (members : ℕ) (body : NoteBody) → IsSettling s hs frontier now befell settled
       → ((z : Happening) → IsIn z front → is_calm z.note.body ≡ true) → amount time ≡ now
       → IsOwnSource s (hs ++ front) (amount time) members body (amount time ∷ 2 ∷ [])
       → IsCaused s (hs ++ front) time body → StandsThere s hs now settled (amount time ∷ rank body ∷ key members body)
@@ -187,8 +187,9 @@ module _ (s : Scenario) (hs front : List Happening) (mark cursor : List ℕ) (no
 
 -- ---- a record that is due by a source up to there
 
-event_past : {s : Scenario} (js : List Happening) {mark : List ℕ} {now : ℕ} (y : Happening) → HaveBefallen s mark now
-    → IsEventBody y.note.body → IsCaused s js y.note.time y.note.body → IsBefore (place_of y) mark
+event_past : {s : Scenario} (js : List Happening) {frontier : List ℕ} {now : ℕ} (y : Happening)
+    → HaveBefallen s frontier now
+    → IsEventBody y.note.body → IsCaused s js y.note.time y.note.body → IsBefore (place_of y) frontier
 event_past js y befallen is caused = grind (arith, event_cause, event_place, amount)
 
 only_none : (ws : List ℕ) → IsBefore ws (0 ∷ []) → ws ≡ []
@@ -196,34 +197,34 @@ only_none [] b = refl
 only_none (x ∷ ws) (inl lt) = absurd (omega (arith, lt))
 only_none (x ∷ ws) (inr (e, none)) = absurd none
 
-due_there : {s : Scenario} {hs : List Happening} (front : List Happening) {mark cursor : List ℕ} {now : ℕ}
+due_there : {s : Scenario} {hs : List Happening} (front : List Happening) {frontier : List ℕ} {now : ℕ}
     {befell : List Befell} {settled : List Happening} {y : Happening} (k : ℕ) (ws : List ℕ)
-    → IsSettling s hs mark cursor now befell settled → ((z : Happening) → IsIn z front → is_calm z.note.body ≡ true)
-    → (IsBefore (place_of y) mark → ⊥) → IsDueAs s (hs ++ front) y
+    → IsSettling s hs frontier now befell settled → ((z : Happening) → IsIn z front → is_calm z.note.body ≡ true)
+    → (IsBefore (place_of y) frontier → ⊥) → IsDueAs s (hs ++ front) y
     → IsOwnSource s (hs ++ front) (time_of y) (members_in y) y.note.body (time_of y ∷ k ∷ ws)
     → IsBefore (time_of y ∷ k ∷ ws) (behind (now ∷ 2 ∷ [])) → StandsThere s hs now settled (place_of y)
 due_there front {y} k ws m calm not due own (inl lt) = absurd (not (m.of_now (place_of y) (inl lt)))
 due_there {s} {hs} front {y} k ws m calm not due own (inr (at, inl few)) =
     absurd (not (event_past (hs ++ front) y m.befallen
     (own_event s (hs ++ front) (time_of y) (members_in y) y.note.body k ws own few) due.cause))
-due_there {s} {hs} front {mark} {cursor} {now} {befell} {settled} {y} k ws m calm not due own (inr (at, inr (two, b))) =
-    came s hs front mark cursor now befell settled y.note.time (members_in y) y.note.body m calm at
+due_there {s} {hs} front {frontier} {now} {befell} {settled} {y} k ws m calm not due own (inr (at, inr (two, b))) =
+    came s hs front frontier now befell settled y.note.time (members_in y) y.note.body m calm at
     (subst (λ (l : List ℕ). IsOwnSource s (hs ++ front) (time_of y) (members_in y) y.note.body (time_of y ∷ 2 ∷ l)) (only_none ws b)
     (subst (λ (n : ℕ). IsOwnSource s (hs ++ front) (time_of y) (members_in y) y.note.body (time_of y ∷ n ∷ ws)) two own)) due.cause
 
 -- ---- so they are settled
 
-pub settled_told : {s : Scenario} {hs : List Happening} {mark cursor : List ℕ} {now : ℕ} {befell : List Befell}
-    {settled : List Happening} → IsSettling s hs mark cursor now befell settled
-    → AreSettled s hs settled mark (behind (now ∷ 2 ∷ [])) now
+pub settled_told : {s : Scenario} {hs : List Happening} {frontier : List ℕ} {now : ℕ} {befell : List Befell}
+    {settled : List Happening} → IsSettling s hs frontier now befell settled
+    → AreSettled s hs settled frontier (behind (now ∷ 2 ∷ [])) now
 settled_told {s} {hs} {now} m =
     let one = m.filled.each in
     record {
       of_now = λ z i. ap time_of (one z i).is;
-      behind_mark = λ z i b.
+      after = λ z i b.
           let at = late_place s hs now (one z i) in
           not_under now at.0 at.1 at.3
-          (subst (λ p. IsBefore p (now ∷ 2 ∷ [])) at.2 (m.telling.untold.early refl (place_of z) (m.ahead (place_of z) b)));
+          (subst (λ p. IsBefore p (now ∷ 2 ∷ [])) at.2 (m.telling.untold.early refl (place_of z) b));
       founded = λ front rest z e.
           let it = one z (subst (λ l. IsIn z l) (sym e) (in_here front rest z)) in
           (m.filled.sorted front rest z e, subst (λ x. IsDueAs s (hs ++ front) x) (sym it.is) (due_one s hs front now it.out));
@@ -262,12 +263,13 @@ has_out s now number (events.Send link octets) b i = refl
 has_out s now number other b i = absurd i
 
 -- a sound device that is turned on has its record
-turned_there : {s : Scenario} {hs : List Happening} {mark cursor : List ℕ} {now : ℕ} {befell : List Befell}
-    {settled : List Happening} (device : DeviceId) → IsSettling s hs mark cursor now befell settled
+turned_there : {s : Scenario} {hs : List Happening} {frontier : List ℕ} {now : ℕ} {befell : List Befell}
+    {settled : List Happening} (device : DeviceId) → IsSettling s hs frontier now befell settled
     → is_turned_on_at s device now ≡ true → is_broken s device now ≡ false → IsTurnedOnBy settled device now
-turned_there {s} {hs} {mark} {now} device m on sound =
+turned_there {s} {hs} {frontier} {now} device m on sound =
     let it = on_by_event s device now on in
-    let h = recorded s mark hs it.0 it.1 m.run it.2 (m.befallen.begun it.0 it.1 it.2) (m.befallen.told it.0 it.1 it.2) in
+    let h = recorded s frontier hs it.0 it.1 m.run it.2 (m.befallen.begun it.0 it.1 it.2)
+    (m.befallen.told it.0 it.1 it.2) in
     let body = notes.State device Integrating h.0 whys.On in
     let here : IsIn body (bodies_of s now h.0 (events.On device)) = subst (λ (x : Bool). IsIn body (if x then [] else body ∷ []))
     (sym sound) (inl refl) in
@@ -285,28 +287,28 @@ befell_step {C} {M} reading stands s world notes wires settled old open_ room pu
     let hs = happenings s.network notes in
     let now = world.now in
     let here = now ∷ 2 ∷ [] in
-    let untold : AreUntold hs old.cursor now true world.befell = subst (λ b. AreUntold hs old.cursor now b world.befell) open_ old.untold in
+    let untold : AreUntold hs old.frontier now true world.befell = subst
+    (λ b. AreUntold hs old.frontier now b world.befell) open_ old.untold in
     let early = untold.early refl in
-    let empty = no_coming hs world.settled s old.mark old.cursor now old.are early in
-    let m : IsTelling hs old.cursor now world.befell = grind (arith, untold, before_others, now, early, place_of) in
+    let empty = no_coming hs world.settled s old.frontier now old.are early in
+    let m : IsTelling hs old.frontier now world.befell = grind (arith, untold, before_others, now, early, place_of) in
     let bodies = befell_bodies s now world.befell in
     let each = all_bodies s hs now world.befell untold.real in
     let filled : IsFilled s hs now settled = filled_all s hs now bodies {old = []} settled
     (record { each = λ z i. absurd i; sorted = λ front rest z e. absurd (no_part front rest z e) })
     (λ b i. (each b i).0) (all_rising s hs now world.befell untold.real untold.in_order) (λ z b i j. absurd i) put_in in
-    let settling : IsSettling s hs old.mark old.cursor now world.befell settled = record {
+    let settling : IsSettling s hs old.frontier now world.befell settled = record {
       telling = m;
       befallen = old.befallen;
       run = old.run;
       of_now = old.of_now;
-      ahead = old.ahead;
       filled = filled;
       there = λ number line what h it is b i. all_new s hs now bodies [] settled put_in b
           (in_flat (λ (e : Befell). bodies_of s now e.number e.what) world.befell (record { number = number; what = what }) b
           (untold.all refl number line what h it is (has_out s now number what b i)) i);
     } in
     let are = settled_told settling in
-    let told : AreToldOf s hs settled old.cursor now world.befell = record {
+    let told : AreToldOf s hs settled old.frontier now world.befell = record {
       telling = m;
       founded = old.run.founded;
       at = are.of_now;
@@ -324,58 +326,57 @@ befell_step {C} {M} reading stands s world notes wires settled old open_ room pu
       befell = [];
       settled = settled;
     } in
-    let behind_it : StandsBehind reading stands s then_ notes (behind here) = (
-      record {
-        same = old.same;
-        range = old.range;
-        rules = old.rules;
-        forward = old.forward;
-        steady = old.steady;
-        precise = old.precise;
-        mark = old.mark;
-        cursor = behind here;
-        run = old.run;
-        ahead = λ p b. on p (old.ahead p b);
-        of_now = old.of_now;
-        not_later = λ p b. before_next_time p now (2 ∷ 0 ∷ []) b;
-        limit = old.limit;
-        lines = old.lines;
-        given = old.given;
-        ended = old.ended;
-        befallen = old.befallen;
-        clocks = old.clocks;
-        broken = old.broken;
-        ways = old.ways;
-        room = omega (arith, room, few, put_count, none_long);
-        known = known_told told (subst (λ (l : List Happening). AreOfNetwork s (hs ++ l)) empty old.known);
-        devices = λ device lt.
-            let k = old.devices device lt in (
-              k.0,
-              k.1,
-              held_told stands s hs settled old.cursor now world.befell device k.0 told
-                  (subst (λ l. IsHeld stands s hs l old.cursor now device k.0) empty k.2),
-            );
-        early = λ fresh. absurd (let bad : false ≡ true = fresh in cc);
-        untold = record {
-          done = λ same number h it. before_behind here;
-          none = λ same. refl;
-          waits = λ bad. absurd (let b : false ≡ true = bad in cc);
-          early = λ bad. absurd (let b : false ≡ true = bad in cc);
-          real = λ e i. absurd i;
-          all = λ bad. absurd (let b : false ≡ true = bad in cc);
-          in_order = tt;
-        };
-        wires = wires_told s hs old.cursor now world.befell wires m old.forward
-            (subst (λ b. AreOnWires s hs old.cursor now b world.wires) open_ old.wires) put_by;
-        ports = ports_told s hs old.cursor now world.befell m old.ports;
-        waiting = waiting_told s hs old.cursor now world.befell m old.waiting;
-        stored = old.stored;
-        are = are;
-        shown = λ device lt ended. (λ b. absurd (no_clock now device b), λ less. on (clock_place now device) ((old.shown device lt ended).1 less));
-      },
-      refl,
-    ) in
-    raised_to behind_it (λ z i b. not_yet s hs now (filled.each z i) b)
+    let told_all : StandsOver reading stands s then_ notes old.frontier (behind here) = record {
+      same = old.same;
+      range = old.range;
+      rules = old.rules;
+      forward = old.forward;
+      steady = old.steady;
+      precise = old.precise;
+      run = old.run;
+      on = on;
+      of_now = old.of_now;
+      not_later = λ p b. before_next_time p now (2 ∷ 0 ∷ []) b;
+      limit = old.limit;
+      lines = old.lines;
+      given = old.given;
+      ended = old.ended;
+      befallen = old.befallen;
+      clocks = old.clocks;
+      broken = old.broken;
+      ways = old.ways;
+      room = omega (arith, room, few, put_count, none_long);
+      known = known_told told (subst (λ (l : List Happening). AreOfNetwork s (hs ++ l)) empty old.known);
+      devices = λ device lt.
+          let k = old.devices device lt in (
+            k.0,
+            k.1,
+            held_told stands s hs settled old.frontier now world.befell device k.0 told
+                (subst (λ l. IsHeld stands s hs l old.frontier now device k.0) empty k.2),
+          );
+      early = λ fresh. absurd (let bad : false ≡ true = fresh in cc);
+      untold = record {
+        done = λ same number h it. before_behind here;
+        none = λ same. refl;
+        waits = λ bad. absurd (let b : false ≡ true = bad in cc);
+        early = λ bad. absurd (let b : false ≡ true = bad in cc);
+        real = λ e i. absurd i;
+        all = λ bad. absurd (let b : false ≡ true = bad in cc);
+        in_order = tt;
+      };
+      wires = wires_told s hs old.frontier now world.befell wires m old.forward
+          (subst (λ b. AreOnWires s hs old.frontier now b world.wires) open_ old.wires) put_by;
+      ports = ports_told s hs old.frontier now world.befell m old.ports;
+      waiting = waiting_told s hs old.frontier now world.befell m old.waiting;
+      stored = old.stored;
+      are = are;
+      shown = λ device lt ended. (
+        λ b. absurd (no_clock now device b),
+        λ less. on (clock_place now device)
+            ((old.shown device lt ended).1 less),
+      );
+    } in
+    stand_of told_all (λ z i b. not_yet s hs now (filled.each z i) b)
   where
     no_part : (front rest : List Happening) (z : Happening) → [] ≡ front ++ z ∷ rest → ⊥
     no_part [] rest z e = cc

@@ -34,8 +34,9 @@ pub taken_calm : (s : Scenario) (hs zs : List Happening) (device : DeviceId) (no
 taken_calm s hs zs device now past late calm = grind (arith, flat_calm, taken_in, local_before, time_of, adjustment_after, earlier_still, calm_takes)
 
 -- what is to come, and where a sound device is turned on, its record
-pub record AreToldOf (s : Scenario) (hs coming : List Happening) (cursor : List ℕ) (now : ℕ) (befell : List Befell) : Type 0 where
-  pub telling : IsTelling hs cursor now befell
+pub record AreToldOf (s : Scenario) (hs coming : List Happening) (frontier : List ℕ) (now : ℕ)
+    (befell : List Befell) : Type 0 where
+  pub telling : IsTelling hs frontier now befell
   pub founded : IsFounded place_of (IsDue s) hs
   pub at : (z : Happening) → IsIn z coming → time_of z ≡ now
   pub out : (z : Happening) → IsIn z coming → IsOutcome s hs now z.note.body
@@ -82,8 +83,8 @@ module _ (s : Scenario) (hs : List Happening) (now : ℕ) (device : DeviceId) wh
             ∙ on_so s line d founded it is in cc)
       ]
 
-pub known_told : {s : Scenario} {hs coming : List Happening} {cursor : List ℕ} {now : ℕ} {befell : List Befell}
-    → AreToldOf s hs coming cursor now befell → AreOfNetwork s (hs ++ []) → AreOfNetwork s (hs ++ coming)
+pub known_told : {s : Scenario} {hs coming : List Happening} {frontier : List ℕ} {now : ℕ} {befell : List Befell}
+    → AreToldOf s hs coming frontier now befell → AreOfNetwork s (hs ++ []) → AreOfNetwork s (hs ++ coming)
 known_told {s} {hs} {coming} {now} m known = record {
   unmoved = λ device le h i. elim (in_parts h hs coming i) [
     | inl old ↦ known.unmoved device le h (subst (λ l. IsIn h l) (sym (append-nil hs)) old)
@@ -99,17 +100,17 @@ not_past_acts now device (inl lt) = omega (arith, lt)
 not_past_acts now device (inr (e, inl lt)) = omega (arith, lt)
 not_past_acts now device (inr (e, inr (two, b))) = omega (arith, two)
 
-module _ {hs : List Happening} {cursor : List ℕ} {now : ℕ} {befell : List Befell}
-    (m : IsTelling hs cursor now befell) where
-  early_not : IsBefore (now ∷ 2 ∷ []) cursor → ⊥
+module _ {hs : List Happening} {frontier : List ℕ} {now : ℕ} {befell : List Befell}
+    (m : IsTelling hs frontier now befell) where
+  early_not : IsBefore (now ∷ 2 ∷ []) frontier → ⊥
   early_not b = never_self (now ∷ 2 ∷ []) (m.untold.early refl (now ∷ 2 ∷ []) b)
 
   past_told : (h : Happening) → IsIn h hs → time_of h ≤ now
   past_told h i = elim (m.sooner h i) [ inl lt ↦ omega (arith, lt) | inr it ↦ let at = it.0 in omega (arith, at) ]
 
 module _ {M : Type 0} (stands : M → Network → DeviceId → Node → Type 0) (s : Scenario) (hs coming : List Happening)
-    (cursor : List ℕ) (now : ℕ) (befell : List Befell) (device : DeviceId) (machine : M) where
-  kept_told : AreToldOf s hs coming cursor now befell → IsKept stands s hs [] cursor now device machine
+    (frontier : List ℕ) (now : ℕ) (befell : List Befell) (device : DeviceId) (machine : M) where
+  kept_told : AreToldOf s hs coming frontier now befell → IsKept stands s hs [] frontier now device machine
       → IsKept stands s hs coming (behind (now ∷ 2 ∷ [])) now device machine
   kept_told m k =
       let on = goes_on m.telling in
@@ -170,7 +171,7 @@ module _ {M : Type 0} (stands : M → Network → DeviceId → Node → Type 0) 
 
   -- ---- and each
 
-  pub held_told : AreToldOf s hs coming cursor now befell → IsHeld stands s hs [] cursor now device machine
+  pub held_told : AreToldOf s hs coming frontier now befell → IsHeld stands s hs [] frontier now device machine
       → IsHeld stands s hs coming (behind (now ∷ 2 ∷ [])) now device machine
   held_told m (inl k) = inl (kept_told m k)
   held_told m (inr k) =

@@ -42,11 +42,11 @@ pub on_by_event : (s : Scenario) (device : DeviceId) (now : ℕ) → is_turned_o
     × (e.what ≡ events.On device) × (amount e.time ≡ now)
 on_by_event s device now on = grind (arith, any_from, turns_on, amount, and_parts, on_by, eqb-true)
 
--- an event before the mark has its record
-pub recorded : (s : Scenario) (mark : List ℕ) (hs : List Happening) (i : ℕ) (e : Event) → IsRun place_of (IsDue s) mark hs → slice_get s.events i ≡ Some e
-    → pos 0 ≤ℤ e.time.0 → IsBefore (amount e.time ∷ 1 ∷ (i + 1) ∷ []) mark → (n : ℕ) × (h : Happening) × (numbered hs n ≡ Some h) × (h.note.time ≡ e.time)
+-- an event before the frontier has its record
+pub recorded : (s : Scenario) (frontier : List ℕ) (hs : List Happening) (i : ℕ) (e : Event) → IsRun place_of (IsDue s) frontier hs → slice_get s.events i ≡ Some e
+    → pos 0 ≤ℤ e.time.0 → IsBefore (amount e.time ∷ 1 ∷ (i + 1) ∷ []) frontier → (n : ℕ) × (h : Happening) × (numbered hs n ≡ Some h) × (h.note.time ≡ e.time)
     × (h.note.body ≡ notes.Event (i + 1) e.what)
-recorded s mark hs i e run get begun told =
+recorded s frontier hs i e run get begun told =
     let p = amount e.time ∷ 1 ∷ (i + 1) ∷ [] in
     let at = split place_of (IsDue s) hs p run.founded in
     let note : Note = record { number = length at.front + 1; time = e.time; body = notes.Event (i + 1) e.what } in
@@ -57,5 +57,5 @@ recorded s mark hs i e run get begun told =
       begun = begun;
       cause = record { event = e; before = i; line_is = refl; is = get; at = refl; same = refl };
     } in
-    let there = due_is_there {s = s} {mark = mark} {x = x} at run due told in
+    let there = due_is_there {s = s} {mark = frontier} {x = x} at run due told in
     (x.note.number, x, by_number s hs x run.founded there, refl, refl)

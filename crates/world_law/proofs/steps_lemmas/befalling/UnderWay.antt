@@ -8,14 +8,14 @@ use Rattle.net_plan.specs.declared.event.What.TheVariants as events
 use Rattle.run_law.specs.declared.note.NoteBody.TheVariants as notes
 
 -- where the events of the instant are to be told: nothing else of it is worked off, and what is before it is
-pub record IsTelling (hs : List Happening) (cursor : List ℕ) (now : ℕ) (befell : List Befell) : Type 0 where
-  pub untold : AreUntold hs cursor now true befell
-  pub over : (p : List ℕ) → IsBefore p (now ∷ []) → IsBefore p cursor
+pub record IsTelling (hs : List Happening) (frontier : List ℕ) (now : ℕ) (befell : List Befell) : Type 0 where
+  pub untold : AreUntold hs frontier now true befell
+  pub over : (p : List ℕ) → IsBefore p (now ∷ []) → IsBefore p frontier
   pub sooner : (h : Happening) → IsIn h hs → (time_of h < now) ⊎ ((time_of h ≡ now) × IsEventBody h.note.body)
 
--- the cursor goes on
-pub goes_on : {hs : List Happening} {cursor : List ℕ} {now : ℕ} {befell : List Befell}
-    → IsTelling hs cursor now befell → (p : List ℕ) → IsBefore p cursor → IsBefore p (behind (now ∷ 2 ∷ []))
+-- the frontier goes on
+pub goes_on : {hs : List Happening} {frontier : List ℕ} {now : ℕ} {befell : List Befell}
+    → IsTelling hs frontier now befell → (p : List ℕ) → IsBefore p frontier → IsBefore p (behind (now ∷ 2 ∷ []))
 goes_on {now} m p b =
     chain p (now ∷ 2 ∷ []) (behind (now ∷ 2 ∷ [])) (m.untold.early refl p b) (before_behind (now ∷ 2 ∷ []))
 
@@ -26,9 +26,9 @@ earlier_only t k w now ws high (inr (e, inl few)) = absurd (omega (arith, high, 
 earlier_only t k w now ws high (inr (e, inr (r, inl less))) = absurd (omega (arith, less))
 earlier_only t k w now ws high (inr (e, inr (r, inr (z, none)))) = absurd none
 
-pub not_gone_by : {hs : List Happening} {cursor : List ℕ} {now : ℕ} {befell : List Befell} (t k w : ℕ) (ws : List ℕ)
-    → IsTelling hs cursor now befell → 2 ≤ k → IsBefore (t ∷ k ∷ w ∷ ws) (behind (now ∷ 2 ∷ []))
-    → IsBefore (t ∷ k ∷ w ∷ ws) cursor
+pub not_gone_by : {hs : List Happening} {frontier : List ℕ} {now : ℕ} {befell : List Befell} (t k w : ℕ) (ws : List ℕ)
+    → IsTelling hs frontier now befell → 2 ≤ k → IsBefore (t ∷ k ∷ w ∷ ws) (behind (now ∷ 2 ∷ []))
+    → IsBefore (t ∷ k ∷ w ∷ ws) frontier
 not_gone_by {now} t k w ws m high b = m.over (t ∷ k ∷ w ∷ ws) (inl (earlier_only t k w now ws high b))
 
 -- ---- wires
@@ -82,9 +82,9 @@ put_all {s} hs (y ∷ befell) old new (mid, g, at, first, later) x
 put_all hs (y ∷ befell) old new (mid, g, at, first, later) x (inr i) there arrives =
     put_all hs befell mid new later x i there arrives
 
-module _ (s : Scenario) (hs : List Happening) (cursor : List ℕ) (now : ℕ) (befell : List Befell) where
-  pub wires_told : {wires : List OnWire} (new : List OnWire) → IsTelling hs cursor now befell → IsForward s
-      → AreOnWires s hs cursor now true wires → ArePutBy s hs befell wires new
+module _ (s : Scenario) (hs : List Happening) (frontier : List ℕ) (now : ℕ) (befell : List Befell) where
+  pub wires_told : {wires : List OnWire} (new : List OnWire) → IsTelling hs frontier now befell → IsForward s
+      → AreOnWires s hs frontier now true wires → ArePutBy s hs befell wires new
       → AreOnWires s hs (behind (now ∷ 2 ∷ [])) now false new
   wires_told {wires} new m forward are put = record {
     real = λ e i. elim (put_real s hs befell wires new put e i) [
@@ -126,7 +126,7 @@ module _ (s : Scenario) (hs : List Happening) (cursor : List ℕ) (now : ℕ) (b
 
   -- ---- ports, and what waits
 
-  pub ports_told : {ports : List AtPort} → IsTelling hs cursor now befell → AreAtPorts s hs cursor ports
+  pub ports_told : {ports : List AtPort} → IsTelling hs frontier now befell → AreAtPorts s hs frontier ports
       → AreAtPorts s hs (behind (now ∷ 2 ∷ [])) ports
   ports_told m are = record {
     real = λ e i.
@@ -135,7 +135,7 @@ module _ (s : Scenario) (hs : List Happening) (cursor : List ℕ) (now : ℕ) (b
     all = λ t device link cause d not. are.all t device link cause d (λ b. not (goes_on m _ b));
   }
 
-  pub waiting_told : {waiting : List Waiting} → IsTelling hs cursor now befell → AreWaiting s hs cursor now waiting
+  pub waiting_told : {waiting : List Waiting} → IsTelling hs frontier now befell → AreWaiting s hs frontier now waiting
       → AreWaiting s hs (behind (now ∷ 2 ∷ [])) now waiting
   waiting_told m are = record {
     real = are.real;

@@ -53,8 +53,10 @@ points_from_zero s hs device range founded =
     (λ h i. by_record s hs device h range founded (in_drop _ hs h i) h.note.body refl))
 
 -- and those of a node that a world keeps
-pub kept_from_zero : {M : Type 0} (stands : M → Network → DeviceId → Node → Type 0) (s : Scenario) (hs coming : List Happening) (cursor : List ℕ) (now : ℕ)
-    (device : DeviceId) (machine : M) (k : IsKept stands s hs coming cursor now device machine) → IsLawful s (hs ++ coming) device
+pub kept_from_zero : {M : Type 0} (stands : M → Network → DeviceId → Node → Type 0) (s : Scenario)
+    (hs coming : List Happening) (frontier : List ℕ) (now : ℕ)
+    (device : DeviceId) (machine : M) (k : IsKept stands s hs coming frontier now device machine)
+    → IsLawful s (hs ++ coming) device
     → IsFromZero s.network device k.node
-kept_from_zero stands s hs coming cursor now device machine k law = λ cm.
+kept_from_zero stands s hs coming frontier now device machine k law = λ cm.
     subst (All (λ (p : Point). pos 0 ≤ℤ p.reading)) (sym (k.left.points cm)) (points_from_zero s (hs ++ coming) device law.range law.founded)

@@ -51,16 +51,18 @@ pub acts_are_bounded : {C M : Type 0} (reading : C → ℕ → ℕ) (stands : M 
 acts_are_bounded {C} {M} reading stands s world notes device machine new times old of_it there due so =
     let held = old.devices device of_it in
     let one : held.0 ≡ machine = (let same = sym held.1 ∙ there in cc) in
-    by (subst (λ m. IsHeld stands s (happenings s.network notes) world.settled old.cursor world.now device m) one held.2)
+    by (subst (λ m. IsHeld stands s (happenings s.network notes) world.settled old.frontier world.now device m) one
+    held.2)
   where
-    by : IsHeld stands s (happenings s.network notes) world.settled old.cursor world.now device machine → times ≤ 259
+    by : IsHeld stands s (happenings s.network notes) world.settled old.frontier world.now device machine → times ≤ 259
     by (inr k) =
         let has = due k.node k.is in
         absurd (no_task s.network device k.node has.0 k.shows has.1)
     by (inl k) =
         let may = may_act_now s k.ready (old.steady device) old.limit in
         let law = lawful reading stands s world notes old device in
-        let zero_on = kept_from_zero stands s (happenings s.network notes) world.settled old.cursor world.now device machine k law in
+        let zero_on = kept_from_zero stands s (happenings s.network notes) world.settled old.frontier world.now device
+        machine k law in
         let chain_of = so k.node k.is may in
         let few = acts_are_few s.network device (moment_of s device world.now) k.node chain_of.0 chain_of.1 old.range old.rules zero_on may chain_of.3 in
         let many = chain_of.2 in

@@ -30,18 +30,18 @@ After stands after by machine network device node = stands after network device 
 
 -- a device is kept by any relation that its node is in
 pub kept_by : {M : Type 0} {stands : M → Network → DeviceId → Node → Type 0}
-    (then_ : M → Network → DeviceId → Node → Type 0) {s : Scenario} {hs coming : List Happening} {cursor : List ℕ}
-    {now : ℕ} {device : DeviceId} {machine : M} (k : IsKept stands s hs coming cursor now device machine)
-    → then_ machine s.network device k.node → IsKept then_ s hs coming cursor now device machine
+    (then_ : M → Network → DeviceId → Node → Type 0) {s : Scenario} {hs coming : List Happening} {frontier : List ℕ}
+    {now : ℕ} {device : DeviceId} {machine : M} (k : IsKept stands s hs coming frontier now device machine)
+    → then_ machine s.network device k.node → IsKept then_ s hs coming frontier now device machine
 kept_by then_ k is = grind arith
 
 module _ {M : Type 0} (stands : M → Network → DeviceId → Node → Type 0) (s : Scenario) (hs coming : List Happening)
-    (cursor : List ℕ) where
-  -- a sound device that is called so is kept, where the call's kind is not later than the cursor
+    (frontier : List ℕ) where
+  -- a sound device that is called so is kept, where the call's kind is not later than the frontier
   pub kept_called : {now : ℕ} {device : DeviceId} {machine : M} (after : M) (phase : Phase)
-      (k : IsKept (After stands after (called (moment_of s device now) phase)) s hs coming cursor now device machine)
-      → ((p : List ℕ) → IsBefore p (now ∷ rank_of_call phase ∷ []) → IsBefore p cursor)
-      → IsKept stands s hs coming cursor now device after
+      (k : IsKept (After stands after (called (moment_of s device now) phase)) s hs coming frontier now device machine)
+      → ((p : List ℕ) → IsBefore p (now ∷ rank_of_call phase ∷ []) → IsBefore p frontier)
+      → IsKept stands s hs coming frontier now device after
   kept_called {now} {device} after phase k come =
       let m = moment_of s device now in
       record {
@@ -73,9 +73,9 @@ module _ {M : Type 0} (stands : M → Network → DeviceId → Node → Type 0) 
         phase = λ at p b. come p b;
       }
 
-  -- and so is a broken one, where the cursor goes on
+  -- and so is a broken one, where the frontier goes on
   pub out_called : (then_ : List ℕ) {now : ℕ} {device : DeviceId} {machine : M} (after : M) (phase : Phase)
-      (k : IsOut stands s hs coming cursor now device machine)
+      (k : IsOut stands s hs coming frontier now device machine)
       → stands after s.network device (called (moment_of s device now) phase k.node)
       → ((p : List ℕ) → IsBefore p (now ∷ rank_of_call phase ∷ []) → IsBefore p then_)
       → IsOut stands s hs coming then_ now device after
@@ -83,5 +83,6 @@ module _ {M : Type 0} (stands : M → Network → DeviceId → Node → Type 0) 
 
   -- where a frame arrives, the device has not acted at the instant
   pub not_yet_acted : {now : ℕ} {device : DeviceId} {machine : M} (more : List ℕ)
-      (k : IsKept stands s hs coming cursor now device machine) → (IsBefore (now ∷ 2 ∷ more) cursor → ⊥) → k.up ≡ now
+      (k : IsKept stands s hs coming frontier now device machine)
+      → (IsBefore (now ∷ 2 ∷ more) frontier → ⊥) → k.up ≡ now
   not_yet_acted more k waits = grind arith

@@ -9,8 +9,13 @@ ranked_so arriving = refl
 ranked_so ripening = refl
 ranked_so acting = refl
 
--- a node that is ready, and was called last not later than the cursor, may be called by a source that is not before it
-pub may_call : (s : Scenario) (cursor : List ℕ) (now : ℕ) (device : DeviceId) (node : Node) (phase : Phase) (more : List ℕ)
-    → IsReadyAt (s.reading device) s.network device node now → IsCalledBy node cursor now → IsSteady (s.reading device) (amount s.network.precision)
-    → now ≤ 2 ^ 60 → (IsBefore (now ∷ rank_of_call phase ∷ more) cursor → ⊥) → MayCall s.network device node (moment_of s device now) phase
-may_call s cursor now device node phase more ready by steady limit waits = grind (arith, whole, amount, ints, ranked_so, cases_lt, rank_of_call, reading_for)
+-- a node that is ready, and was called last not later than the frontier, may be called by a source that is not before
+-- it
+pub may_call : (s : Scenario) (frontier : List ℕ) (now : ℕ) (device : DeviceId) (node : Node) (phase : Phase)
+    (more : List ℕ)
+    → IsReadyAt (s.reading device) s.network device node now → IsCalledBy node frontier now
+    → IsSteady (s.reading device) (amount s.network.precision)
+    → now ≤ 2 ^ 60 → (IsBefore (now ∷ rank_of_call phase ∷ more) frontier → ⊥) → MayCall s.network device node
+    (moment_of s device now) phase
+may_call s frontier now device node phase more ready by steady limit waits = grind
+    (arith, whole, amount, ints, ranked_so, cases_lt, rank_of_call, reading_for)

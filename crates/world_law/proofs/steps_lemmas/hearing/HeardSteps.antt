@@ -1,6 +1,6 @@
 -- A frame on a wire arrives, and its device's machine hears it.
 use Rattle.run_law.specs.machines.{Answers.after_arrival, Calls.MayArrive}
-use Rattle.world_law.proofs.steps_lemmas.Words.{ComesFirst, DeviceId, Happening, IsBefore, IsHeld, IsIn, IsKept, IsNoTaking, IsOut, IsPutIn}
+use Rattle.world_law.proofs.steps_lemmas.Words.{ComesFirst, DeviceId, Happening, IsBefore, IsHeld, IsIn, IsKept, IsNoTaking, IsOut, IsPutIn, IsSet}
 use Rattle.world_law.proofs.steps_lemmas.Words.{IsSteady, IsWithout, LinkId, List, Network, Node, Note, OnWire, Scenario, Some, Stands, StandsBehind}
 use Rattle.world_law.proofs.steps_lemmas.Words.{TakenFrame, VlId, World, ℕ, ℤ, [], amount, ap, arith, arrival_at, arrival_body, arrival_of, arriving}
 use Rattle.world_law.proofs.steps_lemmas.Words.{bears_on, behind, called, chain, comes_first, devices_then, eq-eqb, false, happenings, held_aside}
@@ -13,7 +13,7 @@ use Rattle.world_law.proofs.steps_lemmas.hearing.{Called.{After, kept_by, kept_c
 use Rattle.world_law.proofs.steps_lemmas.hearing.{Putting.{IsHeardAs, IsReceived, IsReceiving, least_rank, received}, Receptions.{device_there, placed_at}}
 use Rattle.world_law.proofs.steps_lemmas.hearing.{Ranked.{accepted_high, delivered_high, rank_is}, Settling.arrival_put, Took.took}
 use Rattle.world_law.proofs.{devices.Working.rested, putting.Bearing.frames_aside, putting.Moving.{goes_by, kept_moves}, putting.StandsOn.{StandsHere, shown_still}}
-use Rattle.world_law.{proofs.steps_lemmas.hearing.Takings.{IsQuiet, IsTakingBy, kept_taking}, specs.steps.Arriving.HeardStep, specs.world.Calls.HasHeard}
+use Rattle.world_law.{proofs.steps_lemmas.hearing.Takings.{IsQuiet, IsTakingBy, kept_taking}, specs.world.Calls.HasHeard}
 use Rattle.run_law.specs.declared.steps.Arrival.TheVariants as arrivals
 
 -- A frame arrives: the world stands behind it, where its devices do.
@@ -31,46 +31,46 @@ module _ {C M : Type 0} (reading : C → ℕ → ℕ) (stands : M → Network �
       comes_first old 2 (e.device.0 ∷ e.link.0 ∷ e.cause ∷ []) (inr (refl, inr (refl, tt))) (wire_at e world.now at)
       (old.wires.real e i).2 first
 
+  abbrev hs_of : List Happening
+  hs_of = happenings s.network notes
+
+  abbrev wire_here : List ℕ
+  wire_here = world.now ∷ 2 ∷ e.device.0 ∷ e.link.0 ∷ e.cause ∷ []
+
   -- the world stands behind it, where what is settled then and its devices do
   pub heard_behind : (machines : List M) (wires : List OnWire) {settled : List Happening}
       {old : Stands reading stands s world notes} → IsIn e world.wires → e.at ≡ world.now
       → ComesFirst reading stands s world notes old (wire_place e)
       → IsWithout wire_place (wire_place e) world.wires wires → length settled ≡ length world.settled + 1
-      → AreSettled s (happenings s.network notes) settled (world.now ∷ 2 ∷ e.device.0 ∷ e.link.0 ∷ e.cause ∷ [])
-      (behind (world.now ∷ 2 ∷ e.device.0 ∷ e.link.0 ∷ e.cause ∷ [])) world.now
-      → AreOfNetwork s (happenings s.network notes ++ settled)
+      → AreSettled s hs_of settled wire_here (behind wire_here) world.now → AreOfNetwork s (hs_of ++ settled)
       → ((device : DeviceId) → device.0 < length s.network.device
       → (machine : M) × (slice_get machines device.0 ≡ Some machine)
-      × IsHeld stands s (happenings s.network notes) settled (behind (world.now ∷ 2 ∷ e.device.0 ∷ e.link.0 ∷ e.cause
-      ∷ [])) world.now device machine) → StandsBehind reading stands s
-      (record world { early = false; machines = machines; wires = wires; settled = settled }) notes
-      (behind (wire_place e))
+      × IsHeld stands s hs_of settled (behind wire_here) world.now device machine)
+      → StandsBehind reading stands s
+      (record world { early = false; machines = machines; wires = wires; settled = settled }) notes wire_here
   heard_behind machines wires {old} i at first without long are known devices =
-      let hs = happenings s.network notes in
-      let more = e.device.0 ∷ e.link.0 ∷ e.cause ∷ [] in
-      let here = world.now ∷ 2 ∷ more in
-      let place = wire_at e world.now at in
       let c = arriving_first {old = old} i at first in
       let room = first.room in
-      stands_on c (wire_place e) machines world.shown place (omega (arith, long, room)) are known devices
-      (wires_move (goes_by s hs here) wires c.wires (subst (λ q. IsWithout wire_place q world.wires wires) place without))
+      stands_on c machines world.shown (omega (arith, long, room)) are known devices
+      (wires_move (goes_by s hs_of wire_here) wires c.wires
+      (subst (λ q. IsWithout wire_place q world.wires wires) (wire_at e world.now at) without))
       (ports_still c (λ eight. omega (arith, eight))) (waiting_still c (λ three. omega (arith, three)))
       (shown_still c (omega arith))
 
   -- its record is put in
   pub heard_put : (settled : List Happening) (is : Arrival) {old : Stands reading stands s world notes}
       → IsIn e world.wires → e.at ≡ world.now → ComesFirst reading stands s world notes old (wire_place e)
-      → IsHeardAs s (happenings s.network notes) world.settled world.now e is →
-      ((js : List Happening)
+      → IsHeardAs s hs_of world.settled world.now e is
+      → ((js : List Happening)
       → least_rank s.network e.device e.signal ≤ rank (arrival_body e.device e.link e.cause (arrival_of s js e.device
-      world.now e.link e.cause e.signal))) → ArePutIn s.network (happenings s.network notes) world.now
-      (arrival_body e.device e.link e.cause is ∷ []) world.settled settled
-      → IsReceived s (happenings s.network notes) world.settled world.now e is settled
+      world.now e.link e.cause e.signal)))
+      → ArePutIn s.network hs_of world.now (arrival_body e.device e.link e.cause is ∷ []) world.settled settled
+      → IsReceived s hs_of world.settled world.now e is settled
   heard_put settled is {old} i at first so least (mid, put, last) =
       received is {settled = settled}
       (arriving_first {old = old} i at first).moving old.run.founded (old.wires.real e i).0 at so least
       (subst (λ l. IsPutIn
-      (settled_as s.network (happenings s.network notes) world.now (arrival_body e.device e.link e.cause is))
+      (settled_as s.network hs_of world.now (arrival_body e.device e.link e.cause is))
       world.settled l)
       (sym last) put)
 
@@ -304,8 +304,20 @@ module _ {M : Type 0} (stands : M → Network → DeviceId → Node → Type 0) 
       (λ at. ap (taken_in e.device at) (r.body ∙ ap (arrival_body e.device e.link e.cause) dropped)))
       (inr (out_heard stands s hs (front ++ back) now e machine heard octets result h k).1)
 
--- where a world stands and the first frame on a wire arrives, it stands again once its device has heard it
-pub heard_step : {C M : Type 0} (reading : C → ℕ → ℕ) (stands : M → Network → DeviceId → Node → Type 0) → HeardStep reading stands
+-- the first frame on a wire arrives: the machine of its device hears it, and its record is to come
+pub heard_step : {C M : Type 0} (reading : C → ℕ → ℕ) (stands : M → Network → DeviceId → Node → Type 0) (s : Scenario)
+    (world : World C M) (notes : List Note) (e : OnWire) (machine heard : M) (octets : List ℕ) (result : Arrival)
+    (machines : List M) (wires : List OnWire) (settled : List Happening) (old : Stands reading stands s world notes)
+    → IsIn e world.wires → e.at ≡ world.now → ComesFirst reading stands s world notes old (wire_place e)
+    → slice_get world.machines e.device.0 ≡ Some machine → signal_of octets ≡ e.signal
+    → MayArrive s.network e.device e.link octets
+    → HasHeard stands s.network e.device (moment_of s e.device world.now) e.link octets result machine heard
+    → IsSet e.device.0 heard world.machines machines → IsWithout wire_place (wire_place e) world.wires wires
+    → ArePutIn s.network (happenings s.network notes) world.now (arrival_body e.device e.link e.cause result ∷ [])
+    world.settled settled
+    → StandsBehind reading stands s
+    (record world { early = false; machines = machines; wires = wires; settled = settled }) notes
+    (world.now ∷ 2 ∷ e.device.0 ∷ e.link.0 ∷ e.cause ∷ [])
 heard_step {C} {M} reading stands s world notes e machine heard octets result machines wires settled old i at first got octets_of
     may hears set without put =
     let hs = happenings s.network notes in
@@ -339,8 +351,9 @@ heard_step {C} {M} reading stands s world notes e machine heard octets result ma
     let quiet = quiet_for stands a2 r.it in
     let then_ = r.front ++ r.w ∷ r.back in
     subst (λ (l : List Happening).
-    StandsBehind reading stands s (record world { early = false; machines = machines; wires = wires; settled = l }) notes
-    (behind (wire_place e))) (sym r.shows)
+    StandsBehind reading stands s (record world { early = false; machines = machines; wires = wires; settled = l })
+    notes here)
+    (sym r.shows)
     (heard_behind reading stands s world notes e machines wires {settled = then_} {old = old} i at first without r.long
     (arrival_put s hs r.front r.back now e is r.w r.it)
     (known_aside hs r.front r.back r.w (λ device le. moves_no_other device r.w.note.body (quiet device).bears)

@@ -143,15 +143,15 @@ pub record IsTakingBy (s : Scenario) (hs front back : List Happening) (now : ℕ
   pub behind : (h : Happening) → IsIn h back → IsNoTaking device h.note.body
 
 pub kept_taking : {M : Type 0} (stands : M → Network → DeviceId → Node → Type 0) {s : Scenario}
-    {hs front back : List Happening} {w : Happening} {cursor : List ℕ} {now : ℕ} {device : DeviceId} {machine : M}
+    {hs front back : List Happening} {w : Happening} {frontier : List ℕ} {now : ℕ} {device : DeviceId} {machine : M}
     (after : M) {vl : VlId} {cycle : ℕ} → IsTakingBy s hs front back now w device vl cycle
     → IsSteady (s.reading device) (amount s.network.precision) → pos 0 ≤ℤ s.network.precision.0
-    → ((p : List ℕ) → IsBefore p (now ∷ 2 ∷ []) → IsBefore p cursor)
+    → ((p : List ℕ) → IsBefore p (now ∷ 2 ∷ []) → IsBefore p frontier)
     → (k : IsKept (After stands after (took (moment_of s device now) vl cycle)) s hs (front
-    ++ back) cursor now device machine) → k.up ≡ now → HasRested s device k.node
+    ++ back) frontier now device machine) → k.up ≡ now → HasRested s device k.node
     (changed_at (hs ++ (front ++ back)) device k.up) k.up
-    → IsKept stands s hs (front ++ w ∷ back) cursor now device after
-kept_taking stands {s} {hs} {front} {back} {w} {cursor} {now} {device} after {vl} {cycle} t steady precise come k up
+    → IsKept stands s hs (front ++ w ∷ back) frontier now device after
+kept_taking stands {s} {hs} {front} {back} {w} {frontier} {now} {device} after {vl} {cycle} t steady precise come k up
     rests =
     let m = moment_of s device now in
     let js = hs ++ (front ++ back) in
@@ -184,11 +184,12 @@ kept_taking stands {s} {hs} {front} {back} {w} {cursor} {now} {device} after {vl
       told = λ over. absurd (omega (arith, over, up));
       left = left_took m vl cycle (left_aside s hs front back w device none k.up k.node k.left);
       taken = took_it;
-      worked = worked_by {s = s} {device = device} {node = new} {changed = changed_at gs device k.up} {t = k.up} cursor (record {
-        done = subst (λ c. HasDoneFrom s.network (s.reading device) device new c k.up k.up)
-            (changed_aside s hs front back w device none k.up) done_then;
-        sent = sent_took s now device k.node vl cycle rests.sent;
-      }) (λ x task lt. come _ (inl (omega (arith, lt, up))));
+      worked = worked_by {s = s} {device = device} {node = new} {changed = changed_at gs device k.up}
+          {t = k.up} frontier (record {
+            done = subst (λ c. HasDoneFrom s.network (s.reading device) device new c k.up k.up)
+                (changed_aside s hs front back w device none k.up) done_then;
+            sent = sent_took s now device k.node vl cycle rests.sent;
+          }) (λ x task lt. come _ (inl (omega (arith, lt, up))));
       bare = k.bare;
       ready = ready_took s now device k.node vl cycle steady precise k.ready;
       still = λ same. still_aside s hs front back w device now (moves_no_other device w.note.body none) (k.still same);

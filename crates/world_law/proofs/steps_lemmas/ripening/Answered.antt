@@ -25,10 +25,10 @@ use Rattle.run_law.specs.declared.steps.Ripe.TheVariants as ripe
 -- A device that a world keeps may be called, as its source comes.
 
 pub may_call : {M : Type 0} {stands : M → Network → DeviceId → Node → Type 0} {s : Scenario}
-    {hs coming : List Happening} {cursor : List ℕ} {now : ℕ} {device : DeviceId} {machine : M} (phase : Phase)
-    (more : List ℕ) (k : IsKept stands s hs coming cursor now device machine)
+    {hs coming : List Happening} {frontier : List ℕ} {now : ℕ} {device : DeviceId} {machine : M} (phase : Phase)
+    (more : List ℕ) (k : IsKept stands s hs coming frontier now device machine)
     → IsSteady (s.reading device) (amount s.network.precision) → now ≤ 2 ^ 60
-    → (IsBefore (now ∷ rank_of_call phase ∷ more) cursor → ⊥)
+    → (IsBefore (now ∷ rank_of_call phase ∷ more) frontier → ⊥)
     → MayCall s.network device k.node (moment_of s device now) phase
 may_call {s} {now} phase more k steady limit waits =
     let last = whole k.node.last.time.0 k.ready.begun in
@@ -188,7 +188,7 @@ quiet_kept {s} {hs} [] back {now} {e} {after} w verdict r k a role body of_frame
     (subst (λ l. IsIn q l) (k.left.points cm) i)))
     (next_by_role w verdict r k a.hears role body of_frame at)
 quiet_kept (f ∷ front) back w verdict r k a role body of_frame at place before =
-    absurd (r.moving.are.behind_mark f (inl refl) (subst (λ q. IsBefore (place_of f) q) place (before f (inl refl))))
+    absurd (r.moving.are.after f (inl refl) (subst (λ q. IsBefore (place_of f) q) place (before f (inl refl))))
 
 -- ---- it is dropped
 
@@ -290,10 +290,10 @@ joined_kept {s} {hs} {back} f2 back2 {now} {e} {after} w v r k a precise body of
     ] in
     let times_two : (z : Happening) → IsIn z (w ∷ zs) → time_of z ≡ now = λ z i. elim i [ inl same ↦ ap time_of same ∙ at | inr more ↦ (of z more).0 ] in
     kept_joined after r k a.is other precise (was_looking e a.hears other a.outcome) j (λ z i. (of z i).0)
-    (λ cursor2 it.
-    let first : HasTurnedOn s hs (w ∷ back) cursor2 device now =
+    (λ frontier2 it.
+    let first : HasTurnedOn s hs (w ∷ back) frontier2 device now =
     turned_aside s hs [] back w device it (ap states (early back times_back ∙ sym (early (w ∷ back) times_one))) in
-    turned_aside s hs (w ∷ f2) back2 v device (subst (λ l. HasTurnedOn s hs l cursor2 device now) whole first)
+    turned_aside s hs (w ∷ f2) back2 v device (subst (λ l. HasTurnedOn s hs l frontier2 device now) whole first)
     (ap states (ap (λ (l : List Happening). earlier now (hs ++ l)) (sym whole) ∙ early (w ∷ back) times_one ∙ sym (early (w ∷ zs) times_two))))
     (frames_placed s hs [] back w device (λ z. ap (taken_in device z) body) (λ h i. sooner_of r w h at i)
     ∙ ap (λ (l : List Happening). frames_taken s (hs ++ l) device) whole

@@ -60,11 +60,11 @@ woken device z (x ∷ l) e = grind (arith, state_with, cases_Bool, is_off, was_o
 
 -- ---- an event that turned the device on has its record, and so has what came of it
 
-pub on_recorded : {s : Scenario} {mark : List ℕ} {hs : List Happening} {now : ℕ} (t : ℕ) (device : DeviceId)
-    → IsRun place_of (IsDue s) mark hs → ((p : List ℕ) → IsBefore p (now ∷ []) → IsBefore p mark)
-    → HaveBefallen s mark now → t < now → is_turned_on_at s device t ≡ true → is_broken s device t ≡ false
+pub on_recorded : {s : Scenario} {frontier : List ℕ} {hs : List Happening} {now : ℕ} (t : ℕ) (device : DeviceId)
+    → IsRun place_of (IsDue s) frontier hs → ((p : List ℕ) → IsBefore p (now ∷ []) → IsBefore p frontier)
+    → HaveBefallen s frontier now → t < now → is_turned_on_at s device t ≡ true → is_broken s device t ≡ false
     → (h : Happening) × IsIn h hs × (time_of h ≡ t) × (stirs device h.note.body ≡ true)
-on_recorded {s} {mark} {hs} t device run past befallen lt on sound =
+on_recorded {s} {frontier} {hs} t device run past befallen lt on sound =
     let it = any_in (λ e. turns_on device e.what && amount e.time == t) s.events on in
     let e = it.0 in
     let parts = and_parts (turns_on device e.what) (amount e.time == t) it.2 in
@@ -107,9 +107,9 @@ on_recorded {s} {mark} {hs} t device run past befallen lt on sound =
 
 -- ---- so it is on at present
 
-pub still_on : {s : Scenario} {mark : List ℕ} {hs : List Happening} (front : List Happening) {now : ℕ} (t : ℕ)
-    (device : DeviceId) → IsRun place_of (IsDue s) mark hs → ((p : List ℕ) → IsBefore p (now ∷ []) → IsBefore p mark)
-    → HaveBefallen s mark now → t ≤ now → ((h : Happening) → IsIn h front → IsIn h hs)
+pub still_on : {s : Scenario} {frontier : List ℕ} {hs : List Happening} (front : List Happening) {now : ℕ} (t : ℕ)
+    (device : DeviceId) → IsRun place_of (IsDue s) frontier hs → ((p : List ℕ) → IsBefore p (now ∷ []) → IsBefore p frontier)
+    → HaveBefallen s frontier now → t ≤ now → ((h : Happening) → IsIn h front → IsIn h hs)
     → is_off (state_before s front device t) ≡ false → is_broken s device t ≡ false
     → is_off (state_before s hs device now) ≡ false
 still_on {s} {hs} front {now} t device run past befallen le inside on sound =

@@ -131,8 +131,8 @@ pub kept_joined : {M : Type 0} {stands : M → Network → DeviceId → Node →
     → is_cm s.network e.device ≡ false → pos 0 ≤ℤ s.network.precision.0
     → state_before s hs e.device now ≡ Integrating → IsJoin s hs zs e.device now w e.link e.cause e.point e.frame
     → ((z : Happening) → IsIn z zs → time_of z ≡ now) →
-    ((cursor2 : List ℕ) → HasTurnedOn s hs coming cursor2 e.device now
-    → HasTurnedOn s hs (w ∷ zs) cursor2 e.device now) → frames_taken s (hs ++ coming) e.device
+    ((frontier2 : List ℕ) → HasTurnedOn s hs coming frontier2 e.device now
+    → HasTurnedOn s hs (w ∷ zs) frontier2 e.device now) → frames_taken s (hs ++ coming) e.device
     ≡ frames_taken s (hs ++ w ∷ zs) e.device → IsKept stands s hs (w ∷ zs)
     (behind (now ∷ 3 ∷ ripe_more e)) now e.device after
 kept_joined {s} {hs} {zs} {now} {e} after {w} r k is other precise looking j times turns frames =

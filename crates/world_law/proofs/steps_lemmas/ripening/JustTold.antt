@@ -186,7 +186,7 @@ module _ (s : Scenario) (hs coming : List Happening) (now : ℕ) where
       → 4 ≤ rank y.note.body
   high_rank {more} m within y i =
       by_kind y.note.body (all_late m within y i)
-      (Rattle.world_law.proofs.runs.Firsts.at_least y now 3 more (m.are.of_now y i) (m.are.behind_mark y i))
+      (Rattle.world_law.proofs.runs.Firsts.at_least y now 3 more (m.are.of_now y i) (m.are.after y i))
     where
       by_kind : (body : NoteBody) → IsLateKind body → 3 ≤ rank body → 4 ≤ rank body
       by_kind (kinds.Permanent device link cause point verdict) late le = absurd late

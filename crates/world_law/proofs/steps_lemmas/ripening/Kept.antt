@@ -1,5 +1,5 @@
 -- The device of a frame that is permanent, and tells it no time, is kept.
-use Rattle.world_law.proofs.{devices.Working.{HasRested, rested}, giving.GivenParts.up_to_place}
+use Rattle.world_law.proofs.{devices.Working.{HasRested, rested}, giving.GivenParts.up_to_place, runs.Settled.late_of}
 use Rattle.world_law.specs.world.World.{is_at_source}
 use Rattle.world_law.proofs.steps_lemmas.Words.{HasDoneTask, no_task_at, ◌++◌, ◌+ℤ◌, ◌+◌, ◌-ℤ◌, ◌<ℤ◌, ◌<◌, ◌||◌, ◌∙◌, ◌∷◌, ◌≡◌, ◌≤ℤ◌, ◌≤◌, ◌⊎◌, AllByRecursion, AreClusters, Bool}
 use Rattle.world_law.proofs.steps_lemmas.Words.{ClockTask, Compressed, DeviceId, Happening, HasDoneFrom, HasSentFrom, HasTurnedOn, IsAlike, IsAtRest, IsBefore}
@@ -49,8 +49,8 @@ module _ {M : Type 0} (stands : M → Network → DeviceId → Node → Type 0) 
                 turned = λ on. let was = k.turned on in was.turned r.moving.later;
               },
             )
-            | inr (inr joining) ↦ absurd (r.moving.are.behind_mark joining.by joining.there
-                (r.moving.are.worked joining.by joining.there (frame_source joining.by.note.body joining.sent)))
+            | inr (inr joining) ↦ absurd (let bad : false ≡ true = sym (late_of r.moving.are joining.by joining.there)
+                ∙ frame_source joining.by.note.body joining.sent in cc)
           ]
         ];
       }
@@ -223,7 +223,7 @@ next_aside {s} hs front back now {up} {device} w {new} misses none left = record
   change = sym (changed_aside s hs front back w device misses up);
   before = before_aside s hs front back w device misses now;
   still = still_aside s hs front back w device now (Rattle.world_law.proofs.devices.Borne.moves_no_other device w.note.body misses);
-  turned = λ cursor it. turned_aside s hs front back w device it (earlier_aside s hs front back w device misses now);
+  turned = λ frontier it. turned_aside s hs front back w device it (earlier_aside s hs front back w device misses now);
   frames = frames_aside s hs front back w device misses none;
 }
 
@@ -345,6 +345,6 @@ next_by_role {stands} {s} {hs} {coming} {now} {e} {machine} w verdict r k hears 
           ap (λ l. if is_turned_on_at s device now then Rattle.sync_state.specs.declared.state.State.TheVariants.Integrating
           else state_after s l device) same_earlier;
       still = still_aside s hs [] coming w device now quiet.1;
-      turned = λ cursor2 it. turned_aside s hs [] coming w device it (ap (λ l. state_after s l device) same_earlier);
+      turned = λ frontier2 it. turned_aside s hs [] coming w device it (ap (λ l. state_after s l device) same_earlier);
       frames = frames_placed s hs [] coming w device (λ z. ap (taken_in device z) body) (λ h i. sooner_of r w h at i);
     }

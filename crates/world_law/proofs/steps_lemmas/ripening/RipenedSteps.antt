@@ -20,9 +20,9 @@ use Rattle.world_law.proofs.steps_lemmas.Words.{last_unfollowed, length, length_
 use Rattle.world_law.proofs.steps_lemmas.Words.{moves_no_other, ne_eqb, never_self, numbered_front, numbered_in}
 use Rattle.world_law.proofs.steps_lemmas.Words.{numbered_within, numbers_end, one_by, one_shown, place_of}
 use Rattle.world_law.proofs.steps_lemmas.Words.{pos, put_length, rank, record_of, refl, ripe_as, ripe_place}
-use Rattle.world_law.proofs.steps_lemmas.Words.{settled_as, some_same, stands_on, subst, sym, time_of, true}
+use Rattle.world_law.proofs.steps_lemmas.Words.{settled_as, slice_get, some_same, stands_on, subst, sym, time_of, true}
 use Rattle.world_law.proofs.steps_lemmas.Words.{two_shown, ℕ, devices_then, ports_still, wires_still}
-use Rattle.world_law.specs.steps.Ripening.{HasRipened, RipenedStep, ripe_bodies}
+use Rattle.world_law.specs.steps.Ripening.{HasRipened, ripe_bodies}
 use Rattle.world_law.proofs.steps_lemmas.ripening.Answered.{answered, dropped_kept, high_now, joined_kept, not_before_high, placed_high}
 use Rattle.world_law.proofs.steps_lemmas.ripening.Answered.{quiet_kept}
 use Rattle.world_law.proofs.steps_lemmas.ripening.{Grown.IsByRole, Judged.{IsKindOf, becomes_now, outcome_kind}}
@@ -47,7 +47,7 @@ ripening_first {s} {world} {notes} e {old} i reached first =
     let past = (are_past old).past in
     let le = past it.arrival (numbered_in hs e.cause it.arrival it.there) in
     let sound = old.waiting.sound e i in
-    let reach = reach_by old.cursor now it first.none (old.waiting.later e i) sound le reached in
+    let reach = reach_by old.frontier now it first.none (old.waiting.later e i) sound le reached in
     let c = comes_first old 3 (ripe_more e) (inr (refl, inl (omega arith))) refl
     (old.waiting.later e i now (ripening_at s hs e now it reach sound)) first in (
       c,
@@ -140,13 +140,13 @@ ripened_behind : {C M : Type 0} {reading : C → ℕ → ℕ} {stands : M → Ne
     → IsHeld stands s (happenings s.network notes) settled (behind (world.now ∷ 3
     ∷ ripe_more e)) world.now device machine) → StandsBehind reading stands s
     (record world { early = false; machines = machines; waiting = waiting; settled = settled }) notes
-    (behind (ripe_place world.now e))
+    (ripe_place world.now e)
 ripened_behind {stands} {s} {world} {notes} {e} {after} {machines} waiting {settled} c r set without room are known
     kept others =
     let hs = happenings s.network notes in
     let now = world.now in
     let more = ripe_more e in
-    stands_on c (ripe_place now e) machines world.shown refl room are known
+    stands_on c machines world.shown room are known
     (devices_then c e.device (λ other not. no_task_at s.network now other 3 more (inl (omega arith))) set
     (inl kept)
     others)
@@ -259,7 +259,7 @@ module _ {C M : Type 0} (reading : C → ℕ → ℕ) (stands : M → Network �
   abbrev Behind : List Happening → Type 0
   Behind settled =
       StandsBehind reading stands s (record world { early = false; machines = machines; waiting = waiting; settled = settled })
-      notes (behind (ripe_place world.now e))
+      notes (ripe_place world.now e)
 
   one_behind : {result : Ripe} (x : IsStep reading stands s world notes e machine after result machines waiting)
       (front back : List Happening) (w : Happening) → world.settled ≡ front ++ back
@@ -320,7 +320,7 @@ module _ {C M : Type 0} (reading : C → ℕ → ℕ) (stands : M → Network �
       let place : place_of w ≡ here = here_place now now (members_in w) e verdict body refl members refl in
       let high = high_now r in
       let under : (z : Happening) → IsIn z front → IsBefore (place_of z) here → ⊥ = λ z i.
-      r.moving.are.behind_mark z (in_left z front back i) in
+      r.moving.are.after z (in_left z front back i) in
       let becomes = becomes_now s hs (front ++ back) front now e k.node (ripe_as verdict) r under a.hears
       a.outcome in
       let not_under : IsBefore (place_of w) here → ⊥ = λ b.
@@ -378,7 +378,7 @@ module _ {C M : Type 0} (reading : C → ℕ → ℕ) (stands : M → Network �
       x.has in
       let high = high_now r in
       let under : (z : Happening) → IsIn z front → IsBefore (place_of z) here → ⊥ = λ z i.
-      r.moving.are.behind_mark z (in_left z front back i) in
+      r.moving.are.after z (in_left z front back i) in
       let becomes = becomes_now s hs (front ++ back) front now e k.node (ripe.Dropped reason) r under a.hears
       a.outcome in
       let one : IsOne s hs front back now 3 (ripe_more e) w = record {
@@ -436,7 +436,7 @@ module _ {C M : Type 0} (reading : C → ℕ → ℕ) (stands : M → Network �
       let shown_at : place_of (settled_as s.network hs now body) ≡ here =
       ap place_of (sym (same_record s.network hs [] now body few)) ∙ place in
       let q = two_shown s.network hs now body e.device Joining whys.Frame few (omega arith)
-      (λ z i b. r.moving.are.behind_mark z i (subst (λ q. IsBefore (place_of z) q) shown_at b))
+      (λ z i b. r.moving.are.after z i (subst (λ q. IsBefore (place_of z) q) shown_at b))
       (causes_given r.moving (omega arith)) put.1
       (subst (λ c. IsPutIn (settled_as s.network hs now (kinds.State e.device Joining (c + 1) whys.Frame)) put.0 put.2.0)
       (length_is s notes) put.2.1) in
@@ -526,8 +526,21 @@ module _ {C M : Type 0} (reading : C → ℕ → ℕ) (stands : M → Network �
   by_result ripe.Ignored settled x put = quiet_step judgements.Ignored settled x refl put
   by_result (ripe.Dropped reason) settled x put = dropped_step reason settled x put
 
--- the first frame that waits is permanent: the world stands behind it
-pub ripened_step : {C M : Type 0} (reading : C → ℕ → ℕ) (stands : M → Network → DeviceId → Node → Type 0) → RipenedStep reading stands
+-- the first frame that waits, to whose point its device's reading has come, is permanent: its records are to come
+pub ripened_step : {C M : Type 0} (reading : C → ℕ → ℕ) (stands : M → Network → DeviceId → Node → Type 0) (s : Scenario)
+    (world : World C M) (notes : List Note) (e : Waiting) (machine after : M) (result : Ripe) (machines : List M)
+    (waiting : List Waiting) (settled : List Happening) (old : Stands reading stands s world notes)
+    → IsIn e world.waiting → e.point.0 ≤ℤ pos (s.reading e.device world.now)
+    → ComesFirst reading stands s world notes old (ripe_place world.now e)
+    → slice_get world.machines e.device.0 ≡ Some machine
+    → HasRipened stands s.network e.device (moment_of s e.device world.now) e.link e.frame e.point result machine after
+    → IsSet e.device.0 after world.machines machines
+    → IsWithout (ripe_place world.now) (ripe_place world.now e) world.waiting waiting
+    → ArePutIn s.network (happenings s.network notes) world.now
+    (ripe_bodies (length notes + 1) e.device e.link e.cause e.point result) world.settled settled
+    → StandsBehind reading stands s
+    (record world { early = false; machines = machines; waiting = waiting; settled = settled }) notes
+    (ripe_place world.now e)
 ripened_step {C} {M} reading stands s world notes e machine after result machines waiting settled old i reached first at has set without
     put =
     let hs = happenings s.network notes in

@@ -1,4 +1,5 @@
 -- An event befalls before all else of its instant: the world stands again.
+use Rattle.world_law.proofs.runs.{Settled.{AreSettled, coming_of}, Worlds.run_to}
 use Rattle.{run_law.{proofs.law.FirstPlaces.numbered_next, specs.runs.DueRecords.{EndsAt, IsScenarioRun}}, world_law.specs.steps.Steps.{AppliedStep, FitsWorld}}
 use Rattle.{run_law.proofs.runs.{NetworkRuns.one_more, Places.{before_next_time, before_of_time}}, world_law.proofs.runs.Firsts.{numbered_more, numbered_still}}
 use Rattle.{std.{proofs.lemmas.{List.length_push, Option.slice_get_within}, specs.List.Contains}, world_law.proofs.giving.Storing.stored_still}
@@ -6,7 +7,7 @@ use Rattle.{tte_units.proofs.general_lemmas.Lists.{pushed as get_more}, world_la
 use Rattle.world_law.{proofs.{giving.GivenParts.up_to_place, steps_lemmas.steps.AppliedParts.wires_apply}, specs.world.World.{AreInOrder, AreStored, IsFromEnd}}
 use Rattle.world_law.{proofs.runs.Applies.{line_before, run_goes_on_by_event, same_length}, specs.source.Applying.{MayBefall, note_of_event, place_of_event}}
 use Rattle.world_law.proofs.steps_lemmas.Words.{◌&&◌, ◌++◌, ◌+◌, ◌<◌, ◌==◌, ◌||◌, ◌↔◌, ◌∙◌, ◌∷◌, ◌≡◌, ◌≤ℤ◌, ◌≤◌, ◌⊎◌, AreAtPorts, AreOfNetwork, AreOnWires}
-use Rattle.world_law.proofs.steps_lemmas.Words.{AreSettled, AreUntold, AreWaiting, Befell, Bool, Contains-push, Contains-push_cases, DeviceId, Event, Happening}
+use Rattle.world_law.proofs.steps_lemmas.Words.{AreComing, AreUntold, AreWaiting, Befell, Bool, Contains-push, Contains-push_cases, DeviceId, Event, Happening}
 use Rattle.world_law.proofs.steps_lemmas.Words.{IsBefore, IsEventBody, IsHeld, IsIn, IsOnWire, LinkId, List, Network, Node, OnWire, Scenario, Some, Units, What}
 use Rattle.world_law.proofs.steps_lemmas.Words.{[], amount, ap, append-nil, arith, before_behind, behind, cases_Bool, chain, clock_place, false}
 use Rattle.world_law.proofs.steps_lemmas.Words.{happening, happenings, has_outcome, if◌then◌else◌, in_left, in_parts, in_right, inl, inr, ints, length}
@@ -63,9 +64,9 @@ also_in_order : (number : ℕ) (what : What) (befell : List Befell) → AreInOrd
     → AreInOrder (befell ++ also_befell number what)
 also_in_order number what befell order less = grind (arith, has_outcome, one_more_in_order, append-nil)
 
-untold_apply : {hs : List Happening} {cursor : List ℕ} {now : ℕ} (number line : ℕ) {pending : Bool}
-    {befell : List Befell} (ev : Happening) (what : What) → AreUntold hs cursor now pending befell
-    → ((p : List ℕ) → IsBefore p cursor → IsBefore p (now ∷ 2 ∷ [])) → number ≡ length hs + 1 → time_of ev ≡ now
+untold_apply : {hs : List Happening} {frontier : List ℕ} {now : ℕ} (number line : ℕ) {pending : Bool}
+    {befell : List Befell} (ev : Happening) (what : What) → AreUntold hs frontier now pending befell
+    → ((p : List ℕ) → IsBefore p frontier → IsBefore p (now ∷ 2 ∷ [])) → number ≡ length hs + 1 → time_of ev ≡ now
     → ev.note.body ≡ kinds.Event line what → AreUntold (hs ++ ev ∷ []) (now ∷ 2 ∷ []) now true
     (befell ++ also_befell number what)
 untold_apply {hs} {now} number line {pending} {befell} ev what untold early number_is at is = record {
@@ -127,10 +128,12 @@ known_apply network f g past event hs now ev may is known = record {
       (known.never_on device le t) ∙ ap (λ (b : Bool). b && amount event.time == t) (of_network (scenario network f past) hs now event.what device may le);
 }
 
-pub no_coming : (hs coming : List Happening) (s : Scenario) (mark cursor : List ℕ) (now : ℕ) → AreSettled s hs coming mark cursor now
-    → ((p : List ℕ) → IsBefore p cursor → IsBefore p (now ∷ 2 ∷ [])) → coming ≡ []
-no_coming hs [] s mark cursor now are early = refl
-no_coming hs (z ∷ coming) s mark cursor now are early = absurd (never_self (now ∷ 2 ∷ []) (early (now ∷ 2 ∷ []) (are.begun z (inl refl))))
+pub no_coming : (hs coming : List Happening) (s : Scenario) (frontier : List ℕ) (now : ℕ)
+    → AreComing s hs coming frontier now
+    → ((p : List ℕ) → IsBefore p frontier → IsBefore p (now ∷ 2 ∷ [])) → coming ≡ []
+no_coming hs [] s frontier now are early = refl
+no_coming hs (z ∷ coming) s frontier now are early =
+    absurd (never_self (now ∷ 2 ∷ []) (early (now ∷ 2 ∷ []) (are.begun z (inl refl))))
 
 -- ---- the step
 
@@ -161,10 +164,10 @@ applied_step {C} {M} reading stands network f g past event world notes clocks ma
     let js = hs ++ ev ∷ [] in
     let at : amount event.time ≡ now = ap unsigned_abs time_is in
     let back : js ≡ happenings network (notes ++ note ∷ []) = sym (one_more network notes note) in
-    let empty = no_coming hs world.settled s old.mark old.cursor now old.are early in
-    let over : (p : List ℕ) → IsBefore p (now ∷ []) → IsBefore p old.cursor = λ p b. old.ahead p (old.of_now p b) in
+    let empty = no_coming hs world.settled s old.frontier now old.are early in
+    let over = old.of_now in
     let sooner : (h : Happening) → IsIn h hs → (time_of h < now) ⊎ ((time_of h ≡ now) × IsEventBody h.note.body) = λ h i. before_others h now
-    (early (place_of h) (old.ahead (place_of h) (old.run.within h i))) in
+    (early (place_of h) (old.run.within h i)) in
     let long : length notes ≡ length hs = same_length network notes in
     let number : length notes + 1 ≡ length hs + 1 = ap (λ k. k + 1) long in
     let running_so : (u : Units) → EndsAt past u → ⊥ = λ u ends. (let bad : false ≡ true = sym running ∙ ((old.ended u).0 ends).0 in cc) in
@@ -172,7 +175,7 @@ applied_step {C} {M} reading stands network f g past event world notes clocks ma
     let here = now ∷ 1 ∷ (length past + 1) ∷ [] in
     let place_is : place ≡ here = ap (λ (n : ℕ). n ∷ 1 ∷ (length past + 1) ∷ []) at in
     let agree = λ (t : ℕ) (lt : t < now). agree_before network f g past event now t at reads lt in
-    let befalls : MayBefall network f g past event old.mark notes = record {
+    let befalls : MayBefall network f g past event old.frontier notes = record {
       begun = omega (arith, ints, time_is);
       agree = λ t lt. agree t (omega (arith, lt, at));
       running = running_so;
@@ -182,8 +185,8 @@ applied_step {C} {M} reading stands network f g past event world notes clocks ma
       sooner = λ h i. elim (sooner h i) [ inl lt ↦ inl (omega (arith, lt, at)) | inr it ↦ inr it.1 ];
     } in
     let run : IsScenarioRun r (behind here) (notes ++ note ∷ []) = subst (λ q. IsScenarioRun r (behind q) (notes ++ note ∷ [])) place_is
-    (run_goes_on_by_event network f g past event old.mark notes befalls old.run) in
-    let m : IsBefalling network f g past event hs old.mark old.cursor now ev = record {
+    (run_goes_on_by_event network f g past event old.frontier notes befalls old.run) in
+    let m : IsBefalling network f g past event hs old.frontier now ev = record {
       at = at;
       agree = agree;
       sooner = sooner;
@@ -192,7 +195,7 @@ applied_step {C} {M} reading stands network f g past event world notes clocks ma
       ev_at = at;
       ev_is = refl;
     } in
-    let applying : IsApplying network f g past event hs old.cursor now (length notes + 1) ev = record {
+    let applying : IsApplying network f g past event hs old.frontier now (length notes + 1) ev = record {
       events = record { sooner = sooner; at = at; is = tt };
       at = at;
       reads = λ device x le. sym (reads device x le);
@@ -220,6 +223,12 @@ applied_step {C} {M} reading stands network f g past event world notes clocks ma
           )
     ] in
     let here_two = under_two now (length past + 1) in
+    let two = now ∷ 2 ∷ [] in
+    let due = nothing_due network g past event js now at in
+    let on : (p : List ℕ) → IsBefore p (behind here) → IsBefore p two = λ p b. elim (up_to_place p here b) [
+      | inl e ↦ subst (λ q. IsBefore q two) (sym e) here_two
+      | inr lt ↦ chain p here two lt here_two
+    ] in
     let none_now : (e : OnWire) → IsIn e world.wires → (it : IsOnWire s hs e) → time_of it.putting ≡ now → ⊥ = λ e i it put_at.
     let was = old.wires.real e i in
     let same = some_same it.putting was.0.putting _ it.there was.0.there in
@@ -234,16 +243,11 @@ applied_step {C} {M} reading stands network f g past event world notes clocks ma
       forward = forward;
       steady = steady;
       precise = old.precise;
-      mark = behind here;
-      cursor = now ∷ 2 ∷ [];
-      run = run;
-      ahead =
-          λ p b. elim (up_to_place p here b) [
-            | inl e ↦ subst (λ q. IsBefore q (now ∷ 2 ∷ [])) (sym e) here_two
-            | inr lt ↦ chain p here (now ∷ 2 ∷ [])
-                lt here_two
-          ];
-      of_now = λ p b. before_of_time p now (1 ∷ (length past + 1) ∷ 0 ∷ []) b;
+      frontier = two;
+      run = run_to (notes ++ note ∷ []) two run (subst (λ l. AreSettled r l [] (behind here) two now) back due)
+          (λ w source waits b. waits b)
+          (λ z i. absurd i) on;
+      of_now = λ p b. before_of_time p now (2 ∷ []) b;
       not_later = λ p b. before_next_time p now (2 ∷ []) b;
       limit = old.limit;
       lines = let was = old.lines in omega (arith, was, pushed);
@@ -251,7 +255,7 @@ applied_step {C} {M} reading stands network f g past event world notes clocks ma
       ended = λ time. ended_then past event now time time_is running_so;
       befallen = record {
         past = λ i e get. (before_here i e get).0;
-        told = λ i e get. (before_here i e get).1;
+        told = λ i e get. on (amount e.time ∷ 1 ∷ (i + 1) ∷ []) (before_here i e get).1;
         begun = λ i e get. elim (get_more past event e i get) [
           | inl was ↦ old.befallen.begun i e was
           | inr new ↦ subst (λ (x : Event). pos 0 ≤ℤ x.time.0) new.1 (omega (arith, ints, time_is))
@@ -276,8 +280,8 @@ applied_step {C} {M} reading stands network f g past event world notes clocks ma
             then_.1,
             subst (λ l. IsHeld stands r (happenings network (notes ++ note ∷ [])) l (now ∷ 2 ∷ []) now device then_.0) (sym empty)
                 (subst (λ l. IsHeld stands r l [] (now ∷ 2 ∷ []) now device then_.0) back
-                (held_apply stands network f g past event hs old.cursor now (length notes + 1) ev then_.0 applying
-                (subst (λ l. IsHeld stands s hs l old.cursor now device k.0) empty k.2) then_.2 may)),
+                (held_apply stands network f g past event hs old.frontier now (length notes + 1) ev then_.0 applying
+                (subst (λ l. IsHeld stands s hs l old.frontier now device k.0) empty k.2) then_.2 may)),
           );
       early = λ fresh p b. b;
       untold = subst (λ l. AreUntold l (now ∷ 2 ∷ []) now true (world.befell ++ also_befell (length notes + 1) event.what)) back
@@ -293,7 +297,7 @@ applied_step {C} {M} reading stands network f g past event world notes clocks ma
       stored = subst (λ l. AreStored l world.stored) back
           (stored_still ev (λ device vl. refl) old.stored);
       are =
-          subst (λ l. AreSettled r (happenings network (notes ++ note ∷ [])) l (behind here) (now ∷ 2 ∷ []) now) (sym empty)
-          (subst (λ l. AreSettled r l [] (behind here) (now ∷ 2 ∷ []) now) back (nothing_due network g past event js now at));
+          subst (λ l. AreComing r (happenings network (notes ++ note ∷ [])) l two now) (sym empty)
+          (subst (λ l. AreComing r l [] two now) back (coming_of due on (λ z i. absurd i)));
       shown = λ device lt ended. (λ b. absurd (no_clock now device b), λ less. absurd (omega (arith, less)));
     }

@@ -166,17 +166,19 @@ module _ (network : Network) (device : DeviceId) (node : Node) where
 -- ---- the device is kept
 
 -- what a device starts from
-pub record IsApplying (network : Network) (f g : DeviceId → ℕ → ℕ) (past : List Event) (event : Event) (hs : List Happening) (cursor : List ℕ) (now number : ℕ)
+pub record IsApplying (network : Network) (f g : DeviceId → ℕ → ℕ) (past : List Event) (event : Event)
+    (hs : List Happening) (frontier : List ℕ) (now number : ℕ)
     (ev : Happening) : Type 0 where
   pub events : IsOnlyEvents hs now ev
   pub at : amount event.time ≡ now
   pub reads : (device : DeviceId) (x : ℕ) → x ≤ now → f device x ≡ g device x
-  pub early : (p : List ℕ) → IsBefore p cursor → IsBefore p (now ∷ 2 ∷ [])
+  pub early : (p : List ℕ) → IsBefore p frontier → IsBefore p (now ∷ 2 ∷ [])
   pub there : numbered (hs ++ ev ∷ []) number ≡ Some ev
   pub is : ev.note.body ≡ notes.Event (length past + 1) event.what
 
-never_there : {A : Type 0} (now : ℕ) (cursor : List ℕ) → ((p : List ℕ) → IsBefore p cursor → IsBefore p (now ∷ 2 ∷ [])) → IsBefore (now ∷ 2 ∷ []) cursor → A
-never_there now cursor early b = absurd (never_self (now ∷ 2 ∷ []) (early (now ∷ 2 ∷ []) b))
+never_there : {A : Type 0} (now : ℕ) (frontier : List ℕ)
+    → ((p : List ℕ) → IsBefore p frontier → IsBefore p (now ∷ 2 ∷ [])) → IsBefore (now ∷ 2 ∷ []) frontier → A
+never_there now frontier early b = absurd (never_self (now ∷ 2 ∷ []) (early (now ∷ 2 ∷ []) b))
 
 ready_less : {network : Network} (f g : DeviceId → ℕ → ℕ) {device : DeviceId} {now : ℕ} {node : Node} (new : Node)
     → ((x : ℕ) → x ≤ now → f device x ≡ g device x) → IsReadyAt (f device) network device node now
@@ -186,11 +188,11 @@ ready_less : {network : Network} (f g : DeviceId → ℕ → ℕ) {device : Devi
 ready_less f g new reads ready last pending = grind (arith, whole, amount, ints, reading_for)
 
 module _ {M : Type 0} (stands : M → Network → DeviceId → Node → Type 0) (network : Network) (f g : DeviceId → ℕ → ℕ)
-    (past : List Event) (event : Event) (hs : List Happening) (cursor : List ℕ) (now number : ℕ)
+    (past : List Event) (event : Event) (hs : List Happening) (frontier : List ℕ) (now number : ℕ)
     (ev : Happening) where
   pub kept_less : {device : DeviceId} {machine : M} (after : M) {new : Node}
-      → IsApplying network f g past event hs cursor now number ev
-      → (k : IsKept stands (scenario network f past) hs [] cursor now device machine)
+      → IsApplying network f g past event hs frontier now number ev
+      → (k : IsKept stands (scenario network f past) hs [] frontier now device machine)
       → HasNoMore network device k.node new → stands after network device new
       → is_broken (scenario network g (past ++ event ∷ [])) device now ≡ false
       → (k.up ≡ now → IsLeft (scenario network g (past ++ event ∷ [])) hs device now new)
@@ -201,7 +203,11 @@ module _ {M : Type 0} (stands : M → Network → DeviceId → Node → Type 0) 
       let r = scenario network g (past ++ event ∷ []) in
       let js = hs ++ ev ∷ [] in
       let up : k.up ≡ now =
-      elim k.acted [ inl yet ↦ yet.0 | inr over ↦ never_there now cursor m.early (over.1 (now ∷ 2 ∷ []) (inr (refl, inl (omega arith)))) ]
+      elim k.acted [
+        | inl yet ↦ yet.0
+        | inr over ↦ never_there now frontier m.early
+            (over.1 (now ∷ 2 ∷ []) (inr (refl, inl (omega arith))))
+      ]
       in
       let rests = rested now k.worked (omega (arith, up))
       (λ b. late_act now device (m.early (act_place now device) b)) in
@@ -285,11 +291,11 @@ module _ {M : Type 0} (stands : M → Network → DeviceId → Node → Type 0) 
   -- ---- a broken one stays out, and one that breaks is out from then on
 
   out_so : {device : DeviceId} (after : M) {node : Node} (new : Node)
-      → IsApplying network f g past event hs cursor now number ev → stands after network device new
+      → IsApplying network f g past event hs frontier now number ev → stands after network device new
       → is_broken (scenario network g (past ++ event ∷ [])) device now ≡ true → new.broken ≡ true
       → new.standing.state ≡ state_after (scenario network f past) (earlier now hs) device
       → new.standing.adjustment ≡ adjustment_after (scenario network f past) (earlier now hs) device
-      → IsReadyAt (f device) network device node now → new.last ≡ node.last → IsCalledBy new cursor now
+      → IsReadyAt (f device) network device node now → new.last ≡ node.last → IsCalledBy new frontier now
       → IsOut stands (scenario network g (past ++ event ∷ [])) (hs ++ ev ∷ []) [] (now ∷ 2 ∷ []) now device after
   out_so {device} after {node} new m is broken shows state adjustment ready last called =
       let r = scenario network g (past ++ event ∷ []) in
@@ -319,8 +325,8 @@ module _ {M : Type 0} (stands : M → Network → DeviceId → Node → Type 0) 
   -- ---- each device
 
   pub held_apply : {device : DeviceId} {machine : M} (after : M)
-      → IsApplying network f g past event hs cursor now number ev
-      → IsHeld stands (scenario network f past) hs [] cursor now device machine
+      → IsApplying network f g past event hs frontier now number ev
+      → IsHeld stands (scenario network f past) hs [] frontier now device machine
       → ((node : Node) → stands machine network device node
       → (event.what ≡ events.On device → node.standing.state ≡ Off)
       → stands after network device (befallen_node (is_turned_on_at (scenario network f past) device now) event.what
@@ -357,7 +363,11 @@ module _ {M : Type 0} (stands : M → Network → DeviceId → Node → Type 0) 
       r = scenario network g (past ++ event ∷ [])
 
       is_at : k.up ≡ now
-      is_at = elim k.acted [ inl yet ↦ yet.0 | inr over ↦ never_there now cursor m.early (over.1 (now ∷ 2 ∷ []) (inr (refl, inl (omega arith)))) ]
+      is_at = elim k.acted [
+        | inl yet ↦ yet.0
+        | inr over ↦ never_there now frontier m.early
+            (over.1 (now ∷ 2 ∷ []) (inr (refl, inl (omega arith))))
+      ]
 
       sound : k.node.broken ≡ false
       sound = k.left.counted.broken ∙ ap (is_broken s device) is_at ∙ k.sound

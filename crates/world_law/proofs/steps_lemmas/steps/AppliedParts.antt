@@ -13,13 +13,14 @@ use Rattle.run_law.specs.declared.judgement.Why.TheVariants as whys
 use Rattle.run_law.specs.declared.note.NoteBody.TheVariants as notes
 
 -- what the step starts from
-pub record IsBefalling (network : Network) (f g : DeviceId → ℕ → ℕ) (past : List Event) (event : Event) (hs : List Happening) (mark cursor : List ℕ) (now : ℕ)
+pub record IsBefalling (network : Network) (f g : DeviceId → ℕ → ℕ) (past : List Event) (event : Event)
+    (hs : List Happening) (frontier : List ℕ) (now : ℕ)
     (ev : Happening) : Type 0 where
   pub at : amount event.time ≡ now
   pub agree : (t : ℕ) → t < now → Agree network f g past (past ++ event ∷ []) t
   pub sooner : (h : Happening) → IsIn h hs → (time_of h < now) ⊎ ((time_of h ≡ now) × IsEventBody h.note.body)
-  pub early : (p : List ℕ) → IsBefore p cursor → IsBefore p (now ∷ 2 ∷ [])
-  pub over : (p : List ℕ) → IsBefore p (now ∷ []) → IsBefore p cursor
+  pub early : (p : List ℕ) → IsBefore p frontier → IsBefore p (now ∷ 2 ∷ [])
+  pub over : (p : List ℕ) → IsBefore p (now ∷ []) → IsBefore p frontier
   pub ev_at : time_of ev ≡ now
   pub ev_is : ev.note.body ≡ notes.Event (length past + 1) event.what
 
@@ -42,12 +43,12 @@ agree_before network f g past event now t at reads lt = grind (arith, filter_no,
 -- ---- wires
 
 pub wires_apply : {network : Network} {f g : DeviceId → ℕ → ℕ} {past : List Event} {event : Event}
-    {hs : List Happening} {mark cursor : List ℕ} {now : ℕ} {ev : Happening} {pending : Bool} {wires : List OnWire}
-    → IsBefalling network f g past event hs mark cursor now ev
+    {hs : List Happening} {frontier : List ℕ} {now : ℕ} {ev : Happening} {pending : Bool} {wires : List OnWire}
+    → IsBefalling network f g past event hs frontier now ev
     → ((e : OnWire) → IsIn e wires → (it : IsOnWire (scenario network f past) hs e) → time_of it.putting ≡ now → ⊥)
-    → IsForward (scenario network f past) → AreOnWires (scenario network f past) hs cursor now pending wires
+    → IsForward (scenario network f past) → AreOnWires (scenario network f past) hs frontier now pending wires
     → AreOnWires (scenario network g (past ++ event ∷ [])) (hs ++ ev ∷ []) (now ∷ 2 ∷ []) now true wires
-wires_apply {hs} {cursor} {now} {ev} m earlier_all forward are = record {
+wires_apply {hs} {frontier} {now} {ev} m earlier_all forward are = record {
   real = λ e i.
       let was = are.real e i in
       let it = was.0 in
@@ -78,7 +79,7 @@ wires_apply {hs} {cursor} {now} {ev} m earlier_all forward are = record {
       ];
 }
   where
-    worked : (e : OnWire) → IsBefore (wire_place e) (now ∷ 2 ∷ []) → IsBefore (wire_place e) cursor
+    worked : (e : OnWire) → IsBefore (wire_place e) (now ∷ 2 ∷ []) → IsBefore (wire_place e) frontier
     worked e (inl lt) = m.over (wire_place e) (inl lt)
     worked e (inr (t, inl few)) = absurd (omega (arith, few))
     worked e (inr (t, inr (r, none))) = absurd none
@@ -92,10 +93,10 @@ no_gift network (notes.Arrived relay by cause clock) device link gives is = is
 no_gift network other device link gives is = gives
 
 pub ports_apply : {network : Network} {f g : DeviceId → ℕ → ℕ} {past : List Event} {event : Event}
-    {hs : List Happening} {mark cursor : List ℕ} {now : ℕ} {ev : Happening} {ports : List AtPort}
-    → IsBefalling network f g past event hs mark cursor now ev → AreAtPorts (scenario network f past) hs cursor ports
+    {hs : List Happening} {frontier : List ℕ} {now : ℕ} {ev : Happening} {ports : List AtPort}
+    → IsBefalling network f g past event hs frontier now ev → AreAtPorts (scenario network f past) hs frontier ports
     → AreAtPorts (scenario network g (past ++ event ∷ [])) (hs ++ ev ∷ []) (now ∷ 2 ∷ []) ports
-ports_apply {network} {f} {g} {past} {event} {hs} {cursor} {now} {ev} m are = record {
+ports_apply {network} {f} {g} {past} {event} {hs} {frontier} {now} {ev} m are = record {
   real = λ e i.
       let was = are.real e i in
       let it = was.0 in
@@ -137,7 +138,7 @@ ports_apply {network} {f} {g} {past} {event} {hs} {cursor} {now} {ev} m are = re
     not_event : (h : Happening) (device : DeviceId) (link : LinkId) → Gives network h.note.body device link → IsEventBody h.note.body → ⊥
     not_event h device link gives is = no_gift network h.note.body device link gives is
 
-    worked : (e : AtPort) → IsBefore (port_place e) (now ∷ 2 ∷ []) → IsBefore (port_place e) cursor
+    worked : (e : AtPort) → IsBefore (port_place e) (now ∷ 2 ∷ []) → IsBefore (port_place e) frontier
     worked e (inl lt) = m.over (port_place e) (inl lt)
     worked e (inr (t, inl few)) = absurd (omega (arith, few))
     worked e (inr (t, inr (r, none))) = absurd none
@@ -196,9 +197,9 @@ first_false true b e = e
 first_false false b e = refl
 
 pub waiting_apply : {network : Network} {f g : DeviceId → ℕ → ℕ} {past : List Event} {event : Event}
-    {hs : List Happening} {mark cursor : List ℕ} {now : ℕ} {ev : Happening} {waiting : List Waiting}
-    (new : List Waiting) → IsBefalling network f g past event hs mark cursor now ev
-    → AreWaiting (scenario network f past) hs cursor now waiting
+    {hs : List Happening} {frontier : List ℕ} {now : ℕ} {ev : Happening} {waiting : List Waiting}
+    (new : List Waiting) → IsBefalling network f g past event hs frontier now ev
+    → AreWaiting (scenario network f past) hs frontier now waiting
     → ((e : Waiting) → IsIn e new ↔ (IsIn e waiting × (is_broken (scenario network g (past ++ event
     ∷ [])) e.device now ≡ false))) → AreWaiting (scenario network g (past ++ event ∷ [])) (hs ++ ev ∷ [])
     (now ∷ 2 ∷ []) now new
@@ -318,7 +319,7 @@ pub nothing_due : (network : Network) (g : DeviceId → ℕ → ℕ) (past : Lis
     → AreSettled (scenario network g (past ++ event ∷ [])) js [] (behind (now ∷ 1 ∷ (length past + 1) ∷ [])) (now ∷ 2 ∷ []) now
 nothing_due network g past event js now at = record {
   of_now = λ z i. absurd i;
-  behind_mark = λ z i. absurd i;
+  after = λ z i. absurd i;
   founded = λ front rest z e. absurd (no_part front rest z e);
   by = λ front rest z e. absurd (no_part front rest z e);
   full = λ front back y e before none not due worked.

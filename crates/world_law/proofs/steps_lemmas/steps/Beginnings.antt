@@ -1,7 +1,8 @@
 -- A fresh world stands for the run of no records under no events.
 use Rattle.{run_law.{proofs.{records.Happenings.none_numbered, runs.Grow.empty_run}, specs.machines.Nodes.begun_node}, world_law.specs.steps.Steps.Begun}
+use Rattle.{run_law.proofs.runs.Places.{before_next_time, before_of_time}, world_law.proofs.runs.{Settled.coming_of, Worlds.run_to}}
 use Rattle.world_law.proofs.steps_lemmas.Words.{◌++◌, ◌+ℤ◌, ◌+◌, ◌-ℤ◌, ◌<ℤ◌, ◌^◌, ◌∙◌, ◌∷◌, ◌≡◌, ◌≤ℤ◌, ◌≤◌, DeviceId, Happening, IsBefore, IsDue, IsIn, IsKept}
-use Rattle.world_law.proofs.steps_lemmas.Words.{AreOfNetwork, AreSettled, IsLeft, IsPending, IsSource, List, Network, Node, Scenario, Task, Units, [], acts_before, amount, ap, arith}
+use Rattle.world_law.proofs.steps_lemmas.Words.{AreComing, AreOfNetwork, AreSettled, IsLeft, IsPending, IsSource, List, Network, Node, Scenario, Task, Units, [], acts_before, amount, ap, arith}
 use Rattle.world_law.proofs.steps_lemmas.Words.{chain, correcting, doing, emitting, false, inl, inr, ints, no_cluster, none_in, observation_window}
 use Rattle.world_law.proofs.steps_lemmas.Words.{length, place_of, pos, reading_for, refl, scenario, subst, sym, true, value_of, ℕ, ℤ}
 
@@ -77,6 +78,17 @@ pub begun : {C M : Type 0} (reading : C → ℕ → ℕ) (stands : M → Network
 begun {C} {M} reading stands network f world fresh forward steady zero_first le range rules =
     let s = scenario network f [] in
     let now = sym fresh.now in
+    let on : (p : List ℕ) → IsBefore p (0 ∷ []) → IsBefore p (0 ∷ 1 ∷ []) = λ p b. before_of_time p 0 (1 ∷ []) b in
+    let none : AreSettled s [] [] (0 ∷ []) (0 ∷ 1 ∷ []) world.now = record {
+      of_now = λ z i. absurd i;
+      after = λ z i. absurd i;
+      founded = λ front rest z e. absurd (no_part front rest z e);
+      by = λ front rest z e. absurd (no_part front rest z e);
+      full = λ front back y e before least not due worked. absurd (source_from worked.2 worked.3);
+      not_past = λ z i. absurd i;
+      worked = λ z i. absurd i;
+      begun = λ z i. absurd i;
+    } in
     record {
       same = fresh.of_it;
       range = range;
@@ -84,12 +96,13 @@ begun {C} {M} reading stands network f world fresh forward steady zero_first le 
       forward = forward;
       steady = steady;
       precise = le;
-      mark = 0 ∷ [];
-      cursor = 0 ∷ 1 ∷ [];
-      run = empty_run place_of (IsDue s) (0 ∷ []) (λ y due here. elim here [ inl lt ↦ absurd (omega (arith, lt)) | inr none ↦ none.1 ]);
-      ahead = λ p b. Rattle.run_law.proofs.runs.Places.before_of_time p 0 (1 ∷ []) b;
-      of_now = λ p b. subst (λ (n : ℕ). IsBefore p (n ∷ [])) fresh.now b;
-      not_later = λ p b. subst (λ n. IsBefore p ((n + 1) ∷ [])) now (Rattle.run_law.proofs.runs.Places.before_next_time p 0 (1 ∷ []) b);
+      frontier = 0 ∷ 1 ∷ [];
+      run = run_to [] (0 ∷ 1 ∷ [])
+          (empty_run place_of (IsDue s) (0 ∷ [])
+          (λ y due here. elim here [ inl lt ↦ absurd (omega (arith, lt)) | inr bad ↦ bad.1 ])) none
+          (λ w source waits b. waits b) (λ z i. absurd i) on;
+      of_now = λ p b. on p (subst (λ (n : ℕ). IsBefore p (n ∷ [])) fresh.now b);
+      not_later = λ p b. subst (λ n. IsBefore p ((n + 1) ∷ [])) now (before_next_time p 0 (1 ∷ []) b);
       limit = subst (λ n. n ≤ 2 ^ 60) now (omega arith);
       lines = fresh.lines;
       given = fresh.given;
@@ -138,16 +151,7 @@ begun {C} {M} reading stands network f world fresh forward steady zero_first le 
           subst (λ (l : List _). Rattle.world_law.specs.world.World.AreStored [] l) (sym fresh.stored)
           (record { real = λ e i. absurd i; all = λ device vl taking last. absurd cc });
       are =
-          subst (λ l. AreSettled s [] l (0 ∷ []) (0 ∷ 1 ∷ []) world.now) (sym fresh.settled)
-          (record {
-            of_now = λ z i. absurd i;
-            behind_mark = λ z i. absurd i;
-            founded = λ front rest z e. absurd (no_part front rest z e);
-            by = λ front rest z e. absurd (no_part front rest z e);
-            full = λ front back y e before none not due worked. absurd (source_from worked.2 worked.3);
-            not_past = λ z i. absurd i;
-            worked = λ z i. absurd i;
-            begun = λ z i. absurd i;
-          });
+          subst (λ l. AreComing s [] l (0 ∷ 1 ∷ []) world.now) (sym fresh.settled)
+          (coming_of none on (λ z i. absurd i));
       shown = λ device lt ended. absurd (let e : false ≡ true = sym fresh.ended ∙ ended in cc);
     }

@@ -1,8 +1,9 @@
 -- The clock of a device is shown at the end.
 use Rattle.world_law.proofs.{devices.Shown.{all_past, held_shows}, giving.GivenParts.up_to_place, putting.Putting.{IsPutting, held_put, known_put, settled_put}}
-use Rattle.world_law.{proofs.giving.Given.device_in, specs.steps.Steps.ClockStep}
+use Rattle.world_law.{proofs.{giving.Given.device_in, runs.Settled.late_of}, specs.world.Calls.IsStateOf}
 use Rattle.world_law.proofs.steps_lemmas.Words.{◌++◌, ◌+◌, ◌<◌, ◌↔◌, ◌∙◌, ◌∷◌, ◌≡◌, ◌≤◌, AreOfNetwork, ArePutIn, DeviceId, Happening, IsBefore, IsHeld}
-use Rattle.world_law.proofs.steps_lemmas.Words.{IsMoving, IsOwnSource, IsSource, List, Network, Node, NoteBody, Scenario, [], no_task_at, adjustment_after}
+use Rattle.world_law.proofs.steps_lemmas.Words.{IsMoving, IsOwnSource, IsSource, List, Network, Node, Note, NoteBody, Scenario, [], no_task_at, adjustment_after}
+use Rattle.world_law.proofs.steps_lemmas.Words.{ComesFirst, Some, Stands, State, Units, World, length, slice_get}
 use Rattle.world_law.proofs.steps_lemmas.Words.{ap, arith, at_least, behind, cases_lt, clock_place, comes_first, false}
 use Rattle.world_law.proofs.steps_lemmas.Words.{device_still, happenings, inl, inr, is_at_source, key, members_in}
 use Rattle.world_law.proofs.steps_lemmas.Words.{rank, refl, settled_as, some_same, stands_on, state_after, subst, sym, second}
@@ -45,9 +46,9 @@ none_coming : {s : Scenario} {hs : List Happening} (coming : List Happening) {no
     (device : DeviceId) → IsMoving s hs coming now 14 (device.0 ∷ []) → coming ≡ []
 none_coming [] device m = refl
 none_coming (y ∷ coming) {now} device m =
-    let after = m.are.behind_mark y (inl refl) in
+    let after = m.are.after y (inl refl) in
     let late = at_least y now 14 (device.0 ∷ []) (m.are.of_now y (inl refl)) after in
-    absurd (after (m.are.worked y (inl refl) (last_rank y.note.body late)))
+    absurd (let bad : false ≡ true = sym (late_of m.are y (inl refl)) ∙ last_rank y.note.body late in cc)
 
 pub nothing_put : (now : ℕ) (network : Network) (hs : List Happening) (body : NoteBody) (settled : List Happening)
     → ArePutIn network hs now (body ∷ []) [] settled → settled ≡ settled_as network hs now body ∷ []
@@ -62,13 +63,24 @@ nothing_put now network hs body settled (mid, put, last) = from put.front put.ba
 shown_more : (now shown : ℕ) (device d : DeviceId) → shown ≡ device.0 → IsBefore (clock_place now d) (behind (clock_place now device)) ↔ (d.0 < shown + 1)
 shown_more now shown device d e = grind (arith, up_to_place, clock_place, cases_lt)
 
-pub clock_step : {C M : Type 0} (reading : C → ℕ → ℕ) (stands : M → Network → DeviceId → Node → Type 0) → ClockStep reading stands
+-- the clock of the next device is shown, and its record is to come
+pub clock_step : {C M : Type 0} (reading : C → ℕ → ℕ) (stands : M → Network → DeviceId → Node → Type 0) (s : Scenario)
+    (world : World C M) (notes : List Note) (device : DeviceId) (machine : M) (state : State) (adjustment : Units)
+    (settled : List Happening) (old : Stands reading stands s world notes)
+    → device.0 < length s.network.device → world.ended ≡ true → world.shown ≡ device.0
+    → ComesFirst reading stands s world notes old (clock_place world.now device)
+    → slice_get world.machines device.0 ≡ Some machine → IsStateOf stands s.network device machine state adjustment
+    → ArePutIn s.network (happenings s.network notes) world.now
+    (kinds.Clock device (units_of (s.reading device world.now)) adjustment state ∷ []) world.settled settled
+    → StandsBehind reading stands s (record world { early = false; settled = settled; shown = world.shown + 1 }) notes
+    (clock_place world.now device)
 clock_step {C} {M} reading stands s world notes device machine state adjustment settled old lt ended shown first there stood put =
     let hs = happenings s.network notes in
     let now = world.now in
     let more = device.0 ∷ [] in
     let here = now ∷ 14 ∷ more in
-    let waits : IsBefore here old.cursor → ⊥ = λ b. let less = (old.shown device lt ended).0 b in omega (arith, less, shown) in
+    let waits : IsBefore here old.frontier → ⊥ = λ b. let less = (old.shown device lt ended).0 b in omega
+    (arith, less, shown) in
     let c = comes_first old 14 more (inr (refl, inl (omega arith))) refl waits first in
     let empty = none_coming world.settled device c.moving in
     let moving : IsMoving s hs [] now 14 more = subst (λ l. IsMoving s hs l now 14 more) empty c.moving in
@@ -76,7 +88,7 @@ clock_step {C} {M} reading stands s world notes device machine state adjustment 
     let w = record_of s.network hs [] now body in
     let m2 = old.devices device lt in
     let machine_is : m2.0 ≡ machine = some_same m2.0 machine _ m2.1 there in
-    let shows = held_shows stands s hs world.settled old.mark old.cursor now device m2.0 m2.2 (old.untold.done c.told)
+    let shows = held_shows stands s hs world.settled old.frontier now device m2.0 m2.2 (old.untold.done c.told)
     (all_past reading stands s world notes old) old.befallen in
     let is = stood shows.0 (subst (λ (x : M). stands x s.network device shows.0) machine_is shows.1) in
     let at_end = device_in s.network device lt in
@@ -111,9 +123,10 @@ clock_step {C} {M} reading stands s world notes device machine state adjustment 
     (subst (λ l. ArePutIn s.network hs now (body ∷ []) l settled) empty put)
     ∙ ap (λ (h : Happening). h ∷ []) (sym (same_record s.network hs [] now body (omega arith))) in
     let room = first.room in
-    subst (λ (l : List Happening). StandsBehind reading stands s (record world { early = false; settled = l; shown = world.shown + 1 }) notes (behind here))
+    subst (λ (l : List Happening). StandsBehind reading stands s
+    (record world { early = false; settled = l; shown = world.shown + 1 }) notes here)
     (sym all)
-    (stands_on c here world.machines (world.shown + 1) refl (omega (arith, room))
+    (stands_on c world.machines (world.shown + 1) (omega (arith, room))
     (settled_put p)
     (known_put hs [] [] w tt (subst (λ (l : List Happening). AreOfNetwork s (hs ++ l)) empty old.known))
     (λ d within.

@@ -1,6 +1,6 @@
 -- A frame at a port leaves.
 use Rattle.world_law.proofs.putting.{Moving.{goes_by, settled_moves}, Putting.{IsPutting, held_put, known_put, settled_put}, StandsOn.{StandsHere, shown_still}}
-use Rattle.world_law.specs.steps.Steps.{LeftStep, departure_now}
+use Rattle.world_law.specs.steps.Steps.{departure_bodies, departure_now}
 use Rattle.world_law.proofs.steps_lemmas.Words.{due_of, one_shown, put_length, record_of, waiting_still, wires_still}
 use Rattle.world_law.proofs.steps_lemmas.Words.{◌++◌, ◌+◌, ◌<◌, ◌∙◌, ◌∷◌, ◌≡◌, ◌≤◌, AreOfNetwork, ArePutIn, AreSettled, AtPort, Bool}
 use Rattle.world_law.proofs.steps_lemmas.Words.{ComesFirst, DeviceId, Happening, IsBefore, IsHeld, IsIn, IsMoving, IsSource, IsWithout, List, Network}
@@ -27,36 +27,37 @@ module _ {C M : Type 0} (reading : C → ℕ → ℕ) (stands : M → Network �
       comes_first old 8 (e.device.0 ∷ e.link.0 ∷ e.cause ∷ []) (inr (refl, inl (omega arith))) (port_at e world.now at)
       (old.ports.real e i).1 first
 
-  -- ---- the world stands behind it, with what is to come then
+  abbrev hs_of : List Happening
+  hs_of = happenings s.network notes
+
+  abbrev port_here : List ℕ
+  port_here = world.now ∷ 8 ∷ e.device.0 ∷ e.link.0 ∷ e.cause ∷ []
+
+  -- the world stands behind it, with what is to come then
+  abbrev HasLeft : List AtPort → List Happening → Type 0
+  HasLeft ports settled =
+      StandsBehind reading stands s (record world { ports = ports; early = false; settled = settled }) notes port_here
 
   left_behind : (ports : List AtPort) {settled : List Happening} {old : Stands reading stands s world notes}
       → IsIn e world.ports → e.at ≡ world.now → ComesFirst reading stands s world notes old (port_place e)
       → IsWithout port_place (port_place e) world.ports ports → length notes + length settled < numbers_end
-      → AreSettled s (happenings s.network notes) settled (world.now ∷ 8 ∷ e.device.0 ∷ e.link.0 ∷ e.cause ∷ [])
-      (behind (world.now ∷ 8 ∷ e.device.0 ∷ e.link.0 ∷ e.cause ∷ [])) world.now
-      → AreOfNetwork s (happenings s.network notes ++ settled) →
-      ((device : DeviceId) (machine : M)
-      → IsHeld stands s (happenings s.network notes) world.settled (behind (world.now ∷ 8 ∷ e.device.0 ∷ e.link.0
-      ∷ e.cause ∷ [])) world.now device machine
-      → IsHeld stands s (happenings s.network notes) settled (behind (world.now ∷ 8 ∷ e.device.0 ∷ e.link.0 ∷ e.cause
-      ∷ [])) world.now device machine) → StandsBehind reading stands s
-      (record world { ports = ports; early = false; settled = settled }) notes (behind (port_place e))
+      → AreSettled s hs_of settled port_here (behind port_here) world.now → AreOfNetwork s (hs_of ++ settled)
+      → ((device : DeviceId) (machine : M)
+      → IsHeld stands s hs_of world.settled (behind port_here) world.now device machine
+      → IsHeld stands s hs_of settled (behind port_here) world.now device machine) → HasLeft ports settled
   left_behind ports {old} i at first without room are known kept =
-      let hs = happenings s.network notes in
       let more = e.device.0 ∷ e.link.0 ∷ e.cause ∷ [] in
-      let here = world.now ∷ 8 ∷ more in
-      let place = port_at e world.now at in
       let c = leaving {old = old} i at first in
-      let less : IsWithout port_place here world.ports ports =
-      subst (λ q. IsWithout port_place q world.ports ports) place without in
-      stands_on c (port_place e) world.machines world.shown place room are known
+      let less : IsWithout port_place port_here world.ports ports =
+      subst (λ q. IsWithout port_place q world.ports ports) (port_at e world.now at) without in
+      stands_on c world.machines world.shown room are known
       (λ device lt.
       let k = c.devices device lt in (
         k.0,
         k.1,
         kept device k.0 (device_still c (no_task_at s.network world.now device 8 more (inr (omega arith))) k.2),
       ))
-      (wires_still c (λ two. omega (arith, two))) (ports_move (goes_by s hs here) ports c.ports less)
+      (wires_still c (λ two. omega (arith, two))) (ports_move (goes_by s hs_of port_here) ports c.ports less)
       (waiting_still c (λ three. omega (arith, three))) (shown_still c (omega arith))
 
   -- ---- nothing comes of it, where its device is broken
@@ -64,16 +65,13 @@ module _ {C M : Type 0} (reading : C → ℕ → ℕ) (stands : M → Network �
   cut_off : (ports : List AtPort) (settled : List Happening) {old : Stands reading stands s world notes}
       → IsIn e world.ports → e.at ≡ world.now → ComesFirst reading stands s world notes old (port_place e)
       → IsWithout port_place (port_place e) world.ports ports → is_broken s e.device world.now ≡ true
-      → settled ≡ world.settled → StandsBehind reading stands s
-      (record world { ports = ports; early = false; settled = settled }) notes (behind (port_place e))
+      → settled ≡ world.settled → HasLeft ports settled
   cut_off ports settled {old} i at first without broken same =
       let c = leaving {old = old} i at first in
-      subst (λ (l : List Happening). StandsBehind reading stands s
-      (record world { ports = ports; early = false; settled = l }) notes (behind (port_place e)))
-      (sym same)
+      subst (λ (l : List Happening). HasLeft ports l) (sym same)
       (left_behind ports {settled = world.settled} {old = old} i at first without old.room
       (settled_moves c.moving
-      (λ front back y whole before none due own. absurd (nothing_of_broken s (happenings s.network notes ++ front)
+      (λ front back y whole before none due own. absurd (nothing_of_broken s (hs_of ++ front)
       world.now (time_of y) (members_in y) e
       y.note.body _ broken refl own y.note.time refl due.cause)))
       old.known
@@ -84,10 +82,8 @@ module _ {C M : Type 0} (reading : C → ℕ → ℕ) (stands : M → Network �
   gone_out : (ports : List AtPort) (settled : List Happening) {old : Stands reading stands s world notes}
       → IsIn e world.ports → e.at ≡ world.now → ComesFirst reading stands s world notes old (port_place e)
       → IsWithout port_place (port_place e) world.ports ports → is_broken s e.device world.now ≡ false
-      → ArePutIn s.network (happenings s.network notes) world.now
-      (departure_body e (departure_now s e world.now) ∷ []) world.settled settled
-      → StandsBehind reading stands s (record world { ports = ports; early = false; settled = settled }) notes
-      (behind (port_place e))
+      → ArePutIn s.network hs_of world.now (departure_body e (departure_now s e world.now) ∷ []) world.settled settled
+      → HasLeft ports settled
   gone_out ports settled {old} i at first without sound (mid, put, last) =
       let hs = happenings s.network notes in
       let now = world.now in
@@ -146,9 +142,7 @@ module _ {C M : Type 0} (reading : C → ℕ → ℕ) (stands : M → Network �
       let long = put_length front back w in
       let same_length : length world.settled ≡ length (front ++ back) = ap length q.parts in
       let room = first.room in
-      subst (λ (l : List Happening). StandsBehind reading stands s
-      (record world { ports = ports; early = false; settled = l }) notes (behind (port_place e)))
-      (sym (last ∙ q.shows))
+      subst (λ (l : List Happening). HasLeft ports l) (sym (last ∙ q.shows))
       (left_behind ports {settled = front ++ w ∷ back} {old = old} i at first without
       (omega (arith, long, same_length, room))
       (settled_put p)
@@ -156,15 +150,19 @@ module _ {C M : Type 0} (reading : C → ℕ → ℕ) (stands : M → Network �
       (λ device machine k. held_put front back w idle refl
       (subst (λ l. IsHeld stands s hs l (behind here) now device machine) q.parts k)))
 
-pub left_step : {C M : Type 0} (reading : C → ℕ → ℕ) (stands : M → Network → DeviceId → Node → Type 0) → LeftStep reading stands
-left_step {C} {M} reading stands s world notes e ports settled old i at first without put =
-    elim (cases_Bool (is_broken s e.device world.now)) [
-      | inl broken ↦
-          cut_off reading stands s world notes e ports settled {old = old} i at first without broken
-          (subst (λ (b : Bool). ArePutIn s.network (happenings s.network notes) world.now (if b then [] else departure_body e (departure_now s e world.now)
-          ∷ []) world.settled settled) broken put)
-      | inr sound ↦
-          gone_out reading stands s world notes e ports settled {old = old} i at first without sound
-          (subst (λ (b : Bool). ArePutIn s.network (happenings s.network notes) world.now (if b then [] else departure_body e (departure_now s e world.now)
-          ∷ []) world.settled settled) sound put)
-    ]
+  abbrev ArePutUnless : List Happening → Bool → Type 0
+  ArePutUnless settled broken = ArePutIn s.network hs_of world.now
+      (if broken then [] else departure_body e (departure_now s e world.now) ∷ []) world.settled settled
+
+  pub left_step : (ports : List AtPort) (settled : List Happening) (old : Stands reading stands s world notes)
+      → IsIn e world.ports → e.at ≡ world.now → ComesFirst reading stands s world notes old (port_place e)
+      → IsWithout port_place (port_place e) world.ports ports
+      → ArePutIn s.network hs_of world.now (departure_bodies s e world.now) world.settled settled
+      → HasLeft ports settled
+  left_step ports settled old i at first without put =
+      elim (cases_Bool (is_broken s e.device world.now)) [
+        | inl broken ↦ cut_off ports settled {old = old} i at first without broken
+            (subst (λ b. ArePutUnless settled b) broken put)
+        | inr sound ↦ gone_out ports settled {old = old} i at first without sound
+            (subst (λ b. ArePutUnless settled b) sound put)
+      ]

@@ -3,7 +3,7 @@ use Rattle.world_law.proofs.devices.Working.{worked_by}
 use Rattle.world_law.proofs.{acts.{Acting.{IsUnmoved, cleared_on, had_come_before}, NoActs.nothing_comes_before}, devices.Resting.{IsPast, IsWorked, at_rest}}
 use Rattle.world_law.{proofs.{giving.GivenParts.no_later_events, runs.Worlds.nothing_settled_is_all}, specs.source.First.NoSourceBefore}
 use Rattle.world_law.{proofs.devices.Passes.passes_if, specs.{device.Own.IsStill, steps.Steps.PassedStep, world.{Moves.{NothingBefore, StandsAt}, World.way_now}}}
-use Rattle.world_law.proofs.steps_lemmas.Words.{◌++◌, ◌+◌, ◌-◌, ◌<ℤ◌, ◌<◌, ◌^◌, ◌∙◌, ◌∷◌, ◌≡◌, ◌≤ℤ◌, ◌≤◌, AreSettled, DeviceId, Down, Happening}
+use Rattle.world_law.proofs.steps_lemmas.Words.{◌++◌, ◌+◌, ◌-◌, ◌<ℤ◌, ◌<◌, ◌^◌, ◌∙◌, ◌∷◌, ◌≡◌, ◌≤ℤ◌, ◌≤◌, AreComing, DeviceId, Down, Happening}
 use Rattle.world_law.proofs.steps_lemmas.Words.{HasDoneFrom, HasSentFrom, HaveBefallen, IsBefore, IsHeld, IsIn, IsKept, IsLeft, IsOut, IsPending, IsReadyAt}
 use Rattle.world_law.proofs.steps_lemmas.Words.{IsSteady, LinkId, List, Network, Node, Note, Scenario, Some, Stands, Task, Up, Way, World, []}
 use Rattle.world_law.proofs.steps_lemmas.Words.{act_place, acts_before, adjustment_after, all_up_to, amount, ap, append-nil, are_past, arith, cases_Bool}
@@ -13,22 +13,21 @@ use Rattle.world_law.proofs.steps_lemmas.Words.{own_time, pos, reading_for, refl
 use Rattle.run_law.proofs.runs.Places.{before_later_time, before_of_time, earlier_time}
 
 -- no way changes without an event
-ways_stay : {s : Scenario} {mark : List ℕ} {now : ℕ} (t : ℕ) (link : LinkId) (way : Way) → HaveBefallen s mark now
+ways_stay : {s : Scenario} {frontier : List ℕ} {now : ℕ} (t : ℕ) (link : LinkId) (way : Way)
+    → HaveBefallen s frontier now
     → now ≤ t → way_now s now link way ≡ way_now s t link way
 ways_stay t link way b le = grind (arith, last_or, filter_map, no_later_events)
 
 -- where nothing is to come, nothing comes from a source of an earlier time
-nothing_full : (s : Scenario) (hs : List Happening) (t : ℕ) → AreSettled s hs [] (t ∷ []) (t ∷ []) t
+nothing_full : (s : Scenario) (hs : List Happening) (t : ℕ) → AreComing s hs [] (t ∷ []) t
 nothing_full s hs t = record {
   of_now = λ z i. absurd i;
-  behind_mark = λ z i. absurd i;
+  after = λ z i. absurd i;
   founded = λ front rest z e. absurd (no_part front rest z e);
   by = λ front rest z e. absurd (no_part front rest z e);
   full = λ front back y e before none not due worked.
       let at = own_time s (hs ++ front) (time_of y) (members_in y) y.note.body worked.0 worked.1 in
       absurd (not (inl (earlier_time (time_of y) t (at.0 ∷ at.1) (subst (λ q. IsBefore q (t ∷ [])) at.2 worked.3))));
-  not_past = λ z i. absurd i;
-  worked = λ z i. absurd i;
   begun = λ z i. absurd i;
 }
   where
@@ -45,7 +44,7 @@ in_past old h i = (are_past old).past h i
 pub passed_but_devices : {C M : Type 0} {reading : C → ℕ → ℕ} {stands : M → Network → DeviceId → Node → Type 0}
     {s : Scenario} {world : World C M} {notes : List Note} (t : ℕ) (old : Stands reading stands s world notes)
     → world.settled ≡ [] → world.now < t → t ≤ 2 ^ 60 → world.ended ≡ false → NothingBefore stands s world (t ∷ [])
-    → NoSourceBefore s (happenings s.network notes) old.cursor (t ∷ [])
+    → NoSourceBefore s (happenings s.network notes) old.frontier (t ∷ [])
     → ((device : DeviceId) → device.0 < length s.network.device
     → (machine : M) × (slice_get world.machines device.0 ≡ Some machine)
     × IsHeld stands s (happenings s.network notes) [] (t ∷ []) t device machine)
@@ -53,9 +52,10 @@ pub passed_but_devices : {C M : Type 0} {reading : C → ℕ → ℕ} {stands : 
 passed_but_devices {stands} {s} {world} {notes} t old settled lt few running none first devices =
     let hs = happenings s.network notes in
     let now = world.now in
-    let are : AreSettled s hs [] old.mark old.cursor now = subst (λ l. AreSettled s hs l old.mark old.cursor now) settled old.are in
+    let are : AreComing s hs [] old.frontier now = subst (λ l. AreComing s hs l old.frontier now) settled old.are in
     let next : now + 1 ≤ t = omega (arith, lt) in
-    let over : (p : List ℕ) → IsBefore p old.cursor → IsBefore p (t ∷ []) = λ p b. before_later_time p (now + 1) t next (old.not_later p b) in
+    let over : (p : List ℕ) → IsBefore p old.frontier → IsBefore p (t ∷ []) = λ p b. before_later_time p
+    (now + 1) t next (old.not_later p b) in
     let told : world.pending ≡ false = elim (cases_Bool world.pending) [ inr closed ↦ closed | inl open_ ↦ absurd (none.befell open_ (inl lt)) ] in
     let le : now ≤ t = omega (arith, lt) in (
       record {
@@ -65,10 +65,8 @@ passed_but_devices {stands} {s} {world} {notes} t old settled lt few running non
         forward = old.forward;
         steady = old.steady;
         precise = old.precise;
-        mark = t ∷ [];
-        cursor = t ∷ [];
-        run = nothing_settled_is_all s notes old.mark old.cursor now t old.run are (λ p b. over p (old.ahead p b)) first;
-        ahead = λ p b. b;
+        frontier = t ∷ [];
+        run = nothing_settled_is_all s notes old.frontier now t old.run are over first;
         of_now = λ p b. b;
         not_later = λ p b. before_later_time p t (t + 1) (omega arith) b;
         limit = few;
@@ -80,12 +78,13 @@ passed_but_devices {stands} {s} {world} {notes} t old settled lt few running non
         );
         befallen = record {
           past = λ i e at. let early = old.befallen.past i e at in omega (arith, early, lt);
-          told = λ i e at. over _ (old.ahead _ (old.befallen.told i e at));
+          told = λ i e at. over _ (old.befallen.told i e at);
           begun = old.befallen.begun;
           sent = old.befallen.sent;
         };
         clocks = λ device in_it. let own = old.clocks device in_it in (own.0, own.1, λ x late. own.2 x (omega (arith, le, late)));
-        broken = λ device in_it. old.broken device in_it ∙ ap Some (sym (no_later_breaks s old.mark now t device old.befallen le));
+        broken = λ device in_it. old.broken device in_it
+            ∙ ap Some (sym (no_later_breaks s old.frontier now t device old.befallen le));
         ways = record {
           up = λ link in_it. old.ways.up link in_it ∙ ap Some (ways_stay t link Up old.befallen le);
           down = λ link in_it. old.ways.down link in_it ∙ ap Some (ways_stay t link Down old.befallen le);
@@ -121,19 +120,19 @@ passed_but_devices {stands} {s} {world} {notes} t old settled lt few running non
         waiting = record {
           real = old.waiting.real;
           later = λ e i u r b. elim (cases_lt u now) [
-            | inl past ↦ old.waiting.later e i u r (old.ahead _ (old.of_now _ (inl past)))
+            | inl past ↦ old.waiting.later e i u r (old.of_now _ (inl past))
             | inr ge ↦ none.waiting e i u ge r.permanent.reached.reached b
           ];
-          sound = λ e i. no_later_breaks s old.mark now t e.device old.befallen le ∙ old.waiting.sound e i;
+          sound = λ e i. no_later_breaks s old.frontier now t e.device old.befallen le ∙ old.waiting.sound e i;
           all =
-              λ e it sound not. old.waiting.all e it (sym (no_later_breaks s old.mark now t e.device old.befallen le) ∙ sound)
+              λ e it sound not. old.waiting.all e it
+              (sym (no_later_breaks s old.frontier now t e.device old.befallen le) ∙ sound)
               (λ u r b. not u r (over (ripe_place u e) b));
         };
         stored = old.stored;
-        are = subst (λ l. AreSettled s hs l (t ∷ []) (t ∷ []) t) (sym settled) (nothing_full s hs t);
+        are = subst (λ l. AreComing s hs l (t ∷ []) t) (sym settled) (nothing_full s hs t);
         shown = λ device in_it ended. absurd (let bad : false ≡ true = sym running ∙ ended in cc);
       },
-      refl,
       refl,
     )
 
@@ -174,23 +173,23 @@ no_task network device node (emitting sent) broken p = let bad : true ≡ false 
 no_task network device node (doing deed) broken p = let bad : true ≡ false = sym broken ∙ p.0 in cc
 
 module _ {M : Type 0} (stands : M → Network → DeviceId → Node → Type 0) (s : Scenario) (hs : List Happening)
-    (mark cursor : List ℕ) (now t : ℕ) (device : DeviceId) (machine : M) where
-  pub device_passes : (k : IsKept stands s hs [] cursor now device machine) → now < t
+    (frontier : List ℕ) (now t : ℕ) (device : DeviceId) (machine : M) where
+  pub device_passes : (k : IsKept stands s hs [] frontier now device machine) → now < t
       → IsSteady (s.reading device) (amount s.network.precision) → pos 0 ≤ℤ s.network.precision.0
-      → HaveBefallen s mark now → IsPast hs now → IsWorked hs cursor now
-      → ((p : List ℕ) → IsBefore p cursor → IsBefore p ((now + 1) ∷ []))
+      → HaveBefallen s frontier now → IsPast hs now → IsWorked hs frontier now
+      → ((p : List ℕ) → IsBefore p frontier → IsBefore p ((now + 1) ∷ []))
       → ((task : Task) → IsPending s.network device k.node task → (x : ℕ) → now ≤ x → x < t
       → pos (s.reading device x) <ℤ reading_for s.network k.node task)
       → IsKept stands s hs [] (t ∷ []) t device machine
   device_passes k lt steady precise befallen past worked later idle =
-      let rest = at_rest stands s hs mark cursor now device machine k befallen past worked
+      let rest = at_rest stands s hs frontier now device machine k befallen past worked
       (record { later = later; falls = steady.never_falls }) (λ task p. idle task p now (omega arith) lt) in
       let from = rest.from in
       let few = rest.soon in
       let le : from ≤ t = omega (arith, lt, few) in
       let off_later = not_on_after t device befallen lt in
-      let as_broken = no_later_breaks s mark now t device befallen (omega (arith, lt)) ∙ sym
-      (no_later_breaks s mark now from device befallen rest.le) in
+      let as_broken = no_later_breaks s frontier now t device befallen (omega (arith, lt)) ∙ sym
+      (no_later_breaks s frontier now from device befallen rest.le) in
       let still : IsStill hs device from t = λ h i after before. rest.still h i after in
       let u : IsUnmoved s hs device from t = record {
         le = le;
@@ -206,7 +205,7 @@ module _ {M : Type 0} (stands : M → Network → DeviceId → Node → Type 0) 
       elim (cases_lt x now) [ inl earlier ↦ k.ready.undone task p x earlier | inr after ↦ idle task p x after before ] in
       let wide = natural s.network.precision.0 precise in
       let sound : k.node.broken ≡ false =
-      rest.left.counted.broken ∙ no_later_breaks s mark now from device befallen rest.le ∙ k.sound in
+      rest.left.counted.broken ∙ no_later_breaks s frontier now from device befallen rest.le ∙ k.sound in
       let whole : hs ≡ hs ++ [] = sym (append-nil hs) in
       let left : IsLeft s hs device t k.node = passes_if t le still rest.off off_later as_broken (λ timed.
       elim (cases_Bool (has_cleared s hs device from from)) [
@@ -234,7 +233,7 @@ module _ {M : Type 0} (stands : M → Network → DeviceId → Node → Type 0) 
       record {
         node = k.node;
         is = k.is;
-        sound = no_later_breaks s mark now t device befallen (omega (arith, lt)) ∙ k.sound;
+        sound = no_later_breaks s frontier now t device befallen (omega (arith, lt)) ∙ k.sound;
         up = t;
         acted = inl (refl, λ task b a. absurd (not_now t device (acts_before s.network t device task (t ∷ []) b)));
         told = λ over. absurd (too_soon t over);
@@ -261,15 +260,15 @@ module _ {M : Type 0} (stands : M → Network → DeviceId → Node → Type 0) 
       never_both : (a b : ℤ) → a <ℤ b → b ≤ℤ a → ⊥
       never_both a b lt le = omega (arith, ints, lt, le)
 
-  out_passes : (k : IsOut stands s hs [] cursor now device machine) → now < t → HaveBefallen s mark now
+  out_passes : (k : IsOut stands s hs [] frontier now device machine) → now < t → HaveBefallen s frontier now
       → IsPast hs now → IsOut stands s hs [] (t ∷ []) t device machine
   out_passes k lt befallen past =
       grind (arith, time_of, append-nil, up_to, all_up_to, no_later_breaks, state_after, adjustment_after, ints, no_task, too_late)
 
-  held_passes : IsHeld stands s hs [] cursor now device machine → now < t
+  held_passes : IsHeld stands s hs [] frontier now device machine → now < t
       → IsSteady (s.reading device) (amount s.network.precision) → pos 0 ≤ℤ s.network.precision.0
-      → HaveBefallen s mark now → IsPast hs now → IsWorked hs cursor now
-      → ((p : List ℕ) → IsBefore p cursor → IsBefore p ((now + 1) ∷ []))
+      → HaveBefallen s frontier now → IsPast hs now → IsWorked hs frontier now
+      → ((p : List ℕ) → IsBefore p frontier → IsBefore p ((now + 1) ∷ []))
       → ((node : Node) → stands machine s.network device node → (task : Task) → IsPending s.network device node task
       → (x : ℕ) → now ≤ x → x < t → pos (s.reading device x) <ℤ reading_for s.network node task)
       → IsHeld stands s hs [] (t ∷ []) t device machine
@@ -287,8 +286,9 @@ passed_step {C} {M} reading stands s world notes t old settled lt few running no
     let m = old.devices device within in (
       m.0,
       m.1,
-      held_passes stands s hs old.mark old.cursor world.now t device m.0
-          (subst (λ l. IsHeld stands s hs l old.cursor world.now device m.0) settled m.2) lt (old.steady device) old.precise old.befallen
+      held_passes stands s hs old.frontier world.now t device m.0
+          (subst (λ l. IsHeld stands s hs l old.frontier world.now device m.0) settled m.2) lt
+          (old.steady device) old.precise old.befallen
           (are_past old) (old.untold.done told) old.not_later
           (λ node is task p x from before. elim (cases_int (pos (s.reading device x)) (reading_for s.network node task)) [
             | inl less ↦ less

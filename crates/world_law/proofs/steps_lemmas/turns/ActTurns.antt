@@ -4,8 +4,8 @@ use Rattle.world_law.proofs.steps_lemmas.Words.{Ripe, Scenario, State, Units, []
 use Rattle.world_law.proofs.steps_lemmas.Words.{is_at_source, is_cut, length, place_of, rank, refl, subst, sym, time_of, true, way_from, ℕ}
 use Rattle.world_law.proofs.steps_lemmas.Words.{Compressed}
 use Rattle.world_law.specs.world.Outcomes.{judged_as}
-use Rattle.world_law.proofs.steps_lemmas.{acting.{ActedSteps.acted_step, First.{act_rest, act_stands, late_rank, low_rank}}, turns.Turns.{AreThere, high_starts, one_later, one_there, turn_by, two_there}}
-use Rattle.world_law.specs.steps.{Acting.{AreActBodies, first_bodies, joining_bodies, rank_of_act}, Turns.{ActedTurn, starts_there}}
+use Rattle.world_law.proofs.steps_lemmas.{acting.{ActedSteps.acted_step, First.{act_rest, act_stands, late_rank, low_rank}}, turns.Turns.{AreThere, high_starts, one_later, one_there, turn_of, two_there}}
+use Rattle.world_law.specs.steps.{Acting.{AreActBodies, first_bodies, joining_bodies, rank_of_act}, Turns.{ActedTurn, TurnsBy, starts_there}}
 use Rattle.run_law.specs.declared.note.NoteBody.TheVariants as kinds
 use Rattle.run_law.specs.declared.steps.Act.TheVariants as acts
 use Rattle.run_law.specs.declared.steps.Ripe.TheVariants as ripe
@@ -75,15 +75,13 @@ none_above now r more zs of above z i (inr (e, inr (f, b))) = let high = above z
 
 pub acted_turn : {C M : Type 0} (reading : C → ℕ → ℕ) (stands : M → Network → DeviceId → Node → Type 0)
     → ActedTurn reading stands
-acted_turn reading stands s world notes p device after bodies machines old a set =
+acted_turn reading stands s world notes device after bodies machines old a set =
     let now = world.now in
     let r = rank_of_act a.act in
     let rest = act_rest s.network device a.act in
-    let place = act_stands s.network now device a.act in
-    turn_by old r rest place (inr (inr (inr (inr (late_rank a.act, low_rank a.act)))))
-    (record world { early = false; machines = machines }) refl
-    (subst (λ q. NoneBefore place_of world.settled q) (sym place)
-    (none_above now r rest world.settled old.0.are.of_now a.apart))
-    (subst (λ q. AreThere s.network (happenings s.network notes) now q bodies) (sym place)
-    (act_there s (happenings s.network notes) now device a.was a.adjustment a.act bodies a.are))
-    (λ settled put. acted_step reading stands s world notes device after bodies machines settled old.0 a set put)
+    let acted = record world { early = false; machines = machines } in
+    subst (λ q. TurnsBy reading stands s notes bodies acted q) (sym (act_stands s.network now device a.act))
+    (turn_of old r rest (inr (inr (inr (inr (late_rank a.act, low_rank a.act))))) acted refl
+    (none_above now r rest world.settled old.are.of_now a.apart)
+    (act_there s (happenings s.network notes) now device a.was a.adjustment a.act bodies a.are)
+    (λ settled put. acted_step reading stands s world notes device after bodies machines settled old a set put))
