@@ -25,14 +25,9 @@ contains_or {X} x same xs =
 
 same_deed : (c d : ClockTask) → (d ≡ c) ⊎ (d ≡ c → ⊥)
 same_deed (sending m) (sending n) = elim (cases_eq n m) [ inl e ↦ inl (ap sending e) | inr other ↦ inr (λ e. other (let f : n ≡ m = cc in f)) ]
-same_deed (sending m) (correcting n) = inr (λ e. cc)
-same_deed (sending m) (dispatching row n) = inr (λ e. cc)
 same_deed (correcting m) (correcting n) = elim (cases_eq n m) [ inl e ↦ inl (ap correcting e) | inr other ↦ inr (λ e. other (let f : n ≡ m = cc in f)) ]
-same_deed (correcting m) (sending n) = inr (λ e. cc)
-same_deed (correcting m) (dispatching row n) = inr (λ e. cc)
 same_deed (dispatching row m) (dispatching other n) = grind (arith, cases_eq, dispatching)
-same_deed (dispatching row m) (sending n) = inr (λ e. cc)
-same_deed (dispatching row m) (correcting n) = inr (λ e. cc)
+same_deed c d = inr (λ e. cc)
 
 same_int : (a b : ℤ) → (a ≡ b) ⊎ (a ≡ b → ⊥)
 same_int (pos m) (pos n) = elim (cases_eq m n) [ inl e ↦ inl (ap pos e) | inr other ↦ inr (λ e. other (omega (arith, ints, e))) ]

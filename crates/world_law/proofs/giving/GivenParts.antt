@@ -71,23 +71,12 @@ time_in (n ∷ ns) = n
 -- a source that stands at the place of a record stands so by the record's kind
 pub at_its_place : {s : Scenario} {hs : List Happening} (z : Happening) {w : List ℕ} → IsSource s hs w
     → w ≡ place_of z → is_at_source z.note.body ≡ true
-at_its_place z (IsSource.arriving t device link cause a) e =
-    elim (source_kinds z.note.body) [ inl is ↦ is | inr other ↦ absurd (other.0 (ap second e)) ]
-at_its_place z (IsSource.ripening t device link cause point r) e =
-    elim (source_kinds z.note.body) [ inl is ↦ is | inr other ↦ absurd (other.1 (ap second e)) ]
 at_its_place {s} z (IsSource.acting t device task a) e = elim (source_kinds z.note.body) [
   | inl is ↦ is
   | inr other ↦ absurd (no_task_at s.network t device (rank z.note.body) (key (members_in z) z.note.body) other.4 task
       (e ∙ ap (λ (n : ℕ). n ∷ rank z.note.body ∷ key (members_in z) z.note.body) (sym (ap time_in e))))
 ]
-at_its_place z (IsSource.departing t device link cause d) e =
-    elim (source_kinds z.note.body) [ inl is ↦ is | inr other ↦ absurd (other.2 (ap second e)) ]
-at_its_place z (IsSource.following t cause h it) e =
-    let few : 2 ≡ suc (suc (length (key (members_in z) z.note.body))) = ap length e in absurd (omega (arith, few, key_long (members_in z) z.note.body))
-at_its_place z (IsSource.befalling time line what it) e =
-    let few : 2 ≡ suc (suc (length (key (members_in z) z.note.body))) = ap length e in absurd (omega (arith, few, key_long (members_in z) z.note.body))
-at_its_place z (IsSource.ending time device is there it) e =
-    elim (source_kinds z.note.body) [ inl is ↦ is | inr other ↦ absurd (other.3 (ap second e)) ]
+at_its_place z source e = grind (arith, source_kinds, second, key_long)
 
 -- ---- what is worked off
 

@@ -173,22 +173,11 @@ abbrev AreFrom : Network → DeviceId → Moment → ℕ → Node → Type 0
 AreFrom network device moment k node = (task : Task) → IsPending network device node task → reading_for network node task ≤ℤ moment.reading.0 → k ≤ kind_of task
 
 by_kind : (network : Network) (a b : Task) → kind_of a < kind_of b → IsBefore (order_of network a) (order_of network b)
-by_kind network (emitting a) (emitting b) lt = absurd (omega (arith, lt))
 by_kind network (emitting a) (doing (sending n)) lt = inl lt
-by_kind network (emitting a) (doing (correcting n)) lt = inl lt
-by_kind network (emitting a) (doing (dispatching row n)) lt = inl lt
-by_kind network (doing (sending m)) (emitting b) lt = absurd (omega (arith, lt))
-by_kind network (doing (sending m)) (doing (sending n)) lt = absurd (omega (arith, lt))
-by_kind network (doing (sending m)) (doing (correcting n)) lt = inl lt
-by_kind network (doing (sending m)) (doing (dispatching row n)) lt = inl lt
-by_kind network (doing (correcting m)) (emitting b) lt = absurd (omega (arith, lt))
-by_kind network (doing (correcting m)) (doing (sending n)) lt = absurd (omega (arith, lt))
-by_kind network (doing (correcting m)) (doing (correcting n)) lt = absurd (omega (arith, lt))
-by_kind network (doing (correcting m)) (doing (dispatching row n)) lt = inl lt
-by_kind network (doing (dispatching of m)) (emitting b) lt = absurd (omega (arith, lt))
-by_kind network (doing (dispatching of m)) (doing (sending n)) lt = absurd (omega (arith, lt))
-by_kind network (doing (dispatching of m)) (doing (correcting n)) lt = absurd (omega (arith, lt))
-by_kind network (doing (dispatching of m)) (doing (dispatching row n)) lt = absurd (omega (arith, lt))
+by_kind network (doing (sending m)) (doing (sending n)) lt = inl lt
+by_kind network (doing (correcting m)) (doing (sending n)) lt = inl lt
+by_kind network (doing (dispatching of m)) (doing (sending n)) lt = inl lt
+by_kind network a b lt = inl lt
 
 -- none is of a kind before that of the first
 from_first : {network : Network} {device : DeviceId} {node : Node} (moment : Moment) {task : Task}
@@ -211,10 +200,8 @@ AreBehindRow network device moment low node =
     (task : Task) → IsPending network device node task → reading_for network node task ≤ℤ moment.reading.0 → IsBefore (3 ∷ low) (order_of network task)
 
 of_kind_three : (low : List ℕ) (network : Network) (task : Task) → IsBefore (3 ∷ low) (order_of network task) → 3 ≤ kind_of task
-of_kind_three low network (emitting sent) b = elim b [ inl lt ↦ omega (arith, lt) | inr same ↦ let bad = same.0 in omega (arith, bad) ]
-of_kind_three low network (doing (sending n)) b = elim b [ inl lt ↦ omega (arith, lt) | inr same ↦ let bad = same.0 in omega (arith, bad) ]
-of_kind_three low network (doing (correcting n)) b = elim b [ inl lt ↦ omega (arith, lt) | inr same ↦ let bad = same.0 in omega (arith, bad) ]
-of_kind_three low network (doing (dispatching row n)) b = omega arith
+of_kind_three low network (doing (sending n)) b = grind arith
+of_kind_three low network task b = grind arith
 
 row_behind : (low high : List ℕ) → IsBefore (3 ∷ low) (3 ∷ high) → IsBefore low high
 row_behind low high (inl lt) = absurd (omega (arith, lt))
@@ -385,15 +372,12 @@ due_before {network} node (inr none) d =
 
 each_due : (network : Network) (device : DeviceId) (moment : Moment) (node : Node) (done : List Act) (new : Node)
     → AreCalled network device moment node done new → (c : Compressed) → IsIn c (emitted_in done) → IsDueFrame network node moment.reading.0 c
-each_due network device moment node [] new are c i = absurd i
-each_due network device moment node (acts.Send frame ∷ more) new are c i = absurd i
-each_due network device moment node (acts.Correct cycle verdict ∷ more) new are c i = absurd i
-each_due network device moment node (acts.Dispatch row cycle ∷ more) new are c i = absurd i
 each_due network device moment node (acts.Emit sent heard ∷ more) new (mid, may, is, rest) c (inl e) =
     subst (IsDueFrame network node moment.reading.0) (sym e) (due_frame sent may is.0.pending is.0.due)
 each_due network device moment node (acts.Emit sent heard ∷ more) new (mid, may, is, rest) c (inr i) =
     due_before node (points_after network device node moment (acts.Emit sent heard) mid is)
     (each_due network device moment mid more new rest c i)
+each_due network device moment node done new are c i = absurd i
 
 opened_behind : (a b : Compressed) → a.opened.0 ≡ pos (amount a.opened) → b.opened.0 ≡ pos (amount b.opened)
     → IsBefore (0 ∷ amount a.opened ∷ []) (0 ∷ amount b.opened ∷ []) → a.opened.0 <ℤ b.opened.0
@@ -404,14 +388,6 @@ opened_behind a b x y (inr (e, inr more)) = absurd more.1
 module _ (network : Network) (device : DeviceId) (moment : Moment) where
   rising : (node : Node) (done : List Act) (new : Node) → IsInRange network → KeepsRules network
       → IsFromZero network device node → AreCalled network device moment node done new → AreRising (emitted_in done)
-  rising node [] new range rules zero_on are = tt
-  rising node (acts.Send frame ∷ more) new range rules zero_on are = tt
-  rising node (acts.Correct cycle verdict ∷ more) new range rules zero_on are = tt
-  rising node (acts.Dispatch row cycle ∷ more) new range rules zero_on are = tt
-  rising node (acts.Emit sent heard ∷ []) new range rules zero_on are = tt
-  rising node (acts.Emit sent heard ∷ acts.Send frame ∷ more) new range rules zero_on are = tt
-  rising node (acts.Emit sent heard ∷ acts.Correct cycle verdict ∷ more) new range rules zero_on are = tt
-  rising node (acts.Emit sent heard ∷ acts.Dispatch row cycle ∷ more) new range rules zero_on are = tt
   rising node (acts.Emit sent heard ∷ acts.Emit next by ∷ more) new range rules zero_on (mid, may, is, rest) =
       let zero_mid = still_from_zero network device node moment (acts.Emit sent heard) mid is zero_on in
       let first = rest.2.0 in (
@@ -420,6 +396,7 @@ module _ (network : Network) (device : DeviceId) (moment : Moment) where
             is first.pending first.due),
         rising mid (acts.Emit next by ∷ more) new range rules zero_mid rest,
       )
+  rising node done new range rules zero_on are = tt
 
   few_others : (node : Node) (done : List Act) (new : Node) → IsInRange network → KeepsRules network
       → IsFromZero network device node → AreCalled network device moment node done new

@@ -317,32 +317,23 @@ module _ (network : Network) (t : ℕ) (device : DeviceId) where
   -- a task that is behind another in the order of what a device does stands behind it, but for those behind a correction
   pub place_grows : (a b : Task) → (IsCorrection a → ⊥) → IsBefore (order_of network a) (order_of network b)
       → IsBefore (task_place network t device a) (task_place network t device b)
-  place_grows (emitting c) (emitting d) apart (inl lt) = absurd (omega (arith, lt))
   place_grows (emitting c) (emitting d) apart (inr (same, inl lt)) = inr (refl, inr (refl, inr (refl, inl lt)))
+  place_grows (emitting c) (emitting d) apart (inl lt) = absurd (omega (arith, lt))
   place_grows (emitting c) (emitting d) apart (inr (same, inr (e, none))) = absurd none
   place_grows (emitting c) (doing (sending n)) apart b = inr (refl, inl (omega arith))
   place_grows (emitting c) (doing (correcting n)) apart b = inr (refl, inl (omega arith))
   place_grows (emitting c) (doing (dispatching row n)) apart b = inr (refl, inl (omega arith))
-  place_grows (doing (sending m)) (emitting d) apart (inl lt) = absurd (omega (arith, lt))
-  place_grows (doing (sending m)) (emitting d) apart (inr b) = let bad = b.0 in absurd (omega (arith, bad))
-  place_grows (doing (dispatching row m)) (emitting d) apart (inl lt) = absurd (omega (arith, lt))
-  place_grows (doing (dispatching row m)) (emitting d) apart (inr b) = let bad = b.0 in absurd (omega (arith, bad))
-  place_grows (doing (sending m)) (doing (sending n)) apart (inl lt) = absurd (omega (arith, lt))
   place_grows (doing (sending m)) (doing (sending n)) apart (inr (same, inl lt)) =
       inr (refl, inr (refl, inr (refl, inl lt)))
+  place_grows (doing (sending m)) (doing (sending n)) apart (inl lt) = absurd (omega (arith, lt))
   place_grows (doing (sending m)) (doing (sending n)) apart (inr (same, inr (e, none))) = absurd none
   place_grows (doing (sending m)) (doing (correcting n)) apart b = inr (refl, inl (omega arith))
   place_grows (doing (sending m)) (doing (dispatching row n)) apart b = inr (refl, inl (omega arith))
-  place_grows (doing (dispatching row m)) (doing (sending n)) apart (inl lt) = absurd (omega (arith, lt))
-  place_grows (doing (dispatching row m)) (doing (sending n)) apart (inr b) =
-      let bad = b.0 in absurd (omega (arith, bad))
-  place_grows (doing (dispatching row m)) (doing (correcting n)) apart (inl lt) = absurd (omega (arith, lt))
-  place_grows (doing (dispatching row m)) (doing (correcting n)) apart (inr b) =
-      let bad = b.0 in absurd (omega (arith, bad))
   place_grows (doing (dispatching row m)) (doing (dispatching other n)) apart (inl lt) = absurd (omega (arith, lt))
   place_grows (doing (dispatching row m)) (doing (dispatching other n)) apart (inr b) =
       inr (refl, inr (refl, inr (refl, b.1)))
   place_grows (doing (correcting m)) b apart before = absurd (apart tt)
+  place_grows a b apart before = absurd (grind arith)
 
   -- what a device that has acted has still to do at the instant stands behind what it did, wherever other devices act in
   -- between
@@ -372,6 +363,10 @@ abbrev OpenAtOnce : Task → Task → Type 0
 OpenAtOnce (emitting c) (emitting d) = amount c.opened ≡ amount d.opened
 OpenAtOnce a b = ⊥
 
+-- of one place in all but what is last, what is before is so there
+fourth : (t r d : ℕ) (more ws : List ℕ) → IsBefore (t ∷ r ∷ d ∷ more) (t ∷ r ∷ d ∷ ws) → IsBefore more ws
+fourth t r d more ws b = grind arith
+
 module _ (network : Network) (t : ℕ) (device : DeviceId) where
   before_in_order : (a b : Task) → IsBefore (task_place network t device a) (task_place network t device b)
       → IsBefore (order_of network a) (order_of network b) ⊎ OpenAtOnce a b
@@ -383,43 +378,15 @@ module _ (network : Network) (t : ℕ) (device : DeviceId) where
   before_in_order (emitting c) (doing (sending n)) b = inl (inl (omega arith))
   before_in_order (emitting c) (doing (correcting n)) b = inl (inl (omega arith))
   before_in_order (emitting c) (doing (dispatching row n)) b = inl (inl (omega arith))
-  before_in_order (doing (sending m)) (emitting d) (inl lt) = absurd (omega (arith, lt))
-  before_in_order (doing (sending m)) (emitting d) (inr (e, inl lt)) = absurd (omega (arith, lt))
-  before_in_order (doing (sending m)) (emitting d) (inr (e, inr b)) = let f = b.0 in absurd (omega (arith, f))
-  before_in_order (doing (sending m)) (doing (sending n)) (inl lt) = absurd (omega (arith, lt))
-  before_in_order (doing (sending m)) (doing (sending n)) (inr (e, inl lt)) = absurd (omega (arith, lt))
-  before_in_order (doing (sending m)) (doing (sending n)) (inr (e, inr (f, inl lt))) = absurd (omega (arith, lt))
-  before_in_order (doing (sending m)) (doing (sending n)) (inr (e, inr (f, inr (g, inl lt)))) = inl (inr (refl, inl lt))
-  before_in_order (doing (sending m)) (doing (sending n)) (inr (e, inr (f, inr (g, inr (h, none))))) = absurd none
+  before_in_order (doing (sending m)) (doing (sending n)) b =
+      elim (fourth t 5 device.0 (m ∷ []) (n ∷ []) b) [ inl lt ↦ inl (inr (refl, inl lt)) | inr x ↦ absurd x.1 ]
   before_in_order (doing (sending m)) (doing (correcting n)) b = inl (inl (omega arith))
   before_in_order (doing (sending m)) (doing (dispatching row n)) b = inl (inl (omega arith))
-  before_in_order (doing (correcting m)) (emitting d) (inl lt) = absurd (omega (arith, lt))
-  before_in_order (doing (correcting m)) (emitting d) (inr (e, inl lt)) = absurd (omega (arith, lt))
-  before_in_order (doing (correcting m)) (emitting d) (inr (e, inr b)) = let f = b.0 in absurd (omega (arith, f))
-  before_in_order (doing (correcting m)) (doing (sending n)) (inl lt) = absurd (omega (arith, lt))
-  before_in_order (doing (correcting m)) (doing (sending n)) (inr (e, inl lt)) = absurd (omega (arith, lt))
-  before_in_order (doing (correcting m)) (doing (sending n)) (inr (e, inr b)) = let f = b.0 in absurd (omega (arith, f))
   before_in_order (doing (correcting m)) (doing (correcting n)) b = absurd (never_self (t ∷ 6 ∷ device.0 ∷ []) b)
   before_in_order (doing (correcting m)) (doing (dispatching row n)) b = inl (inl (omega arith))
-  before_in_order (doing (dispatching row m)) (emitting d) (inl lt) = absurd (omega (arith, lt))
-  before_in_order (doing (dispatching row m)) (emitting d) (inr (e, inl lt)) = absurd (omega (arith, lt))
-  before_in_order (doing (dispatching row m)) (emitting d) (inr (e, inr b)) = let f = b.0 in absurd (omega (arith, f))
-  before_in_order (doing (dispatching row m)) (doing (sending n)) (inl lt) = absurd (omega (arith, lt))
-  before_in_order (doing (dispatching row m)) (doing (sending n)) (inr (e, inl lt)) = absurd (omega (arith, lt))
-  before_in_order (doing (dispatching row m)) (doing (sending n)) (inr (e, inr b)) =
-      let f = b.0 in absurd (omega (arith, f))
-  before_in_order (doing (dispatching row m)) (doing (correcting n)) (inl lt) = absurd (omega (arith, lt))
-  before_in_order (doing (dispatching row m)) (doing (correcting n)) (inr (e, inl lt)) = absurd (omega (arith, lt))
-  before_in_order (doing (dispatching row m)) (doing (correcting n)) (inr (e, inr (f, inl lt))) =
-      absurd (omega (arith, lt))
-  before_in_order (doing (dispatching row m)) (doing (correcting n)) (inr (e, inr (f, inr (g, none)))) = absurd none
-  before_in_order (doing (dispatching row m)) (doing (dispatching other n)) (inl lt) = absurd (omega (arith, lt))
-  before_in_order (doing (dispatching row m)) (doing (dispatching other n)) (inr (e, inl lt)) =
-      absurd (omega (arith, lt))
-  before_in_order (doing (dispatching row m)) (doing (dispatching other n)) (inr (e, inr (f, inl lt))) =
-      absurd (omega (arith, lt))
-  before_in_order (doing (dispatching row m)) (doing (dispatching other n)) (inr (e, inr (f, inr (g, b)))) =
-      inl (inr (refl, b))
+  before_in_order (doing (dispatching row m)) (doing (dispatching other n)) b =
+      inl (inr (refl, fourth t 6 device.0 (dispatch_order network row) (dispatch_order network other) b))
+  before_in_order a b before = absurd (grind arith)
 
   one_frame : (node : Node) (a b : Task) → IsFromZero network device node → IsPending network device node a
       → IsPending network device node b → OpenAtOnce a b

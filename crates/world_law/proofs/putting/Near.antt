@@ -1,21 +1,26 @@
 -- What is due by one of two lists of records that tell the same up to a source is due by the other.
+use Rattle.run_law.specs.control.Corrections.{standing_before}
+use Rattle.run_law.specs.control.Permanence.{IsJudgedBy}
+use Rattle.sync_state.specs.Verdicts.{HasVerdict}
 use Rattle.sync_state.specs.membership.Summary.{Summarizes}
-use Rattle.{run_law.specs.control.{Corrections.standing_before, Permanence.IsJudgedBy}, sync_state.specs.Verdicts.HasVerdict}
-use Rattle.world_law.proofs.Words.{◌++◌, ◌+ℤ◌, ◌<◌, ◌==◌, ◌∙◌, ◌∷◌, ◌≡◌, ◌≤◌, ◌⊎◌, Arrival, ArrivesAs, BecomesPermanent, Bool, ChangesState}
-use Rattle.world_law.proofs.Words.{ComesToCorrection, Compressed, Departs, Departure, DeviceId, Dispatches, Emits, Happening, Integrating, IsActing, IsBefore}
-use Rattle.world_law.proofs.Words.{IsCaused, IsDropped, IsDue, IsForward, IsFounded, IsIn, IsLost, IsOfThisTime, IsOwnSource, IsSendLost, IsSource, Joining}
-use Rattle.world_law.proofs.Words.{Judgement, LinkId, List, None, NoteBody, Pcf, Reason, Ripe, Scenario, Signal, Some, State}
-use Rattle.world_law.proofs.Words.{Units, Verdict, VlId, Why, [], adjustment_after, adjustment_at_hearing, amount, ap, arith, arrival_of, bears_on}
-use Rattle.world_law.proofs.Words.{before_permanence, by_number, cases_lt, cause_of, chain, control, control_arrival, correcting, dispatching}
-use Rattle.world_law.proofs.Words.{doing, earlier, emitting, eq-eqb, false, filter, heard_as, heard_since, if◌then◌else◌, in_filter, inl, inr}
-use Rattle.world_law.proofs.Words.{is_accepted, is_at_source, is_turned_on_at, last_in, last_or, last_taken, length, members_in, next_point, not}
-use Rattle.world_law.proofs.Words.{numbered, numbered_within, observation_window, place_of, plan_of, points_of, rank, refl, sending, state_after}
-use Rattle.world_law.proofs.Words.{state_at_hearing, subst, sym, task_place}
-use Rattle.world_law.proofs.{Words.{time_of, timed, timed_arrival, true, ℕ}, giving.GivenParts.same_permanent, putting.PutIn.{at_place, late_source}}
-use Rattle.world_law.proofs.putting.{Alike.{happening_alike, standpoint_in}, Numberless.timed_by}
-use Rattle.world_law.specs.world.World.{IsDueAs}
+use Rattle.world_law.proofs.Words.{if◌then◌else◌, ◌++◌, ◌+ℤ◌, ◌<◌, ◌==◌, ◌∙◌, ◌∷◌, ◌≡◌, ◌≤◌, ◌⊎◌, Arrival, ArrivesAs, BecomesPermanent, Bool}
+use Rattle.world_law.proofs.Words.{ChangesState, ComesToCorrection, Compressed, Departs, Departure, DeviceId, Dispatches, Emits, Happening}
+use Rattle.world_law.proofs.Words.{Integrating, IsActing, IsBefore, IsCaused, IsDropped, IsDue, IsForward, IsFounded, IsIn, IsLost, IsOfThisTime, IsOwnSource}
+use Rattle.world_law.proofs.Words.{IsSendLost, IsSource, Joining, Judgement, LinkId, List, None, NoteBody, Pcf, Reason, Ripe, Scenario, Signal, Some, State}
+use Rattle.world_law.proofs.Words.{Units, Verdict, VlId, Why, [], adjustment_after, adjustment_at_hearing, amount, ap, arith, arrival_of}
+use Rattle.world_law.proofs.Words.{bears_on, before_permanence, by_number, cases_lt, cause_of, chain, control, control_arrival, correcting, dispatching}
+use Rattle.world_law.proofs.Words.{doing, earlier, emitting, eq-eqb, false, filter, heard_as, heard_since, in_filter, inl, inr, is_accepted, is_at_source}
+use Rattle.world_law.proofs.Words.{is_turned_on_at, last_in, last_or, last_taken, length, members_in, next_point, not, numbered, numbered_within}
+use Rattle.world_law.proofs.Words.{observation_window, place_of, plan_of, points_of, rank, refl, sending, state_after, state_at_hearing, subst, sym}
+use Rattle.world_law.proofs.Words.{task_place, time_of, timed, timed_arrival, true, ℕ}
+use Rattle.world_law.proofs.giving.GivenParts.{same_permanent}
+use Rattle.world_law.proofs.putting.Alike.{happening_alike, standpoint_in}
+use Rattle.world_law.proofs.putting.Numberless.{timed_by}
+use Rattle.world_law.proofs.putting.PutIn.{at_place}
 use Rattle.world_law.proofs.runs.Firsts.{arrives_later, dispatches_back, dispatches_same, earlier_still, gives_rank, numbered_parts, reaches_back}
 use Rattle.world_law.proofs.runs.Firsts.{standing_in, up_back}
+use Rattle.world_law.proofs.runs.Sourced.{arrival_of_it, departure_of_it, point_of_it, ripening_of_it}
+use Rattle.world_law.specs.world.World.{IsDueAs}
 use Rattle.run_law.specs.declared.judgement.Why.TheVariants as whys
 use Rattle.run_law.specs.declared.note.NoteBody.TheVariants as notes
 
@@ -183,10 +188,6 @@ module _ (s : Scenario) (n m : ℕ) (at : List ℕ) (put : NoteBody) (js gs : Li
       → IsOwnSource s js (amount time) m body p → (IsBefore at p → ⊥) → IsCaused s js time body
       → IsCaused s gs time body
   caused_near (notes.Event line what) p a there follows free le o under c = c
-  caused_near (notes.Arrived device link cause clock) p a there follows free le o under c = absurd cc
-  caused_near (notes.Permanent device link cause point verdict) p a there follows free le o under c = absurd cc
-  caused_near (notes.Left device link cause clock) p a there follows free le o under c = absurd cc
-  caused_near (notes.Clock device reading adjustment state) p a there follows free le o under c = absurd cc
   caused_near (notes.Compressed device opened on cycle members verdict) p a there follows free le o under c =
       emits_near s js gs (amount time) device (a.hearing device (free device (eq-eqb device.0 device.0 refl))) c
   caused_near (notes.Sent device cycle) p a there follows free le o under c =
@@ -200,9 +201,6 @@ module _ (s : Scenario) (n m : ℕ) (at : List ℕ) (put : NoteBody) (js gs : Li
       grind (arith, comes_near, amount, eq-eqb)
   caused_near (notes.State device state cause whys.AsyncClique) p a there follows free le o under c =
       grind (arith, comes_near, amount, eq-eqb)
-  caused_near (notes.State device state cause whys.On) p a there follows free le o under c = absurd cc
-  caused_near (notes.State device state cause whys.Frame) p a there follows free le o under c = absurd cc
-  caused_near (notes.State device state cause whys.Correction) p a there follows free le o under c = absurd cc
   caused_near (notes.Lost device link cause) p a there follows free le o under c =
       lost_near s js gs (amount time) device link cause a.before (a.first cause le) c
   caused_near (notes.TtSent device link cause vl cycle) p a there follows free le o under c =
@@ -215,6 +213,7 @@ module _ (s : Scenario) (n m : ℕ) (at : List ℕ) (put : NoteBody) (js gs : Li
       (subst (λ q. IsBefore at q → ⊥) o under) c
   caused_near (notes.Dropped device link cause reason) p a there follows free le o under c =
       dropped_near s (amount time) n m at put js gs device link cause reason p a le o under c
+  caused_near other p a there follows free le o under c = absurd cc
 
 -- and its own source
 pub own_near : (s : Scenario) (t n m : ℕ) (at : List ℕ) (put : NoteBody) (js gs : List Happening) (body : NoteBody) (p : List ℕ)
@@ -233,11 +232,7 @@ own_near s t n m at put js gs (notes.Dropped device link cause reason) p a le un
     inr (inl (x.0, r.0, x.2 ∙ ap (λ (f : Pcf). t ∷ 3 ∷ device.0 ∷ amount x.0 ∷ f.members.0 ∷ link.0 ∷ cause ∷ []) (sym r.1)))
 own_near s t n m at put js gs (notes.Dropped device link cause reason) p a le under (inr (inr x)) =
     inr (inr (x.0, departs_near s js gs t device (a.first cause le) x.1))
-own_near s t n m at put js gs (notes.State device state cause whys.On) p a le under o = o
-own_near s t n m at put js gs (notes.State device state cause whys.Frame) p a le under o = o
-own_near s t n m at put js gs (notes.State device state cause whys.Correction) p a le under o = o
 own_near s t n m at put js gs (notes.State device state cause whys.SyncClique) p a le under o = o
-own_near s t n m at put js gs (notes.State device state cause whys.AsyncClique) p a le under o = o
 own_near s t n m at put js gs (notes.TtSent device link cause vl cycle) p a le under o =
     let e = dispatches_same s js gs t device link cause vl cycle a.before o.0 in
     (e.0, o.1 ∙ ap (λ (n : ℕ). task_place s.network t device (doing (dispatching (record { 0 = n }) cycle))) (sym e.1))
@@ -247,17 +242,13 @@ own_near s t n m at put js gs other p a le under o = o
 pub own_source : (s : Scenario) (js : List Happening) (time : Units) (m : ℕ) (body : NoteBody) (p : List ℕ) → is_at_source body ≡ false
     → IsCaused s js time body → IsOwnSource s js (amount time) m body p → IsSource s js p
 own_source s js time m (notes.Event line what) p there c o = at_place s js p o (IsSource.befalling time line what c)
-own_source s js time m (notes.Arrived device link cause clock) p there c o = absurd cc
-own_source s js time m (notes.Permanent device link cause point verdict) p there c o = absurd cc
-own_source s js time m (notes.Left device link cause clock) p there c o = absurd cc
-own_source s js time m (notes.Clock device reading adjustment state) p there c o = absurd cc
 own_source s js time m (notes.Compressed device opened at cycle members verdict) p there c o =
     at_place s js p o (IsSource.acting (amount time) device (emitting _) (IsActing.emits _ verdict c))
 own_source s js time m (notes.Sent device cycle) p there c o =
     at_place s js p o (IsSource.acting (amount time) device (doing (sending cycle)) (IsActing.sends cycle c))
 own_source s js time m (notes.Corrected device cycle by adjustment) p there c o =
     at_place s js p o (IsSource.acting (amount time) device (doing (correcting _))
-    (IsActing.corrects cycle (record { next = c.corrected.next; reached = c.corrected.reached; correct = c.corrected.correct })))
+    (IsActing.corrects cycle (point_of_it s js (amount time) device c.corrected)))
 own_source s js time m (notes.State device state cause whys.On) p there c o =
     at_place s js p o (IsSource.following (amount time) cause c.2.1 c.2.2)
 own_source s js time m (notes.State device state cause whys.Frame) p there c o =
@@ -266,19 +257,35 @@ own_source s js time m (notes.State device state cause whys.Correction) p there 
     at_place s js p o (IsSource.following (amount time) cause c.2.3 c.2.4)
 own_source s js time m (notes.State device state cause whys.SyncClique) p there c o =
     at_place s js p o.1 (IsSource.acting (amount time) device (doing (correcting _))
-    (IsActing.corrects c.2.0 (record { next = c.2.1.next; reached = c.2.1.reached; correct = c.2.1.correct })))
+    (IsActing.corrects c.2.0 (point_of_it s js (amount time) device c.2.1)))
 own_source s js time m (notes.State device state cause whys.AsyncClique) p there c o =
     at_place s js p o.1 (IsSource.acting (amount time) device (doing (correcting _))
-    (IsActing.corrects c.2.0 (record { next = c.2.1.next; reached = c.2.1.reached; correct = c.2.1.correct })))
-own_source s js time m (notes.Lost device link cause) p there c o = late_source s js time m (notes.Lost device link cause) p (omega arith) c o
+    (IsActing.corrects c.2.0 (point_of_it s js (amount time) device c.2.1)))
+own_source s js time m (notes.Lost device link cause) p there c (inl o) =
+    at_place s js p o.0 (IsSource.departing (amount time) device link cause
+    (departure_of_it s js (amount time) device o.1))
+own_source s js time m (notes.Lost device link cause) p there c (inr (inl o)) =
+    at_place s js p o.4 (IsSource.acting (amount time) device (doing (dispatching (record { 0 = o.2.place }) o.1))
+    (IsActing.dispatches link cause o.0 o.1 o.2))
+own_source s js time m (notes.Lost device link cause) p there c (inr (inr o)) =
+    at_place s js p o.0 (IsSource.following (amount time) cause o.1.event o.1.is)
 own_source s js time m (notes.TtSent device link cause vl cycle) p there c o =
-    late_source s js time m (notes.TtSent device link cause vl cycle) p (omega arith) c o
+    at_place s js p o.1 (IsSource.acting (amount time) device (doing (dispatching (record { 0 = o.0.place }) cycle))
+    (IsActing.dispatches link cause vl cycle o.0))
 own_source s js time m (notes.Accepted device link cause vl cycle) p there c o =
-    late_source s js time m (notes.Accepted device link cause vl cycle) p (omega arith) c o
+    at_place s js p o (IsSource.arriving (amount time) device link cause (arrival_of_it s js (amount time) device c))
 own_source s js time m (notes.Delivered device link cause vl cycle) p there c o =
-    late_source s js time m (notes.Delivered device link cause vl cycle) p (omega arith) c o
-own_source s js time m (notes.Dropped device link cause reason) p there c o =
-    late_source s js time m (notes.Dropped device link cause reason) p (omega arith) c o
+    at_place s js p o (IsSource.arriving (amount time) device link cause (arrival_of_it s js (amount time) device c))
+own_source s js time m (notes.Dropped device link cause reason) p there c (inl o) =
+    at_place s js p o.0 (IsSource.arriving (amount time) device link cause
+    (arrival_of_it s js (amount time) device o.1))
+own_source s js time m (notes.Dropped device link cause reason) p there c (inr (inl o)) =
+    at_place s js p o.2 (IsSource.ripening (amount time) device link cause o.0
+    (ripening_of_it s js (amount time) device link cause o.0 _ o.1))
+own_source s js time m (notes.Dropped device link cause reason) p there c (inr (inr o)) =
+    at_place s js p o.0 (IsSource.departing (amount time) device link cause
+    (departure_of_it s js (amount time) device o.1))
+own_source s js time m other p there c o = absurd cc
 
 -- ---- causes are given
 
@@ -350,32 +357,42 @@ module _ (s : Scenario) (hs zs : List Happening) (now r : ℕ) where
             ]
       ]
 
+-- the cause of a late record is given, where all that is to come is late
+module _ (s : Scenario) (hs zs : List Happening) (time : Units) where
+  pub known_cause : (body : NoteBody) → IsForward s → IsFounded place_of (IsDue s) hs → AreFrom (amount time) 8 zs
+      → 8 ≤ rank body → IsCaused s (hs ++ zs) time body → cause_of body ≤ length hs
+  known_cause (notes.Left device link cause clock) forward founded late high c =
+      departs_given s hs zs (amount time) 8 late (omega arith) c
+  known_cause (notes.Lost device link cause) forward founded late high (inl d) =
+      departs_given s hs zs (amount time) 8 late (omega arith) d
+  known_cause (notes.Lost device link cause) forward founded late high (inr (inl d)) =
+      dispatches_given s hs zs (amount time) 8 founded late d.2
+  known_cause (notes.Lost device link cause) forward founded late high (inr (inr l)) =
+      send_given s hs zs (amount time) 8 late (omega arith) l
+  known_cause (notes.TtSent device link cause vl cycle) forward founded late high c =
+      dispatches_given s hs zs (amount time) 8 founded late c.dispatches
+  known_cause (notes.Accepted device link cause vl cycle) forward founded late high c =
+      arrives_given s hs zs (amount time) 8 forward late c
+  known_cause (notes.Delivered device link cause vl cycle) forward founded late high c =
+      arrives_given s hs zs (amount time) 8 forward late c
+  known_cause (notes.Dropped device link cause reason) forward founded late high (inl a) =
+      arrives_given s hs zs (amount time) 8 forward late a
+  known_cause (notes.Dropped device link cause reason) forward founded late high (inr (inl x)) =
+      ripens_given s hs zs (amount time) 8 late (omega arith) x.1
+  known_cause (notes.Dropped device link cause reason) forward founded late high (inr (inr d)) =
+      departs_given s hs zs (amount time) 8 late (omega arith) d.0
+  known_cause other forward founded late high c = omega (arith, high)
+
 module _ (s : Scenario) (hs zs : List Happening) (time : Units) (m r : ℕ) (more : List ℕ) where
   -- the cause of a record whose source is not behind the place is given, if it does not follow a record of the instant
   pub known_near : (body : NoteBody) (p : List ℕ) → IsForward s → IsFounded place_of (IsDue s) hs
       → AreFrom (amount time) r zs → 2 ≤ r → is_at_source body ≡ false → is_follower body ≡ false
       → IsOwnSource s (hs ++ zs) (amount time) m body p → (IsBefore (amount time ∷ r ∷ more) p → ⊥)
       → IsCaused s (hs ++ zs) time body → cause_of body ≤ length hs
-  known_near (notes.Event line what) p forward founded from late there follows o under c = omega arith
-  known_near (notes.Arrived device link cause clock) p forward founded from late there follows o under c = absurd cc
-  known_near (notes.Permanent device link cause point verdict) p forward founded from late there follows o under c =
-      absurd cc
-  known_near (notes.Left device link cause clock) p forward founded from late there follows o under c = absurd cc
-  known_near (notes.Clock device reading adjustment state) p forward founded from late there follows o under c =
-      absurd cc
-  known_near (notes.Compressed device opened at cycle members verdict) p forward founded from late there follows o
-      under c = omega arith
-  known_near (notes.Sent device cycle) p forward founded from late there follows o under c = omega arith
-  known_near (notes.Corrected device cycle by adjustment) p forward founded from late there follows o under c =
-      omega arith
   known_near (notes.State device state cause whys.SyncClique) p forward founded from late there follows o under c =
       let e = c.1 in omega (arith, e)
   known_near (notes.State device state cause whys.AsyncClique) p forward founded from late there follows o under c =
       let e = c.1 in omega (arith, e)
-  known_near (notes.State device state cause whys.On) p forward founded from late there follows o under c = absurd cc
-  known_near (notes.State device state cause whys.Frame) p forward founded from late there follows o under c = absurd cc
-  known_near (notes.State device state cause whys.Correction) p forward founded from late there follows o under c =
-      absurd cc
   known_near (notes.Lost device link cause) p forward founded from late there follows (inl o) under c =
       let high = rank_up_to (amount time) r 8 more (device.0 ∷ link.0 ∷ cause ∷ [])
       (subst (λ q. IsBefore (amount time ∷ r ∷ more) q → ⊥) o.0 under) in
@@ -400,6 +417,7 @@ module _ (s : Scenario) (hs zs : List Happening) (time : Units) (m r : ℕ) (mor
       let high = rank_up_to (amount time) r 8 more (device.0 ∷ link.0 ∷ cause ∷ [])
       (subst (λ q. IsBefore (amount time ∷ r ∷ more) q → ⊥) o.0 under) in
       departs_given s hs zs (amount time) r from high o.1
+  known_near other p forward founded from late there follows o under c = grind arith
 
 -- ---- what follows a record of the instant
 

@@ -1,5 +1,5 @@
 -- What is to come with a record put in at its place, whichever source of the instant it comes from.
-use Rattle.world_law.proofs.Words.{◌++◌, ◌+◌, ◌<◌, ◌∙◌, ◌∷◌, ◌≡◌, ◌≤◌, ◌⊎◌, AllBefore, DeviceId, Happening, IsBefore, IsDue, IsForward, IsFounded, IsIn}
+use Rattle.world_law.proofs.Words.{◌++◌, ◌+◌, ◌∙◌, ◌∷◌, ◌≡◌, ◌≤◌, ◌⊎◌, AllBefore, DeviceId, Happening, IsBefore, IsDue, IsForward, IsFounded, IsIn}
 use Rattle.world_law.proofs.Words.{IsOwnSource, IsSource, LinkId, List, NoneBefore, NoteBody, Scenario, VlId, [], rows_place, ap, append_assoc, arith, bears_on}
 use Rattle.world_law.proofs.Words.{before_behind, behind, cases_Bool, cases_lt, cases_order, cause_of, chain, either_way, eqb-true, false, in_left}
 use Rattle.world_law.proofs.Words.{in_parts, in_right, inl, inr, is_at_source, is_taken_before, key, length, length-append, members_in, never_self}
@@ -12,66 +12,17 @@ use Rattle.world_law.proofs.putting.Near.{near_back, own_aside, own_source}
 use Rattle.world_law.proofs.Words.{ChangesState, IsCaused, State, Units, Why, amount, is_joined_by, numbered, numbered_within, parted, Some}
 use Rattle.world_law.specs.world.World.{IsDueAs}
 use Rattle.world_law.proofs.putting.PutShown.{AsState}
-use Rattle.schedule_tables.specs.Dispatches.{dispatch_order}
 use Rattle.run_law.specs.declared.judgement.Why.TheVariants as whys
 use Rattle.run_law.specs.declared.note.NoteBody.TheVariants as notes
 
 -- ---- no record stands before its own source
 
-higher : (t k r : ℕ) (ks rs : List ℕ) → r < k → IsBefore (t ∷ k ∷ ks) (t ∷ r ∷ rs) → ⊥
-higher t k r ks rs lt (inl b) = omega (arith, b)
-higher t k r ks rs lt (inr (e, inl b)) = omega (arith, lt, b)
-higher t k r ks rs lt (inr (e, inr b)) = let f = b.0 in omega (arith, lt, f)
-
-above : (t k r : ℕ) (ks rs q : List ℕ) → r < k → q ≡ t ∷ r ∷ rs → IsBefore (t ∷ k ∷ ks) q → ⊥
-above t k r ks rs q lt o b = higher t k r ks rs lt (subst (λ p. IsBefore (t ∷ k ∷ ks) p) o b)
-
-same_place : (p q : List ℕ) → q ≡ p → IsBefore p q → ⊥
-same_place p q o b = never_self p (subst (λ u. IsBefore p u) o b)
-
-none_below : (t k : ℕ) (ks q : List ℕ) → q ≡ t ∷ k ∷ [] → IsBefore (t ∷ k ∷ ks) q → ⊥
-none_below t k ks q o b = grind arith
-
 module _ (s : Scenario) (js : List Happening) (t m : ℕ) where
   -- for all kinds
   pub least_of_own : (body : NoteBody) (q : List ℕ) → IsOwnSource s js t m body q
       → IsBefore (t ∷ rank body ∷ key m body) q → ⊥
-  least_of_own (notes.Event line what) q o b = none_below t 1 (line ∷ []) q o b
-  least_of_own (notes.Compressed device opened at cycle members verdict) q o b = same_place _ q o b
-  least_of_own (notes.Sent device cycle) q o b = same_place _ q o b
-  least_of_own (notes.Corrected device cycle by adjustment) q o b = same_place _ q o b
-  least_of_own (notes.State device state cause whys.On) q o b =
-      above t 7 2 (device.0 ∷ cause ∷ []) [] q (omega arith) o b
-  least_of_own (notes.State device state cause whys.Frame) q o b =
-      above t 7 2 (device.0 ∷ cause ∷ []) [] q (omega arith) o b
-  least_of_own (notes.State device state cause whys.Correction) q o b =
-      above t 7 2 (device.0 ∷ cause ∷ []) [] q (omega arith) o b
-  least_of_own (notes.State device state cause whys.SyncClique) q o b =
-      above t 7 6 (device.0 ∷ cause ∷ []) (device.0 ∷ []) q (omega arith) o.1 b
-  least_of_own (notes.State device state cause whys.AsyncClique) q o b =
-      above t 7 6 (device.0 ∷ cause ∷ []) (device.0 ∷ []) q (omega arith) o.1 b
-  least_of_own (notes.Lost device link cause) q (inl o) b =
-      above t 9 8 (device.0 ∷ link.0 ∷ cause ∷ []) (device.0 ∷ link.0 ∷ cause ∷ []) q (omega arith) o.0 b
-  least_of_own (notes.Lost device link cause) q (inr (inl o)) b =
-      above t 9 6 (device.0 ∷ link.0 ∷ cause ∷ []) (device.0 ∷ dispatch_order s.network (record { 0 = o.2.place })) q
-      (omega arith) o.4 b
-  least_of_own (notes.Lost device link cause) q (inr (inr o)) b =
-      above t 9 2 (device.0 ∷ link.0 ∷ cause ∷ []) [] q (omega arith) o.0 b
-  least_of_own (notes.TtSent device link cause vl cycle) q o b =
-      above t 10 6 (device.0 ∷ link.0 ∷ cause ∷ vl.0 ∷ cycle ∷ [])
-      (device.0 ∷ dispatch_order s.network (record { 0 = o.0.place })) q (omega arith) o.1 b
-  least_of_own (notes.Accepted device link cause vl cycle) q o b =
-      above t 11 2 (device.0 ∷ link.0 ∷ cause ∷ []) (device.0 ∷ link.0 ∷ cause ∷ []) q (omega arith) o b
-  least_of_own (notes.Delivered device link cause vl cycle) q o b =
-      above t 12 2 (device.0 ∷ link.0 ∷ cause ∷ []) (device.0 ∷ link.0 ∷ cause ∷ []) q (omega arith) o b
-  least_of_own (notes.Dropped device link cause reason) q (inl o) b =
-      above t 13 2 (device.0 ∷ link.0 ∷ cause ∷ []) (device.0 ∷ link.0 ∷ cause ∷ []) q (omega arith) o.0 b
-  least_of_own (notes.Dropped device link cause reason) q (inr (inl o)) b =
-      above t 13 3 (device.0 ∷ link.0 ∷ cause ∷ [])
-      (device.0 ∷ amount o.0 ∷ o.1.frame.members.0 ∷ link.0 ∷ cause ∷ []) q (omega arith) o.2 b
-  least_of_own (notes.Dropped device link cause reason) q (inr (inr o)) b =
-      above t 13 8 (device.0 ∷ link.0 ∷ cause ∷ []) (device.0 ∷ link.0 ∷ cause ∷ []) q (omega arith) o.0 b
-  least_of_own other q o b = same_place _ q o b
+  least_of_own (notes.State device state cause whys.SyncClique) q o b = grind (arith, never_self)
+  least_of_own other q o b = grind (arith, never_self)
 
   -- ---- what a device hears
 

@@ -45,20 +45,9 @@ module _ (s : Scenario) (js : List Happening) (now m : ℕ) where
   apart_of : (r : ℕ) (more : List ℕ) (body : NoteBody) → IsOwnSource s js now m body (now ∷ r ∷ more)
       → (now ∷ 2 ∷ [] ≡ now ∷ r ∷ more → ⊥) → (device : DeviceId) → IsBefore (rows_place now device) (now ∷ r ∷ more)
       → bears_on device body ≡ false
-  apart_of r more (notes.Permanent other link cause point verdict) o longer device b = absurd
-      (let three : r ≡ 3 = cc in elim b [ inl lt ↦ omega (arith, lt) | inr (e, inl lt) ↦ omega (arith, lt, three) | inr (e, inr f) ↦ omega (arith, f.0, three) ])
-  apart_of r more (notes.Compressed other opened at cycle members verdict) o longer device b = absurd
-      (let four : r ≡ 4 = cc in elim b [ inl lt ↦ omega (arith, lt) | inr (e, inl lt) ↦ omega (arith, lt, four) | inr (e, inr f) ↦ omega (arith, f.0, four) ])
-  apart_of r more (notes.Corrected other cycle by adjustment) o longer device b =
-      grind (arith, false_from_ne_true, never_self, rows_place, eqb-true)
   apart_of r more (notes.State other state cause whys.SyncClique) o longer device b =
       grind (arith, false_from_ne_true, never_self, rows_place, eqb-true)
-  apart_of r more (notes.State other state cause whys.AsyncClique) o longer device b =
-      grind (arith, false_from_ne_true, never_self, rows_place, eqb-true)
-  apart_of r more (notes.State other state cause whys.On) o longer device b = absurd (longer (sym o))
-  apart_of r more (notes.State other state cause whys.Frame) o longer device b = absurd (longer (sym o))
-  apart_of r more (notes.State other state cause whys.Correction) o longer device b = absurd (longer (sym o))
-  apart_of r more other o longer device b = refl
+  apart_of r more other o longer device b = grind (arith, false_from_ne_true, never_self, rows_place, eqb-true)
 
 -- ---- what follows it
 

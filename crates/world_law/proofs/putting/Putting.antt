@@ -6,7 +6,7 @@ use Rattle.world_law.proofs.Words.{arith, behind, cause_of, in_left, in_parts, i
 use Rattle.world_law.proofs.Words.{length, members_in, place_of, rank, refl, subst, sym, time_of, true, ℕ}
 use Rattle.world_law.proofs.{devices.Borne.moves_no_other, rows.AtHand.idle_taking}
 use Rattle.world_law.proofs.putting.{Bearing.{frames_aside, held_aside, known_aside}, Idle.{IsIdle, idle_bears, idle_rank}}
-use Rattle.world_law.proofs.putting.{Moving.IsAllOfIt, PutIn.{known_cause, own_time}, PutOne.{IsOne, is_last, last_unfollowed, one_by}}
+use Rattle.world_law.proofs.putting.{Moving.IsAllOfIt, Near.known_cause, PutIn.own_time, PutOne.{IsOne, is_last, last_unfollowed, one_by}}
 use Rattle.world_law.proofs.runs.Firsts.{at_least}
 use Rattle.world_law.specs.world.World.{IsDueAs}
 use Rattle.run_law.specs.declared.note.NoteBody.TheVariants as notes

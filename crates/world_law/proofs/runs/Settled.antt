@@ -1,6 +1,6 @@
 -- What is to come while a source is worked off and its own record is not given yet.
 use Rattle.world_law.proofs.Words.{◌++◌, ◌∷◌, ◌∙◌, ◌≡◌, AllBefore, AreComing, Happening, IsBefore, IsIn, IsOwnSource, IsWorkedOff, List, NoneBefore}
-use Rattle.world_law.proofs.Words.{NoteBody, Scenario, [], before_behind, before_later, behind, cases_Bool, chain, false, inl, inr, is_at_source, key}
+use Rattle.world_law.proofs.Words.{NoteBody, Scenario, [], arith, before_behind, before_later, behind, cases_Bool, chain, false, inl, inr, is_at_source, key}
 use Rattle.world_law.proofs.Words.{members_in, parted, place_of, rank, subst, sym, time_of, true, ℕ}
 use Rattle.world_law.specs.world.World.{IsDueAs}
 use Rattle.run_law.specs.declared.note.NoteBody.TheVariants as notes
@@ -10,13 +10,7 @@ pub own_here : (s : Scenario) (js : List Happening) (t m : ℕ) (body : NoteBody
     → IsOwnSource s js t m body p
     → p ≡ t ∷ rank body ∷ key m body
 own_here s js t m (notes.Arrived device link cause clock) p e o = o
-own_here s js t m (notes.Permanent device link cause point verdict) p e o = o
-own_here s js t m (notes.Compressed device opened at cycle members verdict) p e o = o
-own_here s js t m (notes.Sent device cycle) p e o = o
-own_here s js t m (notes.Corrected device cycle by adjustment) p e o = o
-own_here s js t m (notes.Left device link cause clock) p e o = o
-own_here s js t m (notes.Clock device reading adjustment state) p e o = o
-own_here s js t m other p e o = absurd cc
+own_here s js t m other p e o = grind arith
 
 -- between two places: up to the first the records given are the run, and each source before the second is worked off
 pub record AreSettled (s : Scenario) (hs coming : List Happening) (from to : List ℕ) (now : ℕ) : Type 0 where

@@ -13,19 +13,20 @@ abbrev IsSourcedAt : Scenario → List Happening → ℕ → ℕ → NoteBody �
 IsSourcedAt s hs t members body at = (place : List ℕ) × IsOwnSource s hs t members body place × IsSource s hs place × ((place ≡ at) ⊎ IsBefore place at)
 
 module _ (s : Scenario) (hs : List Happening) (t : ℕ) (device : DeviceId) where
-  arrival_of_it : {link : LinkId} {cause : ℕ} {is : Arrival} → ArrivesAs s hs device t link cause is
+  pub arrival_of_it : {link : LinkId} {cause : ℕ} {is : Arrival} → ArrivesAs s hs device t link cause is
       → IsArriving s hs t device link cause
   arrival_of_it a = record { putting = a.putting; there = a.there; signal = a.signal; arrives = a.arrives }
 
-  departure_of_it : {link : LinkId} {cause : ℕ} {is : Departure} → Departs s hs device t link cause is
+  pub departure_of_it : {link : LinkId} {cause : ℕ} {is : Departure} → Departs s hs device t link cause is
       → IsDeparting s hs t device link cause
   departure_of_it d = record { giving = d.giving; there = d.there; gives = d.gives; held = d.held }
 
-  point_of_it : {cycle : ℕ} {verdict : Verdict} → ComesToCorrection s hs device t cycle verdict
+  pub point_of_it : {cycle : ℕ} {verdict : Verdict} → ComesToCorrection s hs device t cycle verdict
       → IsAtCorrection s hs t device cycle
   point_of_it c = record { next = c.next; reached = c.reached; correct = c.correct }
 
-abbrev ripening_of_it : (s : Scenario) (hs : List Happening) (t : ℕ) (device : DeviceId) (link : LinkId) (cause : ℕ) (point : Units) (is : Ripe)
+abbrev pub ripening_of_it : (s : Scenario) (hs : List Happening) (t : ℕ) (device : DeviceId) (link : LinkId) (cause : ℕ)
+    (point : Units) (is : Ripe)
     → BecomesPermanent s hs device t link cause point is → IsRipening s hs t device link cause point
 ripening_of_it s hs t device link cause point is r = record { frame = r.frame; permanent = r.permanent }
 

@@ -8,7 +8,7 @@ use Rattle.world_law.proofs.steps_lemmas.Words.{amount, ap, arith, cases_Bool, d
 use Rattle.world_law.proofs.steps_lemmas.Words.{false, if◌then◌else◌, inl, inr, is_cut, members_in}
 use Rattle.world_law.proofs.steps_lemmas.Words.{place_of, rank, same_device}
 use Rattle.world_law.proofs.steps_lemmas.Words.{subst, sym, time_of, true, way_from, ℕ}
-use Rattle.world_law.proofs.steps_lemmas.Words.{length, row_order, rows_place, second}
+use Rattle.world_law.proofs.steps_lemmas.Words.{length, row_order, rows_place}
 use Rattle.schedule_tables.specs.Dispatches.{dispatch_order}
 use Rattle.run_law.specs.declared.judgement.Why.TheVariants as whys
 use Rattle.run_law.specs.declared.note.NoteBody.TheVariants as kinds
@@ -35,9 +35,6 @@ at_it now t device other p own c =
     let same = same_device other device (sym e.1) in
     (sym e.0, (same, subst (λ (n : ℕ). p device n) (sym e.0) (subst (λ (d : DeviceId). p d t) same c)))
 
-elsewhere : (now t d k : ℕ) (ws : List ℕ) → now ∷ 6 ∷ d ∷ [] ≡ t ∷ k ∷ ws → (k ≡ 6 → ⊥) → ⊥
-elsewhere now t d k ws e not = not (sym (ap second e))
-
 -- a row has a place of its own
 no_row : {s : Scenario} {js : List Happening} (now : ℕ) {t : ℕ} (device : DeviceId) {other : DeviceId} {link : _}
     {cause : ℕ} {vl : _} {cycle : ℕ} (d : Dispatches s js other t link cause vl cycle)
@@ -61,33 +58,13 @@ module _ (s : Scenario) (js : List Happening) (now : ℕ) (device : DeviceId) (t
       let x = at_it now (amount time) device other
       (λ d n. (cycle : ℕ) × ComesToCorrection s js d n cycle AsyncClique) own.1 c.2 in
       (x.0, (x.1.0, c.0, c.1, x.1.1))
-  point_cause_of (kinds.Lost other link cause) (inl own) c =
-      absurd (elsewhere now (amount time) device.0 8 _ own.0 (λ k. omega (arith, k)))
   point_cause_of (kinds.Lost other link cause) (inr (inl own)) c =
       absurd (no_row now device own.2 own.4)
-  point_cause_of (kinds.Lost other link cause) (inr (inr own)) c =
-      absurd (elsewhere now (amount time) device.0 2 _ own.0 (λ k. omega (arith, k)))
   point_cause_of (kinds.TtSent other link cause vl cycle) own c =
       absurd (no_row now device own.0 own.1)
-  point_cause_of (kinds.Compressed other opened at cycle members verdict) own c =
-      absurd (elsewhere now (amount time) device.0 4 _ own (λ k. omega (arith, k)))
-  point_cause_of (kinds.Sent other cycle) own c =
-      absurd (elsewhere now (amount time) device.0 5 _ own (λ k. omega (arith, k)))
-  point_cause_of (kinds.Event line what) own c =
-      absurd (elsewhere now (amount time) device.0 1 _ own (λ k. omega (arith, k)))
-  point_cause_of (kinds.Permanent other link cause point verdict) own c =
-      absurd (elsewhere now (amount time) device.0 3 _ own (λ k. omega (arith, k)))
-  point_cause_of (kinds.Left other link cause clock) own c =
-      absurd (elsewhere now (amount time) device.0 8 _ own (λ k. omega (arith, k)))
-  point_cause_of (kinds.Dropped other link cause reason) (inl own) c =
-      absurd (elsewhere now (amount time) device.0 2 _ own.0 (λ k. omega (arith, k)))
-  point_cause_of (kinds.Dropped other link cause reason) (inr (inl own)) c =
-      absurd (elsewhere now (amount time) device.0 3 _ own.2 (λ k. omega (arith, k)))
-  point_cause_of (kinds.Dropped other link cause reason) (inr (inr own)) c =
-      absurd (elsewhere now (amount time) device.0 8 _ own.0 (λ k. omega (arith, k)))
-  point_cause_of (kinds.Clock other reading adjustment state) own c =
-      absurd (elsewhere now (amount time) device.0 14 _ own (λ k. omega (arith, k)))
-  point_cause_of rest own c = absurd (elsewhere now (amount time) device.0 2 _ own (λ k. omega (arith, k)))
+  point_cause_of (kinds.Lost other link cause) (inl own) c = absurd (grind arith)
+  point_cause_of (kinds.Lost other link cause) (inr (inr own)) c = absurd (grind arith)
+  point_cause_of other own c = absurd (grind arith)
 
 -- ---- what is done, or is not due, is told
 

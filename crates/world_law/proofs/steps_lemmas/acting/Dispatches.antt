@@ -7,7 +7,7 @@ use Rattle.{schedule_tables.specs.Entries.IsEntry, world_law.proofs.steps_lemmas
 use Rattle.world_law.proofs.steps_lemmas.Words.{◌++◌, ◌∙◌, ◌∷◌, ◌≡◌, ◌≤◌, Bool, DeviceId, Dispatches, Happening, IsAllOfIt}
 use Rattle.world_law.proofs.steps_lemmas.Words.{IsCaused, IsIn, IsLawful, IsOwnSource, LinkId, List, NoteBody, RowId, Scenario, Units}
 use Rattle.world_law.proofs.steps_lemmas.Words.{VlId, [], amount, ap, arith, dispatch_body, dispatches_same, false, in_left}
-use Rattle.world_law.proofs.steps_lemmas.Words.{if◌then◌else◌, inl, inr, is_cut, members_in, place_of, refl, same_device, second, subst, sym, time_of, true}
+use Rattle.world_law.proofs.steps_lemmas.Words.{if◌then◌else◌, inl, inr, is_cut, members_in, place_of, refl, same_device, subst, sym, time_of, true}
 use Rattle.world_law.proofs.steps_lemmas.Words.{length}
 use Rattle.world_law.proofs.steps_lemmas.{Words.{way_from, ℕ}, acting.Work.all_earlier}
 use Rattle.run_law.specs.declared.judgement.Why.TheVariants as whys
@@ -76,9 +76,6 @@ IsRowCause s js now device order other = ⊥
 at_row : (now t d e : ℕ) (order other : List ℕ) → now ∷ 6 ∷ d ∷ order ≡ t ∷ 6 ∷ e ∷ other → (t ≡ now) × (e ≡ d) × (other ≡ order)
 at_row now t d e order other same = (cc, cc, cc)
 
-wrong : (now t k : ℕ) (order ws : List ℕ) → now ∷ 6 ∷ order ≡ t ∷ k ∷ ws → (k ≡ 6 → ⊥) → ⊥
-wrong now t k order ws e not = not (sym (ap second e))
-
 -- a correction stands at no row
 no_row : (now t d e : ℕ) (order : List ℕ) → 1 ≤ length order → now ∷ 6 ∷ d ∷ order ≡ t ∷ 6 ∷ e ∷ [] → ⊥
 no_row now t d e order long same =
@@ -116,33 +113,15 @@ module _ (s : Scenario) (js : List Happening) (now : ℕ) (device : DeviceId) (o
               (own.0, c.whole, e.2)),
         ),
       )
-  row_cause (kinds.Lost other link cause) long (inl own) c =
-      absurd (wrong now (amount time) 8 _ _ own.0 (λ k. omega (arith, k)))
-  row_cause (kinds.Lost other link cause) long (inr (inr own)) c =
-      absurd (wrong now (amount time) 2 _ _ own.0 (λ k. omega (arith, k)))
-  row_cause (kinds.Compressed other opened at cycle members verdict) long own c =
-      absurd (wrong now (amount time) 4 _ _ own (λ k. omega (arith, k)))
-  row_cause (kinds.Sent other cycle) long own c = absurd (wrong now (amount time) 5 _ _ own (λ k. omega (arith, k)))
+  row_cause (kinds.Lost other link cause) long (inl own) c = absurd (grind arith)
+  row_cause (kinds.Lost other link cause) long (inr (inr own)) c = absurd (grind arith)
   row_cause (kinds.Corrected other cycle by adjustment) long own c =
       absurd (no_row now (amount time) device.0 other.0 order long own)
   row_cause (kinds.State other state cause whys.SyncClique) long own c =
       absurd (no_row now (amount time) device.0 other.0 order long own.1)
   row_cause (kinds.State other state cause whys.AsyncClique) long own c =
       absurd (no_row now (amount time) device.0 other.0 order long own.1)
-  row_cause (kinds.Event line what) long own c = absurd (wrong now (amount time) 1 _ _ own (λ k. omega (arith, k)))
-  row_cause (kinds.Permanent other link cause point verdict) long own c =
-      absurd (wrong now (amount time) 3 _ _ own (λ k. omega (arith, k)))
-  row_cause (kinds.Left other link cause clock) long own c =
-      absurd (wrong now (amount time) 8 _ _ own (λ k. omega (arith, k)))
-  row_cause (kinds.Dropped other link cause reason) long (inl own) c =
-      absurd (wrong now (amount time) 2 _ _ own.0 (λ k. omega (arith, k)))
-  row_cause (kinds.Dropped other link cause reason) long (inr (inl own)) c =
-      absurd (wrong now (amount time) 3 _ _ own.2 (λ k. omega (arith, k)))
-  row_cause (kinds.Dropped other link cause reason) long (inr (inr own)) c =
-      absurd (wrong now (amount time) 8 _ _ own.0 (λ k. omega (arith, k)))
-  row_cause (kinds.Clock other reading adjustment state) long own c =
-      absurd (wrong now (amount time) 14 _ _ own (λ k. omega (arith, k)))
-  row_cause rest long own c = absurd (wrong now (amount time) 2 _ _ own (λ k. omega (arith, k)))
+  row_cause other long own c = absurd (grind arith)
 
 -- ---- all of it is there
 

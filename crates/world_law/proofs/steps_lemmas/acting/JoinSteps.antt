@@ -53,16 +53,7 @@ bears_so s device now y late at rest not bears = by_body y.note.body refl (subst
       },
       record { device = other; state = state; cause = cause; why = why; is = e },
     )
-    by_body (kinds.Event line what) e r b = absurd (let bad : false ≡ true = b in cc)
-    by_body (kinds.Arrived other link cause clock) e r b = absurd (let bad : false ≡ true = b in cc)
-    by_body (kinds.Sent other cycle) e r b = absurd (let bad : false ≡ true = b in cc)
-    by_body (kinds.Left other link cause clock) e r b = absurd (let bad : false ≡ true = b in cc)
-    by_body (kinds.Lost other link cause) e r b = absurd (let bad : false ≡ true = b in cc)
-    by_body (kinds.TtSent other link cause vl cycle) e r b = absurd (let bad : false ≡ true = b in cc)
-    by_body (kinds.Accepted other link cause vl cycle) e r b = absurd (let bad : false ≡ true = b in cc)
-    by_body (kinds.Delivered other link cause vl cycle) e r b = absurd (let bad : false ≡ true = b in cc)
-    by_body (kinds.Dropped other link cause reason) e r b = absurd (let bad : false ≡ true = b in cc)
-    by_body (kinds.Clock other reading adjustment state) e r b = absurd (let bad : false ≡ true = b in cc)
+    by_body other e r b = absurd (let bad : false ≡ true = b in cc)
 
 -- ---- it looks for the time until then
 

@@ -9,7 +9,7 @@ use Rattle.world_law.proofs.steps_lemmas.Words.{IsSet, IsShownPut, List, Network
 use Rattle.world_law.proofs.steps_lemmas.Words.{World, [], ap, arith, before_behind, behind, cause_of, changed_at, doing, earlier}
 use Rattle.world_law.proofs.steps_lemmas.Words.{earlier_still, emitting, happenings, in_right, inl, inr, is_at_source, is_turned_on_at, length}
 use Rattle.world_law.proofs.steps_lemmas.Words.{members_in, moment_of, one_shown, place_of, points_of, points_same, pos, quiet_rest, rank}
-use Rattle.world_law.proofs.steps_lemmas.Words.{record_of, refl, second, subst, sym, task_place, time_of, true, value_of, ℕ}
+use Rattle.world_law.proofs.steps_lemmas.Words.{record_of, refl, subst, sym, task_place, time_of, true, value_of, ℕ}
 use Rattle.world_law.specs.{device.Told.change_in, steps.Acting.{rank_of_act, task_of}}
 use Rattle.world_law.proofs.steps_lemmas.acting.{Dispatches.{TellsRow, all_row}, First.{act_rest, act_stands}, GoesOn.earlier_put, Kept.{bare_act, kept_on}}
 use Rattle.world_law.proofs.steps_lemmas.acting.{Sending.{HasSentIt, as_put, turned_then}, Stage.{IsActOn, IsActRecordAt, StageOf, lawful_then, one_goes_by}}
@@ -61,49 +61,12 @@ shown_act {s} {world} {notes} x =
 
 -- ---- all that is due at its place is to come
 
-at_time : (now t k : ℕ) (more ws : List ℕ) (r : ℕ) → now ∷ r ∷ more ≡ t ∷ k ∷ ws → r ≡ k
-at_time now t k more ws r e = ap second e
-
 module _ (s : Scenario) (js : List Happening) (t m now r : ℕ) (more : List ℕ) where
   -- what comes from an emission or a sending is of its kind
   of_its_kind : (body : NoteBody) → IsOwnSource s js t m body (now ∷ r ∷ more) → 4 ≤ r → r ≤ 5
       → is_at_source body ≡ true
-  of_its_kind (kinds.Compressed device opened at cycle members verdict) o late low = refl
-  of_its_kind (kinds.Sent device cycle) o late low = refl
-  of_its_kind (kinds.Corrected device cycle by adjustment) o late low = refl
-  of_its_kind (kinds.Arrived device link cause clock) o late low = refl
-  of_its_kind (kinds.Permanent device link cause point verdict) o late low = refl
-  of_its_kind (kinds.Left device link cause clock) o late low = refl
-  of_its_kind (kinds.Clock device reading adjustment state) o late low = refl
-  of_its_kind (kinds.Event line what) o late low = absurd (let e = at_time now t 1 more _ r o in omega (arith, e, late))
-  of_its_kind (kinds.State device state cause whys.SyncClique) o late low =
-      absurd (let e = at_time now t 6 more _ r o.1 in omega (arith, e, low))
-  of_its_kind (kinds.State device state cause whys.AsyncClique) o late low =
-      absurd (let e = at_time now t 6 more _ r o.1 in omega (arith, e, low))
-  of_its_kind (kinds.State device state cause whys.On) o late low =
-      absurd (let e = at_time now t 2 more _ r o in omega (arith, e, late))
-  of_its_kind (kinds.State device state cause whys.Frame) o late low =
-      absurd (let e = at_time now t 2 more _ r o in omega (arith, e, late))
-  of_its_kind (kinds.State device state cause whys.Correction) o late low =
-      absurd (let e = at_time now t 2 more _ r o in omega (arith, e, late))
-  of_its_kind (kinds.Lost device link cause) (inl o) late low =
-      absurd (let e = at_time now t 8 more _ r o.0 in omega (arith, e, low))
-  of_its_kind (kinds.Lost device link cause) (inr (inl o)) late low =
-      absurd (let e = at_time now t 6 more _ r o.4 in omega (arith, e, low))
-  of_its_kind (kinds.Lost device link cause) (inr (inr o)) late low =
-      absurd (let e = at_time now t 2 more _ r o.0 in omega (arith, e, late))
-  of_its_kind (kinds.TtSent device link cause vl cycle) o late low =
-      absurd (let e = at_time now t 6 more _ r o.1 in omega (arith, e, low))
-  of_its_kind (kinds.Accepted device link cause vl cycle) o late low =
-      absurd (let e = at_time now t 2 more _ r o in omega (arith, e, late))
-  of_its_kind (kinds.Delivered device link cause vl cycle) o late low =
-      absurd (let e = at_time now t 2 more _ r o in omega (arith, e, late))
-  of_its_kind (kinds.Dropped device link cause reason) (inl o) late low =
-      absurd (let e = at_time now t 2 more _ r o.0 in omega (arith, e, late))
-  of_its_kind (kinds.Dropped device link cause reason) (inr (inl o)) late low =
-      absurd (let e = at_time now t 3 more _ r o.2 in omega (arith, e, late))
-  of_its_kind (kinds.Dropped device link cause reason) (inr (inr o)) late low =
-      absurd (let e = at_time now t 8 more _ r o.0 in omega (arith, e, low))
+  of_its_kind (kinds.State device state cause whys.SyncClique) o late low = grind arith
+  of_its_kind other o late low = grind arith
 
 -- so its record is all of it
 pub all_one : (s : Scenario) (hs new : List Happening) (now r : ℕ) (more : List ℕ) (w : Happening) → 4 ≤ r → r ≤ 5 → IsIn w new

@@ -90,10 +90,7 @@ module _ {s : Scenario} {hs coming : List Happening} (new front : List Happening
             (λ (n : ℕ). n ∷ 7 ∷ other.0 ∷ cause ∷ []) at
             ∙ ap (λ (d : DeviceId). now ∷ 7 ∷ d.0 ∷ cause ∷ []) c.0 ∙ ap (λ (n : ℕ). now ∷ 7 ∷ device.0 ∷ n ∷ []) c.2),
       )
-  point_cause p out hears at (kinds.State other state cause whys.On) is c = absurd c
-  point_cause p out hears at (kinds.State other state cause whys.Frame) is c = absurd c
-  point_cause p out hears at (kinds.State other state cause whys.Correction) is c = absurd c
-  point_cause p out hears at rest is c = absurd c
+  point_cause p out hears at other is c = absurd c
 
 -- ---- with one record put in, of a rank behind the frames that are heard
 
@@ -224,19 +221,7 @@ heard_before {s} {hs} front back {now} {device} w work at late none =
 
 state_at : (t u m d c : ℕ) (body : NoteBody) → t ∷ 7 ∷ d ∷ c ∷ [] ≡ u ∷ rank body ∷ key m body → (device : DeviceId) → d ≡ device.0 → moves device body ≡ true
 state_at t u m d c (kinds.State other state cause why) e device is = let a : d ≡ other.0 = cc in eq-eqb device.0 other.0 (sym is ∙ a)
-state_at t u m d c (kinds.Corrected other n by adjustment) e device is = absurd (let bad : ◌≡◌ {A = ℕ} 7 6 = cc in omega (arith, bad))
-state_at t u m d c (kinds.Event line what) e device is = absurd (let bad : ◌≡◌ {A = ℕ} 7 1 = cc in omega (arith, bad))
-state_at t u m d c (kinds.Arrived other link cause clock) e device is = absurd (let bad : ◌≡◌ {A = ℕ} 7 2 = cc in omega (arith, bad))
-state_at t u m d c (kinds.Permanent other link cause point verdict) e device is = absurd (let bad : ◌≡◌ {A = ℕ} 7 3 = cc in omega (arith, bad))
-state_at t u m d c (kinds.Compressed other opened at n members verdict) e device is = absurd (let bad : ◌≡◌ {A = ℕ} 7 4 = cc in omega (arith, bad))
-state_at t u m d c (kinds.Sent other n) e device is = absurd (let bad : ◌≡◌ {A = ℕ} 7 5 = cc in omega (arith, bad))
-state_at t u m d c (kinds.Left other link cause clock) e device is = absurd (let bad : ◌≡◌ {A = ℕ} 7 8 = cc in omega (arith, bad))
-state_at t u m d c (kinds.Lost other link cause) e device is = absurd (let bad : ◌≡◌ {A = ℕ} 7 9 = cc in omega (arith, bad))
-state_at t u m d c (kinds.TtSent other link cause vl n) e device is = absurd (let bad : ◌≡◌ {A = ℕ} 7 10 = cc in omega (arith, bad))
-state_at t u m d c (kinds.Accepted other link cause vl n) e device is = absurd (let bad : ◌≡◌ {A = ℕ} 7 11 = cc in omega (arith, bad))
-state_at t u m d c (kinds.Delivered other link cause vl n) e device is = absurd (let bad : ◌≡◌ {A = ℕ} 7 12 = cc in omega (arith, bad))
-state_at t u m d c (kinds.Dropped other link cause reason) e device is = absurd (let bad : ◌≡◌ {A = ℕ} 7 13 = cc in omega (arith, bad))
-state_at t u m d c (kinds.Clock other reading adjustment state) e device is = absurd (let bad : ◌≡◌ {A = ℕ} 7 14 = cc in omega (arith, bad))
+state_at t u m d c other e device is = absurd (grind arith)
 
 -- a device that was not turned on, and is at rest, is not moved
 pub not_moved : (s : Scenario) (device : DeviceId) (now : ℕ) (body : NoteBody) → is_turned_on_at s device now ≡ false → IsAtRest s device now body
@@ -359,13 +344,4 @@ module _ {M : Type 0} (stands : M → Network → DeviceId → Node → Type 0) 
         apart = λ other not. (ne_eqb other.0 device.0 not, λ at. refl);
         lone = last_unfollowed s hs now body refl;
       }
-  clique_record (Corrected by) why st off p x none = elim x [ ]
-  clique_record Cleared why st off p x none = elim x [ ]
-  clique_record SyncClique whys.On st off p x none = elim x [ ]
-  clique_record SyncClique whys.Frame st off p x none = elim x [ ]
-  clique_record SyncClique whys.Correction st off p x none = elim x [ ]
-  clique_record SyncClique whys.AsyncClique st off p x none = elim x [ ]
-  clique_record AsyncClique whys.On st off p x none = elim x [ ]
-  clique_record AsyncClique whys.Frame st off p x none = elim x [ ]
-  clique_record AsyncClique whys.Correction st off p x none = elim x [ ]
-  clique_record AsyncClique whys.SyncClique st off p x none = elim x [ ]
+  clique_record verdict why st off p x none = elim x [ ]

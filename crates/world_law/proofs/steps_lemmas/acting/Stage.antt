@@ -10,7 +10,7 @@ use Rattle.world_law.proofs.steps_lemmas.{acting.First.{act_more, act_next, act_
 use Rattle.world_law.{proofs.devices.Working.came_sooner, specs.{device.Growing.IsFromZero, steps.Acting.{Acts, place_of_act, rank_of_act, task_of}}}
 use Rattle.world_law.proofs.{putting.PutOne.one_well, rows.Dispatching.founded_with}
 use Rattle.run_law.proofs.runs.Places.{before_or_not}
-use Rattle.world_law.proofs.steps_lemmas.Words.{◌⊎◌, both_ways, chain}
+use Rattle.world_law.proofs.steps_lemmas.Words.{◌⊎◌, chain}
 use Rattle.world_law.proofs.steps_lemmas.Words.{behind, due_of, false, frames_taken, happenings}
 use Rattle.world_law.proofs.steps_lemmas.Words.{hears, held_aside, in_parts, inl, inr, ints}
 use Rattle.world_law.proofs.steps_lemmas.Words.{is_turned_on_at, known_aside, length, members_in, moment_of, moves, moves_no_other, natural}
@@ -203,16 +203,10 @@ acts_on_it {reading} {stands} {s} {world} {notes} {device} {after} {old} a =
 
 -- what the device hears or moves by, behind all frames of the instant, is not to come while it acts
 pub nothing_aside : (s : Scenario) (device : DeviceId) (now : ℕ) (body : NoteBody) → 5 ≤ rank body → IsAtRest s device now body → hears device body ≡ true → ⊥
-nothing_aside s device now (kinds.Compressed other opened at cycle members verdict) late rest e = omega (arith, late)
-nothing_aside s device now (kinds.Corrected other cycle by adjustment) late (inl still) e = both_ways _ still e
-nothing_aside s device now (kinds.Corrected other cycle by adjustment) late (inr on) e = let bad : false ≡ true = on.0 in cc
-nothing_aside s device now (kinds.State other state cause whys.SyncClique) late (inl still) e = both_ways _ still e
-nothing_aside s device now (kinds.State other Integrating cause whys.SyncClique) late (inr on) e = let bad : false ≡ true = on.0 in cc
-nothing_aside s device now (kinds.State other state cause whys.SyncClique) late (inr on) e = let bad : false ≡ true = on.0 in cc
-nothing_aside s device now (kinds.State other state cause whys.AsyncClique) late (inl still) e = both_ways _ still e
-nothing_aside s device now (kinds.State other Integrating cause whys.AsyncClique) late (inr on) e = let bad : false ≡ true = on.0 in cc
-nothing_aside s device now (kinds.State other state cause whys.AsyncClique) late (inr on) e = let bad : false ≡ true = on.0 in cc
-nothing_aside s device now other late rest e = let bad : false ≡ true = e in cc
+nothing_aside s device now (kinds.State other Integrating cause whys.SyncClique) late rest e = grind arith
+nothing_aside s device now (kinds.State other state cause whys.SyncClique) late rest e = grind arith
+nothing_aside s device now (kinds.State other state cause whys.AsyncClique) late rest e = grind arith
+nothing_aside s device now other late rest e = grind arith
 
 -- a record of this body comes from the device's act at this place, is caused by it, and bears on no other device
 pub record IsActRecordAt (s : Scenario) (hs front back : List Happening) (now : ℕ) (device : DeviceId) (body : NoteBody) (at : List ℕ) : Type 0 where

@@ -5,7 +5,7 @@ use Rattle.world_law.proofs.steps_lemmas.Words.{IsOwnSource, IsRun, IsSendLost, 
 use Rattle.world_law.proofs.steps_lemmas.Words.{Scenario, Some, Units, Up, What, ℕ, [], amount, ap, arith, before_behind, behind, bodies_of, chain}
 use Rattle.world_law.proofs.steps_lemmas.Words.{clock_place, eq-eqb, false, happenings, has_outcome, if◌then◌else◌, in_left, in_right, inl, inr, ints}
 use Rattle.world_law.proofs.steps_lemmas.Words.{is_at_source, is_broken, is_cut, is_joined_by, is_turned_on_at, key, length, members_in, numbered_front}
-use Rattle.world_law.proofs.steps_lemmas.Words.{numbered_in, numbered_parts, option_map_or, own_time, place_of, rank, refl, settled_as, subst, suc, sym}
+use Rattle.world_law.proofs.steps_lemmas.Words.{numbered_in, numbered_parts, option_map_or, own_time, place_of, rank, refl, settled_as, subst, sym}
 use Rattle.world_law.proofs.steps_lemmas.Words.{◌++◌, ◌+◌, ◌∙◌, ◌∷◌, ◌≡◌, ◌≤◌, ◌⊎◌, AreOfNetwork, AreOnWires, AreSettled, AreUntold, Befell, Bool, DeviceId}
 use Rattle.world_law.proofs.steps_lemmas.befalling.{Bodies.{IsOutcome, all_bodies, all_rising, calm_outcome, few_all}, Told.{on_by_event, recorded}}
 use Rattle.world_law.proofs.steps_lemmas.befalling.{Devices.{AreToldOf, held_told, known_told}, Filled.{IsFilled, IsOne, all_long, all_new, filled_all}}
@@ -95,12 +95,6 @@ not_yet s hs now {z} it b =
 
 -- ---- what is due by an event is among them
 
-not_two : {t u : ℕ} {ws : List ℕ} (k : ℕ) → t ∷ 2 ∷ [] ≡ u ∷ k ∷ ws → (2 ≡ k → ⊥) → ⊥
-not_two k e other = let same : 2 ≡ k = cc in other same
-
-not_longer : {t u : ℕ} {ws : List ℕ} (x : ℕ) → t ∷ 2 ∷ [] ≡ u ∷ 2 ∷ x ∷ ws → ⊥
-not_longer {t} {u} {ws} x e = let bad : 2 ≡ suc (suc (suc (length ws))) = ap length e in omega (arith, bad)
-
 bodies_out : (s : Scenario) (now number : ℕ) (what : What) (b : NoteBody) (x : Bool) → x ≡ false → IsIn b (b ∷ []) → IsIn b (if x then [] else b ∷ [])
 bodies_out s now number what b x sound i = subst (λ (y : Bool). IsIn b (if y then [] else b ∷ [])) (sym sound) i
 
@@ -163,27 +157,9 @@ module _ (s : Scenario) (hs front : List Happening) (frontier : List ℕ) (now :
           ap (λ (t : ℕ). t ∷ 9 ∷ d.0 ∷ link.0 ∷ n ∷ []) (sym at),
         )
       ]
-  came ms (notes.Lost d link n) m calm at (inl o) c = absurd (not_two 8 o.0 (λ e. omega (arith, e)))
-  came ms (notes.Lost d link n) m calm at (inr (inl o)) c = absurd (not_two 6 o.4 (λ e. omega (arith, e)))
-  came ms (notes.Event line what) m calm at o c = absurd (not_two 1 o (λ e. omega (arith, e)))
-  came ms (notes.Arrived d link n clock) m calm at o c = absurd (not_longer d.0 o)
-  came ms (notes.Permanent d link n point verdict) m calm at o c = absurd (not_two 3 o (λ e. omega (arith, e)))
-  came ms (notes.Compressed d opened by cycle of_masters verdict) m calm at o c =
-      absurd (not_two 4 o (λ e. omega (arith, e)))
-  came ms (notes.Left d link n clock) m calm at o c = absurd (not_two 8 o (λ e. omega (arith, e)))
-  came ms (notes.Accepted d link n vl cycle) m calm at o c = absurd (not_longer d.0 o)
-  came ms (notes.Delivered d link n vl cycle) m calm at o c = absurd (not_longer d.0 o)
-  came ms (notes.Dropped d link n reason) m calm at (inl o) c = absurd (not_longer d.0 o.0)
-  came ms (notes.Dropped d link n reason) m calm at (inr (inl o)) c =
-      absurd (not_two 3 o.2 (λ e. omega (arith, e)))
-  came ms (notes.Dropped d link n reason) m calm at (inr (inr o)) c =
-      absurd (not_two 8 o.0 (λ e. omega (arith, e)))
-  came ms (notes.Clock d reading adjustment state) m calm at o c = absurd (not_two 14 o (λ e. omega (arith, e)))
-  came ms (notes.State d st n whys.SyncClique) m calm at o c = absurd (not_two 6 o.1 (λ e. omega (arith, e)))
-  came ms (notes.State d st n whys.AsyncClique) m calm at o c = absurd (not_two 6 o.1 (λ e. omega (arith, e)))
-  came ms (notes.TtSent d link n vl cycle) m calm at o c = absurd (not_two 6 o.1 (λ e. omega (arith, e)))
-  came ms (notes.Sent d cycle) m calm at o c = absurd (not_two 5 o (λ e. omega (arith, e)))
-  came ms (notes.Corrected d cycle by adjustment) m calm at o c = absurd (not_two 6 o (λ e. omega (arith, e)))
+  came ms (notes.Lost d link n) m calm at (inl o) c = absurd (grind arith)
+  came ms (notes.Lost d link n) m calm at (inr (inl o)) c = absurd (grind arith)
+  came ms other m calm at o c = absurd (grind arith)
 
 -- ---- a record that is due by a source up to there
 

@@ -43,8 +43,10 @@ pub on_by_event : (s : Scenario) (device : DeviceId) (now : ℕ) → is_turned_o
 on_by_event s device now on = grind (arith, any_from, turns_on, amount, and_parts, on_by, eqb-true)
 
 -- an event before the frontier has its record
-pub recorded : (s : Scenario) (frontier : List ℕ) (hs : List Happening) (i : ℕ) (e : Event) → IsRun place_of (IsDue s) frontier hs → slice_get s.events i ≡ Some e
-    → pos 0 ≤ℤ e.time.0 → IsBefore (amount e.time ∷ 1 ∷ (i + 1) ∷ []) frontier → (n : ℕ) × (h : Happening) × (numbered hs n ≡ Some h) × (h.note.time ≡ e.time)
+pub recorded : (s : Scenario) (frontier : List ℕ) (hs : List Happening) (i : ℕ) (e : Event)
+    → IsRun place_of (IsDue s) frontier hs → slice_get s.events i ≡ Some e
+    → pos 0 ≤ℤ e.time.0 → IsBefore (amount e.time ∷ 1 ∷ (i + 1) ∷ []) frontier → (n : ℕ) × (h : Happening)
+    × (numbered hs n ≡ Some h) × (h.note.time ≡ e.time)
     × (h.note.body ≡ notes.Event (i + 1) e.what)
 recorded s frontier hs i e run get begun told =
     let p = amount e.time ∷ 1 ∷ (i + 1) ∷ [] in

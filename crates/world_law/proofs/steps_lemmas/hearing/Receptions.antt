@@ -126,13 +126,6 @@ module _ (s : Scenario) (js : List Happening) (now : ℕ) (e : OnWire) (t member
     | inr (inr w) ↦ comes _ at w refl refl
   ]
 
-wrong : (k : ℕ) → (2 ≡ k) → (k < 2) ⊎ (2 < k) → ⊥
-wrong k e (inl lt) = omega (arith, e, lt)
-wrong k e (inr lt) = omega (arith, e, lt)
-
-longer : (now t a b c : ℕ) → now ∷ 2 ∷ a ∷ b ∷ c ∷ [] ≡ t ∷ 2 ∷ [] → ⊥
-longer now t a b c e = cc
-
 -- each record that is caused, and whose own source is the arrival, comes from it so
 pub comes_as : (s : Scenario) (js : List Happening) (now : ℕ) (e : OnWire) (t members : ℕ) (body : NoteBody)
     → IsOwnSource s js t members body (now ∷ 2 ∷ e.device.0 ∷ e.link.0 ∷ e.cause ∷ [])
@@ -148,24 +141,9 @@ comes_as s js now e t m (kinds.Delivered device link cause vl cycle) o time is c
     (λ n. ArrivesAs s js device n link cause (arrivals.Delivered vl cycle)) is c) refl refl
 comes_as s js now e t m (kinds.Dropped device link cause reason) (inl o) time is c =
     comes s js now e t m device link cause _ o.0 o.1 refl refl
-comes_as s js now e t m (kinds.Dropped device link cause reason) (inr (inl o)) time is c = absurd (wrong 3 (ap second o.2) (inr (omega arith)))
-comes_as s js now e t m (kinds.Dropped device link cause reason) (inr (inr o)) time is c = absurd (wrong 8 (ap second o.0) (inr (omega arith)))
-comes_as s js now e t m (kinds.Lost device link cause) (inl o) time is c = absurd (wrong 8 (ap second o.0) (inr (omega arith)))
-comes_as s js now e t m (kinds.Lost device link cause) (inr (inl o)) time is c = absurd (wrong 6 (ap second o.4) (inr (omega arith)))
-comes_as s js now e t m (kinds.Lost device link cause) (inr (inr o)) time is c = absurd (longer now t e.device.0 e.link.0 e.cause o.0)
-comes_as s js now e t m (kinds.Event line what) o time is c = absurd (wrong 1 (ap second o) (inl (omega arith)))
-comes_as s js now e t m (kinds.Permanent device link cause point verdict) o time is c = absurd (wrong 3 (ap second o) (inr (omega arith)))
-comes_as s js now e t m (kinds.State device state cause whys.On) o time is c = absurd (longer now t e.device.0 e.link.0 e.cause o)
-comes_as s js now e t m (kinds.State device state cause whys.Frame) o time is c = absurd (longer now t e.device.0 e.link.0 e.cause o)
-comes_as s js now e t m (kinds.State device state cause whys.Correction) o time is c = absurd (longer now t e.device.0 e.link.0 e.cause o)
-comes_as s js now e t m (kinds.Left device link cause clock) o time is c = absurd (wrong 8 (ap second o) (inr (omega arith)))
-comes_as s js now e t m (kinds.Clock device reading adjustment state) o time is c = absurd (wrong 14 (ap second o) (inr (omega arith)))
-comes_as s js now e t m (kinds.State device state cause whys.SyncClique) o time is c = absurd (wrong 6 (ap second o.1) (inr (omega arith)))
-comes_as s js now e t m (kinds.State device state cause whys.AsyncClique) o time is c = absurd (wrong 6 (ap second o.1) (inr (omega arith)))
-comes_as s js now e t m (kinds.TtSent device link cause vl cycle) o time is c = absurd (wrong 6 (ap second o.1) (inr (omega arith)))
-comes_as s js now e t m (kinds.Compressed device opened read cycle members verdict) o time is c = absurd (wrong 4 (ap second o) (inr (omega arith)))
-comes_as s js now e t m (kinds.Sent device cycle) o time is c = absurd (wrong 5 (ap second o) (inr (omega arith)))
-comes_as s js now e t m (kinds.Corrected device cycle by adjustment) o time is c = absurd (wrong 6 (ap second o) (inr (omega arith)))
+comes_as s js now e t m (kinds.Dropped device link cause reason) (inr o) time is c = absurd (grind arith)
+comes_as s js now e t m (kinds.State device state cause whys.SyncClique) o time is c = absurd (grind arith)
+comes_as s js now e t m other o time is c = absurd (grind arith)
 
 -- what is judged so by the same records is at the same place
 pub outcome_at : {s : Scenario} {hs : List Happening} (zs : List Happening) {now : ℕ} {e : OnWire} (is : Arrival)
@@ -203,14 +181,7 @@ own_there s js now e is t m (kinds.Dropped device link cause reason) w place (in
     inr (behind_here now t 3 _ _ w (ap first_of place) (omega arith) o.2)
 own_there s js now e is t m (kinds.Dropped device link cause reason) w place (inr (inr o)) =
     inr (behind_here now t 8 _ _ w (ap first_of place) (omega arith) o.0)
-own_there s js now e is t m (kinds.Event line what) w place o = grind (arith, other_kind, second)
-own_there s js now e is t m (kinds.Permanent device link cause point verdict) w place o = grind (arith, other_kind, second)
-own_there s js now e is t m (kinds.Compressed device opened read cycle of_masters verdict) w place o = grind (arith, other_kind, second)
-own_there s js now e is t m (kinds.Sent device cycle) w place o = grind (arith, other_kind, second)
-own_there s js now e is t m (kinds.Corrected device cycle by adjustment) w place o = grind (arith, other_kind, second)
-own_there s js now e is t m (kinds.State device state cause why) w place o = grind (arith, other_kind, second)
-own_there s js now e is t m (kinds.Left device link cause clock) w place o = grind (arith, other_kind, second)
-own_there s js now e is t m (kinds.Lost device link cause) w place o = grind (arith, other_kind, second)
-own_there s js now e is t m (kinds.TtSent device link cause vl cycle) w place o = grind (arith, other_kind, second)
-own_there s js now e is t m (kinds.Clock device reading adjustment state) w place o = grind (arith, other_kind, second)
-own_there s js now e is t m other w place o = inl (o ∙ sym (ap (ranked 2) place))
+own_there s js now e is t m (kinds.Arrived device link cause clock) w place o = inl (o ∙ sym (ap (ranked 2) place))
+own_there s js now e is t m (kinds.Accepted device link cause vl cycle) w place o = inl (o ∙ sym (ap (ranked 2) place))
+own_there s js now e is t m (kinds.Delivered device link cause vl cycle) w place o = inl (o ∙ sym (ap (ranked 2) place))
+own_there s js now e is t m other w place o = grind (arith, other_kind, second)

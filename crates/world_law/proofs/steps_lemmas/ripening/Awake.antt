@@ -108,7 +108,8 @@ on_recorded {s} {frontier} {hs} t device run past befallen lt on sound =
 -- ---- so it is on at present
 
 pub still_on : {s : Scenario} {frontier : List ℕ} {hs : List Happening} (front : List Happening) {now : ℕ} (t : ℕ)
-    (device : DeviceId) → IsRun place_of (IsDue s) frontier hs → ((p : List ℕ) → IsBefore p (now ∷ []) → IsBefore p frontier)
+    (device : DeviceId) → IsRun place_of (IsDue s) frontier hs
+    → ((p : List ℕ) → IsBefore p (now ∷ []) → IsBefore p frontier)
     → HaveBefallen s frontier now → t ≤ now → ((h : Happening) → IsIn h front → IsIn h hs)
     → is_off (state_before s front device t) ≡ false → is_broken s device t ≡ false
     → is_off (state_before s hs device now) ≡ false

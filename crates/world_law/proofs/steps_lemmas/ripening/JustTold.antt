@@ -264,19 +264,7 @@ place_state : (t m now d n : ℕ) (body : NoteBody) → t ∷ rank body ∷ key 
     × (why : Why)
     × (body ≡ kinds.State other state cause why) × (other.0 ≡ d) × (cause ≡ n)
 place_state t m now d n (kinds.State other state cause why) e = (other, state, cause, why, refl, cc, cc)
-place_state t m now d n (kinds.Event line what) e = absurd (let r : ◌≡◌ {A = ℕ} 1 7 = cc in omega (arith, r))
-place_state t m now d n (kinds.Arrived device link cause clock) e = absurd (let r : ◌≡◌ {A = ℕ} 2 7 = cc in omega (arith, r))
-place_state t m now d n (kinds.Permanent device link cause point verdict) e = absurd (let r : ◌≡◌ {A = ℕ} 3 7 = cc in omega (arith, r))
-place_state t m now d n (kinds.Compressed device opened at cycle members verdict) e = absurd (let r : ◌≡◌ {A = ℕ} 4 7 = cc in omega (arith, r))
-place_state t m now d n (kinds.Sent device cycle) e = absurd (let r : ◌≡◌ {A = ℕ} 5 7 = cc in omega (arith, r))
-place_state t m now d n (kinds.Corrected device cycle by adjustment) e = absurd (let r : ◌≡◌ {A = ℕ} 6 7 = cc in omega (arith, r))
-place_state t m now d n (kinds.Left device link cause clock) e = absurd (let r : ◌≡◌ {A = ℕ} 8 7 = cc in omega (arith, r))
-place_state t m now d n (kinds.Lost device link cause) e = absurd (let r : ◌≡◌ {A = ℕ} 9 7 = cc in omega (arith, r))
-place_state t m now d n (kinds.TtSent device link cause vl cycle) e = absurd (let r : ◌≡◌ {A = ℕ} 10 7 = cc in omega (arith, r))
-place_state t m now d n (kinds.Accepted device link cause vl cycle) e = absurd (let r : ◌≡◌ {A = ℕ} 11 7 = cc in omega (arith, r))
-place_state t m now d n (kinds.Delivered device link cause vl cycle) e = absurd (let r : ◌≡◌ {A = ℕ} 12 7 = cc in omega (arith, r))
-place_state t m now d n (kinds.Dropped device link cause reason) e = absurd (let r : ◌≡◌ {A = ℕ} 13 7 = cc in omega (arith, r))
-place_state t m now d n (kinds.Clock device reading adjustment state) e = absurd (let r : ◌≡◌ {A = ℕ} 14 7 = cc in omega (arith, r))
+place_state t m now d n other e = absurd (grind arith)
 
 -- of two records of the time, the event has the lower number
 event_first : (s : Scenario) (hs : List Happening) (now n c : ℕ) (j h : Happening) → IsFounded place_of (IsDue s) hs → numbered hs n ≡ Some j

@@ -1,5 +1,5 @@
 -- What comes of the source of a frame that is permanent: one record, at its place.
-use Rattle.world_law.proofs.steps_lemmas.Words.{never_self, ◌++◌, ◌<◌, ◌∙◌, ◌∷◌, ◌≡◌, ◌⊎◌, DeviceId, Happening, IsAllOfIt, IsBefore, IsIn, IsOwnSource}
+use Rattle.world_law.proofs.steps_lemmas.Words.{never_self, ◌++◌, ◌∙◌, ◌∷◌, ◌≡◌, ◌⊎◌, DeviceId, Happening, IsAllOfIt, IsBefore, IsIn, IsOwnSource}
 use Rattle.world_law.proofs.steps_lemmas.Words.{IsPermanenceOutcomeAt, IsPermanent, Judgement, LinkId, List, Node, NoteBody, Pcf, Reason, Ripe, Scenario, Units}
 use Rattle.world_law.proofs.steps_lemmas.Words.{Waiting, [], amount, ap, arith, in_left, inl, inr, key, members_in, no_higher}
 use Rattle.world_law.proofs.steps_lemmas.Words.{numbered_front, parted, place_of, rank, refl, ripe_as, some_same, subst, sym, time_of, ℕ}
@@ -30,10 +30,6 @@ record IsOwnDrop (s : Scenario) (js : List Happening) (t : ℕ) (body : NoteBody
   pub becomes : BecomesPermanent s js device t link cause point (ripe.Dropped reason)
   pub at : here ≡ t ∷ 3 ∷ device.0 ∷ amount point ∷ becomes.frame.members.0 ∷ link.0 ∷ cause ∷ []
 
-wrong : (k : ℕ) → 3 ≡ k → (k < 3) ⊎ (3 < k) → ⊥
-wrong k e (inl lt) = omega (arith, e, lt)
-wrong k e (inr lt) = omega (arith, e, lt)
-
 pub rank_at : (now t k : ℕ) (more ws : List ℕ) → now ∷ 3 ∷ more ≡ t ∷ k ∷ ws → 3 ≡ k
 rank_at now t k more ws e = cc
 
@@ -41,23 +37,12 @@ kind_at : (s : Scenario) (js : List Happening) (t m now : ℕ) (body : NoteBody)
     → IsOwnPermanent t m body (now ∷ 3 ∷ more) ⊎ IsOwnDrop s js t body (now ∷ 3 ∷ more)
 kind_at s js t m now (kinds.Permanent device link cause point verdict) more o =
     inl (record { device = device; link = link; cause = cause; point = point; verdict = verdict; is = refl; at = o })
-kind_at s js t m now (kinds.Dropped device link cause reason) more (inl o) = absurd (wrong 2 (rank_at now t 2 more _ o.0) (inl (omega arith)))
 kind_at s js t m now (kinds.Dropped device link cause reason) more (inr (inl o)) =
     inr (record { device = device; link = link; cause = cause; reason = reason; is = refl; point = o.0; becomes = o.1; at = o.2 })
-kind_at s js t m now (kinds.Dropped device link cause reason) more (inr (inr o)) = absurd (wrong 8 (rank_at now t 8 more _ o.0) (inr (omega arith)))
-kind_at s js t m now (kinds.Event line what) more o = absurd (wrong 1 (rank_at now t 1 more _ o) (inl (omega arith)))
-kind_at s js t m now (kinds.Compressed device opened read cycle of_masters verdict) more o = absurd (wrong 4 (rank_at now t 4 more _ o) (inr (omega arith)))
-kind_at s js t m now (kinds.Sent device cycle) more o = absurd (wrong 5 (rank_at now t 5 more _ o) (inr (omega arith)))
-kind_at s js t m now (kinds.Corrected device cycle by adjustment) more o = absurd (wrong 6 (rank_at now t 6 more _ o) (inr (omega arith)))
-kind_at s js t m now (kinds.State device state cause whys.SyncClique) more o = absurd (wrong 6 (rank_at now t 6 more _ o.1) (inr (omega arith)))
-kind_at s js t m now (kinds.State device state cause whys.AsyncClique) more o = absurd (wrong 6 (rank_at now t 6 more _ o.1) (inr (omega arith)))
-kind_at s js t m now (kinds.Left device link cause clock) more o = absurd (wrong 8 (rank_at now t 8 more _ o) (inr (omega arith)))
-kind_at s js t m now (kinds.Lost device link cause) more (inl o) = absurd (wrong 8 (rank_at now t 8 more _ o.0) (inr (omega arith)))
-kind_at s js t m now (kinds.Lost device link cause) more (inr (inl o)) = absurd (wrong 6 (rank_at now t 6 more _ o.4) (inr (omega arith)))
-kind_at s js t m now (kinds.Lost device link cause) more (inr (inr o)) = absurd (wrong 2 (rank_at now t 2 more _ o.0) (inl (omega arith)))
-kind_at s js t m now (kinds.TtSent device link cause vl cycle) more o = absurd (wrong 6 (rank_at now t 6 more _ o.1) (inr (omega arith)))
-kind_at s js t m now (kinds.Clock device reading adjustment state) more o = absurd (wrong 14 (rank_at now t 14 more _ o) (inr (omega arith)))
-kind_at s js t m now other more o = absurd (wrong 2 (rank_at now t 2 more _ o) (inl (omega arith)))
+kind_at s js t m now (kinds.Dropped device link cause reason) more (inl o) = absurd (grind arith)
+kind_at s js t m now (kinds.Dropped device link cause reason) more (inr (inr o)) = absurd (grind arith)
+kind_at s js t m now (kinds.State device state cause whys.SyncClique) more o = absurd (grind arith)
+kind_at s js t m now other more o = absurd (grind arith)
 
 -- ---- one thing becomes of it
 
@@ -128,19 +113,7 @@ place_drop : (t m now d l c : ℕ) (body : NoteBody) → now ∷ 13 ∷ d ∷ l 
     × (reason : Reason)
     × (body ≡ kinds.Dropped other link cause reason) × (other.0 ≡ d) × (link.0 ≡ l) × (cause ≡ c)
 place_drop t m now d l c (kinds.Dropped device link cause reason) e = (device, link, cause, reason, refl, cc, cc, cc)
-place_drop t m now d l c (kinds.State device state cause why) e = absurd (let r : ◌≡◌ {A = ℕ} 13 7 = cc in omega (arith, r))
-place_drop t m now d l c (kinds.Event line what) e = absurd (let r : ◌≡◌ {A = ℕ} 13 1 = cc in omega (arith, r))
-place_drop t m now d l c (kinds.Arrived device link cause clock) e = absurd (let r : ◌≡◌ {A = ℕ} 13 2 = cc in omega (arith, r))
-place_drop t m now d l c (kinds.Permanent device link cause point verdict) e = absurd (let r : ◌≡◌ {A = ℕ} 13 3 = cc in omega (arith, r))
-place_drop t m now d l c (kinds.Compressed device opened at cycle members verdict) e = absurd (let r : ◌≡◌ {A = ℕ} 13 4 = cc in omega (arith, r))
-place_drop t m now d l c (kinds.Sent device cycle) e = absurd (let r : ◌≡◌ {A = ℕ} 13 5 = cc in omega (arith, r))
-place_drop t m now d l c (kinds.Corrected device cycle by adjustment) e = absurd (let r : ◌≡◌ {A = ℕ} 13 6 = cc in omega (arith, r))
-place_drop t m now d l c (kinds.Left device link cause clock) e = absurd (let r : ◌≡◌ {A = ℕ} 13 8 = cc in omega (arith, r))
-place_drop t m now d l c (kinds.Lost device link cause) e = absurd (let r : ◌≡◌ {A = ℕ} 13 9 = cc in omega (arith, r))
-place_drop t m now d l c (kinds.TtSent device link cause vl cycle) e = absurd (let r : ◌≡◌ {A = ℕ} 13 10 = cc in omega (arith, r))
-place_drop t m now d l c (kinds.Accepted device link cause vl cycle) e = absurd (let r : ◌≡◌ {A = ℕ} 13 11 = cc in omega (arith, r))
-place_drop t m now d l c (kinds.Delivered device link cause vl cycle) e = absurd (let r : ◌≡◌ {A = ℕ} 13 12 = cc in omega (arith, r))
-place_drop t m now d l c (kinds.Clock device reading adjustment state) e = absurd (let r : ◌≡◌ {A = ℕ} 13 14 = cc in omega (arith, r))
+place_drop t m now d l c other e = absurd (grind arith)
 
 same_place : {s : Scenario} {js : List Happening} {t : ℕ} {device : DeviceId} {link : LinkId} {cause : ℕ} {a b : Pcf}
     {p q : Units} → IsPermanent s js device t link cause a p → IsPermanent s js device t link cause b q

@@ -213,17 +213,11 @@ role_by : (cm : Bool) (verdict : Judgement) → IsKindOf cm (ripe_as verdict)
 role_by true judgements.Opened kind last = tt
 role_by true judgements.Joined kind last = tt
 role_by true judgements.Repeat kind last = tt
-role_by true judgements.Within kind last = absurd kind
-role_by true judgements.Outside kind last = absurd kind
-role_by true judgements.Integrates kind last = absurd kind
-role_by true judgements.Ignored kind last = absurd kind
-role_by false judgements.Opened kind last = absurd kind
-role_by false judgements.Joined kind last = absurd kind
-role_by false judgements.Repeat kind last = absurd kind
 role_by false judgements.Within kind last = tt
 role_by false judgements.Outside kind last = tt
 role_by false judgements.Integrates kind last = absurd cc
 role_by false judgements.Ignored kind last = tt
+role_by by_cm verdict kind last = absurd kind
 
 last_by : (device : DeviceId) (link : LinkId) (cause : ℕ) (point : Units) (verdict : Judgement)
     → is_last (kinds.Permanent (record { 0 = 0 }) (record { 0 = 0 }) 0 (record { 0 = pos 0 }) verdict) ≡ true

@@ -102,13 +102,7 @@ still_ends : (device : DeviceId) (body : NoteBody) → IsLateKind body → Rattl
     → ends_stretch device body ≡ false
 still_ends device (kinds.State other state cause whys.On) late e = refl
 still_ends device (kinds.State other state cause whys.Frame) late e = e
-still_ends device (kinds.State other state cause whys.Correction) late e = absurd late
-still_ends device (kinds.State other state cause whys.SyncClique) late e = absurd late
-still_ends device (kinds.State other state cause whys.AsyncClique) late e = absurd late
-still_ends device (kinds.Permanent other link cause point verdict) late e = absurd late
-still_ends device (kinds.Compressed other opened at cycle members verdict) late e = absurd late
-still_ends device (kinds.Corrected other cycle by adjustment) late e = absurd late
-still_ends device other late e = refl
+still_ends device other late e = grind arith
 
 pub rest_ends : (s : Scenario) (device : DeviceId) (now : ℕ) (body : NoteBody) → IsLateKind body → IsAtRest s device now body → ends_stretch device body ≡ false
 rest_ends s device now body late (inl still) = still_ends device body late still

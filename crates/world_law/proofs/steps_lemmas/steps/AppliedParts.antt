@@ -285,29 +285,12 @@ waiting_apply {network} {f} {g} {past} {event} {hs} {now} {ev} new m are kept =
 
 -- ---- nothing else is due up to it
 
-not_so : {t u : ℕ} {ws more : List ℕ} (k r : ℕ) → t ∷ k ∷ ws ≡ u ∷ r ∷ more → k < 2 → 2 ≤ r → ⊥
-not_so k r e few high = let same : k ≡ r = cc in omega (arith, same, few, high)
-
 -- a record that comes from a source of that rank is that of an event
 pub own_event : (s : Scenario) (js : List Happening) (t members : ℕ) (body : NoteBody) (k : ℕ) (ws : List ℕ) → IsOwnSource s js t members body (t ∷ k ∷ ws)
     → k < 2 → IsEventBody body
 own_event s js t m (notes.Event line what) k ws o few = tt
-own_event s js t m (notes.Permanent d link cause point verdict) k ws o few = absurd (not_so k 3 o few (omega arith))
-own_event s js t m (notes.Compressed d opened at cycle of_masters verdict) k ws o few = absurd (not_so k 4 o few (omega arith))
-own_event s js t m (notes.Sent d cycle) k ws o few = absurd (not_so k 5 o few (omega arith))
-own_event s js t m (notes.Corrected d cycle by adjustment) k ws o few = absurd (not_so k 6 o few (omega arith))
-own_event s js t m (notes.State d state cause whys.SyncClique) k ws o few = absurd (not_so k 6 o.1 few (omega arith))
-own_event s js t m (notes.State d state cause whys.AsyncClique) k ws o few = absurd (not_so k 6 o.1 few (omega arith))
-own_event s js t m (notes.Left d link cause clock) k ws o few = absurd (not_so k 8 o few (omega arith))
-own_event s js t m (notes.Lost d link cause) k ws (inl o) few = absurd (not_so k 8 o.0 few (omega arith))
-own_event s js t m (notes.Lost d link cause) k ws (inr (inl o)) few = absurd (not_so k 6 o.4 few (omega arith))
-own_event s js t m (notes.Lost d link cause) k ws (inr (inr o)) few = absurd (not_so k 2 o.0 few (omega arith))
-own_event s js t m (notes.TtSent d link cause vl cycle) k ws o few = absurd (not_so k 6 o.1 few (omega arith))
-own_event s js t m (notes.Dropped d link cause reason) k ws (inl o) few = absurd (not_so k 2 o.0 few (omega arith))
-own_event s js t m (notes.Dropped d link cause reason) k ws (inr (inl o)) few = absurd (not_so k 3 o.2 few (omega arith))
-own_event s js t m (notes.Dropped d link cause reason) k ws (inr (inr o)) few = absurd (not_so k 8 o.0 few (omega arith))
-own_event s js t m (notes.Clock d reading adjustment state) k ws o few = absurd (not_so k 14 o few (omega arith))
-own_event s js t m other k ws o few = absurd (not_so k 2 o few (omega arith))
+own_event s js t m (notes.State d state cause whys.SyncClique) k ws o few = grind arith
+own_event s js t m other k ws o few = grind arith
 
 event_there : (network : Network) (g : DeviceId → ℕ → ℕ) (past : List Event) (event : Event) (js : List Happening) (y : Happening) (now : ℕ)
     → amount event.time ≡ now → time_of y ≡ now → IsEventBody y.note.body → IsCaused (scenario network g (past ++ event ∷ [])) js y.note.time y.note.body

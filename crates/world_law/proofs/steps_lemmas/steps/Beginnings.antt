@@ -2,7 +2,7 @@
 use Rattle.{run_law.{proofs.{records.Happenings.none_numbered, runs.Grow.empty_run}, specs.machines.Nodes.begun_node}, world_law.specs.steps.Steps.Begun}
 use Rattle.{run_law.proofs.runs.Places.{before_next_time, before_of_time}, world_law.proofs.runs.{Settled.coming_of, Worlds.run_to}}
 use Rattle.world_law.proofs.steps_lemmas.Words.{◌++◌, ◌+ℤ◌, ◌+◌, ◌-ℤ◌, ◌<ℤ◌, ◌^◌, ◌∙◌, ◌∷◌, ◌≡◌, ◌≤ℤ◌, ◌≤◌, DeviceId, Happening, IsBefore, IsDue, IsIn, IsKept}
-use Rattle.world_law.proofs.steps_lemmas.Words.{AreComing, AreOfNetwork, AreSettled, IsLeft, IsPending, IsSource, List, Network, Node, Scenario, Task, Units, [], acts_before, amount, ap, arith}
+use Rattle.world_law.proofs.steps_lemmas.Words.{AreComing, AreOfNetwork, AreSettled, IsLeft, IsPending, IsSource, List, Network, Node, Scenario, Task, Units, [], acts_before, ap, arith}
 use Rattle.world_law.proofs.steps_lemmas.Words.{chain, correcting, doing, emitting, false, inl, inr, ints, no_cluster, none_in, observation_window}
 use Rattle.world_law.proofs.steps_lemmas.Words.{length, place_of, pos, reading_for, refl, scenario, subst, sym, true, value_of, ℕ, ℤ}
 
@@ -13,15 +13,9 @@ low_rank t k ws one (inr (e, inl lt)) = absurd (omega (arith, lt, one))
 low_rank t k ws one (inr (e, inr (f, b))) = b
 
 source_from : {s : Scenario} {hs : List Happening} {w : List ℕ} → IsSource s hs w → IsBefore w (0 ∷ 1 ∷ []) → ⊥
-source_from (IsSource.arriving t device link cause a) b = low_rank t 2 (device.0 ∷ link.0 ∷ cause ∷ []) (omega arith) b
-source_from (IsSource.ripening t device link cause point r) b =
-    low_rank t 3 (device.0 ∷ amount point ∷ r.frame.members.0 ∷ link.0 ∷ cause ∷ []) (omega arith) b
 source_from {s} (IsSource.acting t device task a) b =
     low_rank t 4 (device.0 ∷ []) (omega arith) (acts_before s.network t device task (0 ∷ 1 ∷ []) b)
-source_from (IsSource.departing t device link cause d) b = low_rank t 8 (device.0 ∷ link.0 ∷ cause ∷ []) (omega arith) b
-source_from (IsSource.following t cause h it) b = low_rank t 2 [] (omega arith) b
-source_from (IsSource.befalling time line what it) b = low_rank (amount time) 1 [] (omega arith) b
-source_from (IsSource.ending time device is there it) b = low_rank (amount time) 14 (device.0 ∷ []) (omega arith) b
+source_from source b = grind arith
 
 no_part : (front rest : List Happening) (z : Happening) → [] ≡ front ++ z ∷ rest → ⊥
 no_part [] rest z e = cc

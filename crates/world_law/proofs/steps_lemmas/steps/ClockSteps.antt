@@ -12,29 +12,12 @@ use Rattle.world_law.{proofs.putting.PutShown.same_record, specs.world.World.IsD
 use Rattle.run_law.specs.declared.judgement.Why.TheVariants as whys
 use Rattle.run_law.specs.declared.note.NoteBody.TheVariants as kinds
 
-no_rank : {t now : ℕ} {ws more : List ℕ} (k r : ℕ) → now ∷ r ∷ more ≡ t ∷ k ∷ ws → (k ≡ r → ⊥) → ⊥
-no_rank k r e other = let same : k ≡ r = cc in other same
-
 -- only the record of a device's clock comes from its source at the end
 clock_own : (s : Scenario) (js : List Happening) (t members : ℕ) (body : NoteBody) (device : DeviceId) (now : ℕ)
     → IsOwnSource s js t members body (now ∷ 14 ∷ device.0 ∷ []) → (t ≡ now) × (rank body ∷ key members body ≡ 14 ∷ device.0 ∷ [])
 clock_own s js t m (kinds.Clock other reading adjustment state) device now o = (cc, cc)
-clock_own s js t m (kinds.Event line what) device now o = absurd (no_rank 1 14 o (omega arith))
-clock_own s js t m (kinds.Permanent d link cause point verdict) device now o = absurd (no_rank 3 14 o (omega arith))
-clock_own s js t m (kinds.Compressed d opened at cycle of_masters verdict) device now o = absurd (no_rank 4 14 o (omega arith))
-clock_own s js t m (kinds.Sent d cycle) device now o = absurd (no_rank 5 14 o (omega arith))
-clock_own s js t m (kinds.Corrected d cycle by adjustment) device now o = absurd (no_rank 6 14 o (omega arith))
-clock_own s js t m (kinds.State d state cause whys.SyncClique) device now o = absurd (no_rank 6 14 o.1 (omega arith))
-clock_own s js t m (kinds.State d state cause whys.AsyncClique) device now o = absurd (no_rank 6 14 o.1 (omega arith))
-clock_own s js t m (kinds.Left d link cause clock) device now o = absurd (no_rank 8 14 o (omega arith))
-clock_own s js t m (kinds.Lost d link cause) device now (inl o) = absurd (no_rank 8 14 o.0 (omega arith))
-clock_own s js t m (kinds.Lost d link cause) device now (inr (inl o)) = absurd (no_rank 6 14 o.4 (omega arith))
-clock_own s js t m (kinds.Lost d link cause) device now (inr (inr o)) = absurd (no_rank 2 14 o.0 (omega arith))
-clock_own s js t m (kinds.TtSent d link cause vl cycle) device now o = absurd (no_rank 6 14 o.1 (omega arith))
-clock_own s js t m (kinds.Dropped d link cause reason) device now (inl o) = absurd (no_rank 2 14 o.0 (omega arith))
-clock_own s js t m (kinds.Dropped d link cause reason) device now (inr (inl o)) = absurd (no_rank 3 14 o.2 (omega arith))
-clock_own s js t m (kinds.Dropped d link cause reason) device now (inr (inr o)) = absurd (no_rank 8 14 o.0 (omega arith))
-clock_own s js t m other device now o = absurd (no_rank 2 14 o (omega arith))
+clock_own s js t m (kinds.State d state cause whys.SyncClique) device now o = grind arith
+clock_own s js t m other device now o = grind arith
 
 -- what is late is at its source where it is a clock's
 last_rank : (body : NoteBody) → 14 ≤ rank body → is_at_source body ≡ true

@@ -2,7 +2,7 @@
 use Rattle.{run_law.proofs.law.FirstPlaces.in_filter, world_law.{proofs.putting.Idle.IsIdle, specs.{steps.Steps.departure_now, world.World.IsAtPort}}}
 use Rattle.run_law.specs.control.{Leaving.{Departs, Departure, leaves, on_cut_way, too_old}, Permanence.waits_for}
 use Rattle.world_law.{proofs.{frames.Masters.parent_true, steps_lemmas.Words.{time_of, true, way_from, ℕ}}, specs.world.Outcomes.departure_body}
-use Rattle.world_law.proofs.steps_lemmas.Words.{◌++◌, ◌<◌, ◌||◌, ◌∙◌, ◌∷◌, ◌≡◌, ◌≤◌, ◌⊎◌, AtPort, Bool, DeviceId, Dispatches, Gives, Happening, IsCaused}
+use Rattle.world_law.proofs.steps_lemmas.Words.{◌++◌, ◌||◌, ◌∙◌, ◌∷◌, ◌≡◌, ◌≤◌, AtPort, Bool, DeviceId, Dispatches, Gives, Happening, IsCaused}
 use Rattle.world_law.proofs.steps_lemmas.Words.{IsDue, IsFounded, IsOwnSource, Launch, LinkId, List, None, NoteBody, Scenario, Some, Units, [], amount, ap}
 use Rattle.world_law.proofs.steps_lemmas.Words.{arith, by_number, cause_of, earlier, earlier_still, false, filter, inl, inr, is_accepted}
 use Rattle.world_law.proofs.steps_lemmas.Words.{is_broken, is_cut, is_parent_of, is_relay, key, last_in, last_or, launched, length, link_at}
@@ -78,10 +78,6 @@ abbrev ranked : ℕ → List ℕ → List ℕ
 ranked r (a ∷ b ∷ more) = a ∷ r ∷ more
 ranked r other = other
 
-wrong : (k : ℕ) → (8 ≡ k) → (k < 8) ⊎ (8 < k) → ⊥
-wrong k e (inl lt) = omega (arith, e, lt)
-wrong k e (inr lt) = omega (arith, e, lt)
-
 module _ {s : Scenario} {hs : List Happening} (zs : List Happening) (now : ℕ) {e : AtPort} (m : ℕ)
     (it : IsAtPort s hs e) (at : e.at ≡ now) (sound : is_broken s e.device now ≡ false) (t members : ℕ) where
   pub outcome_at : (body : NoteBody) (w : List ℕ) → w ≡ now ∷ 8 ∷ e.device.0 ∷ e.link.0 ∷ e.cause ∷ []
@@ -98,46 +94,13 @@ module _ {s : Scenario} {hs : List Happening} (zs : List Happening) (now : ℕ) 
       let so = departs_so zs it (departs_now zs now it at sound) (moved p o.1) in
       ap (λ x. now ∷ rank (departure_body e x) ∷ key m (departure_body e x)) so ∙ ap (ranked 9)
       (sym here ∙ o.0)
-  outcome_at (kinds.Lost device link cause) w here (inr (inl o)) time is c =
-      absurd (wrong 6 (ap second (sym here ∙ o.4)) (inl (omega arith)))
-  outcome_at (kinds.Lost device link cause) w here (inr (inr o)) time is c =
-      absurd (wrong 2 (ap second (sym here ∙ o.0)) (inl (omega arith)))
-  outcome_at (kinds.Dropped device link cause reason) w here (inl o) time is c =
-      absurd (wrong 2 (ap second (sym here ∙ o.0)) (inl (omega arith)))
-  outcome_at (kinds.Dropped device link cause reason) w here (inr (inl o)) time is c =
-      absurd (wrong 3 (ap second (sym here ∙ o.2)) (inl (omega arith)))
   outcome_at (kinds.Dropped device link cause reason) w here (inr (inr o)) time is c =
       grind (arith, same_port, departs_so, departs_now, moved, rank, key)
-  outcome_at (kinds.Event line what) w here o time is c =
-      absurd (wrong 1 (ap second (sym here ∙ o)) (inl (omega arith)))
-  outcome_at (kinds.Arrived device link cause clock) w here o time is c =
-      absurd (wrong 2 (ap second (sym here ∙ o)) (inl (omega arith)))
-  outcome_at (kinds.Permanent device link cause point verdict) w here o time is c =
-      absurd (wrong 3 (ap second (sym here ∙ o)) (inl (omega arith)))
-  outcome_at (kinds.Compressed device opened read cycle of_masters verdict) w here o time is c =
-      absurd (wrong 4 (ap second (sym here ∙ o)) (inl (omega arith)))
-  outcome_at (kinds.Sent device cycle) w here o time is c =
-      absurd (wrong 5 (ap second (sym here ∙ o)) (inl (omega arith)))
-  outcome_at (kinds.Corrected device cycle by adjustment) w here o time is c =
-      absurd (wrong 6 (ap second (sym here ∙ o)) (inl (omega arith)))
-  outcome_at (kinds.State device state cause whys.On) w here o time is c =
-      absurd (wrong 2 (ap second (sym here ∙ o)) (inl (omega arith)))
-  outcome_at (kinds.State device state cause whys.Frame) w here o time is c =
-      absurd (wrong 2 (ap second (sym here ∙ o)) (inl (omega arith)))
-  outcome_at (kinds.State device state cause whys.Correction) w here o time is c =
-      absurd (wrong 2 (ap second (sym here ∙ o)) (inl (omega arith)))
-  outcome_at (kinds.State device state cause whys.SyncClique) w here o time is c =
-      absurd (wrong 6 (ap second (sym here ∙ o.1)) (inl (omega arith)))
-  outcome_at (kinds.State device state cause whys.AsyncClique) w here o time is c =
-      absurd (wrong 6 (ap second (sym here ∙ o.1)) (inl (omega arith)))
-  outcome_at (kinds.TtSent device link cause vl cycle) w here o time is c =
-      absurd (wrong 6 (ap second (sym here ∙ o.1)) (inl (omega arith)))
-  outcome_at (kinds.Accepted device link cause vl cycle) w here o time is c =
-      absurd (wrong 2 (ap second (sym here ∙ o)) (inl (omega arith)))
-  outcome_at (kinds.Delivered device link cause vl cycle) w here o time is c =
-      absurd (wrong 2 (ap second (sym here ∙ o)) (inl (omega arith)))
-  outcome_at (kinds.Clock device reading adjustment state) w here o time is c =
-      absurd (wrong 14 (ap second (sym here ∙ o)) (inr (omega arith)))
+  outcome_at (kinds.Lost device link cause) w here (inr o) time is c = absurd (grind arith)
+  outcome_at (kinds.Dropped device link cause reason) w here (inl o) time is c = absurd (grind arith)
+  outcome_at (kinds.Dropped device link cause reason) w here (inr (inl o)) time is c = absurd (grind arith)
+  outcome_at (kinds.State device state cause whys.SyncClique) w here o time is c = absurd (grind arith)
+  outcome_at other w here o time is c = absurd (grind arith)
 
 module _ (s : Scenario) (js : List Happening) (now t members : ℕ) (e : AtPort) where
   -- where the device is broken, nothing comes from it
@@ -146,48 +109,15 @@ module _ (s : Scenario) (js : List Happening) (now t members : ℕ) (e : AtPort)
       → amount time ≡ t → IsCaused s js time body → ⊥
   nothing_of_broken (kinds.Left device link cause clock) w broken here o time is c = grind (arith, same_port, moved)
   nothing_of_broken (kinds.Lost device link cause) w broken here (inl o) time is c = grind (arith, same_port, moved)
-  nothing_of_broken (kinds.Lost device link cause) w broken here (inr (inl o)) time is c =
-      wrong 6 (ap second (sym here ∙ o.4)) (inl (omega arith))
-  nothing_of_broken (kinds.Lost device link cause) w broken here (inr (inr o)) time is c =
-      wrong 2 (ap second (sym here ∙ o.0)) (inl (omega arith))
-  nothing_of_broken (kinds.Dropped device link cause reason) w broken here (inl o) time is c =
-      wrong 2 (ap second (sym here ∙ o.0)) (inl (omega arith))
-  nothing_of_broken (kinds.Dropped device link cause reason) w broken here (inr (inl o)) time is c =
-      wrong 3 (ap second (sym here ∙ o.2)) (inl (omega arith))
   nothing_of_broken (kinds.Dropped device link cause reason) w broken here (inr (inr o)) time is c =
       let p = same_port e now t device link cause (sym here ∙ o.0) in
       let d = moved p o.1 in
       let bad : true ≡ false = sym broken ∙ d.correct in cc
-  nothing_of_broken (kinds.Event line what) w broken here o time is c =
-      wrong 1 (ap second (sym here ∙ o)) (inl (omega arith))
-  nothing_of_broken (kinds.Arrived device link cause clock) w broken here o time is c =
-      wrong 2 (ap second (sym here ∙ o)) (inl (omega arith))
-  nothing_of_broken (kinds.Permanent device link cause point verdict) w broken here o time is c =
-      wrong 3 (ap second (sym here ∙ o)) (inl (omega arith))
-  nothing_of_broken (kinds.Compressed device opened read cycle of_masters verdict) w broken here o time is c =
-      wrong 4 (ap second (sym here ∙ o)) (inl (omega arith))
-  nothing_of_broken (kinds.Sent device cycle) w broken here o time is c =
-      wrong 5 (ap second (sym here ∙ o)) (inl (omega arith))
-  nothing_of_broken (kinds.Corrected device cycle by adjustment) w broken here o time is c =
-      wrong 6 (ap second (sym here ∙ o)) (inl (omega arith))
-  nothing_of_broken (kinds.State device state cause whys.On) w broken here o time is c =
-      wrong 2 (ap second (sym here ∙ o)) (inl (omega arith))
-  nothing_of_broken (kinds.State device state cause whys.Frame) w broken here o time is c =
-      wrong 2 (ap second (sym here ∙ o)) (inl (omega arith))
-  nothing_of_broken (kinds.State device state cause whys.Correction) w broken here o time is c =
-      wrong 2 (ap second (sym here ∙ o)) (inl (omega arith))
-  nothing_of_broken (kinds.State device state cause whys.SyncClique) w broken here o time is c =
-      wrong 6 (ap second (sym here ∙ o.1)) (inl (omega arith))
-  nothing_of_broken (kinds.State device state cause whys.AsyncClique) w broken here o time is c =
-      wrong 6 (ap second (sym here ∙ o.1)) (inl (omega arith))
-  nothing_of_broken (kinds.TtSent device link cause vl cycle) w broken here o time is c =
-      wrong 6 (ap second (sym here ∙ o.1)) (inl (omega arith))
-  nothing_of_broken (kinds.Accepted device link cause vl cycle) w broken here o time is c =
-      wrong 2 (ap second (sym here ∙ o)) (inl (omega arith))
-  nothing_of_broken (kinds.Delivered device link cause vl cycle) w broken here o time is c =
-      wrong 2 (ap second (sym here ∙ o)) (inl (omega arith))
-  nothing_of_broken (kinds.Clock device reading adjustment state) w broken here o time is c =
-      wrong 14 (ap second (sym here ∙ o)) (inr (omega arith))
+  nothing_of_broken (kinds.Lost device link cause) w broken here (inr o) time is c = grind arith
+  nothing_of_broken (kinds.Dropped device link cause reason) w broken here (inl o) time is c = grind arith
+  nothing_of_broken (kinds.Dropped device link cause reason) w broken here (inr (inl o)) time is c = grind arith
+  nothing_of_broken (kinds.State device state cause whys.SyncClique) w broken here o time is c = grind arith
+  nothing_of_broken other w broken here o time is c = grind arith
 
 -- ---- whatever stands at that place comes from its leaving
 
@@ -287,29 +217,4 @@ module _ {s : Scenario} {hs : List Happening} (zs : List Happening) (now m : ℕ
             (gives_it it x.arrival device link giving p.by p.on) x.waits)
         | inr (inr d) ↦ d.0 ∙ sym at
       ]
-  own_there (kinds.Event line what) w late place o =
-      absurd (other_kind e is 1 (ap second place) (λ f. omega (arith, f), λ f. omega (arith, f), λ f. omega (arith, f)))
-  own_there (kinds.Arrived device link cause clock) w late place o =
-      absurd (other_kind e is 2 (ap second place) (λ f. omega (arith, f), λ f. omega (arith, f), λ f. omega (arith, f)))
-  own_there (kinds.Permanent device link cause point verdict) w late place o =
-      absurd (other_kind e is 3 (ap second place) (λ f. omega (arith, f), λ f. omega (arith, f), λ f. omega (arith, f)))
-  own_there (kinds.Compressed device opened read cycle of_masters verdict) w late place o =
-      absurd (other_kind e is 4 (ap second place) (λ f. omega (arith, f), λ f. omega (arith, f), λ f. omega (arith, f)))
-  own_there (kinds.Sent device cycle) w late place o =
-      absurd (other_kind e is 5 (ap second place) (λ f. omega (arith, f), λ f. omega (arith, f), λ f. omega (arith, f)))
-  own_there (kinds.Corrected device cycle by adjustment) w late place o =
-      absurd (other_kind e is 6 (ap second place) (λ f. omega (arith, f), λ f. omega (arith, f), λ f. omega (arith, f)))
-  own_there (kinds.State device state cause why) w late place o =
-      absurd (other_kind e is 7 (ap second place) (λ f. omega (arith, f), λ f. omega (arith, f), λ f. omega (arith, f)))
-  own_there (kinds.TtSent device link cause vl cycle) w late place o =
-      absurd (other_kind e is 10 (ap second place)
-      (λ f. omega (arith, f), λ f. omega (arith, f), λ f. omega (arith, f)))
-  own_there (kinds.Accepted device link cause vl cycle) w late place o =
-      absurd (other_kind e is 11 (ap second place)
-      (λ f. omega (arith, f), λ f. omega (arith, f), λ f. omega (arith, f)))
-  own_there (kinds.Delivered device link cause vl cycle) w late place o =
-      absurd (other_kind e is 12 (ap second place)
-      (λ f. omega (arith, f), λ f. omega (arith, f), λ f. omega (arith, f)))
-  own_there (kinds.Clock device reading adjustment state) w late place o =
-      absurd (other_kind e is 14 (ap second place)
-      (λ f. omega (arith, f), λ f. omega (arith, f), λ f. omega (arith, f)))
+  own_there other w late place o = absurd (grind (arith, other_kind, second))

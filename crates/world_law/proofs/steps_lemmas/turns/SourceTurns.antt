@@ -46,12 +46,11 @@ left_turn reading stands s world notes e ports old i at first without =
 heard_there_too : (network : Network) (hs : List Happening) (now : ℕ) (device : DeviceId) (link : LinkId)
     (cause : ℕ) (is : Arrival)
     → AreThere network hs now (now ∷ 2 ∷ device.0 ∷ link.0 ∷ cause ∷ []) (arrival_body device link cause is ∷ [])
-heard_there_too network hs now device link cause (arrivals.Waits frame point) = one_there _ refl refl
-heard_there_too network hs now device link cause (arrivals.Passes frame way) = one_there _ refl refl
 heard_there_too network hs now device link cause (arrivals.PassesAndWaits frame way point) = one_there _ refl refl
 heard_there_too network hs now device link cause (arrivals.Dropped reason) = one_later _ refl
 heard_there_too network hs now device link cause (arrivals.Accepted vl cycle) = one_later _ refl
 heard_there_too network hs now device link cause (arrivals.Delivered vl cycle) = one_later _ refl
+heard_there_too network hs now device link cause other = one_there _ refl refl
 
 pub heard_turn : {C M : Type 0} (reading : C → ℕ → ℕ) (stands : M → Network → DeviceId → Node → Type 0)
     → HeardTurn reading stands
@@ -83,12 +82,7 @@ ripe_there : (network : Network) (hs : List Happening) (now number : ℕ) (e : W
 ripe_there network hs now number e frame (ripe.Dropped reason) = one_later _ refl
 ripe_there network hs now number e frame ripe.Integrates =
     two_there _ _ refl (judged_there hs now e frame) (omega arith)
-ripe_there network hs now number e frame ripe.Opened = one_there _ refl (judged_there hs now e frame)
-ripe_there network hs now number e frame ripe.Joined = one_there _ refl (judged_there hs now e frame)
-ripe_there network hs now number e frame ripe.Repeat = one_there _ refl (judged_there hs now e frame)
-ripe_there network hs now number e frame ripe.Within = one_there _ refl (judged_there hs now e frame)
-ripe_there network hs now number e frame ripe.Outside = one_there _ refl (judged_there hs now e frame)
-ripe_there network hs now number e frame ripe.Ignored = one_there _ refl (judged_there hs now e frame)
+ripe_there network hs now number e frame other = one_there _ refl (judged_there hs now e frame)
 
 pub ripened_turn : {C M : Type 0} (reading : C → ℕ → ℕ) (stands : M → Network → DeviceId → Node → Type 0)
     → RipenedTurn reading stands
