@@ -2,7 +2,7 @@
 use Rattle.drift_world.proofs.{ActTurns.{IsTurn, comes_first as comes_then, others_then}, Halves.{set_act, waits_as}, Nearings.{act_less, defer_less}}
 use Rattle.drift_world.proofs.{Timings.rekeyed_by, Turning.{comes_first, kept_timers, rekeyed_step, runs_on}}
 use Rattle.drift_world.proofs.Words.{◌++◌, ◌+◌, ◌<◌, ◌↔◌, ◌∙◌, ◌∷◌, ◌≡◌, DeviceId, IsIn, IsWell, List, Network, Node, Note, Scenario}
-use Rattle.drift_world.proofs.Words.{IsSound, Some, StandsOne, Waits, [], ap, arith, keeps, length, numbers_end, refl, sym, units_of, world_of, ℕ}
+use Rattle.drift_world.proofs.Words.{IsSound, Some, Stands, Waits, [], ap, arith, keeps, length, numbers_end, refl, sym, units_of, world_of, ℕ}
 use Rattle.drift_world.specs.{Acting.{ActGives, IsLeft}, Nearing.IsLess, Parts.{IsLaterThan, part_rank}, Stepping.{IsActTimed, IsRekeyed, MayRekey, SetsOnly}}
 use Rattle.drift_world.specs.{Turns.{GivesAt, IsKept, IsStep, MayWork}, declared.{next.Turn.TheVariants.Gives, part.Part.Part, state.State.State}}
 use Rattle.drift_world.specs.declared.{part.ToDo.{ToDo, TheVariants.{Next, Now}}, source.Source.TheVariants.Act}
@@ -13,12 +13,11 @@ module _ {C M : Type 0} (last_step : C → ℕ) (reading : C → ℕ → ℕ) (s
     (part : Part) (device : DeviceId) (first mid : State C M) (left : ToDo) (acts : ℕ)
     (may : MayWork last_step reading stands network first (Act part device))
     (turn : IsTurn last_step reading stands network part device first mid left acts) where
-  still : (s : Scenario) (notes : List Note) → StandsOne reading (keeps stands) s (world_of network first) notes
-      → StandsOne reading (keeps stands) s (world_of network mid) notes
+  still : (s : Scenario) (notes : List Note) → Stands reading (keeps stands) s (world_of network first) notes
+      → Stands reading (keeps stands) s (world_of network mid) notes
   still s notes is =
-      let it = turn.still s notes is.0 is.1
-      (comes_first last_step reading stands network first (Act part device) s notes may tt is.0) in
-      (it.new, it.one)
+      (turn.still s notes is
+      (comes_first last_step reading stands network first (Act part device) s notes may tt is)).new
 
   timers_are : mid.timers ≡ first.timers
   timers_are = ap (λ (t : State C M). t.timers) turn.same
@@ -70,14 +69,14 @@ module _ {C M : Type 0} (last_step : C → ℕ) (reading : C → ℕ → ℕ) (s
       (machines : (i : ℕ) → (i ≡ device.0 → ⊥) → slice_get gave.machines.items i ≡ slice_get mid.machines.items i)
       (act : ActGives reading stands network part device mid gave note)
       (numbers : mid.given + length mid.settled.items + 2 < numbers_end) where
-    gives : (s : Scenario) (notes : List Note) → StandsOne reading (keeps stands) s (world_of network first) notes
-        → StandsOne reading (keeps stands) s (world_of network gave) (notes ++ note ∷ [])
+    gives : (s : Scenario) (notes : List Note) → Stands reading (keeps stands) s (world_of network first) notes
+        → Stands reading (keeps stands) s (world_of network gave) (notes ++ note ∷ [])
     gives s notes is =
-        let ahead = comes_first last_step reading stands network first (Act part device) s notes may tt is.0 in
-        let was = turn.still s notes is.0 is.1 ahead in
-        act.then_stands s notes was.new was.one
+        let ahead = comes_first last_step reading stands network first (Act part device) s notes may tt is in
+        let was = turn.still s notes is ahead in
+        act.then_stands s notes was.new
         (comes_then last_step reading stands network part device first mid left acts turn numbers s notes
-        is.0 is.1 ahead)
+        is ahead)
 
     gave_timers : gave.timers ≡ first.timers
     gave_timers = ap (λ (t : State C M). t.timers) act.same ∙ timers_are
@@ -104,8 +103,7 @@ module _ {C M : Type 0} (last_step : C → ℕ) (reading : C → ℕ → ℕ) (s
           running = record {
             s = run.s;
             notes = run.notes ++ note ∷ [];
-            is =
-                (gives run.s run.notes (run.is, may.well.one)).0;
+            is = gives run.s run.notes run.is;
           };
         }
 

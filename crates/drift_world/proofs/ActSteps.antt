@@ -9,7 +9,7 @@ use Rattle.{drift_world.proofs.Fits.{all_put_some, have_octets}, world_state.spe
 use Rattle.{run_law.specs.{declared.steps.Act.Act, machines.{Answers.IsActOf, Calls.MayAct}}, std.specs.List.slice_get}
 use Rattle.drift_world.proofs.Words.{◌+◌, ◌<◌, ◌≡◌, ◌≤◌, ComesFirst, DeviceId, Happening, HasActed, IsAt, IsBefore, IsHeld, IsIn, IsOf, IsOwn, IsSomePut}
 use Rattle.drift_world.proofs.Words.{◌∙◌, ◌∷◌, IfSome, Kept, List, Moment, Network, Node, None, Note, Option, Scenario, Settled, Some, Stands, StandsFor, Units, [], ap, arith}
-use Rattle.drift_world.proofs.Words.{chain, false, happenings, inl, inr, keeps, length, map, moment_of, pos, rank, refl, same_Some}
+use Rattle.drift_world.proofs.Words.{chain, false, happenings, inl, inr, keeps, length, map, moment_of, pos, rank, same_Some}
 use Rattle.drift_world.proofs.Words.{◌++◌, NoteBody, TurnsIn}
 use Rattle.drift_world.proofs.Words.{settled_at, slice_get_within, stored_as, subst, sym, true, world_of, ℕ}
 use Rattle.run_law.{proofs.runs.Places.before_behind, specs.records.Order.behind}
@@ -86,11 +86,13 @@ module _ {C M : Type 0} (reading : C → ℕ → ℕ) (stands : M → Network �
 
   -- it is not broken
   kept_at : (s : Scenario) (notes : List Note) (old : Old s notes)
-      → IsKept (keeps stands) s (happenings s.network notes) (map (settled_at network state.time) state.settled.items) old.cursor state.time device machine
+      → IsKept (keeps stands) s (happenings s.network notes) (map (settled_at network state.time) state.settled.items)
+      old.frontier state.time device machine
   kept_at s notes old =
       let m = old.devices device (subst (λ (n : Network). device.0 < length n.device) old.same lt) in
       let same : m.0 ≡ machine = same_Some m.0 machine (sym m.1 ∙ there) in
-      elim (subst (λ x. IsHeld (keeps stands) s (happenings s.network notes) (map (settled_at network state.time) state.settled.items) old.cursor state.time device x) same m.2) [
+      elim (subst (λ x. IsHeld (keeps stands) s (happenings s.network notes)
+      (map (settled_at network state.time) state.settled.items) old.frontier state.time device x) same m.2) [
         | inl k ↦ k
         | inr out ↦ let task = task_now s notes old out.node out.is in absurd (no_task s.network device out.node task.0 out.shows task.1)
       ]
@@ -221,7 +223,8 @@ module _ {C M : Type 0} (reading : C → ℕ → ℕ) (stands : M → Network �
       let law = lawful reading (keeps stands) s (world_of network state) notes old device in
       let same = of_rank s notes old act after acted in
       let grows = left_no_sooner {device = device} {node = k.node} {moment = moment_of s device state.time} act {new = new} {left = left} old.range old.rules
-      (kept_from_zero (keeps stands) s (happenings s.network notes) (map (settled_at network state.time) state.settled.items) old.cursor state.time device machine k law)
+      (kept_from_zero (keeps stands) s (happenings s.network notes)
+      (map (settled_at network state.time) state.settled.items) old.frontier state.time device machine k law)
       (may_act_now s device k.node state.time k.ready (old.steady device) old.limit) is first in
       omega (arith, same, grows)
 
@@ -236,19 +239,20 @@ module _ {C M : Type 0} (reading : C → ℕ → ℕ) (stands : M → Network �
   -- the act is worked off, and these are its records
   pub acted_turns : (after : Kept M) (was is : Standing) (before adjustment : Units) (act : Act) (outcomes : Outcomes)
       (machines : List (Kept M)) → IsSet device.0 after state.machines.items machines → (s : Scenario) (notes : List Note)
-      (old : Old s notes) → old.mark ≡ old.cursor
-      → First_ s notes old → HasActed (keeps stands) s.network device (moment_of s device state.time) act machine after
+      (old : Old s notes) → First_ s notes old → HasActed (keeps stands) s.network device
+      (moment_of s device state.time) act machine after
       → IsStateOf (keeps stands) s.network device machine was before → IsStateOf (keeps stands) s.network device after is adjustment
       → AreOutcomes s state.stored.items state.time (state.given + 1) device was adjustment act outcomes
       → TurnsIn reading stands network s notes (record (world_of network state) { early = false; machines = machines })
       (task_place s.network state.time device (task_of act)) outcomes.first outcomes.second
-  acted_turns after was is before adjustment act outcomes machines set s notes old one first acted stood stands_then are = record {
-    order = settled_in_order old;
-    first_is = subst (λ n. IsOwn s.network n state.time (happenings s.network notes) outcomes.first) (sym old.same) own.first;
-    second_is = subst (λ n. IsOwn s.network n state.time (happenings s.network notes) outcomes.second) (sym old.same) own.second;
-    by = acted_turn reading (keeps stands) s (world_of network state) notes old.cursor device after (bodies_of outcomes) machines
-        (old, one, refl) acts_are set;
-  }
+  acted_turns after was is before adjustment act outcomes machines set s notes old first acted stood stands_then are =
+      record {
+        order = settled_in_order old;
+        first_is = subst (λ n. IsOwn s.network n state.time (happenings s.network notes) outcomes.first) (sym old.same) own.first;
+        second_is = subst (λ n. IsOwn s.network n state.time (happenings s.network notes) outcomes.second) (sym old.same) own.second;
+        by = acted_turn reading (keeps stands) s (world_of network state) notes device after (bodies_of outcomes) machines
+            old acts_are set;
+      }
     where
       own : AreProper s (happenings s.network notes) state.time device was adjustment act outcomes
       own = proper_at s notes old first act after was adjustment outcomes acted are
@@ -282,10 +286,10 @@ module _ {C M : Type 0} (reading : C → ℕ → ℕ) (stands : M → Network �
 
   -- what is behind the act is not before where its part begins
   pub behind_part : (s : Scenario) (notes : List Note) (old : Old s notes) (act : Act) (after : Kept M)
-      → HasActed (keeps stands) s.network device (moment_of s device state.time) act machine after → (cursor : List ℕ)
-      → cursor ≡ behind (task_place s.network state.time device (task_of act))
-      → IsBefore cursor (part_place part state.time device) → ⊥
-  behind_part s notes old act after acted cursor at b =
+      → HasActed (keeps stands) s.network device (moment_of s device state.time) act machine after → (frontier : List ℕ)
+      → frontier ≡ behind (task_place s.network state.time device (task_of act))
+      → IsBefore frontier (part_place part state.time device) → ⊥
+  behind_part s notes old act after acted frontier at b =
       let place = task_place s.network state.time device (task_of act) in
       not_before_own state.time (rank_of_act act) device.0 (act_more s.network act)
       (chain (state.time ∷ rank_of_act act ∷ device.0 ∷ act_more s.network act) (behind place)

@@ -11,12 +11,11 @@ use Rattle.{drift_world.specs.declared.state.State.State, world_law.proofs.givin
 use Rattle.{run_law.proofs.runs.Places.either_way, std.specs.{List.slice_get, Prelude.All}}
 use Rattle.world_law.{proofs.steps_lemmas.growing.Repeating.{acts_add_up, acts_are_bounded, no_act_yet}, specs.steps.Repeating.HasActedTimes}
 
--- the state stands with one frontier, and the device's acts come first, but that there may be no numbers
+-- the state stands, and the device's acts come first, but that there may be no numbers
 pub record IsStill {C M : Type 0} (reading : C → ℕ → ℕ) (stands : M → Network → DeviceId → Node → Type 0) (network : Network) (part : Part) (device : DeviceId)
     (time : ℕ) (now : State C M) (s : Scenario) (notes : List Note) : Type 0 where
   pub new : Stands reading (keeps stands) s (world_of network now) notes
-  pub one : new.mark ≡ new.cursor
-  pub none : NoSourceBefore s (happenings s.network notes) new.cursor (part_place part time device)
+  pub none : NoSourceBefore s (happenings s.network notes) new.frontier (part_place part time device)
   pub after : (z : Happening) → IsIn z (world_of network now).settled → IsBefore (place_of z) (part_place part time device) → ⊥
 
 -- what a turn keeps, where the device has acted so often and has this to do
@@ -31,11 +30,11 @@ pub record IsTurn {C M : Type 0} (last_step : C → ℕ) (reading : C → ℕ �
   pub above : AreAbove (part_rank part) now
   pub begun : IsDueAt reading stands network now part device → IsDueAt reading stands network first part device
   pub still : (s : Scenario) (notes : List Note) (old : Stands reading (keeps stands) s (world_of network first) notes)
-      → old.mark ≡ old.cursor → ComesFirst reading (keeps stands) s (world_of network first) notes old
+      → ComesFirst reading (keeps stands) s (world_of network first) notes old
       (part_place part first.time device)
       → IsStill reading stands network part device first.time now s notes
   pub times : (s : Scenario) (notes : List Note) (old : Stands reading (keeps stands) s (world_of network first) notes)
-      → old.mark ≡ old.cursor → ComesFirst reading (keeps stands) s (world_of network first) notes old
+      → ComesFirst reading (keeps stands) s (world_of network first) notes old
       (part_place part first.time device) → (machine last : Kept M)
       → slice_get first.machines.items device.0 ≡ Some machine → slice_get now.machines.items device.0 ≡ Some last
       → HasActedTimes (keeps stands) s.network device (moment_of s device first.time) acts machine last
@@ -79,7 +78,8 @@ module _ {C M : Type 0} (last_step : C → ℕ) (reading : C → ℕ → ℕ) (s
 
   -- the node for which the machine stands
   node_at : (s : Scenario) (notes : List Note) (old : Old s notes) (machine : Kept M)
-      → IsHeld (keeps stands) s (happenings s.network notes) (map (settled_at network first.time) first.settled.items) old.cursor first.time device machine
+      → IsHeld (keeps stands) s (happenings s.network notes) (map (settled_at network first.time) first.settled.items)
+      old.frontier first.time device machine
       → (node : Node) × keeps stands machine s.network device node
   node_at s notes old machine (inl k) = (k.node, k.is)
   node_at s notes old machine (inr out) = (out.node, out.is)
@@ -106,8 +106,8 @@ module _ {C M : Type 0} (last_step : C → ℕ) (reading : C → ℕ → ℕ) (s
     later = from_then left is from at lt;
     above = above;
     begun = λ due. due;
-    still = λ s notes old one f. record { new = old; one = one; none = f.none; after = f.after };
-    times = λ s notes old one f machine last there there_last.
+    still = λ s notes old f. record { new = old; none = f.none; after = f.after };
+    times = λ s notes old f machine last there there_last.
         subst (HasActedTimes (keeps stands) s.network device (moment_of s device first.time) 0 machine) (some_same machine last _ there there_last)
         (no_act_yet (keeps stands) s.network device (moment_of s device first.time) machine);
   }
@@ -121,16 +121,16 @@ module _ {C M : Type 0} (last_step : C → ℕ) (reading : C → ℕ → ℕ) (s
 
   -- a world stands, and the device's acts come first
   abbrev IsStillIn : Scenario → List Note → World C (Kept M) → Type 0
-  IsStillIn s notes world = (new : Stands reading (keeps stands) s world notes) × (new.mark ≡ new.cursor)
-      × NoSourceBefore s (happenings s.network notes) new.cursor (part_place part first.time device)
+  IsStillIn s notes world = (new : Stands reading (keeps stands) s world notes)
+      × NoSourceBefore s (happenings s.network notes) new.frontier (part_place part first.time device)
       × ((z : Happening) → IsIn z world.settled → IsBefore (place_of z) (part_place part first.time device) → ⊥)
 
   still_with : (s : Scenario) (notes : List Note) (now mid : State C M) → mid.settled.items ≡ now.settled.items
       → IsStill reading stands network part device first.time now s notes
       → IsStill reading stands network part device first.time (record now { settled = mid.settled; spare = mid.spare }) s notes
   still_with s notes now mid same was =
-      let it = subst (IsStillIn s notes) (same_world now mid same) (was.new, was.one, was.none, was.after) in
-      record { new = it.0; one = it.1; none = it.2; after = it.3 }
+      let it = subst (IsStillIn s notes) (same_world now mid same) (was.new, was.none, was.after) in
+      record { new = it.0; none = it.1; after = it.2 }
 
   sound_with : (now mid : State C M) → mid.settled.items ≡ now.settled.items → IsSound last_step network now
       → IsSound last_step network (record now { settled = mid.settled; spare = mid.spare })
@@ -165,7 +165,7 @@ module _ {C M : Type 0} (last_step : C → ℕ) (reading : C → ℕ → ℕ) (s
         later = turn.later;
         above = subst (λ (l : List Settled). All (λ (z : Settled). part_rank part < rank z.body) l) (sym same) turn.above;
         begun = λ due. turn.begun (due_with now mid due);
-        still = λ s notes old one f. still_with s notes now mid same (turn.still s notes old one f);
+        still = λ s notes old f. still_with s notes now mid same (turn.still s notes old f);
         times = turn.times;
       })
 
@@ -176,11 +176,11 @@ module _ {C M : Type 0} (last_step : C → ℕ) (reading : C → ℕ → ℕ) (s
 
   -- where there are numbers, the device's acts come first
   pub comes_first : (now : State C M) (left : ToDo) (acts : ℕ) (turn : Turn now left acts) → now.given + length now.settled.items + 2 < numbers_end
-      → (s : Scenario) (notes : List Note) (old : Old s notes) (one : old.mark ≡ old.cursor) (f : First s notes old)
-      → ComesFirst reading (keeps stands) s (world_of network now) notes (turn.still s notes old one f).new
+      → (s : Scenario) (notes : List Note) (old : Old s notes) (f : First s notes old)
+      → ComesFirst reading (keeps stands) s (world_of network now) notes (turn.still s notes old f).new
       (part_place part now.time device)
-  comes_first now left acts turn numbers s notes old one f =
-      let still = turn.still s notes old one f in
+  comes_first now left acts turn numbers s notes old f =
+      let still = turn.still s notes old f in
       let given = still.new.given in
       let long = length-map now.settled.items (settled_at network now.time) in
       subst (λ t. ComesFirst reading (keeps stands) s (world_of network now) notes still.new (part_place part t device)) (sym (now_time now left acts turn))
@@ -191,28 +191,26 @@ module _ {C M : Type 0} (last_step : C → ℕ) (reading : C → ℕ → ℕ) (s
   comes_at now left acts turn numbers at = record {
     s = at.s;
     notes = at.notes;
-    is = (turn.still at.s at.notes at.is at.one at.first).new;
-    one = (turn.still at.s at.notes at.is at.one at.first).one;
-    first = comes_first now left acts turn numbers at.s at.notes at.is at.one at.first;
+    is = (turn.still at.s at.notes at.is at.first).new;
+    first = comes_first now left acts turn numbers at.s at.notes at.is at.first;
   }
 
   still_then : (now new : State C M) (left : ToDo) (acts : ℕ) (turn : Turn now left acts)
       → now.given + length now.settled.items + 2 < numbers_end → ActsOn reading stands network part device now new → (s : Scenario)
-      (notes : List Note) (old : Old s notes) → old.mark ≡ old.cursor → First s notes old
+      (notes : List Note) (old : Old s notes) → First s notes old
       → IsStill reading stands network part device first.time new s notes
-  still_then now new left acts turn numbers acted s notes old one f =
-      let was = turn.still s notes old one f in
+  still_then now new left acts turn numbers acted s notes old f =
+      let was = turn.still s notes old f in
       let time = now_time now left acts turn in
       let then = subst (λ t. StandsFrom reading stands s (world_of network new) notes (part_place part t device)) time
-      (acted.then_stands s notes was.new was.one (comes_first now left acts turn numbers s notes old one f)) in
-      let cursor = then.0.cursor in
+      (acted.then_stands s notes was.new (comes_first now left acts turn numbers s notes old f)) in
+      let frontier = then.0.frontier in
       record {
         new = then.0;
-        one = then.1;
-        none = λ w source not_yet before. elim (either_way w cursor) [
+        none = λ w source not_yet before. elim (either_way w frontier) [
           | inl lt ↦ not_yet lt
-          | inr (inl e) ↦ then.2 (subst (λ q. IsBefore q (part_place part first.time device)) e before)
-          | inr (inr gt) ↦ then.2 (chain cursor w (part_place part first.time device) gt before)
+          | inr (inl e) ↦ then.1 (subst (λ q. IsBefore q (part_place part first.time device)) e before)
+          | inr (inr gt) ↦ then.1 (chain frontier w (part_place part first.time device) gt before)
         ];
         after = λ z there before.
             let made = made_of (settled_at network new.time) new.settled.items z there in
@@ -231,18 +229,17 @@ module _ {C M : Type 0} (last_step : C → ℕ) (reading : C → ℕ → ℕ) (s
   times_then : (now new : State C M) (left : ToDo) (acts : ℕ) (turn : Turn now left acts) → Due now
       → ActsOn reading stands network part device now new
       → device.0 < length network.device → (s : Scenario) (notes : List Note) (old : Old s notes)
-      → old.mark ≡ old.cursor
       → (f : First s notes old) (machine last : Kept M)
       → slice_get first.machines.items device.0 ≡ Some machine → slice_get new.machines.items device.0 ≡ Some last
       → HasActedTimes (keeps stands) s.network device (moment_of s device first.time) (acts + 1) machine last
-  times_then now new left acts turn due acted lt s notes old one f machine last there there_last =
-      let was = turn.still s notes old one f in
+  times_then now new left acts turn due acted lt s notes old f machine last there there_last =
+      let was = turn.still s notes old f in
       let time = now_time now left acts turn in
       let mid = was.new.devices device (subst (λ (n : Network). device.0 < length n.device) was.new.same lt) in
       let act = acted.acted s notes mid.0 was.new mid.1 in
       let same : act.1 ≡ last = some_same act.1 last (slice_get new.machines.items device.0) act.2 there_last in
       acts_add_up (keeps stands) s.network device (moment_of s device first.time) act.0 acts machine mid.0 last old.range old.rules
-      (turn.times s notes old one f machine mid.0 there mid.1)
+      (turn.times s notes old f machine mid.0 there mid.1)
       (subst (λ t. IsDueNow (keeps stands) s.network device (moment_of s device t) mid.0) time (due_now now s notes mid.0 due was.new mid.1))
       (subst (λ x. HasActed (keeps stands) s.network device (moment_of s device first.time) act.0 mid.0 x) same
       (subst (λ t. HasActed (keeps stands) s.network device (moment_of s device t) act.0 mid.0 act.1) time act.3))
@@ -255,12 +252,12 @@ module _ {C M : Type 0} (last_step : C → ℕ) (reading : C → ℕ → ℕ) (s
       let s = at.s in
       let own = subst (λ (n : Network). device.0 < length n.device) at.is.same lt in
       let machine = at.is.devices device own in
-      let was = turn.still s at.notes at.is at.one at.first in
+      let was = turn.still s at.notes at.is at.first in
       let mid = was.new.devices device own in
       let act = acted.acted s at.notes mid.0 was.new mid.1 in
       acts_are_bounded reading (keeps stands) s (world_of network first) at.notes device machine.0 act.1 (acts + 1) at.is own machine.1
       (due_now first s at.notes machine.0 (turn.begun due) at.is machine.1)
-      (times_then now new left acts turn due acted lt s at.notes at.is at.one at.first machine.0 act.1 machine.1 act.2)
+      (times_then now new left acts turn due acted lt s at.notes at.is at.first machine.0 act.1 machine.1 act.2)
 
   pub turn_on : (now new : State C M) (left then_left : ToDo) (acts : ℕ) → Turn now left acts → Due now
       → now.given + length now.settled.items + 2 < numbers_end → ActsOn reading stands network part device now new

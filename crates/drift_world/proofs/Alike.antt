@@ -10,7 +10,7 @@ module _ {C M : Type 0} (reading : C → ℕ → ℕ) (stands : M → Network �
       → ((e : OnWire) → IsIn e wires ↔ IsIn e world.wires) → ((e : AtPort) → IsIn e ports ↔ IsIn e world.ports)
       → (it : Stands reading stands s world notes)
       → (new : Stands reading stands s (record world { wires = wires; ports = ports }) notes)
-      × (new.mark ≡ it.mark) × (new.cursor ≡ it.cursor)
+      × (new.frontier ≡ it.frontier)
   with_lists wires ports on at it = (
     record {
       same = it.same;
@@ -19,10 +19,8 @@ module _ {C M : Type 0} (reading : C → ℕ → ℕ) (stands : M → Network �
       forward = it.forward;
       steady = it.steady;
       precise = it.precise;
-      mark = it.mark;
-      cursor = it.cursor;
+      frontier = it.frontier;
       run = it.run;
-      ahead = it.ahead;
       of_now = it.of_now;
       not_later = it.not_later;
       limit = it.limit;
@@ -54,16 +52,15 @@ module _ {C M : Type 0} (reading : C → ℕ → ℕ) (stands : M → Network �
       shown = it.shown;
     },
     refl,
-    refl,
   )
 
-  -- and so where there is one frontier
+  -- and so with its frontier at a place
   pub ports_at : (ports : List AtPort) (p : List ℕ) → ((e : AtPort) → IsIn e ports ↔ IsIn e world.ports)
       → StandsAt reading stands s world notes p → StandsAt reading stands s
       (record world { ports = ports }) notes p
   ports_at ports p at one =
       let new = with_lists world.wires ports (λ e. (λ i. i, λ i. i)) at one.0 in
-      (new.0, new.1 ∙ one.1, new.2 ∙ one.2)
+      (new.0, new.1 ∙ one.1)
 
 -- so does a turn from such a world
 module _ {C M : Type 0} (reading : C → ℕ → ℕ) (stands : M → Network → DeviceId → Node → Type 0) (s : Scenario)
@@ -131,4 +128,4 @@ module _ {C M : Type 0} (reading : C → ℕ → ℕ) (stands : M → Network �
           let it = turn.then_stands base more (IsTurn.puts late (record { none = g.none; put = g.put; same = refl })) in
           let so = with_lists reading stands s base (notes ++ more) wires ports on at it.0 in
           subst (λ (w : World C M). StandsAt reading stands s w (notes ++ more) (behind place)) (sym g.same)
-          (so.0, so.1 ∙ it.1, so.2 ∙ it.2)
+          (so.0, so.1 ∙ it.1)

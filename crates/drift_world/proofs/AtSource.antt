@@ -5,8 +5,7 @@ use Rattle.drift_world.proofs.Words.{Stands, arith, cases_lt, inl, inr, is_mappe
 use Rattle.{drift_world.proofs.Words.{suc, true, world_of, zero, ℕ}, std.proofs.Common.All}
 use Rattle.drift_world.specs.{Acting.AreAbove, Turns.source_rank, declared.{source.Source.Source, state.State.State}}
 use Rattle.drift_world.specs.declared.source.Source.TheVariants.{Act, Arrival, Clock, Departure, Events, Later, Ripening}
-use Rattle.drift_world.proofs.Words.{◌∙◌, StandsAt, StandsOne, World, false}
-use Rattle.world_law.proofs.steps_lemmas.turns.Turns.{late_at}
+use Rattle.{drift_world.proofs.Words.false, world_law.proofs.runs.Settled.late_of}
 use Rattle.world_law.specs.world.World.{is_at_source}
 use Rattle.run_law.specs.declared.note.NoteBody.TheVariants as kinds
 
@@ -53,7 +52,7 @@ pub rank_most : (body : NoteBody) → rank body ≤ 14
 rank_most (kinds.Event line what) = omega arith
 rank_most other = omega arith
 
--- ---- where there is one frontier
+-- ---- what is settled
 
 -- what holds of all holds of each
 pub each_of : {X : Type 0} (P : X → Type 0) (xs : List X) (x : X) → All P xs → IsIn x xs → P x
@@ -65,20 +64,13 @@ each_of P (y ∷ ys) x all (inr i) = each_of P ys x (λ k d within. all (suc k) 
 pub is_late : {C M : Type 0} (reading : C → ℕ → ℕ) (stands : M → Network → DeviceId → Node → Type 0) (network : Network)
     (state : State C M) (z : Settled) (others : List Settled) {s : Scenario} {notes : List Note}
     → state.settled.items ≡ z ∷ others
-    → (old : Stands reading (keeps stands) s (world_of network state) notes) → old.mark ≡ old.cursor
+    → (old : Stands reading (keeps stands) s (world_of network state) notes)
     → is_at_source z.body ≡ false
-is_late reading stands network state z others {s} {notes} whole old one =
+is_late reading stands network state z others {s} {notes} whole old =
     let shown = settled_at network state.time z in
     let there : IsIn shown (map (settled_at network state.time) state.settled.items) =
     subst (λ (l : List Settled). IsIn shown (map (settled_at network state.time) l)) (sym whole) (inl refl) in
-    let at : StandsAt reading (keeps stands) s (world_of network state) notes old.cursor = (old, one, refl) in
-    late_at at shown there
-
--- one frontier at this place is one at some place
-pub one_of : {C M : Type 0} {reading : C → ℕ → ℕ} {stands : M → Network → DeviceId → Node → Type 0} {s : Scenario}
-    {world : World C M} {notes : List Note} {p : List ℕ} → StandsAt reading stands s world notes p
-    → StandsOne reading stands s world notes
-one_of at = (at.0, at.1 ∙ sym at.2)
+    late_of old.are shown there
 
 -- ---- where the first of what is settled is of a higher rank, all is
 

@@ -226,7 +226,8 @@ module _ {C M : Type 0} (reading : C → ℕ → ℕ) (stands : Kept M → Netwo
   pub none_settled : state.settled.items ≡ []
   none_settled =
       none_mapped (settled_at s.network state.time) state.settled.items
-      (no_coming (happenings s.network notes) (map (settled_at s.network state.time) state.settled.items) s old.mark old.cursor state.time old.are
+      (no_coming (happenings s.network notes) (map (settled_at s.network state.time) state.settled.items) s old.frontier
+      state.time old.are
       (old.untold.early pending))
 
   -- the numbers of the events are those of records given

@@ -1,11 +1,18 @@
 -- Where only events of the present instant are worked off, the records given are the run behind them.
-use Rattle.drift_world.proofs.Words.{◌+◌, ◌<◌, ◌∷◌, ◌≡◌, ◌≤◌, AreSettled, DeviceId, Happening, IsBefore, IsDue, IsIn, IsScenarioRun, List, Network, Node, Note}
-use Rattle.drift_world.proofs.Words.{Scenario, Stands, World, [], amount, ap, append-nil, arith, chain, happenings, inl, inr, never_self, place_of, refl, subst}
+use Rattle.drift_world.proofs.Words.{◌+◌, ◌<◌, ◌∷◌, ◌≡◌, ◌≤◌, AreComing, DeviceId, Happening, IsBefore, IsDue, IsScenarioRun, List, Network, Node, Note}
+use Rattle.drift_world.proofs.Words.{Scenario, Stands, World, [], amount, ap, append-nil, arith, chain, happenings, inl, inr, place_of, refl, subst}
 use Rattle.drift_world.{proofs.Words.{keeps, reading_of, scenario, sym, true, ℕ, ℤ}, specs.Running.RunsBehindEvents}
 use Rattle.world_law.specs.world.World.{IsDueAs, IsWorkedOff}
-use Rattle.world_law.proofs.runs.{Next.none_due, Sourced.sourced, TaskPlaces.placed_so}
+use Rattle.world_law.proofs.{runs.{Next.none_due, Sourced.sourced, TaskPlaces.placed_so}, steps_lemmas.steps.Applied.no_coming}
 use Rattle.{net_plan.specs.declared.event.Event.Event, world_law.{proofs.runs.Firsts.source_before, specs.source.{Next.NoneDueBefore, Sources.IsSource}}}
 use Rattle.run_law.proofs.runs.Grow.{move_mark}
+
+-- nothing is to come
+pub none_coming : {C M : Type 0} {reading : C → ℕ → ℕ} {stands : M → Network → DeviceId → Node → Type 0}
+    {s : Scenario} {world : World C M} {notes : List Note} → Stands reading stands s world notes → world.early ≡ true
+    → world.settled ≡ []
+none_coming {s} {world} {notes} old early =
+    no_coming (happenings s.network notes) world.settled s old.frontier world.now old.are (old.early early)
 
 -- ---- what is before the place behind the events
 
@@ -21,58 +28,54 @@ module _ {C M : Type 0} (reading : C → ℕ → ℕ) (stands : M → Network �
   hs = happenings s.network notes
 
   -- what is of an earlier time is worked off
-  past : (t : ℕ) (ws : List ℕ) → t < world.now → IsBefore (t ∷ ws) old.cursor
-  past t ws lt = old.ahead (t ∷ ws) (old.of_now (t ∷ ws) (inl lt))
+  past : (t : ℕ) (ws : List ℕ) → t < world.now → IsBefore (t ∷ ws) old.frontier
+  past t ws lt = old.of_now (t ∷ ws) (inl lt)
 
   -- an event of the instant is
-  told : (i : ℕ) (e : Event) → Rattle.std.specs.Prelude.slice_get s.events i ≡ Rattle.std.proofs.Common.Some e → IsBefore (amount e.time ∷ 1 ∷ []) old.cursor
+  told : (i : ℕ) (e : Event) → Rattle.std.specs.Prelude.slice_get s.events i ≡ Rattle.std.proofs.Common.Some e
+      → IsBefore (amount e.time ∷ 1 ∷ []) old.frontier
   told i e is =
-      old.ahead (amount e.time ∷ 1 ∷ [])
-      (chain (amount e.time ∷ 1 ∷ []) (amount e.time ∷ 1 ∷ (i + 1) ∷ []) old.mark (inr (refl, inr (refl, tt))) (old.befallen.told i e is))
+      chain (amount e.time ∷ 1 ∷ []) (amount e.time ∷ 1 ∷ (i + 1) ∷ []) old.frontier (inr (refl, inr (refl, tt)))
+      (old.befallen.told i e is)
 
-  by_time : (t k : ℕ) (ws : List ℕ) → 2 ≤ k → IsBefore (t ∷ k ∷ ws) (world.now ∷ 2 ∷ []) → IsBefore (t ∷ k ∷ ws) old.cursor
+  by_time : (t k : ℕ) (ws : List ℕ) → 2 ≤ k → IsBefore (t ∷ k ∷ ws) (world.now ∷ 2 ∷ [])
+      → IsBefore (t ∷ k ∷ ws) old.frontier
   by_time t k ws high b = past t (k ∷ ws) (sooner t world.now k ws b high)
 
   -- so is each source that is before the place behind the events
-  worked : (w : List ℕ) → IsSource s hs w → IsBefore w (world.now ∷ 2 ∷ []) → IsBefore w old.cursor
+  worked : (w : List ℕ) → IsSource s hs w → IsBefore w (world.now ∷ 2 ∷ []) → IsBefore w old.frontier
   unfolding hs
   worked w (IsSource.arriving t device link cause a) b = by_time t 2 (device.0 ∷ link.0 ∷ cause ∷ []) (omega arith) b
   worked w (IsSource.ripening t device link cause point r) b = by_time t 3 (device.0 ∷ amount point ∷ r.frame.members.0 ∷ link.0 ∷ cause ∷ []) (omega arith) b
   worked w (IsSource.acting t device task a) b =
       let p = placed_so s.network t device task in
       let late = p.late in
-      subst (λ q. IsBefore q old.cursor) (sym p.is)
+      subst (λ q. IsBefore q old.frontier) (sym p.is)
       (by_time t p.rank (device.0 ∷ p.rest) (omega (arith, late)) (subst (λ q. IsBefore q (world.now ∷ 2 ∷ [])) p.is b))
   worked w (IsSource.departing t device link cause d) b = by_time t 8 (device.0 ∷ link.0 ∷ cause ∷ []) (omega arith) b
   worked w (IsSource.following t cause h it) b = by_time t 2 [] (omega arith) b
-  worked w (IsSource.befalling time line what r) b = subst (λ (n : ℕ). IsBefore (n ∷ 1 ∷ []) old.cursor) (ap amount (sym r.at)) (told r.before r.event r.is)
+  worked w (IsSource.befalling time line what r) b =
+      subst (λ (n : ℕ). IsBefore (n ∷ 1 ∷ []) old.frontier) (ap amount (sym r.at)) (told r.before r.event r.is)
   worked w (IsSource.ending time device is there ends) b = by_time (amount time) 14 (device.0 ∷ []) (omega arith) b
 
-  -- nothing is to come
-  pub none_coming : world.settled ≡ []
-  none_coming = from world.settled (λ z i. old.are.begun z i)
-    where
-      from : (l : List Happening) → ((z : Happening) → IsIn z l → IsBefore (world.now ∷ 2 ∷ []) old.cursor) → l ≡ []
-      from [] begun = refl
-      from (z ∷ zs) begun = absurd (never_self (world.now ∷ 2 ∷ []) (old.early early (world.now ∷ 2 ∷ []) (begun z (inl refl))))
-
-  nothing : NoneDueBefore place_of (IsDue s) old.mark hs (world.now ∷ 2 ∷ [])
+  nothing : NoneDueBefore place_of (IsDue s) old.frontier hs (world.now ∷ 2 ∷ [])
   unfolding hs
   nothing y due not here =
       let from = sourced s hs y due in
       let is_worked = worked from.place from.source (source_before from.place (place_of y) (world.now ∷ 2 ∷ []) from.no_later here) in
-      let are = subst (λ l. AreSettled s hs l old.mark old.cursor world.now) none_coming old.are in
+      let are = subst (λ l. AreComing s hs l old.frontier world.now) (none_coming old early) old.are in
       (are.full [] [] y refl (λ n i. absurd i) (λ n i. absurd i) not
       (subst (λ l. IsDueAs s l y) (sym (append-nil hs)) (record { same = due.same; begun = due.begun; cause = due.cause }))
-      (subst (λ l. IsWorkedOff s l old.cursor y) (sym (append-nil hs)) (from.place, from.own, from.source, is_worked))).1
+      (subst (λ l. IsWorkedOff s l old.frontier y) (sym (append-nil hs))
+      (from.place, from.own, from.source, is_worked))).1
 
   -- the records are the run behind the events of the instant
   pub run_behind_events : IsScenarioRun s (world.now ∷ 2 ∷ []) notes
   unfolding hs
   run_behind_events =
       move_mark (IsDue s) {later = world.now ∷ 2 ∷ []} old.run
-      (λ n i. old.early early (place_of n) (old.ahead (place_of n) (old.run.within n i)))
-      (none_due place_of (IsDue s) old.mark hs (world.now ∷ 2 ∷ []) old.run.within nothing)
+      (λ n i. old.early early (place_of n) (old.run.within n i))
+      (none_due place_of (IsDue s) old.frontier hs (world.now ∷ 2 ∷ []) old.run.within nothing)
 
 -- so of a world that stands for events and records
 pub runs_behind_events : {C M : Type 0} (fresh : ℕ → C) (after_step : C → ℕ → ℤ → C) (reading : C → ℕ → ℕ)

@@ -37,8 +37,8 @@ of_end until le (inr (e, b)) = b
 module _ {C M : Type 0} (reading : C → ℕ → ℕ) (stands : M → Network → DeviceId → Node → Type 0) (network : Network) (state : State C M)
     (running : IsRunning reading stands network state) where
   -- no place before the present time is still to be worked off
-  past : (p q : List ℕ) → p ≡ q → (IsBefore p running.is.cursor → ⊥) → IsBefore q (state.time ∷ []) → ⊥
-  past p q same not b = not (subst (λ r. IsBefore r running.is.cursor) (sym same) (running.is.ahead q (running.is.of_now q b)))
+  past : (p q : List ℕ) → p ≡ q → (IsBefore p running.is.frontier → ⊥) → IsBefore q (state.time ∷ []) → ⊥
+  past p q same not b = not (subst (λ r. IsBefore r running.is.frontier) (sym same) (running.is.of_now q b))
 
   entry_later : (e : Entry Content) (content : Content) → e.content ≡ content → IsIn e state.under_way.entries → e.place.rank ≡ rank_of content
       → state.time ≤ e.place.at

@@ -7,9 +7,8 @@ use Rattle.drift_world.proofs.Words.{Waits, [], amount, ap, arith, at_port, begi
 use Rattle.drift_world.proofs.Words.{on_wire, one, reading_of, refl, scenario, slice_get-get_or, slice_get-map, subst, sym, way_as, world_of, ℕ, ℤ}
 use Rattle.{drift_world.specs.{Beginning.{AreFresh, IsFirstState}, declared.state.State.State}, std.proofs.Common.{All, filter_map, slice_get}}
 use Rattle.{net_plan.specs.declared.event.Event.Event, run_law.specs.law.FirstLaws.IsEventInRange, std.proofs.lemmas.List.{Elements.All-nil, length-replicate}}
-use Rattle.drift_world.proofs.{AtSource.one_of, Words.Stands}
+use Rattle.drift_world.proofs.Words.{Stands}
 use Rattle.std.specs.Option.{option_map}
-use Rattle.world_law.proofs.steps_lemmas.turns.Turns.{none_early, raised}
 
 none_within : (network : Network) → AreWithinHypothesis network []
 none_within network before behind e order = absurd (from before order)
@@ -96,8 +95,7 @@ module _ {C M : Type 0} (fresh : ℕ → C) (last_step : C → ℕ) (network : N
 
     pub first_stands : StandsUnder fresh after_step reading stands network (world_of network state) [] []
     first_stands = record {
-      is = (one_of (raised stood (λ z i b. none_early stood first.early z i))).0;
-      one = (one_of (raised stood (λ z i b. none_early stood first.early z i))).1;
+      is = stood;
       clocks = λ device lt. ap (λ cs. slice_get cs device.0) first.clocks ∙ found_in _ _ _ lt;
       of_network = All-nil (λ (e : Event). IsOfNetwork network e.what);
       times = All-nil IsEventInRange;

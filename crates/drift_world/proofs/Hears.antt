@@ -137,16 +137,18 @@ module _ {C M : Type 0} (reading : C → ℕ → ℕ) (stands : Kept M → Netwo
       by (signals.Timed octets) plain = plain (octets_of network octets) refl
       by (signals.Octets given) plain = tt
 
-  not_gone : IsBefore (state.time ∷ 2 ∷ place.device ∷ place.link ∷ place.cause ∷ []) old.cursor → ⊥
+  not_gone : IsBefore (state.time ∷ 2 ∷ place.device ∷ place.link ∷ place.cause ∷ []) old.frontier → ⊥
   not_gone before = (old.wires.real e there).2
-      (subst (λ (t : ℕ). IsBefore (t ∷ 2 ∷ place.device ∷ place.link ∷ place.cause ∷ []) old.cursor) (sym at) before)
+      (subst (λ (t : ℕ). IsBefore (t ∷ 2 ∷ place.device ∷ place.link ∷ place.cause ∷ []) old.frontier) (sym at) before)
 
   module _ (machine : Kept M) (moment : Moment) (found : slice_get state.machines.items place.device ≡ Some machine)
       (now : moment ≡ moment_of s e.device state.time) where
-    held : IsHeld stands s hs (map (settled_at network state.time) state.settled.items) old.cursor state.time e.device machine
+    held : IsHeld stands s hs (map (settled_at network state.time) state.settled.items) old.frontier state.time
+        e.device machine
     held =
         let own = old.devices e.device (device_there s hs e old.range (old.wires.real e there).0) in
-        subst (λ x. IsHeld stands s hs (map (settled_at network state.time) state.settled.items) old.cursor state.time e.device x) (some_same own.0 machine _ own.1 found) own.2
+        subst (λ x. IsHeld stands s hs (map (settled_at network state.time) state.settled.items) old.frontier state.time
+        e.device x) (some_same own.0 machine _ own.1 found) own.2
 
     called : (node : Node) (m : Moment) → Type 0
     called node m = MayCall s.network e.device node m arriving
@@ -159,14 +161,16 @@ module _ {C M : Type 0} (reading : C → ℕ → ℕ) (stands : Kept M → Netwo
             k.node,
             k.is,
             subst (λ m. MayCall s.network e.device k.node m arriving) (sym now)
-                (may_call s old.cursor state.time e.device k.node arriving (place.device ∷ place.link ∷ place.cause ∷ []) k.ready k.phase
+                (may_call s old.frontier state.time e.device k.node arriving
+                (place.device ∷ place.link ∷ place.cause ∷ []) k.ready k.phase
                 (old.steady e.device) old.limit not_gone),
           )
           | inr k ↦ (
             k.node,
             k.is,
             subst (λ m. MayCall s.network e.device k.node m arriving) (sym now)
-                (may_call s old.cursor state.time e.device k.node arriving (place.device ∷ place.link ∷ place.cause ∷ []) k.ready k.phase
+                (may_call s old.frontier state.time e.device k.node arriving
+                (place.device ∷ place.link ∷ place.cause ∷ []) k.ready k.phase
                 (old.steady e.device) old.limit not_gone),
           )
         ]
@@ -194,7 +198,6 @@ module _ {C M : Type 0} (reading : C → ℕ → ℕ) (stands : Kept M → Netwo
 
     -- and it is worked off
     pub heard_turns : (heard : Kept M) (octets : List ℕ) (result : Arrival) (machines : List (Kept M))
-        → old.mark ≡ old.cursor
         → AreUnderWay network state.under_way.entries → ComesFirst reading stands s (world_of network state) notes old (numbers_of place)
         → AreOctetsOf (signal_as network signal) octets
         → ((other : Network) (device : DeviceId) → HasHeard stands other device moment e.link octets result machine heard)
@@ -208,7 +211,7 @@ module _ {C M : Type 0} (reading : C → ℕ → ℕ) (stands : Kept M → Netwo
           wires = filter_map (on_wire network) rest;
           ports = filter_map at_port rest;
         }) (numbers_of place)
-    heard_turns heard octets result machines one under first are hears set =
+    heard_turns heard octets result machines under first are hears set =
         let world = world_of network state in
         let it = (old.wires.real e there).0 in
         let may = may_come_so octets are in
@@ -221,8 +224,8 @@ module _ {C M : Type 0} (reading : C → ℕ → ℕ) (stands : Kept M → Netwo
         (told network s.network hs e.device e.link e.cause signal node_of.0 moment (signal_as network signal) refl
         (λ frame is. frame_told s hs old.run.founded e it frame is) (λ given is. octets_told s hs old.run.founded e it given is)) in
         let mid : World C (Kept M) = record world { early = false; machines = machines; wires = filter_map (on_wire network) rest } in
-        let turn = heard_turn reading stands s world notes old.cursor e machine heard octets result machines
-        (filter_map (on_wire network) rest) (old, one, refl) there at
+        let turn = heard_turn reading stands s world notes e machine heard octets result machines
+        (filter_map (on_wire network) rest) old there at
         (subst (ComesFirst reading stands s world notes old) numbers first) found are.is may
         (subst (λ m. HasHeard stands s.network e.device m e.link octets result machine heard) now (hears s.network e.device)) set
         (wires_without network state.under_way.entries rest taken under took e refl) in (

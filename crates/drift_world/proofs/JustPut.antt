@@ -72,7 +72,7 @@ module _ {C M : Type 0} (reading : C → ℕ → ℕ) (stands : Kept M → Netwo
       record { putting = h; there = of.there; signal = launch.signal; arrives = arrives } in
       let later = is.forward launch.link launch.way to.0 (time_of h) to.1 in
       let now = of.at in
-      let first = is.ahead (place_of h) (is.run.within h (numbered_in (happenings s.network notes) number h of.there)) in
+      let first = is.run.within h (numbered_in (happenings s.network notes) number h of.there) in
       let w = is.wires.all t to.0 launch.link number arriving
       (λ pending same. not_early h state.time of.at of.behind (is.untold.early pending (place_of h) first))
       (λ before. not_soon t state.time (to.0.0 ∷ launch.link.0 ∷ number ∷ []) (omega (arith, later, now))

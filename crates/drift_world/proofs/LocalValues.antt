@@ -24,8 +24,8 @@ shown_small false states.Joining reading adjustment low small = tt
 
 -- what is kept of a device stands for a node of it, with a small adjustment unless it is broken
 small_held : {M : Type 0} (stands : M → Network → DeviceId → Node → Type 0) → AreSmall stands
-    → {s : Scenario} {hs coming : List Happening} {mark cursor : List ℕ} {now : ℕ} {device : DeviceId}
-    {kept : Kept M} → HaveBefallen s mark now → IsHeld (keeps stands) s hs coming cursor now device kept
+    → {s : Scenario} {hs coming : List Happening} {frontier : List ℕ} {now : ℕ} {device : DeviceId}
+    {kept : Kept M} → HaveBefallen s frontier now → IsHeld (keeps stands) s hs coming frontier now device kept
     → (node : Node) × keeps stands kept s.network device node
     × (is_broken s device now ≡ false → IsSmall node.standing.adjustment.0)
 small_held stands small befallen (inl k) = grind (arith, small_kept, no_later_breaks)

@@ -2,11 +2,11 @@
 use Rattle.drift_world.proofs.Words.{happening, note_of}
 use Rattle.world_law.{proofs.runs.Worlds.length_is, specs.world.World.IsDueAs}
 use Rattle.{drift_clock.specs.Readings.value_after, drift_world.specs.Running.clock_of, run_law.{proofs.runs.Places.either_way, specs.records.Happenings.up_to}}
-use Rattle.{drift_world.proofs.{Agreements.{all_come, reads_value}, Words.{true, world_of, ℕ, ℤ}}, run_law.specs.device.States.{adjustment_after, state_after}}
+use Rattle.{drift_world.proofs.{Agreements.{all_come, reads_value}, EventRuns.none_coming, Words.{true, world_of, ℕ, ℤ}}, run_law.specs.device.States.{adjustment_after, state_after}}
 use Rattle.drift_world.proofs.Words.{◌++◌, ◌+◌, ◌<◌, ◌∙◌, ◌∷◌, ◌≡◌, ◌≤◌, Bool, DeviceId, DeviceState, Happening, IsBefore, IsComplete, IsDue, IsIn}
 use Rattle.drift_world.proofs.Words.{IsScenarioRun, List, Network, Node, Note, Option, RateStep, Scenario, Shows, Stands, Units, World, [], amount, ap}
 use Rattle.drift_world.proofs.Words.{append-nil, arith, breaks_at, chain, false, filter, happenings, inl, inr, is_broken, keeps, le-leb, length, list_any}
-use Rattle.drift_world.proofs.Words.{local_shown, nat_le, never_self, numbered_in, place_of, rate_steps, reading_of, refl, scenario, subst, suc, sym, time_of}
+use Rattle.drift_world.proofs.Words.{local_shown, nat_le, numbered_in, place_of, rate_steps, reading_of, refl, scenario, subst, suc, sym, time_of}
 use Rattle.{drift_world.specs.{Locals.{HasCome, IsLocalClock}, declared.state.State.State}, world_law.proofs.devices.Shown.{all_past, held_shows}}
 use Rattle.{net_plan.specs.declared.event.Event.Event, world_law.proofs.{devices.{Resting.IsWorked, TurnedOn.all_up_to}, giving.GivenParts.some_same}}
 use Rattle.std.specs.List.{All}
@@ -34,18 +34,12 @@ no_later s t notes run h i = elim (run.within h i) [ inl lt ↦ omega (arith, lt
 
 -- ---- nothing is to come
 
-pub no_first : {M : Type 0} (coming : List M) → ((z : M) (rest : List M) → coming ≡ z ∷ rest → ⊥) → coming ≡ []
+no_first : {M : Type 0} (coming : List M) → ((z : M) (rest : List M) → coming ≡ z ∷ rest → ⊥) → coming ≡ []
 no_first [] none = refl
 no_first (z ∷ rest) none = absurd (none z rest refl)
 
 module _ {C M : Type 0} (reading : C → ℕ → ℕ) (stands : M → Network → DeviceId → Node → Type 0) (s : Scenario) (world : World C M) (notes : List Note)
     (old : Stands reading stands s world notes) (t : ℕ) (run : IsScenarioRun s ((t + 1) ∷ []) notes) where
-  -- where the world has come behind the time, only events of its instant are worked off
-  none_early : world.early ≡ true → world.settled ≡ []
-  none_early early = no_first world.settled (λ z rest same.
-      let begun = old.are.begun z (subst (λ l. IsIn z l) (sym same) (inl refl)) in
-      never_self (world.now ∷ 2 ∷ []) (old.early early (world.now ∷ 2 ∷ []) begun))
-
   -- where it is at the time still, what is to come would be a record of the run
   none_now : world.now ≡ t → world.settled ≡ []
   none_now at = no_first world.settled (λ z rest same.
@@ -56,24 +50,24 @@ module _ {C M : Type 0} (reading : C → ℕ → ℕ) (stands : M → Network �
       let place : place_of y ≡ place_of z = ap place_of (sym first.same) in
       let due : IsDue s hs y =
       record { number = ap (λ n. n + 1) (length_is s notes); same = refl; begun = first.begun; cause = first.cause } in
-      let behind = old.are.behind_mark z there in
+      let behind = old.are.after z there in
       let of_now = old.are.of_now z there in
       let before : (h : Happening) → IsIn h hs → IsBefore (place_of h) (place_of y) = λ h i.
       subst (λ p. IsBefore (place_of h) p) (sym place)
       (let marked = old.run.within h i in elim (either_way (place_of h) (place_of z)) [
         | inl lt ↦ lt
-        | inr (inl e) ↦ absurd (behind (subst (λ p. IsBefore p old.mark) e marked))
-        | inr (inr gt) ↦ absurd (behind (chain (place_of z) (place_of h) old.mark gt marked))
+        | inr (inl e) ↦ absurd (behind (subst (λ p. IsBefore p old.frontier) e marked))
+        | inr (inr gt) ↦ absurd (behind (chain (place_of z) (place_of h) old.frontier gt marked))
       ]) in
       let other = run.full hs [] y (sym (append-nil hs)) before (λ h none. absurd none) due (inl (omega (arith, of_now, at))) in
-      behind (subst (λ p. IsBefore p old.mark) (other.2 ∙ place) (old.run.within other.0 other.1)))
+      behind (subst (λ p. IsBefore p old.frontier) (other.2 ∙ place) (old.run.within other.0 other.1)))
 
   none_left : HasCome world (happenings s.network notes) t → world.settled ≡ []
-  none_left (inl past) = none_early past.1
+  none_left (inl past) = none_coming old past.1
   none_left (inr here) = none_now here.0
 
   -- what follows events of the instant is settled
-  worked : HasCome world (happenings s.network notes) t → IsWorked (happenings s.network notes) old.cursor world.now
+  worked : HasCome world (happenings s.network notes) t → IsWorked (happenings s.network notes) old.frontier world.now
   worked (inl past) number h is =
       let le = no_later s t notes run h (numbered_in (happenings s.network notes) number h is.there) in
       let at = is.same_time in
@@ -81,8 +75,8 @@ module _ {C M : Type 0} (reading : C → ℕ → ℕ) (stands : M → Network �
       absurd (omega (arith, le, at, lt))
   worked (inr here) number h is =
       let by = here.1 in
-      subst (λ (n : ℕ). IsBefore (n ∷ 2 ∷ []) old.cursor) (sym here.0)
-      (chain (t ∷ 2 ∷ []) (place_of by.0) old.cursor by.2 (old.ahead (place_of by.0) (old.run.within by.0 by.1)))
+      subst (λ (n : ℕ). IsBefore (n ∷ 2 ∷ []) old.frontier) (sym here.0)
+      (chain (t ∷ 2 ∷ []) (place_of by.0) old.frontier by.2 (old.run.within by.0 by.1))
 
   come : HasCome world (happenings s.network notes) t → t ≤ world.now
   come (inl past) = let lt = past.0 in omega (arith, lt)
@@ -137,7 +131,7 @@ local_is {fresh} {after_step} {reading} {stands} own {network} {state} {t} {even
     let le = come reading (keeps stands) s world notes old t complete.all complete.come in
     let held = old.devices device there in
     let empty = none_left reading (keeps stands) s world notes old t complete.all complete.come in
-    let at = held_shows (keeps stands) s hs world.settled old.mark old.cursor now device held.0 held.2
+    let at = held_shows (keeps stands) s hs world.settled old.frontier now device held.0 held.2
     (worked reading (keeps stands) s world notes old t complete.all complete.come)
     (all_past reading (keeps stands) s world notes old) old.befallen in
     let all : hs ++ world.settled ≡ hs = ap (λ (l : List Happening). hs ++ l) empty ∙ append-nil hs in

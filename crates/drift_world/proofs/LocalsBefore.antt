@@ -1,26 +1,18 @@
 -- The local clock of a device before the records of the present time, as a world shows it, is that of the records.
-use Rattle.drift_world.proofs.{Locals.no_first, Words.{is_broken, keeps, length, local_shown, never_self, refl, subst, sym, true, world_of, ℕ, ℤ}}
-use Rattle.drift_world.proofs.Words.{◌++◌, ◌<◌, ◌∙◌, ◌∷◌, ◌≡◌, Bool, DeviceId, DeviceState, Happening, IsBefore, IsHeld, IsIn, IsLocalClockBefore, List}
-use Rattle.drift_world.proofs.Words.{Network, Node, Note, Option, Scenario, Shows, Stands, Units, World, [], ap, append-nil, arith, false, happenings, inl, inr}
+use Rattle.drift_world.proofs.{EventRuns.none_coming, Words.{is_broken, keeps, length, local_shown, never_self, refl, subst, sym, true, world_of, ℕ, ℤ}}
+use Rattle.drift_world.proofs.Words.{◌++◌, ◌<◌, ◌∙◌, ◌∷◌, ◌≡◌, Bool, DeviceId, DeviceState, Happening, IsBefore, IsHeld, IsLocalClockBefore, List}
+use Rattle.drift_world.proofs.Words.{Network, Node, Note, Option, Scenario, Shows, Stands, Units, [], ap, append-nil, arith, false, happenings, inl, inr}
 use Rattle.{drift_world.specs.declared.state.State.State, run_law.specs.device.States.{adjustment_before, state_before}}
 use Rattle.world_law.{proofs.giving.GivenParts.some_same, specs.world.World.IsKept}
 use Rattle.sync_state.specs.declared.state.State.TheVariants as states
 
 -- ---- where only events of the instant are worked off
 
--- nothing is to come
-pub none_coming : {C M : Type 0} {reading : C → ℕ → ℕ} {stands : M → Network → DeviceId → Node → Type 0}
-    {s : Scenario} {world : World C M} {notes : List Note} (old : Stands reading stands s world notes)
-    → world.early ≡ true → world.settled ≡ []
-none_coming {world} old early = no_first world.settled (λ z rest same.
-    let begun = old.are.begun z (subst (λ l. IsIn z l) (sym same) (inl refl)) in
-    never_self (world.now ∷ 2 ∷ []) (old.early early (world.now ∷ 2 ∷ []) begun))
-
 -- no device has acted at the instant
 not_acted : {M : Type 0} {stands : M → Network → DeviceId → Node → Type 0} {s : Scenario}
-    {hs coming : List Happening} {cursor : List ℕ} {now : ℕ} {device : DeviceId} {machine : M}
-    (k : IsKept stands s hs coming cursor now device machine)
-    → ((p : List ℕ) → IsBefore p cursor → IsBefore p (now ∷ 2 ∷ [])) → k.up ≡ now
+    {hs coming : List Happening} {frontier : List ℕ} {now : ℕ} {device : DeviceId} {machine : M}
+    (k : IsKept stands s hs coming frontier now device machine)
+    → ((p : List ℕ) → IsBefore p frontier → IsBefore p (now ∷ 2 ∷ [])) → k.up ≡ now
 not_acted {now} k early = elim k.acted [
   | inl yet ↦ yet.0
   | inr over ↦ absurd (never_self (now ∷ 2 ∷ []) (early (now ∷ 2 ∷ []) (over.1 (now ∷ 2 ∷ []) (inr (refl, inl (omega arith))))))
@@ -33,9 +25,9 @@ record ShowsSound (s : Scenario) (hs : List Happening) (device : DeviceId) (now 
 
 -- unless the device is broken, its machine stands for such a node
 sound_shows : {M : Type 0} {stands : M → Network → DeviceId → Node → Type 0} {s : Scenario}
-    {hs coming : List Happening} {cursor : List ℕ} {now : ℕ} {device : DeviceId} {machine : M}
-    → IsHeld stands s hs coming cursor now device machine → coming ≡ []
-    → ((p : List ℕ) → IsBefore p cursor → IsBefore p (now ∷ 2 ∷ []))
+    {hs coming : List Happening} {frontier : List ℕ} {now : ℕ} {device : DeviceId} {machine : M}
+    → IsHeld stands s hs coming frontier now device machine → coming ≡ []
+    → ((p : List ℕ) → IsBefore p frontier → IsBefore p (now ∷ 2 ∷ []))
     → (node : Node) × stands machine s.network device node
     × (is_broken s device now ≡ false → ShowsSound s hs device now node)
 sound_shows {s} {hs} {coming} {now} {device} (inl k) empty early =

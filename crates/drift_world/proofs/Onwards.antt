@@ -2,7 +2,7 @@
 use Rattle.drift_world.{proofs.Agreements.{clock_more, reads_same, reads_value}, specs.Running.{HoldsATime, IsOpenTo, clock_of}}
 use Rattle.{drift_world.{proofs.{Forwards.forward, Steadiness.steady, Suits.suits}, specs.Following.Follows}, std.proofs.lemmas.List.Elements.All-push}
 use Rattle.drift_world.proofs.Words.{◌++◌, ◌<◌, ◌∙◌, ◌∷◌, ◌≡◌, ◌≤ℤ◌, ◌≤◌, DeviceId, Err, FitsWorld, IfOk, IsIn, IsLawful, IsOfNetwork}
-use Rattle.drift_world.proofs.Words.{IsWithinHypothesis, Kept, List, Network, Node, Note, Ok, OnOk, OutOfMemory, Result, Some, Stands, StandsOne, StandsUnder, World, []}
+use Rattle.drift_world.proofs.Words.{IsWithinHypothesis, Kept, List, Network, Node, Note, Ok, OnOk, OutOfMemory, Result, Some, Stands, StandsUnder, World, []}
 use Rattle.drift_world.proofs.Words.{amount, ap, arith, begins_at_zero, clock_after, happenings, in_get, in_parts, inl, inr, ints, keeps, keeps_clock_laws}
 use Rattle.drift_world.proofs.Words.{length, one, pos, reading_of, refl, scenario, slice_get_within, subst, sym, unsigned_abs, world_of, ℕ, ℤ}
 use Rattle.{drift_world.specs.declared.state.State.State, world_law.specs.source.Applying.note_of_event}
@@ -63,12 +63,11 @@ module _ {C M : Type 0} (fresh : ℕ → C) (after_step : C → ℕ → ℤ → 
   pub stands_again : (new : State C M) (more : List Note) → IsOfNetwork network event.what
       → ((device : DeviceId) (clock : C) → slice_get state.clocks.items device.0 ≡ Some clock
       → slice_get new.clocks.items device.0 ≡ Some (clock_after after_step device event.time event.what clock))
-      → StandsOne reading (keeps stands)
+      → Stands reading (keeps stands)
       (scenario network (reading_of fresh after_step reading network (events ++ event ∷ [])) (events ++ event ∷ []))
       (world_of network new) more → StandsUnder fresh after_step reading stands network (world_of network new) (events ++ event ∷ []) more
   stands_again new more of_network clocks is = record {
-    is = is.0;
-    one = is.1;
+    is = is;
     clocks = λ device lt. clocks device (clock_of fresh after_step network events device) (under.clocks device lt)
         ∙ ap Some (sym (clock_more fresh after_step network events event device));
     of_network = All-push (λ (e : Event). IsOfNetwork network e.what) events event under.of_network of_network;
@@ -91,7 +90,7 @@ module _ {C M E : Type 0} (fresh : ℕ → C) (after_step : C → ℕ → ℤ �
     (step : (f h : DeviceId → ℕ → ℕ) (past : List Event) (notes : List Note)
     → (old : Stands reading (keeps stands) (scenario network f past) (world_of network state) notes) → Follows after_step reading network f h past event state
     → FitsWorld (scenario network f past) (happenings network notes) state.time event.what → IfOk result (λ note. (note ≡ note_of_event notes past event)
-    × StandsOne reading (keeps stands) (scenario network h (past ++ event ∷ [])) (world_of network new)
+    × Stands reading (keeps stands) (scenario network h (past ++ event ∷ [])) (world_of network new)
     (notes ++ note ∷ []))) where
   pub goes_on : (events : List Event) (notes : List Note) → StandsUnder fresh after_step reading stands network (world_of network state) events notes
       → IsWithinHypothesis network events event
@@ -103,7 +102,7 @@ module _ {C M E : Type 0} (fresh : ℕ → C) (after_step : C → ℕ → ℤ �
       of_network in
       let goes = followed fresh after_step reading grain count law stands network state events notes event under time hold within many in
       more_ok (λ (note : Note). (note ≡ note_of_event notes events event)
-      × StandsOne reading (keeps stands) (scenario network h (events ++ event ∷ [])) (world_of network new)
+      × Stands reading (keeps stands) (scenario network h (events ++ event ∷ [])) (world_of network new)
       (notes ++ note ∷ []))
       (λ (note : Note). StandsUnder fresh after_step reading stands network (world_of network new) (events ++ event ∷ []) (notes ++ note ∷ []))
       _ result
@@ -133,7 +132,7 @@ module _ {C M : Type 0} (fresh : ℕ → C) (after_step : C → ℕ → ℤ → 
     (step : (f h : DeviceId → ℕ → ℕ) (past : List Event) (notes : List Note)
     → (old : Stands reading (keeps stands) (scenario network f past) (world_of network state) notes) → Follows after_step reading network f h past event state
     → FitsWorld (scenario network f past) (happenings network notes) state.time event.what → (note ≡ note_of_event notes past event)
-    × StandsOne reading (keeps stands) (scenario network h (past ++ event ∷ [])) (world_of network new)
+    × Stands reading (keeps stands) (scenario network h (past ++ event ∷ [])) (world_of network new)
     (notes ++ note ∷ [])) where
   -- it stands again
   pub befalls : (n : Network) (events : List Event) (notes : List Note) → StandsUnder fresh after_step reading stands n world events notes

@@ -1,20 +1,19 @@
 -- How far a world came that was asked for the next record.
 use Rattle.drift_world.proofs.Words.{◌++◌, ◌<◌, ◌∙◌, ◌≡◌, Bool, ComesUpTo, DeviceId, Err, IsRunning, List, Network, Node, Note, Ok}
-use Rattle.drift_world.proofs.Words.{Result, Scenario, StandsOne, Units, [], ap, append-nil, arith, false, given_by, ints, keeps, length, pos}
+use Rattle.drift_world.proofs.Words.{Result, Scenario, Stands, Units, [], ap, append-nil, arith, false, given_by, ints, keeps, length, pos}
 use Rattle.drift_world.{proofs.Words.{sym, true, world_of, ℕ}, specs.declared.state.State.State}
 use Rattle.drift_world.specs.{Running.{MayTryAgain, next_of}, Turns.{IsAfter, NextSays}}
 
 module _ {C M : Type 0} (reading : C → ℕ → ℕ) (stands : M → Network → DeviceId → Node → Type 0) (own : Network)
     (old new : State C M) where
   -- memory ran out before the time
-  try_again : (until : Units) (n : ℕ) → until.0 ≡ pos n → IsAfter old new → (run : IsRunning reading stands own old)
-      → run.is.mark ≡ run.is.cursor
-      → ((s : Scenario) (notes : List Note) → StandsOne reading (keeps stands) s (world_of own old) notes
-      → StandsOne reading (keeps stands) s (world_of own new) (notes ++ [])) → new.time < n
+  try_again : (until : Units) (n : ℕ) → until.0 ≡ pos n → IsAfter old new → IsRunning reading stands own old
+      → ((s : Scenario) (notes : List Note) → Stands reading (keeps stands) s (world_of own old) notes
+      → Stands reading (keeps stands) s (world_of own new) (notes ++ [])) → new.time < n
       → MayTryAgain (world_of own old) (world_of own new) until
-  try_again until n is after run one still lt =
+  try_again until n is after run still lt =
       let a = run.is in
-      let b = (still run.s run.notes (run.is, one)).0 in
+      let b = still run.s run.notes run.is in
       record {
         same = b.same ∙ sym a.same;
         lines = b.lines ∙ sym a.lines;
@@ -25,16 +24,16 @@ module _ {C M : Type 0} (reading : C → ℕ → ℕ) (stands : M → Network �
       }
 
   pub comes_up_to : (E : Type 0) (result : Result Bool E) (note : Note) (until : Units) (n : ℕ) → until.0 ≡ pos n → IsAfter old new
-      → (run : IsRunning reading stands own old) → run.is.mark ≡ run.is.cursor
-      → ((s : Scenario) (notes : List Note) → StandsOne reading (keeps stands) s (world_of own old) notes
-      → StandsOne reading (keeps stands) s (world_of own new) (notes ++ given_by (next_of result note)))
+      → IsRunning reading stands own old
+      → ((s : Scenario) (notes : List Note) → Stands reading (keeps stands) s (world_of own old) notes
+      → Stands reading (keeps stands) s (world_of own new) (notes ++ given_by (next_of result note)))
       → NextSays old new n note result → ComesUpTo (world_of own old) (world_of own new) until (next_of result note)
-  comes_up_to E (Ok false) note until n is after run one still says = λ unended order limit.
+  comes_up_to E (Ok false) note until n is after run still says = λ unended order limit.
       (let at = says unended (omega (arith, ints, is, limit)) in
       let time = at.time in
       record { time = omega (arith, ints, is, time); early = λ either. at.early })
-  comes_up_to E (Ok true) note until n is after run one still says =
+  comes_up_to E (Ok true) note until n is after run still says =
       let time = ap (λ (u : Units). u.0) says.0 in
       let early = says.1 in
       (says.0, omega (arith, ints, is, time, early))
-  comes_up_to E (Err e) note until n is after run one still says = try_again until n is after run one still says
+  comes_up_to E (Err e) note until n is after run still says = try_again until n is after run still says

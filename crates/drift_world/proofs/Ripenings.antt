@@ -3,7 +3,7 @@ use Rattle.{drift_world.proofs.Fits.{all_put, all_put_some, have_octets}, world_
 use Rattle.{drift_world.proofs.{Fitting.cause_of, Rising.settled_in_order}, run_law.specs.{declared.steps.Ripe.Ripe, machines.Calls.MayTake}, world_law.specs.world.Moves.IsWithout}
 use Rattle.world_state.specs.{Acting.body_of, Ripening.{AreSettledSo, joined_record, judged_so, ripe_record}}
 use Rattle.world_state.proofs.{Swaps.{stayed, stays, was_there}, queue_lemmas.Bags.each_apart}
-use Rattle.drift_world.proofs.Words.{◌++◌, IsOwn, StandsOne, TurnsIn, World, true}
+use Rattle.drift_world.proofs.Words.{◌++◌, IsOwn, TurnsIn, World, true}
 use Rattle.drift_world.proofs.Words.{◌+◌, ◌<◌, ◌^◌, ◌↔◌, ◌∙◌, ◌∷◌, ◌≡◌, ◌≤ℤ◌, ◌≤◌, AreApart, ComesFirst, DeviceId, Happening, IsAt, IsIn}
 use Rattle.drift_world.proofs.Words.{IsPermutation, IsPermutation-map, Kept, List, Moment, Network, Node, Note, Option, Scenario, Settled}
 use Rattle.drift_world.proofs.Words.{Some, Stands, StandsFor, Units, Waits, ap, arith, false, frame_from}
@@ -201,8 +201,8 @@ pub ripened : {C M : Type 0} {reading : C → ℕ → ℕ} (stands : M → Netwo
     → ((clock : C) → slice_get state.clocks.items w.device.0 ≡ Some clock
     → w.point.0 ≤ℤ pos (reading clock state.time)) → w.device.0 < length state.machines.items
     → slice_get state.machines.items w.device.0 ≡ Some machine
-    → {s : Scenario} {notes : List Note} (is : StandsOne reading (keeps stands) s (world_of network state) notes)
-    → ComesFirst reading (keeps stands) s (world_of network state) notes is.0 (ripe_place state.time (waiting_as w))
+    → {s : Scenario} {notes : List Note} (old : Stands reading (keeps stands) s (world_of network state) notes)
+    → ComesFirst reading (keeps stands) s (world_of network state) notes old (ripe_place state.time (waiting_as w))
     → HasRipened (keeps stands) s.network w.device
     (moment_of s w.device state.time) w.link w.frame w.point result machine after
     → TurnsIn reading stands network s notes
@@ -213,9 +213,8 @@ pub ripened : {C M : Type 0} {reading : C → ℕ → ℕ} (stands : M → Netwo
     })
     (ripe_place state.time (waiting_as w)) (Some (ripe_record w result))
     (joined_record (state.given + 1) w.device result)
-ripened {reading} stands network state {w} new machine after result t apart reached many own {s} {notes} is first has =
+ripened {reading} stands network state {w} new machine after result t apart reached many own {s} {notes} old first has =
     let world = world_of network state in
-    let old = is.0 in
     let there = was_there w state.waiting.items new t in
     let hs = happenings s.network notes in
     let inside = is_mapped waiting_as state.waiting.items w there in
@@ -236,8 +235,8 @@ ripened {reading} stands network state {w} new machine after result t apart reac
       first_is = ripe_own s network state.time hs w of result;
       second_is = joined_own s network state.time hs (state.given + 1) w.device result;
       by = subst (λ l. TurnsBy reading (keeps stands) s notes l mid place) bodies
-          (ripened_turn reading (keeps stands) s world notes old.cursor (waiting_as w) machine after result
-          (slice_set state.machines.items w.device.0 after) (map waiting_as new) (old, is.1, refl) inside
+          (ripened_turn reading (keeps stands) s world notes (waiting_as w) machine after result
+          (slice_set state.machines.items w.device.0 after) (map waiting_as new) old inside
           (point reading stands network state w there reached s notes old) first own has
           (is_set state.machines.items w.device.0 after many) (without w state.waiting.items new t apart state.time));
     }

@@ -1,5 +1,5 @@
 -- What is settled is in the order of its places.
-use Rattle.drift_world.proofs.Words.{◌++◌, ◌∙◌, ◌∷◌, ◌≡◌, AreSettled, DeviceId, Happening, InOrder, IsBefore, IsIn, List, Network, Node}
+use Rattle.drift_world.proofs.Words.{◌++◌, ◌∙◌, ◌∷◌, ◌≡◌, AreComing, DeviceId, Happening, InOrder, IsBefore, IsIn, List, Network, Node}
 use Rattle.drift_world.proofs.Words.{Note, Scenario, Stands, World, [], ap, append_assoc, chain, in_right, inl}
 use Rattle.drift_world.proofs.Words.{never_self, parted, place_of, refl, sym, ℕ}
 
@@ -15,8 +15,8 @@ rise_in_order (x ∷ xs) up = (
   rise_in_order xs up.1,
 )
 
-settled_rise : {s : Scenario} {hs coming : List Happening} {mark cursor : List ℕ} {now : ℕ}
-    → AreSettled s hs coming mark cursor now → (front xs : List Happening) → coming ≡ front ++ xs → Rises xs
+settled_rise : {s : Scenario} {hs coming : List Happening} {frontier : List ℕ} {now : ℕ}
+    → AreComing s hs coming frontier now → (front xs : List Happening) → coming ≡ front ++ xs → Rises xs
 settled_rise are front [] is = tt
 settled_rise {coming} are front (x ∷ xs) is = (
   λ y there.

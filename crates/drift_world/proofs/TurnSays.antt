@@ -1,6 +1,6 @@
 -- What a turn says, and how near it comes.
 use Rattle.drift_world.proofs.{Nearings.{less_nears, nears_behind}, Turning.says_then, Words.{keeps, refl, world_of, ℕ}}
-use Rattle.drift_world.proofs.Words.{◌+◌, ◌<◌, ◌∙◌, ◌≡◌, ◌≤◌, Err, IfOk, IsWell, List, Network, Node, Note, Ok, Result, Scenario, StandsOne, Turn, ap, arith}
+use Rattle.drift_world.proofs.Words.{◌+◌, ◌<◌, ◌∙◌, ◌≡◌, ◌≤◌, Err, IfOk, IsWell, List, Network, Node, Note, Ok, Result, Scenario, Stands, Turn, ap, arith}
 use Rattle.drift_world.specs.{Nearing.{Nears, distance}, Turns.{GivesAt, IsPassed, TurnsTo, WorkSays}, declared.next.Turn.TheVariants.{Ends, Gives, GoesOn}}
 use Rattle.{drift_world.specs.declared.state.State.State, net_plan.specs.declared.ids.DeviceId.DeviceId}
 
@@ -45,8 +45,8 @@ module _ {C M : Type 0} (last_step : C → ℕ) (reading : C → ℕ → ℕ) (s
   passed_turns old new until note Ends passed nears = record { whole = passed.whole; says = passed.says; nears = nears }
 
   pub turns_then : (E : Type 0) (old mid new : State C M) (until : ℕ) (note : Note) (result : Result Turn E) → mid.given ≡ old.given → mid.ended ≡ old.ended
-      → ((s : Scenario) (notes : List Note) → StandsOne reading (keeps stands) s (world_of network old) notes
-      → StandsOne reading (keeps stands) s (world_of network mid) notes)
+      → ((s : Scenario) (notes : List Note) → Stands reading (keeps stands) s (world_of network old) notes
+      → Stands reading (keeps stands) s (world_of network mid) notes)
       → distance network until mid ≤ distance network until old → IfOk result (TurnsTo reading stands network until mid new note)
       → IfOk result (TurnsTo reading stands network until old new note)
   turns_then E old mid new until note (Ok turn) given ended still le turns = record {

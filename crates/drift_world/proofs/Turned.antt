@@ -2,7 +2,7 @@
 use Rattle.drift_world.proofs.{ActRecords.{both_put, one_by}, Turning.comes_first}
 use Rattle.drift_world.specs.{Stepping.TurnsPast, Turns.{IsNow, MayWork, source_place}, declared.{source.Source.Source, state.State.State}}
 use Rattle.drift_world.proofs.Words.{if◌then◌else◌, ◌++◌, ◌+◌, ◌∙◌, ◌∷◌, ◌≡◌, ArePutIn, Bool, DeviceId, Happening, InOrder, IsOwn, IsSomePut, Kept, List, Network, Node}
-use Rattle.drift_world.proofs.Words.{None, Note, NoteBody, Option, Scenario, Settled, Some, StandsAt, StandsOne, TurnsIn, World, [], ap, append-nil, behind}
+use Rattle.drift_world.proofs.Words.{None, Note, NoteBody, Option, Scenario, Settled, Some, Stands, StandsAt, TurnsIn, World, [], ap, append-nil, behind}
 use Rattle.drift_world.proofs.Words.{false, happenings}
 use Rattle.drift_world.proofs.Words.{keeps, map, refl, settled_as, settled_at, subst, sym, true, units_of, world_of, ℕ}
 use Rattle.{world_law.specs.{steps.Turns.{IsLaunched, IsNext, IsTurn, TurnsBy, starts_there}, world.World.is_at_source}, world_state.specs.Acting.body_of}
@@ -41,10 +41,10 @@ pub turns_of : {C M : Type 0} (last_step : C → ℕ) (reading : C → ℕ → �
     (stands : M → Network → DeviceId → Node → Type 0) (network : Network) (old mid : State C M) (source : Source)
     (first second : Option Settled) → MayWork last_step reading stands network old source → IsNow source
     → TurnsPast reading stands network old mid (source_place old.time source) first second → (s : Scenario)
-    (notes : List Note) → StandsOne reading (keeps stands) s (world_of network old) notes
+    (notes : List Note) → Stands reading (keeps stands) s (world_of network old) notes
     → TurnsIn reading stands network s notes (world_of network mid) (source_place old.time source) first second
 turns_of last_step reading stands network old mid source first second may now past s notes is =
-    past s notes is (comes_first last_step reading stands network old source s notes may now is.0)
+    past s notes is (comes_first last_step reading stands network old source s notes may now is)
 
 -- ---- they are put in
 

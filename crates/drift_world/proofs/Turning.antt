@@ -3,8 +3,8 @@ use Rattle.{drift_world.proofs.Fits.{sound_same, sound_timers}, world_law.proofs
 use Rattle.drift_world.proofs.{Foremost.timers_later, Rising.settled_in_order, Words.InOrder}
 use Rattle.drift_world.{proofs.{AtSource.{IsSourceRank, at_rank, is_late, rank_most, ranks}, Sources.{of_world, sooner_too}}, specs.{Stepping.IsRekeyed, declared.{source.Source.Source, state.State.State}}}
 use Rattle.drift_world.proofs.{Timings.{passed, rekeyed, unchanged}, Words.{numbers_of, option_map_or, own_place, place_of, rank, refl, settled_at, subst, sym, true, world_of, ℕ}}
-use Rattle.drift_world.proofs.Words.{◌++◌, ◌+◌, ◌<◌, ◌^◌, ◌∙◌, ◌∷◌, ◌≡◌, ◌≤◌, AreFirsts, AreSettled, AreTimed, Bool, ChangesOnly, ComesFirst, DeviceId}
-use Rattle.drift_world.proofs.Words.{Content, StandsOne, Waits, at_port, false, on_wire, waiting_as}
+use Rattle.drift_world.proofs.Words.{◌++◌, ◌+◌, ◌<◌, ◌^◌, ◌∙◌, ◌∷◌, ◌≡◌, ◌≤◌, AreFirsts, AreComing, AreTimed, Bool, ChangesOnly, ComesFirst, DeviceId}
+use Rattle.drift_world.proofs.Words.{Content, Waits, at_port, false, on_wire, waiting_as}
 use Rattle.world_law.specs.world.World.{is_at_source}
 use Rattle.{std.specs.List.filter_map, world_state.specs.declared.queue.Entry.Entry}
 use Rattle.drift_world.proofs.Words.{SlotTimer, DueAt, Err, Happening, HasItsOctets, HasNothingBefore, IsAt, IsBefore, IsIn, IsRunning, IsScenarioRun, IsSound}
@@ -121,7 +121,6 @@ module _ {C M : Type 0} (last_step : C → ℕ) (reading : C → ℕ → ℕ) (s
         s = run.s;
         notes = run.notes;
         is = run.is;
-        one = may.well.one;
         first = comes_first state source run.s run.notes may now run.is;
       }
 
@@ -134,12 +133,12 @@ module _ {C M : Type 0} (last_step : C → ℕ) (reading : C → ℕ → ℕ) (s
       let before = ahead_before reading stands network state source z foremost.there ahead in
       sooner_too p foremost.nothing (λ b. never_self p (chain p w p before b))
 
-  -- where there is one frontier, nothing that is settled stands where its source does
+  -- nothing that is settled stands where its source does
   not_own : (state : State C M) (source : Source) (is : SettledFirst state.settled.items source)
       → IsWell last_step reading stands network state → source_rank source ≡ rank is.first.body → ⊥
   not_own state source is well same =
       let own : is_at_source is.first.body ≡ true = at_rank is.first.body (subst IsSourceRank same (ranks source)) in
-      let late = is_late reading stands network state is.first is.others is.whole well.running.is well.one in
+      let late = is_late reading stands network state is.first is.others is.whole well.running.is in
       let bad : false ≡ true = sym late ∙ own in cc
 
   -- where what is settled comes first, it may be given
@@ -162,7 +161,7 @@ module _ {C M : Type 0} (last_step : C → ℕ) (reading : C → ℕ → ℕ) (s
   pub first_gives : (state : State C M) (z : Settled) (others : List Settled) (s : Scenario) (notes : List Note)
       → IsSound last_step network state → HasNothingBefore reading stands network state (place_of (settled_at network state.time z))
       → state.settled.items ≡ z ∷ others → (old : Stands reading (keeps stands) s (world_of network state) notes)
-      → NoSourceBefore s (happenings s.network notes) old.cursor (place_of (settled_at network state.time z))
+      → NoSourceBefore s (happenings s.network notes) old.frontier (place_of (settled_at network state.time z))
   first_gives state z others s notes sound nothing whole old =
       let p = place_of (settled_at network state.time z) in
       let after = none_sooner network state.time state.settled.items p (settled_in_order old)
@@ -175,7 +174,7 @@ module _ {C M : Type 0} (last_step : C → ℕ) (reading : C → ℕ → ℕ) (s
 
   pub gives_first : (state : State C M) (may : MayGive reading stands network state) (s : Scenario) (notes : List Note) → IsSound last_step network state
       → (old : Stands reading (keeps stands) s (world_of network state) notes)
-      → NoSourceBefore s (happenings s.network notes) old.cursor (place_of (settled_at network state.time may.first))
+      → NoSourceBefore s (happenings s.network notes) old.frontier (place_of (settled_at network state.time may.first))
   gives_first state may s notes sound old = first_gives state may.first may.others s notes sound
       may.before may.whole old
 
@@ -185,9 +184,9 @@ module _ {C M : Type 0} (last_step : C → ℕ) (reading : C → ℕ → ℕ) (s
       → (old : Stands reading (keeps stands) s (world_of network state) notes) → IsScenarioRun s (until ∷ []) notes
   whole_run state s notes until sound none empty later old =
       let settled : (world_of network state).settled ≡ [] = ap (map (settled_at network state.time)) empty in
-      nothing_settled_is_all s notes old.mark old.cursor state.time until old.run
-      (subst (λ l. AreSettled s (happenings s.network notes) l old.mark old.cursor state.time) settled old.are)
-      (λ p before. before_later_time p (state.time + 1) until (omega (arith, later)) (old.not_later p (old.ahead p before)))
+      nothing_settled_is_all s notes old.frontier state.time until old.run
+      (subst (λ l. AreComing s (happenings s.network notes) l old.frontier state.time) settled old.are)
+      (λ p before. before_later_time p (state.time + 1) until (omega (arith, later)) (old.not_later p before))
       (nothing_comes_before reading (keeps stands) s (world_of network state) notes (until ∷ []) old
       (λ z there. absurd (subst (λ l. IsIn z l) settled there))
       (of_world last_step reading stands s network state notes old sound.sized (until ∷ []) sound.under_way none))
@@ -195,32 +194,25 @@ module _ {C M : Type 0} (last_step : C → ℕ) (reading : C → ℕ → ℕ) (s
   -- ---- what steps keep
 
   pub runs_on : (old new : State C M) → IsWell last_step reading stands network old
-      → ((s : Scenario) (notes : List Note) → StandsOne reading (keeps stands) s (world_of network old) notes
-      → StandsOne reading (keeps stands) s (world_of network new) notes) → IsRunning reading stands network new
+      → ((s : Scenario) (notes : List Note) → Stands reading (keeps stands) s (world_of network old) notes
+      → Stands reading (keeps stands) s (world_of network new) notes) → IsRunning reading stands network new
   runs_on old new well still =
       let run = well.running in
-      record { s = run.s; notes = run.notes; is = (still run.s run.notes (run.is, well.one)).0 }
+      record { s = run.s; notes = run.notes; is = still run.s run.notes run.is }
 
-  -- where one frontier stays, the state stays well
+  -- where it stands on, the state stays well
   well_on : (old new : State C M) → IsWell last_step reading stands network old
-      → ((s : Scenario) (notes : List Note) → StandsOne reading (keeps stands) s (world_of network old) notes
-      → StandsOne reading (keeps stands) s (world_of network new) notes) → IsSound last_step network new
+      → ((s : Scenario) (notes : List Note) → Stands reading (keeps stands) s (world_of network old) notes
+      → Stands reading (keeps stands) s (world_of network new) notes) → IsSound last_step network new
       → AreTimed reading stands network new → IsWell last_step reading stands network new
   well_on old new well still sound timed =
-      let run = well.running in
-      let then_ = still run.s run.notes (run.is, well.one) in
-      record {
-        sound = sound;
-        running = record { s = run.s; notes = run.notes; is = then_.0 };
-        one = then_.1;
-        timed = timed;
-      }
+      record { sound = sound; running = runs_on old new well still; timed = timed }
 
   -- a step that changes no device
   pub plain_step : (old new : State C M) → IsWell last_step reading stands network old → IsSound last_step network new
       → ((n : ℕ) → ChangesOnly n old new) → new.timers ≡ old.timers → new.given ≡ old.given
-      → ((s : Scenario) (notes : List Note) → StandsOne reading (keeps stands) s (world_of network old) notes
-      → StandsOne reading (keeps stands) s (world_of network new) notes)
+      → ((s : Scenario) (notes : List Note) → Stands reading (keeps stands) s (world_of network old) notes
+      → Stands reading (keeps stands) s (world_of network new) notes)
       → IsStep last_step reading stands network old new
   plain_step old new well sound changes timers given still = record {
     well = well_on old new well still sound (unchanged reading stands network old new well.timed changes timers);
@@ -233,14 +225,14 @@ module _ {C M : Type 0} (last_step : C → ℕ) (reading : C → ℕ → ℕ) (s
   -- a step that changes one device, whose timers are set anew
   pub rekeyed_step : (device : DeviceId) (old mid new : State C M) → IsWell last_step reading stands network old → IsSound last_step network mid
       → device.0 < length network.device → ChangesOnly device.0 old mid → mid.timers ≡ old.timers → mid.given ≡ old.given
-      → ((s : Scenario) (notes : List Note) → StandsOne reading (keeps stands) s (world_of network old) notes
-      → StandsOne reading (keeps stands) s (world_of network mid) notes)
+      → ((s : Scenario) (notes : List Note) → Stands reading (keeps stands) s (world_of network old) notes
+      → Stands reading (keeps stands) s (world_of network mid) notes)
       → IsRekeyed reading stands network device mid new → IsStep last_step reading stands network old new
   rekeyed_step device old mid new well sound there changes timers given still keyed =
       let same = keyed.sets.same in
-      let on : (s : Scenario) (notes : List Note) → StandsOne reading (keeps stands) s (world_of network old) notes
-      → StandsOne reading (keeps stands) s (world_of network new) notes = λ s notes is.
-      subst (λ t. StandsOne reading (keeps stands) s (world_of network t) notes) (sym same) (still s notes is) in
+      let on : (s : Scenario) (notes : List Note) → Stands reading (keeps stands) s (world_of network old) notes
+      → Stands reading (keeps stands) s (world_of network new) notes = λ s notes is.
+      subst (λ t. Stands reading (keeps stands) s (world_of network t) notes) (sym same) (still s notes is) in
       let at : new.time ≡ old.time = ap (λ (t : State C M). t.time) same ∙ changes.time in
       record {
         well = well_on old new well on (sound_timers last_step network mid new same sound)
@@ -263,14 +255,14 @@ module _ {C M : Type 0} (last_step : C → ℕ) (reading : C → ℕ → ℕ) (s
     well = step.well;
     after = step.after;
     stands_then = λ s notes is.
-        subst (λ l. StandsOne reading (keeps stands) s (world_of network new) l) (sym (append-nil notes))
+        subst (λ l. Stands reading (keeps stands) s (world_of network new) l) (sym (append-nil notes))
         (step.still s notes is);
   }
 
   -- a turn behind a step
   pub kept_then : (old mid new : State C M) (more : List Note) → IsAfter old mid
-      → ((s : Scenario) (notes : List Note) → StandsOne reading (keeps stands) s (world_of network old) notes
-      → StandsOne reading (keeps stands) s (world_of network mid) notes)
+      → ((s : Scenario) (notes : List Note) → Stands reading (keeps stands) s (world_of network old) notes
+      → Stands reading (keeps stands) s (world_of network mid) notes)
       → IsKept last_step reading stands network mid new more → IsKept last_step reading stands network old new more
   kept_then old mid new more after still kept = record {
     well = kept.well;
@@ -281,21 +273,19 @@ module _ {C M : Type 0} (last_step : C → ℕ) (reading : C → ℕ → ℕ) (s
   -- records are given, and timers are set then
   pub kept_timers : (old mid new : State C M) (more : List Note) → IsWell last_step reading stands network old
       → IsSound last_step network mid → IsAfter old mid
-      → ((s : Scenario) (notes : List Note) → StandsOne reading (keeps stands) s (world_of network old) notes
-      → StandsOne reading (keeps stands) s (world_of network mid) (notes ++ more))
+      → ((s : Scenario) (notes : List Note) → Stands reading (keeps stands) s (world_of network old) notes
+      → Stands reading (keeps stands) s (world_of network mid) (notes ++ more))
       → new ≡ record mid { timers = new.timers } → AreTimed reading stands network new → IsKept last_step reading stands network old new more
   kept_timers old mid new more well sound after stands_more same timed =
       let run = well.running in
-      let on : (s : Scenario) (notes : List Note) → StandsOne reading (keeps stands) s (world_of network old) notes
-      → StandsOne reading (keeps stands) s (world_of network new) (notes ++ more) = λ s notes is.
-      subst (λ t. StandsOne reading (keeps stands) s (world_of network t) (notes ++ more)) (sym same)
+      let on : (s : Scenario) (notes : List Note) → Stands reading (keeps stands) s (world_of network old) notes
+      → Stands reading (keeps stands) s (world_of network new) (notes ++ more) = λ s notes is.
+      subst (λ t. Stands reading (keeps stands) s (world_of network t) (notes ++ more)) (sym same)
       (stands_more s notes is) in
-      let then_ = on run.s run.notes (run.is, well.one) in
       record {
         well = record {
           sound = sound_timers last_step network mid new same sound;
-          running = record { s = run.s; notes = run.notes ++ more; is = then_.0 };
-          one = then_.1;
+          running = record { s = run.s; notes = run.notes ++ more; is = on run.s run.notes run.is };
           timed = timed;
         };
         after = subst (λ t. IsAfter old t) (sym same) (record { clocks = after.clocks; ended = after.ended; later = after.later });
@@ -309,9 +299,9 @@ module _ {C M : Type 0} (last_step : C → ℕ) (reading : C → ℕ → ℕ) (s
     well = passed.well;
     after = passed_after old new until turn passed;
     stands_then = λ s notes is.
-        subst (λ (l : List Note). StandsOne reading (keeps stands) s (world_of network new) (notes ++ l))
+        subst (λ (l : List Note). Stands reading (keeps stands) s (world_of network new) (notes ++ l))
         (sym (none_given turn passed.says))
-        (subst (λ (l : List Note). StandsOne reading (keeps stands) s (world_of network new) l) (sym (append-nil notes))
+        (subst (λ (l : List Note). Stands reading (keeps stands) s (world_of network new) l) (sym (append-nil notes))
         (passed.still s notes is));
   }
     where
@@ -343,20 +333,20 @@ module _ {C M : Type 0} (last_step : C → ℕ) (reading : C → ℕ → ℕ) (s
       })
       (ap (λ (t : State C M). t.timers) same) (ap (λ (t : State C M). t.given) same)
       (λ s notes is.
-      subst (λ (t : State C M). StandsOne reading (keeps stands) s (world_of network t) notes) (sym same)
+      subst (λ (t : State C M). Stands reading (keeps stands) s (world_of network t) notes) (sym same)
       (subst
-      (λ (l : List (Entry Content)). StandsOne reading (keeps stands) s
+      (λ (l : List (Entry Content)). Stands reading (keeps stands) s
       (record (world_of network mid) { wires = filter_map (on_wire network) l; ports = filter_map at_port l }) notes)
       (sym entries)
       (subst
-      (λ (l : List Waits). StandsOne reading (keeps stands) s
+      (λ (l : List Waits). Stands reading (keeps stands) s
       (record (world_of network old) {
         waiting = map waiting_as l;
         settled = map (settled_at network old.time) new.settled.items;
       }) notes)
       (sym waiting)
       (subst
-      (λ (l : List Settled). StandsOne reading (keeps stands) s
+      (λ (l : List Settled). Stands reading (keeps stands) s
       (record (world_of network old) { settled = map (settled_at network old.time) l }) notes)
       (sym items) is))))
 
@@ -397,8 +387,8 @@ module _ {C M : Type 0} (last_step : C → ℕ) (reading : C → ℕ → ℕ) (s
   pub passes : (old new : State C M) (time : ℕ) → IsWell last_step reading stands network old
       → HasNothingBefore reading stands network old (time ∷ []) → old.time < time → time ≤ 2 ^ 60
       → new ≡ record old { time = time; early = true } → IsSound last_step network new
-      → ((s : Scenario) (notes : List Note) → StandsOne reading (keeps stands) s (world_of network old) notes
-      → StandsOne reading (keeps stands) s (world_of network new) notes) → IsWell last_step reading stands network new
+      → ((s : Scenario) (notes : List Note) → Stands reading (keeps stands) s (world_of network old) notes
+      → Stands reading (keeps stands) s (world_of network new) notes) → IsWell last_step reading stands network new
   passes old new time well none later limit same sound still =
       well_on old new well still sound
       (subst (AreTimed reading stands network) (sym same)
@@ -460,7 +450,7 @@ pub record IsOnward {C M : Type 0} (last_step : C → ℕ) (reading : C → ℕ 
     (old new : State C M) (until : ℕ) : Type 0 where
   pub well : IsWell last_step reading stands network new
   pub after : IsAfter old new
-  pub still : (s : Scenario) (notes : List Note) → StandsOne reading (keeps stands) s (world_of network old) notes
-      → StandsOne reading (keeps stands) s (world_of network new) notes
+  pub still : (s : Scenario) (notes : List Note) → Stands reading (keeps stands) s (world_of network old) notes
+      → Stands reading (keeps stands) s (world_of network new) notes
   pub early : new.time < until
   pub given : new.given ≡ old.given

@@ -34,8 +34,8 @@ pub use Rattle.tte_units.specs.Amount.{amount, units_of}
 pub use Rattle.tte_units.specs.declared.units.Units.{Units}
 pub use Rattle.world_law.proofs.giving.GivenParts.{in_get}
 pub use Rattle.world_law.specs.source.{Agreeing.scenario, First.NoSourceBefore}
-pub use Rattle.world_law.specs.world.{Calls.{HasActed, IsDueNow, moment_of}, Moves.{ArePutIn, ComesFirst, StandsAt, StandsBehind, StandsOne, settled_as}, Outcomes.departure_body}
-pub use Rattle.world_law.specs.world.World.{AreSettled, AreWays, AtPort, IsHeld, OnWire, Stands, Waiting, WayNow, World, act_place}
+pub use Rattle.world_law.specs.world.{Calls.{HasActed, IsDueNow, moment_of}, Moves.{ArePutIn, ComesFirst, StandsAt, settled_as}, Outcomes.departure_body}
+pub use Rattle.world_law.specs.world.World.{AreComing, AreWays, AtPort, IsHeld, OnWire, Stands, Waiting, WayNow, World, act_place}
 pub use Rattle.world_law.specs.world.World.{note_of, numbers_end, ripe_place, way_now, wire_place}
 pub use Rattle.world_state.proofs.queue_lemmas.Bags.{in_permuted}
 pub use Rattle.world_state.specs.queue.Places.{IsFirst, numbers_of}

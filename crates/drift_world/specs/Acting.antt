@@ -5,7 +5,7 @@ use Rattle.drift_world.specs.{Parts.{IsFirstPart, IsNoSooner, IsNoSoonerLeft, pa
 use Rattle.drift_world.specs.declared.{part.{Part.Part, ToDo.{ToDo, TheVariants.{Next, Now}}}, state.State.State}
 use Rattle.{run_law.specs.machines.Nodes.Node, world_state.specs.Keeping.keeps}
 use Rattle.{drift_world.specs.Views.world_of, net_plan.specs.declared.ids.DeviceId.DeviceId}
-use Rattle.world_law.specs.world.{Calls.{HasActed, moment_of}, Moves.{ComesFirst, StandsOne}, World.{Stands, World}}
+use Rattle.world_law.specs.world.{Calls.{HasActed, moment_of}, Moves.ComesFirst, World.{Stands, World}}
 use Rattle.{net_plan.specs.declared.network.Network.Network, run_law.specs.records.Order.{IsBefore, IsIn}}
 use Rattle.run_law.specs.{declared.{note.Note.Note, steps.Act.Act}, records.Ranks.rank, scenario.Scenarios.Scenario}
 use Rattle.run_law.specs.machines.Tasks.{IsDueReading, IsPending, Task, reading_for}
@@ -70,11 +70,11 @@ IsLeft reading stands network state device (Now part) = IsDueAt reading stands n
 IsLeft reading stands network state device (Next due) =
     IsNextDue stands state device due × IsIdleAt reading stands network state device
 
--- the world stands with one frontier, which is not before the place
+-- the world stands, with its frontier not before the place
 abbrev pub StandsFrom : {C M : Type 0} → (C → ℕ → ℕ) → (M → Network → DeviceId → Node → Type 0) → Scenario
     → World C (Kept M) → List Note → List ℕ → Type 0
 StandsFrom reading stands s world notes p =
-    (new : Stands reading (keeps stands) s world notes) × (new.mark ≡ new.cursor) × (IsBefore new.cursor p → ⊥)
+    (new : Stands reading (keeps stands) s world notes) × (IsBefore new.frontier p → ⊥)
 
 -- the device has acted, and none of the records of it stands where it did: all are put in
 pub record ActsOn {C M : Type 0} (reading : C → ℕ → ℕ) (stands : M → Network → DeviceId → Node
@@ -82,7 +82,7 @@ pub record ActsOn {C M : Type 0} (reading : C → ℕ → ℕ) (stands : M → N
   pub same : new ≡ record old { machines = new.machines; early = false; settled = new.settled; spare = new.spare }
   pub above : AreAbove (part_rank part) new
   pub then_stands : (s : Scenario) (notes : List Note)
-      → (was : Stands reading (keeps stands) s (world_of network old) notes) → was.mark ≡ was.cursor
+      → (was : Stands reading (keeps stands) s (world_of network old) notes)
       → ComesFirst reading (keeps stands) s (world_of network old) notes was (part_place part old.time device)
       → StandsFrom reading stands s (world_of network new) notes (part_place part old.time device)
   pub later : (left : ToDo) → IsLeft reading stands network new device left → IsNoSoonerLeft part left
@@ -108,6 +108,6 @@ pub record ActGives {C M : Type 0} (reading : C → ℕ → ℕ) (stands : M →
   pub waiting : (w : Waits) → w.device.0 < 2 ^ 32 → IsIn w new.waiting.items ↔ IsIn w old.waiting.items
   pub time : note.time ≡ units_of old.time
   pub then_stands : (s : Scenario) (notes : List Note)
-      → (was : Stands reading (keeps stands) s (world_of network old) notes) → was.mark ≡ was.cursor
+      → (was : Stands reading (keeps stands) s (world_of network old) notes)
       → ComesFirst reading (keeps stands) s (world_of network old) notes was (part_place part old.time device)
-      → StandsOne reading (keeps stands) s (world_of network new) (notes ++ note ∷ [])
+      → Stands reading (keeps stands) s (world_of network new) (notes ++ note ∷ [])

@@ -20,7 +20,6 @@ pub record StandsUnder {C M : Type 0} (fresh : ℕ → C) (after_step : C → �
     (notes : List Note) : Type 0 where
   pub is : Stands reading (keeps stands) (scenario network (reading_of fresh after_step reading network events) events)
       world notes
-  pub one : is.mark ≡ is.cursor
   pub clocks : (device : DeviceId) → device.0 < length network.device
       → slice_get world.clocks device.0 ≡ Some (clock_of fresh after_step network events device)
   pub of_network : All (λ e. IsOfNetwork network e.what) events

@@ -5,7 +5,7 @@ use Rattle.net_plan.specs.declared.{event.What.What, ids.DeviceId.DeviceId, netw
 use Rattle.run_law.specs.{declared.note.Note.Note, records.{Happenings.{Happening, happenings}, Order.{IsIn, NoneBefore}, Ranks.place_of}}
 use Rattle.run_law.specs.{machines.{Nodes.Node, Tasks.{IsPending, Task, reading_for}}, scenario.Scenarios.Scenario}
 use Rattle.tte_units.specs.declared.units.Units.{Units}
-use Rattle.world_law.specs.{steps.Turns.TurnsBy, world.{Moves.{ComesFirst, StandsOne, settled_as}, World.{Stands, World}}}
+use Rattle.world_law.specs.{steps.Turns.TurnsBy, world.{Moves.{ComesFirst, settled_as}, World.{Stands, World}}}
 use Rattle.world_state.specs.{Acting.body_of, Applying.device_in, Keeping.keeps, Views.settled_at}
 use Rattle.world_state.specs.{declared.{contents.{Settled.Settled, Waits.Waits}, kept.Kept.Kept}, timers.Times.{AreFrom, never}}
 use Rattle.world_state.specs.declared.timers.Timer.{Timer}
@@ -21,14 +21,13 @@ pub record IsRunning {C M : Type 0} (reading : C → ℕ → ℕ) (stands : M �
   pub notes : List Note
   pub is : Stands reading (keeps stands) s (world_of network state) notes
 
--- there is one frontier, and the source at this place comes first
+-- the source at this place comes first
 pub record IsAt {C M : Type 0} (reading : C → ℕ → ℕ) (stands : M → Network → DeviceId → Node
     → Type 0) (network : Network) (state : State C M)
     (place : List ℕ) : Type 0 where
   pub s : Scenario
   pub notes : List Note
   pub is : Stands reading (keeps stands) s (world_of network state) notes
-  pub one : is.mark ≡ is.cursor
   pub first : ComesFirst reading (keeps stands) s (world_of network state) notes is place
 
 -- each is not before those ahead of it
@@ -51,12 +50,12 @@ pub record TurnsIn {C M : Type 0} (reading : C → ℕ → ℕ) (stands : M → 
   pub second_is : IsOwn s.network network world.now (happenings s.network notes) second
   pub by : TurnsBy reading (keeps stands) s notes (body_of first ++ body_of second) world place
 
--- where there is one frontier and the source at the place comes first, it is so
+-- where the source at the place comes first, it is so
 abbrev pub TurnsPast : {C M : Type 0} → (C → ℕ → ℕ) → (M → Network → DeviceId → Node → Type 0) → Network → State C M
     → State C M → List ℕ → Option Settled → Option Settled → Type 0
 TurnsPast reading stands network old mid place first second =
-    (s : Scenario) (notes : List Note) (is : StandsOne reading (keeps stands) s (world_of network old) notes)
-    → ComesFirst reading (keeps stands) s (world_of network old) notes is.0 place
+    (s : Scenario) (notes : List Note) (is : Stands reading (keeps stands) s (world_of network old) notes)
+    → ComesFirst reading (keeps stands) s (world_of network old) notes is place
     → TurnsIn reading stands network s notes (world_of network mid) place first second
 
 -- of what the timers are for, a step changes that of one device at most

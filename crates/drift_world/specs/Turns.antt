@@ -12,7 +12,7 @@ use Rattle.{drift_world.specs.Acting.IsFrom, run_law.specs.{declared.note.Note.N
 use Rattle.drift_world.specs.{Parts.{part_place, part_rank}, declared.part.Part.Part}
 use Rattle.{run_law.specs.machines.Nodes.Node, world_state.specs.{Frames.first_of, Keeping.keeps, Views.{settled_at, waiting_as}}}
 use Rattle.run_law.specs.{records.Order.IsIn, runs.DueRecords.IsScenarioRun, scenario.Scenarios.Scenario}
-use Rattle.world_law.specs.world.{Moves.StandsOne, World.{clock_place, ripe_place}}
+use Rattle.world_law.specs.world.World.{Stands, clock_place, ripe_place}
 use Rattle.world_state.specs.{declared.contents.{Settled.Settled, Waits.Waits}, queue.Places.{IsFirst, numbers_of}}
 
 -- the place of a source, at the present time
@@ -177,8 +177,8 @@ pub record IsKept {C M : Type 0} (last_step : C → ℕ) (reading : C → ℕ �
     → Type 0) (network : Network) (old new : State C M) (more : List Note) : Type 0 where
   pub well : IsWell last_step reading stands network new
   pub after : IsAfter old new
-  pub stands_then : (s : Scenario) (notes : List Note) → StandsOne reading (keeps stands) s (world_of network old) notes
-      → StandsOne reading (keeps stands) s (world_of network new) (notes ++ more)
+  pub stands_then : (s : Scenario) (notes : List Note) → Stands reading (keeps stands) s (world_of network old) notes
+      → Stands reading (keeps stands) s (world_of network new) (notes ++ more)
 
 -- the state has come to the time, and nothing of it but events is worked off
 pub record HasCome {C M : Type 0} (new : State C M) (until : ℕ) : Type 0 where
@@ -207,7 +207,7 @@ IsWhole s notes until other = Unit {0}
 -- what it says of records, and how far it goes
 pub record TurnsTo {C M : Type 0} (reading : C → ℕ → ℕ) (stands : M → Network → DeviceId → Node → Type 0)
     (network : Network) (until : ℕ) (old new : State C M) (note : Note) (turn : Turn) : Type 0 where
-  pub whole : (s : Scenario) (notes : List Note) → StandsOne reading (keeps stands) s (world_of network old) notes
+  pub whole : (s : Scenario) (notes : List Note) → Stands reading (keeps stands) s (world_of network old) notes
       → IsWhole s notes until turn
   pub says : TurnSays old new until note turn
   pub nears : Nears network until old new turn
@@ -224,8 +224,8 @@ pub record IsStep {C M : Type 0} (last_step : C → ℕ) (reading : C → ℕ �
     (old new : State C M) : Type 0 where
   pub well : IsWell last_step reading stands network new
   pub after : IsAfter old new
-  pub still : (s : Scenario) (notes : List Note) → StandsOne reading (keeps stands) s (world_of network old) notes
-      → StandsOne reading (keeps stands) s (world_of network new) notes
+  pub still : (s : Scenario) (notes : List Note) → Stands reading (keeps stands) s (world_of network old) notes
+      → Stands reading (keeps stands) s (world_of network new) notes
   pub time : new.time ≡ old.time
   pub given : new.given ≡ old.given
 
@@ -233,9 +233,9 @@ pub record IsStep {C M : Type 0} (last_step : C → ℕ) (reading : C → ℕ �
 pub record IsPassed {C M : Type 0} (last_step : C → ℕ) (reading : C → ℕ → ℕ) (stands : M → Network → DeviceId → Node
     → Type 0) (network : Network) (until : ℕ) (old new : State C M) (turn : Turn) : Type 0 where
   pub well : IsWell last_step reading stands network new
-  pub still : (s : Scenario) (notes : List Note) → StandsOne reading (keeps stands) s (world_of network old) notes
-      → StandsOne reading (keeps stands) s (world_of network new) notes
-  pub whole : (s : Scenario) (notes : List Note) → StandsOne reading (keeps stands) s (world_of network old) notes
+  pub still : (s : Scenario) (notes : List Note) → Stands reading (keeps stands) s (world_of network old) notes
+      → Stands reading (keeps stands) s (world_of network new) notes
+  pub whole : (s : Scenario) (notes : List Note) → Stands reading (keeps stands) s (world_of network old) notes
       → IsWhole s notes until turn
   pub says : PassSays old new until turn
   pub same : new ≡ record old { time = new.time; early = new.early }

@@ -246,7 +246,7 @@ impl<C: Clock, M: Machine + Drop> State<C, M> {
         ensures stands { (s : Scenario) (notes : List Note) (first : SettledValue) (rest : List SettledValue)
             → self.old.settled.items ≡ first ∷ rest
             → (old : Stands C.reading (keeps M.stands) s (world_of network.now self.old) notes)
-            → NoSourceBefore s (happenings s.network notes) old.cursor
+            → NoSourceBefore s (happenings s.network notes) old.frontier
             (place_of (settled_at network.now self.old.time first))
             → OnOk result ((note.new ≡ note_of notes (settled_at network.now self.old.time first))
             × StandsAt C.reading (keeps M.stands) s (world_of network.now self.new) (notes ++ note.new ∷ [])

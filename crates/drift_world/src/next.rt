@@ -2,7 +2,7 @@ ghost use Rattle.std.specs.Prelude.{◌+◌, ◌<◌, ◌^◌, ◌∷◌, ◌≡
 ghost use Rattle.std.specs.Prelude.{length, true};
 ghost use Rattle.run_law.specs.{declared.note.Note.{Note as NoteOf}, runs.DueRecords.IsScenarioRun};
 ghost use Rattle.{run_law.specs.scenario.Scenarios.Scenario, world_state.specs.Keeping.keeps};
-ghost use Rattle.{drift_world.specs.Views.world_of, world_law.specs.world.{Moves.StandsOne, World.Stands}};
+ghost use Rattle.{drift_world.specs.Views.world_of, world_law.specs.world.World.Stands};
 
 use crate::source::{Source, least_of};
 use crate::state::State;
@@ -49,7 +49,7 @@ impl<C: Clock, M: TellsKind + Drop> State<C, M> {
         ensures kept { IsKept C.last_step C.reading M.stands network.now self.old self.new
             (given_by (next_of result note.new)) }
         ensures complete { (s : Scenario) (notes : List NoteOf)
-            → StandsOne C.reading (keeps M.stands) s (world_of network.now self.old) notes
+            → Stands C.reading (keeps M.stands) s (world_of network.now self.old) notes
             → IfOk result (λ more. more ≡ false → IsScenarioRun s (until ∷ []) notes) }
         ensures says { NextSays self.old self.new until note.new result }
     {

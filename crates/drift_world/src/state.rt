@@ -69,7 +69,7 @@ impl<C: Clock, M: Machine + Drop> State<C, M> {
     ghost use Rattle.run_law.specs.records.{Happenings.happenings, Order.IsIn};
     ghost use Rattle.{tte_units.specs.declared.rates.Ppb.Ppb, world_law.specs.steps.Steps.FitsWorld};
     ghost use Rattle.world_law.specs.source.{Agreeing.scenario, Applying.note_of_event};
-    ghost use Rattle.world_law.specs.world.{Moves.StandsOne, World.Stands};
+    ghost use Rattle.world_law.specs.world.World.{Stands};
     ghost use Rattle.world_state.specs.{Applying.{IsElsewhere, SetsShort, clock_after}, Keeping.keeps};
     ghost use Rattle.world_state.specs.declared.contents.Waits.{Waits as WaitsValue};
 
@@ -139,7 +139,7 @@ impl<C: Clock, M: Machine + Drop> State<C, M> {
             → Follows C.after_step C.reading network.now f g past event.now self.old
             → FitsWorld (scenario network.now f past) (happenings network.now notes) self.old.time event.now.what
             → IfOk result (λ note. (note ≡ note_of_event notes past event.now)
-            × StandsOne C.reading (keeps M.stands) (scenario network.now g (past ++ event.now ∷ []))
+            × Stands C.reading (keeps M.stands) (scenario network.now g (past ++ event.now ∷ []))
             (world_of network.now self.new)
             (notes ++ note ∷ [])) }
         ensures err { OnErr result (world_of network.now self.new ≡ world_of network.now self.old) }

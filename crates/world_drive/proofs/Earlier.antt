@@ -15,7 +15,11 @@ module _ (network : Network) (events : List Event) (notes : List Note) where
   pub earlier_at : (more : List Note) (until : ℕ) {world : ExactWorld} → world.now < until
       → StandsExact network world events (notes ++ more) → AreEarlier network events notes more until
   earlier_at more until {world} before stands =
-      inr (stands.is.mark, λ p b. before_later_time p (world.now + 1) until (omega (arith, before)) (stands.is.not_later p (stands.is.ahead p b)), stands.is.run)
+      inr (
+        stands.is.frontier,
+        λ p b. before_later_time p (world.now + 1) until (omega (arith, before)) (stands.is.not_later p b),
+        stands.is.run,
+      )
 
   -- records behind those that are earlier
   pub earlier_joined : (front more : List Note) (from until : ℕ) {world : ExactWorld} → from ≤ until

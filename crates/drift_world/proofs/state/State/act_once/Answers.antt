@@ -1,6 +1,6 @@
 use Rattle.drift_world.proofs.ActSteps.{above_then, acted_turns, acts_late, asked_to_act, behind_part, later_then, left_in}
 use Rattle.drift_world.proofs.{ActRecords.{AreProper, IsFine}, ActSteps.{never_broken, octets_then, proper_at, row_within}}
-use Rattle.drift_world.proofs.{AtSource.{at_rank, one_of}, Fits.{all_put_some, have_octets, sized_so}}
+use Rattle.drift_world.proofs.{AtSource.at_rank, Fits.{all_put_some, have_octets, sized_so}}
 use Rattle.drift_world.proofs.{OwnPlaces.{no_change, no_shelf, no_waiter}, Showings.shows_of}
 use Rattle.drift_world.proofs.Turned.{all_put_in, first_given, next_first}
 use Rattle.world_law.specs.{source.Sources.task_place, steps.Acting.task_of, world.{Calls.IsStateOf, World.is_at_source}}
@@ -79,7 +79,6 @@ own g c =
 -- the act is worked off, and these are its records
 turned : (g : given.Over) (c : After-outcomes_of-outcomes g) (s : Scenario) (notes : List Note)
     → (old : Stands g.C.Clock.reading (keeps g.M.Machine.stands) s (world_of c.args.network.now c.args.self.now) notes)
-    → old.mark ≡ old.cursor
     → ComesFirst g.C.Clock.reading (keeps g.M.Machine.stands) s (world_of c.args.network.now c.args.self.now) notes old
     (part_place c.args.part c.args.self.now.time c.args.device)
     → TurnsIn g.C.Clock.reading g.M.Machine.stands c.args.network.now s notes
@@ -89,7 +88,7 @@ turned : (g : given.Over) (c : After-outcomes_of-outcomes g) (s : Scenario) (not
     })
     (task_place s.network c.args.self.now.time c.args.device (task_of c.in-Some.act))
     c.outcomes_of-outcomes.result.first c.outcomes_of-outcomes.result.second
-turned g c s notes old one first =
+turned g c s notes old first =
     let w = c.args.self.now in
     let lt = c.requires.there in
     let many = c.requires.sound.sized.machines in
@@ -112,7 +111,7 @@ turned g c s notes old one first =
     acted_turns K.reading stands network w c.args.part device machine lt (held g c) c.requires.due c.requires.above after
     c.shown-was.result.state
     c.shown-is.result.state c.shown-was.result.adjustment c.shown-is.result.adjustment c.in-Some.act
-    c.outcomes_of-outcomes.result _ set s notes old one first
+    c.outcomes_of-outcomes.result _ set s notes old first
     (acted_at g c s notes old)
     (subst (λ m. IsStateOf (keeps stands) s.network device m c.shown-was.result.state c.shown-was.result.adjustment) same
     (c.shown-was.ensures s.network device))
@@ -180,7 +179,7 @@ returns-then-not-is_at_source-clause-goes_on g c = λ no.
           c.shown-was.result.state c.shown-is.result.adjustment c.in-Some.act c.outcomes_of-outcomes.result put.0
           c.put_both.new.settled.items
           (own g here) late put.1 put.2;
-      then_stands = λ s notes was one first.
+      then_stands = λ s notes was first.
           let of = shows_of network w was in
           let proper = proper_at K.reading stands network w c.args.part device machine lt (held g here) c.requires.due
           c.requires.above s notes was
@@ -194,14 +193,13 @@ returns-then-not-is_at_source-clause-goes_on g c = λ no.
           } in
           let at = all_put_in K.reading stands network s notes world _ w.settled.items refl
           c.outcomes_of-outcomes.result.first c.outcomes_of-outcomes.result.second put.0 c.put_both.new.settled.items
-          (turned g here s notes was one first) put.1 put.2
+          (turned g here s notes was first) put.1 put.2
           (acts_late K.reading stands network w c.args.part device machine lt (held g here) c.requires.due
           c.requires.above s _ c.shown-was.result.state c.shown-is.result.adjustment c.in-Some.act
           c.outcomes_of-outcomes.result proper late) in (
             at.0,
-            at.1 ∙ sym at.2,
             behind_part K.reading stands network w c.args.part device machine lt (held g here) c.requires.due
-                c.requires.above s notes was c.in-Some.act after (acted_at g here s notes was) at.0.cursor at.2,
+                c.requires.above s notes was c.in-Some.act after (acted_at g here s notes was) at.0.frontier at.1,
           );
       later = λ left is_left.
           later_then K.reading stands network w c.args.part device machine lt (held g here) c.requires.due
@@ -250,7 +248,6 @@ source_of one least most =
 turned_first : (g : given.Over) (c : After-outcomes_of-outcomes g) (one : Settled)
     → c.outcomes_of-outcomes.result.first ≡ Some one → (s : Scenario) (notes : List Note)
     → (old : Stands g.C.Clock.reading (keeps g.M.Machine.stands) s (world_of c.args.network.now c.args.self.now) notes)
-    → old.mark ≡ old.cursor
     → ComesFirst g.C.Clock.reading (keeps g.M.Machine.stands) s (world_of c.args.network.now c.args.self.now) notes old
     (part_place c.args.part c.args.self.now.time c.args.device)
     → TurnsIn g.C.Clock.reading g.M.Machine.stands c.args.network.now s notes
@@ -260,7 +257,7 @@ turned_first : (g : given.Over) (c : After-outcomes_of-outcomes g) (one : Settle
     })
     (task_place s.network c.args.self.now.time c.args.device (task_of c.in-Some.act)) (Some one)
     c.outcomes_of-outcomes.result.second
-turned_first g c one is s notes old at_one first =
+turned_first g c one is s notes old first =
     subst (λ o. TurnsIn g.C.Clock.reading g.M.Machine.stands c.args.network.now s notes
     (record (world_of c.args.network.now c.args.self.now) {
       early = false;
@@ -268,7 +265,7 @@ turned_first g c one is s notes old at_one first =
     })
     (task_place s.network c.args.self.now.time c.args.device (task_of c.in-Some.act)) o
     c.outcomes_of-outcomes.result.second) is
-    (turned g c s notes old at_one first)
+    (turned g c s notes old first)
 
 pub unwrap-own-requires : goal.unwrap-own-requires
 unwrap-own-requires g c = some_of c.outcomes_of-outcomes.result.first
@@ -300,7 +297,7 @@ give_first-requires-clause-next g c =
     let w = c.args.self.now in
     let here = (goal.at.give_first-requires-clause-next g c).After-outcomes_of-outcomes in
     let one = c.unwrap-own.result in
-    let turn = turned_first g here one c.unwrap-own.ensures at.s at.notes at.is at.one at.first in
+    let turn = turned_first g here one c.unwrap-own.ensures at.s at.notes at.is at.first in
     let least = (fine_of g here one c.unwrap-own.ensures).1 in
     let most = low_of c.unwrap-own.ensures (c.is_at_source.ensures.yes c.if-not-is_at_source.false) in
     let world : World _ _ = record (world_of c.args.network.now w) {
@@ -363,15 +360,15 @@ returns-clause-gives g c = λ yes.
       same = give.same ∙ sym (ap rebuilt give.same);
       waiting = λ x lt. give.others.waiting x (λ e. omega (arith, e, far, lt));
       time = ap (λ (n : Note). n.time) give.note;
-      then_stands = λ s notes was at_one first.
+      then_stands = λ s notes was first.
           let world : World _ _ = record (world_of c.args.network.now w) {
             early = false;
             machines = slice_set w.machines.items c.args.device.0 c.act.new.self;
           } in
-          let turn = turned_first g here one c.unwrap-own.ensures s notes was at_one first in
-          one_of (first_given g.C.Clock.reading g.M.Machine.stands c.args.network.now s notes world _ w.settled.items refl
+          let turn = turned_first g here one c.unwrap-own.ensures s notes was first in
+          (first_given g.C.Clock.reading g.M.Machine.stands c.args.network.now s notes world _ w.settled.items refl
           one c.outcomes_of-outcomes.result.second turn rest c.put_some.ensures.is (source_of one least most)
           (world_of c.args.network.now new) c.give_first.new.note give.note
           (ap (λ (t : State _ _). world_of c.args.network.now t) give.same)
-          (give.launched s notes));
+          (give.launched s notes)).0;
     }

@@ -2,9 +2,7 @@ use Rattle.{drift_world.proofs.Applies.{any_mapped, waits_more, ways_more}, std.
 use Rattle.drift_world.proofs.{Beginnings.found, Words.{not, scenario, subst, sym, true, turns_on, unsigned_abs, waiting_as, way_as, world_of, ℕ}}
 use Rattle.drift_world.proofs.{Elsewhere.{clock_elsewhere, waits_elsewhere}, Fitting.{apart_kept, below_more, ways_short}, TurnedOn.turned_on_is}
 use Rattle.drift_world.proofs.Words.{◌++◌, ◌+◌, ◌<◌, ◌↔◌, ◌∙◌, ◌∷◌, ◌≡◌, AreApart, Bool, Down, IsIn, List, Note, Some, Up, Waits, What}
-use Rattle.drift_world.proofs.Words.{World, [], amount, ap, arith, befell_as, breaks_at, false, ints, is_broken, is_turned_on_at, keeps, length, list_any, map}
-use Rattle.drift_world.proofs.{AtSource.one_of, Words.StandsOne}
-use Rattle.world_law.proofs.steps_lemmas.turns.Turns.{none_early, raised}
+use Rattle.drift_world.proofs.Words.{Stands, World, [], amount, ap, arith, befell_as, breaks_at, false, ints, is_broken, is_turned_on_at, keeps, length, list_any, map}
 use Rattle.world_law.{proofs.steps_lemmas.steps.Applied.applied_step, specs.{source.Applying.note_of_event, world.Outcomes.{also_befell, ends_world}}}
 use Rattle.{net_plan.specs.{Belonging.IsOfNetwork, declared.ids.DeviceId.DeviceId}, world_law.specs.world.World.Befell}
 use Rattle.run_law.specs.declared.note.NoteBody.TheVariants as kinds
@@ -95,14 +93,14 @@ returns-clause-stands g c = λ f h past notes old follows may.
     ap (λ (n : ℕ). note n w.lines c.args.event.now.what) old.given ∙ ap (λ (n : ℕ). note (length notes) n c.args.event.now.what) old.lines
     in (
       note_is,
-      subst (λ (n : Note). StandsOne K.reading stands then_
+      subst (λ (n : Note). Stands K.reading stands then_
           (after (map befell_as c.keep_befallen.new.befell.items) c.ends-self.result) (notes ++ n ∷ []))
           (sym note_is)
-          (subst (λ over. StandsOne K.reading stands then_ (after (map befell_as c.keep_befallen.new.befell.items) over)
+          (subst (λ over. Stands K.reading stands then_ (after (map befell_as c.keep_befallen.new.befell.items) over)
           (notes ++ note_of_event notes past event ∷ [])) (sym c.ends-self.ensures)
-          (subst (λ l. StandsOne K.reading stands then_ (after l (ends_world event.what))
+          (subst (λ l. Stands K.reading stands then_ (after l (ends_world event.what))
           (notes ++ note_of_event notes past event ∷ []))
-          (sym befell_is) (one_of (raised step (λ z i b. none_early step c.requires.early z i))))),
+          (sym befell_is) step)),
     )
 
 pub returns-clause-others : goal.returns-clause-others

@@ -1,8 +1,8 @@
 use Rattle.drift_world.{proofs.Fits.{all_put, have_octets, sound_same}, specs.declared.{source.Source.TheVariants.Departure, state.State.State}}
 use Rattle.drift_world.proofs.{OwnPlaces.{changes_both, no_shelf, no_waiter}, Turning.{kept_timers, plain_step, step_kept}}
-use Rattle.drift_world.proofs.{AtSource.{one_of, source_at}, Timings.aside, Turned.{all_put_in, first_given, next_first, turns_of}}
+use Rattle.drift_world.proofs.{AtSource.source_at, Timings.aside, Turned.{all_put_in, first_given, next_first, turns_of}}
 use Rattle.drift_world.proofs.state.State.departure_turn.Goals.{After-leave_port}
-use Rattle.drift_world.proofs.Words.{◌∙◌, ◌≡◌, ChangesOnly, List, None, Note, Option, Scenario, Settled, Some, StandsOne, TurnsIn, ap, arith}
+use Rattle.drift_world.proofs.Words.{◌∙◌, ◌≡◌, ChangesOnly, List, None, Note, Option, Scenario, Settled, Some, Stands, TurnsIn, ap, arith}
 use Rattle.drift_world.proofs.Words.{changed_device, keeps, numbers_of, rank, refl, subst, world_of}
 use Rattle.drift_world.proofs.state.State.departure_turn.Given as given
 use Rattle.drift_world.proofs.state.State.departure_turn.Goals as goal
@@ -10,7 +10,7 @@ use Rattle.drift_world.proofs.state.State.departure_turn.Goals as goal
 -- what leaves is worked off, and this is its record, if there is one
 turned : (g : given.Over) (c : After-leave_port g) (one : Option Settled) → c.leave_port.result ≡ one → (s : Scenario)
     (notes : List Note)
-    → StandsOne g.C.Clock.reading (keeps g.M.Machine.stands) s (world_of c.args.network.now c.args.self.now) notes
+    → Stands g.C.Clock.reading (keeps g.M.Machine.stands) s (world_of c.args.network.now c.args.self.now) notes
     → TurnsIn g.C.Clock.reading g.M.Machine.stands c.args.network.now s notes
     (world_of c.args.network.now c.leave_port.new.self) (numbers_of c.args.place) one None
 turned g c one same s notes is =
@@ -32,8 +32,8 @@ returns-in_default-clause-kept g c =
     (ap (λ (t : State _ _). t.timers) left.same)
     (ap (λ (t : State _ _). t.given) left.same)
     (λ s notes is.
-    one_of (all_put_in K.reading S network s notes (world_of network mid) _ mid.settled.items refl None None
-    mid.settled.items mid.settled.items (turned g here None c.in_default.is s notes is) refl refl refl)))
+    (all_put_in K.reading S network s notes (world_of network mid) _ mid.settled.items refl None None
+    mid.settled.items mid.settled.items (turned g here None c.in_default.is s notes is) refl refl refl).0))
 
 pub give_first-requires-clause-number : goal.give_first-requires-clause-number
 give_first-requires-clause-number g c =
@@ -70,7 +70,7 @@ give_first-requires-clause-next g c =
     let leaving = c.number.ensures in
     let test = c.if-rank_of-number.true in
     let eight : rank one.body ≡ 8 = omega (arith, is, leaving, test) in
-    let turn = turned g here (Some one) c.in-Some.is run.s run.notes (run.is, c.requires.may.well.one) in
+    let turn = turned g here (Some one) c.in-Some.is run.s run.notes run.is in
     record {
       s = run.s;
       notes = run.notes;
@@ -104,10 +104,10 @@ returns-then-rank_of-number-clause-kept g c =
     let S = g.M.Machine.stands in
     let network = c.args.network.now in
     let here = (goal.at.returns-then-rank_of-number-clause-kept g c).After-leave_port in
-    one_of (first_given K.reading S network s notes (world_of network mid) _ mid.settled.items refl one None
+    (first_given K.reading S network s notes (world_of network mid) _ mid.settled.items refl one None
     (turned g here (Some one) c.in-Some.is s notes is) mid.settled.items refl (source_at (Departure c.args.place) one.body eight)
     (world_of network gave) c.give_first.new.note give.note
-    (ap (λ (t : State _ _). world_of network t) give.same) (give.launched s notes)))
+    (ap (λ (t : State _ _). world_of network t) give.same) (give.launched s notes)).0)
     refl
     (aside g.C.Clock.reading g.M.Machine.stands c.args.network.now other c.args.self.now gave may.well.timed (omega (arith, far, few)) changes
     (ap (λ (t : State _ _). t.timers) give.same ∙ ap (λ (t : State _ _). t.timers) left.same))
@@ -132,5 +132,6 @@ returns-clause-kept g c =
     (λ n. let o = left.others n in record { clocks = o.clocks; time = o.time; ended = o.ended; machines = o.machines; waiting = o.waiting })
     (ap (λ (t : State _ _). t.timers) left.same) (ap (λ (t : State _ _). t.given) left.same)
     (λ s notes is.
-    one_of (all_put_in K.reading S network s notes (world_of network mid) _ mid.settled.items refl (Some one)
-    None c.put_in.new.settled.items c.put_in.new.settled.items (turned g here (Some one) c.in-Some.is s notes is) put refl late)))
+    (all_put_in K.reading S network s notes (world_of network mid) _ mid.settled.items refl (Some one)
+    None c.put_in.new.settled.items c.put_in.new.settled.items (turned g here (Some one) c.in-Some.is s notes is)
+    put refl late).0))

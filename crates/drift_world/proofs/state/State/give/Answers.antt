@@ -109,7 +109,8 @@ returns-clause-stands g c = λ s notes other rest is.
     } in
     let z = settled_at network w.time first in
     let rest_is = map (settled_at network w.time) c.pop_front.new.self.items in
-    let Steps = λ (q : World _ _). (o : Stands K.reading stands s q notes) → NoSourceBefore s (happenings s.network notes) o.cursor (place_of z)
+    let Steps = λ (q : World _ _). (o : Stands K.reading stands s q notes)
+    → NoSourceBefore s (happenings s.network notes) o.frontier (place_of z)
     → StandsAt K.reading stands s (world_of network new) (notes ++ note_of notes z ∷ []) (behind (place_of z)) in
     let gave : State _ _ = record popped {
       under_way = new.under_way;
@@ -126,12 +127,13 @@ returns-clause-stands g c = λ s notes other rest is.
     (world_of network gave).ports (world_of network gave).waiting (world_of network gave).stored o refl none launched.wires
     launched.ports launched.waiting launched.stored) in
     let step : (o : Stands K.reading stands s (world_of network w) notes)
-    → NoSourceBefore s (happenings s.network notes) o.cursor (place_of z)
+    → NoSourceBefore s (happenings s.network notes) o.frontier (place_of z)
     → StandsAt K.reading stands s (world_of network new) (notes ++ note_of notes z ∷ []) (behind (place_of z)) = λ o none.
     subst Steps (popped_world network w popped first room.entries room.waiting room.stored whole refl)
     (by (next_of g (goal.at.returns-clause-stands g c).After-unwrap-first s notes o)) o none in
     let Gives = λ (f : Settled). (o : Stands K.reading stands s (world_of network w) notes)
-    → NoSourceBefore s (happenings s.network notes) o.cursor (place_of (settled_at network w.time f)) → (note ≡ note_of notes (settled_at network w.time f))
+    → NoSourceBefore s (happenings s.network notes) o.frontier (place_of (settled_at network w.time f))
+    → (note ≡ note_of notes (settled_at network w.time f))
     × StandsAt K.reading stands s (world_of network new) (notes ++ note ∷ [])
     (behind (place_of (settled_at network w.time f))) in
     let given : Gives first = λ o none.

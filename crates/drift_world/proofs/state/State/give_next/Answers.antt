@@ -1,5 +1,5 @@
 use Rattle.drift_world.{proofs.{Turning.{gives_first, kept_timers, plain_step, step_kept}, state.State.give_next.Goals.In-Ok}, specs.declared.state.State.State}
-use Rattle.drift_world.proofs.{AtSource.one_of, Timings.in_range, Words.StandsOne}
+use Rattle.drift_world.proofs.Timings.{in_range}
 use Rattle.drift_world.proofs.Words.{◌++◌, ◌∙◌, ◌∷◌, ◌≡◌, ChangesOnly, List, Note, Scenario, Stands, World, [], ap, arith}
 use Rattle.drift_world.proofs.Words.{changed_device, keeps, length, note_of, settled_at, subst, sym, units_of, world_of}
 use Rattle.drift_world.proofs.state.State.give_next.Given as given
@@ -8,13 +8,13 @@ use Rattle.drift_world.proofs.state.State.give_next.Goals as goal
 given_so : (g : given.Over) (c : In-Ok g) (s : Scenario) (notes : List Note)
     → Stands g.C.Clock.reading (keeps g.M.Machine.stands) s (world_of c.args.network.now c.args.self.now) notes
     → (c.give.new.note ≡ note_of notes (settled_at c.args.network.now c.args.self.now.time c.requires.first.first))
-    × StandsOne g.C.Clock.reading (keeps g.M.Machine.stands) s (world_of c.args.network.now c.give.new.self)
+    × Stands g.C.Clock.reading (keeps g.M.Machine.stands) s (world_of c.args.network.now c.give.new.self)
     (notes ++ c.give.new.note ∷ [])
 given_so g c s notes old =
     let f = c.requires.first in
     let step = c.in-Ok.ensures.stands s notes f.first f.others f.whole old
     (gives_first g.C.Clock.last_step g.C.Clock.reading g.M.Machine.stands c.args.network.now c.args.self.now f s notes c.requires.well.sound old) in
-    (step.0, one_of step.1)
+    (step.0, step.1.0)
 
 pub give-requires-clause-range : goal.give-requires-clause-range
 give-requires-clause-range g c = in_range c.requires.well.running
@@ -30,7 +30,7 @@ rekey_after-requires-clause-may g c =
       running = record {
         s = run.s;
         notes = run.notes ++ c.give.new.note ∷ [];
-        is = (given_so g (goal.at.rekey_after-requires-clause-may g c).In-Ok run.s run.notes run.is).1.0;
+        is = (given_so g (goal.at.rekey_after-requires-clause-may g c).In-Ok run.s run.notes run.is).1;
       };
     }
 
@@ -43,7 +43,7 @@ returns-in-Ok-clause-kept g c =
     kept_timers g.C.Clock.last_step g.C.Clock.reading g.M.Machine.stands c.args.network.now c.args.self.now mid c.rekey_after.new.self (c.give.new.note
     ∷ []) well E.sound
     (record { clocks = ap (λ (t : State _ _). t.clocks) E.same; ended = ap (λ (t : State _ _). t.ended) E.same; later = omega (arith, time) })
-    (λ s notes old. (given_so g (goal.at.returns-in-Ok-clause-kept g c).In-Ok s notes old.0).1)
+    (λ s notes old. (given_so g (goal.at.returns-in-Ok-clause-kept g c).In-Ok s notes old).1)
     c.rekey_after.ensures.same
     (c.rekey_after.ensures.timed c.args.self.now well.timed
     (subst (λ b. ChangesOnly (changed_device b) c.args.self.now mid) (sym c.body.ensures) E.others)
@@ -67,7 +67,7 @@ returns-in-Err-clause-kept g c =
     (plain_step g.C.Clock.last_step g.C.Clock.reading g.M.Machine.stands c.args.network.now c.args.self.now c.give.new.self c.requires.well E.sound E.unmoved
     (ap (λ (t : State _ _). t.timers) E.same)
     (ap (λ (v : World _ _). v.given) E.err)
-    (λ s notes old. subst (λ v. StandsOne g.C.Clock.reading (keeps g.M.Machine.stands) s v notes) (sym E.err) old))
+    (λ s notes old. subst (λ v. Stands g.C.Clock.reading (keeps g.M.Machine.stands) s v notes) (sym E.err) old))
 
 pub returns-in-Err-clause-err : goal.returns-in-Err-clause-err
 returns-in-Err-clause-err g c = ap (λ (t : State _ _). t.time) c.in-Err.ensures.same

@@ -1,11 +1,11 @@
 use Rattle.drift_world.proofs.{Dues.due_stays, state.State.hear_turn.Goals.{After-give_first, After-put_in}}
 use Rattle.world_state.specs.Frames.{Waiting, room_of}
-use Rattle.drift_world.proofs.{AtSource.{one_of, source_at}, Fits.{all_put, have_octets, sound_same}, Timings.rekeyed}
+use Rattle.drift_world.proofs.{AtSource.source_at, Fits.{all_put, have_octets, sound_same}, Timings.rekeyed}
 use Rattle.drift_world.{proofs.{Halves.{set_act, waits_as}, OwnPlaces.{changes_both, no_shelf, waits_at}}, specs.declared.state.State.State}
 use Rattle.drift_world.{proofs.Turning.{kept_timers, rekeyed_step, runs_on, step_kept}, specs.declared.source.Source.TheVariants.Arrival}
 use Rattle.drift_world.proofs.Turned.{all_put_in, first_given, next_first, turns_of}
 use Rattle.drift_world.proofs.Words.{◌++◌, ◌<◌, ◌∙◌, ◌∷◌, ◌≡◌, ChangesOnly, DeviceId, IsSound, List, None, Note, Scenario, Some}
-use Rattle.drift_world.proofs.Words.{StandsOne, [], ap, arith, keeps, length, rank, refl, subst, sym, world_of}
+use Rattle.drift_world.proofs.Words.{Stands, [], ap, arith, keeps, length, rank, refl, subst, sym, world_of}
 use Rattle.drift_world.proofs.state.State.hear_turn.Given as given
 use Rattle.drift_world.proofs.state.State.hear_turn.Goals as goal
 
@@ -48,7 +48,7 @@ give_first-requires-clause-next g c =
     let test = c.if-rank_of-number.true in
     let two : rank one.body ≡ 2 = omega (arith, is, arriving_is, test) in
     let turn = turns_of K.last_step K.reading S network c.args.self.now mid (Arrival c.args.place) (Some one) None c.requires.may tt
-    c.hear_wire-record.ensures.turns run.s run.notes (run.is, well.one) in
+    c.hear_wire-record.ensures.turns run.s run.notes run.is in
     record {
       s = run.s;
       notes = run.notes;
@@ -61,8 +61,8 @@ arriving : (g : given.Over) (c : After-give_first g) → rank c.hear_wire-record
 arriving g c = omega (arith, c.rank_of.ensures, c.number.ensures, c.if-rank_of-number.true)
 
 given_so : (g : given.Over) (c : After-give_first g) (s : Scenario) (notes : List Note)
-    → StandsOne g.C.Clock.reading (keeps g.M.Machine.stands) s (world_of c.args.network.now c.args.self.now) notes
-    → StandsOne g.C.Clock.reading (keeps g.M.Machine.stands) s (world_of c.args.network.now c.give_first.new.self)
+    → Stands g.C.Clock.reading (keeps g.M.Machine.stands) s (world_of c.args.network.now c.args.self.now) notes
+    → Stands g.C.Clock.reading (keeps g.M.Machine.stands) s (world_of c.args.network.now c.give_first.new.self)
     (notes
     ++ c.give_first.new.note ∷ [])
 given_so g c s notes is =
@@ -72,11 +72,11 @@ given_so g c s notes is =
     let mid = c.hear_wire-record.new.self in
     let one = c.hear_wire-record.result in
     let give = c.give_first.ensures in
-    one_of (first_given K.reading S network s notes (world_of network mid) _ mid.settled.items refl one None
+    (first_given K.reading S network s notes (world_of network mid) _ mid.settled.items refl one None
     (turns_of K.last_step K.reading S network c.args.self.now mid (Arrival c.args.place) (Some one) None c.requires.may tt
     c.hear_wire-record.ensures.turns s notes is)
     mid.settled.items refl (source_at (Arrival c.args.place) one.body (arriving g c)) (world_of network c.give_first.new.self)
-    c.give_first.new.note give.note (ap (λ (t : State _ _). world_of network t) give.same) (give.launched s notes))
+    c.give_first.new.note give.note (ap (λ (t : State _ _). world_of network t) give.same) (give.launched s notes)).0
 
 pub rekey_from-requires : goal.rekey_from-requires
 rekey_from-requires g c =
@@ -94,7 +94,7 @@ rekey_from-requires g c =
         running = record {
           s = run.s;
           notes = _;
-          is = (given_so g (goal.at.rekey_from-requires g c).After-give_first run.s run.notes (run.is, may.well.one)).0;
+          is = given_so g (goal.at.rekey_from-requires g c).After-give_first run.s run.notes run.is;
         };
       };
       before = due_stays g.C.Clock.reading g.M.Machine.stands c.args.network.now g.C.Clock.last_step c.args.self.now c.give_first.new.self
@@ -139,8 +139,8 @@ sound_after g c =
     (all_put have_octets c.hear_wire-record.result mid.settled.items c.put_in.new.settled.items put.0 put.1 hear.octets hear.sound.fit.octets)
 
 still : (g : given.Over) (c : After-put_in g) (s : Scenario) (notes : List Note)
-    → StandsOne g.C.Clock.reading (keeps g.M.Machine.stands) s (world_of c.args.network.now c.args.self.now) notes
-    → StandsOne g.C.Clock.reading (keeps g.M.Machine.stands) s
+    → Stands g.C.Clock.reading (keeps g.M.Machine.stands) s (world_of c.args.network.now c.args.self.now) notes
+    → Stands g.C.Clock.reading (keeps g.M.Machine.stands) s
     (world_of c.args.network.now (record c.hear_wire-record.new.self { settled = c.put_in.new.settled })) notes
 still g c s notes is =
     let K = g.C.Clock in
@@ -150,10 +150,10 @@ still g c s notes is =
     let one = c.hear_wire-record.result in
     let late = c.hear_wire-record.ensures.late
     (λ two. omega (arith, two, c.rank_of.ensures, c.number.ensures, c.if-rank_of-number.false)) in
-    one_of (all_put_in K.reading S network s notes (world_of network mid) _ mid.settled.items refl (Some one) None
+    (all_put_in K.reading S network s notes (world_of network mid) _ mid.settled.items refl (Some one) None
     c.put_in.new.settled.items c.put_in.new.settled.items
     (turns_of K.last_step K.reading S network c.args.self.now mid (Arrival c.args.place) (Some one) None c.requires.may tt
-    c.hear_wire-record.ensures.turns s notes is) c.put_in.ensures.is refl late)
+    c.hear_wire-record.ensures.turns s notes is) c.put_in.ensures.is refl late).0
 
 pub rekey_act_from-requires : goal.rekey_act_from-requires
 rekey_act_from-requires g c =

@@ -92,7 +92,7 @@ returns-clause-late g c = λ not.
     (arrived_late c.args.place c.hear_signal-arrival.result c.take_wire-signal.result) not
 
 pub returns-clause-turns : goal.returns-clause-turns
-returns-clause-turns g c = λ s notes is first.
+returns-clause-turns g c = λ s notes old first.
     let w = c.args.self.now in
     let network = c.args.network.now in
     let device : DeviceId = record { 0 = c.args.place.device } in
@@ -101,17 +101,19 @@ returns-clause-turns g c = λ s notes is first.
     let kept = w.machines.ok.0 in
     let took = c.take_wire-signal in
     let heard = c.hear_signal-arrival in
-    let it = heard_turns g.C.Clock.reading (keeps g.M.Machine.stands) s network w notes is.0 c.args.place took.result took.new.under_way.entries
+    let it = heard_turns g.C.Clock.reading (keeps g.M.Machine.stands) s network w notes old c.args.place took.result
+    took.new.under_way.entries
     took.ensures.taken c.requires.may.foremost.there.rank_is c.requires.may.foremost.there.now c.index_mut-machine.result.now
     (record { time = c.from_amount-time.result; reading = c.read.result })
-    (held g (goal.at.returns-clause-turns g c).After-index_mut-machine) (now_is g (goal.at.returns-clause-turns g c).After-read s notes is.0)
-    heard.new.kept heard.ensures.0 heard.result (set w.machines.items device.0 heard.new.kept) is.1
+    (held g (goal.at.returns-clause-turns g c).After-index_mut-machine)
+    (now_is g (goal.at.returns-clause-turns g c).After-read s notes old)
+    heard.new.kept heard.ensures.0 heard.result (set w.machines.items device.0 heard.new.kept)
     c.requires.may.well.sound.under_way first heard.ensures.1 heard.ensures.2
     (record {
       there = set_same w.machines.items device.0 heard.new.kept (omega (arith, machines, within, kept));
       same = λ i apart. set_aside w.machines.items device.0 i heard.new.kept apart;
     }) in
-    one_turn g.C.Clock.reading g.M.Machine.stands network c.arrived.result _ (settled_in_order is.0)
+    one_turn g.C.Clock.reading g.M.Machine.stands network c.arrived.result _ (settled_in_order old)
     (ap (settled_at network w.time) c.arrived.ensures ∙ it.0) it.1
 
 pub returns-clause-others : goal.returns-clause-others

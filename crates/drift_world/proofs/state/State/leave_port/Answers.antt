@@ -28,7 +28,7 @@ returns-clause-sound g c =
     }
 
 pub returns-clause-turns : goal.returns-clause-turns
-returns-clause-turns g c = λ s notes is first.
+returns-clause-turns g c = λ s notes old first.
     let now_is = c.requires.may.foremost.there.now in
     let w = c.args.self.now in
     let K = g.C.Clock in
@@ -37,7 +37,6 @@ returns-clause-turns g c = λ s notes is first.
     let world = world_of network w in
     let place = c.args.place in
     let took = c.take_port-frame in
-    let old = is.0 in
     let e = port_entry place took.result.0 took.result.1 in
     let taken : Entry Content = record { place = place; content = Port took.result.0 took.result.1 } in
     let hs = happenings s.network notes in
@@ -49,8 +48,8 @@ returns-clause-turns g c = λ s notes is first.
     let under_way = c.requires.may.well.sound.under_way in
     let mid : World _ _ = record world { ports = filter_map at_port took.new.under_way.entries; early = false } in
     let after : World _ _ = record mid { wires = filter_map (on_wire network) took.new.under_way.entries } in
-    let turn = left_turn K.reading stands s world notes old.cursor e (filter_map at_port took.new.under_way.entries)
-    (old, is.1, refl) there now_is (subst (ComesFirst K.reading stands s world notes old) numbers first)
+    let turn = left_turn K.reading stands s world notes e (filter_map at_port took.new.under_way.entries)
+    old there now_is (subst (ComesFirst K.reading stands s world notes old) numbers first)
     (ports_without network w.under_way.entries took.new.under_way.entries taken under_way took.ensures.taken e refl) in
     let placed = subst (λ p. TurnsBy K.reading stands s notes (departure_bodies s e w.time) mid p) (sym numbers) turn in
     subst (λ o. TurnsIn K.reading g.M.Machine.stands network s notes after (numbers_of place) o None)

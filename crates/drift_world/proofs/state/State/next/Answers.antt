@@ -1,5 +1,5 @@
 use Rattle.drift_world.{proofs.Turning.{after_then, kept_then}, specs.Turns.{IsKept, TurnsTo, given_in}}
-use Rattle.drift_world.proofs.Words.{◌+◌, ◌∙◌, List, Note, Ok, OutOfMemory, StandsOne, Turn, ap, append-nil, arith, keeps, refl, subst, sym, world_of}
+use Rattle.drift_world.proofs.Words.{◌+◌, ◌∙◌, List, Note, Ok, OutOfMemory, Stands, Turn, ap, append-nil, arith, keeps, refl, subst, sym, world_of}
 use Rattle.drift_world.{proofs.state.State.next.Goals.{After-turn, In-Ok-Ends, In-Ok-GoesOn}, specs.declared.next.Turn.TheVariants.{Ends, GoesOn}}
 use Rattle.drift_world.proofs.state.State.next.Given as given
 use Rattle.drift_world.proofs.state.State.next.Goals as goal
@@ -80,7 +80,7 @@ turns-preserved g c =
       well = kept.well;
       after = after_then before.after kept.after;
       still = λ s notes is.
-          subst (λ l. StandsOne g.C.Clock.reading (keeps g.M.Machine.stands) s
+          subst (λ l. Stands g.C.Clock.reading (keeps g.M.Machine.stands) s
           (world_of c.args.network.now c.turn.new.self) l) (append-nil notes)
           (kept.stands_then s notes (before.still s notes is));
       early = says.0;

@@ -1,7 +1,7 @@
 use Rattle.drift_world.proofs.{Nearings.passing_nears, Words.{inl, inr, keeps, refl, subst, true, world_of, ℕ}, state.State.pass_on.Goals.After-pass_to}
-use Rattle.drift_world.proofs.{AtSource.one_of, Sources.of_world}
+use Rattle.drift_world.proofs.Sources.{of_world}
 use Rattle.drift_world.{proofs.Turning.{passed_same, passes, whole_run}, specs.{Turns.{IsPassed, IsWhole, PassSays}, declared.state.State.State}}
-use Rattle.drift_world.proofs.Words.{◌+◌, ◌<◌, ◌^◌, ◌∙◌, ◌∷◌, ◌≡◌, ◌≤◌, ◌⊎◌, IsScenarioRun, List, Note, Scenario, StandsOne, Turn, [], ap, arith, both_ways, false}
+use Rattle.drift_world.proofs.Words.{◌+◌, ◌<◌, ◌^◌, ◌∙◌, ◌∷◌, ◌≡◌, ◌≤◌, ◌⊎◌, IsScenarioRun, List, Note, Scenario, Stands, Turn, [], ap, arith, both_ways, false}
 use Rattle.drift_world.proofs.state.State.pass_on.Given as given
 use Rattle.drift_world.proofs.state.State.pass_on.Goals as goal
 
@@ -13,17 +13,16 @@ last time until now ended (inr far) later within limit most = let gt = far.1 in 
 
 -- where nothing is under way before the time, time passes
 still : (g : given.Over) (c : After-pass_to g) (s : Scenario) (notes : List Note)
-    → StandsOne g.C.Clock.reading (keeps g.M.Machine.stands) s (world_of c.args.network.now c.args.self.now) notes
-    → StandsOne g.C.Clock.reading (keeps g.M.Machine.stands) s (world_of c.args.network.now c.pass_to.new.self) notes
+    → Stands g.C.Clock.reading (keeps g.M.Machine.stands) s (world_of c.args.network.now c.args.self.now) notes
+    → Stands g.C.Clock.reading (keeps g.M.Machine.stands) s (world_of c.args.network.now c.pass_to.new.self) notes
 still g c s notes old =
     let sound = c.requires.may.well.sound in
-    one_of (c.pass_to.ensures.stands c.args.network.now s notes old.0
-    (of_world g.C.Clock.last_step g.C.Clock.reading g.M.Machine.stands s c.args.network.now c.args.self.now notes old.0
-    sound.sized (c.args.time
-    ∷ []) sound.under_way c.requires.nothing))
+    (c.pass_to.ensures.stands c.args.network.now s notes old
+    (of_world g.C.Clock.last_step g.C.Clock.reading g.M.Machine.stands s c.args.network.now c.args.self.now notes old
+    sound.sized (c.args.time ∷ []) sound.under_way c.requires.nothing)).0
 
 passed : (g : given.Over) (c : After-pass_to g) (turn : Turn) → PassSays c.args.self.now c.pass_to.new.self c.args.until turn
-    → ((s : Scenario) (notes : List Note) → StandsOne g.C.Clock.reading (keeps g.M.Machine.stands) s
+    → ((s : Scenario) (notes : List Note) → Stands g.C.Clock.reading (keeps g.M.Machine.stands) s
     (world_of c.args.network.now c.args.self.now) notes
     → IsWhole s notes c.args.until turn)
     → IsPassed g.C.Clock.last_step g.C.Clock.reading g.M.Machine.stands c.args.network.now c.args.until c.args.self.now c.pass_to.new.self turn
@@ -54,7 +53,7 @@ returns-then-self-clause-passed g c =
           subst (λ (t : ℕ). IsScenarioRun s (t ∷ []) notes)
           (last c.args.time c.args.until c.args.self.now.time c.args.self.now.ended c.then-self.either r.later r.within r.may.limit r.may.ended)
           (whole_run g.C.Clock.last_step g.C.Clock.reading g.M.Machine.stands c.args.network.now c.args.self.now s notes c.args.time r.may.well.sound r.nothing
-          r.empty r.later old.0);
+          r.empty r.later old);
       says = λ early most. elim c.then-self.either [
         | inl is ↦ absurd (both_ways c.args.self.now.ended early is)
         | inr far ↦ let gt = far.1 in let within = r.within in absurd (omega (arith, gt, within, most))
@@ -82,7 +81,7 @@ returns-else-time-until-clause-passed g c =
     (λ early most. record { time = ap (λ (t : State _ _). t.time) c.pass_to.ensures.same ∙ at; early = ap (λ (t : State _ _). t.early) c.pass_to.ensures.same })
     (λ s notes old. subst (λ (t : ℕ). IsScenarioRun s (t ∷ []) notes) at
     (whole_run g.C.Clock.last_step g.C.Clock.reading g.M.Machine.stands c.args.network.now c.args.self.now s notes c.args.time r.may.well.sound r.nothing
-    r.empty r.later old.0))
+    r.empty r.later old))
 
 pub returns-then-time-until-clause-nears : goal.returns-then-time-until-clause-nears
 returns-then-time-until-clause-nears g c =

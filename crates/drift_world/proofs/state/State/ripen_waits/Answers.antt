@@ -90,7 +90,7 @@ returns-clause-sound g c =
     }
 
 pub returns-clause-turns : goal.returns-clause-turns
-returns-clause-turns g c = λ s notes is first.
+returns-clause-turns g c = λ s notes old first.
     let one = c.take_first-waits.result in
     let lt = within g (goal.at.returns-clause-turns g c).After-take_first-waits in
     let many = c.requires.sound.sized.machines in
@@ -98,9 +98,9 @@ returns-clause-turns g c = λ s notes is first.
     c.index_mut.result.now
     c.ripen-ripe.new.self c.ripen-ripe.result c.take_first-waits.ensures.items c.requires.sound.fit.apart
     (λ clock own. c.requires.reached one clock c.take_first-waits.ensures.is own) (omega (arith, lt, many))
-    (held g (goal.at.returns-clause-turns g c).After-index_mut) is first
+    (held g (goal.at.returns-clause-turns g c).After-index_mut) old first
     (subst (λ m. HasRipened (keeps g.M.Machine.stands) s.network one.device m one.link one.frame one.point c.ripen-ripe.result c.index_mut.result.now
-    c.ripen-ripe.new.self) (now_is g (goal.at.returns-clause-turns g c).After-index_mut s notes is.0)
+    c.ripen-ripe.new.self) (now_is g (goal.at.returns-clause-turns g c).After-index_mut s notes old)
     (λ node. c.ripen-ripe.ensures s.network one.device node))
 
 pub returns-clause-others : goal.returns-clause-others

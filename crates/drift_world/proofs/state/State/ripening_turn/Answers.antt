@@ -1,10 +1,10 @@
 use Rattle.drift_world.proofs.{Dues.due_stays, Ripenings.{dropped_late, joined_fits, judged_source, octets_fit, record_fits}}
-use Rattle.drift_world.proofs.{AtSource.one_of, OwnPlaces.{judged_far, judged_rank, no_shelf, no_waiter}}
+use Rattle.drift_world.proofs.{OwnPlaces.{judged_far, judged_rank, no_shelf, no_waiter}}
 use Rattle.{drift_world.{proofs.Fits.{all_put_some, have_octets, sound_same}, specs.declared.state.State.State}, world_state.specs.Ripening.{joined_record, ripe_record}}
 use Rattle.{drift_world.proofs.{Timings.rekeyed_by, Turned.{all_put_in, first_given, next_first, turns_of}}, run_law.specs.declared.steps.Ripe.Ripe}
 use Rattle.drift_world.{proofs.Turning.{is_at, kept_timers, rekeyed_step, runs_on, step_kept}, specs.declared.source.Source.TheVariants.Ripening}
 use Rattle.drift_world.proofs.Words.{◌++◌, ◌+◌, ◌<◌, ◌∙◌, ◌∷◌, ◌≡◌, ◌≤ℤ◌, ChangesOnly, DeviceId, IsSomePut, IsSound, Kept, List, Network, Node, Note}
-use Rattle.drift_world.proofs.Words.{Option, Scenario, Settled, Some, StandsOne, TurnsIn, Waits, World, [], ap, arith, both_ways}
+use Rattle.drift_world.proofs.Words.{Option, Scenario, Settled, Some, Stands, TurnsIn, Waits, World, [], ap, arith, both_ways}
 use Rattle.drift_world.proofs.Words.{changed_device, keeps, length, pos, rank, refl, ripe_place, subst, sym, true}
 use Rattle.drift_world.proofs.Words.{waiting_as}
 use Rattle.{drift_world.{proofs.Words.{world_of, ℕ}, specs.Ripening.IsJudged}, std.proofs.Common.{is_some, slice_get}, world_state.specs.Frames.first_of}
@@ -85,7 +85,7 @@ give_first-requires-clause-place g c =
 
 -- it is worked off, and these are its records
 turned : (g : given.Over) (c : After-ripen_waits-ripened g) (s : Scenario) (notes : List Note)
-    → StandsOne g.C.Clock.reading (keeps g.M.Machine.stands) s (world_of c.args.network.now c.args.self.now) notes
+    → Stands g.C.Clock.reading (keeps g.M.Machine.stands) s (world_of c.args.network.now c.args.self.now) notes
     → TurnsIn g.C.Clock.reading g.M.Machine.stands c.args.network.now s notes
     (world_of c.args.network.now c.ripen_waits-ripened.new.self)
     (ripe_place c.args.self.now.time (waiting_as c.ripen_waits-ripened.result.waits))
@@ -123,7 +123,7 @@ give_first-requires-clause-next g c =
     let one = c.record_of-record.result in
     let second = joined_record (c.args.self.now.given + 1) got.waits.device got.ripe in
     let turn = turned_by g.C.Clock.reading g.M.Machine.stands network got.waits got.ripe one second c.record_of-record.ensures
-    (turned g here run.s run.notes (run.is, c.requires.may.well.one)) in
+    (turned g here run.s run.notes run.is) in
     record {
       s = run.s;
       notes = run.notes;
@@ -140,7 +140,7 @@ given_so : (g : given.Over) (c : After-give_first g) (s : Scenario) (notes : Lis
     (ripe_place c.args.self.now.time (waiting_as c.ripen_waits-ripened.result.waits))
     (Some (ripe_record c.ripen_waits-ripened.result.waits c.ripen_waits-ripened.result.ripe))
     (joined_record (c.args.self.now.given + 1) c.ripen_waits-ripened.result.waits.device c.ripen_waits-ripened.result.ripe)
-    → StandsOne g.C.Clock.reading (keeps g.M.Machine.stands) s (world_of c.args.network.now c.give_first.new.self)
+    → Stands g.C.Clock.reading (keeps g.M.Machine.stands) s (world_of c.args.network.now c.give_first.new.self)
     (notes
     ++ c.give_first.new.note ∷ [])
 given_so g c s notes from =
@@ -153,9 +153,10 @@ given_so g c s notes from =
     let turn = turned_by g.C.Clock.reading g.M.Machine.stands network got.waits got.ripe one second c.record_of-record.ensures from in
     let put = subst (λ o. IsSomePut o mid.settled.items c.put_some.new.settled.items) c.joined-change.ensures c.put_some.ensures.is in
     let source = at_source got.waits got.ripe one c.record_of-record.ensures (c.is_judged.ensures.0 c.if-is_judged.true) in
-    one_of (first_given g.C.Clock.reading g.M.Machine.stands network s notes (world_of network mid) _ mid.settled.items refl one second turn
+    (first_given g.C.Clock.reading g.M.Machine.stands network s notes (world_of network mid) _ mid.settled.items refl
+    one second turn
     c.put_some.new.settled.items put source (world_of network c.give_first.new.self) c.give_first.new.note give.note
-    (ap (λ (t : State _ _). world_of network t) give.same) (give.launched s notes))
+    (ap (λ (t : State _ _). world_of network t) give.same) (give.launched s notes)).0
 
 pub rekey_from-requires : goal.rekey_from-requires
 rekey_from-requires g c =
@@ -173,8 +174,8 @@ rekey_from-requires g c =
         running = record {
           s = run.s;
           notes = _;
-          is = (given_so g (goal.at.rekey_from-requires g c).After-give_first run.s run.notes
-              (turned g (goal.at.rekey_from-requires g c).After-ripen_waits-ripened run.s run.notes (run.is, may.well.one))).0;
+          is = given_so g (goal.at.rekey_from-requires g c).After-give_first run.s run.notes
+              (turned g (goal.at.rekey_from-requires g c).After-ripen_waits-ripened run.s run.notes run.is);
         };
       };
       before = due_stays g.C.Clock.reading g.M.Machine.stands c.args.network.now g.C.Clock.last_step c.args.self.now c.give_first.new.self
@@ -227,7 +228,7 @@ still : (g : given.Over) (c : After-settle_ripe g) (s : Scenario) (notes : List 
     (ripe_place c.args.self.now.time (waiting_as c.ripen_waits-ripened.result.waits))
     (Some (ripe_record c.ripen_waits-ripened.result.waits c.ripen_waits-ripened.result.ripe))
     (joined_record (c.args.self.now.given + 1) c.ripen_waits-ripened.result.waits.device c.ripen_waits-ripened.result.ripe)
-    → StandsOne g.C.Clock.reading (keeps g.M.Machine.stands) s
+    → Stands g.C.Clock.reading (keeps g.M.Machine.stands) s
     (world_of c.args.network.now (record c.ripen_waits-ripened.new.self { settled = c.settle_ripe.new.settled })) notes
 still g c s notes turn =
     let network = c.args.network.now in
@@ -237,9 +238,9 @@ still g c s notes turn =
     let so = c.settle_ripe.ensures in
     let not : IsJudged got.ripe → ⊥ = λ judged. both_ways c.is_judged.result c.if-is_judged.false
     (c.is_judged.ensures.1 judged) in
-    one_of (all_put_in g.C.Clock.reading g.M.Machine.stands network s notes (world_of network mid) _ mid.settled.items refl
+    (all_put_in g.C.Clock.reading g.M.Machine.stands network s notes (world_of network mid) _ mid.settled.items refl
     (Some (ripe_record got.waits got.ripe)) (joined_record number got.waits.device got.ripe) so.mid c.settle_ripe.new.settled.items turn
-    (so.at, so.first) so.more (dropped_late number got.waits got.ripe not))
+    (so.at, so.first) so.more (dropped_late number got.waits got.ripe not)).0
 
 sound_after : (g : given.Over) (c : After-settle_ripe g)
     → IsSound g.C.Clock.last_step c.args.network.now (record c.ripen_waits-ripened.new.self { settled = c.settle_ripe.new.settled })

@@ -1,4 +1,4 @@
-use Rattle.drift_world.proofs.{AtSource.one_of, Words.{StandsOne, ap, keeps, subst, sym, world_of}}
+use Rattle.drift_world.proofs.Words.{Stands, ap, keeps, subst, sym, world_of}
 use Rattle.drift_world.{proofs.{Nearings.{on_both, settled_less}, Turning.{either_end, plain_step}}, specs.declared.state.State.State}
 use Rattle.drift_world.proofs.state.State.settle.Goals as goal
 
@@ -10,9 +10,9 @@ returns-clause-step g c =
     plain_step g.C.Clock.last_step g.C.Clock.reading g.M.Machine.stands c.args.network.now w c.settle_befallen.new.self
     c.requires.may.well step.sound step.others (ap (λ (t : State _ _). t.timers) step.same) (ap (λ (t : State _ _). t.given) step.same)
     (λ s notes old. either_end c.settle_befallen.result _ _
-    (StandsOne g.C.Clock.reading (keeps g.M.Machine.stands) s after notes)
-    (step.stands s notes old.0) step.err (λ is. one_of is)
-    (λ same. subst (λ v. StandsOne g.C.Clock.reading (keeps g.M.Machine.stands) s v notes) (sym same) old))
+    (Stands g.C.Clock.reading (keeps g.M.Machine.stands) s after notes)
+    (step.stands s notes old) step.err (λ is. is.0)
+    (λ same. subst (λ v. Stands g.C.Clock.reading (keeps g.M.Machine.stands) s v notes) (sym same) old))
 
 pub returns-clause-less : goal.returns-clause-less
 returns-clause-less g c =

@@ -1,4 +1,4 @@
-use Rattle.drift_world.proofs.{AtSource.{one_of, source_at}, OwnPlaces.{changes_both, no_change, no_shelf, no_waiter}}
+use Rattle.drift_world.proofs.{AtSource.source_at, OwnPlaces.{changes_both, no_change, no_shelf, no_waiter}}
 use Rattle.drift_world.proofs.{Timings.aside, Turned.{first_given, next_first, turns_of}, Turning.kept_timers}
 use Rattle.drift_world.proofs.Words.{◌<◌, ◌∙◌, ChangesOnly, None, Some, ap, arith, changed_device, length, refl, sym, subst, world_of}
 use Rattle.drift_world.specs.declared.{source.Source.TheVariants.Clock, state.State.State}
@@ -34,7 +34,7 @@ give_first-requires-clause-next g c =
     let mid = c.show_clock-record.new.self in
     let one = c.show_clock-record.result in
     let turn = turns_of K.last_step K.reading S network c.args.self.now mid (Clock c.args.device) (Some one) None c.requires.may tt
-    (c.show_clock-record.ensures.turns c.requires.may.foremost.there.ended) run.s run.notes (run.is, well.one) in
+    (c.show_clock-record.ensures.turns c.requires.may.foremost.there.ended) run.s run.notes run.is in
     record {
       s = run.s;
       notes = run.notes;
@@ -65,10 +65,10 @@ returns-clause-kept g c =
     let K = g.C.Clock in
     let S = g.M.Machine.stands in
     let network = c.args.network.now in
-    one_of (first_given K.reading S network s notes (world_of network mid) _ mid.settled.items refl one None
+    (first_given K.reading S network s notes (world_of network mid) _ mid.settled.items refl one None
     (turns_of K.last_step K.reading S network w mid (Clock c.args.device) (Some one) None may tt (shown.turns may.foremost.there.ended) s notes is)
     mid.settled.items refl (source_at (Clock c.args.device) one.body shown.rank) (world_of network gave) c.give_first.new.note give.note
-    (ap (λ (t : State _ _). world_of network t) give.same) (give.launched s notes)))
+    (ap (λ (t : State _ _). world_of network t) give.same) (give.launched s notes)).0)
     refl
     (aside g.C.Clock.reading g.M.Machine.stands c.args.network.now other w gave may.well.timed (omega (arith, far, few)) changes
     (ap (λ (t : State _ _). t.timers) give.same ∙ ap (λ (t : State _ _). t.timers) shown.same))

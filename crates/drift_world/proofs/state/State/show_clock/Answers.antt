@@ -1,6 +1,6 @@
 use Rattle.{run_law.proofs.runs.Determined.same_units, world_law.proofs.{giving.GivenParts.some_same, steps_lemmas.turns.ClockTurns.clock_turn}}
 use Rattle.{drift_world.proofs.{Rising.settled_in_order, Turned.one_turn}, run_law.specs.declared.note.NoteBody.TheVariants.{Clock as Shown}}
-use Rattle.drift_world.proofs.Words.{◌<◌, ◌∙◌, ◌≡◌, Network, None, NoteBody, Settled, amount, ap, arith, keeps, length, pos, refl}
+use Rattle.drift_world.proofs.Words.{◌<◌, ◌∙◌, ◌≡◌, Network, None, NoteBody, Settled, amount, ap, arith, keeps, length, pos}
 use Rattle.drift_world.proofs.Words.{settled_at, slice_get_read, subst, sym, units_of, world_of}
 use Rattle.drift_world.proofs.state.State.show_clock.Goals as goal
 
@@ -33,13 +33,12 @@ returns-clause-sound g c =
     }
 
 pub returns-clause-turns : goal.returns-clause-turns
-returns-clause-turns g c = λ ended s notes is first.
+returns-clause-turns g c = λ ended s notes old first.
     let w = c.args.self.now in
     let K = g.C.Clock in
     let network = c.args.network.now in
     let world = world_of network w in
     let device = c.args.device in
-    let old = is.0 in
     let there : device.0 < length s.network.device = subst (λ (n : Network). device.0 < length n.device) old.same c.requires.more in
     let more = c.requires.more in
     let clocks = c.requires.sound.sized.clocks in
@@ -57,8 +56,9 @@ returns-clause-turns g c = λ ended s notes is first.
     (shows (Shown device c.read-reading.result c.adjustment.result c.state.result))
     (Shown device (units_of (s.reading device w.time)) c.adjustment.result c.state.result) (settled_in_order old)
     (ap (λ r. settled_at network w.time (shows (Shown device r c.adjustment.result c.state.result))) read)
-    (clock_turn K.reading (keeps g.M.Machine.stands) s world notes old.cursor device c.index-machine.result.now c.state.result c.adjustment.result
-    (old, is.1, refl) there ended (sym c.requires.next) first
+    (clock_turn K.reading (keeps g.M.Machine.stands) s world notes device c.index-machine.result.now c.state.result
+    c.adjustment.result
+    old there ended (sym c.requires.next) first
     (slice_get_read w.machines.items w.machines.len device.0 c.index-machine.result.now w.machines.ok.0 (omega (arith, machines, more, kept))
     c.index-machine.ensures)
     (λ node of_it. (c.state.ensures s.network device node of_it, c.adjustment.ensures s.network device node of_it)))

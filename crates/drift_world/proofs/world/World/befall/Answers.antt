@@ -1,6 +1,6 @@
 use Rattle.{drift_world.proofs.{Elsewhere.timed_by_event, Fits.sound_timers, Onwards.befalls, Shortness.sets_short}, net_plan.specs.declared.event.Event.Event}
 use Rattle.{drift_world.{proofs.Timings.unmoved, specs.declared.state.State.State}, precision_law.proofs.traffic_lemmas.safety_lemmas.Histories.slow_rate}
-use Rattle.drift_world.proofs.Words.{◌*◌, ◌++◌, ◌∙◌, ◌∷◌, ◌≡◌, AreTimed, IsLawful, IsOfNetwork, IsSound, IsWithinHypothesis, Kept, List, Network, Note, StandsOne}
+use Rattle.drift_world.proofs.Words.{◌*◌, ◌++◌, ◌∙◌, ◌∷◌, ◌≡◌, AreTimed, IsLawful, IsOfNetwork, IsSound, IsWithinHypothesis, Kept, List, Network, Note, Stands}
 use Rattle.drift_world.proofs.Words.{StandsUnder, World, [], ap, arith, keeps, length, reading_of, refl, scenario, subst, sym, world_of}
 use Rattle.drift_world.proofs.world.World.befall.Given as given
 use Rattle.drift_world.proofs.world.World.befall.Goals as goal
@@ -40,17 +40,15 @@ invariant_of-self g c =
     let well = c.self.invariant in
     let kept = c.in-Err.ensures.kept in
     let view = subst (λ n. world_of n new ≡ world_of n state) c.network-network.ensures.value c.in-Err.ensures.err in
-    let then_ = subst (λ w. StandsOne K.reading (keeps g.M.Machine.stands) well.running.s w well.running.notes)
-    (sym view)
-    (well.running.is, well.one) in
+    let then_ = subst (λ w. Stands K.reading (keeps g.M.Machine.stands) well.running.s w well.running.notes)
+    (sym view) well.running.is in
     record {
       sound = subst (λ n. IsSound K.last_step n new) c.network-network.ensures.value c.apply.ensures.sound;
       running = record {
         s = well.running.s;
         notes = well.running.notes;
-        is = then_.0;
+        is = then_;
       };
-      one = then_.1;
       timed = unmoved K.reading g.M.Machine.stands accepted state new well.timed (ap (λ (s : State _ _). s.clocks) kept)
           (ap (λ (s : State _ _). s.machines.items) kept) (ap (λ (s : State _ _). s.waiting.items) kept) (ap (λ (s : State _ _). s.time) kept)
           (ap (λ (s : State _ _). s.timers) kept);
@@ -121,7 +119,6 @@ invariant_of-self-2 g c =
         notes = may.notes ++ c.in-Ok.note ∷ [];
         is = (befallen g c network may.events may.notes may.is may.within).is;
       };
-      one = (befallen g c network may.events may.notes may.is may.within).one;
       timed = subst (λ n. AreTimed K.reading g.M.Machine.stands n new) c.network-network.ensures.value
           (timed_by_event mid new c.args.event.now.what was c.in-Ok.ensures.others c.apply.ensures.timers
           c.apply.ensures.still.0 of_network sets c.rekey_by.ensures.timed);

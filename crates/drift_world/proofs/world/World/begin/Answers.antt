@@ -57,7 +57,6 @@ invariant_of-result g c =
       sound = sound_timers K.last_step network c.in_ok-state.state c.rekey_all.new.self c.rekey_all.ensures.same
           (first_sound K.fresh K.last_step network c.args.machines.items c.in_ok-state.state (first g c) c.network-network.ensures.range c.requires.each);
       running = record { s = scenario network (reading_of K.fresh K.after_step K.reading network []) []; notes = []; is = (stands g c).is };
-      one = (stands g c).one;
       timed = subst (λ n. AreTimed K.reading g.M.Machine.stands n c.rekey_all.new.self) c.network-network.ensures.value c.rekey_all.ensures.timed;
     }
 

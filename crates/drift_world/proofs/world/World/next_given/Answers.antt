@@ -1,6 +1,6 @@
 use Rattle.drift_world.{proofs.{Retries.comes_up_to, Words.{keeps_clock_laws, reading_of, scenario, subst, sym, world_of, ℕ}}, specs.Running.next_of}
 use Rattle.drift_world.proofs.Words.{◌++◌, ◌∙◌, ◌∷◌, ◌≡◌, Bool, ComesUpTo, Err, IfOk, IsLawful, IsRunOf, IsScenarioRun, Kept, List, Network, Note, Ok, Result}
-use Rattle.drift_world.proofs.Words.{Scenario, StandsOne, StandsUnder, World, [], amount, ap, arith, begins_at_zero, false, given_by, ints, keeps}
+use Rattle.drift_world.proofs.Words.{Scenario, Stands, StandsUnder, World, [], amount, ap, arith, begins_at_zero, false, given_by, ints, keeps}
 use Rattle.std.proofs.Common.{slice_get}
 use Rattle.precision_law.{proofs.traffic_lemmas.safety_lemmas.Clocked.before, specs.traffic.safety.{Headline.IsSafeFront, Under.IsUnder}}
 use Rattle.drift_world.proofs.world.World.next_given.Given as given
@@ -23,12 +23,11 @@ returns-clause-stands g c = λ network events notes under.
     let S = g.M.Machine.stands in
     let s = scenario network (reading_of K.fresh K.after_step K.reading network events) events in
     let old = subst (λ w. StandsUnder K.fresh K.after_step K.reading S network w events notes) (sym (viewed g c)) under in
-    let new = subst (λ n. StandsOne K.reading (keeps S) s (world_of n c.next.new.self)
+    let new = subst (λ n. Stands K.reading (keeps S) s (world_of n c.next.new.self)
     (notes ++ given_by (next_of c.next.result c.next.new.note)))
-    c.network.ensures.value (c.next.ensures.kept.stands_then s notes (old.is, old.one)) in
+    c.network.ensures.value (c.next.ensures.kept.stands_then s notes old.is) in
     record {
-      is = new.0;
-      one = new.1;
+      is = new;
       clocks = λ device there. ap (λ (k : _). slice_get k.items device.0) c.next.ensures.kept.after.clocks ∙ old.clocks device there;
       of_network = old.of_network;
       times = old.times;
@@ -59,7 +58,7 @@ returns-clause-complete g c = λ network events notes under lt.
     let s = scenario network f events in
     let old = subst (λ w. StandsUnder K.fresh K.after_step K.reading S network w events notes) (sym (viewed g c)) under in
     let whole = subst (λ (t : ℕ). IfOk c.next.result (λ more. more ≡ false → IsScenarioRun s (t ∷ []) notes)) c.amount.ensures.value
-    (c.next.ensures.complete s notes (old.is, old.one)) in
+    (c.next.ensures.complete s notes old.is) in
     let admitted : IsUnder network events = record {
       range = under.is.range;
       rules = under.is.rules;
@@ -81,10 +80,10 @@ returns-clause-reached g c =
     let own = c.self.inside.accepted.now in
     let state = c.self.inside.state in
     let new = c.next.new.self in
-    let Steps = λ (n : Network). (s : Scenario) (notes : List Note) → StandsOne K.reading (keeps S) s
+    let Steps = λ (n : Network). (s : Scenario) (notes : List Note) → Stands K.reading (keeps S) s
     (world_of n state) notes
-    → StandsOne K.reading (keeps S) s (world_of n new) (notes ++ given_by (next_of c.next.result c.next.new.note)) in
+    → Stands K.reading (keeps S) s (world_of n new) (notes ++ given_by (next_of c.next.result c.next.new.note)) in
     subst (λ w. ComesUpTo w (world_of own new) c.args.until (next_of c.next.result c.next.new.note)) c.self.view_is
     (comes_up_to K.reading S own state new _ c.next.result c.next.new.note c.args.until c.amount.result c.amount.ensures.whole c.next.ensures.kept.after
-    c.self.invariant.running c.self.invariant.one (subst Steps c.network.ensures.value c.next.ensures.kept.stands_then)
+    c.self.invariant.running (subst Steps c.network.ensures.value c.next.ensures.kept.stands_then)
     c.next.ensures.says)
