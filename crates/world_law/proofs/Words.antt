@@ -47,7 +47,7 @@ pub use Rattle.sync_state.specs.declared.state.State.TheVariants.{Integrating, J
 pub use Rattle.tte_units.proofs.general_lemmas.Integers.{never_both}
 pub use Rattle.tte_units.specs.Amount.{amount, units_of}
 pub use Rattle.tte_units.specs.declared.units.Units.{Units}
-pub use Rattle.world_law.specs.device.{Deeds.{HadComeTo, HasDoneFrom, HasDoneTask, HasWorkedTo}, Growing.IsFromZero, Left.{HasDone, HasSent, HasTaskBy, IsLeft, is_timed}}
+pub use Rattle.world_law.specs.device.{Deeds.{HadComeTo, HasDoneFrom, HasDoneTask, HasWorkedTo}, Growing.IsFromZero, Left.{HasDone, HasSent, IsLeft, is_timed}}
 pub use Rattle.world_law.specs.device.{Own.{IsStill, bears_on, borne, moves}, Plain.{plain, plains}, Ready.IsSteady, Recorded.dispatch_body}
 pub use Rattle.world_law.specs.device.Takings.{frames_taken, taken_by}
 pub use Rattle.world_law.specs.source.{Agreeing.{Agree, scenario}, First.NoSourceBefore, Sources.{IsActing, IsAtCorrection, IsOwnSource, IsSource, task_place}}

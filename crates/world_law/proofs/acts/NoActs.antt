@@ -1,6 +1,6 @@
 -- Where nothing that a world has under way is before a place, and nothing to come, no act of a device that is not worked off
 -- is before it.
-use Rattle.world_law.proofs.runs.Settled.{settled_of}
+use Rattle.world_law.proofs.runs.Settled.{frame_source, settled_of}
 use Rattle.world_law.proofs.runs.TaskPlaces.{acts_before, placed_so}
 use Rattle.world_law.proofs.acts.Dues.{IsPresent, act_due, came_not, done_or}
 use Rattle.world_law.proofs.Words.{◌+◌, ◌≤ℤ◌, HadComeTo, IsPending, before_later, is_at_source, task_place}
@@ -247,10 +247,6 @@ behind_of coming frontier now p of worked after = record {
       b);
 }
   where
-    frame_source : (body : NoteBody) → rank body ≡ 4 → is_at_source body ≡ true
-    frame_source (notes.Compressed device opened at cycle members verdict) e = refl
-    frame_source other e = absurd (omega (arith, e))
-
     from : (t : ℕ) (device : DeviceId) → now < t → IsBefore (act_place t device) p → (l : List Happening) → ((z : Happening) → IsIn z l → time_of z ≡ now)
         → ((z : Happening) → IsIn z l → IsBefore (place_of z) p → ⊥) → l ≡ []
     from t device lt b [] of_l seen = refl

@@ -2,7 +2,7 @@
 -- common time.
 use Rattle.{run_law.{proofs.records.Happenings.fold_parts, specs.declared.judgement.Why.TheVariants.On}, world_law.proofs.devices.Passes.not_turned_on}
 use Rattle.{run_law.specs.scenario.Devices.start_of, sync_state.specs.Standing.state_at_start, world_law.proofs.Words.ℕ}
-use Rattle.world_law.proofs.Words.{◌++◌, ◌+ℤ◌, ◌+◌, ◌<◌, ◌∙◌, ◌∷◌, ◌≡◌, ◌≤◌, ◌⊎◌, Bool, DeviceId, Happening, IfSome, Integrating, IsAtRest, IsIn, IsLeft}
+use Rattle.world_law.proofs.Words.{◌++◌, ◌+ℤ◌, ◌+◌, ◌<◌, ◌∙◌, ◌∷◌, ◌≡◌, ◌≤◌, ◌⊎◌, Bool, DeviceId, Happening, IfSome, Integrating, IsAtRest, IsIn, IsLeft, both_ways}
 use Rattle.world_law.proofs.Words.{IsTurnedOnBy, List, Node, NoteBody, Option, Scenario, State, Units, [], adjustment_before, adjustment_with, ap, arith}
 use Rattle.world_law.proofs.Words.{cases_lt, changed_at, changes_adjustment, cycle_after, cycle_in, earlier, false, filter, fold, if◌then◌else◌, in_right, inl}
 use Rattle.world_law.proofs.Words.{inr, integration_cycle, is_broken, is_joined_by, is_timed, is_turned_on_at, is_turning, last_or, local_at_change, moves}
@@ -151,7 +151,7 @@ pub left_after_on : {s : Scenario} {hs : List Happening} {device : DeviceId} {no
     → IsTurnedOnBy hs device now → IsLeft s hs device now node → IsLeft s hs device (now + 1) node
 left_after_on {s} {hs} {device} {now} {node} q on off same turned left =
     let looking : node.standing.state ≡ Integrating = left.state ∙ ap (λ (b : Bool). if b then Integrating else state_after s (earlier now hs) device) on in
-    let untimed : is_timed node.standing.state ≡ true → ⊥ = λ timed. let bad : false ≡ true = sym (ap is_timed looking) ∙ timed in cc in
+    let untimed : is_timed node.standing.state ≡ true → ⊥ = λ timed. both_ways _ (ap is_timed looking) timed in
     record {
       counted = record {
         plan = left.counted.plan;

@@ -1,4 +1,5 @@
 -- The first of what is to come is given: the world stands again.
+use Rattle.world_law.proofs.runs.Settled.{none_pending}
 use Rattle.world_law.proofs.devices.{Plains.{adjustments_plain, changes_at_plain, filter_plain, plains_parts, states_plain, told_by_others}, Working.worked_on}
 use Rattle.world_law.proofs.{rows.AtHand.frames_by_others, runs.TaskPlaces.acts_before}
 use Rattle.run_law.proofs.{law.FirstPlaces.numbered_next, runs.NetworkRuns.one_more}
@@ -380,15 +381,9 @@ module _ {s : Scenario} {hs : List Happening} {z : Happening} {rest : List Happe
 
   untold_then : {pending : Bool} {befell : List Befell} → pending ≡ false → AreUntold hs to now pending befell
       → AreUntold (hs ++ with_number n z ∷ []) (behind (place_of z)) now pending befell
-  untold_then {befell} told untold = record {
-    done = λ same number h it. g.are.not_past z (inl refl) (now ∷ 2 ∷ []) (g.are.begun z (inl refl));
-    none = untold.none;
-    waits = λ open_. absurd (let bad : false ≡ true = sym told ∙ open_ in cc);
-    early = λ open_. absurd (let bad : false ≡ true = sym told ∙ open_ in cc);
-    real = λ e i. absurd (subst (λ l. IsIn e l) (untold.none told) i);
-    all = λ open_. absurd (let bad : false ≡ true = sym told ∙ open_ in cc);
-    in_order = untold.in_order;
-  }
+  untold_then told untold =
+      none_pending told (untold.none told)
+      (λ number h it. g.are.not_past z (inl refl) (now ∷ 2 ∷ []) (g.are.begun z (inl refl)))
 
   known_then : AreOfNetwork s (hs ++ z ∷ rest) → AreOfNetwork s ((hs ++ with_number n z ∷ []) ++ rest)
   known_then known = record {

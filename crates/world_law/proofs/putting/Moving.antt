@@ -6,8 +6,8 @@ use Rattle.world_law.proofs.Words.{◌++◌, ◌∙◌, ◌∷◌, ◌≡◌, �
 use Rattle.world_law.proofs.Words.{HasTurnedOn, IsBefore, IsForward, IsHeld, IsIn, IsKept, IsOwnSource, IsSource, List, Network, Node}
 use Rattle.world_law.proofs.Words.{NoneBefore, OnWire, Pcf, Scenario, Waiting, [], amount, ap, before_behind}
 use Rattle.world_law.proofs.Words.{behind, chain, either_way, false, inl, inr, is_at_source, members_in, never_self, place_of, port_place, refl, ripe_place}
-use Rattle.world_law.proofs.Words.{Task, task_place}
-use Rattle.world_law.proofs.{Words.{ℕ, subst, sym, time_of, true, wire_place}, giving.GivenParts.up_to_place, runs.Settled.{AreSettled, late_of}}
+use Rattle.world_law.proofs.Words.{Task, both_ways, task_place}
+use Rattle.world_law.proofs.{Words.{ℕ, subst, sym, time_of, wire_place}, giving.GivenParts.up_to_place, runs.Settled.{AreSettled, late_of}}
 
 -- what a step that works off the source at this place of the instant starts from: the frontier stands there
 pub record IsMoving (s : Scenario) (hs coming : List Happening) (now r : ℕ) (more : List ℕ) : Type 0 where
@@ -78,7 +78,7 @@ settled_moves {s} {hs} {coming} {now} {r} {more} m all =
             (subst (λ w. IsOwnSource s (hs ++ front) (time_of y) (members_in y) y.note.body w) here worked.1)
       ];
       not_past = λ z i. not_far at (place_of z) (m.are.after z i);
-      worked = λ z i is. absurd (let bad : false ≡ true = sym (off_source m z i) ∙ is in cc);
+      worked = λ z i is. absurd (both_ways _ (off_source m z i) is);
       begun = λ z i. stays at (now ∷ 2 ∷ []) (m.are.begun z i);
     }
 

@@ -1,5 +1,5 @@
 -- What is to come with a record put in at its place, whichever source of the instant it comes from.
-use Rattle.world_law.proofs.Words.{◌++◌, ◌+◌, ◌∙◌, ◌∷◌, ◌≡◌, ◌≤◌, ◌⊎◌, AllBefore, DeviceId, Happening, IsBefore, IsDue, IsForward, IsFounded, IsIn}
+use Rattle.world_law.proofs.Words.{◌++◌, ◌+◌, ◌∙◌, ◌∷◌, ◌≡◌, ◌≤◌, ◌⊎◌, AllBefore, DeviceId, Happening, IsBefore, IsDue, IsForward, IsFounded, IsIn, both_ways}
 use Rattle.world_law.proofs.Words.{IsOwnSource, IsSource, LinkId, List, NoneBefore, NoteBody, Scenario, VlId, [], rows_place, ap, append_assoc, arith, bears_on}
 use Rattle.world_law.proofs.Words.{before_behind, behind, cases_Bool, cases_lt, cases_order, cause_of, chain, either_way, eqb-true, false, in_left}
 use Rattle.world_law.proofs.Words.{in_parts, in_right, inl, inr, is_at_source, is_taken_before, key, length, length-append, members_in, never_self}
@@ -156,7 +156,7 @@ few_first s ps zs time {body} late f c =
       | inl old ↦ let lt = numbered_within ps f.cause it.0 old in omega (arith, lt, e)
       | inr new ↦
           let at = late it.0 new in
-          absurd (elim it.2 [ inl one ↦ let two = at.0 in omega (arith, one, two) | inr is ↦ let bad : false ≡ true = sym at.1 ∙ is in cc ])
+          absurd (elim it.2 [ inl one ↦ let two = at.0 in omega (arith, one, two) | inr is ↦ both_ways _ at.1 is ])
     ]
 
 -- a change of state that follows nothing has no cause

@@ -10,7 +10,7 @@ use Rattle.world_law.proofs.Words.{is_at_source, is_joined_by, is_taken_before, 
 use Rattle.world_law.proofs.{Words.{ℕ, place_of, rank, refl, state_after, state_before, subst, suc, sym, time_of, true}, runs.Firsts.earlier_still}
 use Rattle.world_law.proofs.putting.PutShown.{AsState, numbered_here, seven}
 use Rattle.world_law.proofs.{giving.GivenParts.some_same, putting.Moving.{IsAllOfIt, IsMoving, off_source}}
-use Rattle.world_law.proofs.Words.{in_left, in_parts, in_right}
+use Rattle.world_law.proofs.Words.{both_ways, in_left, in_parts, in_right}
 use Rattle.world_law.specs.world.World.{IsDueAs}
 use Rattle.world_law.proofs.putting.Placing.{IsCarried, IsPlacing, IsWell, before_it, hears_source, least_of_own, placed_well, settled_by, well_of}
 use Rattle.run_law.specs.declared.judgement.Judgement.TheVariants as judgements
@@ -215,7 +215,7 @@ module _ {s : Scenario} {hs front back : List Happening} {now r : ℕ} {more : L
         let it = due_follows s (hs ++ (front ++ w ∷ c)) now (before_it hs front) w (at_number hs front c w)
         last.no_event due now_is of_rank cause in
         absurd (elim it.2.of_it [
-          | inl joins ↦ let bad : false ≡ true = sym (last.no_join it.0.device) ∙ joins in cc
+          | inl joins ↦ both_ways _ (last.no_join it.0.device) joins
           | inr first ↦
               let late : (z : Happening) → IsIn z (front ++ w ∷ c) → now ≤ time_of z =
               λ z i. let at = put_now c d e z i in omega (arith, at) in
@@ -242,7 +242,7 @@ worked_then {front} {back} then_ {w} p at z i is =
     ]
   where
     not_there : IsIn z (front ++ back) → ⊥
-    not_there j = let bad : false ≡ true = sym (off_source p.moving z j) ∙ is in cc
+    not_there j = both_ways _ (off_source p.moving z j) is
 
 -- THE RECORD IS PUT IN, AND THE FRONTIER GOES BEHIND ITS SOURCE (all sources but events and their outcomes). All that is
 -- due from the source is at the record's place, whatever else is to come

@@ -1,4 +1,5 @@
 -- The source that comes first is worked off: the world stands behind it.
+use Rattle.world_law.proofs.runs.Settled.{none_pending}
 use Rattle.std.proofs.{Common.◌↔◌, lemmas.Bool.cases_eq}
 use Rattle.world_law.proofs.Words.{IsIn, ◌++◌, ◌+◌, ◌<◌, ◌∙◌, ◌∷◌, ◌≡◌, ◌≤◌, AreAtPorts, AreComing, AreOfNetwork, AreOnWires, AreWaiting, AtPort, DeviceId}
 use Rattle.world_law.proofs.Words.{Happening, HaveBefallen, IsBefore, IsHeld, IsScenarioRun, IsSource, List, Network, NoSourceBefore, Node, Note, OnWire, Scenario, Some, Task}
@@ -156,15 +157,8 @@ module _ {C M : Type 0} {reading : C → ℕ → ℕ} {stands : M → Network �
   )
 
   untold_on : AreUntold hs (behind here) world.now world.pending world.befell
-  untold_on = record {
-    done = λ same number h it. stays here (world.now ∷ 2 ∷ []) c.moving.later;
-    none = c.old.untold.none;
-    waits = λ open_. absurd (let bad : false ≡ true = sym c.told ∙ open_ in cc);
-    early = λ open_. absurd (let bad : false ≡ true = sym c.told ∙ open_ in cc);
-    real = c.old.untold.real;
-    all = λ open_. absurd (let bad : false ≡ true = sym c.told ∙ open_ in cc);
-    in_order = c.old.untold.in_order;
-  }
+  untold_on =
+      none_pending c.told (c.old.untold.none c.told) (λ number h it. stays here (world.now ∷ 2 ∷ []) c.moving.later)
 
   -- ---- what is under way stays as it was, where the source is of another kind
 

@@ -3,7 +3,7 @@ use Rattle.{drift_clock.proofs.Reaches.one_reach, std.specs.Prelude.unsigned_abs
 use Rattle.run_law.proofs.law.FirstPlaces.{numbered_in}
 use Rattle.world_law.proofs.{giving.GivenParts.{in_get, no_later_breaks, some_same}, runs.Firsts.arrives_later}
 use Rattle.{run_law.specs.scenario.Scenarios.turns_on, world_law.specs.{source.Sources.IsRipening, world.{Moves.NothingBefore, World.IsWaitingFor}}}
-use Rattle.world_law.proofs.Words.{dispatching, doing, task_place}
+use Rattle.world_law.proofs.Words.{dispatching, doing, task_place, both_ways}
 use Rattle.world_law.proofs.Words.{◌&&◌, ◌+◌, ◌<◌, ◌==◌, ◌||◌, ◌∙◌, ◌∷◌, ◌≡◌, ◌≤◌, Bool, DeviceId, Dispatches, Happening, HasDone, HasSent, HasTaskAt}
 use Rattle.world_law.proofs.Words.{HaveBefallen, IsActing, IsAtRest, IsBefore, IsIn, IsLeft, IsReach, IsSource, LinkId, List, Network, Node, Note, NoteBody}
 use Rattle.world_law.proofs.Words.{Scenario, Stands, Task, VlId, Waiting, World, [], amount, ap, arith, cases_Bool, cases_lt, chain, clock_place}
@@ -129,4 +129,4 @@ not_on_after {s} t device b lt = none_any (λ e. turns_on device e.what && amoun
 pub unmoved_by : (s : Scenario) (device : DeviceId) (now : ℕ) (body : NoteBody) → is_turned_on_at s device now ≡ false → IsAtRest s device now body
     → moves device body ≡ false
 unmoved_by s device now body off (inl e) = e
-unmoved_by s device now body off (inr on) = absurd (let bad : false ≡ true = sym off ∙ on.1 in cc)
+unmoved_by s device now body off (inr on) = absurd (both_ways _ off on.1)

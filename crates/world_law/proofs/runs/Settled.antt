@@ -1,8 +1,9 @@
 -- What is to come while a source is worked off and its own record is not given yet.
-use Rattle.world_law.proofs.Words.{◌++◌, ◌∷◌, ◌∙◌, ◌≡◌, AllBefore, AreComing, Happening, IsBefore, IsIn, IsOwnSource, IsWorkedOff, List, NoneBefore}
+use Rattle.world_law.proofs.Words.{◌++◌, ◌∷◌, ◌≡◌, AllBefore, AreComing, Happening, IsBefore, IsIn, IsOwnSource, IsWorkedOff, List, NoneBefore}
 use Rattle.world_law.proofs.Words.{NoteBody, Scenario, [], arith, before_behind, before_later, behind, cases_Bool, chain, false, inl, inr, is_at_source, key}
-use Rattle.world_law.proofs.Words.{members_in, parted, place_of, rank, subst, sym, time_of, true, ℕ}
-use Rattle.world_law.specs.world.World.{IsDueAs}
+use Rattle.world_law.proofs.Words.{members_in, parted, place_of, rank, refl, subst, sym, time_of, true, ℕ}
+use Rattle.world_law.proofs.Words.{Bool, IsOfThisTime, both_ways}
+use Rattle.world_law.specs.world.World.{AreInOrder, AreUntold, Befell, IsDueAs}
 use Rattle.run_law.specs.declared.note.NoteBody.TheVariants as notes
 
 -- a record that stands at its source does so
@@ -11,6 +12,10 @@ pub own_here : (s : Scenario) (js : List Happening) (t m : ℕ) (body : NoteBody
     → p ≡ t ∷ rank body ∷ key m body
 own_here s js t m (notes.Arrived device link cause clock) p e o = o
 own_here s js t m other p e o = grind arith
+
+pub frame_source : (body : NoteBody) → rank body ≡ 4 → is_at_source body ≡ true
+frame_source (notes.Compressed device opened at cycle members verdict) e = refl
+frame_source other e = absurd (omega (arith, e))
 
 -- between two places: up to the first the records given are the run, and each source before the second is worked off
 pub record AreSettled (s : Scenario) (hs coming : List Happening) (from to : List ℕ) (now : ℕ) : Type 0 where
@@ -50,7 +55,7 @@ settled_of {frontier} are = record {
   not_past = λ z i p b.
       chain p (place_of z) (behind (place_of z)) (before_later p (place_of z) frontier b (are.after z i))
       (before_behind (place_of z));
-  worked = λ z i is. absurd (let bad : false ≡ true = sym (late_of are z i) ∙ is in cc);
+  worked = λ z i is. absurd (both_ways _ (late_of are z i) is);
   begun = are.begun;
 }
 
@@ -66,4 +71,39 @@ coming_of are on none = record {
   full = λ front back y e before least not due off. are.full front back y e before least
       (λ b. not (on (place_of y) b)) due off;
   begun = are.begun;
+}
+
+-- where no event is pending, and what follows events is worked off, the outcomes of events are settled
+pub none_pending : {hs : List Happening} {frontier : List ℕ} {now : ℕ} {pending : Bool} {befell : List Befell}
+    → pending ≡ false → befell ≡ []
+    → ((number : ℕ) (h : Happening) → IsOfThisTime hs now number h → IsBefore (now ∷ 2 ∷ []) frontier)
+    → AreUntold hs frontier now pending befell
+none_pending told none done = record {
+  done = λ same. done;
+  none = λ same. none;
+  waits = λ open_. absurd (both_ways _ told open_);
+  early = λ open_. absurd (both_ways _ told open_);
+  real = λ e i. absurd (subst (λ l. IsIn e l) none i);
+  all = λ open_. absurd (both_ways _ told open_);
+  in_order = subst (λ (l : List Befell). AreInOrder l) (sym none) tt;
+}
+
+-- nothing has no part
+pub no_part : (front rest : List Happening) (z : Happening) → [] ≡ front ++ z ∷ rest → ⊥
+no_part [] rest z e = cc
+no_part (f ∷ front) rest z e = cc
+
+-- where all that is due by a source that is worked off is before the first place, nothing is to come
+pub none_to_come : {s : Scenario} {hs : List Happening} {from to : List ℕ} {now : ℕ}
+    → ((front : List Happening) (y : Happening) → (IsBefore (place_of y) from → ⊥) → IsDueAs s (hs ++ front) y
+    → IsWorkedOff s (hs ++ front) to y → ⊥) → AreSettled s hs [] from to now
+none_to_come none = record {
+  of_now = λ z i. absurd i;
+  after = λ z i. absurd i;
+  founded = λ front rest z e. absurd (no_part front rest z e);
+  by = λ front rest z e. absurd (no_part front rest z e);
+  full = λ front back y e before least not due off. absurd (none front y not due off);
+  not_past = λ z i. absurd i;
+  worked = λ z i. absurd i;
+  begun = λ z i. absurd i;
 }

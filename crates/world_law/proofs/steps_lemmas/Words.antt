@@ -3,8 +3,8 @@ pub use Rattle.std.proofs.Common.{if◌then◌else◌, ◌&&◌, ◌++◌, ◌+�
 pub use Rattle.std.proofs.Common.{List, None, Option, Result, Some, [], ap, append_assoc, arith, false, filter, filter_map, fold, inl, inr, int_le, int_lt}
 pub use Rattle.std.proofs.Common.{length, map, not, option_and_then, option_map, option_to_list, pos, refl, slice_get, subst, suc, sym, true, unsigned_abs}
 pub use Rattle.std.proofs.Common.{zero, ℕ, ℤ}
-pub use Rattle.std.proofs.lemmas.Bool.{and_parts, and_right, both_ways, cases_Bool, cases_eq, cases_lt, eq-eqb, eqb-true, le-ltb, lt-ltb, ne_eqb, or_left}
-pub use Rattle.std.proofs.lemmas.{Int.ints, List.{append-nil, length-append, length-map}}
+pub use Rattle.std.proofs.lemmas.Bool.{and_parts, and_right, both_ways, cases_Bool, cases_lt, eq-eqb, eqb-true, le-ltb, lt-ltb, ne_eqb, or_left}
+pub use Rattle.std.proofs.lemmas.{Int.ints, List.{append-nil, length-append}}
 pub use Rattle.std.proofs.lemmas.List.{Elements.{Contains-append_left, Contains-push, Contains-push_cases, filter-append, filter_map-append}, Sums.fold-append}
 pub use Rattle.std.specs.{List.{AllByRecursion, after_last, cons_option, last_or, list_any}, Option.option_map_or, Prelude.{nat_le, nat_lt}}
 pub use Rattle.compression.specs.Clusters.{AreClusters, Point, point_at}
@@ -19,7 +19,7 @@ pub use Rattle.pcf_codec.specs.declared.refusal.PcfRefusal.{PcfRefusal}
 pub use Rattle.tte_units.specs.declared.frames.{channel.Channel.Channel, members.Members.Members, pcf.Pcf.Pcf}
 pub use Rattle.run_law.proofs.law.{FirstDeliveries.last_in, FirstPlaces.{by_number, founded_at, none_kept, numbered_front, numbered_in, numbered_within}}
 pub use Rattle.run_law.proofs.records.Order.{after_more, any_in, same_kept}
-pub use Rattle.run_law.proofs.runs.Places.{before_behind, before_later, chain, either_way, in_left, in_parts, in_right, never_self, parted}
+pub use Rattle.run_law.proofs.runs.Places.{before_behind, chain, either_way, in_left, in_parts, in_right, never_self, parted}
 pub use Rattle.run_law.proofs.control.Points.{no_cluster}
 pub use Rattle.run_law.specs.control.Arrivals.{control_arrival, frame_fault, frame_or_fault}
 pub use Rattle.run_law.specs.control.Collections.{ends_stretch, master_of, observation_window, point_by, points_of}
@@ -56,25 +56,25 @@ pub use Rattle.tte_units.specs.declared.units.Units.{Units}
 pub use Rattle.world_law.proofs.acts.{Acted.{IsAlike, undone_alike, waiting_alike}, Acting.point_number, NoActs.points_same}
 pub use Rattle.world_law.proofs.acts.Dispatched.{dispatch_late}
 pub use Rattle.world_law.proofs.devices.{Borne.{by_last, moves_no_other}, OwnRecords.{change_still, keeps_adjustment, same_before}, Passes.not_turned_on}
-pub use Rattle.world_law.proofs.devices.{Plains.{plains_parts, told_by_others}, Resting.are_past, TurnedOn.{all_up_to, next_is_up_to, quiet_rest}}
+pub use Rattle.world_law.proofs.devices.{Resting.are_past, TurnedOn.{all_up_to, next_is_up_to, quiet_rest}}
 pub use Rattle.world_law.proofs.giving.GivenParts.{no_later_breaks, some_same}
 pub use Rattle.world_law.proofs.lists.{Lists.{behind_no, behind_yes, filter_no, filter_yes}, Orders.cases_int}
 pub use Rattle.world_law.proofs.putting.Bearing.{held_aside, known_aside, turned_aside}
 pub use Rattle.world_law.proofs.putting.PutShown.{AsState}
 pub use Rattle.world_law.proofs.putting.Idle.{numbered_prefix}
-pub use Rattle.world_law.proofs.putting.{Moving.{IsAllOfIt, IsMoving, all_without, goes_by, ports_move, stays, turned_by, wires_move}, Near.hears}
-pub use Rattle.world_law.proofs.putting.{Placing.before_it, PutIn.own_time}
+pub use Rattle.world_law.proofs.putting.{Moving.{IsAllOfIt, IsMoving, ports_move, turned_by, wires_move}, Near.hears}
+pub use Rattle.world_law.proofs.putting.PutIn.{own_time}
 pub use Rattle.world_law.proofs.putting.PutOne.{IsOne, IsUnfollowed, is_last, last_unfollowed, one_by}
 pub use Rattle.world_law.proofs.putting.PutShown.{IsShownPut, due_of, one_shown, put_length, record_of, two_shown}
-pub use Rattle.world_law.proofs.putting.StandsOn.{StandsHere, acts_on, comes_first, device_still, devices_then, ports_still, shown_still, stands_here, stands_on, waiting_still, wires_still}
+pub use Rattle.world_law.proofs.putting.StandsOn.{StandsHere, acts_on, comes_first, device_still, devices_then, ports_still, stands_on, waiting_still, wires_still}
 pub use Rattle.world_law.proofs.rows.AtHand.{IsNoTaking, value_is}
 pub use Rattle.world_law.proofs.rows.Dispatching.{IsLawful}
 pub use Rattle.world_law.proofs.runs.{Agreement.changed_before, Foremost.not_on_after}
-pub use Rattle.world_law.proofs.runs.Firsts.{at_least, dispatches_back, dispatches_same, earlier_still, no_higher, numbered_parts, reaches_back, up_back}
+pub use Rattle.world_law.proofs.runs.Firsts.{at_least, dispatches_same, earlier_still, no_higher, numbered_parts, reaches_back, up_back}
 pub use Rattle.world_law.proofs.runs.TaskPlaces.{acts_before, acts_first, no_task_at, of_device, placed_so, row_order, second}
 pub use Rattle.world_law.proofs.runs.{Over.StandsBehind, Settled.AreSettled, Worlds.length_is}
 pub use Rattle.world_law.specs.device.{Deeds.{HadComeTo, HasDoneFrom, HasDoneTask, HasSentFrom, HasWorkedTo}, Left.{HasTaskBy, IsLeft, is_timed}, Own.{bears_on, moves}}
-pub use Rattle.world_law.specs.device.{Plain.{plain, plains}, Ready.{IsReadyAt, IsSteady}}
+pub use Rattle.world_law.specs.device.Ready.{IsReadyAt, IsSteady}
 pub use Rattle.world_law.specs.device.{Recorded.{HasCleared, dispatch_body}, Takings.{frames_taken, taken_in}}
 pub use Rattle.world_law.specs.device.Told.{cleared_in, local_in, next_in, since_at}
 pub use Rattle.world_law.specs.source.{Agreeing.scenario, Applying.IsEventBody, Sources.{IsActing, IsOwnSource, IsSource, task_place}}
@@ -83,5 +83,5 @@ pub use Rattle.world_law.specs.world.Outcomes.{arrival_body}
 pub use Rattle.world_law.specs.world.World.{AreAtPorts, AreComing, AreOfNetwork, AreOnWires, AreUntold, AreWaiting, AtPort, Befell, HasTurnedOn, HaveBefallen}
 pub use Rattle.world_law.specs.world.World.{IsAtRest, IsHeld, IsKept, IsOnWire, IsOut, IsTurnedOnBy, IsWaitingFor, OnWire, Stands, Waiting, World, act_place}
 pub use Rattle.world_law.specs.world.World.{clock_place, has_outcome, is_at_source, is_turning, numbers_end, port_place, rank_of_call}
-pub use Rattle.world_law.specs.world.World.{HasTaskAt, IsActedOut, IsJoiningNow, ripe_place, rows_place, wire_place}
+pub use Rattle.world_law.specs.world.World.{IsActedOut, IsJoiningNow, ripe_place, rows_place, wire_place}
 pub use Rattle.world_law.specs.steps.Befalling.{bodies_of}

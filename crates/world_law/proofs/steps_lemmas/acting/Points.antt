@@ -227,7 +227,7 @@ state_at t u m d c other e device is = absurd (grind arith)
 pub not_moved : (s : Scenario) (device : DeviceId) (now : ℕ) (body : NoteBody) → is_turned_on_at s device now ≡ false → IsAtRest s device now body
     → moves device body ≡ true → ⊥
 not_moved s device now body off (inl still) e = both_ways _ still e
-not_moved s device now body off (inr on) e = let bad : false ≡ true = sym off ∙ on.1 in cc
+not_moved s device now body off (inr on) e = both_ways _ off on.1
 
 -- ---- the records
 

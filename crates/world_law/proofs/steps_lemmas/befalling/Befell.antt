@@ -1,6 +1,7 @@
 -- What the events of an instant leave is settled, before all else of it: the world stands behind them.
+use Rattle.world_law.proofs.runs.Settled.{no_part, none_pending}
 use Rattle.run_law.proofs.{records.Members.in_flat, runs.Places.before_next_time}
-use Rattle.world_law.proofs.steps_lemmas.Words.{Happening, HaveBefallen, Integrating, IsBefore, IsCaused, IsDue, IsEventBody, IsHeld, IsIn, IsOfThisTime}
+use Rattle.world_law.proofs.steps_lemmas.Words.{Happening, HaveBefallen, Integrating, IsBefore, IsCaused, IsDue, IsEventBody, IsHeld, IsIn, IsOfThisTime, both_ways}
 use Rattle.world_law.proofs.steps_lemmas.Words.{IsOwnSource, IsRun, IsSendLost, IsSource, IsTurnedOnBy, Link, LinkId, List, Network, Node, NoteBody, Option}
 use Rattle.world_law.proofs.steps_lemmas.Words.{Scenario, Some, Units, Up, What, ℕ, [], amount, ap, arith, before_behind, behind, bodies_of, chain}
 use Rattle.world_law.proofs.steps_lemmas.Words.{clock_place, eq-eqb, false, happenings, has_outcome, if◌then◌else◌, in_left, in_right, inl, inr, ints}
@@ -138,8 +139,8 @@ module _ (s : Scenario) (hs front : List Happening) (frontier : List ℕ) (now :
       ]
   came ms (notes.State d st n whys.Frame) m calm at o (joining, (h, it, joins)) =
       absurd (elim (of_instant front m.telling calm (subst (λ t. IsOfThisTime (hs ++ front) t n h) at it)) [
-        | inr new ↦ (let bad : false ≡ true = sym (calm_joins d h.note.body new) ∙ joins in cc)
-        | inl old ↦ (let bad : false ≡ true = sym (event_joins d h.note.body old.1) ∙ joins in cc)
+        | inr new ↦ (both_ways _ (calm_joins d h.note.body new) joins)
+        | inl old ↦ (both_ways _ (event_joins d h.note.body old.1) joins)
       ])
   came ms (notes.State d st n whys.Correction) m calm at o (first, joining, (cycle, by, adjustment, h, it, is)) =
       absurd (elim (of_instant front m.telling calm (subst (λ t. IsOfThisTime (hs ++ front) t n h) at it)) [
@@ -331,15 +332,7 @@ befell_step {C} {M} reading stands s world notes wires settled old open_ room pu
                 (subst (λ l. IsHeld stands s hs l old.frontier now device k.0) empty k.2),
           );
       early = λ fresh. absurd (let bad : false ≡ true = fresh in cc);
-      untold = record {
-        done = λ same number h it. before_behind here;
-        none = λ same. refl;
-        waits = λ bad. absurd (let b : false ≡ true = bad in cc);
-        early = λ bad. absurd (let b : false ≡ true = bad in cc);
-        real = λ e i. absurd i;
-        all = λ bad. absurd (let b : false ≡ true = bad in cc);
-        in_order = tt;
-      };
+      untold = none_pending refl refl (λ number h it. before_behind here);
       wires = wires_told s hs old.frontier now world.befell wires m old.forward
           (subst (λ b. AreOnWires s hs old.frontier now b world.wires) open_ old.wires) put_by;
       ports = ports_told s hs old.frontier now world.befell m old.ports;
@@ -353,7 +346,3 @@ befell_step {C} {M} reading stands s world notes wires settled old open_ room pu
       );
     } in
     stand_of told_all (λ z i b. not_yet s hs now (filled.each z i) b)
-  where
-    no_part : (front rest : List Happening) (z : Happening) → [] ≡ front ++ z ∷ rest → ⊥
-    no_part [] rest z e = cc
-    no_part (f ∷ front) rest z e = cc

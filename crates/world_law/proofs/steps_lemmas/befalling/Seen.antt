@@ -1,6 +1,6 @@
 -- What code sees of the pending events: what each puts on wires, one after the other.
 use Rattle.{run_law.specs.{control.Wires.time_on_port, scenario.Ways.{delay_at, receiver_of}}, std.proofs.Common.arith}
-use Rattle.world_law.proofs.steps_lemmas.Words.{◌++◌, ◌+◌, ◌<◌, ◌↔◌, ◌∙◌, ◌∷◌, ◌≡◌, ◌⊎◌, ArePutIn, Arrives, Befell, Bool, DeviceId, Happening, IsIn}
+use Rattle.world_law.proofs.steps_lemmas.Words.{◌++◌, ◌+◌, ◌<◌, ◌↔◌, ◌∙◌, ◌∷◌, ◌≡◌, ◌⊎◌, ArePutIn, Arrives, Befell, Bool, DeviceId, Happening, IsIn, both_ways}
 use Rattle.world_law.proofs.steps_lemmas.Words.{IsOfThisTime, Launch, Link, LinkId, List, Network, Node, None, Note, NoteBody, OnWire, Option, Scenario, Signal}
 use Rattle.world_law.proofs.steps_lemmas.Words.{Some, Stands, Up, What, World, [], ap, cases_lt, false, happenings, if◌then◌else◌, inl, inr, is_cut}
 use Rattle.world_law.proofs.steps_lemmas.Words.{launched, length, link_at, numbered_in, option_map, option_map_or, refl, signal_of, subst, sym, target_by}
@@ -20,8 +20,8 @@ on_within reading stands s world notes old e device i on =
     (it.3 ∙ ap (λ (w : What). kinds.Event it.0 w) on) in
     elim (cases_lt device.0 (length s.network.device)) [
       | inl lt ↦ lt
-      | inr ge ↦ absurd (let bad : false ≡ true = sym (old.known.never_on device ge world.now)
-          ∙ on_by_record s world.now device due it.2.same_time in cc)
+      | inr ge ↦ absurd (both_ways _ (old.known.never_on device ge world.now)
+          (on_by_record s world.now device due it.2.same_time))
     ]
 
 -- ---- what an event puts on wires

@@ -1,9 +1,10 @@
 -- What becomes of a frame stands at least at the place of its kind, and what becomes of a control frame does not hang on records of its instant.
-use Rattle.world_law.proofs.steps_lemmas.Words.{◌&&◌, ◌++◌, ◌≡◌, ◌≤◌, Arrival, Bool, DeviceId, Entry, Happening, Integrating, IsIn, LinkId, List, Network, None}
-use Rattle.world_law.proofs.steps_lemmas.Words.{Option, Pcf, PcfRefusal, Reason, Scenario, Signal, Some, Standpoint, VlId, adjustment_after, ap, arith}
+use Rattle.world_law.proofs.putting.Alike.{standpoint_in}
+use Rattle.world_law.proofs.steps_lemmas.Words.{◌++◌, ◌≡◌, ◌≤◌, Arrival, Bool, DeviceId, Entry, Happening, IsIn, LinkId, List, Network, None}
+use Rattle.world_law.proofs.steps_lemmas.Words.{Option, Pcf, PcfRefusal, Reason, Scenario, Signal, Some, Standpoint, VlId, ap, arith}
 use Rattle.world_law.proofs.steps_lemmas.Words.{arrival_body, arrival_of, control, control_arrival, earlier_still, false, field, frame_fault, frame_or_fault}
-use Rattle.world_law.proofs.steps_lemmas.Words.{if◌then◌else◌, is_broken, is_end, is_off, is_parent_of, is_relay, is_turned_on_at, last_taken, not}
-use Rattle.world_law.proofs.steps_lemmas.Words.{octets_fault, octets_or_fault, rank, standpoint, state_after, subst, time_of, timed, true, ℕ}
+use Rattle.world_law.proofs.steps_lemmas.Words.{if◌then◌else◌, is_end, is_parent_of, is_relay, last_taken}
+use Rattle.world_law.proofs.steps_lemmas.Words.{octets_fault, octets_or_fault, rank, standpoint, subst, time_of, timed, true, ℕ}
 use Rattle.world_law.proofs.steps_lemmas.hearing.Putting.{least_rank}
 use Rattle.run_law.specs.{device.Standpoints.{clock_of, cycle_at}, timed.Arrivals.{entry_arrival, entry_entering, row_fault, taken_or_fault}}
 use Rattle.run_law.specs.declared.steps.Arrival.TheVariants as arrivals
@@ -85,14 +86,6 @@ pub delivered_high : (network : Network) (device : DeviceId) → (if is_end netw
 delivered_high network device = grind (arith, is_end)
 
 -- ---- records of the instant do not change where a device stands
-
-abbrev standpoint_in : Scenario → DeviceId → ℕ → List Happening → Standpoint
-standpoint_in s device t w = record {
-  takes_part = not (is_off (if is_turned_on_at s device t then Integrating else state_after s w device)) && not (is_broken s device t);
-  state = if is_turned_on_at s device t then Integrating else state_after s w device;
-  reading = s.reading device t;
-  adjustment = (adjustment_after s w device).0;
-}
 
 module _ (s : Scenario) (hs zs : List Happening) (device : DeviceId) (t : ℕ) where
   pub standpoint_still : ((z : Happening) → IsIn z zs → t ≤ time_of z)

@@ -1,6 +1,5 @@
 -- The device of a frame that is permanent, and tells it no time, is kept.
-use Rattle.world_law.proofs.{devices.Working.{HasRested, rested}, giving.GivenParts.up_to_place, runs.Settled.late_of}
-use Rattle.world_law.specs.world.World.{is_at_source}
+use Rattle.world_law.proofs.{devices.Working.{HasRested, rested}, giving.GivenParts.up_to_place, runs.Settled.{frame_source, late_of}}
 use Rattle.world_law.proofs.steps_lemmas.Words.{HasDoneTask, no_task_at, ◌++◌, ◌+ℤ◌, ◌+◌, ◌-ℤ◌, ◌<ℤ◌, ◌<◌, ◌||◌, ◌∙◌, ◌∷◌, ◌≡◌, ◌≤ℤ◌, ◌≤◌, ◌⊎◌, AllByRecursion, AreClusters, Bool}
 use Rattle.world_law.proofs.steps_lemmas.Words.{ClockTask, Compressed, DeviceId, Happening, HasDoneFrom, HasSentFrom, HasTurnedOn, IsAlike, IsAtRest, IsBefore}
 use Rattle.world_law.proofs.steps_lemmas.Words.{IsIn, IsKept, IsLeft, IsNoTaking, IsPending, IsWaiting, Judgement, List, Network, Node}
@@ -8,7 +7,7 @@ use Rattle.world_law.proofs.steps_lemmas.Words.{NoteBody, Point, Scenario, Task,
 use Rattle.world_law.proofs.steps_lemmas.Words.{before_behind, behind, both_ways, called, chain, changed_at, changes_adjustment, channel_of_link, correcting}
 use Rattle.world_law.proofs.steps_lemmas.Words.{doing, earlier, earlier_still, emitting, false, frames_taken, has_cleared}
 use Rattle.world_law.proofs.steps_lemmas.Words.{if◌then◌else◌, inl, inr, ints, is_cm, is_joined_by, is_timed, is_turned_on_at, length, master_of, moment_of}
-use Rattle.world_law.proofs.steps_lemmas.Words.{moves, natural, not, observation_window, point_at, never_self, pos, rank}
+use Rattle.world_law.proofs.steps_lemmas.Words.{moves, natural, not, observation_window, point_at, never_self, pos}
 use Rattle.world_law.proofs.steps_lemmas.Words.{reading_for, refl, ripe_as, ripening, state_after, state_before, subst, sym, taken_in, task_place, time_of}
 use Rattle.compression.proofs.Times.{one_list_of_clusters}
 use Rattle.{std.proofs.Common.Contains, sync_state.specs.Standing.Standing, world_law.proofs.devices.Borne.tell_owned}
@@ -49,15 +48,11 @@ module _ {M : Type 0} (stands : M → Network → DeviceId → Node → Type 0) 
                 turned = λ on. let was = k.turned on in was.turned r.moving.later;
               },
             )
-            | inr (inr joining) ↦ absurd (let bad : false ≡ true = sym (late_of r.moving.are joining.by joining.there)
-                ∙ frame_source joining.by.note.body joining.sent in cc)
+            | inr (inr joining) ↦ absurd (both_ways _ (late_of r.moving.are joining.by joining.there)
+                (frame_source joining.by.note.body joining.sent))
           ]
         ];
       }
-    where
-      frame_source : (body : NoteBody) → rank body ≡ 4 → is_at_source body ≡ true
-      frame_source (kinds.Compressed other opened out cycle members verdict) four = refl
-      frame_source other four = absurd (omega (arith, four))
 
   -- and rests
   pub rests_yet : (k : IsKept stands s hs coming (now ∷ 3 ∷ ripe_more e) now e.device machine)

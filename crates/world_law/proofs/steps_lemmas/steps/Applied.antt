@@ -6,7 +6,7 @@ use Rattle.{std.{proofs.lemmas.{List.length_push, Option.slice_get_within}, spec
 use Rattle.{tte_units.proofs.general_lemmas.Lists.{pushed as get_more}, world_law.specs.world.Outcomes.{also_befell, ends_world}}
 use Rattle.world_law.{proofs.{giving.GivenParts.up_to_place, steps_lemmas.steps.AppliedParts.wires_apply}, specs.world.World.{AreInOrder, AreStored, IsFromEnd}}
 use Rattle.world_law.{proofs.runs.Applies.{line_before, run_goes_on_by_event, same_length}, specs.source.Applying.{MayBefall, note_of_event, place_of_event}}
-use Rattle.world_law.proofs.steps_lemmas.Words.{◌&&◌, ◌++◌, ◌+◌, ◌<◌, ◌==◌, ◌||◌, ◌↔◌, ◌∙◌, ◌∷◌, ◌≡◌, ◌≤ℤ◌, ◌≤◌, ◌⊎◌, AreAtPorts, AreOfNetwork, AreOnWires}
+use Rattle.world_law.proofs.steps_lemmas.Words.{◌&&◌, ◌++◌, ◌+◌, ◌<◌, ◌==◌, ◌||◌, ◌↔◌, ◌∙◌, ◌∷◌, ◌≡◌, ◌≤ℤ◌, ◌≤◌, ◌⊎◌, AreAtPorts, AreOfNetwork, AreOnWires, both_ways}
 use Rattle.world_law.proofs.steps_lemmas.Words.{AreComing, AreUntold, AreWaiting, Befell, Bool, Contains-push, Contains-push_cases, DeviceId, Event, Happening}
 use Rattle.world_law.proofs.steps_lemmas.Words.{IsBefore, IsEventBody, IsHeld, IsIn, IsOnWire, LinkId, List, Network, Node, OnWire, Scenario, Some, Units, What}
 use Rattle.world_law.proofs.steps_lemmas.Words.{[], amount, ap, append-nil, arith, before_behind, behind, cases_Bool, chain, clock_place, false}
@@ -170,7 +170,7 @@ applied_step {C} {M} reading stands network f g past event world notes clocks ma
     (early (place_of h) (old.run.within h i)) in
     let long : length notes ≡ length hs = same_length network notes in
     let number : length notes + 1 ≡ length hs + 1 = ap (λ k. k + 1) long in
-    let running_so : (u : Units) → EndsAt past u → ⊥ = λ u ends. (let bad : false ≡ true = sym running ∙ ((old.ended u).0 ends).0 in cc) in
+    let running_so : (u : Units) → EndsAt past u → ⊥ = λ u ends. (both_ways _ running ((old.ended u).0 ends).0) in
     let place = place_of_event past event in
     let here = now ∷ 1 ∷ (length past + 1) ∷ [] in
     let place_is : place ≡ here = ap (λ (n : ℕ). n ∷ 1 ∷ (length past + 1) ∷ []) at in

@@ -1,4 +1,5 @@
 -- An event befalls before all else of its instant: what is under way then, and what is due.
+use Rattle.world_law.proofs.runs.Settled.{none_to_come}
 use Rattle.{run_law.specs.scenario.Hypothesis.breaks_at, std.proofs.lemmas.Bool.{le-leb, lt-leb}, world_law.specs.source.Agreeing.Agree}
 use Rattle.{std.proofs.lemmas.Option.slice_get_within, tte_units.proofs.general_lemmas.Lists.pushed, world_law.proofs.runs.Agreement.{broken_same, reach_same}}
 use Rattle.world_law.proofs.runs.{Applies.{agree_back, event_cause, event_place}, Firsts.{numbered_more, numbered_still}, SameCauses.{arrives_same, hold_same}}
@@ -300,30 +301,17 @@ event_there network g past event js y now at y_at is caused =
 
 pub nothing_due : (network : Network) (g : DeviceId → ℕ → ℕ) (past : List Event) (event : Event) (js : List Happening) (now : ℕ) → amount event.time ≡ now
     → AreSettled (scenario network g (past ++ event ∷ [])) js [] (behind (now ∷ 1 ∷ (length past + 1) ∷ [])) (now ∷ 2 ∷ []) now
-nothing_due network g past event js now at = record {
-  of_now = λ z i. absurd i;
-  after = λ z i. absurd i;
-  founded = λ front rest z e. absurd (no_part front rest z e);
-  by = λ front rest z e. absurd (no_part front rest z e);
-  full = λ front back y e before none not due worked.
-      let s = scenario network g (past ++ event ∷ []) in
-      let own = own_time s (js ++ front) (time_of y) (members_in y) y.note.body worked.0 worked.1 in
-      let here = subst (λ q. IsOwnSource s (js ++ front) (time_of y) (members_in y) y.note.body q) own.2 worked.1 in
-      absurd (elim (subst (λ q. IsBefore q (now ∷ 2 ∷ [])) own.2 worked.3) [
-        | inl lt ↦ not (inl lt)
-        | inr (e_at, inl few) ↦ not
-            (event_there network g past event (js ++ front) y now at e_at
-            (own_event s (js ++ front) (time_of y) (members_in y) y.note.body own.0 own.1 here few) due.cause)
-        | inr (e_at, inr (r, nothing)) ↦ nothing_before own.1 nothing
-      ]);
-  not_past = λ z i. absurd i;
-  worked = λ z i. absurd i;
-  begun = λ z i. absurd i;
-}
+nothing_due network g past event js now at = none_to_come (λ front y not due worked.
+    let s = scenario network g (past ++ event ∷ []) in
+    let own = own_time s (js ++ front) (time_of y) (members_in y) y.note.body worked.0 worked.1 in
+    let here = subst (λ q. IsOwnSource s (js ++ front) (time_of y) (members_in y) y.note.body q) own.2 worked.1 in
+    elim (subst (λ q. IsBefore q (now ∷ 2 ∷ [])) own.2 worked.3) [
+      | inl lt ↦ not (inl lt)
+      | inr (e_at, inl few) ↦ not
+          (event_there network g past event (js ++ front) y now at e_at
+          (own_event s (js ++ front) (time_of y) (members_in y) y.note.body own.0 own.1 here few) due.cause)
+      | inr (e_at, inr (r, nothing)) ↦ nothing_before own.1 nothing
+    ])
   where
     nothing_before : (ws : List ℕ) → IsBefore ws [] → ⊥
     nothing_before ws b = b
-
-    no_part : (front rest : List Happening) (z : Happening) → [] ≡ front ++ z ∷ rest → ⊥
-    no_part [] rest z e = cc
-    no_part (f ∷ front) rest z e = cc

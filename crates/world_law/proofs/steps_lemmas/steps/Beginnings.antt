@@ -1,7 +1,8 @@
 -- A fresh world stands for the run of no records under no events.
+use Rattle.world_law.proofs.runs.Settled.{none_pending, none_to_come}
 use Rattle.{run_law.{proofs.{records.Happenings.none_numbered, runs.Grow.empty_run}, specs.machines.Nodes.begun_node}, world_law.specs.steps.Steps.Begun}
 use Rattle.{run_law.proofs.runs.Places.{before_next_time, before_of_time}, world_law.proofs.runs.{Settled.coming_of, Worlds.run_to}}
-use Rattle.world_law.proofs.steps_lemmas.Words.{◌++◌, ◌+ℤ◌, ◌+◌, ◌-ℤ◌, ◌<ℤ◌, ◌^◌, ◌∙◌, ◌∷◌, ◌≡◌, ◌≤ℤ◌, ◌≤◌, DeviceId, Happening, IsBefore, IsDue, IsIn, IsKept}
+use Rattle.world_law.proofs.steps_lemmas.Words.{◌++◌, ◌+ℤ◌, ◌+◌, ◌-ℤ◌, ◌<ℤ◌, ◌^◌, ◌∙◌, ◌∷◌, ◌≡◌, ◌≤ℤ◌, ◌≤◌, DeviceId, Happening, IsBefore, IsDue, IsKept}
 use Rattle.world_law.proofs.steps_lemmas.Words.{AreComing, AreOfNetwork, AreSettled, IsLeft, IsPending, IsSource, List, Network, Node, Scenario, Task, Units, [], acts_before, ap, arith}
 use Rattle.world_law.proofs.steps_lemmas.Words.{chain, correcting, doing, emitting, false, inl, inr, ints, no_cluster, none_in, observation_window}
 use Rattle.world_law.proofs.steps_lemmas.Words.{length, place_of, pos, reading_for, refl, scenario, subst, sym, true, value_of, ℕ, ℤ}
@@ -16,10 +17,6 @@ source_from : {s : Scenario} {hs : List Happening} {w : List ℕ} → IsSource s
 source_from {s} (IsSource.acting t device task a) b =
     low_rank t 4 (device.0 ∷ []) (omega arith) (acts_before s.network t device task (0 ∷ 1 ∷ []) b)
 source_from source b = grind arith
-
-no_part : (front rest : List Happening) (z : Happening) → [] ≡ front ++ z ∷ rest → ⊥
-no_part [] rest z e = cc
-no_part (f ∷ front) rest z e = cc
 
 begins_at : (a : Units) (r : ℕ) → r ≡ 0 → a.0 ≡ (pos r +ℤ a.0)
 begins_at a r e = omega (arith, ints, e)
@@ -73,16 +70,8 @@ begun {C} {M} reading stands network f world fresh forward steady zero_first le 
     let s = scenario network f [] in
     let now = sym fresh.now in
     let on : (p : List ℕ) → IsBefore p (0 ∷ []) → IsBefore p (0 ∷ 1 ∷ []) = λ p b. before_of_time p 0 (1 ∷ []) b in
-    let none : AreSettled s [] [] (0 ∷ []) (0 ∷ 1 ∷ []) world.now = record {
-      of_now = λ z i. absurd i;
-      after = λ z i. absurd i;
-      founded = λ front rest z e. absurd (no_part front rest z e);
-      by = λ front rest z e. absurd (no_part front rest z e);
-      full = λ front back y e before least not due worked. absurd (source_from worked.2 worked.3);
-      not_past = λ z i. absurd i;
-      worked = λ z i. absurd i;
-      begun = λ z i. absurd i;
-    } in
+    let none : AreSettled s [] [] (0 ∷ []) (0 ∷ 1 ∷ []) world.now =
+    none_to_come (λ front y not due off. source_from off.2 off.3) in
     record {
       same = fresh.of_it;
       range = range;
@@ -118,15 +107,7 @@ begun {C} {M} reading stands network f world fresh forward steady zero_first le 
                 (kept_fresh stands network f device m.0 (zero_first device) le m.2))),
           );
       early = λ first p b. subst (λ (n : ℕ). IsBefore p (n ∷ 2 ∷ [])) now (chain p (0 ∷ 1 ∷ []) (0 ∷ 2 ∷ []) b (inr (refl, inl (omega arith))));
-      untold = record {
-        done = λ told number h it. absurd (none_numbered number h it.there);
-        none = λ told. fresh.befell;
-        waits = λ open_. absurd (let bad : false ≡ true = sym fresh.pending ∙ open_ in cc);
-        early = λ open_. absurd (let bad : false ≡ true = sym fresh.pending ∙ open_ in cc);
-        real = λ e i. absurd (subst (λ l. IsIn e l) fresh.befell i);
-        all = λ open_ number line what h it. absurd (none_numbered number h it.there);
-        in_order = subst (λ (l : List _). Rattle.world_law.specs.world.World.AreInOrder l) (sym fresh.befell) tt;
-      };
+      untold = none_pending fresh.pending fresh.befell (λ number h it. absurd (none_numbered number h it.there));
       wires =
           subst (λ (l : List _). Rattle.world_law.specs.world.World.AreOnWires s [] (0 ∷ 1 ∷ []) world.now world.pending l) (sym fresh.wires)
           (record { real = λ e i. absurd i; all = λ t device link cause a told not. absurd (none_numbered cause a.putting a.there) });

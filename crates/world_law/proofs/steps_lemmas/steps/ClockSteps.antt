@@ -3,7 +3,7 @@ use Rattle.world_law.proofs.{devices.Shown.{all_past, held_shows}, giving.GivenP
 use Rattle.world_law.{proofs.{giving.Given.device_in, runs.Settled.late_of}, specs.world.Calls.IsStateOf}
 use Rattle.world_law.proofs.steps_lemmas.Words.{◌++◌, ◌+◌, ◌<◌, ◌↔◌, ◌∙◌, ◌∷◌, ◌≡◌, ◌≤◌, AreOfNetwork, ArePutIn, DeviceId, Happening, IsBefore, IsHeld}
 use Rattle.world_law.proofs.steps_lemmas.Words.{IsMoving, IsOwnSource, IsSource, List, Network, Node, Note, NoteBody, Scenario, [], no_task_at, adjustment_after}
-use Rattle.world_law.proofs.steps_lemmas.Words.{ComesFirst, Some, Stands, State, Units, World, length, slice_get}
+use Rattle.world_law.proofs.steps_lemmas.Words.{ComesFirst, Some, Stands, State, Units, World, both_ways, length, slice_get}
 use Rattle.world_law.proofs.steps_lemmas.Words.{ap, arith, at_least, behind, cases_lt, clock_place, comes_first, false}
 use Rattle.world_law.proofs.steps_lemmas.Words.{device_still, happenings, inl, inr, is_at_source, key, members_in}
 use Rattle.world_law.proofs.steps_lemmas.Words.{rank, refl, settled_as, some_same, stands_on, state_after, subst, sym, second}
@@ -31,7 +31,7 @@ none_coming [] device m = refl
 none_coming (y ∷ coming) {now} device m =
     let after = m.are.after y (inl refl) in
     let late = at_least y now 14 (device.0 ∷ []) (m.are.of_now y (inl refl)) after in
-    absurd (let bad : false ≡ true = sym (late_of m.are y (inl refl)) ∙ last_rank y.note.body late in cc)
+    absurd (both_ways _ (late_of m.are y (inl refl)) (last_rank y.note.body late))
 
 pub nothing_put : (now : ℕ) (network : Network) (hs : List Happening) (body : NoteBody) (settled : List Happening)
     → ArePutIn network hs now (body ∷ []) [] settled → settled ≡ settled_as network hs now body ∷ []

@@ -2,7 +2,7 @@
 use Rattle.{run_law.proofs.law.FirstPlaces.in_filter, world_law.{proofs.putting.Idle.IsIdle, specs.{steps.Steps.departure_now, world.World.IsAtPort}}}
 use Rattle.run_law.specs.control.{Leaving.{Departs, Departure, leaves, on_cut_way, too_old}, Permanence.waits_for}
 use Rattle.world_law.{proofs.{frames.Masters.parent_true, steps_lemmas.Words.{time_of, true, way_from, ℕ}}, specs.world.Outcomes.departure_body}
-use Rattle.world_law.proofs.steps_lemmas.Words.{◌++◌, ◌||◌, ◌∙◌, ◌∷◌, ◌≡◌, ◌≤◌, AtPort, Bool, DeviceId, Dispatches, Gives, Happening, IsCaused}
+use Rattle.world_law.proofs.steps_lemmas.Words.{◌++◌, ◌||◌, ◌∙◌, ◌∷◌, ◌≡◌, ◌≤◌, AtPort, Bool, DeviceId, Dispatches, Gives, Happening, IsCaused, both_ways}
 use Rattle.world_law.proofs.steps_lemmas.Words.{IsDue, IsFounded, IsOwnSource, Launch, LinkId, List, None, NoteBody, Scenario, Some, Units, [], amount, ap}
 use Rattle.world_law.proofs.steps_lemmas.Words.{arith, by_number, cause_of, earlier, earlier_still, false, filter, inl, inr, is_accepted}
 use Rattle.world_law.proofs.steps_lemmas.Words.{is_broken, is_cut, is_parent_of, is_relay, key, last_in, last_or, launched, length, link_at}
@@ -129,7 +129,7 @@ no_launch s h t (kinds.Arrived relay by cause clock) device link x g e = cc
 no_launch s h t other device link x g e = g
 
 not_awaited : (a b : Bool) → a ≡ true → b ≡ true → (not a || not b) ≡ true → ⊥
-not_awaited a b x y e = let bad : false ≡ true = sym (ap (λ (c : Bool). not c || not b) x ∙ ap not y) ∙ e in cc
+not_awaited a b x y e = both_ways _ (ap (λ (c : Bool). not c || not b) x ∙ ap not y) e
 
 -- what a relay waits for it does not give to the link by which that came
 not_both_ways : (s : Scenario) (device : DeviceId) (link : LinkId) (body : NoteBody) (from clock : ℕ) → body ≡ kinds.Arrived device link from clock

@@ -1,9 +1,10 @@
 -- Time passes where nothing is to come.
+use Rattle.world_law.proofs.runs.Settled.{coming_of, none_pending, none_to_come}
 use Rattle.world_law.proofs.devices.Working.{worked_by}
 use Rattle.world_law.proofs.{acts.{Acting.{IsUnmoved, cleared_on, had_come_before}, NoActs.nothing_comes_before}, devices.Resting.{IsPast, IsWorked, at_rest}}
 use Rattle.world_law.{proofs.{giving.GivenParts.no_later_events, runs.Worlds.nothing_settled_is_all}, specs.source.First.NoSourceBefore}
 use Rattle.world_law.{proofs.devices.Passes.passes_if, specs.{device.Own.IsStill, steps.Steps.PassedStep, world.{Moves.{NothingBefore, StandsAt}, World.way_now}}}
-use Rattle.world_law.proofs.steps_lemmas.Words.{◌++◌, ◌+◌, ◌-◌, ◌<ℤ◌, ◌<◌, ◌^◌, ◌∙◌, ◌∷◌, ◌≡◌, ◌≤ℤ◌, ◌≤◌, AreComing, DeviceId, Down, Happening}
+use Rattle.world_law.proofs.steps_lemmas.Words.{◌++◌, ◌+◌, ◌-◌, ◌<ℤ◌, ◌<◌, ◌^◌, ◌∙◌, ◌∷◌, ◌≡◌, ◌≤ℤ◌, ◌≤◌, AreComing, DeviceId, Down, Happening, both_ways}
 use Rattle.world_law.proofs.steps_lemmas.Words.{HasDoneFrom, HasSentFrom, HaveBefallen, IsBefore, IsHeld, IsIn, IsKept, IsLeft, IsOut, IsPending, IsReadyAt}
 use Rattle.world_law.proofs.steps_lemmas.Words.{IsSteady, LinkId, List, Network, Node, Note, Scenario, Some, Stands, Task, Up, Way, World, []}
 use Rattle.world_law.proofs.steps_lemmas.Words.{act_place, acts_before, adjustment_after, all_up_to, amount, ap, append-nil, are_past, arith, cases_Bool}
@@ -20,20 +21,10 @@ ways_stay t link way b le = grind (arith, last_or, filter_map, no_later_events)
 
 -- where nothing is to come, nothing comes from a source of an earlier time
 nothing_full : (s : Scenario) (hs : List Happening) (t : ℕ) → AreComing s hs [] (t ∷ []) t
-nothing_full s hs t = record {
-  of_now = λ z i. absurd i;
-  after = λ z i. absurd i;
-  founded = λ front rest z e. absurd (no_part front rest z e);
-  by = λ front rest z e. absurd (no_part front rest z e);
-  full = λ front back y e before none not due worked.
-      let at = own_time s (hs ++ front) (time_of y) (members_in y) y.note.body worked.0 worked.1 in
-      absurd (not (inl (earlier_time (time_of y) t (at.0 ∷ at.1) (subst (λ q. IsBefore q (t ∷ [])) at.2 worked.3))));
-  begun = λ z i. absurd i;
-}
-  where
-    no_part : (front rest : List Happening) (z : Happening) → [] ≡ front ++ z ∷ rest → ⊥
-    no_part [] rest z e = cc
-    no_part (f ∷ front) rest z e = cc
+nothing_full s hs t = coming_of {from = t ∷ []} (none_to_come (λ front y not due worked.
+    let at = own_time s (hs ++ front) (time_of y) (members_in y) y.note.body worked.0 worked.1 in
+    not (inl (earlier_time (time_of y) t (at.0 ∷ at.1) (subst (λ q. IsBefore q (t ∷ [])) at.2 worked.3)))))
+    (λ p b. b) (λ z i. absurd i)
 
 in_past : {C M : Type 0} {reading : C → ℕ → ℕ} {stands : M → Network → DeviceId → Node → Type 0} {s : Scenario}
     {world : World C M} {notes : List Note} (old : Stands reading stands s world notes) (h : Happening)
@@ -73,8 +64,8 @@ passed_but_devices {stands} {s} {world} {notes} t old settled lt few running non
         lines = old.lines;
         given = old.given;
         ended = λ time. (
-          λ ends. absurd (let bad : false ≡ true = sym running ∙ ((old.ended time).0 ends).0 in cc),
-          λ it. absurd (let bad : false ≡ true = sym running ∙ it.0 in cc),
+          λ ends. absurd (both_ways _ running ((old.ended time).0 ends).0),
+          λ it. absurd (both_ways _ running it.0),
         );
         befallen = record {
           past = λ i e at. let early = old.befallen.past i e at in omega (arith, early, lt);
@@ -95,22 +86,15 @@ passed_but_devices {stands} {s} {world} {notes} t old settled lt few running non
             let m = devices device within in
             (m.0, m.1, subst (λ l. IsHeld stands s hs l (t ∷ []) t device m.0) (sym settled) m.2);
         early = λ fresh p b. before_of_time p t (2 ∷ []) b;
-        untold = record {
-          done = λ closed number h it.
-              let early = in_past old h (numbered_in hs number h it.there) in
-              let at = it.same_time in
-              absurd (omega (arith, early, at, lt));
-          none = old.untold.none;
-          waits = λ open_. absurd (let bad : false ≡ true = sym told ∙ open_ in cc);
-          early = λ open_. absurd (let bad : false ≡ true = sym told ∙ open_ in cc);
-          real = λ e i. absurd (subst (λ l. IsIn e l) (old.untold.none told) i);
-          all = λ open_. absurd (let bad : false ≡ true = sym told ∙ open_ in cc);
-          in_order = old.untold.in_order;
-        };
+        untold = none_pending told (old.untold.none told) (λ number h it.
+            let early = in_past old h (numbered_in hs number h it.there) in
+            let at = it.same_time in
+            absurd (omega (arith, early, at, lt)));
         wires = record {
-          real = λ e i. ((old.wires.real e i).0, λ open_. absurd (let bad : false ≡ true = sym told ∙ open_ in cc), none.wires e i);
+          real = λ e i. ((old.wires.real e i).0, λ open_. absurd (both_ways _ told open_), none.wires e i);
           all =
-              λ u device link cause a closed not. old.wires.all u device link cause a (λ open_. absurd (let bad : false ≡ true = sym told ∙ open_ in cc))
+              λ u device link cause a closed not. old.wires.all u device link cause a
+              (λ open_. absurd (both_ways _ told open_))
               (λ b. not (over _ b));
         };
         ports = record {
@@ -131,7 +115,7 @@ passed_but_devices {stands} {s} {world} {notes} t old settled lt few running non
         };
         stored = old.stored;
         are = subst (λ l. AreComing s hs l (t ∷ []) t) (sym settled) (nothing_full s hs t);
-        shown = λ device in_it ended. absurd (let bad : false ≡ true = sym running ∙ ended in cc);
+        shown = λ device in_it ended. absurd (both_ways _ running ended);
       },
       refl,
     )
@@ -247,7 +231,7 @@ module _ {M : Type 0} (stands : M → Network → DeviceId → Node → Type 0) 
             }) (λ x task early. inl early);
         bare = k.bare;
         ready = ready_later s t k.ready steady wide lt undone;
-        turned = λ on. absurd (let bad : false ≡ true = sym off_later ∙ on in cc);
+        turned = λ on. absurd (both_ways _ off_later on);
         still = λ same h i at. let early = past.past h (subst (λ l. IsIn h l) (sym whole) i) in
             absurd (omega (arith, early, at, lt));
         cleared = k.cleared;

@@ -2,7 +2,7 @@
 use Rattle.world_law.proofs.steps_lemmas.Words.{◌++◌, ◌+◌, ◌<◌, ◌∙◌, ◌∷◌, ◌≡◌, ◌≤◌, ◌⊎◌, ArePutIn, DeviceId, Happening, IsBefore, IsIn}
 use Rattle.world_law.proofs.steps_lemmas.Words.{List, Network, NoneBefore, Node, Note, NoteBody, Scenario, Stands, StandsBehind, World, [], ap, append-nil, arith}
 use Rattle.world_law.proofs.steps_lemmas.Words.{before_behind, behind, chain, false, happenings, in_left, in_parts, in_right, inl, inr, is_at_source}
-use Rattle.world_law.proofs.steps_lemmas.Words.{place_of, rank, refl, second, settled_as, subst, sym, true, ℕ}
+use Rattle.world_law.proofs.steps_lemmas.Words.{both_ways, place_of, rank, refl, second, settled_as, subst, sym, true, ℕ}
 use Rattle.world_law.proofs.{giving.{Given.given_from, GivenParts.{source_kinds, up_to_place}}, runs.{Over.stand_of, Settled.late_of}}
 use Rattle.world_law.specs.steps.Turns.{IsTurn, TurnsBy, next_note, starts_there}
 use Rattle.world_law.specs.world.World.{IsDueAs}
@@ -62,7 +62,7 @@ late_apart : (z : Happening) (now r : ℕ) (more : List ℕ) → IsTurnRank r �
 late_apart z now r more kind late at =
     let same : rank z.note.body ≡ r = ap second at in
     elim (source_kinds z.note.body) [
-      | inl is ↦ let bad : false ≡ true = sym late ∙ is in cc
+      | inl is ↦ both_ways _ late is
       | inr none ↦ elim kind [
         | inl two ↦ none.0 (two ∙ sym same)
         | inr (inl three) ↦ none.1 (three ∙ sym same)
@@ -111,12 +111,12 @@ module _ {network : Network} {hs : List Happening} {now : ℕ} {at : List ℕ} w
       × ((other : NoteBody) → IsIn other others → IsBefore at (place_of (settled_as network hs now other)))
   there_of body others is (AreThere.first x more own place behind_it) = (place, behind_it)
   there_of body others is (AreThere.later bodies late) =
-      absurd (let bad : false ≡ true = sym (late body (inl refl)) ∙ is in cc)
+      absurd (both_ways _ (late body (inl refl)) is)
 
   late_each : (bodies : List NoteBody) → starts_there bodies ≡ false → AreThere network hs now at bodies
       → (body : NoteBody) → IsIn body bodies → is_at_source body ≡ false
   late_each bodies none (AreThere.first x more own place behind_it) body i =
-      absurd (let bad : false ≡ true = sym none ∙ own in cc)
+      absurd (both_ways _ none own)
   late_each bodies none (AreThere.later all late) body i = late body i
 
 none_starts : (bodies : List NoteBody) → ((body : NoteBody) → IsIn body bodies → is_at_source body ≡ false)
