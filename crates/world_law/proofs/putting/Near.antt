@@ -5,11 +5,11 @@ use Rattle.sync_state.specs.Verdicts.{HasVerdict}
 use Rattle.sync_state.specs.membership.Summary.{Summarizes}
 use Rattle.world_law.proofs.Words.{if◌then◌else◌, ◌++◌, ◌+ℤ◌, ◌<◌, ◌==◌, ◌∙◌, ◌∷◌, ◌≡◌, ◌≤◌, ◌⊎◌, Arrival, ArrivesAs, BecomesPermanent, Bool}
 use Rattle.world_law.proofs.Words.{ChangesState, ComesToCorrection, Compressed, Departs, Departure, DeviceId, Dispatches, Emits, Happening}
-use Rattle.world_law.proofs.Words.{Integrating, IsActing, IsBefore, IsCaused, IsDropped, IsDue, IsForward, IsFounded, IsIn, IsLost, IsOfThisTime, IsOwnSource}
+use Rattle.world_law.proofs.Words.{Integrating, IsActing, IsBefore, IsCaused, IsDropped, IsDue, IsForward, IsFounded, IsIn, IsLost, IsOwnSource}
 use Rattle.world_law.proofs.Words.{IsSendLost, IsSource, Joining, Judgement, LinkId, List, None, NoteBody, Pcf, Reason, Ripe, Scenario, Signal, Some, State}
 use Rattle.world_law.proofs.Words.{Units, Verdict, VlId, Why, [], adjustment_after, adjustment_at_hearing, amount, ap, arith, arrival_of}
 use Rattle.world_law.proofs.Words.{bears_on, before_permanence, by_number, cases_lt, cause_of, chain, control, control_arrival, correcting, dispatching}
-use Rattle.world_law.proofs.Words.{doing, earlier, emitting, eq-eqb, false, filter, heard_as, heard_since, in_filter, inl, inr, is_accepted, is_at_source}
+use Rattle.world_law.proofs.Words.{doing, earlier, emitting, eq-eqb, false, filter, heard_as, heard_since, in_filter, inl, inr, is_accepted, is_at_source, is_joined_by}
 use Rattle.world_law.proofs.Words.{is_turned_on_at, last_in, last_or, last_taken, length, members_in, next_point, not, numbered, numbered_within}
 use Rattle.world_law.proofs.Words.{observation_window, place_of, plan_of, points_of, rank, refl, sending, state_after, state_at_hearing, subst, sym}
 use Rattle.world_law.proofs.Words.{task_place, time_of, timed, timed_arrival, true, ℕ}
@@ -421,21 +421,31 @@ module _ (s : Scenario) (hs zs : List Happening) (time : Units) (m r : ℕ) (mor
 
 -- ---- what follows a record of the instant
 
-this_near : {js gs : List Happening} {t cause : ℕ} {h : Happening} → numbered js cause ≡ numbered gs cause → IsOfThisTime js t cause h
-    → IsOfThisTime gs t cause h
-this_near same it = record { there = sym same ∙ it.there; same_time = it.same_time }
+-- the record of this number is the same, or one of the same body and time
+abbrev pub IsThere : List Happening → ℕ → Happening → Type 0
+IsThere gs cause h = (g : Happening) × (numbered gs cause ≡ Some g) × (g.note.body ≡ h.note.body)
+    × (time_of g ≡ time_of h)
 
-changes_near : (s : Scenario) (js gs : List Happening) (device : DeviceId) (t : ℕ) (state : State) (cause : ℕ) (why : Why) → earlier t js ≡ earlier t gs
-    → numbered js cause ≡ numbered gs cause → is_following why ≡ true → ChangesState s js device t state cause why → ChangesState s gs device t state cause why
-changes_near s js gs device t state cause whys.On before same f c = (c.0, c.1, (c.2.0, c.2.1, this_near same c.2.2, c.2.3))
-changes_near s js gs device t state cause whys.Frame before same f c = (c.0, (c.1.0, this_near same c.1.1, c.1.2))
-changes_near s js gs device t state cause whys.Correction before same f c = (
-  c.0,
-  subst (λ w. (if is_turned_on_at s device t then Integrating else state_after s w device) ≡ Joining) before c.1,
-  (c.2.0, c.2.1, c.2.2, c.2.3, this_near same c.2.4, c.2.5),
-)
-changes_near s js gs device t state cause whys.SyncClique before same f c = absurd cc
-changes_near s js gs device t state cause whys.AsyncClique before same f c = absurd cc
+-- so it causes the same change of state
+pub changes_given : (s : Scenario) (js gs : List Happening) (device : DeviceId) (t : ℕ) (state : State) (cause : ℕ)
+    (why : Why) → earlier t js ≡ earlier t gs
+    → ((h : Happening) → numbered js cause ≡ Some h → IsThere gs cause h) → is_following why ≡ true
+    → ChangesState s js device t state cause why
+    → ChangesState s gs device t state cause why
+changes_given s js gs device t state cause whys.On before there f c =
+    let x = there c.2.1 c.2.2.there in
+    (c.0, c.1, (c.2.0, x.0, record { there = x.1; same_time = x.3 ∙ c.2.2.same_time }, x.2 ∙ c.2.3))
+changes_given s js gs device t state cause whys.Frame before there f c =
+    let x = there c.1.0 c.1.1.there in
+    (c.0, (x.0, record { there = x.1; same_time = x.3 ∙ c.1.1.same_time }, ap (is_joined_by device) x.2 ∙ c.1.2))
+changes_given s js gs device t state cause whys.Correction before there f c =
+    let x = there c.2.3 c.2.4.there in (
+      c.0,
+      subst (λ w. (if is_turned_on_at s device t then Integrating else state_after s w device) ≡ Joining) before c.1,
+      (c.2.0, c.2.1, c.2.2, x.0, record { there = x.1; same_time = x.3 ∙ c.2.4.same_time }, x.2 ∙ c.2.5),
+    )
+changes_given s js gs device t state cause whys.SyncClique before there f c = absurd cc
+changes_given s js gs device t state cause whys.AsyncClique before there f c = absurd cc
 
 -- ---- so the record is due by both
 
@@ -456,7 +466,8 @@ module _ {s : Scenario} {n : ℕ} {at : List ℕ} {put : NoteBody} {js gs : List
     | inl f ↦
         let few : f.cause ≤ n = subst (λ b. cause_of b ≤ n) f.is i.few in
         subst (λ b. IsCaused s gs time b) (sym f.is)
-        (changes_near s js gs f.device (amount time) f.state f.cause f.why a.before (a.first f.cause few) f.following
+        (changes_given s js gs f.device (amount time) f.state f.cause f.why a.before
+        (λ h e. (h, sym (a.first f.cause few) ∙ e, refl, refl)) f.following
         (subst (λ b. IsCaused s js time b) f.is c))
   ]
 

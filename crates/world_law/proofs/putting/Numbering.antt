@@ -1,15 +1,15 @@
 -- A record has its number once it is given: what is due of the others does not rest on that.
 use Rattle.net_plan.specs.declared.event.What.TheVariants.{End}
 use Rattle.run_law.specs.records.Happenings.{frame_by, happening, octets_by}
-use Rattle.world_law.proofs.Words.{◌++◌, ◌∙◌, ◌∷◌, ◌≡◌, ◌≤◌, ChangesState, DeviceId, Happening, Integrating, IsBefore, IsCaused}
-use Rattle.world_law.proofs.Words.{IsDue, IsForward, IsFounded, IsIn, IsOwnSource, Joining, List, Network, Note}
+use Rattle.world_law.proofs.Words.{◌++◌, ◌∙◌, ◌∷◌, ◌≡◌, ◌≤◌, DeviceId, Happening, IsBefore, IsCaused}
+use Rattle.world_law.proofs.Words.{IsDue, IsForward, IsFounded, IsIn, IsOwnSource, List, Network, Note}
 use Rattle.world_law.proofs.Words.{Option, Pcf, Scenario, Some, State, Why, [], adjustment_at_hearing, amount, ap, arith}
-use Rattle.world_law.proofs.Words.{cause_of, earlier, false, heard_since, if◌then◌else◌, inl, inr, is_at_source, is_before}
-use Rattle.world_law.proofs.Words.{is_joined_by, is_turned_on_at, key, last_taken, length, members_in, numbered, place_of, plain, plains, points_of}
-use Rattle.world_law.proofs.Words.{rank, refl, state_after, state_at_hearing, subst, suc, sym, time_of, true, zero, ℕ}
+use Rattle.world_law.proofs.Words.{cause_of, false, heard_since, inl, inr, is_at_source, is_before}
+use Rattle.world_law.proofs.Words.{key, last_taken, length, members_in, numbered, place_of, plain, plains, points_of}
+use Rattle.world_law.proofs.Words.{rank, refl, state_at_hearing, subst, suc, sym, time_of, true, zero, ℕ}
 use Rattle.world_law.proofs.devices.Plains.{heard_plain, plains_parts, points_plain}
 use Rattle.world_law.proofs.putting.{Alike.happening_alike, Idle.{drop_one, numbered_prefix}, NearPut.not_is}
-use Rattle.world_law.proofs.putting.Near.{AreFrom, AreNear, AsFollower, caused_near, follower_or_not, is_follower, is_following, known_near, own_near}
+use Rattle.world_law.proofs.putting.Near.{AreFrom, AreNear, AsFollower, IsThere, caused_near, changes_given, follower_or_not, is_follower, is_following, known_near, own_near}
 use Rattle.world_law.proofs.{putting.Numberless.{hearing_adjustment_plain, hearing_state_plain, last_taken_plain}, runs.Firsts.earlier_still}
 use Rattle.world_law.specs.{device.Plain.with_number, world.World.IsDueAs}
 use Rattle.run_law.specs.declared.judgement.Why.TheVariants as whys
@@ -73,9 +73,6 @@ near_given s hs f z g now one at others =
 -- ---- what follows a record
 
 -- the record of each number is the same, or the one in the place of the other
-abbrev IsThere : List Happening → ℕ → Happening → Type 0
-IsThere gs cause h = (g : Happening) × (numbered gs cause ≡ Some g) × (g.note.body ≡ h.note.body) × (time_of g ≡ time_of h)
-
 numbers_given : (hs f : List Happening) (z g : Happening) → AreOne z g → (cause : ℕ) (h : Happening) → numbered (hs ++ z ∷ f) cause ≡ Some h
     → IsThere (hs ++ g ∷ f) cause h
 numbers_given hs f z g one zero h e = absurd cc
@@ -86,31 +83,10 @@ numbers_given [] f z g one (suc (suc i)) h e = (h, e, refl, refl)
 numbers_given (x ∷ hs) f z g one (suc zero) h e = (h, e, refl, refl)
 numbers_given (x ∷ hs) f z g one (suc (suc i)) h e = numbers_given hs f z g one (suc i) h e
 
-changes_given : (s : Scenario) (js gs : List Happening) (device : DeviceId) (t : ℕ) (state : State) (cause : ℕ) (why : Why) → earlier t js ≡ earlier t gs
-    → ((h : Happening) → numbered js cause ≡ Some h → IsThere gs cause h) → is_following why ≡ true → ChangesState s js device t state cause why
-    → ChangesState s gs device t state cause why
-changes_given s js gs device t state cause whys.On before there f c =
-    let x = there c.2.1 c.2.2.there in
-    (c.0, c.1, (c.2.0, x.0, record { there = x.1; same_time = x.3 ∙ c.2.2.same_time }, x.2 ∙ c.2.3))
-changes_given s js gs device t state cause whys.Frame before there f c =
-    let x = there c.1.0 c.1.1.there in
-    (c.0, (x.0, record { there = x.1; same_time = x.3 ∙ c.1.1.same_time }, ap (is_joined_by device) x.2 ∙ c.1.2))
-changes_given s js gs device t state cause whys.Correction before there f c =
-    let x = there c.2.3 c.2.4.there in (
-      c.0,
-      subst (λ w. (if is_turned_on_at s device t then Integrating else state_after s w device) ≡ Joining) before c.1,
-      (c.2.0, c.2.1, c.2.2, x.0, record { there = x.1; same_time = x.3 ∙ c.2.4.same_time }, x.2 ∙ c.2.5),
-    )
-changes_given s js gs device t state cause whys.SyncClique before there f c = absurd cc
-changes_given s js gs device t state cause whys.AsyncClique before there f c = absurd cc
-
 own_follower : (s : Scenario) (js gs : List Happening) (t m : ℕ) (device : DeviceId) (state : State) (cause : ℕ) (why : Why) (p : List ℕ)
     → is_following why ≡ true → IsOwnSource s js t m (notes.State device state cause why) p → IsOwnSource s gs t m (notes.State device state cause why) p
-own_follower s js gs t m device state cause whys.On p f o = o
-own_follower s js gs t m device state cause whys.Frame p f o = o
-own_follower s js gs t m device state cause whys.Correction p f o = o
-own_follower s js gs t m device state cause whys.SyncClique p f o = absurd cc
-own_follower s js gs t m device state cause whys.AsyncClique p f o = absurd cc
+own_follower s js gs t m device state cause whys.SyncClique p f o = grind arith
+own_follower s js gs t m device state cause why p f o = grind arith
 
 abbrev made : Note → Option Pcf → List ℕ → Happening
 made note frame octets = record { note = note; frame = frame; octets = octets }

@@ -29,8 +29,6 @@ module _ (s : Scenario) (js : List Happening) (t m : ℕ) where
   -- what a device hears at the instant bears, behind its source, only on what its own correction point brings
   pub hears_source : (device : DeviceId) (body : NoteBody) (p : List ℕ) → is_at_source body ≡ false
       → hears device body ≡ true → IsOwnSource s js t m body p → p ≡ t ∷ 6 ∷ device.0 ∷ []
-  hears_source device (notes.Compressed other opened at cycle members verdict) p there e o = absurd cc
-  hears_source device (notes.Corrected other cycle by adjustment) p there e o = absurd cc
   hears_source device (notes.State other state cause whys.SyncClique) p there e o =
       o.1 ∙ ap (λ (i : ℕ). t ∷ 6 ∷ i ∷ []) (sym (eqb-true device.0 other.0 e))
   hears_source device (notes.State other state cause whys.AsyncClique) p there e o =
@@ -162,11 +160,8 @@ few_first s ps zs time {body} late f c =
 -- a change of state that follows nothing has no cause
 no_cause : (s : Scenario) (js : List Happening) (device : DeviceId) (t : ℕ) (state : State) (cause : ℕ) (why : Why) → is_following why ≡ false
     → ChangesState s js device t state cause why → cause ≡ 0
-no_cause s js device t state cause whys.On f c = absurd cc
-no_cause s js device t state cause whys.Frame f c = absurd cc
-no_cause s js device t state cause whys.Correction f c = absurd cc
-no_cause s js device t state cause whys.SyncClique f c = let e = c.1 in omega (arith, e)
-no_cause s js device t state cause whys.AsyncClique f c = let e = c.1 in omega (arith, e)
+no_cause s js device t state cause whys.SyncClique f c = grind arith
+no_cause s js device t state cause why f c = grind arith
 
 -- so the causes of the changes of state that are to come before a turn are given
 pub causes_given : {s : Scenario} {hs coming : List Happening} {now r : ℕ} {more : List ℕ}

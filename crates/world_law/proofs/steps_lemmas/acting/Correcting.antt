@@ -50,11 +50,8 @@ base_then w off same =
 
 -- what does not move the device, and stands behind all frames of the instant, does not bear on it
 bears_none : (device : DeviceId) (body : NoteBody) → 5 ≤ rank body → moves device body ≡ false → bears_on device body ≡ false
-bears_none device (kinds.Permanent other link cause point verdict) late still = absurd (omega (arith, late))
-bears_none device (kinds.Compressed other opened at cycle members verdict) late still = absurd (omega (arith, late))
-bears_none device (kinds.Corrected other cycle by adjustment) late still = still
 bears_none device (kinds.State other state cause why) late still = still
-bears_none device other late still = refl
+bears_none device other late still = grind arith
 
 pub none_bear : {s : Scenario} {hs : List Happening} (front back : List Happening) {now : ℕ} {device : DeviceId}
     {node : Node} (w : Happening) → IsAtWork s hs (front ++ back) now device node

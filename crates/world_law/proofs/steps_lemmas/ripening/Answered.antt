@@ -209,10 +209,7 @@ dropped_kept {s} {hs} front back {now} {e} {after} w reason r k a misses none =
 stirs_state : (device : DeviceId) (body : NoteBody) → IsLateKind body → stirs device body ≡ true → (it : AsState body) × (device.0 ≡ it.device.0)
 stirs_state device (kinds.State other state cause why) late e =
     (record { device = other; state = state; cause = cause; why = why; is = refl }, eqb-true device.0 other.0 e)
-stirs_state device (kinds.Permanent other link cause point verdict) late e = absurd late
-stirs_state device (kinds.Compressed other opened at cycle members verdict) late e = absurd late
-stirs_state device (kinds.Corrected other cycle by adjustment) late e = absurd late
-stirs_state device other late e = absurd cc
+stirs_state device other late e = absurd (grind arith)
 
 pub joined_kept : {M : Type 0} {stands : M → Network → DeviceId → Node → Type 0} {s : Scenario}
     {hs back : List Happening} (f2 back2 : List Happening) {now : ℕ} {e : Waiting}

@@ -92,11 +92,8 @@ all_late {s} {hs} {coming} {now} {more} m within y i =
 
 -- so it says nothing to a device but of its state
 pub late_mere : (device : DeviceId) (body : NoteBody) → IsLateKind body → IsMere device body
-late_mere device (kinds.Permanent other link cause point verdict) late = absurd late
-late_mere device (kinds.Compressed other opened at cycle members verdict) late = absurd late
-late_mere device (kinds.Corrected other cycle by adjustment) late = absurd late
 late_mere device (kinds.State other state cause why) late = tt
-late_mere device other late = refl
+late_mere device other late = grind arith
 
 still_ends : (device : DeviceId) (body : NoteBody) → IsLateKind body → Rattle.world_law.specs.device.Own.moves device body ≡ false
     → ends_stretch device body ≡ false
