@@ -22,10 +22,11 @@ pub fn local_of<C: Clock, M: Machine + Drop>(
     ensures range { IfSome result IsWide }
 {
     let index = device.0 as usize;
+    let clock = &state.clocks[index];
     let kept = &state.machines[index];
-    let reading = state.clocks[index].read(t);
     if state.broken[index] || kept.state() != DeviceState::Synchronised {
         return None;
     }
+    let reading = clock.read(t);
     Some(i128::from(reading.0) + i128::from(kept.adjustment().0))
 }

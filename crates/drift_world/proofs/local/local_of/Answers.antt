@@ -35,21 +35,21 @@ returns-then-index-clause-shows g c =
     let w = c.args.state.now in
     let i = c.args.device.0 in
     let z = c.requires.sized in
-    let reading = g.C.Clock.reading c.index.result.now (amount c.args.t) in
+    let reading = g.C.Clock.reading c.index-clock.result.now (amount c.args.t) in
     let there = c.requires.may.there in
     let clocks = z.clocks in
     let machines = z.machines in
     let broken = z.broken in
     record {
-      clock = c.index.result.now;
-      clock_is = read_at w.clocks.items i c.index.result.now (omega (arith, there, clocks)) c.index.ensures;
+      clock = c.index-clock.result.now;
+      clock_is = read_at w.clocks.items i c.index-clock.result.now (omega (arith, there, clocks)) c.index-clock.ensures;
       kept = c.index-kept.result.now;
       kept_is = read_at w.machines.items i c.index-kept.result.now (omega (arith, there, machines)) c.index-kept.ensures;
-      broken = c.index-2.result.now;
-      broken_is = read_at w.broken.items i c.index-2.result.now (omega (arith, there, broken)) c.index-2.ensures;
+      broken = c.index.result.now;
+      broken_is = read_at w.broken.items i c.index.result.now (omega (arith, there, broken)) c.index.ensures;
       is = λ network node k. elim c.then-index.branch [
         | then-index-via-then-index v ↦ ap (λ b. local_shown b node.standing.state reading node.standing.adjustment) (sym v.if-index.true)
-        | then-index-via-else-index+then-ne v ↦ none_shown c.index-2.result.now node.standing.state reading node.standing.adjustment
+        | then-index-via-else-index+then-ne v ↦ none_shown c.index.result.now node.standing.state reading node.standing.adjustment
             (λ same. let is = v.state.ensures network c.args.device node k ∙ same in false≢true (sym (rw is at v.if-ne.ensures)))
       ];
     }
@@ -59,7 +59,7 @@ returns g c =
     let w = c.args.state.now in
     let i = c.args.device.0 in
     let z = c.requires.sized in
-    let reading = g.C.Clock.reading c.index.result.now (amount c.args.t) in
+    let reading = g.C.Clock.reading c.index-clock.result.now (amount c.args.t) in
     let there = c.requires.may.there in
     let clocks = z.clocks in
     let machines = z.machines in
@@ -72,13 +72,13 @@ returns g c =
     let in_step : c.state.result ≡ Synchronised = search (rules, tests) in
     record {
       shows = record {
-        clock = c.index.result.now;
-        clock_is = read_at w.clocks.items i c.index.result.now (omega (arith, there, clocks)) c.index.ensures;
+        clock = c.index-clock.result.now;
+        clock_is = read_at w.clocks.items i c.index-clock.result.now (omega (arith, there, clocks)) c.index-clock.ensures;
         kept = c.index-kept.result.now;
         kept_is = read_at w.machines.items i c.index-kept.result.now (omega (arith, there, machines)) c.index-kept.ensures;
-        broken = c.index-2.result.now;
-        broken_is = read_at w.broken.items i c.index-2.result.now (omega (arith, there, broken)) c.index-2.ensures;
-        is = λ network node k. ap Some sum ∙ sound_shown c.index-2.result.now node.standing.state reading node.standing.adjustment r a c.if-index.false
+        broken = c.index.result.now;
+        broken_is = read_at w.broken.items i c.index.result.now (omega (arith, there, broken)) c.index.ensures;
+        is = λ network node k. ap Some sum ∙ sound_shown c.index.result.now node.standing.state reading node.standing.adjustment r a c.if-index.false
             (sym in_step ∙ c.state.ensures network c.args.device node k) c.read-reading.ensures
             (ap (λ (u : Units). u.0) (c.adjustment.ensures network c.args.device node k));
       };
