@@ -62,12 +62,10 @@ three {network} {node} {reading} {a} {b} {c} range u v w one two =
     late w.due
 
 pub few_are_emitted : FewAreEmitted
-few_are_emitted network node reading [] range each rising = omega arith
-few_are_emitted network node reading (a ∷ []) range each rising = omega arith
-few_are_emitted network node reading (a ∷ b ∷ []) range each rising = omega arith
 few_are_emitted network node reading (a ∷ b ∷ c ∷ more) range each rising =
     absurd (three range (each a (inl refl)) (each b (inr (inl refl))) (each c (inr (inr (inl refl)))) rising.0
     rising.1.0)
+few_are_emitted network node reading done range each rising = omega arith
 
 -- ---- each act where the device may act
 

@@ -28,22 +28,16 @@ act_rest network device act = device.0 ∷ act_more network act
 
 pub act_stands : (network : Network) (now : ℕ) (device : DeviceId) (act : Act)
     → task_place network now device (task_of act) ≡ now ∷ rank_of_act act ∷ act_rest network device act
-act_stands network now device (acts.Emit sent heard) = refl
 act_stands network now device (acts.Send frame) = refl
-act_stands network now device (acts.Correct cycle verdict) = refl
-act_stands network now device (acts.Dispatch row cycle) = refl
+act_stands network now device act = refl
 
 pub late_rank : (act : Act) → 4 ≤ rank_of_act act
-late_rank (acts.Emit sent heard) = omega arith
 late_rank (acts.Send frame) = omega arith
-late_rank (acts.Correct cycle verdict) = omega arith
-late_rank (acts.Dispatch row cycle) = omega arith
+late_rank act = omega arith
 
 pub low_rank : (act : Act) → rank_of_act act ≤ 6
-low_rank (acts.Emit sent heard) = omega arith
 low_rank (acts.Send frame) = omega arith
-low_rank (acts.Correct cycle verdict) = omega arith
-low_rank (acts.Dispatch row cycle) = omega arith
+low_rank act = omega arith
 
 -- its task is the first of those that are due
 pub first_of : (network : Network) (device : DeviceId) (node : Node) (moment : Moment) (act : Act) (new : Node) → IsActOf network device node moment act new

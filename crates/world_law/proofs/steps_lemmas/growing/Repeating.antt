@@ -2,8 +2,8 @@
 use Rattle.{run_law.specs.machines.Nodes.turning_on, world_law.proofs.{rows.Dispatching.lawful, steps_lemmas.{Words.{sym, ℕ}, steps.Passed.no_task}}}
 use Rattle.world_law.proofs.{growing.Acts.{acts_are_few, may_act_then, one_more_act}, steps_lemmas.{growing.FromZero.kept_from_zero, hearing.Calling.may_call}}
 use Rattle.world_law.proofs.steps_lemmas.Words.{◌++◌, ◌+◌, ◌^◌, ◌∙◌, ◌∷◌, ◌≡◌, ◌≤◌, DeviceId, IsBefore, IsHeld, IsReadyAt, IsSteady, Joining, List, MayCall}
-use Rattle.world_law.proofs.steps_lemmas.Words.{Network, Node, NoteBody, Phase, Ripe, Scenario, State, Units, Verdict, [], acting, amount, arith, arriving}
-use Rattle.world_law.proofs.steps_lemmas.Words.{cases_lt, chain, happenings, inl, inr, length, length-append, moment_of, rank_of_call, refl, ripening, subst}
+use Rattle.world_law.proofs.steps_lemmas.Words.{Network, Node, NoteBody, Phase, Ripe, Scenario, State, Units, Verdict, [], acting, amount, arith}
+use Rattle.world_law.proofs.steps_lemmas.Words.{cases_lt, chain, happenings, inl, inr, length, length-append, moment_of, rank_of_call, refl, subst}
 use Rattle.world_law.specs.steps.{Acting.{correction_bodies, first_bodies, joining_bodies}, Repeating.{ActsAddUp, ActsAreBounded, ActsBringFew, NoActYet}}
 use Rattle.run_law.specs.declared.steps.Act.TheVariants as acts
 use Rattle.run_law.specs.declared.steps.Ripe.TheVariants as ripe
@@ -30,9 +30,7 @@ acts_add_up stands network device moment result times old mid new range rules be
 
 up_to_acting : (phase : Phase) → rank_of_call phase ≤ 4
 up_to_acting turning_on = omega arith
-up_to_acting arriving = omega arith
-up_to_acting ripening = omega arith
-up_to_acting acting = omega arith
+up_to_acting phase = omega arith
 
 not_behind : (now : ℕ) (more : List ℕ) → IsBefore (now ∷ 4 ∷ more) (now ∷ 4 ∷ []) → ⊥
 not_behind now more (inl lt) = omega (arith, lt)

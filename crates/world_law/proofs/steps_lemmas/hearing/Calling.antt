@@ -1,13 +1,11 @@
 -- A device that a world keeps may be called, sound or broken, as its source comes.
 use Rattle.{run_law.specs.machines.{Calls.order_of_phase, Nodes.turning_on}, world_law.specs.world.World.IsCalledBy}
-use Rattle.world_law.proofs.steps_lemmas.Words.{◌+◌, ◌^◌, ◌∷◌, ◌≡◌, ◌≤◌, DeviceId, IsBefore, IsReadyAt, IsSteady, List, MayCall, Node, Phase, Scenario, acting}
-use Rattle.world_law.proofs.steps_lemmas.Words.{amount, arith, arriving, cases_lt, ints, moment_of, rank_of_call, reading_for, refl, ripening, whole, ℕ}
+use Rattle.world_law.proofs.steps_lemmas.Words.{◌+◌, ◌^◌, ◌∷◌, ◌≡◌, ◌≤◌, DeviceId, IsBefore, IsReadyAt, IsSteady, List, MayCall, Node, Phase, Scenario}
+use Rattle.world_law.proofs.steps_lemmas.Words.{amount, arith, cases_lt, ints, moment_of, rank_of_call, reading_for, refl, whole, ℕ}
 
 pub ranked_so : (phase : Phase) → rank_of_call phase ≡ order_of_phase phase + 1
 ranked_so turning_on = refl
-ranked_so arriving = refl
-ranked_so ripening = refl
-ranked_so acting = refl
+ranked_so phase = refl
 
 -- a node that is ready, and was called last not later than the frontier, may be called by a source that is not before
 -- it

@@ -172,13 +172,7 @@ said_by s hs front device now time (kinds.State other state cause whys.Frame) la
             | inr more ↦ absurd (both_ways (is_joined_by other h.note.body) (mere_joins other h.note.body (late_mere other h.note.body (late h more))) c.1.2)
           ]
     ]
-said_by s hs front device now time (kinds.State other state cause whys.Correction) late high kind at c = absurd kind
-said_by s hs front device now time (kinds.State other state cause whys.SyncClique) late high kind at c = absurd kind
-said_by s hs front device now time (kinds.State other state cause whys.AsyncClique) late high kind at c = absurd kind
-said_by s hs front device now time (kinds.Permanent other link cause point verdict) late high kind at c = absurd kind
-said_by s hs front device now time (kinds.Compressed other opened at_ cycle members verdict) late high kind at c = absurd kind
-said_by s hs front device now time (kinds.Corrected other cycle by adjustment) late high kind at c = absurd kind
-said_by s hs front device now time other late high kind at c = inl refl
+said_by s hs front device now time other late high kind at c = inl (grind arith)
 
 module _ (s : Scenario) (hs coming : List Happening) (now : ℕ) where
   high_rank : {more : List ℕ} → IsMoving s hs coming now 3 more

@@ -19,6 +19,14 @@ use Rattle.run_law.{proofs.scenario.Devices.on_by, specs.{machines.Answers.node_
 use Rattle.net_plan.specs.declared.event.What.TheVariants as events
 use Rattle.run_law.specs.declared.note.NoteBody.TheVariants as notes
 
+none_or : (b : Bool) → (b || false) ≡ b
+none_or true = refl
+none_or false = refl
+
+or_true : (b : Bool) → (b || true) ≡ true
+or_true true = refl
+or_true false = refl
+
 -- ---- what an event makes of a node
 
 abbrev broken_so : Bool → Node → Node
@@ -388,20 +396,12 @@ module _ {M : Type 0} (stands : M → Network → DeviceId → Node → Type 0) 
       broken_as stays =
           sym (broken_more network f g past event now device m.at ∙ ap (λ (b : Bool). is_broken s device now || b)
           stays ∙ none_or (is_broken s device now))
-        where
-          none_or : (b : Bool) → (b || false) ≡ b
-          none_or true = refl
-          none_or false = refl
 
       turned_as : turns_on device event.what ≡ false → is_turned_on_at s device now ≡ is_turned_on_at r device now
       turned_as not_on =
           sym (turned_more network f g past event now device ∙ ap
           (λ (b : Bool). is_turned_on_at s device now || (b && amount event.time == now)) not_on
           ∙ none_or (is_turned_on_at s device now))
-        where
-          none_or : (b : Bool) → (b || false) ≡ b
-          none_or true = refl
-          none_or false = refl
 
       goes_out : breaks_at device.0 event.what ≡ true → IsOut stands r (hs ++ ev ∷ []) [] (now ∷ 2 ∷ []) now device
           after
@@ -420,10 +420,6 @@ module _ {M : Type 0} (stands : M → Network → DeviceId → Node → Type 0) 
                 ∙ not_turned_on s hs device now off_then
           ])
           left.counted.adjustment k.ready refl k.phase
-        where
-          or_true : (b : Bool) → (b || true) ≡ true
-          or_true true = refl
-          or_true false = refl
 
       comes_on : turns_on device event.what ≡ true → breaks_at device.0 event.what ≡ false → IsKept stands r
           (hs ++ ev ∷ []) [] (now ∷ 2 ∷ []) now device after
@@ -449,10 +445,6 @@ module _ {M : Type 0} (stands : M → Network → DeviceId → Node → Type 0) 
           (ap is_timed state) left)
           (λ up now_on. elim (cases_Bool (is_turned_on_at s device now))
           [ inl was ↦ absurd (was_off was) | inr off_then ↦ sym (not_turned_on s hs device now off_then) ∙ sym left.state ∙ state ])
-        where
-          or_true : (b : Bool) → (b || true) ≡ true
-          or_true true = refl
-          or_true false = refl
 
       goes_on : breaks_at device.0 event.what ≡ false → turns_on device event.what ≡ false → IsKept stands r
           (hs ++ ev ∷ []) [] (now ∷ 2 ∷ []) now device after
