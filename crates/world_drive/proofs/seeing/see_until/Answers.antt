@@ -3,8 +3,9 @@ use Rattle.world_drive.proofs.{Instants.{given_before, underway_now}, Ways.{aske
 use Rattle.world_drive.proofs.More.{cut_here, cut_in_instant, cut_one, puts_cut, puts_more, puts_none, puts_well, seen_instant, seen_none, seen_one, seen_until}
 use Rattle.world_drive.proofs.Words.{◌++◌, ◌+◌, ◌∙◌, ◌∷◌, ◌≡◌, IsUnderwayAt, List, None, NoteValue, Some, StandsExact, [], amount, ap, arith}
 use Rattle.world_drive.proofs.{Words.{go_on, inl, inr, ints, refl, subst, sym, told_by}, exact_lemmas.Given.{comes_before, comes_to, given_none, is_before}}
-use Rattle.world_drive.proofs.{Words.{◌<ℤ◌, Bool, Option, Start, Units, pos, units_of, ℕ}, seeing.see_until.Goals.{In-Ok-true, In-Ok-true-record}}
-use Rattle.{net_plan.specs.declared.event.Event.{Event as EventValue}, world_drive.specs.Observing.IsGiven}
+use Rattle.world_drive.proofs.{Words.{◌<ℤ◌, Option, Start, Units, pos, units_of, ℕ}, seeing.see_until.Goals.{In-Ok-true, In-Ok-true-record}}
+use Rattle.net_plan.specs.declared.event.Event.{Event as EventValue}
+use Rattle.{std.specs.Prelude.Bool, world_drive.specs.Observing.IsGiven}
 use Rattle.world_drive.proofs.seeing.see_until.Given as given
 use Rattle.world_drive.proofs.seeing.see_until.Goals as goal
 
