@@ -16,7 +16,7 @@ use Rattle.{tte_audit.specs.{Named.IsNamed, Report.scenario_of}, tte_reports.{pr
 use Rattle.std.proofs.Common.{◌<◌, ◌∙◌, ◌∷◌, ◌≡◌, ◌≤◌, Bool, List, None, Option, Some, ap}
 use Rattle.std.proofs.Common.{arith, false, if◌then◌else◌, inl, inr, refl, subst, sym, true, ℕ, ℤ}
 use Rattle.{std.proofs.lemmas.Bool.cases_lt, std.specs.Prelude.{IfSome, IsSomeAnd, nat_le, option_and_then, option_map}}
-use Rattle.sync_state.specs.{Plan.expected_at, Standing.{Standing, point_in}, Verdicts.{HasVerdict, deviation_on}, correction.RecordedCorrection.correction_of}
+use Rattle.sync_state.specs.{Plan.expected_at, Standing.{Standing, point_in}, Verdicts.{HasVerdict, deviation_on}, correction.Correction.correction_of}
 use Rattle.sync_state.specs.{correction.Deviation.deviation_of, declared.{answers.Verdict.Verdict, membership.frame.HeardFrame.HeardFrame, state.State.State}}
 use Rattle.sync_state.specs.membership.{Members.count_of, Summary.{Summarizes, best_on}}
 use Rattle.tte_units.specs.declared.{frames.channel.Channel.{Channel, TheVariants.{A, B}}, units.Units.Units}

@@ -17,7 +17,7 @@ use Rattle.run_law.specs.records.Happenings.{Happening, happenings, numbered, ti
 use Rattle.run_law.specs.scenario.{Devices.{is_relay, start_of}, Scenarios.{Scenario, is_turned_on_at}, Ways.way_from}
 use Rattle.run_law.specs.timed.Arrivals.{occurs_in}
 use Rattle.schedule_tables.specs.{Rules.KeepsRules, declared.entry.Entry.Entry}
-use Rattle.sync_state.specs.{correction.RecordedCorrection.correction_of}
+use Rattle.sync_state.specs.{correction.Correction.correction_of}
 use Rattle.sync_state.specs.{Standing.state_at_start, membership.Members.count_of}
 use Rattle.sync_state.specs.declared.state.State.{State, TheVariants.Integrating}
 use Rattle.{tte_audit.specs.Report.scenario_of, tte_reports.specs.Reports.IsReportOf}
