@@ -24,11 +24,12 @@ use std::mem::replace;
 use sync_state::State as Standing;
 use tte_units::Units;
 use world_state::OutOfMemory;
+use world_state::changes::put_change;
 use world_state::contents::Settled;
 use world_state::hands::{at_hand, dispatched};
 use world_state::outcomes::{Outcomes, corrected, emitted, put_both, sent};
 use world_state::packets::MOST_OCTETS;
-use world_state::settled::{put_some, rank_of};
+use world_state::settled::rank_of;
 
 /// Takes the memory out.
 fn taken(room: &mut Vec<u8>) -> Vec<u8>
@@ -192,7 +193,7 @@ impl<C: Clock, M: TellsKind + Drop> State<C, M> {
             return false;
         }
         let Outcomes { first, second } = outcomes;
-        put_some(&mut self.settled, second);
+        put_change(&mut self.settled, second);
         let own = first.unwrap();
         self.give_first(network, own, note);
         true

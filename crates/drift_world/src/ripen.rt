@@ -13,9 +13,9 @@ use net_plan::{DeviceId, Network};
 use run_law::plain::PlainNote;
 use run_law::{Machine, Moment, Ripe};
 use tte_units::Units;
+use world_state::changes::put_change;
 use world_state::contents::Waits;
 use world_state::ripening::{joined, record_of, settle_ripe};
-use world_state::settled::put_some;
 
 /// A frame that is permanent, and what becomes of it.
 #[derive(Clone, Copy)]
@@ -102,7 +102,7 @@ impl<C: Clock, M: TellsKind + Drop> State<C, M> {
         if is_judged(ripened.ripe) {
             let record = record_of(&ripened.waits, ripened.ripe);
             let change = joined(number, ripened.waits.device, ripened.ripe);
-            put_some(&mut self.settled, change);
+            put_change(&mut self.settled, change);
             self.give_first(network, record, note);
             self.rekey_from(network, one.device.0, before);
             return Turn::Gives;

@@ -53,7 +53,7 @@ fn placed_at(place: Option<DueAt>, time: u64, rank: Rank) -> Option<DueAt>
     ensures none { IfNone result (IfSome place (λ p. p.at ≡ time → p.rank ≡ number_of rank → ⊥)) }
 {
     let place = place?;
-    if place.at == time && place.rank == rank.number() {
+    if place.at == time && place.rank == u32::from(rank.number()) {
         Some(place)
     } else {
         None

@@ -108,7 +108,7 @@ fn sent_up(
     }
     let place = DueAt {
         at: time + port_time(network, link, given.as_slice()) + way.delay,
-        rank: Rank::Arrived.number(),
+        rank: u32::from(Rank::Arrived.number()),
         device: found.parent.0,
         link: link.0,
         cause: number,

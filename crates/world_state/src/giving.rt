@@ -138,7 +138,7 @@ fn port_place(
     };
     DueAt {
         at: giving.time + way.hold,
-        rank: Rank::Left.number(),
+        rank: u32::from(Rank::Left.number()),
         device: giving.device.0,
         link: link.0,
         cause: giving.number,

@@ -3,6 +3,7 @@
 
 pub mod applying;
 pub mod befalling;
+pub mod changes;
 pub mod contents;
 pub mod event_notes;
 pub mod frames;

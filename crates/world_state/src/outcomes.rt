@@ -4,6 +4,7 @@ ghost use Rattle.{run_law.specs.plain.Bodies.body_of, world_state.specs.Acting.s
 ghost use Rattle.world_state.specs.Acting.{bare, clique_by, corrected_by, emitted_by, first_by, framed, joined_by};
 ghost use Rattle.world_state.specs.{Places.IsSomePut, declared.contents.Settled.{Settled as SettledValue}};
 
+use crate::changes::{Change, put_change};
 use crate::contents::Settled;
 use crate::settled::put_some;
 use compression::Compressed;
@@ -21,8 +22,8 @@ use tte_units::frames::Pcf;
 pub struct Outcomes {
     /// The first, if there is one.
     pub first: Option<Settled>,
-    /// The second, if there is one.
-    pub second: Option<Settled>,
+    /// The second, if there is one: a change of state.
+    pub second: Option<Change>,
 }
 
 /// A record that is of no frame.
@@ -78,16 +79,16 @@ fn judged(heard: Ripe) -> Judgement
 }
 
 /// The change of state of a device, where a frame of its own, the record of this number, tells it the time.
-fn joined(number: u64, device: DeviceId, heard: Ripe) -> Option<Settled>
+fn joined(number: u64, device: DeviceId, heard: Ripe) -> Option<Change>
     ensures { result ≡ joined_by number device heard }
 {
     match heard {
-        Ripe::Integrates => Some(bare(PlainKind::State {
+        Ripe::Integrates => Some(Change {
             device,
             state: State::Joining,
             cause: number,
             why: Why::Frame,
-        })),
+        }),
         _ => None,
     }
 }
@@ -119,16 +120,16 @@ pub fn emitted(
 }
 
 /// The change of state of a joiner that corrects its clock by the record of this number.
-fn first_correction(number: u64, device: DeviceId, was: State) -> Option<Settled>
+fn first_correction(number: u64, device: DeviceId, was: State) -> Option<Change>
     ensures { result ≡ first_by number device was }
 {
     match was {
-        State::Joining => Some(bare(PlainKind::State {
+        State::Joining => Some(Change {
             device,
             state: State::Synchronised,
             cause: number,
             why: Why::Correction,
-        })),
+        }),
         State::Off | State::Integrating | State::Synchronised => None,
     }
 }
@@ -189,5 +190,5 @@ pub fn put_both(settled: &mut VecDeque<Settled>, outcomes: Outcomes)
 {
     let Outcomes { first, second } = outcomes;
     put_some(settled, first);
-    put_some(settled, second);
+    put_change(settled, second);
 }

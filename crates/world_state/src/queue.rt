@@ -16,7 +16,7 @@ use std::marker::Model;
 #[derive(Clone, Copy, Debug, PartialEq, Eq, PartialOrd, Ord)]
 pub struct DueAt {
     pub at: u64,
-    pub rank: u8,
+    pub rank: u32,
     pub device: u32,
     pub link: u32,
     pub cause: u64,
@@ -71,7 +71,7 @@ fn push_reserved(heap: &mut BinaryHeap<Reverse<Slotted>>, item: Reverse<Slotted>
 }
 
 /// The slot of the first of these places that has the rank and the cause.
-fn slot_for(places: &[Reverse<Slotted>], rank: u8, cause: u64) -> Option<usize>
+fn slot_for(places: &[Reverse<Slotted>], rank: u32, cause: u64) -> Option<usize>
     ensures found { IfSome result (IsSlotFor places.now rank cause) }
     ensures none { IfNone result (NoSlotFor places.now rank cause) }
 {
@@ -167,7 +167,7 @@ impl<T> UnderWay<T> {
         ensures found { IfSome result (λ content. HoldsAt self.now.entries rank cause content.now) }
         ensures none { IfNone result (HoldsNoneAt self.now.entries rank cause) }
     {
-        match slot_for(self.heap.as_slice(), rank, cause) {
+        match slot_for(self.heap.as_slice(), u32::from(rank), cause) {
             Some(slot) => self.contents.get(slot),
             None => None,
         }

@@ -5,9 +5,10 @@ ghost use Rattle.run_law.specs.machines.Calls.{IsHearing, MayCall, MayRipen, May
 ghost use Rattle.run_law.specs.{machines.Nodes.{Node, ripening}, scenario.Devices.channel_of_link};
 ghost use Rattle.world_state.specs.{Keeping.keeps, Ripening.{AreSettledSo, joined_record, judged_so, ripe_record}};
 
+use crate::changes::{Change, put_change};
 use crate::contents::{Settled, Waits};
 use crate::kept::Kept;
-use crate::settled::{put_in, put_some};
+use crate::settled::put_in;
 use net_plan::{DeviceId, LinkId};
 use run_law::plain::{PlainBody, PlainKind};
 use run_law::{Judgement, Machine, Moment, Reason, Ripe, Why};
@@ -91,24 +92,18 @@ pub fn record_of(waits: &Waits, ripe: Ripe) -> Settled
     }
 }
 
-/// The record that the device joins, where a frame tells it the time by the record of this number.
-pub fn joined(number: u64, device: DeviceId, ripe: Ripe) -> Option<Settled>
+/// The change of state of a device that joins, where a frame tells it the time by the record of this number.
+pub fn joined(number: u64, device: DeviceId, ripe: Ripe) -> Option<Change>
     ensures { result ≡ joined_record number device ripe }
 {
     if ripe != Ripe::Integrates {
         return None;
     }
-    Some(Settled {
-        body: PlainBody {
-            kind: PlainKind::State {
-                device,
-                state: DeviceState::Joining,
-                cause: number,
-                why: Why::Frame,
-            },
-        },
-        frame: None,
-        octets: None,
+    Some(Change {
+        device,
+        state: DeviceState::Joining,
+        cause: number,
+        why: Why::Frame,
     })
 }
 
@@ -118,5 +113,5 @@ pub fn settle_ripe(settled: &mut VecDeque<Settled>, number: u64, waits: &Waits, 
     ensures { AreSettledSo number waits.now ripe settled.old.items settled.new.items }
 {
     put_in(settled, record_of(waits, ripe));
-    put_some(settled, joined(number, waits.device, ripe));
+    put_change(settled, joined(number, waits.device, ripe));
 }

@@ -86,7 +86,7 @@ fn wire_place(
     if is_parent_of(network, sending.device, link) {
         Some(DueAt {
             at: sent + downs[index].delay,
-            rank: Rank::Arrived.number(),
+            rank: u32::from(Rank::Arrived.number()),
             device: found.child.0,
             link: link.0,
             cause: sending.number,
@@ -94,7 +94,7 @@ fn wire_place(
     } else {
         Some(DueAt {
             at: sent + ups[index].delay,
-            rank: Rank::Arrived.number(),
+            rank: u32::from(Rank::Arrived.number()),
             device: found.parent.0,
             link: link.0,
             cause: sending.number,

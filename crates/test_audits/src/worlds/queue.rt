@@ -1,7 +1,7 @@
 use std::test::Fail;
 use world_state::queue::{DueAt, UnderWay};
 
-fn place(at: u64, rank: u8, device: u32, link: u32, cause: u64) -> DueAt {
+fn place(at: u64, rank: u32, device: u32, link: u32, cause: u64) -> DueAt {
     DueAt {
         at,
         rank,

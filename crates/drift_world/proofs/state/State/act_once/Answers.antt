@@ -283,8 +283,8 @@ give_first-requires-clause-sound g c =
         ups = fit.ups;
         downs = fit.downs;
         octets = all_put_some have_octets c.outcomes_of-outcomes.result.second c.args.self.now.settled.items
-            c.put_some.new.settled.items
-            c.put_some.ensures.is (λ z e. (subst (IsFine 7) e proper.second_fine).0) fit.octets;
+            c.put_change.new.settled.items
+            c.put_change.ensures.is (λ z e. (subst (IsFine 7) e proper.second_fine).0) fit.octets;
         below = fit.below;
         waits_below = fit.waits_below;
         apart = fit.apart;
@@ -308,8 +308,8 @@ give_first-requires-clause-next g c =
       s = at.s;
       notes = at.notes;
       next = next_first g.C.Clock.reading g.M.Machine.stands c.args.network.now at.s at.notes world _ w.settled.items refl
-          one c.outcomes_of-outcomes.result.second turn c.put_some.new.settled.items
-          c.put_some.ensures.is (source_of one least most);
+          one c.outcomes_of-outcomes.result.second turn c.put_change.new.settled.items
+          c.put_change.ensures.is (source_of one least most);
       own = turn.first_is;
     }
 
@@ -340,7 +340,7 @@ returns-clause-gives g c = λ yes.
     let w = c.args.self.now in
     let here = (goal.at.returns-clause-gives g c).After-outcomes_of-outcomes in
     let one = c.unwrap-own.result in
-    let rest = c.put_some.new.settled.items in
+    let rest = c.put_change.new.settled.items in
     let give = c.give_first.ensures in
     let new = c.give_first.new.self in
     let least = (fine_of g here one c.unwrap-own.ensures).1 in
@@ -367,7 +367,7 @@ returns-clause-gives g c = λ yes.
           } in
           let turn = turned_first g here one c.unwrap-own.ensures s notes was first in
           (first_given g.C.Clock.reading g.M.Machine.stands c.args.network.now s notes world _ w.settled.items refl
-          one c.outcomes_of-outcomes.result.second turn rest c.put_some.ensures.is (source_of one least most)
+          one c.outcomes_of-outcomes.result.second turn rest c.put_change.ensures.is (source_of one least most)
           (world_of c.args.network.now new) c.give_first.new.note give.note
           (ap (λ (t : State _ _). world_of c.args.network.now t) give.same)
           (give.launched s notes)).0;

@@ -57,8 +57,8 @@ give_first-requires-clause-sound g c =
     let sound = c.ripen_waits-ripened.ensures.sound in
     let number = c.args.self.now.given + 1 in
     sound_same g.C.Clock.last_step c.args.network.now mid _ sound refl refl refl refl refl refl refl refl refl refl
-    (all_put_some have_octets (joined_record number got.waits.device got.ripe) mid.settled.items c.put_some.new.settled.items
-    (subst (λ (o : Option Settled). IsSomePut o mid.settled.items c.put_some.new.settled.items) c.joined-change.ensures c.put_some.ensures.is)
+    (all_put_some have_octets (joined_record number got.waits.device got.ripe) mid.settled.items c.put_change.new.settled.items
+    (subst (λ (o : Option Settled). IsSomePut o mid.settled.items c.put_change.new.settled.items) c.joined-change.ensures c.put_change.ensures.is)
     (joined_fits number got.waits.device got.ripe) sound.fit.octets)
 
 pub give_first-requires-clause-number : goal.give_first-requires-clause-number
@@ -128,8 +128,8 @@ give_first-requires-clause-next g c =
       s = run.s;
       notes = run.notes;
       next = next_first g.C.Clock.reading g.M.Machine.stands network run.s run.notes (world_of network mid) _ mid.settled.items refl
-          one second turn c.put_some.new.settled.items
-          (subst (λ o. IsSomePut o mid.settled.items c.put_some.new.settled.items) c.joined-change.ensures c.put_some.ensures.is)
+          one second turn c.put_change.new.settled.items
+          (subst (λ o. IsSomePut o mid.settled.items c.put_change.new.settled.items) c.joined-change.ensures c.put_change.ensures.is)
           (at_source got.waits got.ripe one c.record_of-record.ensures (c.is_judged.ensures.0 c.if-is_judged.true));
       own = turn.first_is;
     }
@@ -151,11 +151,11 @@ given_so g c s notes from =
     let give = c.give_first.ensures in
     let second = joined_record (c.args.self.now.given + 1) got.waits.device got.ripe in
     let turn = turned_by g.C.Clock.reading g.M.Machine.stands network got.waits got.ripe one second c.record_of-record.ensures from in
-    let put = subst (λ o. IsSomePut o mid.settled.items c.put_some.new.settled.items) c.joined-change.ensures c.put_some.ensures.is in
+    let put = subst (λ o. IsSomePut o mid.settled.items c.put_change.new.settled.items) c.joined-change.ensures c.put_change.ensures.is in
     let source = at_source got.waits got.ripe one c.record_of-record.ensures (c.is_judged.ensures.0 c.if-is_judged.true) in
     (first_given g.C.Clock.reading g.M.Machine.stands network s notes (world_of network mid) _ mid.settled.items refl
     one second turn
-    c.put_some.new.settled.items put source (world_of network c.give_first.new.self) c.give_first.new.note give.note
+    c.put_change.new.settled.items put source (world_of network c.give_first.new.self) c.give_first.new.note give.note
     (ap (λ (t : State _ _). world_of network t) give.same) (give.launched s notes)).0
 
 pub rekey_from-requires : goal.rekey_from-requires
