@@ -11,19 +11,18 @@ use device_rules::TellsKind;
 use drift_clock::Clock;
 use net_plan::{DeviceId, LinkId, Network};
 use run_law::Moment;
-use run_law::plain::{PlainNote, Rank};
+use run_law::plain::PlainNote;
 use tte_units::Units;
 use world_state::OutOfMemory;
-use world_state::contents::Settled;
-use world_state::hearing::{arrived, hear_signal, take_wire};
+use world_state::hearing::{Heard, arrived, hear_signal, take_wire};
 use world_state::queue::DueAt;
-use world_state::settled::{put_in, rank_of};
+use world_state::settled::put_in;
 
 impl<C: Clock, M: TellsKind + Drop> State<C, M> {
-    /// What is on a wire and the first of all that is under way arrives: its device hears it. The record of it is
-    /// answered, which is to be put in among what is settled.
+    /// What is on a wire and the first of all that is under way arrives: its device hears it. It is answered,
+    /// seen as the record of it, which is to be put in among what is settled.
     #[inline(always)]
-    fn hear_wire(&mut self, network: &Network, place: DueAt) -> Settled
+    fn hear_wire(&mut self, network: &Network, place: DueAt) -> Heard
         requires may { MayWork C.last_step C.reading M.stands network.now self.old (SourceOf.Arrival place) }
         ensures sound { IsSound C.last_step network.now self.new }
         ensures octets { HasItsOctets result.body result.octets }
@@ -52,7 +51,7 @@ impl<C: Clock, M: TellsKind + Drop> State<C, M> {
         let machine = &mut self.machines[index];
         let arrival = hear_signal(machine, network, moment, link, &signal, &mut self.made);
         self.early = false;
-        arrived(place, &arrival, signal)
+        arrived(place, arrival, signal)
     }
 }
 
@@ -87,13 +86,15 @@ impl<C: Clock, M: TellsKind + Drop> State<C, M> {
         ensures says { WorkSays network.now self.old self.new note.new result }
     {
         let before = self.due_of(network, place.device);
-        let record = self.hear_wire(network, place);
-        if rank_of(&record) == Rank::Arrived.number() {
-            self.give_first(network, record, note);
+        let heard = self.hear_wire(network, place);
+        if heard.is_taken() {
+            let taken = heard.record();
+            self.give_first(network, taken, note);
             self.rekey_from(network, place.device, before);
             return Turn::Gives;
         }
-        put_in(&mut self.settled, record);
+        let other = heard.record();
+        put_in(&mut self.settled, other);
         self.rekey_act_from(network, place.device, before);
         Turn::GoesOn
     }

@@ -11,21 +11,26 @@ use device_rules::TellsKind;
 use drift_clock::Clock;
 use net_plan::{DeviceId, LinkId, Network};
 use run_law::Machine;
-use run_law::plain::{PlainNote, Rank};
+use run_law::plain::PlainNote;
 use tte_units::frames::Pcf;
-use world_state::contents::Settled;
-use world_state::leaving::{departed, take_port};
+use world_state::leaving::{LeavingFrame, departed, take_port};
 use world_state::queue::DueAt;
-use world_state::settled::{put_in, rank_of};
+use world_state::settled::put_in;
 
 impl<C: Clock, M: Machine + Drop> State<C, M> {
     ghost use Rattle.drift_world.specs.{Showing.IsOf, Sound.{IsSized, IsSound}, Stepping.{ChangesOnly, TurnsPast}};
     ghost use Rattle.run_law.specs.records.Ranks.{rank};
     ghost use Rattle.world_state.specs.{Giving.{HasItsOctets, changed_device}, Leaving.{departure_in, port_entry}};
 
-    /// The record of a frame at a port that leaves; of a broken device there is none.
+    /// The frame at a port that leaves, seen as its record; of a broken device there is none.
     #[inline(always)]
-    fn departure(&self, network: &Network, place: DueAt, frame: Pcf, given: u64) -> Option<Settled>
+    fn departure(
+        &self,
+        network: &Network,
+        place: DueAt,
+        frame: Pcf,
+        given: u64,
+    ) -> Option<LeavingFrame>
         requires sized { IsSized C.last_step network.now self.now }
         requires range { IsInRange network.now }
         requires device { place.device < length network.now.device }
@@ -44,10 +49,10 @@ impl<C: Clock, M: Machine + Drop> State<C, M> {
         Some(departed(network, reading, way.cut, place, frame, given))
     }
 
-    /// The frame at a port that is the first of all leaves. The record of it is answered, which is to be put in among
-    /// what is settled; of a broken device there is none.
+    /// The frame at a port that is the first of all leaves. It is answered, seen as the record of it, which is to be
+    /// put in among what is settled; of a broken device there is none.
     #[inline(always)]
-    fn leave_port(&mut self, network: &Network, place: DueAt) -> Option<Settled>
+    fn leave_port(&mut self, network: &Network, place: DueAt) -> Option<LeavingFrame>
         requires may { MayWork C.last_step C.reading M.stands network.now self.old (SourceOf.Departure place) }
         ensures sound { IsSound C.last_step network.now self.new }
         ensures octets { IfSome result (λ z. HasItsOctets z.body z.octets) }
@@ -74,14 +79,16 @@ impl<C: Clock, M: TellsKind + Drop> State<C, M> {
         ensures kept { IsKept C.last_step C.reading M.stands network.now self.old self.new (noted result note.new) }
         ensures says { WorkSays network.now self.old self.new note.new result }
     {
-        let Some(record) = self.leave_port(network, place) else {
+        let Some(frame) = self.leave_port(network, place) else {
             return Turn::GoesOn;
         };
-        if rank_of(&record) == Rank::Left.number() {
-            self.give_first(network, record, note);
+        if frame.leaves() {
+            let gone = frame.record();
+            self.give_first(network, gone, note);
             return Turn::Gives;
         }
-        put_in(&mut self.settled, record);
+        let other = frame.record();
+        put_in(&mut self.settled, other);
         Turn::GoesOn
     }
 }

@@ -5,6 +5,8 @@ use Rattle.run_law.specs.{control.Leaving.{Departure, leaves, on_cut_way, too_ol
 use Rattle.{run_law.specs.records.Happenings.with_clock, world_state.specs.declared.queue.DueAt.DueAt}
 use Rattle.{run_law.specs.scenario.Scenarios.{Scenario, is_broken}, world_state.specs.declared.contents.Settled.Settled}
 use Rattle.{tte_units.specs.{Amount.amount, declared.frames.pcf.Pcf.Pcf}, world_law.specs.world.World.AtPort}
+use Rattle.world_state.specs.declared.leaving.Fate.{Fate}
+use Rattle.world_state.specs.declared.leaving.Fate.TheVariants as fates
 
 -- what is at the port
 abbrev pub port_entry : DueAt → Pcf → ℕ → AtPort
@@ -29,13 +31,19 @@ frame_after frame (leaves clock) = Some (with_clock clock frame)
 frame_after frame too_old = None
 frame_after frame on_cut_way = None
 
+-- the record of what becomes of it
+abbrev pub departed_so : AtPort → Departure → Settled
+departed_so e is = record { body = departure_body e is; frame = frame_after e.frame is; octets = None }
+
 -- the record
 abbrev pub departed : Network → ℕ → Bool → AtPort → Settled
-departed network reading cut e = record {
-  body = departure_body e (departure_by network reading cut e);
-  frame = frame_after e.frame (departure_by network reading cut e);
-  octets = None;
-}
+departed network reading cut e = departed_so e (departure_by network reading cut e)
+
+-- what becomes of it, as the world keeps it
+abbrev pub departure_of : Fate → Departure
+departure_of (fates.Leaves clock) = leaves clock
+departure_of fates.TooOld = too_old
+departure_of fates.OnCutWay = on_cut_way
 
 -- the record at a time in a scenario: of a broken device there is none
 abbrev pub departure_in : Scenario → ℕ → AtPort → Option Settled

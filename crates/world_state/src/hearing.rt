@@ -1,8 +1,8 @@
-ghost use Rattle.std.specs.Prelude.{◌+◌, ◌<◌, ◌^◌, ◌∷◌, ◌≡◌, ◌≤◌, IsPermutation, List, Ok, ℕ};
+ghost use Rattle.std.specs.Prelude.{◌+◌, ◌<◌, ◌^◌, ◌∷◌, ◌≡◌, ◌≤◌, IsPermutation, List, Ok, false, true, ℕ};
 ghost use Rattle.net_plan.specs.{Ranges.IsInRange, declared.ids.DeviceId.DeviceId as DeviceOf};
 ghost use Rattle.net_plan.specs.declared.network.Network.{Network as NetworkValue};
 ghost use Rattle.{pcf_codec.specs.Encoded.encoded, run_law.specs.control.Wires.{control, signal_of, timed}};
-ghost use Rattle.run_law.specs.{machines.Calls.StandsFor, plain.Bodies.body_of};
+ghost use Rattle.run_law.specs.{machines.Calls.StandsFor, plain.Bodies.body_of, records.Ranks.rank};
 ghost use Rattle.world_law.specs.world.{Calls.HasHeard, Outcomes.arrival_body};
 ghost use Rattle.world_state.specs.queue.Places.{IsFirst};
 ghost use Rattle.world_state.specs.Hearing.{AreOctetsOf, IsAsSent, MayCome, arrived, frame_kept, octets_kept, timed_in};
@@ -16,6 +16,7 @@ use device_rules::{Heading, TellsKind};
 use net_plan::{DeviceId, LinkId, Network};
 use run_law::plain::{PlainBody, PlainKind};
 use run_law::{Arrival, Moment};
+use std::marker::Model;
 use tte_units::frames::{Mac, Pcf};
 
 /// Takes out what is on a wire and the first of all that is under way.
@@ -208,17 +209,64 @@ fn octets_for(arrival: &Arrival, signal: Signal) -> Option<Timed>
     }
 }
 
-/// The record of what becomes of what was on the wire.
+/// What was on a wire, and what becomes of it: it is seen as the record of it.
+#[derive(Drop)]
+pub struct Heard {
+    place: DueAt,
+    arrival: Arrival,
+    signal: Signal,
+}
+
+impl Model for Heard {
+    ghost use Rattle.world_state.specs.{Hearing.arrived, declared.contents.Settled.Settled};
+
+    ghost Value = { Settled };
+
+    ghost view = { λ h. arrived h.place h.arrival h.signal };
+}
+
+/// What becomes of what was on the wire.
 #[inline(always)]
-pub fn arrived(place: DueAt, arrival: &Arrival, signal: Signal) -> Settled
-    ensures { result ≡ arrived place arrival.now signal }
+pub fn arrived(place: DueAt, arrival: Arrival, signal: Signal) -> Heard
+    ensures { result ≡ arrived place arrival signal }
 {
-    let octets = octets_for(arrival, signal);
-    let frame = frame_of(arrival);
-    let kind = kind_of(place, arrival);
-    Settled {
-        body: PlainBody { kind },
-        frame,
-        octets,
+    Heard {
+        place,
+        arrival,
+        signal,
+    }
+}
+
+impl Heard {
+    /// Whether it is a control frame that the device takes.
+    #[inline(always)]
+    pub fn is_taken(&self) -> bool
+        ensures yes { result ≡ true → rank self.now.body ≡ 2 }
+        ensures no { result ≡ false → rank self.now.body ≡ 2 → ⊥ }
+    {
+        match self.arrival {
+            Arrival::Waits(_, _) | Arrival::Passes(_, _) | Arrival::PassesAndWaits(_, _, _) => true,
+            Arrival::Dropped(_) | Arrival::Accepted(_, _) | Arrival::Delivered(_, _) => false,
+        }
+    }
+
+    /// The record of it.
+    #[inline(always)]
+    pub fn record(self) -> Settled
+        ensures { result ≡ self }
+    {
+        let Heard {
+            place,
+            arrival,
+            signal,
+        } = self;
+        let octets = octets_for(&arrival, signal);
+        let frame = frame_of(&arrival);
+        let kind = kind_of(place, &arrival);
+        Settled {
+            body: PlainBody { kind },
+            frame,
+            octets,
+        }
     }
 }

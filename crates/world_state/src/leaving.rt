@@ -1,13 +1,17 @@
-ghost use Rattle.std.specs.Prelude.{◌∷◌, ◌≡◌, ◌≤◌, IsPermutation, None};
+ghost use Rattle.std.specs.Prelude.{◌∷◌, ◌≡◌, ◌≤◌, IsPermutation, None, false, true};
 ghost use Rattle.net_plan.specs.{Ranges.IsInRange, declared.network.Network.Network as NetworkValue};
 ghost use Rattle.run_law.specs.{plain.Bodies.body_of, records.Happenings.with_clock};
-ghost use Rattle.world_state.specs.{Leaving.{departed, port_entry}, Sound.{AreUnderWay, rank_of}, queue.Places.IsFirst};
+ghost use Rattle.run_law.specs.records.Ranks.{rank};
+ghost use Rattle.world_state.specs.Leaving.{departed, departure_by, departure_of, port_entry};
+ghost use Rattle.world_state.specs.Sound.{AreUnderWay, rank_of};
+ghost use Rattle.world_state.specs.{declared.queue.DueAt.DueAt as PlaceOf, queue.Places.IsFirst};
 
 use crate::contents::{Content, Settled};
 use crate::queue::{DueAt, UnderWay};
 use net_plan::{DeviceId, LinkId, Network};
 use run_law::Reason;
 use run_law::plain::{PlainBody, PlainKind};
+use std::marker::Model;
 use tte_units::frames::Pcf;
 
 /// Takes the frame out that is at a port, and the first of all that is under way; and what its device's clock read
@@ -38,7 +42,53 @@ fn port_of(content: Content) -> (Pcf, u64)
     }
 }
 
-/// The record of a frame at a port that leaves.
+/// What becomes of a frame at a port that leaves.
+#[derive(Clone, Copy)]
+enum Fate {
+    /// It leaves with this transparent clock.
+    Leaves(u64),
+    /// It has been on its way for too long.
+    TooOld,
+    /// Its way is cut.
+    OnCutWay,
+}
+
+/// A frame at a port that leaves: it is seen as the record of it.
+#[derive(Drop)]
+pub struct LeavingFrame {
+    place: DueAt,
+    frame: Pcf,
+    given: u64,
+    fate: Fate,
+}
+
+impl Model for LeavingFrame {
+    ghost use Rattle.world_state.specs.Leaving.{departed_so, departure_of, port_entry};
+    ghost use Rattle.world_state.specs.declared.contents.Settled.{Settled};
+
+    ghost Value = { Settled };
+
+    ghost view = { λ f. departed_so (port_entry f.place f.frame f.given) (departure_of f.fate) };
+}
+
+/// What becomes of it, where its device's clock reads this, and its way is cut or not.
+#[inline(always)]
+fn fate_of(network: &Network, reading: u64, cut: bool, frame: &Pcf, given: u64) -> Fate
+    requires { IsInRange network.now }
+    ensures { (place : PlaceOf) → departure_of result
+        ≡ departure_by network.now reading cut (port_entry place frame.now given) }
+{
+    let clock = u128::from(frame.clock) + u128::from(reading.saturating_sub(given));
+    if clock > u128::from(network.dmax.amount()) {
+        return Fate::TooOld;
+    }
+    if cut {
+        return Fate::OnCutWay;
+    }
+    Fate::Leaves(clock as u64)
+}
+
+/// A frame at a port that leaves.
 #[inline(always)]
 pub fn departed(
     network: &Network,
@@ -47,41 +97,65 @@ pub fn departed(
     place: DueAt,
     frame: Pcf,
     given: u64,
-) -> Settled
+) -> LeavingFrame
     requires { IsInRange network.now }
     ensures { result ≡ departed network.now reading cut (port_entry place frame given) }
 {
-    let device = DeviceId(place.device);
-    let link = LinkId(place.link);
-    let cause = place.cause;
-    let clock = u128::from(frame.clock) + u128::from(reading.saturating_sub(given));
-    if clock > u128::from(network.dmax.amount()) {
-        return dropped(PlainKind::Dropped {
-            device,
-            link,
-            cause,
-            reason: Reason::Old,
-        });
+    let fate = fate_of(network, reading, cut, &frame, given);
+    LeavingFrame {
+        place,
+        frame,
+        given,
+        fate,
     }
-    if cut {
-        return dropped(PlainKind::Lost {
-            device,
-            link,
-            cause,
-        });
+}
+
+impl LeavingFrame {
+    /// Whether it goes on its wire.
+    #[inline(always)]
+    pub fn leaves(&self) -> bool
+        ensures yes { result ≡ true → rank self.now.body ≡ 8 }
+        ensures no { result ≡ false → rank self.now.body ≡ 8 → ⊥ }
+    {
+        match self.fate {
+            Fate::Leaves(_) => true,
+            Fate::TooOld | Fate::OnCutWay => false,
+        }
     }
-    let clock = clock as u64;
-    Settled {
-        body: PlainBody {
-            kind: PlainKind::Left {
+
+    /// The record of it.
+    #[inline(always)]
+    pub fn record(&self) -> Settled
+        ensures { result ≡ self.now }
+    {
+        let device = DeviceId(self.place.device);
+        let link = LinkId(self.place.link);
+        let cause = self.place.cause;
+        match self.fate {
+            Fate::Leaves(clock) => Settled {
+                body: PlainBody {
+                    kind: PlainKind::Left {
+                        device,
+                        link,
+                        cause,
+                        clock,
+                    },
+                },
+                frame: Some(with_clock(self.frame, clock)),
+                octets: None,
+            },
+            Fate::TooOld => dropped(PlainKind::Dropped {
                 device,
                 link,
                 cause,
-                clock,
-            },
-        },
-        frame: Some(with_clock(frame, clock)),
-        octets: None,
+                reason: Reason::Old,
+            }),
+            Fate::OnCutWay => dropped(PlainKind::Lost {
+                device,
+                link,
+                cause,
+            }),
+        }
     }
 }
 

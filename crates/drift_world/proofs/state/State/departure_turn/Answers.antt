@@ -3,7 +3,8 @@ use Rattle.drift_world.proofs.{OwnPlaces.{changes_both, no_shelf, no_waiter}, Tu
 use Rattle.drift_world.proofs.{AtSource.source_at, Timings.aside, Turned.{all_put_in, first_given, next_first, turns_of}}
 use Rattle.drift_world.proofs.state.State.departure_turn.Goals.{After-leave_port}
 use Rattle.drift_world.proofs.Words.{◌∙◌, ◌≡◌, ChangesOnly, List, None, Note, Option, Scenario, Settled, Some, Stands, TurnsIn, ap, arith}
-use Rattle.drift_world.proofs.Words.{changed_device, keeps, numbers_of, rank, refl, subst, world_of}
+use Rattle.drift_world.proofs.Words.{changed_device, keeps, numbers_of, rank, refl, subst, sym, world_of}
+use Rattle.world_law.specs.world.World.{is_at_source}
 use Rattle.drift_world.proofs.state.State.departure_turn.Given as given
 use Rattle.drift_world.proofs.state.State.departure_turn.Goals as goal
 
@@ -47,15 +48,20 @@ give_first-requires-clause-room g c =
     let kept = c.in-Some.ensures.room in
     omega (arith, launches, kept)
 
+pub give_first-requires-clause-octets : goal.give_first-requires-clause-octets
+give_first-requires-clause-octets g c = subst have_octets (sym c.record-gone.ensures) c.in-Some.ensures.octets
+
 pub give_first-requires-clause-capacity : goal.give_first-requires-clause-capacity
 give_first-requires-clause-capacity g c =
-    no_waiter c.in-Some.record.body c.leave_port.new.self.waiting
-    (λ two. omega (arith, two, c.rank_of.ensures, c.number.ensures, c.if-rank_of-number.true))
+    let eight : rank c.record-gone.result.body ≡ 8 = ap (λ (z : Settled). rank z.body) c.record-gone.ensures
+    ∙ c.leaves.ensures.yes c.if-leaves.true in
+    no_waiter c.record-gone.result.body c.leave_port.new.self.waiting (λ two. omega (arith, two, eight))
 
 pub give_first-requires-clause-place : goal.give_first-requires-clause-place
 give_first-requires-clause-place g c =
-    no_shelf c.in-Some.record.body c.leave_port.new.self.stored
-    (λ taken. omega (arith, taken, c.rank_of.ensures, c.number.ensures, c.if-rank_of-number.true))
+    let eight : rank c.record-gone.result.body ≡ 8 = ap (λ (z : Settled). rank z.body) c.record-gone.ensures
+    ∙ c.leaves.ensures.yes c.if-leaves.true in
+    no_shelf c.record-gone.result.body c.leave_port.new.self.stored (λ taken. omega (arith, taken, eight))
 
 pub give_first-requires-clause-next : goal.give_first-requires-clause-next
 give_first-requires-clause-next g c =
@@ -65,12 +71,10 @@ give_first-requires-clause-next g c =
     let run = c.requires.may.well.running in
     let here = (goal.at.give_first-requires-clause-next g c).After-leave_port in
     let mid = c.leave_port.new.self in
-    let one = c.in-Some.record in
-    let is = c.rank_of.ensures in
-    let leaving = c.number.ensures in
-    let test = c.if-rank_of-number.true in
-    let eight : rank one.body ≡ 8 = omega (arith, is, leaving, test) in
-    let turn = turned g here (Some one) c.in-Some.is run.s run.notes run.is in
+    let one = c.record-gone.result in
+    let eight : rank one.body ≡ 8 = ap (λ (z : Settled). rank z.body) c.record-gone.ensures
+    ∙ c.leaves.ensures.yes c.if-leaves.true in
+    let turn = turned g here (Some one) (c.in-Some.is ∙ ap Some (sym c.record-gone.ensures)) run.s run.notes run.is in
     record {
       s = run.s;
       notes = run.notes;
@@ -79,20 +83,18 @@ give_first-requires-clause-next g c =
       own = turn.first_is;
     }
 
-pub returns-then-rank_of-number-clause-kept : goal.returns-then-rank_of-number-clause-kept
-returns-then-rank_of-number-clause-kept g c =
+pub returns-then-leaves-clause-kept : goal.returns-then-leaves-clause-kept
+returns-then-leaves-clause-kept g c =
     let mid = c.leave_port.new.self in
     let gave = c.give_first.new.self in
-    let one = c.in-Some.record in
+    let one = c.record-gone.result in
     let other = changed_device one.body in
     let may = c.requires.may in
     let left = c.in-Some.ensures in
     let give = c.give_first.ensures in
-    let is = c.rank_of.ensures in
-    let leaving = c.number.ensures in
-    let test = c.if-rank_of-number.true in
-    let eight : rank one.body ≡ 8 = omega (arith, is, leaving, test) in
-    let far = left.none in
+    let eight : rank one.body ≡ 8 = ap (λ (z : Settled). rank z.body) c.record-gone.ensures
+    ∙ c.leaves.ensures.yes c.if-leaves.true in
+    let far = ap (λ (z : Settled). changed_device z.body) c.record-gone.ensures ∙ left.none in
     let few = may.range.few_devices in
     let changes : ChangesOnly other c.args.self.now gave = changes_both (left.others other) give.others in
     let time = changes.time in
@@ -103,9 +105,10 @@ returns-then-rank_of-number-clause-kept g c =
     let K = g.C.Clock in
     let S = g.M.Machine.stands in
     let network = c.args.network.now in
-    let here = (goal.at.returns-then-rank_of-number-clause-kept g c).After-leave_port in
+    let here = (goal.at.returns-then-leaves-clause-kept g c).After-leave_port in
     (first_given K.reading S network s notes (world_of network mid) _ mid.settled.items refl one None
-    (turned g here (Some one) c.in-Some.is s notes is) mid.settled.items refl (source_at (Departure c.args.place) one.body eight)
+    (turned g here (Some one) (c.in-Some.is ∙ ap Some (sym c.record-gone.ensures)) s notes is) mid.settled.items refl
+    (source_at (Departure c.args.place) one.body eight)
     (world_of network gave) c.give_first.new.note give.note
     (ap (λ (t : State _ _). world_of network t) give.same) (give.launched s notes)).0)
     refl
@@ -119,19 +122,21 @@ returns-clause-kept g c =
     let network = c.args.network.now in
     let mid = c.leave_port.new.self in
     let left = c.in-Some.ensures in
-    let one = c.in-Some.record in
+    let one = c.record-other.result in
+    let same = c.record-other.ensures in
     let put = c.put_in.ensures.is in
     let after : State _ _ = record mid { settled = c.put_in.new.settled } in
     let here = (goal.at.returns-clause-kept g c).After-leave_port in
-    let late = left.late
-    (λ eight. omega (arith, eight, c.rank_of.ensures, c.number.ensures, c.if-rank_of-number.false)) in
+    let late = ap (λ (z : Settled). is_at_source z.body) same ∙ left.late (c.leaves.ensures.no c.if-leaves.false) in
     step_kept K.last_step K.reading S network c.args.self.now after
     (plain_step K.last_step K.reading S network c.args.self.now after c.requires.may.well
     (sound_same K.last_step network mid after left.sound refl refl refl refl refl refl refl refl refl refl
-    (all_put have_octets one mid.settled.items c.put_in.new.settled.items put.0 put.1 left.octets left.sound.fit.octets))
+    (all_put have_octets one mid.settled.items c.put_in.new.settled.items put.0 put.1
+    (subst have_octets (sym same) left.octets) left.sound.fit.octets))
     (λ n. let o = left.others n in record { clocks = o.clocks; time = o.time; ended = o.ended; machines = o.machines; waiting = o.waiting })
     (ap (λ (t : State _ _). t.timers) left.same) (ap (λ (t : State _ _). t.given) left.same)
     (λ s notes is.
     (all_put_in K.reading S network s notes (world_of network mid) _ mid.settled.items refl (Some one)
-    None c.put_in.new.settled.items c.put_in.new.settled.items (turned g here (Some one) c.in-Some.is s notes is)
-    put refl late).0))
+    None c.put_in.new.settled.items c.put_in.new.settled.items
+    (turned g here (Some one) (c.in-Some.is ∙ ap Some (sym same)) s notes is) put
+    refl late).0))

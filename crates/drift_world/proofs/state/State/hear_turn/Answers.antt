@@ -2,10 +2,13 @@ use Rattle.drift_world.proofs.{Dues.due_stays, state.State.hear_turn.Goals.{Afte
 use Rattle.world_state.specs.Frames.{Waiting, room_of}
 use Rattle.drift_world.proofs.{AtSource.source_at, Fits.{all_put, have_octets, sound_same}, Timings.rekeyed}
 use Rattle.drift_world.{proofs.{Halves.{set_act, waits_as}, OwnPlaces.{changes_both, no_shelf, waits_at}}, specs.declared.state.State.State}
-use Rattle.drift_world.{proofs.Turning.{kept_timers, rekeyed_step, runs_on, step_kept}, specs.declared.source.Source.TheVariants.Arrival}
+use Rattle.drift_world.proofs.Turning.{kept_timers, rekeyed_step, runs_on, step_kept}
+use Rattle.drift_world.specs.{Stepping.TurnsPast, declared.source.Source.TheVariants.Arrival}
 use Rattle.drift_world.proofs.Turned.{all_put_in, first_given, next_first, turns_of}
-use Rattle.drift_world.proofs.Words.{◌++◌, ◌<◌, ◌∙◌, ◌∷◌, ◌≡◌, ChangesOnly, DeviceId, IsSound, List, None, Note, Scenario, Some}
-use Rattle.drift_world.proofs.Words.{Stands, [], ap, arith, keeps, length, rank, refl, subst, sym, world_of}
+use Rattle.drift_world.proofs.Words.{◌++◌, ◌<◌, ◌∙◌, ◌∷◌, ◌≡◌, ChangesOnly, DeviceId, IsSound, List, None, Note}
+use Rattle.drift_world.proofs.Words.{Scenario, Settled, Some, Stands, [], ap, arith, changed_device, keeps, length, numbers_of, rank}
+use Rattle.drift_world.proofs.Words.{refl, subst, sym, world_of}
+use Rattle.world_law.specs.world.World.{is_at_source}
 use Rattle.drift_world.proofs.state.State.hear_turn.Given as given
 use Rattle.drift_world.proofs.state.State.hear_turn.Goals as goal
 
@@ -14,25 +17,31 @@ use Rattle.drift_world.proofs.state.State.hear_turn.Goals as goal
 pub give_first-requires-clause-number : goal.give_first-requires-clause-number
 give_first-requires-clause-number g c =
     let numbers = c.requires.may.room.numbers in
-    let given = ap (λ (t : State _ _). t.given) c.hear_wire-record.ensures.same in
+    let given = ap (λ (t : State _ _). t.given) c.hear_wire-heard.ensures.same in
     omega (arith, numbers, given)
 
 pub give_first-requires-clause-room : goal.give_first-requires-clause-room
 give_first-requires-clause-room g c =
     let launches = c.requires.may.room.launches in
-    let kept = c.hear_wire-record.ensures.room in
+    let kept = c.hear_wire-heard.ensures.room in
     omega (arith, launches, kept)
+
+pub give_first-requires-clause-octets : goal.give_first-requires-clause-octets
+give_first-requires-clause-octets g c = subst have_octets (sym c.record-taken.ensures) c.hear_wire-heard.ensures.octets
 
 pub give_first-requires-clause-capacity : goal.give_first-requires-clause-capacity
 give_first-requires-clause-capacity g c =
-    let hear = c.hear_wire-record.ensures in
-    waits_at c.hear_wire-record.result.body c.hear_wire-record.new.self.waiting hear.device
+    let hear = c.hear_wire-heard.ensures in
+    waits_at c.record-taken.result.body c.hear_wire-heard.new.self.waiting
+    (subst (λ (z : Settled). rank z.body ≡ 2 → changed_device z.body ≡ c.args.place.device)
+    (sym c.record-taken.ensures) hear.device)
     (λ two. subst (λ (w : Waiting). 0 < room_of w c.args.place.device) (sym (ap (λ (t : State _ _). t.waiting) hear.same)) c.requires.room)
 
 pub give_first-requires-clause-place : goal.give_first-requires-clause-place
 give_first-requires-clause-place g c =
-    no_shelf c.hear_wire-record.result.body c.hear_wire-record.new.self.stored
-    (λ taken. omega (arith, taken, c.rank_of.ensures, c.number.ensures, c.if-rank_of-number.true))
+    let two : rank c.record-taken.result.body ≡ 2 = ap (λ (z : Settled). rank z.body) c.record-taken.ensures
+    ∙ c.is_taken.ensures.yes c.if-is_taken.true in
+    no_shelf c.record-taken.result.body c.hear_wire-heard.new.self.stored (λ taken. omega (arith, taken, two))
 
 pub give_first-requires-clause-next : goal.give_first-requires-clause-next
 give_first-requires-clause-next g c =
@@ -41,14 +50,13 @@ give_first-requires-clause-next g c =
     let network = c.args.network.now in
     let well = c.requires.may.well in
     let run = well.running in
-    let mid = c.hear_wire-record.new.self in
-    let one = c.hear_wire-record.result in
-    let is = c.rank_of.ensures in
-    let arriving_is = c.number.ensures in
-    let test = c.if-rank_of-number.true in
-    let two : rank one.body ≡ 2 = omega (arith, is, arriving_is, test) in
+    let mid = c.hear_wire-heard.new.self in
+    let one = c.record-taken.result in
+    let two : rank one.body ≡ 2 = ap (λ (z : Settled). rank z.body) c.record-taken.ensures
+    ∙ c.is_taken.ensures.yes c.if-is_taken.true in
     let turn = turns_of K.last_step K.reading S network c.args.self.now mid (Arrival c.args.place) (Some one) None c.requires.may tt
-    c.hear_wire-record.ensures.turns run.s run.notes run.is in
+    (subst (λ (z : Settled). TurnsPast K.reading S network c.args.self.now mid (numbers_of c.args.place) (Some z) None)
+    (sym c.record-taken.ensures) c.hear_wire-heard.ensures.turns) run.s run.notes run.is in
     record {
       s = run.s;
       notes = run.notes;
@@ -57,8 +65,8 @@ give_first-requires-clause-next g c =
       own = turn.first_is;
     }
 
-arriving : (g : given.Over) (c : After-give_first g) → rank c.hear_wire-record.result.body ≡ 2
-arriving g c = omega (arith, c.rank_of.ensures, c.number.ensures, c.if-rank_of-number.true)
+arriving : (g : given.Over) (c : After-give_first g) → rank c.record-taken.result.body ≡ 2
+arriving g c = ap (λ (z : Settled). rank z.body) c.record-taken.ensures ∙ c.is_taken.ensures.yes c.if-is_taken.true
 
 given_so : (g : given.Over) (c : After-give_first g) (s : Scenario) (notes : List Note)
     → Stands g.C.Clock.reading (keeps g.M.Machine.stands) s (world_of c.args.network.now c.args.self.now) notes
@@ -69,12 +77,13 @@ given_so g c s notes is =
     let K = g.C.Clock in
     let S = g.M.Machine.stands in
     let network = c.args.network.now in
-    let mid = c.hear_wire-record.new.self in
-    let one = c.hear_wire-record.result in
+    let mid = c.hear_wire-heard.new.self in
+    let one = c.record-taken.result in
     let give = c.give_first.ensures in
     (first_given K.reading S network s notes (world_of network mid) _ mid.settled.items refl one None
     (turns_of K.last_step K.reading S network c.args.self.now mid (Arrival c.args.place) (Some one) None c.requires.may tt
-    c.hear_wire-record.ensures.turns s notes is)
+    (subst (λ (z : Settled). TurnsPast K.reading S network c.args.self.now mid (numbers_of c.args.place) (Some z) None)
+    (sym c.record-taken.ensures) c.hear_wire-heard.ensures.turns) s notes is)
     mid.settled.items refl (source_at (Arrival c.args.place) one.body (arriving g c)) (world_of network c.give_first.new.self)
     c.give_first.new.note give.note (ap (λ (t : State _ _). world_of network t) give.same) (give.launched s notes)).0
 
@@ -82,7 +91,7 @@ pub rekey_from-requires : goal.rekey_from-requires
 rekey_from-requires g c =
     let may = c.requires.may in
     let run = may.well.running in
-    let hear = c.hear_wire-record.ensures in
+    let hear = c.hear_wire-heard.ensures in
     let give = c.give_first.ensures in
     let timers = ap (λ (t : State _ _). t.timers) give.same ∙ ap (λ (t : State _ _). t.timers) hear.same in
     record {
@@ -106,23 +115,25 @@ rekey_from-requires g c =
           timers;
     }
 
-pub returns-then-rank_of-number-clause-kept : goal.returns-then-rank_of-number-clause-kept
-returns-then-rank_of-number-clause-kept g c =
-    let mid = c.hear_wire-record.new.self in
+pub returns-then-is_taken-clause-kept : goal.returns-then-is_taken-clause-kept
+returns-then-is_taken-clause-kept g c =
+    let mid = c.hear_wire-heard.new.self in
     let gave = c.give_first.new.self in
     let device : DeviceId = record { 0 = c.args.place.device } in
     let may = c.requires.may in
-    let hear = c.hear_wire-record.ensures in
+    let hear = c.hear_wire-heard.ensures in
     let give = c.give_first.ensures in
     let changes : ChangesOnly device.0 c.args.self.now gave = changes_both hear.others
-    (subst (λ d. ChangesOnly d mid gave) (hear.device (arriving g (goal.at.returns-then-rank_of-number-clause-kept g c).After-give_first))
+    (subst (λ d. ChangesOnly d mid gave)
+    (ap (λ (z : Settled). changed_device z.body) c.record-taken.ensures
+    ∙ hear.device (c.is_taken.ensures.yes c.if-is_taken.true))
     give.others) in
     let time = changes.time in
     kept_timers g.C.Clock.last_step g.C.Clock.reading g.M.Machine.stands c.args.network.now c.args.self.now gave
     c.rekey_from.new.self _ may.well
     give.sound
     (record { clocks = changes.clocks; ended = changes.ended; later = omega (arith, time) })
-    (given_so g (goal.at.returns-then-rank_of-number-clause-kept g c).After-give_first) c.rekey_from.ensures.sets.same
+    (given_so g (goal.at.returns-then-is_taken-clause-kept g c).After-give_first) c.rekey_from.ensures.sets.same
     (rekeyed g.C.Clock.reading g.M.Machine.stands c.args.network.now device c.args.self.now gave c.rekey_from.new.self may.well.timed may.foremost.there.device
     changes
     (ap (λ (t : State _ _). t.timers) give.same ∙ ap (λ (t : State _ _). t.timers) hear.same) c.rekey_from.ensures)
@@ -130,36 +141,39 @@ returns-then-rank_of-number-clause-kept g c =
 -- ---- it is put in among others
 
 sound_after : (g : given.Over) (c : After-put_in g)
-    → IsSound g.C.Clock.last_step c.args.network.now (record c.hear_wire-record.new.self { settled = c.put_in.new.settled })
+    → IsSound g.C.Clock.last_step c.args.network.now
+    (record c.hear_wire-heard.new.self { settled = c.put_in.new.settled })
 sound_after g c =
-    let mid = c.hear_wire-record.new.self in
+    let mid = c.hear_wire-heard.new.self in
     let put = c.put_in.ensures.is in
-    let hear = c.hear_wire-record.ensures in
+    let hear = c.hear_wire-heard.ensures in
     sound_same g.C.Clock.last_step c.args.network.now mid _ hear.sound refl refl refl refl refl refl refl refl refl refl
-    (all_put have_octets c.hear_wire-record.result mid.settled.items c.put_in.new.settled.items put.0 put.1 hear.octets hear.sound.fit.octets)
+    (all_put have_octets c.record-other.result mid.settled.items c.put_in.new.settled.items put.0 put.1
+    (subst have_octets (sym c.record-other.ensures) hear.octets) hear.sound.fit.octets)
 
 still : (g : given.Over) (c : After-put_in g) (s : Scenario) (notes : List Note)
     → Stands g.C.Clock.reading (keeps g.M.Machine.stands) s (world_of c.args.network.now c.args.self.now) notes
     → Stands g.C.Clock.reading (keeps g.M.Machine.stands) s
-    (world_of c.args.network.now (record c.hear_wire-record.new.self { settled = c.put_in.new.settled })) notes
+    (world_of c.args.network.now (record c.hear_wire-heard.new.self { settled = c.put_in.new.settled })) notes
 still g c s notes is =
     let K = g.C.Clock in
     let S = g.M.Machine.stands in
     let network = c.args.network.now in
-    let mid = c.hear_wire-record.new.self in
-    let one = c.hear_wire-record.result in
-    let late = c.hear_wire-record.ensures.late
-    (λ two. omega (arith, two, c.rank_of.ensures, c.number.ensures, c.if-rank_of-number.false)) in
+    let mid = c.hear_wire-heard.new.self in
+    let one = c.record-other.result in
+    let late = ap (λ (z : Settled). is_at_source z.body) c.record-other.ensures
+    ∙ c.hear_wire-heard.ensures.late (c.is_taken.ensures.no c.if-is_taken.false) in
     (all_put_in K.reading S network s notes (world_of network mid) _ mid.settled.items refl (Some one) None
     c.put_in.new.settled.items c.put_in.new.settled.items
     (turns_of K.last_step K.reading S network c.args.self.now mid (Arrival c.args.place) (Some one) None c.requires.may tt
-    c.hear_wire-record.ensures.turns s notes is) c.put_in.ensures.is refl late).0
+    (subst (λ (z : Settled). TurnsPast K.reading S network c.args.self.now mid (numbers_of c.args.place) (Some z) None)
+    (sym c.record-other.ensures) c.hear_wire-heard.ensures.turns) s notes is) c.put_in.ensures.is refl late).0
 
 pub rekey_act_from-requires : goal.rekey_act_from-requires
 rekey_act_from-requires g c =
     let may = c.requires.may in
-    let hear = c.hear_wire-record.ensures in
-    let after : State _ _ = record c.hear_wire-record.new.self { settled = c.put_in.new.settled } in
+    let hear = c.hear_wire-heard.ensures in
+    let after : State _ _ = record c.hear_wire-heard.new.self { settled = c.put_in.new.settled } in
     let timers = ap (λ (t : State _ _). t.timers) hear.same in
     record {
       may = record {
@@ -181,9 +195,9 @@ returns-clause-kept g c =
     let device : DeviceId = record { 0 = c.args.place.device } in
     let may = c.requires.may in
     let there = may.foremost.there.device in
-    let hear = c.hear_wire-record.ensures in
+    let hear = c.hear_wire-heard.ensures in
     let o = hear.others in
-    let after : State _ _ = record c.hear_wire-record.new.self { settled = c.put_in.new.settled } in
+    let after : State _ _ = record c.hear_wire-heard.new.self { settled = c.put_in.new.settled } in
     let new = c.rekey_act_from.new.self in
     let keyed = c.rekey_act_from.ensures in
     let timers = ap (λ (t : State _ _). t.timers) hear.same in
