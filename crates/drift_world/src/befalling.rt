@@ -59,6 +59,7 @@ impl<C: Clock, M: Machine + Drop> State<C, M> {
 
 impl<C: Clock, M: TellsKind + Drop> State<C, M> {
     /// The outcomes of the events of the instant are settled.
+    #[inline(never)]
     pub fn settle(&mut self, network: &Network) -> Result<(), OutOfMemory>
         requires may { MayWork C.last_step C.reading M.stands network.now self.old (Source.Events) }
         ensures step { IsStep C.last_step C.reading M.stands network.now self.old self.new }

@@ -51,6 +51,7 @@ impl<C: Clock, M: Machine + Drop> State<C, M> {
 
 impl<C: Clock, M: TellsKind + Drop> State<C, M> {
     /// The clock of the device is shown: its record is given, as it stands at the place of the source.
+    #[inline(never)]
     pub fn show(&mut self, network: &Network, device: DeviceId, note: &mut PlainNote) -> Turn
         requires may { MayWork C.last_step C.reading M.stands network.now self.old (SourceOf.Clock device) }
         ensures kept { IsKept C.last_step C.reading M.stands network.now self.old self.new (noted result note.new) }
