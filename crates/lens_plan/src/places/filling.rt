@@ -1,5 +1,5 @@
 //! Messages placed one after another, each behind the rows that are there and those placed before it.
-ghost use Rattle.std.specs.Prelude.{◌++◌, ◌<◌, ◌^◌, ◌≡◌, ◌≤◌, All, IfOk, OnOk, Some, length, slice_get};
+ghost use Rattle.std.specs.Prelude.{◌++◌, ◌<◌, ◌^◌, ◌∷◌, ◌≡◌, ◌≤◌, All, IfOk, OnOk, Some, [], length, slice_get};
 ghost use Rattle.lens_plan.specs.places.Filling.{IsEarly, IsFilling, IsOrder, rows_of, taken_of};
 ghost use Rattle.lens_plan.specs.places.{Fitting.IsAsked, Offsets.AreSmall};
 ghost use Rattle.net_plan.specs.{Paths.IsTree, Ranges.IsInRange};
@@ -32,6 +32,27 @@ fn taken_of(network: &Network, message: &Message, phase: u32, placed: &Placed) -
     }
 }
 
+/// Adds the row that a message takes in a phase.
+fn push_row(
+    network: &Network,
+    message: &Message,
+    phase: u32,
+    placed: &Placed,
+    rows: &mut Vec<Taken>,
+) -> Result<(), OutOfMemory>
+    requires asked { IsAsked network.now message.now }
+    requires early { IsEarly placed.now }
+    requires rows { All AreSmall rows.old.items }
+    ensures added { OnOk result (rows.new.items
+        ≡ rows.old.items ++ taken_of network.now message.now phase placed.now ∷ []) }
+    ensures small { OnOk result (All AreSmall rows.new.items) }
+{
+    match rows.push(taken_of(network, message, phase, placed)) {
+        Ok(()) => Ok(()),
+        Err(_) => Err(OutOfMemory),
+    }
+}
+
 /// Adds the rows that a message takes.
 fn push_taken(
     network: &Network,
@@ -46,9 +67,9 @@ fn push_taken(
     ensures small { OnOk result (All AreSmall rows.new.items) }
 {
     'rows: for placed in attempt.placed.as_slice() {
-        match rows.push(taken_of(network, message, attempt.phase, placed)) {
+        match push_row(network, message, attempt.phase, placed, rows) {
             Ok(()) => (),
-            Err(_) => return Err(OutOfMemory),
+            Err(OutOfMemory) => return Err(OutOfMemory),
         }
     }
     Ok(())

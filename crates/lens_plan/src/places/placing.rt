@@ -3,6 +3,7 @@ ghost use Rattle.std.specs.Prelude.{◌+◌, ◌^◌, ◌≡◌, ◌≤◌, All,
 ghost use Rattle.lens_plan.specs.places.Placing.{IsOrdered, IsPlacedAt, IsPlacedWay, IsTrial};
 ghost use Rattle.lens_plan.specs.places.Placing.{delay_on, port_on, slot_of};
 ghost use Rattle.{lens_plan.specs.places.Ways.Adds, net_plan.specs.Ranges.IsInRange};
+ghost use Rattle.schedule_tables.specs.Windows.{tolerance};
 
 use crate::Message;
 use crate::places::offsets::{MessageRow, Taken, least_offset};
@@ -75,6 +76,15 @@ fn slot_of(trial: &Trial<'_>, hop: Hop) -> MessageRow
     }
 }
 
+/// The precision and gamma of the trial.
+fn tolerance_of(trial: &Trial<'_>) -> u64
+    requires { IsTrial trial.now }
+    ensures value { result ≡ tolerance trial.now.network.now }
+    ensures bound { result ≤ 2 ^ 43 }
+{
+    trial.tolerance
+}
+
 /// The row with the least offset from this one on.
 fn placed_at(trial: &Trial<'_>, from: u64, hop: Hop) -> Placed
     requires trial { IsTrial trial.now }
@@ -85,12 +95,8 @@ fn placed_at(trial: &Trial<'_>, from: u64, hop: Hop) -> Placed
 {
     let slot = slot_of(trial, hop);
     let offset = least_offset(trial.gamma, &slot, from, trial.rows);
-    let delay = delay_on(trial.network, hop.link);
-    Placed {
-        hop,
-        offset,
-        end: offset + slot.port + delay + trial.tolerance,
-    }
+    let end = offset + slot.port + delay_on(trial.network, hop.link) + tolerance_of(trial);
+    Placed { hop, offset, end }
 }
 
 /// Adds the rows of a way: each has the least offset behind the window of the one before, the first from this one on.

@@ -18,6 +18,15 @@ fn push(numbers: &mut Vec<u64>, number: u64) -> Result<(), OutOfMemory>
     }
 }
 
+/// Adds the id of a virtual link.
+fn push_id(ids: &mut Vec<u64>, id: u16) -> Result<(), OutOfMemory>
+    requires { All (λ id. id < 65536) ids.old.items }
+    ensures ids { OnOk result (ids.new.items ≡ ids.old.items ++ id ∷ []) }
+    ensures small { OnOk result (All (λ id. id < 65536) ids.new.items) }
+{
+    push(ids, id.into())
+}
+
 /// Adds the ids of the network's virtual links.
 fn push_vl_ids(network: &Network, ids: &mut Vec<u64>) -> Result<(), OutOfMemory>
     requires { All (λ id. id < 65536) ids.old.items }
@@ -25,7 +34,7 @@ fn push_vl_ids(network: &Network, ids: &mut Vec<u64>) -> Result<(), OutOfMemory>
     ensures small { OnOk result (All (λ id. id < 65536) ids.new.items) }
 {
     'vls: for vl in network.vl.as_slice() {
-        match push(ids, vl.id.into()) {
+        match push_id(ids, vl.id) {
             Ok(()) => (),
             Err(OutOfMemory) => return Err(OutOfMemory),
         }
@@ -40,7 +49,7 @@ fn push_given_id(message: &Message, ids: &mut Vec<u64>) -> Result<(), OutOfMemor
     ensures small { OnOk result (All (λ id. id < 65536) ids.new.items) }
 {
     match message.id {
-        Some(id) => push(ids, id.into()),
+        Some(id) => push_id(ids, id),
         None => Ok(()),
     }
 }
