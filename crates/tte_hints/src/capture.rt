@@ -1,4 +1,6 @@
 use crate::hinting::Called;
+use crate::saying::Hole::Text;
+use crate::saying::filled;
 use std::alloc::Global;
 use tte_io::{Source, read_all};
 
@@ -34,6 +36,10 @@ pub(crate) fn refused_capture<A: Source>(
 ) -> Option<String> {
     let octets = read_all(alloc, first, CAPTURE_LIMIT).ok()?;
     let format = other_format(octets.as_slice())?;
-    let path = called.first_path();
-    format!(in alloc; "{path} is {format}: editcap -F pcap {path} NEW makes it classic pcap").ok()
+    let path = Text(called.first_path());
+    filled(
+        alloc,
+        "{} is {}: editcap -F pcap {} NEW makes it classic pcap",
+        &[path, Text(format), path],
+    )
 }

@@ -1,22 +1,12 @@
-use std::{fmt, str};
+use std::str;
 
 /// Where octets stop being UTF-8.
 #[derive(Clone, Copy)]
 pub(crate) struct NotText {
     /// Which octet, from 1.
-    octet: u64,
+    pub(crate) octet: u64,
     /// The line where it stands, from 1.
-    line: u64,
-}
-
-impl fmt::Display for NotText {
-    fn fmt<W: fmt::Write>(&self, f: &mut fmt::Formatter<W>) -> fmt::Result {
-        write!(
-            f,
-            "octet {}, in line {}, is not UTF-8",
-            self.octet, self.line
-        )
-    }
+    pub(crate) line: u64,
 }
 
 /// Where octets stop being UTF-8. None where they are a text.
@@ -25,9 +15,14 @@ pub(crate) fn not_text(octets: &[u8]) -> Option<NotText> {
         return None;
     };
     let (text, _) = octets.split_at_checked(error.valid_up_to())?;
-    let lines = text.iter().filter(|octet| **octet == b'\n').count();
+    let mut line = 1u64;
+    for octet in text {
+        if *octet == b'\n' {
+            line = line.saturating_add(1);
+        }
+    }
     Some(NotText {
         octet: (text.len() as u64).saturating_add(1),
-        line: (lines as u64).saturating_add(1),
+        line,
     })
 }

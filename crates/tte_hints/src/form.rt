@@ -7,93 +7,93 @@ pub struct CommandForm(&'static str, &'static [Argument]);
 
 /// The forms of `tte`.
 const TTE: &[CommandForm] = &[
-    CommandForm("show", &[Argument::Frames]),
-    CommandForm("check", &[Argument::Network]),
-    CommandForm("run", &[Argument::Network, Argument::Trace]),
+    CommandForm("show", &[Argument::FRAMES]),
+    CommandForm("check", &[Argument::NETWORK]),
+    CommandForm("run", &[Argument::NETWORK, Argument::TRACE]),
     CommandForm(
         "storm",
-        &[Argument::Network, Argument::Seed, Argument::Cycles],
+        &[Argument::NETWORK, Argument::SEED, Argument::CYCLES],
     ),
     CommandForm(
         "stamp",
-        &[Argument::Network, Argument::Trace, Argument::Granule],
+        &[Argument::NETWORK, Argument::TRACE, Argument::GRANULE],
     ),
-    CommandForm("audit", &[Argument::Network, Argument::Report]),
-    CommandForm("capture", &[Argument::Capture]),
+    CommandForm("audit", &[Argument::NETWORK, Argument::REPORT]),
+    CommandForm("capture", &[Argument::CAPTURE]),
     CommandForm(
         "wire",
         &[
-            Argument::Network,
-            Argument::Trace,
-            Argument::Link,
-            Argument::Way,
+            Argument::NETWORK,
+            Argument::TRACE,
+            Argument::LINK,
+            Argument::WAY,
         ],
     ),
     CommandForm(
         "vote",
         &[
-            Argument::Network,
-            Argument::Trace,
-            Argument::VirtualLink,
-            Argument::VirtualLink,
-            Argument::VirtualLink,
+            Argument::NETWORK,
+            Argument::TRACE,
+            Argument::VIRTUAL_LINK,
+            Argument::VIRTUAL_LINK,
+            Argument::VIRTUAL_LINK,
         ],
     ),
 ];
 
 /// The forms of `lens`. Those of one command stand by their length, the shorter first.
 const LENS: &[CommandForm] = &[
-    CommandForm("slack", &[Argument::Network]),
-    CommandForm("slack", &[Argument::Network, Argument::Rule]),
-    CommandForm("least", &[Argument::Network]),
-    CommandForm("sheet", &[Argument::Network]),
-    CommandForm("plan", &[Argument::Network, Argument::Messages]),
-    CommandForm("latency", &[Argument::Network]),
-    CommandForm("latency", &[Argument::Network, Argument::Report]),
+    CommandForm("slack", &[Argument::NETWORK]),
+    CommandForm("slack", &[Argument::NETWORK, Argument::RULE]),
+    CommandForm("least", &[Argument::NETWORK]),
+    CommandForm("sheet", &[Argument::NETWORK]),
+    CommandForm("plan", &[Argument::NETWORK, Argument::MESSAGES]),
+    CommandForm("latency", &[Argument::NETWORK]),
+    CommandForm("latency", &[Argument::NETWORK, Argument::REPORT]),
     CommandForm(
         "why",
-        &[Argument::Network, Argument::Report, Argument::Record],
+        &[Argument::NETWORK, Argument::REPORT, Argument::RECORD],
     ),
-    CommandForm("draw", &[Argument::Network]),
-    CommandForm("draw", &[Argument::Network, Argument::Report]),
+    CommandForm("draw", &[Argument::NETWORK]),
+    CommandForm("draw", &[Argument::NETWORK, Argument::REPORT]),
     CommandForm(
         "draw",
-        &[Argument::Network, Argument::Report, Argument::Cycle],
+        &[Argument::NETWORK, Argument::REPORT, Argument::CYCLE],
     ),
     CommandForm(
         "draw",
         &[
-            Argument::Network,
-            Argument::Report,
-            Argument::Cycle,
-            Argument::Name,
+            Argument::NETWORK,
+            Argument::REPORT,
+            Argument::CYCLE,
+            Argument::NAME,
         ],
     ),
     CommandForm(
         "draw",
         &[
-            Argument::Network,
-            Argument::Report,
-            Argument::From,
-            Argument::To,
+            Argument::NETWORK,
+            Argument::REPORT,
+            Argument::FROM,
+            Argument::TO,
         ],
     ),
     CommandForm(
         "draw",
         &[
-            Argument::Network,
-            Argument::Report,
-            Argument::From,
-            Argument::To,
-            Argument::AnyName,
+            Argument::NETWORK,
+            Argument::REPORT,
+            Argument::FROM,
+            Argument::TO,
+            Argument::ANY_NAME,
         ],
     ),
-    CommandForm("page", &[Argument::Network, Argument::Report]),
-    CommandForm("clocks", &[Argument::Network, Argument::Report]),
-    CommandForm("flows", &[Argument::Network, Argument::Report]),
+    CommandForm("page", &[Argument::NETWORK, Argument::REPORT]),
+    CommandForm("clocks", &[Argument::NETWORK, Argument::REPORT]),
+    CommandForm("flows", &[Argument::NETWORK, Argument::REPORT]),
     CommandForm(
         "events",
-        &[Argument::Network, Argument::Seed, Argument::Cycles],
+        &[Argument::NETWORK, Argument::SEED, Argument::CYCLES],
     ),
 ];
 
@@ -122,7 +122,7 @@ impl fmt::Display for CommandForm {
         f.write_str(self.0)?;
         for argument in self.1 {
             f.write_str(" ")?;
-            f.write_str(argument.name())?;
+            f.write_str(argument.name)?;
         }
         Ok(())
     }

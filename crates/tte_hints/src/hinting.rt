@@ -1,5 +1,6 @@
 ghost use Rattle.std.specs.Prelude.{◌≡◌, ◌⊎◌, IsNone};
 
+use crate::argument::ArgumentKind;
 use crate::capture::refused_capture;
 use crate::layout::{refused_messages, refused_report};
 use crate::limit::passed_limit;
@@ -8,7 +9,7 @@ use crate::network::refused_network;
 use crate::trace::refused_trace;
 use crate::vote::refused_vote;
 use crate::wording::words_fault;
-use crate::{Argument, Program, forms_of};
+use crate::{Program, forms_of};
 use std::alloc::Global;
 use tte_forms::{Status, Words};
 use tte_io::Source;
@@ -40,11 +41,15 @@ impl<'x> Called<'x> {
     }
 
     /// What the argument at this place is, from 0, by the first form of the command that has one there.
-    pub(crate) fn argument(self, place: usize) -> Option<Argument> {
-        forms_of(self.program)
-            .iter()
-            .filter(|form| form.command() == self.command())
-            .find_map(|form| form.arguments().get(place).copied())
+    pub(crate) fn argument(self, place: usize) -> Option<ArgumentKind> {
+        for form in forms_of(self.program) {
+            if form.command() == self.command() {
+                if let Some(argument) = form.arguments().get(place) {
+                    return Some(argument.kind);
+                }
+            }
+        }
+        None
     }
 
     /// Whether its answer itself tells what rules want of a network.

@@ -1,67 +1,110 @@
+use crate::saying::Hole::{Count, Text};
+use crate::saying::filled;
 use net_file::{KeyName, Spot, TableName};
-use std::fmt;
+use std::alloc::Global;
 use toml::Value;
 
+/// A key that a table may have, and what its value must be.
+type Key = (KeyName, &'static str);
+
+const A_NAME: &str = "a text of 1 to 16 lower-case letters, digits or _";
+
+const OF_DEVICE: &str = "the name of a device";
+
+const FROM_ZERO: &str =
+    "a whole number of units of 2^-16 ns (65536000 to the microsecond) from 0 to 2^40";
+
+const FROM_ONE: &str =
+    "a whole number of units of 2^-16 ns (65536000 to the microsecond) from 1 to 2^40";
+
+const UP_TO_31: &str = "a whole number up to 31, of sync_threshold at least 1";
+
+const UP_TO_255: &str = "a whole number from 0 to 255";
+
+const ADDRESS: &str = "a text of 12 hexadecimal digits, as \"020000000011\"";
+
+const TABLES: &str = "an array of tables";
+
 /// The keys of a device, whatever its role.
-const DEVICE: &[KeyName] = &[
-    KeyName::Name,
-    KeyName::Role,
-    KeyName::Mac,
-    KeyName::Member,
-    KeyName::Channel,
-    KeyName::Start,
+const DEVICE: &[Key] = &[
+    (KeyName::Name, A_NAME),
+    (KeyName::Role, "\"master\", \"client\", \"cm\" or \"relay\""),
+    (KeyName::Mac, ADDRESS),
+    (KeyName::Member, UP_TO_31),
+    (KeyName::Channel, "\"a\" or \"b\""),
+    (KeyName::Start, FROM_ZERO),
 ];
 
 /// The keys of a link.
-const LINK: &[KeyName] = &[
-    KeyName::Name,
-    KeyName::Child,
-    KeyName::Parent,
-    KeyName::Wire,
-    KeyName::Jitter,
-    KeyName::Hold,
-    KeyName::Speed,
+const LINK: &[Key] = &[
+    (KeyName::Name, A_NAME),
+    (KeyName::Child, OF_DEVICE),
+    (KeyName::Parent, OF_DEVICE),
+    (KeyName::Wire, FROM_ONE),
+    (KeyName::Jitter, FROM_ZERO),
+    (KeyName::Hold, FROM_ZERO),
+    (KeyName::Speed, "100 or 1000, in Mbit/s"),
 ];
 
 /// The keys of a virtual link.
-const VL: &[KeyName] = &[
-    KeyName::Name,
-    KeyName::Id,
-    KeyName::Length,
-    KeyName::Ethertype,
-    KeyName::Sender,
-    KeyName::Period,
-    KeyName::Phase,
+const VL: &[Key] = &[
+    (KeyName::Name, A_NAME),
+    (KeyName::Id, "a whole number from 0 to 65535"),
+    (KeyName::Length, "a whole number from 60 to 1514 octets"),
+    (
+        KeyName::Ethertype,
+        "a whole number from 1536 to 65535, other than 35101",
+    ),
+    (KeyName::Sender, OF_DEVICE),
+    (KeyName::Period, "a whole number from 1 to 64 cycles"),
+    (KeyName::Phase, "a whole number from 0 to 63"),
 ];
 
 /// The keys of a row.
-const ROW: &[KeyName] = &[KeyName::Vl, KeyName::Link, KeyName::Way, KeyName::Offset];
+const ROW: &[Key] = &[
+    (KeyName::Vl, "the name of a virtual link"),
+    (KeyName::Link, "the name of a link"),
+    (KeyName::Way, "\"up\" or \"down\""),
+    (KeyName::Offset, FROM_ZERO),
+];
 
 /// The keys of the whole document.
-const TOP: &[KeyName] = &[
-    KeyName::Version,
-    KeyName::Cycle,
-    KeyName::Rho,
-    KeyName::Grain,
-    KeyName::Dmax,
-    KeyName::Calc,
-    KeyName::Settled,
-    KeyName::Precision,
-    KeyName::Correction,
-    KeyName::TtStart,
-    KeyName::SyncThreshold,
-    KeyName::Priority,
-    KeyName::Domain,
-    KeyName::PcfDestination,
-    KeyName::Marker,
-    KeyName::Device,
-    KeyName::Link,
-    KeyName::Vl,
-    KeyName::Row,
+const TOP: &[Key] = &[
+    (KeyName::Version, "1 or 2"),
+    (
+        KeyName::Cycle,
+        "a whole number of units of 2^-16 ns from 2^32 to 2^40 (some 66 us to 16.8 ms)",
+    ),
+    (
+        KeyName::Rho,
+        "a whole number from 0 to 1000000 parts per 10^9 (1000 to the ppm)",
+    ),
+    (
+        KeyName::Grain,
+        "a whole number of units of 2^-16 ns from 1 to 1048576",
+    ),
+    (KeyName::Dmax, FROM_ONE),
+    (KeyName::Calc, FROM_ONE),
+    (KeyName::Settled, FROM_ZERO),
+    (KeyName::Precision, FROM_ONE),
+    (KeyName::Correction, FROM_ZERO),
+    (KeyName::TtStart, FROM_ZERO),
+    (KeyName::SyncThreshold, UP_TO_31),
+    (KeyName::Priority, UP_TO_255),
+    (KeyName::Domain, UP_TO_255),
+    (KeyName::PcfDestination, ADDRESS),
+    (
+        KeyName::Marker,
+        "a text of 8 hexadecimal digits, as \"03040506\"",
+    ),
+    (KeyName::Device, TABLES),
+    (KeyName::Link, TABLES),
+    (KeyName::Vl, TABLES),
+    (KeyName::Row, TABLES),
 ];
 
 /// The keys that such a table may have.
-fn keys_of(table: TableName) -> &'static [KeyName] {
+fn keys_of(table: TableName) -> &'static [Key] {
     match table {
         TableName::Top => TOP,
         TableName::Device => DEVICE,
@@ -69,6 +112,28 @@ fn keys_of(table: TableName) -> &'static [KeyName] {
         TableName::Vl => VL,
         TableName::Row => ROW,
     }
+}
+
+/// What the value of a key must be.
+pub(crate) fn must_be(spot: Spot) -> &'static str {
+    for (key, value) in keys_of(spot.table) {
+        if *key == spot.key {
+            return value;
+        }
+    }
+    ""
+}
+
+/// The array of the document that such tables stand in. None for the document itself.
+fn array_of(table: TableName) -> Option<&'static str> {
+    let array = match table {
+        TableName::Top => return None,
+        TableName::Device => KeyName::Device,
+        TableName::Link => KeyName::Link,
+        TableName::Vl => KeyName::Vl,
+        TableName::Row => KeyName::Row,
+    };
+    Some(array.text())
 }
 
 /// A table of a document.
@@ -80,119 +145,53 @@ pub(crate) struct TablePlace {
 }
 
 impl TablePlace {
-    /// The array of the document that it stands in. None for the document itself.
-    fn array(self) -> Option<KeyName> {
-        match self.table {
-            TableName::Top => None,
-            TableName::Device => Some(KeyName::Device),
-            TableName::Link => Some(KeyName::Link),
-            TableName::Vl => Some(KeyName::Vl),
-            TableName::Row => Some(KeyName::Row),
+    /// The table of the document that stands here.
+    fn of(self, document: &Value) -> Option<&Value> {
+        match array_of(self.table) {
+            Some(array) => document.get(array)?.get(self.index as usize),
+            None => Some(document),
         }
     }
 
-    /// The table of the document that stands here.
-    fn of(self, document: &Value) -> Option<&Value> {
-        match self.array() {
-            Some(array) => document.get(array.text())?.get(self.index as usize),
-            None => Some(document),
+    /// What stands before what is told of the table.
+    pub(crate) fn text(self, alloc: Global) -> Option<String> {
+        match array_of(self.table) {
+            Some(array) => filled(alloc, "{} {}: ", &[Text(array), Count(self.index.into())]),
+            None => Some(String::new(alloc)),
         }
     }
 }
 
-impl fmt::Display for TablePlace {
-    fn fmt<W: fmt::Write>(&self, f: &mut fmt::Formatter<W>) -> fmt::Result {
-        match self.array() {
-            Some(array) => write!(f, "{} {}: ", array.text(), self.index),
-            None => Ok(()),
+/// Whether one of the keys is written so.
+fn is_among(keys: &[Key], text: &str) -> bool {
+    for (key, _) in keys {
+        if key.text() == text {
+            return true;
         }
     }
+    false
 }
 
 /// The first key of a table of a document that no such table has.
 pub(crate) fn unknown_key(document: &Value, place: TablePlace) -> Option<&str> {
     let known = keys_of(place.table);
-    place
-        .of(document)?
-        .as_table()?
-        .keys()
-        .map(|key| key.as_str())
-        .find(|key| known.iter().all(|name| name.text() != *key))
-}
-
-/// A key that a table has, or is to have.
-#[derive(Clone, Copy)]
-pub(crate) struct Wanted(Spot);
-
-impl Wanted {
-    /// The key of this spot.
-    pub(crate) fn at(spot: Spot) -> Wanted {
-        Wanted(spot)
-    }
-
-    /// Its table.
-    fn place(self) -> TablePlace {
-        TablePlace {
-            table: self.0.table,
-            index: self.0.index,
+    for key in place.of(document)?.as_table()?.keys() {
+        if !is_among(known, key.as_str()) {
+            return Some(key.as_str());
         }
     }
+    None
+}
 
-    /// What its value must be.
-    pub(crate) fn must_be(self) -> &'static str {
-        must_be(self.0)
-    }
-
-    /// The text that stands there in a document.
-    pub(crate) fn text_in(self, document: &Value) -> Option<&str> {
-        self.place().of(document)?.get(self.0.key.text())?.as_str()
+/// The table of a key.
+pub(crate) fn place_of(spot: Spot) -> TablePlace {
+    TablePlace {
+        table: spot.table,
+        index: spot.index,
     }
 }
 
-impl fmt::Display for Wanted {
-    fn fmt<W: fmt::Write>(&self, f: &mut fmt::Formatter<W>) -> fmt::Result {
-        write!(f, "{}{}", self.place(), self.0.key.text())
-    }
-}
-
-/// What the value of a key must be. A row's `vl` and `link` are names; those of the document are arrays.
-fn must_be(spot: Spot) -> &'static str {
-    match spot.key {
-        KeyName::Version => "1 or 2",
-        KeyName::Cycle =>
-            "a whole number of units of 2^-16 ns from 2^32 to 2^40 (some 66 us to 16.8 ms)",
-        KeyName::Rho => "a whole number from 0 to 1000000 parts per 10^9 (1000 to the ppm)",
-        KeyName::Grain => "a whole number of units of 2^-16 ns from 1 to 1048576",
-        KeyName::Dmax | KeyName::Calc | KeyName::Precision | KeyName::Wire => {
-            "a whole number of units of 2^-16 ns (65536000 to the microsecond) from 1 to 2^40"
-        }
-        KeyName::Settled
-        | KeyName::Correction
-        | KeyName::TtStart
-        | KeyName::Start
-        | KeyName::Jitter
-        | KeyName::Hold
-        | KeyName::Offset =>
-            "a whole number of units of 2^-16 ns (65536000 to the microsecond) from 0 to 2^40",
-        KeyName::SyncThreshold | KeyName::Member =>
-            "a whole number up to 31, of sync_threshold at least 1",
-        KeyName::Priority | KeyName::Domain => "a whole number from 0 to 255",
-        KeyName::PcfDestination | KeyName::Mac =>
-            "a text of 12 hexadecimal digits, as \"020000000011\"",
-        KeyName::Marker => "a text of 8 hexadecimal digits, as \"03040506\"",
-        KeyName::Name => "a text of 1 to 16 lower-case letters, digits or _",
-        KeyName::Role => "\"master\", \"client\", \"cm\" or \"relay\"",
-        KeyName::Channel => "\"a\" or \"b\"",
-        KeyName::Child | KeyName::Parent | KeyName::Sender => "the name of a device",
-        KeyName::Speed => "100 or 1000, in Mbit/s",
-        KeyName::Id => "a whole number from 0 to 65535",
-        KeyName::Length => "a whole number from 60 to 1514 octets",
-        KeyName::Ethertype => "a whole number from 1536 to 65535, other than 35101",
-        KeyName::Period => "a whole number from 1 to 64 cycles",
-        KeyName::Phase => "a whole number from 0 to 63",
-        KeyName::Way => "\"up\" or \"down\"",
-        KeyName::Vl if spot.table == TableName::Row => "the name of a virtual link",
-        KeyName::Link if spot.table == TableName::Row => "the name of a link",
-        KeyName::Device | KeyName::Link | KeyName::Vl | KeyName::Row => "an array of tables",
-    }
+/// The text that stands at a key of a document.
+pub(crate) fn text_at(document: &Value, spot: Spot) -> Option<&str> {
+    place_of(spot).of(document)?.get(spot.key.text())?.as_str()
 }

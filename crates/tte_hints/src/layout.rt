@@ -1,13 +1,16 @@
 use crate::hinting::Called;
+use crate::saying::Hole::{Count, Text};
+use crate::saying::filled;
 use std::alloc::Global;
 use tte_io::{LineReader, LineTaken, Source};
 
 /// The octets that some editors put before a text in UTF-8.
 const BYTE_ORDER_MARK: &[u8] = &[0xef, 0xbb, 0xbf];
 
-/// The words of a line of messages.
+/// The words of a line of messages, which a file has.
 const MESSAGE: &str =
-    "NAME [id N] length N [ethertype N] period N [phase N] [after T] [by T] from DEVICE to DEVICE ..";
+    "{}: a line is NAME [id N] length N [ethertype N] period N [phase N] [after T] [by T] from DEVICE \
+                       to DEVICE ..";
 
 /// Which octets of a line stand in no file of words with single spaces, whatever its words are.
 pub(crate) fn stray_octets(text: &[u8]) -> Option<&'static str> {
@@ -39,10 +42,15 @@ fn stray_line<B: Source>(alloc: Global, second: &mut B) -> Option<String> {
             return None;
         };
         if let Some(fault) = stray_outside_comments(reader.text()) {
-            return format!(in alloc; "line {number}: {fault}").ok();
+            return filled(alloc, "line {}: {}", &[Count(number.into()), Text(fault)]);
         }
     }
     None
+}
+
+/// The text of a fault of the second file of a call.
+pub(crate) fn of_second(alloc: Global, called: Called<'_>, fault: &str) -> Option<String> {
+    filled(alloc, "{}, {}", &[Text(called.second_path()), Text(fault)])
 }
 
 /// Which line of the report of a call, its second file, is laid out so that it is refused.
@@ -52,8 +60,7 @@ pub(crate) fn refused_report<B: Source>(
     second: &mut B,
 ) -> Option<String> {
     let fault = stray_line(alloc, second)?;
-    let path = called.second_path();
-    format!(in alloc; "{path}, {fault}").ok()
+    of_second(alloc, called, fault.as_str())
 }
 
 /// Which line of the messages of a call, its second file, is laid out so that it is refused, or what a line is.
@@ -62,9 +69,8 @@ pub(crate) fn refused_messages<B: Source>(
     called: Called<'_>,
     second: &mut B,
 ) -> Option<String> {
-    let path = called.second_path();
     match stray_line(alloc, second) {
-        Some(fault) => format!(in alloc; "{path}, {fault}").ok(),
-        None => format!(in alloc; "{path}: a line is {MESSAGE}").ok(),
+        Some(fault) => of_second(alloc, called, fault.as_str()),
+        None => filled(alloc, MESSAGE, &[Text(called.second_path())]),
     }
 }

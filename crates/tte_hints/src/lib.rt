@@ -19,6 +19,7 @@ mod part;
 mod past;
 mod program;
 mod running;
+mod saying;
 mod trace;
 mod unread;
 mod vote;

@@ -1,6 +1,9 @@
+use crate::Program;
+use crate::argument::ArgumentKind;
 use crate::capture::CAPTURE_LIMIT;
 use crate::hinting::{Called, FILE_LIMIT};
-use crate::{Argument, Program};
+use crate::saying::Hole::{Count, Text};
+use crate::saying::filled;
 use std::alloc::Global;
 use tte_io::{ReadAll, Source, read_all};
 
@@ -19,10 +22,10 @@ fn report_limit(program: Program) -> u64 {
 }
 
 /// How many octets the file that an argument of the program names has at most.
-fn most_octets(program: Program, argument: Option<Argument>) -> u64 {
+fn most_octets(program: Program, argument: Option<ArgumentKind>) -> u64 {
     match argument {
-        Some(Argument::Report) => report_limit(program),
-        Some(Argument::Capture) => CAPTURE_LIMIT,
+        Some(ArgumentKind::Report) => report_limit(program),
+        Some(ArgumentKind::Capture) => CAPTURE_LIMIT,
         Some(_) | None => FILE_LIMIT,
     }
 }
@@ -38,35 +41,42 @@ fn exceeds<S: Source>(alloc: Global, most: u64, source: &mut S) -> Option<bool> 
 
 /// That a file has more octets than that.
 fn too_many_octets(alloc: Global, path: &str, most: u64) -> Option<String> {
-    format!(in alloc; "{path} has more than {most} octets").ok()
+    filled(
+        alloc,
+        "{} has more than {} octets",
+        &[Text(path), Count(most)],
+    )
 }
 
 /// The limits, where none of them is known to be passed.
 fn one_of_the_limits(alloc: Global, program: Program) -> Option<String> {
-    let report = report_limit(program);
-    format!(in alloc;
-        "more than is read: 262144 octets, {report} of a report, 16777216 of a capture, or 2^32 lines of a trace"
-    ).ok()
+    filled(
+        alloc,
+        "more than is read: 262144 octets, {} of a report, 16777216 of a capture, or 2^32 lines of a trace",
+        &[Count(report_limit(program))],
+    )
 }
 
 /// That a network with the text of its plan has too many octets.
 fn too_long_a_plan(alloc: Global, path: &str) -> Option<String> {
-    format!(in alloc;
-        "{path} with the text of its plan would have more than {FILE_LIMIT} octets"
-    ).ok()
+    filled(
+        alloc,
+        "{} with the text of its plan would have more than {} octets",
+        &[Text(path), Count(FILE_LIMIT)],
+    )
 }
 
 /// The limit of its second file that a call passed, or that of its plan or its picture.
 fn second_limit<B: Source>(alloc: Global, called: Called<'_>, second: &mut B) -> Option<String> {
     let path = called.second_path();
     let argument = called.argument(1);
-    if matches!(argument, Some(Argument::Trace)) {
-        return format!(in alloc; "{path} has 2^32 lines or more").ok();
+    if matches!(argument, Some(ArgumentKind::Trace)) {
+        return filled(alloc, "{} has 2^32 lines or more", &[Text(path)]);
     }
     let most = most_octets(called.program, argument);
     match exceeds(alloc, most, second) {
         Some(true) => too_many_octets(alloc, path, most),
-        Some(false) if matches!(argument, Some(Argument::Messages)) => {
+        Some(false) if matches!(argument, Some(ArgumentKind::Messages)) => {
             too_long_a_plan(alloc, called.first_path())
         }
         Some(false) => {

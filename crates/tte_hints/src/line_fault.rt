@@ -1,30 +1,23 @@
 ghost use Rattle.net_plan.specs.Ranges.{IsInRange};
 
 use crate::layout::stray_octets;
-use crate::part::{WordKind, parts_of};
+use crate::part::{Part, parts_of};
+use crate::saying::Hole::{Count, Text};
+use crate::saying::filled;
 use net_plan::Network;
 use std::alloc::Global;
-use std::fmt;
 use trace_text::Words;
 
 /// How many octets of a word are shown.
 const SHOWN: usize = 32;
 
-/// A word, to be shown in quotes: its first octets, those that are no letters of ASCII by their numbers.
-#[derive(Clone, Copy)]
-struct Quote<'t>(&'t [u8]);
-
-impl<'t> fmt::Display for Quote<'t> {
-    fn fmt<W: fmt::Write>(&self, f: &mut fmt::Formatter<W>) -> fmt::Result {
-        match self.0.split_at_checked(SHOWN) {
-            Some((shown, _)) => write!(f, "\"{}..\"", shown.escape_ascii()),
-            None => write!(f, "\"{}\"", self.0.escape_ascii()),
-        }
+/// A word in quotes: its first octets, those that are no letters of ASCII by their numbers.
+fn quote(alloc: Global, word: &[u8]) -> Option<String> {
+    match word.split_at_checked(SHOWN) {
+        Some((shown, _)) => format!(in alloc; "\"{}..\"", shown.escape_ascii()).ok(),
+        None => format!(in alloc; "\"{}\"", word.escape_ascii()).ok(),
     }
 }
-
-/// The most words of a line.
-const MOST_WORDS: u32 = 8;
 
 /// What is wrong with a line whatever its words are.
 fn layout_fault(text: &[u8]) -> Option<&'static str> {
@@ -40,36 +33,50 @@ fn layout_fault(text: &[u8]) -> Option<&'static str> {
 const COMMENT: &str = "it has a comment; a trace has none";
 
 /// That no word stands for a part.
-fn missing_word(alloc: Global, place: u32, part: WordKind) -> Option<String> {
-    format!(in alloc;
-        "word {place}, {part}, is missing; it must be {}",
-        part.must_be()
+fn missing_word(alloc: Global, place: u32, part: &Part) -> Option<String> {
+    filled(
+        alloc,
+        "word {}, {}, is missing; it must be {}",
+        &[Count(place.into()), Text(part.name), Text(part.must_be)],
     )
-    .ok()
 }
 
 /// What is wrong with a word that may not stand for a part.
-fn wrong_word(alloc: Global, place: u32, part: WordKind, word: &[u8]) -> Option<String> {
+fn wrong_word(alloc: Global, place: u32, part: &Part, word: &[u8]) -> Option<String> {
+    let place = Count(place.into());
     if word.is_empty() {
-        return format!(in alloc;
-            "a space too many stands before word {place}; one space stands between two words, none at either end"
-        ).ok();
+        return filled(
+            alloc,
+            "a space too many stands before word {}; one space stands between two words, none at either end",
+            &[place],
+        );
     }
-    let quote = Quote(word);
-    format!(in alloc;
-        "word {place} is {quote}; {part} must be {}",
-        part.must_be()
+    let quote = quote(alloc, word)?;
+    filled(
+        alloc,
+        "word {} is {}; {} must be {}",
+        &[
+            place,
+            Text(quote.as_str()),
+            Text(part.name),
+            Text(part.must_be),
+        ],
     )
-    .ok()
 }
 
 /// What is wrong with a word behind the last one of an event.
 fn surplus_word(alloc: Global, place: u32, word: &[u8]) -> Option<String> {
-    let quote = Quote(word);
     match word.first() {
         None => String::from_str(alloc, "a space stands at its end").ok(),
         Some(b'#') => String::from_str(alloc, COMMENT).ok(),
-        Some(_) => format!(in alloc; "word {place}, {quote}, is one too many").ok(),
+        Some(_) => {
+            let quote = quote(alloc, word)?;
+            filled(
+                alloc,
+                "word {}, {}, is one too many",
+                &[Count(place.into()), Text(quote.as_str())],
+            )
+        }
     }
 }
 
@@ -91,14 +98,13 @@ pub(crate) fn line_fault(alloc: Global, network: &Network, text: &[u8]) -> Optio
         return String::from_str(alloc, fault).ok();
     }
     let mut words = Words::of(text);
-    let mut behind = 1;
-    for (part, place) in parts_of(event_of(text)).iter().zip(1..MOST_WORDS) {
-        let part = *part;
+    let mut place = 1u32;
+    for part in parts_of(event_of(text)) {
         match words.next_word() {
-            Some(word) if part.admits(network, word) => behind = place.saturating_add(1),
+            Some(word) if part.admits(network, word) => place = place.saturating_add(1),
             Some(word) => return wrong_word(alloc, place, part, word),
             None => return missing_word(alloc, place, part),
         }
     }
-    surplus_word(alloc, behind, words.next_word()?)
+    surplus_word(alloc, place, words.next_word()?)
 }

@@ -1,10 +1,12 @@
 ghost use Rattle.std.specs.Prelude.{◌≤◌, length};
 ghost use Rattle.net_plan.specs.Ranges.{IsInRange};
 
-use crate::encoding::not_text;
+use crate::encoding::{NotText, not_text};
 use crate::hinting::{Called, FILE_LIMIT};
-use crate::key::{TablePlace, Wanted, unknown_key};
-use net_file::{FileRefusal, find_fault, read_network};
+use crate::key::{TablePlace, must_be, place_of, text_at, unknown_key};
+use crate::saying::Hole::{Count, Text};
+use crate::saying::filled;
+use net_file::{FileRefusal, Spot, find_fault, read_network};
 use net_plan::Network;
 use schedule_checker::{Unfit, check};
 use std::alloc::Global;
@@ -18,20 +20,19 @@ fn document_of(alloc: Global, octets: &[u8]) -> Option<Value> {
     Some(Value::Table(toml::table_from_str(alloc, text).ok()?))
 }
 
-/// Which key is missing.
-fn missing(alloc: Global, called: Called<'_>, wanted: Wanted) -> Option<String> {
-    let path = called.first_path();
-    format!(in alloc;
-        "{path}: {wanted} is missing; it must be {}",
-        wanted.must_be()
+/// What is wrong with a key, or with its value: a text of its path, its table, the key and what it must be.
+fn of_key(alloc: Global, called: Called<'_>, text: &str, spot: Spot) -> Option<String> {
+    let place = place_of(spot).text(alloc)?;
+    filled(
+        alloc,
+        text,
+        &[
+            Text(called.first_path()),
+            Text(place.as_str()),
+            Text(spot.key.text()),
+            Text(must_be(spot)),
+        ],
     )
-    .ok()
-}
-
-/// Which key has no such value as it must have.
-fn no_value(alloc: Global, called: Called<'_>, wanted: Wanted) -> Option<String> {
-    let path = called.first_path();
-    format!(in alloc; "{path}: {wanted} must be {}", wanted.must_be()).ok()
 }
 
 /// Where a network's file is found to be no TOML.
@@ -39,34 +40,38 @@ fn no_toml(alloc: Global, called: Called<'_>, octets: &[u8]) -> Option<String>
     requires { length octets.now ≤ 262144 }
 {
     let place = find_fault(alloc, octets).ok()??;
-    let path = called.first_path();
-    let line = place.line;
-    let column = place.column;
-    format!(in alloc; "{path} is no TOML: line {line}, column {column}").ok()
+    filled(
+        alloc,
+        "{} is no TOML: line {}, column {}",
+        &[
+            Text(called.first_path()),
+            Count(place.line.into()),
+            Count(place.column.into()),
+        ],
+    )
 }
 
 /// Which key of a table is unknown.
 fn no_key(alloc: Global, called: Called<'_>, octets: &[u8], place: TablePlace) -> Option<String> {
     let document = document_of(alloc, octets)?;
     let path = called.first_path();
+    let table = place.text(alloc)?;
     match unknown_key(&document, place) {
-        Some(key) => format!(in alloc; "{path}: {place}no such table has the key {key:?}").ok(),
-        None => format!(in alloc;
-            "{path}: {place}only a master has a member, and only a switch a channel"
-        ).ok(),
+        Some(key) => format!(in alloc; "{path}: {table}no such table has the key {key:?}").ok(),
+        None => filled(
+            alloc,
+            "{}: {}only a master has a member, and only a switch a channel",
+            &[Text(path), Text(table.as_str())],
+        ),
     }
 }
 
 /// Which name is unknown.
-fn no_name(alloc: Global, called: Called<'_>, octets: &[u8], wanted: Wanted) -> Option<String> {
+fn no_name(alloc: Global, called: Called<'_>, octets: &[u8], spot: Spot) -> Option<String> {
     let document = document_of(alloc, octets)?;
-    let name = wanted.text_in(&document)?;
-    let path = called.first_path();
-    format!(in alloc;
-        "{path}: {wanted} must be {}, and {name:?} is none",
-        wanted.must_be()
-    )
-    .ok()
+    let name = text_at(&document, spot)?;
+    let wanted = of_key(alloc, called, "{}: {}{} must be {}", spot)?;
+    format!(in alloc; "{wanted}, and {name:?} is none").ok()
 }
 
 /// Which rule a network breaks.
@@ -77,11 +82,16 @@ fn no_rule(alloc: Global, called: Called<'_>, network: Network) -> Option<String
         return None;
     };
     let path = called.first_path();
-    let rule = broken.number;
-    let index = broken.index;
-    format!(in alloc;
-        "{path} breaks rule {rule} at index {index}: lens slack {path} tells more"
-    ).ok()
+    filled(
+        alloc,
+        "{} breaks rule {} at index {}: lens slack {} tells more",
+        &[
+            Text(path),
+            Count(broken.number.into()),
+            Count(broken.index.into()),
+            Text(path),
+        ],
+    )
 }
 
 /// Why a text is no network.
@@ -95,16 +105,31 @@ fn no_network(
 {
     match refusal {
         FileRefusal::NotToml => no_toml(alloc, called, octets),
-        FileRefusal::Missing(spot) => missing(alloc, called, Wanted::at(spot)),
+        FileRefusal::Missing(spot) => {
+            of_key(alloc, called, "{}: {}{} is missing; it must be {}", spot)
+        }
         FileRefusal::Kind(spot) | FileRefusal::Range(spot) => {
-            no_value(alloc, called, Wanted::at(spot))
+            of_key(alloc, called, "{}: {}{} must be {}", spot)
         }
         FileRefusal::Unknown(table, index) => {
             no_key(alloc, called, octets, TablePlace { table, index })
         }
-        FileRefusal::Name(spot) => no_name(alloc, called, octets, Wanted::at(spot)),
+        FileRefusal::Name(spot) => no_name(alloc, called, octets, spot),
         FileRefusal::OutOfMemory => None,
     }
+}
+
+/// Where a file stops being UTF-8.
+fn no_text(alloc: Global, called: Called<'_>, place: NotText) -> Option<String> {
+    filled(
+        alloc,
+        "{}: octet {}, in line {}, is not UTF-8",
+        &[
+            Text(called.first_path()),
+            Count(place.octet),
+            Count(place.line),
+        ],
+    )
 }
 
 /// Why the network of a call is refused.
@@ -115,9 +140,8 @@ pub(crate) fn refused_network<A: Source>(
 ) -> Option<String> {
     let octets = read_all(alloc, first, FILE_LIMIT).ok()?;
     let octets = octets.as_slice();
-    if let Some(fault) = not_text(octets) {
-        let path = called.first_path();
-        return format!(in alloc; "{path}: {fault}").ok();
+    if let Some(place) = not_text(octets) {
+        return no_text(alloc, called, place);
     }
     match read_network(alloc, octets) {
         Ok(_) if called.tells_rules() => None,

@@ -1,7 +1,7 @@
 ghost use Rattle.net_plan.specs.Ranges.{IsInRange};
 
 use net_plan::{Network, Way};
-use std::{fmt, str};
+use std::str;
 use trace_text::{device_spelled, link_spelled, way_text};
 use tte_forms::number_up_to;
 
@@ -11,149 +11,125 @@ const LATEST: u64 = 1 << 60;
 /// The greatest magnitude of a rate, in parts per 10^9.
 const FASTEST: u64 = 1_000_000_000;
 
-/// What a word of an event's line is.
+/// What a word of an event's line stands for.
 #[derive(Clone, Copy)]
-pub(crate) enum WordKind {
-    Time,
-    /// The word that says what happens to the network.
+enum PartKind {
+    /// A time or a delay.
+    Units,
+    /// What happens to the network.
     Event,
     Device,
     Link,
     Way,
-    Delay,
     Rate,
     Frame,
 }
 
+/// A part of an event's line.
+#[derive(Clone, Copy)]
+pub(crate) struct Part {
+    /// Its name in the pages.
+    pub(crate) name: &'static str,
+    /// What its word must be.
+    pub(crate) must_be: &'static str,
+    kind: PartKind,
+}
+
+const UNITS: &str =
+    "a whole number of units of 2^-16 ns (65536000 to the microsecond) from 0 to 2^60, with no sign, no leading zero \
+     and no other unit";
+
+const TIME: Part = Part {
+    name: "TIME",
+    must_be: UNITS,
+    kind: PartKind::Units,
+};
+
+const EVENT: Part = Part {
+    name: "the event",
+    must_be: "rate, wire, hold, cut, heal, on, break, send or end",
+    kind: PartKind::Event,
+};
+
+const DEVICE: Part = Part {
+    name: "DEVICE",
+    must_be: "the name of a device of the network",
+    kind: PartKind::Device,
+};
+
+const LINK: Part = Part {
+    name: "LINK",
+    must_be: "the name of a link of the network",
+    kind: PartKind::Link,
+};
+
+const WAY: Part = Part {
+    name: "WAY",
+    must_be: "up or down",
+    kind: PartKind::Way,
+};
+
+const DELAY: Part = Part {
+    name: "UNITS",
+    must_be: UNITS,
+    kind: PartKind::Units,
+};
+
+const RATE: Part = Part {
+    name: "PPB",
+    must_be: "a whole number of parts per 10^9 (1000 to the ppm) from -1000000000 to 1000000000, with no plus sign, no \
+              leading zero and no unit",
+    kind: PartKind::Rate,
+};
+
+const FRAME: Part = Part {
+    name: "HEX",
+    must_be: "a frame of 60 to 1514 octets, two hexadecimal digits to each",
+    kind: PartKind::Frame,
+};
+
 /// The parts of each event's line, by the word of the event.
-const LINES: &[(&str, &[WordKind])] = &[
-    (
-        "rate",
-        &[
-            WordKind::Time,
-            WordKind::Event,
-            WordKind::Device,
-            WordKind::Rate,
-        ],
-    ),
-    (
-        "wire",
-        &[
-            WordKind::Time,
-            WordKind::Event,
-            WordKind::Link,
-            WordKind::Way,
-            WordKind::Delay,
-        ],
-    ),
-    (
-        "hold",
-        &[
-            WordKind::Time,
-            WordKind::Event,
-            WordKind::Link,
-            WordKind::Way,
-            WordKind::Delay,
-        ],
-    ),
-    (
-        "cut",
-        &[
-            WordKind::Time,
-            WordKind::Event,
-            WordKind::Link,
-            WordKind::Way,
-        ],
-    ),
-    (
-        "heal",
-        &[
-            WordKind::Time,
-            WordKind::Event,
-            WordKind::Link,
-            WordKind::Way,
-        ],
-    ),
-    ("on", &[WordKind::Time, WordKind::Event, WordKind::Device]),
-    (
-        "break",
-        &[WordKind::Time, WordKind::Event, WordKind::Device],
-    ),
-    (
-        "send",
-        &[
-            WordKind::Time,
-            WordKind::Event,
-            WordKind::Link,
-            WordKind::Frame,
-        ],
-    ),
-    ("end", &[WordKind::Time, WordKind::Event]),
+const LINES: &[(&str, &[Part])] = &[
+    ("rate", &[TIME, EVENT, DEVICE, RATE]),
+    ("wire", &[TIME, EVENT, LINK, WAY, DELAY]),
+    ("hold", &[TIME, EVENT, LINK, WAY, DELAY]),
+    ("cut", &[TIME, EVENT, LINK, WAY]),
+    ("heal", &[TIME, EVENT, LINK, WAY]),
+    ("on", &[TIME, EVENT, DEVICE]),
+    ("break", &[TIME, EVENT, DEVICE]),
+    ("send", &[TIME, EVENT, LINK, FRAME]),
+    ("end", &[TIME, EVENT]),
 ];
 
-/// The parts of a line with this word for its event: the first two where it is none.
-pub(crate) fn parts_of(event: &[u8]) -> &'static [WordKind] {
+/// The parts of the line of an event with this word. None where it is none.
+fn parts_with(event: &[u8]) -> Option<&'static [Part]> {
     for (word, parts) in LINES {
         if word.as_bytes() == event {
-            return parts;
+            return Some(parts);
         }
     }
-    &[WordKind::Time, WordKind::Event]
+    None
 }
 
-impl WordKind {
-    /// Its name in the pages.
-    pub(crate) fn name(self) -> &'static str {
-        match self {
-            WordKind::Time => "TIME",
-            WordKind::Event => "the event",
-            WordKind::Device => "DEVICE",
-            WordKind::Link => "LINK",
-            WordKind::Way => "WAY",
-            WordKind::Delay => "UNITS",
-            WordKind::Rate => "PPB",
-            WordKind::Frame => "HEX",
-        }
-    }
+/// The parts of a line with this word for its event: the first two where it is none.
+pub(crate) fn parts_of(event: &[u8]) -> &'static [Part] {
+    parts_with(event).unwrap_or(&[TIME, EVENT])
+}
 
-    /// What it must be.
-    pub(crate) fn must_be(self) -> &'static str {
-        match self {
-            WordKind::Time | WordKind::Delay => {
-                "a whole number of units of 2^-16 ns (65536000 to the microsecond) from 0 to 2^60, with no sign, no \
-                 leading zero and no other unit"
-            }
-            WordKind::Event => "rate, wire, hold, cut, heal, on, break, send or end",
-            WordKind::Device => "the name of a device of the network",
-            WordKind::Link => "the name of a link of the network",
-            WordKind::Way => "up or down",
-            WordKind::Rate => {
-                "a whole number of parts per 10^9 (1000 to the ppm) from -1000000000 to 1000000000, with no plus \
-                 sign, no leading zero and no unit"
-            }
-            WordKind::Frame => "a frame of 60 to 1514 octets, two hexadecimal digits to each",
-        }
-    }
-
+impl Part {
     /// Whether the word may stand for it.
-    pub(crate) fn admits(self, network: &Network, word: &[u8]) -> bool
+    pub(crate) fn admits(&self, network: &Network, word: &[u8]) -> bool
         requires { IsInRange network.now }
     {
-        match self {
-            WordKind::Time | WordKind::Delay => is_number(LATEST, word),
-            WordKind::Event => LINES.iter().any(|line| line.0.as_bytes() == word),
-            WordKind::Device => device_spelled(network, word).is_some(),
-            WordKind::Link => link_spelled(network, word).is_some(),
-            WordKind::Way => is_way(word),
-            WordKind::Rate => is_rate(word),
-            WordKind::Frame => is_frame(word),
+        match self.kind {
+            PartKind::Units => is_number(LATEST, word),
+            PartKind::Event => parts_with(word).is_some(),
+            PartKind::Device => device_spelled(network, word).is_some(),
+            PartKind::Link => link_spelled(network, word).is_some(),
+            PartKind::Way => is_way(word),
+            PartKind::Rate => is_rate(word),
+            PartKind::Frame => is_frame(word),
         }
-    }
-}
-
-impl fmt::Display for WordKind {
-    fn fmt<W: fmt::Write>(&self, f: &mut fmt::Formatter<W>) -> fmt::Result {
-        f.write_str(self.name())
     }
 }
 
@@ -181,8 +157,5 @@ fn is_way(word: &[u8]) -> bool {
 /// Whether the word spells the octets of a frame.
 fn is_frame(word: &[u8]) -> bool {
     let octets = word.len() / 2;
-    word.len() % 2 == 0
-        && 60 <= octets
-        && octets <= 1514
-        && word.iter().all(|digit| digit.is_ascii_hexdigit())
+    word.len() % 2 == 0 && 60 <= octets && octets <= 1514 && word.iter().all(u8::is_ascii_hexdigit)
 }

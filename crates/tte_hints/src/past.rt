@@ -1,8 +1,10 @@
 use crate::breach::{hold, late, not_broken, not_master, rate, wire};
 use crate::line_fault::line_fault;
-use crate::naming::{channel_of, device_at, device_text, letter_of, link_text};
+use crate::naming::{channel_of, device_at, device_text, letter_of, link_text, text_of};
+use crate::saying::Hole::{Count, Number, Text};
+use crate::saying::filled;
 use fault_hypothesis::{Outside, Watch};
-use net_plan::{DeviceId, Event, LinkId, Network, Role, What};
+use net_plan::{DeviceId, Event, LinkId, Network, What};
 use schedule_tables::Accepted;
 use std::alloc::Global;
 use trace_text::line;
@@ -53,9 +55,11 @@ impl<'n> Past<'n> {
     /// Takes the next line. Where the trace is refused there, answers why, as far as memory goes.
     pub(crate) fn take(&mut self, number: u32, text: &[u8]) -> Result<(), Option<String>> {
         if let Some(end) = self.end {
-            return Err(format!(in self.alloc;
-                "line {number} stands behind line {end}, the end"
-            ).ok());
+            return Err(filled(
+                self.alloc,
+                "line {} stands behind line {}, the end",
+                &[Count(number.into()), Count(end.into())],
+            ));
         }
         let network = self.accepted.network();
         match line(network, text) {
@@ -67,7 +71,11 @@ impl<'n> Past<'n> {
     /// The text of a line's fault.
     fn of_line(&self, number: u32, fault: Option<String>) -> Option<String> {
         let fault = fault?;
-        format!(in self.alloc; "line {number}: {fault}").ok()
+        filled(
+            self.alloc,
+            "line {}: {}",
+            &[Count(number.into()), Text(fault.as_str())],
+        )
     }
 
     /// Takes the event of a line.
@@ -88,22 +96,17 @@ impl<'n> Past<'n> {
 
     /// Keeps of the event of a line what later ones are judged by.
     fn keep(&mut self, number: u32, event: &Event) {
-        self.last = Some(Since {
-            line: number,
-            what: event.time,
-        });
+        let line = number;
+        let what = event.time;
+        self.last = Some(Since { line, what });
         match &event.what {
             What::Cut(link, _) if self.cut.is_none() => {
-                self.cut = Some(Since {
-                    line: number,
-                    what: *link,
-                });
+                let what = *link;
+                self.cut = Some(Since { line, what });
             }
             What::Break(device) => {
-                self.broken = Some(Since {
-                    line: number,
-                    what: *device,
-                });
+                let what = *device;
+                self.broken = Some(Since { line, what });
             }
             What::On(device) => self.turn_on(number, *device),
             What::End => self.end = Some(number),
@@ -119,6 +122,14 @@ impl<'n> Past<'n> {
     fn turn_on(&mut self, number: u32, device: DeviceId) {
         if let Some(line) = self.turned_on.get_mut(device.0 as usize) {
             *line = number;
+        }
+    }
+
+    /// The line that turned the device on, or 0.
+    fn turned_on_at(&self, device: DeviceId) -> u32 {
+        match self.turned_on.get(device.0 as usize) {
+            Some(line) => *line,
+            None => 0,
         }
     }
 
@@ -155,29 +166,40 @@ impl<'n> Past<'n> {
     }
 
     fn early(&self, time: Units) -> Option<String> {
-        let time = time.0;
         let before = self.last?;
-        let line = before.line;
-        let last = before.what.0;
-        format!(in self.alloc; "it comes at {time}, earlier than line {line} at {last}").ok()
+        filled(
+            self.alloc,
+            "it comes at {}, earlier than line {} at {}",
+            &[
+                Number(time.0),
+                Count(before.line.into()),
+                Number(before.what.0),
+            ],
+        )
     }
 
     fn other_channel(&self, link: LinkId) -> Option<String> {
         let network = self.accepted.network();
-        let channel = letter_of(channel_of(network, link)?);
-        let faulty = letter_of(self.watch.faulty()?);
-        let link = link_text(network, link);
+        let channel = Text(letter_of(channel_of(network, link)?));
+        let faulty = Text(letter_of(self.watch.faulty()?));
+        let link = Text(link_text(network, link));
         match self.cut {
-            Some(first) => {
-                let line = first.line;
-                let first = link_text(network, first.what);
-                format!(in self.alloc;
-                    "it cuts {link} of channel {channel}; line {line} cuts {first}, so channel {faulty} is the faulty one"
-                ).ok()
-            }
-            None => format!(in self.alloc;
-                "it cuts {link} of channel {channel}; a switch of channel {faulty} begins off, so that is the faulty one"
-            ).ok(),
+            Some(first) => filled(
+                self.alloc,
+                "it cuts {} of channel {}; line {} cuts {}, so channel {} is the faulty one",
+                &[
+                    link,
+                    channel,
+                    Count(first.line.into()),
+                    Text(link_text(network, first.what)),
+                    faulty,
+                ],
+            ),
+            None => filled(
+                self.alloc,
+                "it cuts {} of channel {}; a switch of channel {} begins off, so that is the faulty one",
+                &[link, channel, faulty],
+            ),
         }
     }
 
@@ -200,48 +222,57 @@ impl<'n> Past<'n> {
     fn second_break(&self, device: DeviceId) -> Option<String> {
         let network = self.accepted.network();
         let broken = self.broken?;
-        let line = broken.line;
-        let first = device_text(network, broken.what);
-        let device = device_text(network, device);
-        format!(in self.alloc;
-            "it breaks {device}; line {line} breaks {first}, and no second device may break"
-        ).ok()
+        filled(
+            self.alloc,
+            "it breaks {}; line {} breaks {}, and no second device may break",
+            &[
+                Text(device_text(network, device)),
+                Count(broken.line.into()),
+                Text(device_text(network, broken.what)),
+            ],
+        )
     }
 
     fn too_few_masters(&self, device: DeviceId) -> Option<String> {
         let network = self.accepted.network();
-        let began_on = device_at(network, device)?.start.is_some();
-        let left = masters_on(network).saturating_sub(usize::from(began_on));
-        let threshold = network.sync_threshold;
-        let device = device_text(network, device);
-        format!(in self.alloc;
-            "it breaks {device}, which leaves {left} masters that began on; sync_threshold asks for {threshold}"
-        ).ok()
+        let broken = device_at(network, device)?;
+        let left = masters_on(network).saturating_sub(u64::from(broken.start.is_some()));
+        filled(
+            self.alloc,
+            "it breaks {}, which leaves {} masters that began on; sync_threshold asks for {}",
+            &[
+                Text(text_of(&broken.name)),
+                Count(left),
+                Count(network.sync_threshold.into()),
+            ],
+        )
     }
 
     fn not_off(&self, id: DeviceId) -> Option<String> {
-        let device = device_text(self.accepted.network(), id);
-        if let Some(broken) = self.broken.filter(|broken| broken.what == id) {
-            let line = broken.line;
-            return format!(in self.alloc; "it turns on {device}, which line {line} breaks").ok();
-        }
-        match self.turned_on.get(id.0 as usize) {
-            Some(0) | None => {
-                format!(in self.alloc; "it turns on {device}, which begins on").ok()
+        let device = Text(device_text(self.accepted.network(), id));
+        let (line, text) = match self.broken {
+            Some(broken) if broken.what == id => {
+                (broken.line, "it turns on {}, which line {} breaks")
             }
-            Some(line) => {
-                format!(in self.alloc; "it turns on {device}, which line {line} turned on").ok()
-            }
+            Some(_) | None => (
+                self.turned_on_at(id),
+                "it turns on {}, which line {} turned on",
+            ),
+        };
+        if line == 0 {
+            return filled(self.alloc, "it turns on {}, which begins on", &[device]);
         }
+        filled(self.alloc, text, &[device, Count(line.into())])
     }
 }
 
 /// How many masters of the network begin on.
-fn masters_on(network: &Network) -> usize {
-    network
-        .device
-        .as_slice()
-        .iter()
-        .filter(|found| found.role == Role::Master && found.start.is_some())
-        .count()
+fn masters_on(network: &Network) -> u64 {
+    let mut count = 0u64;
+    for device in network.device.as_slice() {
+        if device.role.is_master() && device.start.is_some() {
+            count = count.saturating_add(1);
+        }
+    }
+    count
 }

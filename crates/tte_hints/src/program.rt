@@ -1,5 +1,3 @@
-use std::fmt;
-
 /// Which of the two programs was called.
 #[derive(Clone, Copy)]
 pub enum Program {
@@ -22,11 +20,5 @@ impl Program {
             Program::Tte => Program::Lens,
             Program::Lens => Program::Tte,
         }
-    }
-}
-
-impl fmt::Display for Program {
-    fn fmt<W: fmt::Write>(&self, f: &mut fmt::Formatter<W>) -> fmt::Result {
-        f.write_str(self.name())
     }
 }

@@ -116,7 +116,7 @@ fn explain<R: Files + Eprint>(rt: &R, alloc: Global, called: Called<'_>, ended: 
         Status::Done => Ok(()),
         Status::ReadFault => {
             let path = ended.unread;
-            let why = Unread::why(rt, path);
+            let why = Unread::why(rt, path).text();
             eprintln!(rt; "{name}: cannot read {path}: {why}")
         }
         Status::WriteFault if writes_to_pipe(rt) => Ok(()),

@@ -1,5 +1,8 @@
 use crate::hinting::Called;
+use crate::layout::of_second;
 use crate::past::Past;
+use crate::saying::Hole::Count;
+use crate::saying::filled;
 use schedule_tables::Accepted;
 use std::alloc::Global;
 use tte_forms::accept;
@@ -17,7 +20,11 @@ fn trace_fault<B: Source>(alloc: Global, accepted: &Accepted, second: &mut B) ->
                 }
             }
             Ok(LineTaken::Long) => {
-                return format!(in alloc; "line {number} has more than 4096 octets").ok();
+                return filled(
+                    alloc,
+                    "line {} has more than 4096 octets",
+                    &[Count(number.into())],
+                );
             }
             Ok(LineTaken::End) if past.has_ended() => return None,
             Ok(LineTaken::End) => {
@@ -39,6 +46,5 @@ pub(crate) fn refused_trace<A: Source, B: Source>(
 ) -> Option<String> {
     let accepted = accept(alloc, first).ok()?;
     let fault = trace_fault(alloc, &accepted, second)?;
-    let path = called.second_path();
-    format!(in alloc; "{path}, {fault}").ok()
+    of_second(alloc, called, fault.as_str())
 }

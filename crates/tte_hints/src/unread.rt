@@ -1,26 +1,31 @@
 use std::fs;
 use std::io::{ErrorKind, Read};
 use std::rt::Files;
-use thiserror::Error;
 
 /// Why a file can't be read.
-#[derive(Clone, Copy, Debug, PartialEq, Eq, Error)]
+#[derive(Clone, Copy, Debug, PartialEq, Eq)]
 pub enum Unread {
-    #[error("there is no such file")]
     Absent,
-    #[error("no file has this name; standard input is /dev/stdin")]
     Dash,
-    #[error("its path is empty")]
     NoPath,
-    #[error("it is a directory")]
     Directory,
-    #[error("you have no right to read it")]
     Forbidden,
-    #[error("a read failed")]
     Failed,
 }
 
 impl Unread {
+    /// What is told of it.
+    pub fn text(self) -> &'static str {
+        match self {
+            Unread::Absent => "there is no such file",
+            Unread::Dash => "no file has this name; standard input is /dev/stdin",
+            Unread::NoPath => "its path is empty",
+            Unread::Directory => "it is a directory",
+            Unread::Forbidden => "you have no right to read it",
+            Unread::Failed => "a read failed",
+        }
+    }
+
     /// What an error of this kind tells of the file at a path.
     pub fn of(path: &str, kind: ErrorKind) -> Unread {
         match kind {

@@ -1,86 +1,68 @@
 use crate::hinting::Called;
 use crate::naming::{device_text, text_of};
+use crate::saying::Hole::{Count, Text};
+use crate::saying::filled;
 use net_plan::{Network, VirtualLink};
 use std::alloc::Global;
 use tte_forms::read_unjudged;
 use tte_io::Source;
 
-/// Why two virtual links can't be voted on.
-#[derive(Clone, Copy)]
-enum VoteFault<'n> {
-    /// They have one sender.
-    Sender {
-        one: &'n str,
-        two: &'n str,
-        sender: &'n str,
-    },
-    /// The number of this key is another.
-    Number {
-        key: &'static str,
-        one: &'n str,
-        of_one: u32,
-        two: &'n str,
-        of_two: u32,
-    },
-}
-
-/// The text of a fault.
-fn told(alloc: Global, fault: VoteFault<'_>) -> Option<String> {
-    match fault {
-        VoteFault::Sender { one, two, sender } => {
-            format!(in alloc; "{one} and {two} have one sender, {sender}").ok()
-        }
-        VoteFault::Number {
-            key,
-            one,
-            of_one,
-            two,
-            of_two,
-        } => {
-            format!(in alloc; "the {key} of {one} is {of_one}, and that of {two} is {of_two}").ok()
-        }
+/// The first number in which two virtual links must agree and do not: its key, and what each has.
+fn other_number(one: &VirtualLink, two: &VirtualLink) -> Option<(&'static str, u32, u32)> {
+    if one.length != two.length {
+        Some(("length", one.length.into(), two.length.into()))
+    } else if one.period != two.period {
+        Some(("period", one.period, two.period))
+    } else if one.phase != two.phase {
+        Some(("phase", one.phase, two.phase))
+    } else {
+        None
     }
 }
 
-/// The numbers in which virtual links must agree, by their keys.
-fn numbers_of(vl: &VirtualLink) -> [(&'static str, u32); 3] {
-    [
-        ("length", vl.length.into()),
-        ("period", vl.period),
-        ("phase", vl.phase),
-    ]
+/// Whether two virtual links can't be voted on.
+fn are_at_odds(one: &VirtualLink, two: &VirtualLink) -> bool {
+    one.sender == two.sender || other_number(one, two).is_some()
 }
 
 /// Why two virtual links of a network can't be voted on.
-fn fault_of<'n>(
-    network: &'n Network,
-    one: &'n VirtualLink,
-    two: &'n VirtualLink,
-) -> Option<VoteFault<'n>> {
+fn fault_of(
+    alloc: Global,
+    network: &Network,
+    one: &VirtualLink,
+    two: &VirtualLink,
+) -> Option<String> {
+    let (of_one, of_two) = (Text(text_of(&one.name)), Text(text_of(&two.name)));
     if one.sender == two.sender {
-        return Some(VoteFault::Sender {
-            one: text_of(&one.name),
-            two: text_of(&two.name),
-            sender: device_text(network, one.sender),
-        });
+        let sender = Text(device_text(network, one.sender));
+        return filled(
+            alloc,
+            "{} and {} have one sender, {}",
+            &[of_one, of_two, sender],
+        );
     }
-    let (key, of_one, of_two) = numbers_of(one)
-        .into_iter()
-        .zip(numbers_of(two))
-        .map(|(a, b)| (a.0, a.1, b.1))
-        .find(|found| found.1 != found.2)?;
-    Some(VoteFault::Number {
-        key,
-        one: text_of(&one.name),
-        of_one,
-        two: text_of(&two.name),
-        of_two,
-    })
+    let (key, first, second) = other_number(one, two)?;
+    filled(
+        alloc,
+        "the {} of {} is {}, and that of {} is {}",
+        &[
+            Text(key),
+            of_one,
+            Count(first.into()),
+            of_two,
+            Count(second.into()),
+        ],
+    )
 }
 
 /// The virtual link of a network that an argument names.
 fn named<'n>(network: &'n Network, name: &str) -> Option<&'n VirtualLink> {
-    network.vl.as_slice().iter().find(|vl| vl.name.is(name))
+    for vl in network.vl.as_slice() {
+        if vl.name.is(name) {
+            return Some(vl);
+        }
+    }
+    None
 }
 
 /// Why the three virtual links of a call can't be voted on.
@@ -93,8 +75,12 @@ pub(crate) fn refused_vote<A: Source>(
     let one = named(&network, called.words.get(3)?)?;
     let two = named(&network, called.words.get(4)?)?;
     let three = named(&network, called.words.get(5)?)?;
-    let fault = fault_of(&network, one, two)
-        .or_else(|| fault_of(&network, one, three))
-        .or_else(|| fault_of(&network, two, three))?;
-    told(alloc, fault)
+    let (one, two) = if are_at_odds(one, two) {
+        (one, two)
+    } else if are_at_odds(one, three) {
+        (one, three)
+    } else {
+        (two, three)
+    };
+    fault_of(alloc, &network, one, two)
 }

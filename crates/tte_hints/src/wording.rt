@@ -1,39 +1,49 @@
+use crate::argument::ArgumentKind;
+use crate::saying::Hole::Text;
+use crate::saying::filled;
 use crate::{Argument, CommandForm, Program, forms_of};
 use std::alloc::Global;
-use std::fmt;
 use tte_forms::Words;
 
-/// The commands of a program.
-#[derive(Clone, Copy)]
-struct Commands(Program);
-
-impl fmt::Display for Commands {
-    fn fmt<W: fmt::Write>(&self, f: &mut fmt::Formatter<W>) -> fmt::Result {
-        write!(f, "the commands of {} are", self.0)?;
-        let mut before = "";
-        for form in forms_of(self.0) {
-            if form.command() != before {
-                write!(f, " {}", form.command())?;
-            }
-            before = form.command();
+/// The commands of a program, with a space before each.
+fn commands_of(alloc: Global, program: Program) -> Option<String> {
+    let mut commands = String::new(alloc);
+    let mut before = "";
+    for form in forms_of(program) {
+        let command = form.command();
+        if command != before {
+            commands.push_str(" ").ok()?;
+            commands.push_str(command).ok()?;
         }
-        write!(f, " (its page is docs/{}.1)", self.0)
+        before = command;
     }
+    Some(commands)
+}
+
+/// That a call has no command of the program, and which commands that has.
+fn no_command(alloc: Global, program: Program, fault: &str) -> Option<String> {
+    let name = program.name();
+    let commands = commands_of(alloc, program)?;
+    filled(
+        alloc,
+        "{}; the commands of {} are{} (its page is docs/{}.1)",
+        &[Text(fault), Text(name), Text(commands.as_str()), Text(name)],
+    )
 }
 
 /// Where words first differ from a form, and how.
 #[derive(Clone, Copy)]
 struct FormMisfit<'a> {
     form: CommandForm,
-    /// Which argument, from 0.
+    /// Which argument, from 1.
     place: u32,
     fault: Fault<'a>,
 }
 
 #[derive(Clone, Copy)]
 enum Fault<'a> {
-    Missing(Argument),
-    Wrong(Argument, &'a str),
+    Missing(&'static Argument),
+    Wrong(&'static Argument, &'a str),
     /// A word behind the last argument.
     Surplus(&'a str),
 }
@@ -42,9 +52,15 @@ enum Fault<'a> {
 fn told(alloc: Global, misfit: FormMisfit<'_>) -> Option<String> {
     let form = misfit.form;
     match misfit.fault {
-        Fault::Missing(argument) => format!(in alloc; "{argument} is missing in: {form}").ok(),
+        Fault::Missing(argument) => {
+            format!(in alloc; "{} is missing in: {form}", argument.name).ok()
+        }
         Fault::Wrong(argument, word) => {
-            format!(in alloc; "{argument} is {word:?}; it must be {}", argument.must_be()).ok()
+            format!(in alloc;
+                "{} is {word:?}; it must be {}",
+                argument.name, argument.must_be
+            )
+            .ok()
         }
         Fault::Surplus(word) => {
             format!(in alloc; "{word:?} is one argument too many; the command is: {form}").ok()
@@ -52,43 +68,39 @@ fn told(alloc: Global, misfit: FormMisfit<'_>) -> Option<String> {
     }
 }
 
-/// The most arguments of a form.
-const MOST_ARGUMENTS: u32 = 8;
+/// What is wrong with the word for an argument, if anything is.
+fn fault_of<'a>(argument: &'static Argument, word: Option<&'a str>) -> Option<Fault<'a>> {
+    match word {
+        None => Some(Fault::Missing(argument)),
+        Some(word) if argument.admits(word) => None,
+        Some(word) => Some(Fault::Wrong(argument, word)),
+    }
+}
 
 /// Where the words behind the command first differ from those of a form. None where they don't.
 fn misfit_of<'a>(form: CommandForm, words: &'a Words) -> Option<FormMisfit<'a>> {
-    let mut behind = 1;
-    for (argument, place) in form.arguments().iter().zip(1..MOST_ARGUMENTS) {
-        let argument = *argument;
-        let fault = match words.get(place) {
-            Some(word) if argument.admits(word) => {
-                behind = place.saturating_add(1);
-                continue;
-            }
-            Some(word) => Fault::Wrong(argument, word),
-            None => Fault::Missing(argument),
-        };
-        return Some(FormMisfit { form, place, fault });
+    let mut place = 1;
+    for argument in form.arguments() {
+        if let Some(fault) = fault_of(argument, words.get(place)) {
+            return Some(FormMisfit { form, place, fault });
+        }
+        place = place.saturating_add(1);
     }
-    let fault = Fault::Surplus(words.get(behind)?);
-    Some(FormMisfit {
-        form,
-        place: behind,
-        fault,
-    })
+    let fault = Fault::Surplus(words.get(place)?);
+    Some(FormMisfit { form, place, fault })
 }
 
 /// That a part of a run ends before it begins.
 fn backward(alloc: Global, form: CommandForm, words: &Words) -> Option<String> {
-    match form.arguments() {
-        [_, _, Argument::From, Argument::To]
-        | [_, _, Argument::From, Argument::To, Argument::AnyName] => {
-            let from = words.get(3)?;
-            let to = words.get(4)?;
-            format!(in alloc; "TO, {to}, is less than FROM, {from}").ok()
-        }
-        _ => None,
+    let last = form.arguments().get(3)?;
+    if !matches!(last.kind, ArgumentKind::Time) {
+        return None;
     }
+    filled(
+        alloc,
+        "TO, {}, is less than FROM, {}",
+        &[Text(words.get(4)?), Text(words.get(3)?)],
+    )
 }
 
 /// Why the words behind a command of the program are of none of its forms: by the form that agrees with most of them.
@@ -115,25 +127,32 @@ fn arguments_fault(
 
 /// The first form of a command of the program, if it has the command.
 fn form_of(program: Program, command: &str) -> Option<CommandForm> {
-    forms_of(program)
-        .iter()
-        .find(|form| form.command() == command)
-        .copied()
+    for form in forms_of(program) {
+        if form.command() == command {
+            return Some(*form);
+        }
+    }
+    None
 }
 
 /// Why the words of a command line are of no form of the program. None where they are of one, or where memory runs
 /// out.
 pub(crate) fn words_fault(alloc: Global, program: Program, words: &Words) -> Option<String> {
-    let commands = Commands(program);
     let Some(word) = words.get(0) else {
-        return format!(in alloc; "no command is given; {commands}").ok();
+        return no_command(alloc, program, "no command is given");
     };
     if form_of(program, word).is_some() {
         return arguments_fault(alloc, program, word, words);
     }
     let other = program.other();
     match form_of(other, word) {
-        Some(form) => format!(in alloc; "{word:?} is a command of {other}: {other} {form}").ok(),
-        None => format!(in alloc; "{word:?} is no command; {commands}").ok(),
+        Some(form) => {
+            let name = other.name();
+            format!(in alloc; "{word:?} is a command of {name}: {name} {form}").ok()
+        }
+        None => {
+            let fault = format!(in alloc; "{word:?} is no command").ok()?;
+            no_command(alloc, program, fault.as_str())
+        }
     }
 }
