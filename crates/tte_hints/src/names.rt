@@ -80,6 +80,26 @@ fn no_vl(alloc: Global, path: &str, network: &Network, vl: &str) -> Option<Strin
     format!(in alloc; "{path} has no virtual link {vl:?}; its virtual links are{names}").ok()
 }
 
+/// Which of the names of a call the network does not have, and which it has.
+fn unknown_in(alloc: Global, called: Called<'_>, network: &Network) -> Option<String> {
+    let path = called.first_path();
+    let words = called.words;
+    if matches!(called.program, Program::Lens) {
+        let name = words.get(words.len().saturating_sub(1))?;
+        return no_thing(alloc, path, network, name);
+    }
+    if matches!(called.argument(2), Some(ArgumentKind::Link)) {
+        return no_link(alloc, path, network, words.get(3)?);
+    }
+    for place in 3..6 {
+        let name = words.get(place)?;
+        if !has_vl(network, name) {
+            return no_vl(alloc, path, network, name);
+        }
+    }
+    None
+}
+
 /// Which of the names of a call its network does not have, and which it has.
 pub(crate) fn unknown_name<A: Source>(
     alloc: Global,
@@ -87,20 +107,5 @@ pub(crate) fn unknown_name<A: Source>(
     first: &mut A,
 ) -> Option<String> {
     let network = read_unjudged(alloc, first).ok()?;
-    let path = called.first_path();
-    let words = called.words;
-    if matches!(called.program, Program::Lens) {
-        let name = words.get(words.len().saturating_sub(1))?;
-        return no_thing(alloc, path, &network, name);
-    }
-    if matches!(called.argument(2), Some(ArgumentKind::Link)) {
-        return no_link(alloc, path, &network, words.get(3)?);
-    }
-    for place in 3..6 {
-        let name = words.get(place)?;
-        if !has_vl(&network, name) {
-            return no_vl(alloc, path, &network, name);
-        }
-    }
-    None
+    unknown_in(alloc, called, &network)
 }

@@ -4,7 +4,7 @@ use crate::saying::Hole::{Count, Text};
 use crate::saying::filled;
 use net_plan::{Network, VirtualLink};
 use std::alloc::Global;
-use tte_forms::read_unjudged;
+use tte_forms::{Words, read_unjudged};
 use tte_io::Source;
 
 /// The first number in which two virtual links must agree and do not: its key, and what each has.
@@ -26,11 +26,11 @@ fn are_at_odds(one: &VirtualLink, two: &VirtualLink) -> bool {
 }
 
 /// Why two virtual links of a network can't be voted on.
-fn fault_of(
+fn fault_of<'n>(
     alloc: Global,
-    network: &Network,
-    one: &VirtualLink,
-    two: &VirtualLink,
+    network: &'n Network,
+    one: &'n VirtualLink,
+    two: &'n VirtualLink,
 ) -> Option<String> {
     let (of_one, of_two) = (Text(text_of(&one.name)), Text(text_of(&two.name)));
     if one.sender == two.sender {
@@ -65,6 +65,31 @@ fn named<'n>(network: &'n Network, name: &str) -> Option<&'n VirtualLink> {
     None
 }
 
+/// Why three virtual links of a network can't be voted on.
+fn fault_among<'n>(
+    alloc: Global,
+    network: &'n Network,
+    one: &'n VirtualLink,
+    two: &'n VirtualLink,
+    three: &'n VirtualLink,
+) -> Option<String> {
+    if are_at_odds(one, two) {
+        fault_of(alloc, network, one, two)
+    } else if are_at_odds(one, three) {
+        fault_of(alloc, network, one, three)
+    } else {
+        fault_of(alloc, network, two, three)
+    }
+}
+
+/// Why the three virtual links that are named can't be voted on.
+fn fault_of_named(alloc: Global, network: &Network, words: &Words) -> Option<String> {
+    let one = named(network, words.get(3)?)?;
+    let two = named(network, words.get(4)?)?;
+    let three = named(network, words.get(5)?)?;
+    fault_among(alloc, network, one, two, three)
+}
+
 /// Why the three virtual links of a call can't be voted on.
 pub(crate) fn refused_vote<A: Source>(
     alloc: Global,
@@ -72,15 +97,5 @@ pub(crate) fn refused_vote<A: Source>(
     first: &mut A,
 ) -> Option<String> {
     let network = read_unjudged(alloc, first).ok()?;
-    let one = named(&network, called.words.get(3)?)?;
-    let two = named(&network, called.words.get(4)?)?;
-    let three = named(&network, called.words.get(5)?)?;
-    let (one, two) = if are_at_odds(one, two) {
-        (one, two)
-    } else if are_at_odds(one, three) {
-        (one, three)
-    } else {
-        (two, three)
-    };
-    fault_of(alloc, &network, one, two)
+    fault_of_named(alloc, &network, called.words)
 }
