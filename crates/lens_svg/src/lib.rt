@@ -4,6 +4,7 @@
 mod bodies;
 mod clock;
 mod element;
+mod glance;
 mod glyphs;
 mod kept;
 mod labels;
@@ -22,6 +23,7 @@ mod window;
 pub use bodies::{scene_of, seat_of};
 pub use clock::{Clocks, Ends, Told, gauge_of, spread_of};
 pub use element::{Band, Element, PicturePoint, make_element_line, role_word};
+pub use glance::Glance;
 pub use kept::{DrawnRecords, Flags, flag_at};
 pub use lanes::rank_in;
 pub use laws::{arrows_law, hues_law, lanes_law, order_law, title_law};

@@ -1,16 +1,15 @@
 //! What is kept of the records while they stream by.
-ghost use Rattle.std.specs.Prelude.{◌≡◌, ◌≤◌, IfOk, OnOk, map, slice_get};
-ghost use Rattle.lens_svg.specs.{Lanes.start_of, Layout.{IsOnPaper, widest}, Sketching.{begun, drawn, fits, hue_of}};
-ghost use Rattle.lens_svg.specs.Sketching.{is_drawn, last_in, mark_at, mark_of, no_marks_in, noted, seated, side_in, took, turned};
-ghost use Rattle.net_plan.specs.Ranges.{IsInRange};
+ghost use Rattle.std.specs.Prelude.{◌≡◌, ◌≤◌, IfOk, List, OnOk, map, slice_get};
+ghost use Rattle.lens_svg.specs.{Lanes.start_of, Layout.{IsOnPaper, widest}, Sketching.{begun, drawn_by, fits, glance_of}};
+ghost use Rattle.lens_svg.specs.Sketching.{hue_from, last_in, mark_at, mark_by, no_marks_in, noted, plan_of, seated};
+ghost use Rattle.lens_svg.specs.Sketching.{side_at, took_glance, turned};
+ghost use Rattle.{net_plan.specs.Ranges.IsInRange, run_law.specs.declared.note.Note.{Note as NoteValue}};
 
-use crate::bodies::{look_of, own_hue, scene_of, seat_of};
 use crate::kept::side_if;
 use crate::lanes::{start_of, y_of};
 use crate::layout::{Side, side_of};
-use crate::{DrawnRecords, Ground, Hue, Look, Mark, Pen, Span, Title};
+use crate::{DrawnRecords, Glance, Ground, Hue, Look, Mark, Pen, Span, Title};
 use net_plan::{Device, Network};
-use run_law::{Note, NoteBody, cause_of};
 use std::alloc::Global;
 use std::marker::Model;
 use tte_io::OutOfMemory;
@@ -119,45 +118,54 @@ impl Sketch {
         })
     }
 
-    /// Takes the next record.
-    pub fn take(&mut self, network: &Network, note: &Note) -> Result<(), OutOfMemory>
+    /// The sketch of these records in a part of a run, of which this was taken.
+    pub fn of(
+        alloc: Global,
+        network: &Network,
+        span: Span,
+        kept: DrawnRecords,
+        title: Title,
+        glances: &[Glance],
+    ) -> Result<Sketch, OutOfMemory>
         requires { IsInRange network.now }
-        ensures { OnOk result (self.new ≡ took network.now self.old note.now) }
+        ensures { IfOk result (λ s. (notes : List NoteValue) → glances.now ≡ map (glance_of network.now) notes
+            → s ≡ plan_of network.now (record { span = span; kept = kept; title = title }) notes) }
     {
-        match self.side_in(note) {
-            Side::Before => self.turn(network, &note.body),
-            Side::Within => self.draw(network, note),
-            Side::Passed => self.note_down(&note.body),
+        let mut sketch = Sketch::new(alloc, network, span, kept, title)?;
+        'glances: for glance in glances {
+            sketch.take(network, glance)?;
+        }
+        Ok(sketch)
+    }
+
+    /// Takes the next record.
+    pub fn take(&mut self, network: &Network, glance: &Glance) -> Result<(), OutOfMemory>
+        requires { IsInRange network.now }
+        ensures { OnOk result (self.new ≡ took_glance network.now self.old glance.now) }
+    {
+        match self.side_at(glance.number, glance.time) {
+            Side::Before => self.turn(glance),
+            Side::Within => self.draw(network, glance),
+            Side::Passed => self.note_down(glance),
             Side::Behind => Ok(()),
         }
     }
 
-    /// Where a record is to what is drawn.
-    fn side_in(&self, note: &Note) -> Side
-        ensures { result ≡ side_in self.now.view note.now }
+    /// Where the record of this number and time is to what is drawn.
+    fn side_at(&self, number: u64, time: u64) -> Side
+        ensures { result ≡ side_at self.now.view number time }
     {
-        let side = side_of(self.span, note.time.0.unsigned_abs());
-        side_if(self.kept.holds(note.number), side)
-    }
-
-    /// Is the record drawn?
-    pub fn draws(&self, note: &Note) -> bool
-        ensures { result ≡ is_drawn self.now.view note.now }
-    {
-        match self.side_in(note) {
-            Side::Within => true,
-            Side::Before | Side::Passed | Side::Behind => false,
-        }
+        side_if(self.kept.holds(number), side_of(self.span, time))
     }
 
     /// Keeps the hue of a record before the picture, and the ground that it leaves.
-    fn turn(&mut self, network: &Network, body: &NoteBody) -> Result<(), OutOfMemory>
-        ensures { OnOk result (self.new ≡ turned network.now self.old body.now) }
+    fn turn(&mut self, glance: &Glance) -> Result<(), OutOfMemory>
+        ensures { OnOk result (self.new ≡ turned self.old glance.now) }
     {
-        self.note_down(body)?;
-        match look_of(body) {
+        self.note_down(glance)?;
+        match glance.look {
             Look::Turned(ground) => {
-                let place = scene_of(network, body).0 as usize;
+                let place = glance.device.0 as usize;
                 if place < self.grounds.len() {
                     self.grounds[place] = ground;
                 }
@@ -168,10 +176,10 @@ impl Sketch {
     }
 
     /// Keeps the hue of a record, and how many marks there are before it.
-    fn note_down(&mut self, body: &NoteBody) -> Result<(), OutOfMemory>
-        ensures { OnOk result (self.new ≡ noted self.old body.now) }
+    fn note_down(&mut self, glance: &Glance) -> Result<(), OutOfMemory>
+        ensures { OnOk result (self.new ≡ noted self.old glance.now) }
     {
-        let hue = self.hue_of(body);
+        let hue = self.hue_of(glance);
         let place = self.marks.len() as u64;
         match self.hues.push(hue) {
             Ok(()) => (),
@@ -184,13 +192,13 @@ impl Sketch {
     }
 
     /// Keeps the mark of a record of the picture.
-    fn draw(&mut self, network: &Network, note: &Note) -> Result<(), OutOfMemory>
+    fn draw(&mut self, network: &Network, glance: &Glance) -> Result<(), OutOfMemory>
         requires { IsInRange network.now }
-        ensures { OnOk result (self.new ≡ drawn network.now self.old note.now) }
+        ensures { OnOk result (self.new ≡ drawn_by network.now self.old glance.now) }
     {
-        let pen = self.pen.moved(note.time.0.unsigned_abs());
-        let mark = self.mark_of(network, pen, note);
-        self.note_down(&note.body)?;
+        let pen = self.pen.moved(glance.time);
+        let mark = self.mark_of(network, pen, glance);
+        self.note_down(glance)?;
         match self.marks.push(mark) {
             Ok(()) => {
                 self.pen = pen.reached(mark.x);
@@ -223,41 +231,37 @@ impl Sketch {
     }
 
     /// The mark of a record where the pen is.
-    fn mark_of(&self, network: &Network, pen: Pen, note: &Note) -> Mark
+    fn mark_of(&self, network: &Network, pen: Pen, glance: &Glance) -> Mark
         requires range { IsInRange network.now }
         requires pen { IsOnPaper pen }
-        ensures value { result ≡ mark_of network.now self.now pen note.now }
+        ensures value { result ≡ mark_by network.now self.now pen glance.now }
         ensures within { result.x ≤ widest }
     {
-        let device = scene_of(network, &note.body);
-        let seat = seat_of(network, &note.body);
-        let cause = cause_of(&note.body);
         Mark {
-            number: note.number,
-            time: note.time.0.unsigned_abs(),
-            x: pen.stand(self.last_in(seat)),
+            number: glance.number,
+            time: glance.time,
+            x: pen.stand(self.last_in(glance.seat)),
             first: self.last < pen.x,
-            seat,
-            device,
-            y: y_of(network, &self.kept, device),
-            cause,
-            linked: self.mark_at(cause).is_some(),
-            hue: self.hue_of(&note.body),
-            look: look_of(&note.body),
+            seat: glance.seat,
+            device: glance.device,
+            y: y_of(network, &self.kept, glance.device),
+            cause: glance.cause,
+            linked: self.mark_at(glance.cause).is_some(),
+            hue: self.hue_of(glance),
+            look: glance.look,
         }
     }
 
     /// The hue of a record: that of the one that it comes from, if it comes from one.
-    fn hue_of(&self, body: &NoteBody) -> Hue
-        ensures { result ≡ hue_of self.now.hues body.now }
+    fn hue_of(&self, glance: &Glance) -> Hue
+        ensures { result ≡ hue_from self.now.hues glance.now.cause glance.now.hue }
     {
-        let cause = cause_of(body);
-        if cause == 0 {
-            return own_hue(body);
+        if glance.cause == 0 {
+            return glance.hue;
         }
-        match self.hues.get((cause - 1) as usize) {
+        match self.hues.get((glance.cause - 1) as usize) {
             Some(hue) => *hue,
-            None => own_hue(body),
+            None => glance.hue,
         }
     }
 

@@ -2,19 +2,19 @@
 use Rattle.audit_law.specs.law.Linked.{HasCause}
 use Rattle.lens_latency.proofs.Followings.{report_linked}
 use Rattle.lens_why.proofs.{Comings.comes_from_earlier, Notes.{founded_of, note_numbered}}
-use Rattle.lens.specs.draw.Keeping.{AreFlags, AreOwn, HasSending, IsKept, IsOf, IsSending, Tells, cause_at, is_sending, own_flag, passed_on, with_flag}
+use Rattle.lens.specs.draw.Keeping.{AreFlags, AreOwn, HasSending, IsKept, IsOf, IsSending, Tells, cause_at, glance_at, is_sending, own_flag, passed_on, with_flag}
 use Rattle.lens.specs.declared.draw.subject.Subject.{Subject, TheVariants.{Frames, Lane}}
-use Rattle.lens_svg.specs.{Bodies.seat_of, Sketching.with_at, Views.flag_at}
+use Rattle.lens_svg.specs.{Bodies.seat_of, Sketching.{glance_of, with_at}, Views.flag_at, declared.glance.Glance.Glance}
 use Rattle.net_plan.specs.declared.{ids.VlId.VlId, network.Network.Network}
 use Rattle.run_law.proofs.{law.FirstPlaces.{by_number, number_is, numbered_front, numbered_in, numbered_within}, records.Happenings.as_many, runs.NetworkRuns.one_more}
 use Rattle.run_law.specs.{declared.note.{Note.Note, NoteBody.NoteBody}, records.{Causes.{IsChain, cause_of, last_from}, Ranks.place_of}}
 use Rattle.run_law.specs.{records.Happenings.{Happening, happening, happenings, numbered}, runs.{DueRecords.IsDue, Runs.IsFounded}}
 use Rattle.std.proofs.Common.{◌++◌, ◌+◌, ◌-◌, ◌<◌, ◌==◌, ◌∙◌, ◌∷◌, ◌≡◌, ◌≤◌, ◌⊎◌, Bool, List, Option, Some, [], ap, arith, false, if◌then◌else◌, inl, inr, length, length-append, refl, subst, suc, sym, true, zero, ℕ}
-use Rattle.std.proofs.lemmas.{Bool.{Decides.nat_tests, eq-eqb, eqb-true, false≢true}, List.{get_or-set_other, get_or-set_same, length-set}, Option.unwrap_or-slice_get}
-use Rattle.std.specs.{Option.option_map_or, Prelude.{◌||◌, nat_lt, option_map, slice_get, slice_set, unwrap_or}}
+use Rattle.std.proofs.lemmas.{Bool.{Decides.nat_tests, eq-eqb, eqb-true, false≢true}, List.{get_or-set_other, get_or-set_same, length-set}, Option.{slice_get-map, unwrap_or-slice_get}}
+use Rattle.std.specs.{Option.option_map_or, Prelude.{◌||◌, map, nat_lt, option_map, slice_get, slice_set, unwrap_or}}
 use Rattle.{tte_audit.proofs.UnderWay.happening_there}
 use Rattle.tte_audit.specs.{Named.IsNamed, Report.scenario_of}
-use Rattle.tte_reports.specs.{Folding.IsNextOf, Reports.IsReportOf}
+use Rattle.tte_reports.specs.{Folding.IsNextOf, Places.note_at, Reports.IsReportOf}
 use Rattle.tte_units.{proofs.general_lemmas.Options.some_same, specs.declared.units.Units.Units}
 use Rattle.run_law.specs.declared.note.NoteBody.TheVariants as notes
 
@@ -234,6 +234,11 @@ there_by hs flags (suc i) count set = at hs flags i count set
 
 -- ---- from the last record to the first
 
+-- what was taken of a record, by its number
+pub seen_at : (network : Network) (ns : List Note) (n : ℕ) → glance_at (map (glance_of network) ns) n ≡ option_map (glance_of network) (note_at ns n)
+seen_at network ns zero = refl
+seen_at network ns (suc k) = slice_get-map (glance_of network) ns k
+
 -- the flags of those of the thing, and of the causes of those behind this number
 pub record IsSpread (network : Network) (subject : Subject) (ns : List Note) (number : ℕ) (flags : List Bool) : Type 0 where
   pub count : length flags ≡ length (happenings network ns)
@@ -362,16 +367,16 @@ module _ (network : Network) (subject : Subject) (octets : List ℕ) (ns : List 
           }
 
     spread_by : (b : Bool) → flag_at flags number ≡ b
-        → IsSpread network subject ns (number - 1) (if b then with_flag flags (cause_at ns number) else flags)
+        → IsSpread network subject ns (number - 1) (if b then with_flag flags (cause_at (map (glance_of network) ns) number) else flags)
     spread_by false e = record { count = h.count; own = h.own; kept = h.kept; closed = closed_still e }
     spread_by true e =
         let at = there_by hs flags number h.count e in
-        let cause : cause_at ns number ≡ cause_of at.0.note.body =
-        ap (λ (o : Option Note). option_map_or (λ (note : Note). cause_of note.body) o 0)
-        (sym (note_numbered network ns number) ∙ ap (option_map (λ (k : Happening). k.note)) at.1) in
+        let cause : cause_at (map (glance_of network) ns) number ≡ cause_of at.0.note.body =
+        ap (λ (o : Option Glance). option_map_or (λ (glance : Glance). glance.cause) o 0)
+        (seen_at network ns number ∙ ap (option_map (glance_of network)) (sym (note_numbered network ns number) ∙ ap (option_map (λ (k : Happening). k.note)) at.1)) in
         subst (λ n. IsSpread network subject ns (number - 1) (with_flag flags n)) (sym cause) (spread_set e at.0 at.1)
 
-    pub spread_next : IsSpread network subject ns (number - 1) (passed_on ns number flags)
+    pub spread_next : IsSpread network subject ns (number - 1) (passed_on (map (glance_of network) ns) number flags)
     spread_next = spread_by (flag_at flags number) refl
 
   module _ (flags : List Bool) (h : IsSpread network subject ns 0 flags) where

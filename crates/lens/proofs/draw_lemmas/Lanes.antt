@@ -1,7 +1,7 @@
 -- Which lanes a picture of one thing has.
-use Rattle.lens.proofs.draw_lemmas.Keeping.{flag_other, set_still, with_long, with_other, with_same}
+use Rattle.lens.proofs.draw_lemmas.Keeping.{flag_other, seen_at, set_still, with_long, with_other, with_same}
 use Rattle.lens.specs.draw.Keeping.{AreLanes, StandsIn, Tells, lanes_on, passed_on, with_flag, with_lane}
-use Rattle.lens_svg.specs.{Bodies.scene_of, Layout.holds, Sketching.{moment, with_at}, Views.flag_at, declared.layout.Span.Span}
+use Rattle.lens_svg.specs.{Bodies.scene_of, Layout.holds, Sketching.{glance_of, moment, with_at}, Views.flag_at, declared.layout.Span.Span}
 use Rattle.lens_why.proofs.{Comings.comes_from_earlier, Notes.{founded_of, happening_at, number_of}}
 use Rattle.net_plan.specs.declared.network.Network.{Network}
 use Rattle.run_law.specs.{declared.note.Note.Note, records.{Causes.cause_of, Happenings.{Happening, happenings, numbered}, Order.IsIn}}
@@ -9,6 +9,8 @@ use Rattle.std.proofs.Common.{◌<◌, ◌∙◌, ◌∷◌, ◌≡◌, ◌≤�
 use Rattle.std.proofs.lemmas.{Bool.{eq-eqb, eqb-true, false≢true}, List.drop_all}
 use Rattle.std.specs.{Option.option_map_or, Prelude.{◌==◌, if◌then◌else◌, map, slice_get, unwrap_or}}
 use Rattle.{tte_audit.specs.Report.scenario_of, tte_reports.specs.{Places.note_at, Reports.IsReportOf}, tte_units.specs.declared.units.Units.Units}
+use Rattle.lens_svg.specs.declared.glance.Glance.{Glance}
+use Rattle.std.specs.Prelude.{option_map}
 
 none_set : {X : Type 0} (xs : List X) (place : ℕ) → unwrap_or (slice_get (map (λ x. false) xs) place) false ≡ false
 none_set [] place = refl
@@ -113,7 +115,7 @@ module _ (network : Network) (span : Span) (records : List Bool) where
 
     -- one with a flag, which may lie in the span
     pub lanes_set : (lanes : List Bool) → flag_at records note.number ≡ true → AreLanes network span records ns lanes
-        → AreLanes network span records (note ∷ ns) (with_lane network span note lanes)
+        → AreLanes network span records (note ∷ ns) (with_lane span (glance_of network note) lanes)
     lanes_set lanes kept are = by (holds span (moment note)) refl
       where
         by : (b : Bool) → holds span (moment note) ≡ b
@@ -203,23 +205,30 @@ module _ (network : Network) (octets : List ℕ) (ns : List Note) (end : Units) 
           omega (arith, later, numbered_so, less, same)
 
       set : flag_at flags number ≡ true
-          → AreLanes network span (with_flag flags (cause_of note.body)) (drop m ns) (with_lane network span note lanes)
+          → AreLanes network span (with_flag flags (cause_of note.body)) (drop m ns) (with_lane span (glance_of network note) lanes)
       set e =
           let cause = cause_of note.body in
           let more = with_flag flags cause in
           let kept = set_still flags cause note.number (ap (flag_at flags) its ∙ e) in
-          in_front more (with_lane network span note lanes)
+          in_front more (with_lane span (glance_of network note) lanes)
           (lanes_set network span more (drop (suc m) ns) note lanes kept
           (lanes_same network span flags more (drop (suc m) ns) lanes (λ n i. flag_other flags cause n.number (apart n i)) rest))
 
+    -- behind a record of which this was taken, if it has a flag
+    abbrev has_lanes : Option Glance → Bool → Type 0
+    has_lanes o b =
+        AreLanes network span (if b then with_flag flags (option_map_or (λ (glance : Glance). glance.cause) o 0) else flags) (drop m ns)
+        (if b then option_map_or (λ (glance : Glance). with_lane span glance lanes) o lanes else lanes)
+
     next_by : (b : Bool) (o : Option Note) → flag_at flags number ≡ b → note_at ns number ≡ o
-        → AreLanes network span (if b then with_flag flags (option_map_or (λ (n : Note). cause_of n.body) o 0) else flags) (drop m ns)
-        (if b then option_map_or (λ (n : Note). with_lane network span n lanes) o lanes else lanes)
+        → has_lanes (option_map (glance_of network) o) b
     next_by false None e at = without (sym (ap (note_at ns) is) ∙ at)
     next_by false (Some note) e at = unset note (sym (ap (note_at ns) is) ∙ at) e
     next_by true None e at = without (sym (ap (note_at ns) is) ∙ at)
     next_by true (Some note) e at = set note (sym (ap (note_at ns) is) ∙ at) e
 
     -- the flags and lanes with what comes of one record more
-    pub lanes_next : AreLanes network span (passed_on ns number flags) (drop m ns) (lanes_on network span ns number flags lanes)
-    lanes_next = next_by (flag_at flags number) (note_at ns number) refl refl
+    pub lanes_next : AreLanes network span (passed_on (map (glance_of network) ns) number flags) (drop m ns)
+        (lanes_on span (map (glance_of network) ns) number flags lanes)
+    lanes_next =
+        subst (λ o. has_lanes o (flag_at flags number)) (sym (seen_at network ns number)) (next_by (flag_at flags number) (note_at ns number) refl refl)

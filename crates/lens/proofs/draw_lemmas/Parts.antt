@@ -1,9 +1,9 @@
 -- Parts of a picture put one after another.
 use Rattle.{lens.specs.draw.Picture.lines_from, tte_forms.proofs.Puts.{PutFails-behind, PutFails-more, PutsLines-append, PutsLines-none, puts_last}}
-use Rattle.{std.{proofs.Common.{zero, ℕ}, specs.Io.KnownBytes.Appends}, tte_io.specs.{Faults.next_count, Told.AppendsFront}}
-use Rattle.std.proofs.Common.{◌++◌, ◌+◌, ◌-◌, ◌<◌, ◌∙◌, ◌∷◌, ◌≡◌, ◌≤◌, List, [], ap, append_assoc, arith, drop, get_or, length, refl, subst, suc, sym, take}
+use Rattle.{std.{proofs.Common.{take_all, zero, ℕ}, specs.Io.KnownBytes.Appends}, tte_io.specs.{Faults.next_count, Told.AppendsFront}}
+use Rattle.std.proofs.Common.{◌++◌, ◌+◌, ◌-◌, ◌<◌, ◌∙◌, ◌∷◌, ◌≡◌, ◌≤◌, List, [], ap, append_assoc, arith, drop, get_or, length, subst, suc, sym, take}
 use Rattle.{std.proofs.lemmas.{Grind.flat_map-append, List.{at_drop_more, append-nil, take-append-drop, take_more}}, tte_forms.specs.Putting.{PutFails, Puts, PutsLines, Shown}}
-use Rattle.{std.specs.{Prelude.{Err, Ok, OnErr, OnOk, flat_map}, declared.result.Result.Result}, tte_io.specs.declared.ends.SinkFailed.SinkFailed}
+use Rattle.{std.specs.{Prelude.{OnErr, OnOk, flat_map}, declared.result.Result.Result}, tte_io.specs.declared.ends.SinkFailed.SinkFailed}
 
 -- one line, in one put
 pub draws_one : (line : List ℕ) (result : Result (Unit {0}) SinkFailed) (old new : Shown) → OnOk result (Appends old.written new.written line)
@@ -14,14 +14,6 @@ draws_one line result old new all front counted = puts_last line result new (Put
 pub fails_between : {xs ys : List (List ℕ)} (zs : List (List ℕ)) {a b c : Shown} → PutsLines xs a b → PutFails ys b c
     → PutFails (xs ++ (ys ++ zs)) a c
 fails_between {xs} {ys} zs {a} {b} {c} p q = PutFails-behind (ys ++ zs) c p (PutFails-more zs q)
-
--- ---- lists
-
-pub take_all : {X : Type 0} (n : ℕ) (xs : List X) → length xs ≤ n → take n xs ≡ xs
-take_all zero [] end = refl
-take_all zero (x ∷ xs) end = absurd (omega (arith, end))
-take_all (suc n) [] end = refl
-take_all {X = X} (suc n) (x ∷ xs) end = ap (λ (ys : List X). x ∷ ys) (take_all n xs (omega (arith, end)))
 
 -- ---- something of each of a list
 

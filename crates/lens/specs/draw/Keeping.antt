@@ -1,12 +1,12 @@
 -- What a picture of one thing keeps.
-use Rattle.std.specs.{Option.option_map_or, Prelude.{suc, zero, ℕ, ◌+◌, ◌==◌, ◌||◌, ◌≡◌, Bool, List, Some, false}}
+use Rattle.std.specs.{Option.option_map_or, Prelude.{suc, zero, ℕ, ◌+◌, ◌==◌, ◌||◌, ◌≡◌, Bool, List, None, Option, Some, false}}
 use Rattle.std.specs.Prelude.{◌<◌, if◌then◌else◌, length, slice_get, true, unwrap_or}
 use Rattle.lens.specs.declared.draw.subject.Subject.{Subject, TheVariants.{Frames, Lane}}
-use Rattle.lens_svg.specs.{Bodies.{scene_of, seat_of}, Layout.holds, Sketching.{moment, with_at}, Views.flag_at, declared.layout.Span.Span}
+use Rattle.lens_svg.specs.{Bodies.{scene_of, seat_of}, Layout.holds, Sketching.{moment, with_at}, Views.flag_at}
+use Rattle.lens_svg.specs.declared.{glance.Glance.Glance, layout.Span.Span}
 use Rattle.net_plan.specs.declared.{ids.VlId.VlId, network.Network.Network}
 use Rattle.run_law.specs.{declared.note.{Note.Note, NoteBody.NoteBody}, records.Order.IsIn}
 use Rattle.run_law.specs.records.{Causes.{GoesBackTo, cause_of}, Happenings.{Happening, happenings, numbered}}
-use Rattle.tte_reports.specs.Places.{note_at}
 use Rattle.run_law.specs.declared.note.NoteBody.TheVariants as notes
 
 -- by the record a frame of the virtual link is sent
@@ -80,24 +80,28 @@ abbrev pub with_flag : List Bool → ℕ → List Bool
 with_flag flags zero = flags
 with_flag flags (suc before) = with_at flags before true
 
+-- what was taken of the record of this number, from 1; 0 is the number of none
+abbrev pub glance_at : List Glance → ℕ → Option Glance
+glance_at glances zero = None
+glance_at glances (suc before) = slice_get glances before
+
 -- the cause of the record of this number, or 0
-abbrev pub cause_at : List Note → ℕ → ℕ
-cause_at ns number = option_map_or (λ note. cause_of note.body) (note_at ns number) 0
+abbrev pub cause_at : List Glance → ℕ → ℕ
+cause_at glances number = option_map_or (λ glance. glance.cause) (glance_at glances number) 0
 
 -- the flags with that of the cause of the record of this number, where it has one itself
-abbrev pub passed_on : List Note → ℕ → List Bool → List Bool
-passed_on ns number flags = if flag_at flags number then with_flag flags (cause_at ns number) else flags
+abbrev pub passed_on : List Glance → ℕ → List Bool → List Bool
+passed_on glances number flags = if flag_at flags number then with_flag flags (cause_at glances number) else flags
 
 -- the lanes with that in which the record stands, if it lies in the span
-abbrev pub with_lane : Network → Span → Note → List Bool → List Bool
-with_lane network span note lanes =
-    if holds span (moment note) then with_at lanes (scene_of network note.body).0 true else lanes
+abbrev pub with_lane : Span → Glance → List Bool → List Bool
+with_lane span glance lanes = if holds span glance.time then with_at lanes glance.device.0 true else lanes
 
 -- the same for the record of this number, if there is one
-abbrev pub lane_at : Network → Span → List Note → ℕ → List Bool → List Bool
-lane_at network span ns number lanes =
-    option_map_or (λ note. with_lane network span note lanes) (note_at ns number) lanes
+abbrev pub lane_at : Span → List Glance → ℕ → List Bool → List Bool
+lane_at span glances number lanes =
+    option_map_or (λ glance. with_lane span glance lanes) (glance_at glances number) lanes
 
 -- the same, if the record has a flag
-abbrev pub lanes_on : Network → Span → List Note → ℕ → List Bool → List Bool → List Bool
-lanes_on network span ns number flags lanes = if flag_at flags number then lane_at network span ns number lanes else lanes
+abbrev pub lanes_on : Span → List Glance → ℕ → List Bool → List Bool → List Bool
+lanes_on span glances number flags lanes = if flag_at flags number then lane_at span glances number lanes else lanes

@@ -13,7 +13,7 @@ use Rattle.lens_svg.specs.{Marking.mark_line, Titles.{heading_line, title_line},
 use Rattle.lens_svg.specs.Windows.{box_of, windows_in}
 use Rattle.lens_svg.specs.{Sketching.{is_drawn, plan_of}, declared.window.Came.Came}
 use Rattle.lens_svg.specs.declared.{element.Element.Element, layer.{LaneLayer.LaneLayer, MarkLayer.MarkLayer}}
-use Rattle.{audit_sweep.specs.Indexing.clock_at, tte_audit.specs.Report.scenario_of}
+use Rattle.{audit_sweep.specs.Indexing.clock_at, tte_audit.specs.Report.scenario_of, tte_reports.specs.Places.note_at}
 use Rattle.net_plan.specs.declared.{ids.DeviceId.DeviceId, network.Network.Network}
 use Rattle.lens_svg.specs.declared.element.Element.TheVariants as elements
 
@@ -87,6 +87,15 @@ abbrev pub mark_lines : Network → View → List Mark → List Note → List (L
 mark_lines network view marks [] = []
 mark_lines network view marks (note ∷ notes) =
     marks_of network view marks note ++ mark_lines network view (marks_behind view marks note) notes
+
+-- the line of a mark by its record, if that was found
+abbrev pub found_line : Network → Mark → Option Note → List (List ℕ)
+found_line network mark (Some note) = mark_line network mark note ∷ []
+found_line network mark None = []
+
+-- the lines of these marks, where each finds its record among these by its number
+abbrev pub found_lines : Network → List Note → List Mark → List (List ℕ)
+found_lines network notes marks = flat_map (λ mark. found_line network mark (note_at notes mark.number)) marks
 
 -- the marks and the end of the picture
 abbrev pub back_lines : Network → View → List Mark → List Note → List (List ℕ)

@@ -1,106 +1,87 @@
-//! The marks of the records, one after another.
+//! The marks of the records that are drawn, one after another.
 ghost use Rattle.std.specs.Prelude.{◌≡◌, List, MatchResult};
-ghost use Rattle.{lens.specs.draw.Answer.back_answer, net_plan.specs.Ranges.IsInRange, tte_forms.specs.Answering.Gives};
-ghost use Rattle.{lens.specs.draw.Picture.{first_line, marks_behind, marks_of}, run_law.specs.declared.note.Note.{Note as NoteValue}};
-ghost use Rattle.{tte_audit.specs.Named.IsNamed, tte_forms.specs.Putting.{Over, Puts}};
-ghost use Rattle.tte_reports.specs.{Answer.IsAuditStatus, Reports.AreLeft};
-ghost use Rattle.{report_text.specs.Ranges.{IsNoteInRange, IsNoteOf}, tte_forms.specs.Faults.{HasCause, PutFailed}};
+ghost use Rattle.lens.specs.draw.{Answer.back_answer, Picture.{found_line, found_lines}};
+ghost use Rattle.{lens_svg.specs.Sketching.plan_of, run_law.specs.declared.note.Note.{Note as NoteValue}};
+ghost use Rattle.tte_forms.specs.{Answering.Gives, Faults.{HasCause, PutFailed}, Putting.{Over, Puts}};
+ghost use Rattle.{tte_audit.specs.Named.IsNamed, tte_units.specs.declared.units.Units.{Units as UnitsValue}};
+ghost use Rattle.tte_reports.specs.{Answer.IsAuditStatus, Commands.IsRead, Places.note_at, Reports.IsReportOf};
 
 use crate::draw::signs::CLOSE;
 use lens_svg::{Mark, Sketch, make_mark_line};
 use net_plan::Network;
-use run_law::Note;
 use tte_forms::{Status, put_last};
 use tte_io::{LineText, Sink, SinkFailed};
-use tte_reports::Records;
+use tte_reports::AuditedReport;
 
-/// The marks behind that of a record, which has one if it is drawn.
-fn marks_behind<'a>(sketch: &Sketch, marks: &'a [Mark], note: &Note) -> &'a [Mark]
-    ensures { result.now ≡ marks_behind sketch.now.view marks.now note.now }
-{
-    if !sketch.draws(note) {
-        return marks;
-    }
-    match marks.split_first() {
-        Some((_, rest)) => rest,
-        None => marks,
-    }
-}
-
-/// Puts the first of these marks, if there is one, for a record.
-fn put_first<K: Sink>(
+/// Puts the line of a mark, whose record is looked up by its number.
+fn put_mark<K: Sink>(
     network: &Network,
-    marks: &[Mark],
-    note: &Note,
+    report: &AuditedReport,
+    mark: &Mark,
     line: &mut LineText,
     out: &mut K,
 ) -> Result<(), SinkFailed>
-    requires range { IsInRange network.now }
-    requires of_network { IsNoteOf network.now note.now }
-    requires in_range { IsNoteInRange note.now }
-    ensures draws { Over K.Sink out.old out.new (Puts (first_line network.now marks.now note.now) result) }
+    requires named { IsNamed network.now }
+    requires read { IsRead network.now report.now }
+    ensures draws { Over K.Sink out.old out.new (λ old new. (notes : List NoteValue) (end : UnitsValue)
+        → IsReportOf network.now report.now.octets notes end
+        → Puts (found_line network.now mark.now (note_at notes mark.now.number)) result old new) }
     ensures faults { MatchResult result (λ _. K.faults out.new ≡ K.faults out.old)
         (λ _. PutFailed K.Sink out.old out.new) }
 {
-    match marks.first() {
-        Some(mark) => {
-            make_mark_line(line, network, mark, note);
+    match report.record(network, mark.number) {
+        Some(note) => {
+            make_mark_line(line, network, mark, &note);
             out.put(line.as_slice())
         }
         None => Ok(()),
     }
 }
 
-/// Puts the mark of a record, which is the first of these, if the record is drawn.
-fn put_mark<K: Sink>(
+/// Puts the lines of these marks.
+fn put_drawn<K: Sink>(
     network: &Network,
-    sketch: &Sketch,
+    report: &AuditedReport,
     marks: &[Mark],
-    note: &Note,
     line: &mut LineText,
     out: &mut K,
 ) -> Result<(), SinkFailed>
-    requires range { IsInRange network.now }
-    requires of_network { IsNoteOf network.now note.now }
-    requires in_range { IsNoteInRange note.now }
-    ensures draws { Over K.Sink out.old out.new (Puts (marks_of network.now sketch.now.view marks.now note.now) result) }
+    requires named { IsNamed network.now }
+    requires read { IsRead network.now report.now }
+    ensures draws { Over K.Sink out.old out.new (λ old new. (notes : List NoteValue) (end : UnitsValue)
+        → IsReportOf network.now report.now.octets notes end
+        → Puts (found_lines network.now notes marks.now) result old new) }
     ensures faults { MatchResult result (λ _. K.faults out.new ≡ K.faults out.old)
         (λ _. PutFailed K.Sink out.old out.new) }
 {
-    if sketch.draws(note) {
-        put_first(network, marks, note, line, out)
-    } else {
-        Ok(())
+    'drawn: for mark in marks {
+        match put_mark(network, report, mark, line, out) {
+            Ok(()) => (),
+            Err(cause) => return Err(cause),
+        }
     }
+    Ok(())
 }
 
-/// Puts the marks of the records, and the end of the picture.
+/// Puts the marks of the picture, and its end.
 pub(crate) fn put_back<K: Sink>(
     network: &Network,
+    report: &AuditedReport,
     sketch: &Sketch,
-    first: Records<'_>,
     line: &mut LineText,
     out: &mut K,
 ) -> Status
-    requires range { IsInRange network.now }
     requires named { IsNamed network.now }
-    requires left { (notes : List NoteValue) × AreLeft network.now first notes }
-    ensures gives { Over K.Sink out.old out.new (λ old new. (notes : List NoteValue)
-        → AreLeft network.now first.entry notes
+    requires read { IsRead network.now report.now }
+    ensures gives { Over K.Sink out.old out.new (λ old new. (notes : List NoteValue) (end : UnitsValue)
+        → IsReportOf network.now report.now.octets notes end
+        → sketch.now ≡ plan_of network.now sketch.now.view notes
         → Gives (back_answer network.now sketch.now.view sketch.now.marks notes) result old new) }
     ensures statuses { IsAuditStatus result }
     ensures cause { HasCause result ⊥ (PutFailed K.Sink out.old out.new) }
 {
-    let mut records = first;
-    let mut marks = sketch.marks();
-    'records: loop {
-        let note = match records.next(network) {
-            Some(note) => note,
-            None => return put_last(CLOSE.as_bytes(), Status::Done, out),
-        };
-        match put_mark(network, sketch, marks, &note, line, out) {
-            Ok(()) => marks = marks_behind(sketch, marks, &note),
-            Err(_) => return Status::WriteFault,
-        }
+    match put_drawn(network, report, sketch.marks(), line, out) {
+        Ok(()) => put_last(CLOSE.as_bytes(), Status::Done, out),
+        Err(_) => Status::WriteFault,
     }
 }

@@ -1,27 +1,27 @@
 //! A part of the run of a report as a picture of one thing.
-ghost use Rattle.std.specs.Prelude.{◌≡◌, ◌⊎◌, List};
-ghost use Rattle.lens.specs.Limit.{report_limit};
+ghost use Rattle.std.specs.Prelude.{◌≡◌, ◌⊎◌, IfOk, List};
+ghost use Rattle.lens.specs.{Limit.report_limit, draw.Drafts.IsKeptDraft};
 ghost use Rattle.lens.specs.draw.Naming.{IsKeptAnswer, IsNamedAnswer, IsNamedStatus, LeavesNamed, LeavesUnnamed, unknown_answer};
 ghost use Rattle.{run_law.specs.declared.note.Note.{Note as NoteValue}, tte_audit.specs.Named.IsNamed};
 ghost use Rattle.tte_forms.specs.{Answering.{ForOctets, Gives, GivesAnswer}, networks.Accepting.IsNetworkAnswer};
 ghost use Rattle.tte_forms.specs.{Faults.{HasCause, IsWanted, PutFailed, ReadFailed}, Putting.Over};
 ghost use Rattle.tte_forms.specs.{Taking.TakesUpTo, frames.Answer.file_limit};
-ghost use Rattle.tte_reports.specs.{Answer.IsAuditStatus, Commands.IsRead, Reports.IsReportOf};
+ghost use Rattle.tte_reports.specs.{Answer.IsAuditStatus, Commands.IsRead, Reports.{IsReportOf, IsSomeReport}};
 ghost use Rattle.tte_reports.specs.Reading.{ReadsReport, TakesReport};
 ghost use Rattle.tte_units.specs.declared.units.Units.{Units as UnitsValue};
 
-use crate::draw::drawing::draw_known;
-use crate::draw::flags::kept_flags;
+use crate::draw::drawing::{Draft, put_draft};
+use crate::draw::flags::{glances_of, kept_flags};
 use crate::draw::spans::span_of;
 use crate::draw::subject::{Subject, subject_named};
 use crate::forms::RunPart;
 use crate::questions::REPORT_LIMIT;
-use lens_svg::{DrawnRecords, Title};
+use lens_svg::{DrawnRecords, Sketch, Span, Title};
 use net_plan::Network;
 use schedule_tables::Accepted;
 use std::alloc::Global;
 use tte_forms::{Status, Words, accept, put_last, put_no_network};
-use tte_io::{Sink, Source};
+use tte_io::{OutOfMemory, Sink, Source};
 use tte_reports::{AuditedReport, ReportCommand, answer_accepted};
 
 /// Draws a part of the run of a report: of its records those of the thing and all their causes.
@@ -41,44 +41,41 @@ impl<'a, K: Sink> ReportCommand<K> for DrawKept<'a> {
     ghost audits = { λ command status is. is };
 
     fn put(&self, alloc: Global, network: &Network, report: &AuditedReport, out: &mut K) -> Status {
-        draw_kept(
-            alloc,
-            network,
-            report,
-            self.words,
-            self.part,
-            self.subject,
-            out,
-        )
+        let span = span_of(network, self.part);
+        let title = Title::of(self.words);
+        match kept_draft(alloc, network, report, self.subject, span, title) {
+            Ok(draft) => put_draft(alloc, network, report, &draft, out),
+            Err(_) => Status::OutOfMemory,
+        }
     }
 }
 
-/// Draws those records of a part that are of the thing, and their causes.
-fn draw_kept<K: Sink>(
+/// What the picture of a thing takes of all records, each of which is read once: those in the span that are of the thing,
+/// and their causes.
+///
+/// Fails when memory runs out.
+fn kept_draft(
     alloc: Global,
     network: &Network,
     report: &AuditedReport,
-    words: &Words,
-    part: RunPart,
     subject: Subject,
-    out: &mut K,
-) -> Status
+    span: Span,
+    title: Title,
+) -> Result<Draft, OutOfMemory>
     requires named { IsNamed network.now }
-    requires read { IsRead network.now report.now }
-    ensures gives { Over K.Sink out.old out.new (λ old new. (notes : List NoteValue) (end : UnitsValue)
+    requires report { IsSomeReport network.now report.now.octets }
+    ensures { IfOk result (λ draft. (notes : List NoteValue) (end : UnitsValue)
         → IsReportOf network.now report.now.octets notes end
-        → GivesAnswer (IsKeptAnswer words.now part subject network.now notes end) result old new) }
-    ensures statuses { IsAuditStatus result }
-    ensures cause { HasCause result ⊥ (PutFailed K.Sink out.old out.new) }
+        → IsKeptDraft network.now subject span title notes draft) }
 {
-    let span = span_of(network, part);
-    let flags = match kept_flags(alloc, network, report, span, subject) {
-        Ok(flags) => flags,
-        Err(_) => return Status::OutOfMemory,
-    };
+    let taken = glances_of(alloc, network, report, subject, span)?;
+    let flags = kept_flags(alloc, network, span, taken.flags, &taken.glances)?;
     let kept = DrawnRecords { flags: Some(flags) };
-    let title = Title::of(words);
-    draw_known(alloc, network, report, span, kept, title, out)
+    let sketch = Sketch::of(alloc, network, span, kept, title, &taken.glances)?;
+    Ok(Draft {
+        sketch,
+        clocks: taken.clocks,
+    })
 }
 
 /// Draws a part of the run that the report of the second file tells over the network of the first: of its records those

@@ -1,5 +1,5 @@
-use Rattle.lens.{proofs.draw_lemmas.Keeping.IsSpread, specs.draw.Keeping.AreLanes}
-use Rattle.{run_law.specs.declared.note.Note.Note, std.proofs.Common.{List, drop}}
+use Rattle.lens.{proofs.draw_lemmas.Keeping.IsSpread, specs.{declared.draw.subject.Subject.Subject, draw.Keeping.{AreLanes, AreOwn}}}
+use Rattle.{lens_svg.specs.Sketching.glance_of, run_law.specs.declared.note.Note.Note, std.proofs.Common.{◌≡◌, List, drop, map, ℕ}}
 use Rattle.{tte_reports.specs.Reports.IsReportOf, tte_units.specs.declared.units.Units.Units}
 use Rattle.lens.proofs.draw.flags.kept_flags.Given as goal
 
@@ -9,6 +9,7 @@ decreases-records l = l.number
 -- the lanes are those of the records behind this number
 abbrev pub invariant-records : goal.invariant-records
 invariant-records l =
-    (notes : List Note) (end : Units) → IsReportOf l.network l.report.octets notes end
-    → IsSpread l.network l.fn.subject notes l.number l.flags.records.items
+    (subject : Subject) (octets : List ℕ) (notes : List Note) (end : Units) → IsReportOf l.network octets notes end
+    → AreOwn l.network subject notes notes l.fn.own.items → l.glances ≡ map (glance_of l.network) notes
+    → IsSpread l.network subject notes l.number l.flags.records.items
     × AreLanes l.network l.span l.flags.records.items (drop l.number notes) l.flags.lanes.items
