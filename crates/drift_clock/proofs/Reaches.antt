@@ -32,27 +32,32 @@ pub segment_counts_up : (c : Segment) (m d : ℕ) → 0 < gain c.rate → c.coun
     → IsCounted c m (c.at + d)
 segment_counts_up c m d fast ahead steps = let up = counts_up c.at c.count (gain c.rate) m d fast ahead steps in record { counted = up.0; not_before = up.1 }
 
--- a reading below n has a count below m, the next whole grain
-pub ahead : (c : Segment) (s n m : ℕ) → 1 ≤ c.grain → m % c.grain ≡ 0 → n ≤ m → segment_reading c s < n → segment_count c s < 10 ^ 9 * m
-ahead c s n m some whole enough short = grind (arith, cases_lt, le-rounded)
-
 grows : (n g a b : ℕ) → a ≤ b → n + g * a ≤ n + g * b
 grows n g a b le = omega (arith, mul-le-mul_left g le)
 
--- the time at which m is counted is the one at which n is read
-pub segment_reaches : (c : Segment) (s n m t : ℕ) → 1 ≤ c.grain → m % c.grain ≡ 0 → n ≤ m → m < n + c.grain → c.at ≤ s → segment_reading c s < n
-    → IsCounted c m t → IsReachFrom (segment_reading c) s n t
-segment_reaches c s n m t some whole enough least after short counted = record {
-  from_on =
-      elim (cases_lt t s) [
-        | inr ge ↦ ge
-        | inl lt ↦
-            let low = ahead c s n m some whole enough short in
-            let up = grows c.count (gain c.rate) (t - c.at) (s - c.at) (omega arith) in
-            absurd (omega (arith, low, up, counted.counted))
-      ];
+-- where m is counted already, n is read
+pub segment_reached : (c : Segment) (s n m : ℕ) → 1 ≤ c.grain → m % c.grain ≡ 0 → n ≤ m
+    → 10 ^ 9 * m ≤ segment_count c s
+    → IsReachFrom (segment_reading c) s n s
+segment_reached c s n m some whole enough counted = record {
+  from_on = omega arith;
+  reached = le-rounded c.grain n m (segment_count c s) some whole enough counted;
+  not_before = λ x from_x before. absurd (omega (arith, from_x, before));
+}
+
+-- what is counted at a time is counted later
+pub counts_on : (c : Segment) (t s : ℕ) → t ≤ s → segment_count c t ≤ segment_count c s
+counts_on c t s le = grows c.count (gain c.rate) (t - c.at) (s - c.at) (omega (arith, le))
+
+-- the time at which m is counted is the one at which n is read, where that is not past
+pub segment_comes : (c : Segment) (s n m t : ℕ) → 1 ≤ c.grain → m % c.grain ≡ 0 → n ≤ m → m < n + c.grain
+    → c.at ≤ s → s ≤ t → IsCounted c m t → IsReachFrom (segment_reading c) s n t
+segment_comes c s n m t some whole enough least after from_on counted = record {
+  from_on = from_on;
   reached = le-rounded c.grain n m (segment_count c t) some whole enough counted.counted;
-  not_before = λ x from_x before. rounded-lt c.grain n m (segment_count c x) some whole least (counted.not_before x (omega (arith, after, from_x)) before);
+  not_before = λ x from_x before.
+      rounded-lt c.grain n m (segment_count c x) some whole least
+      (counted.not_before x (omega (arith, after, from_x)) before);
 }
 
 -- the time in whole grains is at least n from the next whole grain m on

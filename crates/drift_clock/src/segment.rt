@@ -1,4 +1,4 @@
-ghost use Rattle.std.specs.{Int.div_ceil, Prelude.{◌*ℤ◌, ◌*◌, ◌+◌, ◌-◌, ◌/◌, ◌<◌, ◌^◌, ◌≡◌, ◌≤◌, pos, unsigned_abs}};
+ghost use Rattle.std.specs.{Int.div_ceil, Prelude.{◌%◌, ◌*ℤ◌, ◌*◌, ◌+◌, ◌-◌, ◌/◌, ◌<◌, ◌^◌, ◌≡◌, ◌≤◌, pos, unsigned_abs}};
 ghost use Rattle.drift_clock.specs.{Counts.gain, Segment.counted};
 
 use crate::Clock;
@@ -84,11 +84,18 @@ impl Clock for SegmentClock {
     }
 
     fn reach(&self, from: Units, v: Units) -> Units {
-        if v.0 <= self.read(from).0 {
+        if v.0 <= 0 {
             return from;
         }
-        let goal = v.amount().next_multiple_of(self.grain);
-        Units::from_amount(self.time_of(goal))
+        let goal = full_grains(v.amount(), self.grain);
+        if goal <= self.whole {
+            return from;
+        }
+        let reached = self.time_of(goal);
+        if reached < from.amount() {
+            return from;
+        }
+        Units::from_amount(reached)
     }
 
     fn rate(&mut self, t: Units, r: Ppb) {
@@ -272,6 +279,21 @@ fn in_grains(whole: u64, grain: u64) -> u64
         return whole;
     }
     grain * (whole / grain)
+}
+
+// The first whole grains from a value on.
+fn full_grains(value: u64, grain: u64) -> u64
+    requires some { 1 ≤ grain }
+    requires fine { grain ≤ 2 ^ 20 }
+    requires limit { value ≤ 2 ^ 61 }
+    ensures whole { result % grain ≡ 0 }
+    ensures enough { value ≤ result }
+    ensures least { result < value + grain }
+{
+    if grain == 1 {
+        return value;
+    }
+    value.next_multiple_of(grain)
 }
 
 // What is counted in one unit of time.
