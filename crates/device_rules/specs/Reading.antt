@@ -3,7 +3,7 @@ use Rattle.std.specs.Prelude.{◌≡◌, List, Ok, ℕ}
 use Rattle.net_plan.specs.declared.{ids.{DeviceId.DeviceId, LinkId.LinkId}, network.Network.Network}
 use Rattle.run_law.specs.{control.Wires.{control, signal_of, timed}, declared.steps.{Arrival.Arrival, Moment.Moment}}
 use Rattle.run_law.specs.machines.{Answers.{after_arrival, arrival_at, called}, Calls.{MayArrive, MayCall, MayHear, StandsFor}}
-use Rattle.run_law.specs.machines.Nodes.{Node, arriving}
+use Rattle.run_law.specs.machines.Nodes.{Node, Phase, arriving}
 use Rattle.tte_units.specs.declared.frames.pcf.Pcf.{Pcf}
 use Rattle.device_rules.specs.{Headings.heading_of, declared.heading.Heading.Heading}
 
@@ -32,3 +32,9 @@ HearsAll stands moment link Are result old new =
     → MayArrive network device link octets
     → (result ≡ arrival_at network device node moment link (signal_of octets))
     × stands new network device (called moment arriving (after_arrival node moment result))
+
+-- as what the machine stands now, it stood before, but for the last call: it has to do what it had to do
+abbrev pub StandsAsBefore : {M : Type 0} → (M → Network → DeviceId → Node → Type 0) → M → M → Type 0
+StandsAsBefore stands old new =
+    (network : Network) (device : DeviceId) (node : Node) → stands new network device node
+    → (last : Moment) × (phase : Phase) × stands old network device (called last phase node)

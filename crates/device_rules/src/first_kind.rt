@@ -1,4 +1,5 @@
-ghost use Rattle.device_rules.specs.{FirstKinds.IsFirstKind, Reading.{AreHeaded, AreOfFrame, HearsAll, MayHearSome}};
+ghost use Rattle.device_rules.specs.FirstKinds.{IsFirstKind};
+ghost use Rattle.device_rules.specs.Reading.{AreHeaded, AreOfFrame, HearsAll, MayHearSome, StandsAsBefore};
 ghost use Rattle.net_plan.specs.declared.{ids.DeviceId.DeviceId, network.Network.Network};
 ghost use Rattle.run_law.specs.machines.{Calls.HasDue, Nodes.Node};
 
@@ -24,9 +25,11 @@ pub enum TaskKind {
 /// A machine that tells beforehand what kind of thing it will do, and hears frames without their octets.
 pub trait TellsKind: Machine {
     /// What becomes of a control frame that arrives by a link of the device: what `hear` tells of octets that spell it.
+    /// The device has the same to do by itself as before.
     fn hear_pcf(&mut self, moment: Moment, link: LinkId, frame: &Pcf) -> Arrival
         requires { MayHearSome Self.stands self.old moment link (AreOfFrame frame.now) }
-        ensures { HearsAll Self.stands moment link (AreOfFrame frame.now) result self.old self.new };
+        ensures hears { HearsAll Self.stands moment link (AreOfFrame frame.now) result self.old self.new }
+        ensures as_before { StandsAsBefore Self.stands self.old self.new };
 
     /// What becomes of a frame of this heading, which is no control frame, that arrives by a link of the device: what
     /// `hear` tells of its octets.

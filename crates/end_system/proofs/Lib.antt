@@ -5,6 +5,7 @@ pub mod Correct
 pub mod Ripe
 pub mod Values
 pub mod Arrive
+pub mod Before
 pub mod TimedFrames
 pub mod RowSearch
 pub mod RowNext

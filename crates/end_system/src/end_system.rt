@@ -144,8 +144,9 @@ impl EndSystem {
         frame: Result<Pcf, PcfRefusal>,
     ) -> Arrival
         requires { (octets : List ℕ) × MayHearNow self.old moment link octets }
-        ensures { (octets : List ℕ) → frame ≡ decoded octets
+        ensures hears { (octets : List ℕ) → frame ≡ decoded octets
             → HearsControl self.old moment link octets result self.new }
+        ensures same { self.new ≡ record self.old { last = moment } }
     {
         self.last = moment;
         arrival(&self.own, moment.reading, link, frame)

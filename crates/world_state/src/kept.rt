@@ -1,7 +1,8 @@
 ghost use Rattle.std.specs.Prelude.{◌≡◌, Bool, IfNone, IfOk, IfSome, map, true};
 ghost use Rattle.net_plan.specs.declared.{event.What.TheVariants.{Break, On}, network.Network.Network};
 ghost use Rattle.{net_plan.specs.declared.ids.DeviceId.DeviceId, sync_state.specs.declared.state.State.TheVariants.Off};
-ghost use Rattle.device_rules.specs.{FirstKinds.IsFirstKind, Reading.{AreHeaded, AreOfFrame, HearsAll, MayHearSome}};
+ghost use Rattle.device_rules.specs.FirstKinds.{IsFirstKind};
+ghost use Rattle.device_rules.specs.Reading.{AreHeaded, AreOfFrame, HearsAll, MayHearSome, StandsAsBefore};
 ghost use Rattle.run_law.specs.machines.{Calls.{HasDue, MayAct, MayHear, StandsFor}, Nodes.Node, Tasks.IsDueReading};
 ghost use Rattle.world_law.specs.world.{Calls.{HasActed, HasHeard, IsStateOf}, Outcomes.befallen_node};
 ghost use Rattle.world_state.specs.Keeping.{keeps, sound_one};
@@ -131,10 +132,12 @@ impl<M: Machine + Drop> Kept<M> {
 }
 
 impl<M: TellsKind + Drop> Kept<M> {
-    /// A control frame comes to the device by a link. One that is broken drops it.
+    /// A control frame comes to the device by a link. One that is broken drops it. The device has the same to do by
+    /// itself as before.
     pub fn hear_pcf(&mut self, moment: Moment, link: LinkId, frame: &Pcf) -> Arrival
         requires { MayHearSome (keeps M.stands) self.old moment link (AreOfFrame frame.now) }
-        ensures { HearsAll (keeps M.stands) moment link (AreOfFrame frame.now) result self.old self.new }
+        ensures hears { HearsAll (keeps M.stands) moment link (AreOfFrame frame.now) result self.old self.new }
+        ensures as_before { StandsAsBefore (keeps M.stands) self.old self.new }
     {
         match self {
             Kept::Sound(machine) => machine.hear_pcf(moment, link, frame),

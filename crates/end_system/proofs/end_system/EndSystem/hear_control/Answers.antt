@@ -18,8 +18,8 @@ arrival-requires c =
       may.4.0.later.low_enough,
     )
 
-pub returns : goal.returns
-returns c = λ octets same network device node stands may arrives on.
+pub returns-clause-hears : goal.returns-clause-hears
+returns-clause-hears c = λ octets same network device node stands may arrives on.
     let is = c.arrival.ensures ∙ ap (λ d. arrival_of c.args.self.now.own c.args.moment.reading c.args.link d) same in
     let still = ap (λ a. after_arrival node c.args.moment a) is ∙ control_still c.args.self.now.own c.args.moment.reading c.args.link node c.args.moment
     (decoded octets) in (

@@ -28,7 +28,7 @@ returns-then-is_off c = λ network device node stands may arrives. (
 
 pub returns-then-is_pcf : goal.returns-then-is_pcf
 returns-then-is_pcf c = λ network device node stands may arrives.
-    let h = c.hear_control.ensures c.args.octets.now c.decode.ensures network device node stands may arrives
+    let h = c.hear_control.ensures.hears c.args.octets.now c.decode.ensures network device node stands may arrives
     (is_on stands (sym (c.is_off.ensures ∙ ap is_off c.state.ensures) ∙ c.if-is_off.false)) in (
       h.0 ∙ ap (λ s. arrival_at network device node c.args.moment c.args.link s)
           (sym (is_control c.args.octets.now (c.is_pcf.ensures.0 c.if-is_pcf.true))),

@@ -12,8 +12,8 @@ frame_arrival-requires c =
           c.standpoint-at.ensures.reading c.standpoint-at.ensures.adjustment;
     }
 
-pub returns : goal.returns
-returns c octets are network device node st may arrives =
+pub returns-clause-hears : goal.returns-clause-hears
+returns-clause-hears c octets are network device node st may arrives =
     let frame = c.args.frame.now in
     let link = c.args.link in
     let at = point_same c.args.moment c.standpoint-at.result st c.standpoint-at.ensures.state
@@ -26,3 +26,6 @@ returns c octets are network device node st may arrives =
       subst (λ n. StandsAs c.args.self.now network device (called c.args.moment arriving n)) (sym same)
           (called_stands c.args.self.now network device node c.args.moment arriving st may.later.reading),
     )
+
+pub returns-clause-as_before : goal.returns-clause-as_before
+returns-clause-as_before c = λ network device node stands. (node.last, node.phase, stands)
