@@ -8,22 +8,22 @@ use Rattle.drift_clock.specs.{Counts.{gain, rounded}, Segment.counted, SegmentLa
 
 times_small : (m n : ℕ) → m ≤ 1000000 → n < 2 ^ 42 → m * n ≤ 1000000 * 2 ^ 42
 times_small m n slow short =
-    let a : m * n ≤ 1000000 * n = mul-le-mul_right n slow in
-    omega (arith, a, short)
+    let a = mul-le-mul_right n slow in
+    omega arith
 
 -- with the drift and so much before it, so many units are counted
 with_drift : (r : ℤ) (n base : ℕ) (x : ℤ) → unsigned_abs r ≤ 1000000 → n < 2 ^ 42 → 4400000000000000000 ≤ base → x ≡ pos base +ℤ (r *ℤ pos n)
     → unsigned_abs x + 1000000000 * n ≡ base + gain r * n
 with_drift (pos m) n base x slow short much is =
-    let x_is : x ≡ pos base +ℤ pos (m * n) = is ∙ ap (λ (z : ℤ). pos base +ℤ z) (pos-*ℤ-pos m n) in
-    omega (arith, ints, x_is)
+    let x_is = is ∙ ap (λ z. pos base +ℤ z) (pos-*ℤ-pos m n) in
+    omega (arith, ints)
 with_drift (negsuc m) n base x slow short much is =
     let g = gain (negsuc m) in
-    let g_is : g + suc m ≡ 1000000000 = omega (arith, ints, slow) in
-    let times : (g + suc m) * n ≡ 1000000000 * n = ap (λ (k : ℕ). k * n) g_is in
+    let g_is : g + suc m ≡ 1000000000 = omega (arith, ints) in
+    let times : (g + suc m) * n ≡ 1000000000 * n = ap (λ k. k * n) g_is in
     let most = times_small (suc m) n slow short in
-    let x_is : x ≡ pos base +ℤ neg_ℤ (pos (suc m * n)) = is ∙ ap (λ (z : ℤ). pos base +ℤ z) (negsuc-*ℤ-pos m n) in
-    omega (arith, ints, x_is, most, much, times)
+    let x_is = is ∙ ap (λ z. pos base +ℤ z) (negsuc-*ℤ-pos m n) in
+    omega (arith, ints)
 
 -- without it, so many are lacking
 without_drift : (r : ℤ) (n base : ℕ) (x : ℤ) → unsigned_abs r ≤ 1000000 → n < 2 ^ 42 → 4400000000000000000 ≤ base → x ≡ pos base -ℤ (r *ℤ pos n)
@@ -31,18 +31,18 @@ without_drift : (r : ℤ) (n base : ℕ) (x : ℤ) → unsigned_abs r ≤ 100000
 without_drift (pos m) n base x slow short much is = grind (arith, times_small, pos-*ℤ-pos, ints)
 without_drift (negsuc m) n base x slow short much is =
     let g = gain (negsuc m) in
-    let g_is : g + suc m ≡ 1000000000 = omega (arith, ints, slow) in
-    let times : (g + suc m) * n ≡ 1000000000 * n = ap (λ (k : ℕ). k * n) g_is in
-    let x_is : x ≡ pos base -ℤ neg_ℤ (pos (suc m * n)) = is ∙ ap (λ (z : ℤ). pos base -ℤ z) (negsuc-*ℤ-pos m n) in
-    omega (arith, ints, x_is, times)
+    let g_is : g + suc m ≡ 1000000000 = omega (arith, ints) in
+    let times : (g + suc m) * n ≡ 1000000000 * n = ap (λ k. k * n) g_is in
+    let x_is = is ∙ ap (λ z. pos base -ℤ z) (negsuc-*ℤ-pos m n) in
+    omega (arith, ints)
 
 -- ---- as words of 64 bits show it
 
 reads : (z : ℤ) → unsigned_abs z ≤ 9000000000000000000 → to_z w64 (of_z w64 z) ≡ z
-reads z small = to_z-of_z w64 z (fits_signed_from_abs w64 z (omega (arith, small)))
+reads z small = to_z-of_z w64 z (fits_signed_from_abs w64 z (omega arith))
 
 pos_read : (n : ℕ) → n ≤ 9000000000000000000 → to_z w64 n ≡ pos n
-pos_read n small = to_z_pos w64 n (omega (arith, small))
+pos_read n small = to_z_pos w64 n (omega arith)
 
 pub parts_read : (r : ℤ) (n part : ℕ) (d : ℤ) → unsigned_abs r ≤ 1000000 → n < 2 ^ 42 → part < 1000000000 → d ≡ r *ℤ pos n
     → unsigned_abs d ≤ 4400000000000000000
@@ -55,19 +55,21 @@ pub lack_read : (r : ℤ) (n part each : ℕ) (d : ℤ) → unsigned_abs r ≤ 1
     ≡ 1000000000 * n + each * 4500000000
 lack_read r n part each d slow short less each_is is small =
     let near = gain_near r 1000000 slow (omega arith) in
-    let low : 999000000 ≤ each = let l = near.0 in omega (arith, l, each_is) in
-    let high : each ≤ 1001000000 = let h = near.1 in omega (arith, h, each_is) in
-    let base : ℕ = 4500000000 * each - part in
-    let much : 4400000000000000000 ≤ base = omega (arith, low, less) in
-    let most : base ≤ 4504500000000000000 = omega (arith, high) in
-    let back : base + part ≡ 4500000000 * each = omega (arith, low, less) in
-    let read : to_z w64 base -ℤ to_z w64 (of_z w64 d) ≡ pos base -ℤ d = ap (λ (z : ℤ). z -ℤ to_z w64 (of_z w64 d)) (pos_read base (omega (arith, most)))
-    ∙ ap (λ (z : ℤ). pos base -ℤ z) (reads d (omega (arith, small))) in
-    let whole : to_z w64 (of_z w64 (to_z w64 base -ℤ to_z w64 (of_z w64 d))) ≡ pos base -ℤ (r *ℤ pos n) = ap (λ (z : ℤ). to_z w64 (of_z w64 z)) read
-    ∙ reads (pos base -ℤ d) (omega (arith, ints, most, small)) ∙ ap (λ (z : ℤ). pos base -ℤ z) is in
+    let low : 999000000 ≤ each = let l = near.0 in omega arith in
+    let high : each ≤ 1001000000 = let h = near.1 in omega arith in
+    let base = 4500000000 * each - part in
+    let much : 4400000000000000000 ≤ base = omega arith in
+    let most : base ≤ 4504500000000000000 = omega arith in
+    let back : base + part ≡ 4500000000 * each = omega arith in
+    let read : to_z w64 base -ℤ to_z w64 (of_z w64 d) ≡ pos base -ℤ d =
+        ap (λ z. z -ℤ to_z w64 (of_z w64 d)) (pos_read base (omega arith))
+    ∙ ap (λ (z : ℤ). pos base -ℤ z) (reads d (omega arith)) in
+    let whole : to_z w64 (of_z w64 (to_z w64 base -ℤ to_z w64 (of_z w64 d))) ≡ pos base -ℤ (r *ℤ pos n) =
+        ap (λ z. to_z w64 (of_z w64 z)) read
+    ∙ reads (pos base -ℤ d) (omega (arith, ints)) ∙ ap (λ (z : ℤ). pos base -ℤ z) is in
     let counted = without_drift r n base _ slow short much whole in
-    let same : each * n ≡ gain r * n = ap (λ (k : ℕ). k * n) each_is in
-    omega (arith, counted, same, back)
+    let same : each * n ≡ gain r * n = ap (λ k. k * n) each_is in
+    omega (arith, counted)
 
 -- ---- quotients rounded up
 
@@ -78,20 +80,20 @@ one_ceiling x g q some enough least = grind (arith, div_ceil_times, cases_lt, mu
 -- fewer steps by as many as the shift has more
 pub shifted_ceiling : (x y g m s d : ℕ) → 0 < g → d ≡ div_ceil x g → x + g * m ≡ y + g * s → m + d ≡ div_ceil y g + s
 shifted_ceiling x y g m s d some is same =
-    let times : (x ≤ div_ceil x g * g) × (div_ceil x g * g < x + g) = div_ceil_times x g some in
+    let times = div_ceil_times x g some in
     let low : x ≤ d * g = rw is times.0 in
     let high : d * g < x + g = rw is times.1 in
-    let floor : div_ceil (y + g * s) g ≡ div_ceil y g + s = moved y s in
-    let whole : m + d ≡ div_ceil (y + g * s) g = one_ceiling (y + g * s) g (m + d) some (omega (arith, low, same)) (omega (arith, high, same)) in
-    omega (arith, whole, floor)
+    let floor = moved y s in
+    let whole = one_ceiling (y + g * s) g (m + d) some (omega arith) (omega arith) in
+    omega arith
   where
     moved : (y s : ℕ) → div_ceil (y + g * s) g ≡ div_ceil y g + s
     moved y s =
-        let times : (y ≤ div_ceil y g * g) × (div_ceil y g * g < y + g) = div_ceil_times y g some in
-        let low : y ≤ div_ceil y g * g = times.0 in
-        let high : div_ceil y g * g < y + g = times.1 in
-        let whole = one_ceiling (y + g * s) g (div_ceil y g + s) some (omega (arith, low)) (omega (arith, high)) in
-        omega (arith, whole)
+        let times = div_ceil_times y g some in
+        let low = times.0 in
+        let high = times.1 in
+        let whole = one_ceiling (y + g * s) g (div_ceil y g + s) some (omega arith) (omega arith) in
+        omega arith
 
 -- ---- whole units in whole grains
 

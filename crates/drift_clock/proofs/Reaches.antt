@@ -42,12 +42,12 @@ pub segment_reached : (c : Segment) (s n m : ℕ) → 1 ≤ c.grain → m % c.gr
 segment_reached c s n m some whole enough counted = record {
   from_on = omega arith;
   reached = le-rounded c.grain n m (segment_count c s) some whole enough counted;
-  not_before = λ x from_x before. absurd (omega (arith, from_x, before));
+  not_before = λ x from_x before. absurd (omega arith);
 }
 
 -- what is counted at a time is counted later
 pub counts_on : (c : Segment) (t s : ℕ) → t ≤ s → segment_count c t ≤ segment_count c s
-counts_on c t s le = grows c.count (gain c.rate) (t - c.at) (s - c.at) (omega (arith, le))
+counts_on c t s le = grows c.count (gain c.rate) (t - c.at) (s - c.at) (omega arith)
 
 -- the time at which m is counted is the one at which n is read, where that is not past
 pub segment_comes : (c : Segment) (s n m t : ℕ) → 1 ≤ c.grain → m % c.grain ≡ 0 → n ≤ m → m < n + c.grain
@@ -57,7 +57,7 @@ segment_comes c s n m t some whole enough least after from_on counted = record {
   reached = le-rounded c.grain n m (segment_count c t) some whole enough counted.counted;
   not_before = λ x from_x before.
       rounded-lt c.grain n m (segment_count c x) some whole least
-      (counted.not_before x (omega (arith, after, from_x)) before);
+      (counted.not_before x (omega arith) before);
 }
 
 -- the time in whole grains is at least n from the next whole grain m on
@@ -71,9 +71,11 @@ one_reach reading from v u t a b =
     let from_u = a.from_on in
     let from_t = b.from_on in
     elim (cases_lt u t) [
-      | inl lt ↦ let less = b.not_before u from_u (omega (arith, ints, lt)) in let reached = a.reached in absurd (omega (arith, ints, less, reached))
+      | inl lt ↦ let less = b.not_before u from_u (omega (arith, ints)) in let reached = a.reached in
+          absurd (omega (arith, ints))
       | inr ge ↦ elim (cases_lt t u) [
-        | inl lt ↦ let less = a.not_before t from_t (omega (arith, ints, lt)) in let reached = b.reached in absurd (omega (arith, ints, less, reached))
-        | inr le ↦ omega (arith, ge, le)
+        | inl lt ↦ let less = a.not_before t from_t (omega (arith, ints)) in let reached = b.reached in
+            absurd (omega (arith, ints))
+        | inr le ↦ omega arith
       ]
     ]

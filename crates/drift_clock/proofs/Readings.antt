@@ -21,13 +21,13 @@ join rho d e a b c f p q same = rw same (record { least = omega (arith, p.least,
 -- what is read at t where the first step counts, and where none does
 reading_at-cons : {C : Type 0} (after_step : C → ℕ → ℤ → C) (reading : C → ℕ → ℕ) (c : C) (s : RateStep) (steps : List RateStep) (t : ℕ) → s.at ≤ t
     → reading_at after_step reading c (s ∷ steps) t ≡ reading_at after_step reading (after_step c s.at s.rate) steps t
-reading_at-cons after_step reading c s steps t le = ap (λ xs. reading (value_after after_step c xs) t) (up_to-cons t s steps le)
+reading_at-cons after_step reading c s steps t le = rw (up_to-cons t s steps le)
 
 -- where the first step is still to come
 reading_at-early : {C : Type 0} (after_step : C → ℕ → ℤ → C) (reading : C → ℕ → ℕ) (c : C) (rho from : ℕ) (s : RateStep) (steps : List RateStep) (t : ℕ)
     → InOrder rho from (s ∷ steps) → t < s.at → reading_at after_step reading c (s ∷ steps) t ≡ reading c t
 reading_at-early after_step reading c rho from s steps t i lt =
-    ap (λ xs. reading (value_after after_step c xs) t) (up_to-late t s steps lt ∙ up_to-none rho t s.at steps i.2 lt)
+    rw (up_to-late t s steps lt ∙ up_to-none rho t s.at steps i.2 lt)
 
 -- the count at the time from which the steps go
 count_first : {C : Type 0} (after_step : C → ℕ → ℤ → C) (count : C → ℕ → ℕ) (law : IsSteppable after_step count) (rho from : ℕ) (c : C) (steps : List RateStep)
@@ -39,9 +39,10 @@ count_first after_step count law rho from c (s ∷ steps) i =
       | inr now ↦
           let same : s.at ≡ from = omega (arith, i.0) in
           let next = after_step c s.at s.rate in
-          let rest : reading_at after_step count next steps s.at ≡ count next s.at = count_first after_step count law rho s.at next steps i.2 in
-          let here : reading_at after_step count next steps s.at ≡ count c s.at = rest ∙ law.keeps c s.at s.rate in
-          reading_at-cons after_step count c s steps from now ∙ subst (λ (t : ℕ). reading_at after_step count next steps t ≡ count c t) same here
+          let rest = count_first after_step count law rho s.at next steps i.2 in
+          let here = rest ∙ law.keeps c s.at s.rate in
+          reading_at-cons after_step count c s steps from now ∙
+              subst (λ t. reading_at after_step count next steps t ≡ count c t) same here
     ]
 
 -- between any two times from there on the count advances rightly
@@ -95,7 +96,7 @@ reads fresh after_step reading grain count law g steps t =
 
 forward : (rho d a b : ℕ) → rho ≤ 1000000 → Advances rho d a b → a ≤ b
 forward rho d a b small near =
-    let part : rho * d ≤ 1000000 * d = mul-le-mul_right d small in
+    let part = mul-le-mul_right d small in
     omega (arith, near.least)
 
 pub keeps_clock_laws : {C : Type 0} (fresh : ℕ → C) (after_step : C → ℕ → ℤ → C) (reading : C → ℕ → ℕ) (grain : C → ℕ) (count : C → ℕ → ℕ)
@@ -135,4 +136,4 @@ begins_at_zero fresh after_step reading grain count law g steps =
     ∙ ap (rounded g) (count_at_zero after_step count law.keeps_count (fresh g) steps ∙ law.counts_time g 0) ∙ rounded-zero g
 
 pub reads_its_steps : {C : Type 0} (fresh : ℕ → C) (after_step : C → ℕ → ℤ → C) (reading : C → ℕ → ℕ) → ReadsItsSteps fresh after_step reading
-reads_its_steps fresh after_step reading g steps t all = ap (λ xs. reading (value_after after_step (fresh g) xs) t) (up_to-all t steps all)
+reads_its_steps fresh after_step reading g steps t all = rw (up_to-all t steps all)

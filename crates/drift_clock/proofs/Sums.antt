@@ -12,7 +12,7 @@ counts : (c : Segment) (steps : List RateStep) (t : ℕ) → segment_count (valu
 counts c [] t = omega (arith, sum_by-cons weight (record { rate = c.rate; units = t - c.at }) [])
 counts c (s ∷ steps) t =
     let rest = counts (stepped_segment c s.at s.rate) steps t in
-    omega (arith, rest, sum_by-cons weight (record { rate = c.rate; units = s.at - c.at }) (stretches s.at s.rate steps t))
+    omega (arith, sum_by-cons weight (record { rate = c.rate; units = s.at - c.at }) (stretches s.at s.rate steps t))
 
 -- steps keep the grain
 grain_stays : (c : Segment) (steps : List RateStep) → (value_after stepped_segment c steps).grain ≡ c.grain

@@ -34,21 +34,21 @@ totals rho e [] all = record {
 }
 totals rho e (x ∷ hops) all =
     let t = totals rho e hops (rest (IsHop rho e) x hops all) in
-    let q : IsHop rho e x = all 0 x (omega arith) in
-    let a = sum_by-cons (λ (h : Hop). h.hold + h.delay) x hops in
-    let b = sum_by-cons (λ (h : Hop). h.measured + h.wire) x hops in
-    let j = sum_by-cons (λ (h : Hop). h.jitter) x hops in
+    let q = all 0 x (omega arith) in
+    let a = sum_by-cons (λ h. h.hold + h.delay) x hops in
+    let b = sum_by-cons (λ h. h.measured + h.wire) x hops in
+    let j = sum_by-cons (λ h. h.jitter) x hops in
     record {
       hold = x.hold + t.hold;
       measured = x.measured + t.measured;
       wire = x.wire + t.wire;
       delay = x.delay + t.delay;
-      takes = omega (arith, a, t.takes);
-      grows = omega (arith, b, t.grows);
+      takes = omega (arith, t.takes);
+      grows = omega (arith, t.grows);
       low = omega (arith, t.low, q.measures);
       high = omega (arith, t.high, q.measures);
       least = omega (arith, t.least, q.least);
-      most = omega (arith, t.most, q.most, j);
+      most = omega (arith, t.most, q.most);
     }
 
 -- the numbers alone: n hops with the sum j of their jitters
@@ -58,12 +58,11 @@ close : (rho e n dmax a x h m w d j : ℕ) → rho ≤ 1000000 → 1 ≤ e → n
     → 10 ^ 9 * a ≤ 10 ^ 9 * x + rho * x + 2 * e * 10 ^ 9 → 10 ^ 9 * x ≤ 10 ^ 9 * a + rho * x + 2 * e * 10 ^ 9
     → (h + d + x ≤ dmax + (j + 4 * rho * dmax / 10 ^ 9 + 8 * e * (n + 2))) × (dmax ≤ h + d + x + (j + 4 * rho * dmax / 10 ^ 9 + 8 * e * (n + 2)))
 close rho e n dmax a x h m w d j small one few low high least most from to below above =
-    let slow : rho * (h + x) ≤ 1000000 * (h + x) = mul-le-mul_right (h + x) small in
+    let slow = mul-le-mul_right (h + x) small in
     let whole : h + x ≤ 2 * (dmax + 2 * (n * e) + 4 * e) = omega arith in
-    let drift : rho * (h + x) ≤ rho * (2 * (dmax + 2 * (n * e) + 4 * e)) = mul-le-mul_left rho whole in
-    let part : rho * (n * e) ≤ 1000000 * (n * e) = mul-le-mul_right (n * e) small in
-    let rest : rho * e ≤ 1000000 * e = mul-le-mul_right e small in
-    let floor : 4 * rho * dmax < 10 ^ 9 * (4 * rho * dmax / 10 ^ 9 + 1) = omega arith in
+    let drift = mul-le-mul_left rho whole in
+    let part = mul-le-mul_right (n * e) small in
+    let rest = mul-le-mul_right e small in
     (omega arith, omega arith)
 
 pub permanent_in_time : PermanentInTime

@@ -61,11 +61,14 @@ goes_with : (relay parent : Bool) (frame : Pcf) (point : Units) (clock : ℕ)
     → Goes (if relay then (if parent then arrivals.Passes frame Up else arrivals.PassesAndWaits frame Down point) else arrivals.Waits frame point) clock
     → clock ≡ frame.clock
 goes_with true true frame point clock g =
-    elim g.4 [ inl e ↦ absurd cc | inr (inl e) ↦ (let same : frame ≡ g.0 = cc in g.3 ∙ ap (λ (f : Pcf). f.clock) (sym same)) | inr (inr e) ↦ absurd cc ]
+    elim g.4 [ inl e ↦ absurd cc | inr (inl e) ↦ (let same : frame ≡ g.0 = cc in g.3 ∙ ap (λ f. f.clock) (sym same))
+        | inr (inr e) ↦ absurd cc ]
 goes_with true false frame point clock g =
-    elim g.4 [ inl e ↦ absurd cc | inr (inl e) ↦ absurd cc | inr (inr e) ↦ (let same : frame ≡ g.0 = cc in g.3 ∙ ap (λ (f : Pcf). f.clock) (sym same)) ]
+    elim g.4 [ inl e ↦ absurd cc | inr (inl e) ↦ absurd cc | inr (inr e) ↦
+        (let same : frame ≡ g.0 = cc in g.3 ∙ ap (λ f. f.clock) (sym same)) ]
 goes_with false parent frame point clock g =
-    elim g.4 [ inl e ↦ (let same : frame ≡ g.0 = cc in g.3 ∙ ap (λ (f : Pcf). f.clock) (sym same)) | inr (inl e) ↦ absurd cc | inr (inr e) ↦ absurd cc ]
+    elim g.4 [ inl e ↦ (let same : frame ≡ g.0 = cc in g.3 ∙ ap (λ f. f.clock) (sym same)) | inr (inl e) ↦
+        absurd cc | inr (inr e) ↦ absurd cc ]
 
 -- a control frame that goes on is young, and its gate open
 control_finds : (network : Network) (device : DeviceId) (link : LinkId) (at : Standpoint) (frame : Result Pcf PcfRefusal) (clock : ℕ)
@@ -86,7 +89,7 @@ control_finds network device link at (Ok frame) clock g = by (frame_fault networ
         let clock_is = goes_with (is_relay network device) (is_parent_of network device link) (with_clock (clock_on_arrival network link frame) frame)
         (point_on_arrival network at (clock_on_arrival network link frame)) clock g in
         let up = ltb-false (amount network.dmax) (clock_on_arrival network link frame) five.0 in
-        record { young = omega (arith, clock_is, up); unshut = six.0 }
+        record { young = omega arith; unshut = six.0 }
 
 module _ {s : Scenario} {hs : List Happening} {device : DeviceId} {t : ℕ} {link : LinkId} {cause clock : ℕ}
     (a : IsArrivedRecord s hs device t link cause clock) where

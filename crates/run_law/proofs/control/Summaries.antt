@@ -23,11 +23,11 @@ one_more {s} {acc} h is = by h.within refl h.channel refl
     by true e A f =
         let b = better s.best_a h.frame in
         let t : Summary = record { best_a = Some b.0; best_b = s.best_b; outside = s.outside } in
-        (t, subst (λ (x : Hearing). Summarizes t (acc ++ x ∷ [])) (same_hearing h.channel A h.frame h.within f e) (hears_on_a s acc h.frame b.0 b.1 is))
+        (t, rw (same_hearing h.channel A h.frame h.within f e) at (hears_on_a s acc h.frame b.0 b.1 is))
     by true e B f =
         let b = better s.best_b h.frame in
         let t : Summary = record { best_a = s.best_a; best_b = Some b.0; outside = s.outside } in
-        (t, subst (λ (x : Hearing). Summarizes t (acc ++ x ∷ [])) (same_hearing h.channel B h.frame h.within f e) (hears_on_b s acc h.frame b.0 b.1 is))
+        (t, rw (same_hearing h.channel B h.frame h.within f e) at (hears_on_b s acc h.frame b.0 b.1 is))
 
 pub corrects_some : (a b : Option Units) (d : Units) → (a ≡ Some d) ⊎ (b ≡ Some d) → (by : Units) × (correction_of a b ≡ Some by)
 corrects_some None None d e = absurd (elim e [ inl x ↦ cc | inr x ↦ cc ])

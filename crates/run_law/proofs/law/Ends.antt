@@ -36,7 +36,7 @@ with_next {locals} {count} {least} {greatest} local low high ends there at one b
                 (through low.0 least.0 _ below old.0, through _ greatest.0 high.0 old.1 above)
             | inr ge ↦
                 let same : k ≡ count = omega arith in
-                let is : slice_index_or locals k d ≡ local = subst (λ (i : ℕ). slice_index_or locals i d ≡ local) (sym same) (at d) in
-                (subst (λ (u : Units). low.0 ≤ℤ u.0) (sym is) under, subst (λ (u : Units). u.0 ≤ℤ high.0) (sym is) over)
+                let is : slice_index_or locals k d ≡ local = rw same (at d) in
+                (rw is under, rw is over)
           ];
     }

@@ -1,11 +1,11 @@
 -- A broken device is still.
 use Rattle.{pcf_codec.specs.declared.refusal.PcfRefusal.PcfRefusal, run_law.specs.{control.Wires.{Signal, timed}, declared.judgement.Reason.TheVariants.Off}}
-use Rattle.run_law.proofs.Words.{◌++◌, ◌∷◌, ◌≡◌, Arrival, ArrivesAs, Bool, ChangesState, DeviceId, Happening, Integrates, IsArrivedRecord, IsCaused, IsDropped}
+use Rattle.run_law.proofs.Words.{◌++◌, ◌∷◌, ◌≡◌, Arrival, ArrivesAs, ChangesState, DeviceId, Happening, Integrates, IsArrivedRecord, IsCaused, IsDropped}
 use Rattle.run_law.proofs.Words.{IsDue, IsFounded, LinkId, List, Network, NoteBody, Ok, Option, Pcf, Reason, Scenario, Some, Standpoint, State, Units, Why}
-use Rattle.run_law.proofs.Words.{amount, ap, arrival_of, control, control_arrival, eqb-true, false, frame_fault, frame_or_fault, if◌then◌else◌, inl, inr}
+use Rattle.run_law.proofs.Words.{amount, ap, arrival_of, control, control_arrival, eqb-true, false, frame_fault, frame_or_fault, inl, inr}
 use Rattle.{run_law.proofs.Words.{is_broken, is_joined_by, is_off, not, place_of, refl, standpoint, subst, sym, true, ℕ}, std.specs.Prelude.{Err, Result}}
 use Rattle.run_law.{proofs.law.FirstPlaces.{founded_at, numbered_front, numbered_in}, specs.timed.Arrivals.{octets_fault, octets_or_fault, timed_arrival}}
-use Rattle.run_law.specs.{control.{Arrivals.refused, Losses.IsLost}, records.Causes.{IsOfThisTime, device_of}, timed.Receptions.last_taken}
+use Rattle.run_law.specs.{control.{Losses.IsLost}, records.Causes.{IsOfThisTime, device_of}, timed.Receptions.last_taken}
 use Rattle.{run_law.specs.law.FirstLaws.{BrokenAreStill, IsLeftToBroken}, std.proofs.{Common.arith, lemmas.Bool.{and_right, both_ways, not_from_true}}}
 use Rattle.run_law.specs.declared.judgement.Why.TheVariants as whys
 use Rattle.run_law.specs.declared.note.NoteBody.TheVariants as notes
@@ -17,7 +17,7 @@ module _ (network : Network) (device : DeviceId) (link : LinkId) (at : Standpoin
   -- a device that takes no part drops what comes to it
   pub off_control : (frame : Result Pcf PcfRefusal) → at.takes_part ≡ false
       → control_arrival network device link at frame ≡ arrivals.Dropped Off
-  off_control (Err refusal) off = ap (λ (b : Bool). arrivals.Dropped (if b then refused refusal else Off)) off
+  off_control (Err refusal) off = rw off
   off_control (Ok frame) off =
       let fault : frame_fault network device link at frame ≡ Some Off = rw off refl in
       ap (frame_or_fault network device link at frame) fault
@@ -45,7 +45,7 @@ dropped_off broken comes = grind (arith, standpoint, and_right, not, is_off, is_
 
 -- the device of a record is this one
 broken_of : (s : Scenario) (t : ℕ) (d device : DeviceId) → Some d ≡ Some device → is_broken s device t ≡ true → is_broken s d t ≡ true
-broken_of s t d device of broken = let same : device ≡ d = cc in subst (λ x. is_broken s x t ≡ true) same broken
+broken_of s t d device of broken = let same : device ≡ d = cc in rw same at broken
 
 module _ (s : Scenario) (ps : List Happening) (time : Units) (device : DeviceId) where
   -- a frame tells a correct device the time
@@ -53,12 +53,12 @@ module _ (s : Scenario) (ps : List Happening) (time : Units) (device : DeviceId)
       → is_broken s device (amount time) ≡ false
   joined_correct (notes.Permanent other link cause point Integrates) joined caused =
       let same : other ≡ device =
-      ap (λ (n : ℕ). let d : DeviceId = record { 0 = n } in d) (sym (eqb-true device.0 other.0 joined)) in
-      subst (λ d. is_broken s d (amount time) ≡ false) same caused.permanent.correct
+      rw (sym (eqb-true device.0 other.0 joined)) in
+      rw same at caused.permanent.correct
   joined_correct (notes.Compressed other opened at cycle members Integrates) joined caused =
       let same : other ≡ device =
-      ap (λ (n : ℕ). let d : DeviceId = record { 0 = n } in d) (sym (eqb-true device.0 other.0 joined)) in
-      subst (λ d. is_broken s d (amount time) ≡ false) same caused.correct
+      rw (sym (eqb-true device.0 other.0 joined)) in
+      rw same at caused.correct
   joined_correct other joined caused = absurd cc
 
   -- a device that is corrected is correct
@@ -84,12 +84,10 @@ module _ (s : Scenario) (ps : List Happening) (t : ℕ) (device : DeviceId) wher
   changes_correct state cause whys.On founded c = c.1
   changes_correct state cause whys.Frame founded c =
       let from = caused_at s founded c.1.1 in
-      subst (λ u. is_broken s device u ≡ false) c.1.1.same_time
-      (joined_correct s from.0 c.1.0.note.time device c.1.0.note.body c.1.2 from.1)
+      rw c.1.1.same_time at (joined_correct s from.0 c.1.0.note.time device c.1.0.note.body c.1.2 from.1)
   changes_correct state cause whys.Correction founded c =
       let from = caused_at s founded c.2.4 in
-      subst (λ u. is_broken s device u ≡ false) c.2.4.same_time
-      (corrected_correct s from.0 c.2.3.note.time device c.2.0 c.2.1 c.2.2 c.2.3.note.body c.2.5
+      rw c.2.4.same_time at (corrected_correct s from.0 c.2.3.note.time device c.2.0 c.2.1 c.2.2 c.2.3.note.body c.2.5
       from.1)
   changes_correct state cause whys.SyncClique founded c = c.2.1.correct
   changes_correct state cause whys.AsyncClique founded c = c.2.1.correct
@@ -159,5 +157,4 @@ module _ (s : Scenario) (ps qs : List Happening) where
 pub broken_are_still : BrokenAreStill
 broken_are_still s mark ns h device run i of broken =
     let at = founded_at s _ h run.founded i in
-    subst (λ hs. IsLeftToBroken hs h.note.body) (sym at.whole)
-    (left_by s at.front (h ∷ at.rest) h.note.time device h.note.body at.founded of broken at.due.cause)
+    rw at.whole (left_by s at.front (h ∷ at.rest) h.note.time device h.note.body at.founded of broken at.due.cause)

@@ -1,8 +1,8 @@
 -- The delays and holds that events within the fault hypothesis set, and how far a clock grows over a hold.
 use Rattle.{drift_clock.specs.ClockLaws.Measures, run_law.specs.{law.FirstLaws.{IsEventInRange, IsLawful}, scenario.Scenarios.{events_up_to, last_set}}}
-use Rattle.run_law.proofs.Words.{◌+ℤ◌, ◌+◌, ◌<ℤ◌, ◌<◌, ◌==◌, ◌∷◌, ◌≡◌, ◌≤ℤ◌, ◌≤◌, ◌⊎◌, Event, IsIn, IsWithinHypothesis, Link, LinkId, List, Network, None}
-use Rattle.run_law.proofs.Words.{Option, Scenario, Some, Units, Way, What, [], amount, ap, arith, beta_at, cons_option, eqb-true, filter_map, in_all, inl, inr}
-use Rattle.run_law.proofs.{Words.{ints, last_or, length, link_at, option_map_or, pos, refl, slice_get, subst, sym, true, ℕ}, runs.Places.parted}
+use Rattle.run_law.proofs.Words.{◌+ℤ◌, ◌+◌, ◌<ℤ◌, ◌==◌, ◌∷◌, ◌≡◌, ◌≤ℤ◌, ◌≤◌, ◌⊎◌, Event, IsIn, IsWithinHypothesis, Link, LinkId, List, Network, None}
+use Rattle.run_law.proofs.Words.{Option, Scenario, Some, Units, Way, What, [], amount, arith, beta_at, cons_option, eqb-true, filter_map, in_all, inl, inr}
+use Rattle.run_law.proofs.{Words.{ints, last_or, length, link_at, pos, refl, slice_get, sym, true, ℕ}, runs.Places.parted}
 use Rattle.{run_law.proofs.law.FirstPlaces.{at_length, in_filter}, tte_units.proofs.general_lemmas.{Bools.picked, Options.closed}}
 use Rattle.run_law.specs.{declared.outside.Outside.TheVariants.{Hold, Wire}, scenario.Ways.{delay_at, hold_at, hold_set, is_way, is_way_of, wire_of, wire_set}}
 use Rattle.std.{proofs.{Math.Nat.mul-le-mul_left, lemmas.{Bool.and_parts, Int.by_lt_z}}, specs.{Option.unwrap_or, Prelude.nat_le}}
@@ -37,7 +37,7 @@ last_is P s setting initial t first each =
 pub same_way_link : (link other : LinkId) (way turned : Way) → is_way_of link way other turned ≡ true → other ≡ link
 same_way_link link other way turned same =
     let both = and_parts (link.0 == other.0) (is_way way turned) same in
-    ap (λ (n : ℕ). let l : LinkId = record { 0 = n } in l) (sym (eqb-true link.0 other.0 both.0))
+    rw (sym (eqb-true link.0 other.0 both.0))
 
 -- the hold that an event sets on a way of the link
 record SetsHold (link : LinkId) (what : What) (v : ℕ) : Type 0 where
@@ -50,7 +50,7 @@ record SetsHold (link : LinkId) (what : What) (v : ℕ) : Type 0 where
 sets_hold : (link : LinkId) (way : Way) (what : What) (v : ℕ) → hold_set link way what ≡ Some v → SetsHold link what v
 sets_hold link way (events.Hold other turned delay) v e =
     let both = picked (is_way_of link way other turned) (amount delay) v e in
-    record { way = turned; delay = delay; is = ap (λ (l : LinkId). events.Hold l turned delay) (same_way_link link other way turned both.0); sets = both.1 }
+    record { way = turned; delay = delay; is = rw (same_way_link link other way turned both.0); sets = both.1 }
 sets_hold link way other v e = absurd cc
 
 -- the wire delay that an event sets on a way of the link
@@ -64,7 +64,7 @@ pub record SetsWire (link : LinkId) (what : What) (v : ℕ) : Type 0 where
 pub sets_wire : (link : LinkId) (way : Way) (what : What) (v : ℕ) → wire_set link way what ≡ Some v → SetsWire link what v
 sets_wire link way (events.Wire other turned delay) v e =
     let both = picked (is_way_of link way other turned) (amount delay) v e in
-    record { way = turned; delay = delay; is = ap (λ (l : LinkId). events.Wire l turned delay) (same_way_link link other way turned both.0); sets = both.1 }
+    record { way = turned; delay = delay; is = rw (same_way_link link other way turned both.0); sets = both.1 }
 sets_wire link way other v e = absurd cc
 
 -- an event of a lawful scenario is in range, and within the hypothesis given those before it
@@ -77,7 +77,7 @@ pub record IsGiven (s : Scenario) (e : Event) : Type 0 where
 pub given : (s : Scenario) (e : Event) → IsLawful s → IsIn e s.events → IsGiven s e
 given s e lawful i =
     let at = parted e s.events i in
-    let there : slice_get s.events (length at.0) ≡ Some e = subst (λ (es : List Event). slice_get es (length at.0) ≡ Some e) (sym at.2) (at_length at.0 at.1 e)
+    let there : slice_get s.events (length at.0) ≡ Some e = rw (sym at.2) at (at_length at.0 at.1 e)
     in
     record { range = in_all IsEventInRange s.events (length at.0) e lawful.events there; before = at.0; within = lawful.within at.0 at.1 e at.2 }
 
@@ -89,15 +89,15 @@ module _ (s : Scenario) (link : LinkId) (l : Link) (way : Way) where
       let set = sets_hold link way e.what v is in
       let known = given s e lawful i in
       let begun = known.range.hold link set.way set.delay set.is in
-      by_lt_z {P = v ≤ amount l.hold} l.hold.0 set.delay.0
+      by_lt_z l.hold.0 set.delay.0
       (λ long. absurd (known.within Hold (record {
         link = link;
         way = set.way;
         delay = set.delay;
         what = set.is;
-        long = closed (λ (k : Link). k.hold.0 <ℤ set.delay.0) (link_at s.network link) l there long;
+        long = closed (λ k. k.hold.0 <ℤ set.delay.0) (link_at s.network link) l there long;
       })))
-      (λ short. omega (arith, ints, short, begun, least, set.sets))
+      (λ short. omega (arith, ints, set.sets))
 
   -- so is what a frame is held at any time
   pub hold_most : (t : ℕ) → IsLawful s → link_at s.network link ≡ Some l → pos 0 ≤ℤ l.hold.0
@@ -111,24 +111,24 @@ module _ (s : Scenario) (link : LinkId) (l : Link) (way : Way) where
   set_delay_least lawful there least e i v is =
       let set = sets_wire link way e.what v is in
       let known = given s e lawful i in
-      by_lt_z {P = 1 ≤ v} set.delay.0 l.wire.0
+      by_lt_z set.delay.0 l.wire.0
       (λ short. absurd (known.within Wire (record {
         link = link;
         way = set.way;
         delay = set.delay;
         what = set.is;
-        other = closed (λ (k : Link). (set.delay.0 <ℤ k.wire.0) ⊎ ((k.wire.0 +ℤ k.jitter.0) <ℤ set.delay.0))
+        other = closed (λ k. (set.delay.0 <ℤ k.wire.0) ⊎ ((k.wire.0 +ℤ k.jitter.0) <ℤ set.delay.0))
             (link_at s.network link) l there (inl short);
       })))
-      (λ long. omega (arith, ints, long, least, set.sets))
+      (λ long. omega (arith, ints, set.sets))
 
   -- so is the wire delay at any time
   pub delay_least : (t : ℕ) → IsLawful s → link_at s.network link ≡ Some l → pos 1 ≤ℤ l.wire.0
       → 1 ≤ delay_at s link way t
   delay_least t lawful there least =
       let nominal : wire_of s.network link ≡ amount l.wire =
-      ap (λ (o : Option Link). option_map_or (λ k. amount k.wire) o 0) there in
-      last_is (λ v. 1 ≤ v) s (wire_set link way) (wire_of s.network link) t (omega (arith, ints, nominal, least))
+      rw there in
+      last_is (λ v. 1 ≤ v) s (wire_set link way) (wire_of s.network link) t (omega (arith, ints))
       (set_delay_least lawful there least)
 
 -- ---- a clock over a hold

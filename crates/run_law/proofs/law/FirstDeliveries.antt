@@ -55,7 +55,7 @@ left_control : (o : Option Pcf) (link : LinkId) (way : Way) (l : Launch) → opt
 left_control None link way l e = absurd cc
 left_control (Some frame) link way l e = (
   Ok frame,
-  sym (ap (λ (x : Launch). x.signal)
+  sym (ap (λ x. x.signal)
       (same_some (Some (record { link = link; way = way; signal = control (Ok frame) })) (record { link = link; way = way; signal = control (Ok frame) }) l
       refl e)),
 )
@@ -142,12 +142,12 @@ begins_by {s} hs {ps} qs {g} whole founded due back (notes.TtSent device link ca
           let there : IsIn taken ps = subst (λ v. IsIn taken ps) caused.dispatches.of_vl (accepted_in has.1) in
           let found = by_number s ps taken founded there in
           let within = numbered_within ps taken.note.number taken found in
-          let in_whole : numbered hs taken.note.number ≡ Some taken = subst (λ t. numbered t taken.note.number ≡ Some taken) (sym whole)
-          (numbered_front ps (g ∷ qs) taken.note.number taken found) in
+          let in_whole : numbered hs taken.note.number ≡ Some taken =
+              rw whole (numbered_front ps (g ∷ qs) taken.note.number taken found) in
           let from : cause_of g.note.body ≡ taken.note.number = ap cause_of is ∙ has.1.number in
           further g
-          (subst (λ n. numbered hs n ≡ Some taken) (sym from) in_whole)
-          (back taken (numbered_in hs taken.note.number taken in_whole) (omega (arith, within, due.number))
+          (rw from in_whole)
+          (back taken (numbered_in hs taken.note.number taken in_whole) (omega (arith, due.number))
           (is_taken taken device has.1.link has.1.from _ cycle has.1.is))
     ]
 begins_by hs qs {g} whole founded due back (notes.Event line (Send link octets)) is puts caused =
@@ -163,12 +163,12 @@ begins_from s hs founded (suc n) h i small taken =
     let put = cause_puts s at.front h.note.time h.note.body taken at.due.cause in
     let number = number_is s at.front (cause_of h.note.body) put.putting at.founded put.there in
     let within = numbered_within at.front (cause_of h.note.body) put.putting put.there in
-    let there : numbered hs (cause_of h.note.body) ≡ Some put.putting = subst (λ t. numbered t (cause_of h.note.body) ≡ Some put.putting)
-    (sym at.whole) (numbered_front at.front (h ∷ at.rest) (cause_of h.note.body) put.putting put.there) in
+    let there : numbered hs (cause_of h.note.body) ≡ Some put.putting =
+        rw (sym at.whole) at (numbered_front at.front (h ∷ at.rest) (cause_of h.note.body) put.putting put.there) in
     let of = founded_at s hs put.putting founded (numbered_in hs (cause_of h.note.body) put.putting there) in
     further h there
     (begins_by hs of.rest of.whole of.founded of.due
-    (λ t ti less took. begins_from s hs founded n t ti (omega (arith, less, number, within, at.due.number, small)) took)
+    (λ t ti less took. begins_from s hs founded n t ti (omega (arith, at.due.number)) took)
     put.putting.note.body refl put.puts of.due.cause)
 
 -- the law: the frames that are delivered go back to where they begin

@@ -1,5 +1,5 @@
 -- Where the records of a run stand: by their numbers, and by their places.
-use Rattle.run_law.proofs.Words.{◌++◌, ◌+◌, ◌<◌, ◌∙◌, ◌∷◌, ◌≡◌, AllBefore, Bool, Happening, IsBefore, IsDue, IsFounded, IsIn, IsRun, List, NoneBefore, Scenario}
+use Rattle.run_law.proofs.Words.{◌++◌, ◌+◌, ◌<◌, ◌∷◌, ◌≡◌, AllBefore, Bool, Happening, IsBefore, IsDue, IsFounded, IsIn, IsRun, List, NoneBefore, Scenario}
 use Rattle.run_law.proofs.Words.{Some, [], ap, append-nil, append_assoc, arith, cases_lt, earlier, false, if◌then◌else◌, inl, inr, le-ltb, length, nat_lt}
 use Rattle.run_law.proofs.{Words.{numbered, place_of, refl, slice_get, subst, suc, sym, time_of, true, zero, ℕ}, runs.OneRun.due_is_next}
 use Rattle.run_law.proofs.runs.{Determined.due_is_determined, Lacking.behind_first, Places.{before_or_not, chain, in_parts, in_right, parted}}
@@ -21,7 +21,7 @@ in_front (p ∷ ps) qs (suc i) x e = in_front ps qs i x e
 -- what is at a place is in the list
 pub in_at : {X : Type 0} (xs : List X) (i : ℕ) (x : X) → slice_get xs i ≡ Some x → IsIn x xs
 in_at [] i x e = absurd cc
-in_at (y ∷ xs) zero x e = let same : x ≡ y = cc in inl same
+in_at (y ∷ xs) zero x e = inl cc
 in_at (y ∷ xs) (suc i) x e = inr (in_at xs i x e)
 
 -- what is kept, or is the element whose test is this, is in the list with that element
@@ -38,14 +38,14 @@ in_filter p (y ∷ xs) x i = kept_by (p y) y x (filter p xs) xs (in_filter p xs 
 -- a filter drops what fails its test
 pub none_kept : {X : Type 0} (p : X → Bool) (xs : List X) → ((x : X) → IsIn x xs → p x ≡ false) → filter p xs ≡ []
 none_kept p [] fails = refl
-none_kept {X} p (x ∷ xs) fails = ap (λ (b : Bool). if b then x ∷ filter p xs else filter p xs) (fails x (inl refl)) ∙ none_kept p xs (λ y i. fails y (inr i))
+none_kept {X} p (x ∷ xs) fails = rw (fails x (inl refl)) (none_kept p xs (λ y i. fails y (inr i)))
 
 -- ---- founded lists
 
 -- a front of a founded list is founded
 pub front_founded : {N : Type 0} (place : N → List ℕ) (IsDue : List N → N → Type 0) (ps qs : List N) → IsFounded place IsDue (ps ++ qs)
     → IsFounded place IsDue ps
-front_founded place IsDue ps qs founded rs ts x e = founded rs (ts ++ qs) x (ap (λ (t : List _). t ++ qs) e ∙ append_assoc rs (x ∷ ts) qs)
+front_founded place IsDue ps qs founded rs ts x e = founded rs (ts ++ qs) x (rw e (append_assoc rs (x ∷ ts) qs))
 
 -- a list in two parts: all before the place, and none before it
 pub record IsSplit {N : Type 0} (place : N → List ℕ) (ns : List N) (p : List ℕ) : Type 0 where
@@ -65,17 +65,17 @@ split_from {N} place IsDue p ps (q ∷ qs) founded before =
           let moved = append_assoc ps (q ∷ []) qs in
           let there = split_from place IsDue p (ps ++ q ∷ []) qs (subst (IsFounded place IsDue) (sym moved) founded) (λ n i. elim (in_parts n ps (q ∷ []) i) [
             | inl l ↦ before n l
-            | inr (inl e) ↦ subst (λ (m : N). IsBefore (place m) p) (sym e) lt
+            | inr (inl e) ↦ rw e lt
             | inr (inr none) ↦ absurd none
           ]) in
-          subst (λ t. IsSplit place t p) moved there
+          rw moved at there
       | inr not ↦ record {
         front = ps;
         rest = q ∷ qs;
         whole = refl;
         before = before;
         none = λ n i lt. elim i [
-          | inl e ↦ not (subst (λ (m : N). IsBefore (place m) p) e lt)
+          | inl e ↦ not (rw e at lt)
           | inr later ↦ not (chain (place q) (place n) p (behind_first place IsDue ps qs q n founded later) lt)
         ];
       }
@@ -131,14 +131,14 @@ numbered_front ps qs (suc n) h e = in_front ps qs n h e
 -- the record behind a part has the next number
 pub numbered_next : (ps qs : List Happening) (h : Happening) (n : ℕ) → n ≡ length ps + 1 → numbered (ps ++ h ∷ qs) n ≡ Some h
 numbered_next ps qs h n e =
-    let next : suc (length ps) ≡ n = omega (arith, e) in
-    subst (λ m. numbered (ps ++ h ∷ qs) m ≡ Some h) next (at_length ps qs h)
+    let next : suc (length ps) ≡ n = omega arith in
+    rw (sym next) (at_length ps qs h)
 
 -- a record of a founded list is found by its number
 pub by_number : (s : Scenario) (hs : List Happening) (h : Happening) → IsFounded place_of (IsDue s) hs → IsIn h hs → numbered hs h.note.number ≡ Some h
 by_number s hs h founded i =
     let at = founded_at s hs h founded i in
-    subst (λ t. numbered t h.note.number ≡ Some h) (sym at.whole) (numbered_next at.front at.rest h h.note.number at.due.number)
+    rw at.whole (numbered_next at.front at.rest h h.note.number at.due.number)
 
 -- what a founded list has by a number has that number
 pub number_is : (s : Scenario) (hs : List Happening) (n : ℕ) (h : Happening) → IsFounded place_of (IsDue s) hs → numbered hs n ≡ Some h → h.note.number ≡ n
@@ -151,10 +151,10 @@ number_is s hs (suc n) h founded e =
     parted_at : (gs : List Happening) (i : ℕ) (g : Happening) → slice_get gs i ≡ Some g → (ps : List Happening) × (qs : List Happening) × (gs ≡ ps ++ g ∷ qs)
         × (length ps ≡ i)
     parted_at [] i g e = absurd cc
-    parted_at (f ∷ gs) zero g e = let same : f ≡ g = cc in ([], gs, ap (λ (x : Happening). x ∷ gs) same, refl)
+    parted_at (f ∷ gs) zero g e = let same : f ≡ g = cc in ([], gs, rw same, refl)
     parted_at (f ∷ gs) (suc i) g e =
         let more = parted_at gs i g e in
-        (f ∷ more.0, more.1, ap (λ (t : List Happening). f ∷ t) more.2, ap suc more.3)
+        (f ∷ more.0, more.1, rw more.2, ap suc more.3)
 
 -- ---- a record that is due is there
 

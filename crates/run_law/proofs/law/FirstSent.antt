@@ -3,14 +3,14 @@ use Rattle.{net_plan.proofs.{Amounts.amount_within, Shape.rules_give_trees}, run
 use Rattle.{net_plan.{proofs.Beta.beta_exists, specs.Places.is_end_system}, run_law.specs.control.Wires.Arrives, schedule_tables.specs.Delays.delay_by}
 use Rattle.{net_plan.specs.Bounds.IsBeta, std.specs.Prelude.is_some}
 use Rattle.{net_plan.specs.Ranges.{IsDeviceInRange, IsInRange, IsLinkInRange}, schedule_tables.specs.{Rules.KeepsRules, declared.rule.Rule.TheVariants.Joints}}
-use Rattle.{net_plan.specs.Rules.IsChildOf, std.proofs.lemmas.Bool.{both_ways, ne_eqb, not_from_true}, tte_units.specs.declared.frames.channel.Channel.Channel}
-use Rattle.run_law.proofs.Words.{◌&&◌, ◌+◌, ◌-◌, ◌<◌, ◌==◌, ◌∙◌, ◌∷◌, ◌≡◌, ◌≤◌, ◌⊎◌, Arrival, ArrivesAs, Bool, Departs, Device, DeviceId, Down, Gives}
+use Rattle.{net_plan.specs.Rules.IsChildOf, std.proofs.lemmas.Bool.{both_ways, ne_eqb, not_from_true}}
+use Rattle.run_law.proofs.Words.{◌&&◌, ◌+◌, ◌-◌, ◌<◌, ◌==◌, ◌∙◌, ◌∷◌, ◌≡◌, ◌≤◌, ◌⊎◌, Arrival, ArrivesAs, Bool, Departs, DeviceId, Down, Gives}
 use Rattle.run_law.proofs.Words.{Happening, Integrating, IsArrivedRecord, IsBefore, IsCaused, IsDue, IsFounded, IsIn, IsRun, Link, LinkId, List, Network, None}
 use Rattle.run_law.proofs.Words.{Note, NoteBody, Ok, Option, Pcf, Reason, Scenario, Some, Standpoint, Units, Up, Way, [], adjustment_after, amount, ap, arith}
 use Rattle.run_law.proofs.Words.{beta_at, cases_lt, control, control_arrival, device_at, false, frame_fault, frame_or_fault, happening, if◌then◌else◌, in_all}
 use Rattle.run_law.proofs.Words.{inl, inr, ints, is_broken, is_master, is_off, is_parent_of, is_relay, key, launched, le-ltb, length, link_at, members_in}
-use Rattle.run_law.proofs.Words.{nat_lt, not, numbered, option_and_then, option_map, option_map_or, place_of, pos, rank, refl, slice_get, standpoint}
-use Rattle.run_law.{proofs.Words.{state_after, subst, sym, time_of, true, units_of, ℕ}, specs.control.Leaving.{clock_at_leaving, leaves, on_cut_way, too_old}}
+use Rattle.run_law.proofs.Words.{not, numbered, option_map, place_of, pos, rank, refl, standpoint}
+use Rattle.run_law.{proofs.Words.{state_after, subst, sym, time_of, true, units_of, ℕ}, specs.control.Leaving.{clock_at_leaving, leaves, on_cut_way}}
 use Rattle.{run_law.proofs.law.FirstDelays.{delay_least, grows_little, hold_most}, schedule_tables.proofs.Margins.{margins, master_ends, shape_rules}}
 use Rattle.run_law.proofs.{law.FirstPlaces.{IsSplit, by_number, due_is_there, founded_at, front_founded, in_front_of, same_earlier, split}, runs.Places.chain}
 use Rattle.run_law.specs.{law.FirstLaws.{ComesTo, IsLawful, SentFramesCome, arrival_time, leaving_time}, records.Happenings.{frame_by, frame_from, with_clock}}
@@ -26,23 +26,23 @@ module _ {n : Network} (master : DeviceId) (link : LinkId) (l : Link) (range : I
   no_parent : l.parent.0 ≡ master.0 → ⊥
   no_parent same =
       let joint = keeps Joints link.0 l there in
-      let switch = opened (λ (d : Device). d.channel ≡ Some joint.0) (device_at n l.parent) joint.1 in
-      let known : IsDeviceInRange switch.0 =
+      let switch = opened (λ d. d.channel ≡ Some joint.0) (device_at n l.parent) joint.1 in
+      let known =
       in_all IsDeviceInRange n.device l.parent.0 switch.0 range.devices switch.1 in
       let at : device_at n master ≡ Some switch.0 =
-      subst (λ (i : ℕ). slice_get n.device i ≡ Some switch.0) same switch.1 in
+      rw (sym same) switch.1 in
       let is : is_master switch.0.role ≡ true =
-      subst (λ (o : Option Device). option_map_or (λ d. is_master d.role) o false ≡ true) at role in
+      rw at at role in
       let ends = master_ends switch.0.role is in
       both_ways (is_some switch.0.channel) (known.switches ∙ not_from_true (is_end_system switch.0.role) ends)
-      (ap (λ (c : Option Channel). is_some c) switch.2)
+      (rw switch.2)
 
   -- so it sends up
   way_is_up : way_from n master link ≡ Up
   way_is_up =
       let parent : is_parent_of n master link ≡ (l.parent.0 == master.0) =
-      ap (λ (o : Option Link). option_map_or (λ k. k.parent.0 == master.0) o false) there in
-      ap (λ (b : Bool). if b then Down else Up) (parent ∙ ne_eqb l.parent.0 master.0 (no_parent))
+      rw there in
+      rw (parent ∙ ne_eqb l.parent.0 master.0 (no_parent))
 
 -- ---- the leaving
 
@@ -50,7 +50,7 @@ module _ {s : Scenario} {ps : List Happening} {h : Happening} (master : DeviceId
     (is : h.note.body ≡ notes.Sent master cycle) where
   -- what is sent has this frame
   sent_frame : h.frame ≡ Some (dispatched_frame s.network master cycle)
-  sent_frame = ap (λ (x : Happening). x.frame) due.same ∙ ap (frame_by s.network ps) is
+  sent_frame = rw due.same (ap (frame_by s.network ps) is)
 
   -- what sends is a master
   sent_by_master : has_role s.network is_master master ≡ true
@@ -65,7 +65,7 @@ hold_is_young : {s : Scenario} (master : DeviceId) (link : LinkId) (l : Link) (t
     (leaving_time s link t) - s.reading master t ≤ amount s.network.dmax
 hold_is_young {s} master link l t lawful there =
     let n = s.network in
-    let known : IsLinkInRange n l = in_all (IsLinkInRange n) n.link link.0 l lawful.range.links there in
+    let known = in_all (IsLinkInRange n) n.link link.0 l lawful.range.links there in
     let tree = rules_give_trees n (shape_rules n lawful.rules) in
     let beta = (beta_exists n tree).1 in
     let is : IsBeta n (pos (beta_at n beta.jitter beta.links)) = subst (IsBeta n) beta.value beta in
@@ -75,7 +75,7 @@ hold_is_young {s} master link l t lawful there =
     grows_little n beta.jitter beta.links (amount l.hold) (amount l.wire) (amount l.jitter) (leaving_time s link t - t)
     (s.reading master (leaving_time s link t) - s.reading master t) (amount_within lawful.range.grain).1
     ((lawful.clocks master).drifts t (leaving_time s link t) (omega arith))
-    (omega (arith, most))
+    (omega arith)
     here
 
 -- a frame that is given to a whole way and is not too old leaves
@@ -87,22 +87,22 @@ whole_departs : (s : Scenario) (ps : List Happening) (h : Happening) (master : D
     → Departs s ps master (leaving_time s link (time_of h)) link h.note.number
     (leaves (clock_at_leaving s master frame (time_of h) (leaving_time s link (time_of h))))
 whole_departs s ps h master cycle link frame found is of_frame child up correct whole young =
-    let t : ℕ = leaving_time s link (time_of h) in
-    let clock : ℕ = clock_at_leaving s master frame (time_of h) t in
+    let t = leaving_time s link (time_of h) in
+    let clock = clock_at_leaving s master frame (time_of h) t in
     let gives : Gives s.network (notes.Sent master cycle) master link = (refl, child) in
-    let old : nat_lt (amount s.network.dmax) clock ≡ false = le-ltb (amount s.network.dmax) clock young in
-    let cut : is_cut s link (way_from s.network master link) t ≡ false = ap (λ w. is_cut s link w t) up ∙ whole in
+    let old = le-ltb (amount s.network.dmax) clock young in
+    let cut : is_cut s link (way_from s.network master link) t ≡ false = rw up whole in
     record {
       giving = h;
       there = found;
-      gives = subst (λ b. Gives s.network b master link) (sym is) gives;
+      gives = rw is gives;
       frame = frame;
       of_frame = of_frame;
       held = ap (λ w. time_of h + hold_at s link w (time_of h)) (sym up);
       correct = correct;
       becomes =
-          sym (ap (λ (b : Bool). if b then too_old else (if is_cut s link (way_from s.network master link) t then on_cut_way else leaves clock)) old
-          ∙ ap (λ (b : Bool). if b then on_cut_way else leaves clock) cut);
+          sym (rw old
+          (ap (λ b. if b then on_cut_way else leaves clock) cut));
     }
 
 -- the record of a frame that left, with the frame
@@ -128,11 +128,12 @@ next_due s ps t body cause = record { number = refl; same = refl; begun = omega 
 left_frame : (network : Network) (ps : List Happening) (h : Happening) (clock : ℕ) (frame : Pcf) → numbered ps h.note.number ≡ Some h → h.frame ≡ Some frame
     → option_map (with_clock clock) (frame_from ps h.note.number) ≡ Some (with_clock clock frame)
 left_frame network ps h clock frame found of_frame =
-    ap (λ (o : Option Happening). option_map (with_clock clock) (option_and_then (λ x. x.frame) o)) found ∙ ap (option_map (with_clock clock)) of_frame
+    rw found (ap (option_map (with_clock clock)) of_frame)
 
 -- a record of sending is before the leaving
 sent_before : (u held : ℕ) (r : ℕ) (rest more : List ℕ) → r ≡ 5 → IsBefore (u ∷ r ∷ rest) ((u + held) ∷ 8 ∷ more)
-sent_before u held r rest more five = elim (cases_lt u (u + held)) [ inl lt ↦ inl lt | inr ge ↦ inr (omega (arith, ge), inl (omega (arith, five))) ]
+sent_before u held r rest more five = elim (cases_lt u (u + held)) [ inl lt ↦ inl lt | inr ge ↦
+    inr (omega arith, inl (omega arith)) ]
 
 -- a frame that a master sends on a whole way up leaves
 has_left : {s : Scenario} {mark : List ℕ} {hs : List Happening} (h : Happening) (master : DeviceId) (cycle : ℕ)
@@ -143,23 +144,23 @@ has_left : {s : Scenario} {mark : List ℕ} {hs : List Happening} (h : Happening
     → ((more : List ℕ) → IsBefore (leaving_time s link (time_of h) ∷ more) mark)
     → HasLeft s hs (time_of h) h.note.number master link
 has_left {s} {mark} {hs} h master cycle link l lawful run i is there child up correct whole in_time =
-    let t : ℕ = leaving_time s link (time_of h) in
-    let frame : Pcf = dispatched_frame s.network master cycle in
-    let clock : ℕ = clock_at_leaving s master frame (time_of h) t in
-    let body : NoteBody = notes.Left master link h.note.number clock in
+    let t = leaving_time s link (time_of h) in
+    let frame = dispatched_frame s.network master cycle in
+    let clock = clock_at_leaving s master frame (time_of h) t in
+    let body = notes.Left master link h.note.number clock in
     let before = founded_at s hs h run.founded i in
     let of_frame = sent_frame master cycle before.due is in
     let at = split place_of (IsDue s) hs (t ∷ 8 ∷ master.0 ∷ link.0 ∷ h.note.number ∷ []) run.founded in
-    let sooner : IsBefore (place_of h) (t ∷ 8 ∷ master.0 ∷ link.0 ∷ h.note.number ∷ []) = sent_before (time_of h) (hold_at s link Up (time_of h))
+    let sooner = sent_before (time_of h) (hold_at s link Up (time_of h))
     (rank h.note.body) (key (members_in h) h.note.body) (master.0 ∷ link.0 ∷ h.note.number ∷ []) (ap rank is) in
     let front = front_founded place_of (IsDue s) at.front at.rest (subst (IsFounded place_of (IsDue s)) at.whole run.founded) in
     let found = by_number s at.front h front (in_front_of at h i sooner) in
     let young : clock ≤ amount s.network.dmax = omega (arith, hold_is_young master link l (time_of h) lawful there) in
     let departs = whole_departs s at.front h master cycle link frame found is of_frame
-    (closed (λ (k : Link). k.child ≡ master) (link_at s.network link) l there child) up correct whole young in
+    (closed (λ k. k.child ≡ master) (link_at s.network link) l there child) up correct whole young in
     record {
       leaving = happening s.network at.front (next_note at.front t body);
-      there = due_is_there {s = s} {mark = mark} {x = happening s.network at.front (next_note at.front t body)} at run (next_due s at.front t body departs) (in_time _);
+      there = due_is_there at run (next_due s at.front t body departs) (in_time _);
       clock = clock;
       body = refl;
       at = refl;
@@ -262,26 +263,26 @@ has_arrived : {s : Scenario} {mark : List ℕ} {hs : List Happening} {leaving : 
     → Arrives s leaving device link t (control (Ok frame)) → IsBefore (t ∷ 14 ∷ []) mark
     → HasArrived s hs t leaving.note.number device link
 has_arrived {s} {mark} {hs} {leaving} {device} {link} {t} frame run i sooner arrives in_time =
-    let number : ℕ = leaving.note.number in
+    let number = leaving.note.number in
     let at = split place_of (IsDue s) hs (t ∷ 2 ∷ device.0 ∷ link.0 ∷ number ∷ []) run.founded in
     let by = split place_of (IsDue s) hs (t ∷ 13 ∷ device.0 ∷ link.0 ∷ number ∷ []) run.founded in
     elim (outcome s.network device link (standpoint s at.front device t) frame) [
       | inr taken ↦
-          let body : NoteBody = notes.Arrived device link number taken.frame.clock in
-          let coming : Happening = happening s.network at.front (next_note at.front t body) in
+          let body = notes.Arrived device link number taken.frame.clock in
+          let coming = happening s.network at.front (next_note at.front t body) in
           let arrived = arrived_record s at.front leaving device link t frame
-          (found_before s {hs = hs} t _ at leaving run.founded i sooner) arrives taken in
+          (found_before s t _ at leaving run.founded i sooner) arrives taken in
           record {
             coming = coming;
             there =
-                due_is_there {s = s} {mark = mark} {x = coming} at run (next_due s at.front t body arrived)
+                due_is_there at run (next_due s at.front t body arrived)
                 (chain (place_of coming) (t ∷ 14 ∷ []) mark (inr (refl, inl (omega arith))) in_time);
             at = refl;
             comes = inl (taken.frame.clock, refl);
           }
       | inl dropped ↦
-          let body : NoteBody = notes.Dropped device link number dropped.0 in
-          let coming : Happening = happening s.network by.front (next_note by.front t body) in
+          let body = notes.Dropped device link number dropped.0 in
+          let coming = happening s.network by.front (next_note by.front t body) in
           let stands = same_standpoint s device t _ _ at by in
           let is : control_arrival s.network device link (standpoint s by.front device t) (Ok frame) ≡ arrivals.Dropped dropped.0 =
           ap (λ p. control_arrival s.network device link p (Ok frame)) stands ∙ dropped.1 in
@@ -311,15 +312,15 @@ goes_up l switch left there parent up = grind (arith, time_of, launched, option_
 pub sent_frames_come : SentFramesCome
 sent_frames_come s mark ns h master cycle link switch lawful run i is leads correct whole in_time =
     let n = s.network in
-    let t : ℕ = leaving_time s link (time_of h) in
-    let l = opened (λ (k : Link). (k.child ≡ master) × (k.parent ≡ switch)) (link_at n link) leads in
+    let t = leaving_time s link (time_of h) in
+    let l = opened (λ k. (k.child ≡ master) × (k.parent ≡ switch)) (link_at n link) leads in
     let before = founded_at s _ h run.founded i in
     let up = way_is_up master link l.0 lawful.range lawful.rules l.1 (sent_by_master master cycle before.due is) in
-    let known : IsLinkInRange n l.0 = in_all (IsLinkInRange n) n.link link.0 l.0 lawful.range.links l.1 in
+    let known = in_all (IsLinkInRange n) n.link link.0 l.0 lawful.range.links l.1 in
     let least = delay_least s link l.0 Up t lawful l.1 known.wire.least in
     let left = has_left h master cycle link l.0 lawful run i is l.1 l.2.0 up correct whole
-    (λ more. chain (t ∷ more) (arrival_time s link (time_of h) ∷ 14 ∷ []) mark (inl (omega (arith, least))) in_time) in
-    let come = has_arrived left.frame run left.there (omega (arith, least, left.at))
+    (λ more. chain (t ∷ more) (arrival_time s link (time_of h) ∷ 14 ∷ []) mark (inl (omega arith)) in_time) in
+    let come = has_arrived left.frame run left.there (omega (arith, left.at))
     (goes_up l.0 switch left l.1 l.2.1 up) in_time in
     record {
       leaving = left.leaving;

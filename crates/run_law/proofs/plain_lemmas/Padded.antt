@@ -1,23 +1,23 @@
 -- Lists of numbers with zeros behind them compare as the lists do.
-use Rattle.std.proofs.Common.{◌∙◌, ◌∷◌, ◌≡◌, ◌≤◌, Bool, List, [], ap, arith, false, get_or, length, refl, suc, sym, take, true, zero, ℕ}
-use Rattle.std.{proofs.lemmas.Bool.{le-ltb, lt-ltb, ne_eqb}, specs.Prelude.{◌&&◌, ◌==◌, ◌||◌, drop, nat_lt}}
+use Rattle.std.proofs.Common.{◌∙◌, ◌∷◌, ◌≡◌, ◌≤◌, List, [], ap, arith, false, get_or, length, refl, suc, sym, take, true, zero, ℕ}
+use Rattle.std.{proofs.lemmas.Bool.{le-ltb, lt-ltb, ne_eqb}, specs.Prelude.{◌&&◌, drop, nat_lt}}
 use Rattle.run_law.specs.{plain.Places.{AreZero, before_then}, records.Order.is_before}
 
 -- zeros are before what is not only zeros, and then the rest counts
 zeros_first : (xs ys : List ℕ) → length xs ≡ length ys → AreZero xs → before_then xs ys true ≡ true
 zeros_first [] ys e z = refl
-zeros_first (x ∷ xs) [] e z = absurd (omega (arith, e))
-zeros_first (x ∷ xs) (zero ∷ ys) e z = ap (λ (n : ℕ). nat_lt n 0 || (n == 0 && before_then xs ys true)) z.0 ∙ zeros_first xs ys (omega (arith, e)) z.1
-zeros_first (x ∷ xs) (suc y ∷ ys) e z = ap (λ (b : Bool). b || (x == suc y && before_then xs ys true)) (lt-ltb x (suc y) (omega (arith, z.0)))
+zeros_first (x ∷ xs) [] e z = absurd (omega arith)
+zeros_first (x ∷ xs) (zero ∷ ys) e z = rw z.0 (zeros_first xs ys (omega arith) z.1)
+zeros_first (x ∷ xs) (suc y ∷ ys) e z = rw (lt-ltb x (suc y) (omega (arith, z.0)))
 
 -- nothing is before zeros
 zeros_last : (xs ys : List ℕ) → length xs ≡ length ys → AreZero ys → before_then xs ys false ≡ false
 zeros_last [] ys e z = refl
-zeros_last (x ∷ xs) [] e z = absurd (omega (arith, e))
-zeros_last (zero ∷ xs) (y ∷ ys) e z = ap (λ (n : ℕ). nat_lt 0 n || (0 == n && before_then xs ys false)) z.0 ∙ zeros_last xs ys (omega (arith, e)) z.1
+zeros_last (x ∷ xs) [] e z = absurd (omega arith)
+zeros_last (zero ∷ xs) (y ∷ ys) e z = rw z.0 (zeros_last xs ys (omega arith) z.1)
 zeros_last (suc x ∷ xs) (y ∷ ys) e z =
-    ap (λ (b : Bool). b || (suc x == y && before_then xs ys false)) (le-ltb (suc x) y (omega (arith, z.0)))
-    ∙ ap (λ (b : Bool). b && before_then xs ys false) (ne_eqb (suc x) y (λ same. absurd (omega (arith, same, z.0))))
+    rw (le-ltb (suc x) y (omega (arith, z.0)))
+    (ap (λ b. b && before_then xs ys false) (ne_eqb (suc x) y (λ same. absurd (omega (arith, z.0)))))
 
 more : (n m : ℕ) → nat_lt n m ≡ nat_lt (suc n) (suc m)
 more n m = grind (arith)
@@ -25,14 +25,14 @@ more n m = grind (arith)
 pub padded : (n m : ℕ) (xs ys : List ℕ) → length xs ≡ length ys → n ≤ length xs → m ≤ length ys → AreZero (drop n xs) → AreZero (drop m ys)
     → is_before (take n xs) (take m ys) ≡ before_then xs ys (nat_lt n m)
 padded zero zero xs ys e nl ml zx zy = sym (zeros_last xs ys e zy)
-padded zero (suc m) xs [] e nl ml zx zy = absurd (omega (arith, ml))
+padded zero (suc m) xs [] e nl ml zx zy = absurd (omega arith)
 padded zero (suc m) xs (y ∷ ys) e nl ml zx zy = sym (zeros_first xs (y ∷ ys) e zx) ∙ ap (before_then xs (y ∷ ys)) (sym (lt-ltb 0 (suc m) (omega arith)))
-padded (suc n) zero [] ys e nl ml zx zy = absurd (omega (arith, nl))
+padded (suc n) zero [] ys e nl ml zx zy = absurd (omega arith)
 padded (suc n) zero (x ∷ xs) ys e nl ml zx zy = sym (zeros_last (x ∷ xs) ys e zy) ∙ ap (before_then (x ∷ xs) ys) (sym (le-ltb (suc n) 0 (omega arith)))
-padded (suc n) (suc m) [] ys e nl ml zx zy = absurd (omega (arith, nl))
-padded (suc n) (suc m) (x ∷ xs) [] e nl ml zx zy = absurd (omega (arith, ml))
+padded (suc n) (suc m) [] ys e nl ml zx zy = absurd (omega arith)
+padded (suc n) (suc m) (x ∷ xs) [] e nl ml zx zy = absurd (omega arith)
 padded (suc n) (suc m) (x ∷ xs) (y ∷ ys) e nl ml zx zy =
-    ap (λ (b : Bool). nat_lt x y || (x == y && b)) (padded n m xs ys (omega (arith, e)) (omega (arith, nl)) (omega (arith, ml)) zx zy
+    rw (padded n m xs ys (omega arith) (omega arith) (omega arith) zx zy
     ∙ ap (before_then xs ys) (more n m))
 
 -- the first of them is the first of all, or zero

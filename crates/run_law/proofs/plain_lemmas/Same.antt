@@ -1,5 +1,5 @@
 -- Places of which neither is before the other are one.
-use Rattle.std.proofs.Common.{◌↔◌, ◌∙◌, ◌∷◌, ◌≡◌, Bool, IsTrue, List, ap, false, inl, inr, not, refl, subst, sym, true, ℕ}
+use Rattle.std.proofs.Common.{◌↔◌, ◌∙◌, ◌∷◌, ◌≡◌, Bool, IsTrue, List, ap, false, inl, inr, not, refl, sym, true, ℕ}
 use Rattle.run_law.{proofs.{records.Order.{before_is, is_there}, runs.Places.{either_way, never_self}}, specs.records.Order.{IsBefore, is_before}}
 
 pub not_true : (b : Bool) → not b ≡ true → b ≡ false
@@ -16,7 +16,7 @@ neither p q first second =
 
 never : (p q : List ℕ) → p ≡ q → (b : Bool) → is_before p q ≡ b → is_before p q ≡ false
 never p q same false e = e
-never p q same true e = absurd (never_self q (subst (λ r. IsBefore r q) same (is_there p q e)))
+never p q same true e = absurd (never_self q (rw same at (is_there p q e)))
 
 pub itself : (p q : List ℕ) → p ≡ q → is_before p q ≡ false
 itself p q same = never p q same (is_before p q) refl
@@ -24,5 +24,5 @@ itself p q same = never p q same (is_before p q) refl
 -- of time 0, places compare as what is behind the time
 pub behind_time : (b : Bool) (p q xs ys : List ℕ) → xs ≡ 0 ∷ p → ys ≡ 0 ∷ q → b ≡ is_before xs ys → IsTrue b ↔ IsBefore p q
 behind_time b p q xs ys first second e =
-    let is : b ≡ is_before p q = e ∙ ap (λ zs. is_before zs ys) first ∙ ap (is_before (0 ∷ p)) second in
+    let is = e ∙ ap (λ zs. is_before zs ys) first ∙ ap (is_before (0 ∷ p)) second in
     (λ yes. is_there p q (sym is ∙ yes), λ before. is ∙ before_is p q before)

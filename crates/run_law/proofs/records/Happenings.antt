@@ -1,7 +1,7 @@
 -- Records, their numbers and their places.
-use Rattle.run_law.proofs.Words.{◌++◌, ◌<◌, ◌∙◌, ◌∷◌, ◌≡◌, Bool, Happening, IsBefore, IsIn, List, Network, Note, Some, [], ap, append-nil, append_assoc}
+use Rattle.run_law.proofs.Words.{◌++◌, ◌<◌, ◌∙◌, ◌∷◌, ◌≡◌, Happening, IsBefore, IsIn, List, Network, Note, Some, [], ap, append-nil, append_assoc}
 use Rattle.run_law.proofs.Words.{cases_lt, earlier, false, happening, happenings, if◌then◌else◌, inl, inr, key, le-ltb, length, members_in, nat_lt, numbered}
-use Rattle.run_law.proofs.{Words.{place_of, rank, refl, subst, suc, sym, time_of, true, zero, ℕ}, runs.NetworkRuns.{one_more, same_notes}}
+use Rattle.run_law.proofs.{Words.{place_of, rank, refl, suc, sym, time_of, true, zero, ℕ}, runs.NetworkRuns.{one_more, same_notes}}
 use Rattle.{run_law.proofs.runs.Places.earlier_time, std.{proofs.{Common.arith, lemmas.{Bool.lt-ltb, List.length-map}}, specs.List.fold}}
 
 pub none_numbered : (number : ℕ) (g : Happening) → numbered [] number ≡ Some g → ⊥
@@ -13,19 +13,19 @@ pub from_earlier : (t : ℕ) (hs : List Happening) (h : Happening) → IsIn h (e
 from_earlier t [] h i = absurd i
 from_earlier t (x ∷ hs) h i =
     elim (cases_lt (time_of x) t) [
-      | inl lt ↦ elim (subst (λ (b : Bool). IsIn h (if b then x ∷ earlier t hs else earlier t hs)) (lt-ltb (time_of x) t lt) i) [
-        | inl same ↦ (inl same, subst (λ y. time_of y < t) (sym same) lt)
+      | inl lt ↦ elim (rw (lt-ltb (time_of x) t lt) at i) [
+        | inl same ↦ (inl same, rw same lt)
         | inr more ↦ let it = from_earlier t hs h more in (inr it.0, it.1)
       ]
       | inr ge ↦ let it =
-          from_earlier t hs h (subst (λ (b : Bool). IsIn h (if b then x ∷ earlier t hs else earlier t hs)) (le-ltb (time_of x) t ge) i) in (inr it.0, it.1)
+          from_earlier t hs h (rw (le-ltb (time_of x) t ge) at i) in (inr it.0, it.1)
     ]
 
 pub is_earlier : (t : ℕ) (hs : List Happening) (h : Happening) → IsIn h hs → time_of h < t → IsIn h (earlier t hs)
 is_earlier t [] h i lt = i
 is_earlier t (x ∷ hs) h (inl same) lt =
-    let early : nat_lt (time_of x) t ≡ true = ap (λ y. nat_lt (time_of y) t) (sym same) ∙ lt-ltb (time_of h) t lt in
-    subst (λ (b : Bool). IsIn h (if b then x ∷ earlier t hs else earlier t hs)) (sym early) (inl same)
+    let early : nat_lt (time_of x) t ≡ true = rw (sym same) (lt-ltb (time_of h) t lt) in
+    rw early (inl same)
 is_earlier t (x ∷ hs) h (inr i) lt =
     elim (nat_lt (time_of x) t) as (λ b. IsIn h (if b then x ∷ earlier t hs else earlier t hs))
     [ true ↦ inr (is_earlier t hs h i lt) | false ↦ is_earlier t hs h i lt ]

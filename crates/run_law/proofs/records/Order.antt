@@ -1,5 +1,5 @@
 -- Places one before another, and records in a list.
-use Rattle.{compression.proofs.Elements.{in_cases, in_none}, run_law.{proofs.Words.{subst, suc, sym, true, zero, ℕ}, specs.records.Order.is_before}}
+use Rattle.{compression.proofs.Elements.{in_cases, in_none}, run_law.{proofs.Words.{suc, sym, true, zero, ℕ}, specs.records.Order.is_before}}
 use Rattle.run_law.proofs.Words.{◌&&◌, ◌++◌, ◌+◌, ◌-◌, ◌<◌, ◌==◌, ◌∙◌, ◌∷◌, ◌≡◌, ◌≤◌, ◌⊎◌, Bool, Contains, IsBefore, IsIn, List, None, Option, Some, [], ap}
 use Rattle.run_law.proofs.Words.{arith, cases_lt, cons_option, eqb-true, false, filter_map, if◌then◌else◌, inl, inr, length, nat_lt, not, refl, slice_get}
 use Rattle.{run_law.proofs.runs.Places.in_parts, std.proofs.lemmas.Bool.{and_from, and_parts, cond-true, eq-eqb, lt-ltb, ltb-true, or_cases, or_left, or_right}}
@@ -9,7 +9,7 @@ use Rattle.tte_units.proofs.general_lemmas.Lists.{all_turned}
 
 -- a place that is before another is of no later time
 pub time_before : (u t : ℕ) (ks ls : List ℕ) → IsBefore (u ∷ ks) (t ∷ ls) → u ≤ t
-time_before u t ks ls (inl lt) = omega (arith, lt)
+time_before u t ks ls (inl lt) = omega arith
 time_before u t ks ls (inr b) = omega (arith, b.0)
 
 -- the test of what comes before
@@ -24,8 +24,8 @@ before_is (x ∷ xs) (y ∷ ys) (inr b) =
 pub same_kept : {X : Type 0} (p q : X → Bool) (xs : List X) → ((x : X) → IsIn x xs → p x ≡ q x) → filter p xs ≡ filter q xs
 same_kept p q [] same = refl
 same_kept {X} p q (x ∷ xs) same =
-    ap (λ (b : Bool). if b then x ∷ filter p xs else filter p xs) (same x (inl refl))
-    ∙ ap (λ (t : List X). if q x then x ∷ t else t) (same_kept p q xs (λ y i. same y (inr i)))
+    rw (same x (inl refl))
+    (ap (λ t. if q x then x ∷ t else t) (same_kept p q xs (λ y i. same y (inr i))))
 
 pub is_there : (p q : List ℕ) → is_before p q ≡ true → IsBefore p q
 is_there p [] e = absurd cc
@@ -56,7 +56,7 @@ in_any p (y ∷ xs) x (inr more) e = or_right (p y) (list_any p xs) (in_any p xs
 pub all_kept : {X : Type 0} (p : X → Bool) (xs : List X) → ((x : X) → IsIn x xs → p x ≡ true) → filter p xs ≡ xs
 all_kept p [] all = refl
 all_kept {X} p (x ∷ xs) all =
-    ap (λ (b : Bool). if b then x ∷ filter p xs else filter p xs) (all x (inl refl)) ∙ ap (λ (t : List X). x ∷ t) (all_kept p xs (λ y i. all y (inr i)))
+    rw (all x (inl refl)) (ap (λ t. x ∷ t) (all_kept p xs (λ y i. all y (inr i))))
 
 -- where some element passes, one is there that does
 pub any_in : {X : Type 0} (p : X → Bool) (xs : List X) → list_any p xs ≡ true → (x : X) × IsIn x xs × (p x ≡ true)
@@ -79,30 +79,30 @@ given_of {X} {Y} f (x ∷ xs) y i =
     (let r = given_of f xs y j in (r.0, inr r.1, r.2)) in
     elim (f x) as (λ o. f x ≡ o → IsIn y (cons_option o (filter_map f xs)) → (z : X) × IsIn z (x ∷ xs) × (f z ≡ Some y)) [
       | None ↦ λ e j. later j
-      | Some w ↦ λ e j. elim j [ inl same ↦ (x, inl refl, e ∙ ap (λ (u : Y). Some u) (sym same)) | inr more ↦ later more ]
+      | Some w ↦ λ e j. elim j [ inl same ↦ (x, inl refl, e ∙ ap (λ u. Some u) (sym same)) | inr more ↦ later more ]
     ] refl i
 
 -- what makes nothing of each makes nothing
 pub makes_none : {X Y : Type 0} (f : X → Option Y) (xs : List X) → ((x : X) → IsIn x xs → f x ≡ None) → filter_map f xs ≡ []
 makes_none f [] quiet = refl
-makes_none f (x ∷ xs) quiet = ap (λ (o : Option _). cons_option o (filter_map f xs)) (quiet x (inl refl)) ∙ makes_none f xs (λ y i. quiet y (inr i))
+makes_none f (x ∷ xs) quiet = rw (quiet x (inl refl)) (makes_none f xs (λ y i. quiet y (inr i)))
 
 -- one of a lower rank, and of no later time, is before it
 pub ahead : (t u a b : ℕ) (xs ys : List ℕ) → t ≤ u → a < b → IsBefore (t ∷ a ∷ xs) (u ∷ b ∷ ys)
-ahead t u a b xs ys le low = elim (cases_lt t u) [ inl lt ↦ inl lt | inr ge ↦ inr (omega (arith, le, ge), inl low) ]
+ahead t u a b xs ys le low = elim (cases_lt t u) [ inl lt ↦ inl lt | inr ge ↦ inr (omega arith, inl low) ]
 
 -- of two permanences of one device, the first in the order has no greater amount, or an earlier time
 pub place_order : (t u d a b : ℕ) (xs ys : List ℕ) → IsBefore (t ∷ 3 ∷ d ∷ a ∷ xs) (u ∷ 3 ∷ d ∷ b ∷ ys) → (t < u) ⊎ (a ≤ b)
 place_order t u d a b xs ys (inl lt) = inl lt
-place_order t u d a b xs ys (inr (same, inl lt)) = absurd (omega (arith, lt))
-place_order t u d a b xs ys (inr (same, inr (e, inl lt))) = absurd (omega (arith, lt))
-place_order t u d a b xs ys (inr (same, inr (e, inr (f, inl lt)))) = inr (omega (arith, lt))
+place_order t u d a b xs ys (inr (same, inl lt)) = absurd (omega arith)
+place_order t u d a b xs ys (inr (same, inr (e, inl lt))) = absurd (omega arith)
+place_order t u d a b xs ys (inr (same, inr (e, inr (f, inl lt)))) = inr (omega arith)
 place_order t u d a b xs ys (inr (same, inr (e, inr (f, inr more)))) = inr (omega (arith, more.0))
 
 pub contains : {X : Type 0} (xs : List X) (x : X) → IsIn x xs → Contains xs x
 contains [] x there = absurd there
 contains (y ∷ xs) x (inl e) = (0, omega arith, sym e)
-contains (y ∷ xs) x (inr rest) = let c = contains xs x rest in let lt = c.1 in (suc c.0, omega (arith, lt), c.2)
+contains (y ∷ xs) x (inr rest) = let c = contains xs x rest in let lt = c.1 in (suc c.0, omega arith, c.2)
 
 -- what a filter keeps passes its test
 pub has_passed : {X : Type 0} (p : X → Bool) (xs : List X) (x : X) → IsIn x (filter p xs) → p x ≡ true
@@ -139,10 +139,10 @@ drop_more (suc n) (x ∷ xs) ys le = drop_more n xs ys (omega arith)
 pub after_more : {X : Type 0} (p : X → Bool) (xs ys : List X) → ((y : X) → IsIn y ys → p y ≡ false) → after_last p (xs ++ ys) ≡ after_last p xs ++ ys
 after_more {X} p xs ys quiet =
     let test : X → Bool = λ x. not (p x) in
-    let more = suffix_more test xs ys (all_of (λ (x : X). test x ≡ true) ys (λ x i. ap not (quiet x i))) in
-    let n : ℕ = length xs - suffix_len test xs in
-    let same : length (xs ++ ys) - suffix_len test (xs ++ ys) ≡ n = omega (arith, more, length-append xs ys) in
-    ap (λ (k : ℕ). drop k (xs ++ ys)) same ∙ drop_more n xs ys (omega arith)
+    let more = suffix_more test xs ys (all_of (λ x. test x ≡ true) ys (λ x i. ap not (quiet x i))) in
+    let n = length xs - suffix_len test xs in
+    let same : length (xs ++ ys) - suffix_len test (xs ++ ys) ≡ n = omega (arith, length-append xs ys) in
+    rw same (drop_more n xs ys (omega arith))
 
 pub index_of : {X : Type 0} (x : X) (xs : List X) → IsIn x xs → (i : ℕ) × (slice_get xs i ≡ Some x)
 index_of x [] i = absurd i
@@ -152,7 +152,7 @@ index_of x (y ∷ ys) (inr i) = let rest = index_of x ys i in (suc rest.0, rest.
 pub in_reverse : {X : Type 0} (xs : List X) (x : X) → IsIn x (reverse xs) → IsIn x xs
 in_reverse [] x i = i
 in_reverse {X} (y ∷ ys) x i =
-    elim (in_parts x (reverse ys) (y ∷ []) (subst (λ l. IsIn x l) (reverse-append (y ∷ []) ys) i)) [
+    elim (in_parts x (reverse ys) (y ∷ []) (rw (reverse-append (y ∷ []) ys) at i)) [
       | inl front ↦ inr (in_reverse ys x front)
       | inr (inl e) ↦ inl e
       | inr (inr none) ↦ absurd none
@@ -161,17 +161,16 @@ in_reverse {X} (y ∷ ys) x i =
 pub prefix_same : {X : Type 0} (p q : X → Bool) (xs : List X) → ((x : X) → IsIn x xs → p x ≡ q x) → prefix_len p xs ≡ prefix_len q xs
 prefix_same p q [] same = refl
 prefix_same p q (x ∷ xs) same =
-    ap (λ (b : Bool). cond b (1 + prefix_len p xs) 0) (same x (inl refl))
-    ∙ ap (λ n. cond (q x) (1 + n) 0) (prefix_same p q xs (λ y i. same y (inr i)))
+    rw (same x (inl refl))
+    (ap (λ n. cond (q x) (1 + n) 0) (prefix_same p q xs (λ y i. same y (inr i))))
 
 -- what stands behind the last that passes is the same by a test that agrees on the list
 pub after_same : {X : Type 0} (p q : X → Bool) (xs : List X) → ((x : X) → IsIn x xs → p x ≡ q x) → after_last p xs ≡ after_last q xs
 after_same p q xs same =
-    ap (λ n. drop (length xs - n) xs)
-    (prefix_same (λ x. not (p x)) (λ x. not (q x)) (reverse xs) (λ x i. ap not (same x (in_reverse xs x i))))
+    rw (prefix_same (λ x. not (p x)) (λ x. not (q x)) (reverse xs) (λ x i. ap not (same x (in_reverse xs x i))))
 
 -- what is made of an element is there
 pub is_given : {X Y : Type 0} (f : X → Option Y) (xs : List X) (x : X) (y : Y) → IsIn x xs → f x ≡ Some y → IsIn y (filter_map f xs)
 is_given f [] x y i e = absurd i
-is_given {X} {Y} f (z ∷ xs) x y (inl same) e = subst (λ (o : Option Y). IsIn y (cons_option o (filter_map f xs))) (sym (ap f (sym same) ∙ e)) (inl refl)
+is_given {X} {Y} f (z ∷ xs) x y (inl same) e = rw (ap f (sym same) ∙ e) (inl refl)
 is_given f (z ∷ xs) x y (inr more) e = grind (arith, filter_map, cons_option, (is_given f xs x y more e))

@@ -13,7 +13,7 @@ told_from s before [] founded = sym (append-nil before)
 told_from s before (h ∷ hs) founded =
     let same : h ≡ happening s.network before h.note = (founded before hs h refl).1.same in
     let moved = append_assoc before (h ∷ []) hs in
-    ap (λ (x : Happening). fold (λ bs note. bs ++ happening s.network bs note ∷ []) (before ++ x ∷ []) (notes_of hs)) (sym same)
+    ap (λ x. fold (λ bs note. bs ++ happening s.network bs note ∷ []) (before ++ x ∷ []) (notes_of hs)) (sym same)
     ∙ told_from s (before ++ h ∷ []) hs (subst (IsFounded place_of (IsDue s)) (sym moved) founded)
     ∙ moved
 

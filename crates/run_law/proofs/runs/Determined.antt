@@ -3,14 +3,14 @@ use Rattle.{compression.specs.declared.compressed.Compressed.Compressed, net_pla
 use Rattle.{net_plan.specs.declared.event.What.TheVariants.On, sync_state.proofs.LawLemmas.one_verdict, tte_units.proofs.general_lemmas.Integers.same_number}
 use Rattle.run_law.proofs.Words.{◌+ℤ◌, ◌∙◌, ◌∷◌, ◌≡◌, ◌≤ℤ◌, Arrival, ArrivesAs, BecomesPermanent, ChangesState, Departs, DeviceId, Event, Happening}
 use Rattle.run_law.proofs.Words.{IsArrivedRecord, IsCaused, IsDetermined, IsDropped, IsDue, Judgement, LinkId, List, Members, Note, NoteBody, Reason, Scenario}
-use Rattle.run_law.proofs.Words.{State, Units, VlId, What, Why, [], amount, ap, arith, happening, inl, inr, ints, is_joined_by, key, members_in}
+use Rattle.run_law.proofs.Words.{State, Units, What, Why, [], amount, ap, arith, happening, inl, inr, ints, is_joined_by, key, members_in}
 use Rattle.run_law.proofs.Words.{numbered, place_of, pos, rank, refl, ripe_as, same_some, slice_get, subst, suc, sym, true, unsigned_abs, zero, ℕ, ℤ}
 use Rattle.run_law.proofs.runs.SameSteps.{arrives_or_departs, arrives_or_ripens, dropped_or_departs, same_arrival, same_departure, same_judgement, same_point}
-use Rattle.{run_law.{proofs.runs.SameSteps.same_ripening, specs.{control.Emissions.Emits, records.Causes.IsOfThisTime}}, sync_state.specs.Verdicts.HasVerdict}
+use Rattle.{run_law.{proofs.runs.SameSteps.same_ripening, specs.{control.Emissions.Emits, records.Causes.IsOfThisTime}}}
 use Rattle.run_law.specs.{control.Corrections.{ComesToCorrection, standing_before}, runs.DueRecords.{IsClockRecord, IsCorrectedRecord, IsEventRecord}}
 use Rattle.{run_law.specs.{control.Leaving.leaves, device.States.adjustment_before}, sync_state.specs.declared.answers.Verdict.Verdict}
 use Rattle.run_law.specs.records.Ranks.{sign}
-use Rattle.sync_state.{proofs.membership_lemmas.OneSummary.one_summary, specs.declared.answers.Verdict.TheVariants.{AsyncClique, Corrected, SyncClique}}
+use Rattle.sync_state.{proofs.membership_lemmas.OneSummary.one_summary}
 use Rattle.run_law.specs.declared.judgement.Why.TheVariants as whys
 use Rattle.run_law.specs.declared.note.NoteBody.TheVariants as notes
 use Rattle.run_law.specs.declared.steps.Arrival.TheVariants as arrivals
@@ -18,7 +18,7 @@ use Rattle.run_law.specs.declared.steps.Arrival.TheVariants as arrivals
 -- ---- numbers and ids
 
 pub same_units : (a b : Units) → a.0 ≡ b.0 → a ≡ b
-same_units a b same = ap (λ (n : ℤ). let t : Units = record { 0 = n } in t) same
+same_units a b same = rw same
 
 -- times from 0 on of one amount are one
 pub same_time : (a b : Units) → pos 0 ≤ℤ a.0 → pos 0 ≤ℤ b.0 → amount a ≡ amount b → a ≡ b
@@ -27,9 +27,9 @@ same_time a b begun after same = same_units a b (same_number a.0 b.0 begun after
 -- numbers of one amount and one sign are one
 same_signed : (a b : ℤ) → unsigned_abs a ≡ unsigned_abs b → sign a ≡ sign b → a ≡ b
 same_signed (pos m) (pos n) same signs = ap pos same
-same_signed (negsuc m) (negsuc n) same signs = let one : m ≡ n = omega (arith, ints, same) in ap negsuc one
-same_signed (pos m) (negsuc n) same signs = absurd (omega (arith, signs))
-same_signed (negsuc m) (pos n) same signs = absurd (omega (arith, signs))
+same_signed (negsuc m) (negsuc n) same signs = let one : m ≡ n = omega (arith, ints) in ap negsuc one
+same_signed (pos m) (negsuc n) same signs = absurd (omega arith)
+same_signed (negsuc m) (pos n) same signs = absurd (omega arith)
 
 -- three numbers of a place
 same_three : (a b c x y z : ℕ) (us vs : List ℕ) → a ∷ b ∷ c ∷ us ≡ x ∷ y ∷ z ∷ vs → (a ≡ x) × (b ≡ y) × (c ≡ z) × (us ≡ vs)
@@ -79,8 +79,7 @@ module _ (s : Scenario) (hs : List Happening) (t : ℕ) (device : DeviceId) (cyc
   same_verdict {v} {w} a b =
       let heard = one_summary _ a.summary b.summary a.heard b.heard in
       one_verdict (standing_before s hs device t) a.summary v w a.comes
-      (subst (λ u. HasVerdict (standing_before s hs device t) u w) (sym heard)
-      b.comes)
+      (rw heard b.comes)
 
   same_corrected : {by gain adjustment later : Units} → IsCorrectedRecord s hs device t cycle by adjustment
       → IsCorrectedRecord s hs device t other gain later
@@ -89,28 +88,28 @@ module _ (s : Scenario) (hs : List Happening) (t : ℕ) (device : DeviceId) (cyc
       let cycles = same_cycle a.corrected b.corrected in
       let verdicts = same_verdict a.corrected b.corrected in
       let gains : by ≡ gain = cc in
-      let sums = same_units adjustment later (a.sum ∙ ap (λ (u : Units). (adjustment_before s hs device t).0 +ℤ u.0)
+      let sums = same_units adjustment later (a.sum ∙ ap (λ u. (adjustment_before s hs device t).0 +ℤ u.0)
       gains ∙ sym b.sum) in
-      ap (λ (c : ℕ). notes.Corrected device c by adjustment) cycles
-      ∙ ap (λ (u : Units). notes.Corrected device other u adjustment) gains
-      ∙ ap (λ (u : Units). notes.Corrected device other gain u) sums
+      rw cycles
+      (ap (λ u. notes.Corrected device other u adjustment) gains
+      ∙ ap (λ u. notes.Corrected device other gain u) sums)
 
 -- ---- states
 
 -- a record of this time with number 0 is none
 pub no_cause : {hs : List Happening} {t : ℕ} (cause : ℕ) {h : Happening} → cause ≡ 0 → IsOfThisTime hs t cause h → ⊥
-no_cause zero is there = let none = there.there in cc
+no_cause zero is there = cc
 no_cause (suc n) is there = cc
 
 -- what has one cause is one
 same_cause : {hs : List Happening} {t cause : ℕ} {h g : Happening} → IsOfThisTime hs t cause h
     → IsOfThisTime hs t cause g → h.note.body ≡ g.note.body
 same_cause {hs} {cause} {h} {g} a b =
-    ap (λ (x : Happening). x.note.body) (same_some (numbered hs cause) h g a.there b.there)
+    rw (same_some (numbered hs cause) h g a.there b.there)
 
 -- a record that tells a device the time is of a frame
 tells_as : (device : DeviceId) (body other : NoteBody) → body ≡ other → is_joined_by device body ≡ true → is_joined_by device other ≡ true
-tells_as device body other e joined = subst (λ b. is_joined_by device b ≡ true) e joined
+tells_as device body other e joined = rw e at joined
 
 event_tells : (device : DeviceId) (line : ℕ) (what : What) → is_joined_by device (notes.Event line what) ≡ true → ⊥
 event_tells device line what e = cc
@@ -140,7 +139,7 @@ module _ (s : Scenario) (hs : List Happening) (t : ℕ) (device : DeviceId) (cau
   same_change whys.Frame whys.SyncClique a b = absurd (no_cause cause b.1 a.1.1)
   same_change whys.Frame whys.AsyncClique a b = absurd (no_cause cause b.1 a.1.1)
   same_change whys.Correction whys.On a b =
-      let bodies = sym b.2.3 ∙ same_cause b.2.2 a.2.4 ∙ a.2.5 in absurd cc
+      absurd cc
   same_change whys.Correction whys.Frame a b =
       absurd (correction_tells device device a.2.0 a.2.1 a.2.2
       (tells_as device _ _ (same_cause b.1.1 a.2.4 ∙ a.2.5) b.1.2))
@@ -178,14 +177,13 @@ same_route device other link by cause from us vs e =
 moved : (P : DeviceId → LinkId → ℕ → Type 0) {device other : DeviceId} {link by : LinkId} {cause from : ℕ}
     → IsSameRoute device other link by cause from → P other by from → P device link cause
 moved P {other} {link} {by} {cause} same there =
-    subst (λ (d : DeviceId). P d link cause) (sym same.devices)
-    (subst (λ (l : LinkId). P other l cause) (sym same.links) (subst (λ (c : ℕ). P other by c) (sym same.causes) there))
+    rw same.devices (rw same.links (rw same.causes there))
 
 -- and makes one body of it
 remade : (made : DeviceId → LinkId → ℕ → NoteBody) {device other : DeviceId} {link by : LinkId} {cause from : ℕ}
     → IsSameRoute device other link by cause from → made device link cause ≡ made other by from
 remade made {other} {link} {by} {cause} same =
-    ap (λ d. made d link cause) same.devices ∙ ap (λ l. made other l cause) same.links ∙ ap (λ c. made other by c) same.causes
+    rw same.devices (ap (λ l. made other l cause) same.links ∙ ap (λ c. made other by c) same.causes)
 
 module _ (s : Scenario) (hs : List Happening) (t : ℕ) (device : DeviceId) (link : LinkId) (cause : ℕ)
     (reason other : Reason) where
@@ -211,10 +209,9 @@ same_permanent : {s : Scenario} {hs : List Happening} {t : ℕ} {device : Device
     → BecomesPermanent s hs device t link cause q (ripe_as w)
     → notes.Permanent device link cause p v ≡ notes.Permanent device link cause q w
 same_permanent {s} {hs} {t} {device} {link} {cause} {q} v w a b =
-    ap (λ (u : Units). notes.Permanent device link cause u v)
-    (same_point s hs t device link cause a.permanent b.permanent)
-    ∙ ap (λ (j : Judgement). notes.Permanent device link cause q j)
-    (same_judgement v w (same_ripening s hs t device link cause a b))
+    rw (same_point s hs t device link cause a.permanent b.permanent)
+    (ap (λ j. notes.Permanent device link cause q j)
+    (same_judgement v w (same_ripening s hs t device link cause a b)))
 
 -- what a compression master sends is heard in one way
 same_heard : {s : Scenario} {hs : List Happening} {t : ℕ} {device : DeviceId} {sent : Compressed} {v w : Judgement}
@@ -229,7 +226,7 @@ same_clock : {s : Scenario} {hs : List Happening} {time : Units} {device : Devic
 same_clock a b = grind arith
 
 pub same_members : (a b : Members) → a.0 ≡ b.0 → a ≡ b
-same_members a b same = ap (λ (n : ℕ). let m : Members = record { 0 = n } in m) same
+same_members a b same = rw same
 
 -- the key of a permanence
 same_ripe_route : (device other : DeviceId) (point second : Units) (m n : ℕ) (link by : LinkId) (cause from : ℕ) → device.0 ∷ amount point ∷ m ∷ link.0 ∷ cause
@@ -249,13 +246,13 @@ same_body : (s : Scenario) (hs : List Happening) (time : Units) (m n : ℕ) (a b
     → key m a ≡ key n b → a ≡ b
 same_body s hs time m n (notes.Event line what) (notes.Event other_line other_what) a b kinds keys =
     let lines : line ≡ other_line = cc in
-    let there = subst (λ l. IsEventRecord s.events time l other_what) (sym lines) b in
-    ap (λ (w : What). notes.Event line w) (same_what a there) ∙ ap (λ (l : ℕ). notes.Event l other_what) lines
+    let there = rw (sym lines) at b in
+    rw (same_what a there) (ap (λ (l : ℕ). notes.Event l other_what) lines)
 same_body s hs time m n (notes.Arrived device link cause clock) (notes.Arrived other by from later) a b kinds keys =
     let same = same_route device other link by cause from [] [] keys in
     let there = moved (λ d l c. IsArrivedRecord s hs d (amount time) l c later) same b in
-    ap (λ (k : ℕ). notes.Arrived device link cause k) (same_clock_on_arrival a there)
-    ∙ remade (λ d l c. notes.Arrived d l c later) same
+    rw (same_clock_on_arrival a there)
+    (remade (λ d l c. notes.Arrived d l c later) same)
 same_body s hs time m n (notes.Permanent device link cause point verdict) (notes.Permanent other by from second judged) a b kinds keys =
     let same = same_ripe_route device other point second m n link by cause from keys in
     let there = moved (λ d l c. BecomesPermanent s hs d (amount time) l c second (ripe_as judged)) same b in
@@ -275,11 +272,11 @@ same_body s hs time m n (notes.Sent device cycle) (notes.Sent other number) a b 
     let ids : device.0 ≡ other.0 = cc in
     let devices : device ≡ other = same_device device other ids in
     let cycles : cycle ≡ number = cc in
-    ap (λ (d : DeviceId). notes.Sent d cycle) devices ∙ ap (λ (c : ℕ). notes.Sent other c) cycles
+    rw devices (ap (λ (c : ℕ). notes.Sent other c) cycles)
 same_body s hs time m n (notes.Corrected device cycle by adjustment) (notes.Corrected other number gain later) a b kinds keys =
     let ids : device.0 ≡ other.0 = cc in
     let devices : device ≡ other = same_device device other ids in
-    let there = subst (λ d. IsCorrectedRecord s hs d (amount time) number gain later) (sym devices) b in
+    let there = rw (sym devices) at b in
     same_corrected s hs (amount time) device cycle number a there
     ∙ ap (λ (d : DeviceId). notes.Corrected d number gain later) devices
 same_body s hs time m n (notes.State device state cause why) (notes.State other later from for) a b kinds keys =
@@ -287,18 +284,18 @@ same_body s hs time m n (notes.State device state cause why) (notes.State other 
     let devices : device ≡ other = same_device device other ids in
     let causes : cause ≡ from = cc in
     let there = subst (λ d. ChangesState s hs d (amount time) later cause for) (sym devices)
-    (subst (λ c. ChangesState s hs other (amount time) later c for) (sym causes) b) in
+    (rw (sym causes) at b) in
     let one = same_change s hs (amount time) device cause state later why for a there in
-    ap (λ (u : State). notes.State device u cause why) one.0
-    ∙ ap (λ (w : Why). notes.State device later cause w) one.1
+    rw one.0
+    (ap (λ (w : Why). notes.State device later cause w) one.1
     ∙ ap (λ (d : DeviceId). notes.State d later cause for) devices
-    ∙ ap (λ (c : ℕ). notes.State other later c for) causes
+    ∙ ap (λ (c : ℕ). notes.State other later c for) causes)
 same_body s hs time m n (notes.Left device link cause clock) (notes.Left other by from later) a b kinds keys =
     let same = same_route device other link by cause from [] [] keys in
     let there = moved (λ d l c. Departs s hs d (amount time) l c (leaves later)) same b in
     let one = same_departure s hs (amount time) device link cause a there in
     let clocks : clock ≡ later = cc in
-    ap (λ (k : ℕ). notes.Left device link cause k) clocks ∙ remade (λ d l c. notes.Left d l c later) same
+    rw clocks (remade (λ d l c. notes.Left d l c later) same)
 same_body s hs time m n (notes.Lost device link cause) (notes.Lost other by from) a b kinds keys =
     remade (λ d l c. notes.Lost d l c) (same_route device other link by cause from [] [] keys)
 same_body s hs time m n (notes.TtSent device link cause vl cycle) (notes.TtSent other by from second number) a b kinds keys =
@@ -306,39 +303,39 @@ same_body s hs time m n (notes.TtSent device link cause vl cycle) (notes.TtSent 
     let ids : vl.0 ≡ second.0 = cc in
     let vls : vl ≡ second = same_vl vl second ids in
     let cycles : cycle ≡ number = cc in
-    ap (λ (v : VlId). notes.TtSent device link cause v cycle) vls
-    ∙ ap (λ (k : ℕ). notes.TtSent device link cause second k) cycles
-    ∙ remade (λ d l c. notes.TtSent d l c second number) same
+    rw vls
+    (ap (λ (k : ℕ). notes.TtSent device link cause second k) cycles
+    ∙ remade (λ d l c. notes.TtSent d l c second number) same)
 same_body s hs time m n (notes.Accepted device link cause vl cycle) (notes.Accepted other by from second number) a b kinds keys =
     let same = same_route device other link by cause from [] [] keys in
     let there = moved (λ d l c. ArrivesAs s hs d (amount time) l c (arrivals.Accepted second number)) same b in
     let one = same_arrival a there in
     let vls : vl ≡ second = cc in
     let cycles : cycle ≡ number = cc in
-    ap (λ (v : VlId). notes.Accepted device link cause v cycle) vls
-    ∙ ap (λ (k : ℕ). notes.Accepted device link cause second k) cycles
-    ∙ remade (λ d l c. notes.Accepted d l c second number) same
+    rw vls
+    (ap (λ (k : ℕ). notes.Accepted device link cause second k) cycles
+    ∙ remade (λ d l c. notes.Accepted d l c second number) same)
 same_body s hs time m n (notes.Delivered device link cause vl cycle) (notes.Delivered other by from second number) a b kinds keys =
     let same = same_route device other link by cause from [] [] keys in
     let there = moved (λ d l c. ArrivesAs s hs d (amount time) l c (arrivals.Delivered second number)) same b in
     let one = same_arrival a there in
     let vls : vl ≡ second = cc in
     let cycles : cycle ≡ number = cc in
-    ap (λ (v : VlId). notes.Delivered device link cause v cycle) vls
-    ∙ ap (λ (k : ℕ). notes.Delivered device link cause second k) cycles
-    ∙ remade (λ d l c. notes.Delivered d l c second number) same
+    rw vls
+    (ap (λ (k : ℕ). notes.Delivered device link cause second k) cycles
+    ∙ remade (λ d l c. notes.Delivered d l c second number) same)
 same_body s hs time m n (notes.Dropped device link cause reason) (notes.Dropped other by from second) a b kinds keys =
     let same = same_route device other link by cause from [] [] keys in
     let there = moved (λ d l c. IsDropped s hs d (amount time) l c second) same b in
-    ap (λ (r : Reason). notes.Dropped device link cause r) (same_reason s hs (amount time) device link cause reason second a there)
-    ∙ remade (λ d l c. notes.Dropped d l c second) same
+    rw (same_reason s hs (amount time) device link cause reason second a there)
+    (remade (λ d l c. notes.Dropped d l c second) same)
 same_body s hs time m n (notes.Clock device seen adjustment state) (notes.Clock other other_seen other_adjustment other_state) a b kinds keys =
     let ids : device.0 ≡ other.0 = cc in
     let devices : device ≡ other = same_device device other ids in
-    let there = subst (λ d. IsClockRecord s hs d time other_seen other_adjustment other_state) (sym devices) b in
+    let there = rw (sym devices) at b in
     same_clock a there
     ∙ ap (λ (d : DeviceId). notes.Clock d other_seen other_adjustment other_state) devices
-same_body s hs time m n rest other a b kinds keys = absurd (omega (arith, kinds))
+same_body s hs time m n rest other a b kinds keys = absurd (omega arith)
 
 -- ---- records
 
@@ -349,11 +346,10 @@ same_note a b numbers times bodies = grind arith
 -- given the same records before, two that are due at one place are one
 pub due_is_determined : (s : Scenario) → IsDetermined place_of (IsDue s)
 due_is_determined s ps x y a b same =
-    let amounts : amount x.note.time ≡ amount y.note.time = cc in
     let kinds : rank x.note.body ≡ rank y.note.body = cc in
     let keys : key (members_in x) x.note.body ≡ key (members_in y) y.note.body = cc in
-    let times = same_time x.note.time y.note.time a.begun b.begun amounts in
-    let there = subst (λ t. IsCaused s ps t y.note.body) (sym times) b.cause in
+    let times = same_time x.note.time y.note.time a.begun b.begun cc in
+    let there = rw (sym times) at b.cause in
     let bodies = same_body s ps x.note.time (members_in x) (members_in y) x.note.body y.note.body a.cause there kinds keys in
     let notes_same = same_note x.note y.note (a.number ∙ sym b.number) times bodies in
     a.same ∙ ap (happening s.network ps) notes_same ∙ sym b.same

@@ -1,6 +1,6 @@
 -- How a run begins, goes up to a later mark, and goes on by its next record.
-use Rattle.run_law.proofs.Words.{◌++◌, ◌∙◌, ◌∷◌, ◌≡◌, ◌⊎◌, AllBefore, IsBefore, IsFounded, IsIn, IsRun, List, NoneBefore, [], ap, append-nil, inl, inr, refl}
-use Rattle.{run_law.{proofs.Words.{subst, sym, ℕ}, specs.runs.Runs.NothingDueUpTo}, tte_units.proofs.general_lemmas.Lists.{no_front, none_before}}
+use Rattle.run_law.proofs.Words.{◌++◌, ◌∙◌, ◌∷◌, ◌≡◌, ◌⊎◌, AllBefore, IsBefore, IsFounded, IsRun, List, NoneBefore, [], ap, append-nil, inl, inr, refl}
+use Rattle.{run_law.{proofs.Words.{sym, ℕ}, specs.runs.Runs.NothingDueUpTo}, tte_units.proofs.general_lemmas.Lists.{no_front, none_before}}
 use Rattle.run_law.proofs.runs.Places.{before_behind, behind, chain, either_way, in_left, in_parts, in_right, never_self, nothing_between}
 use Rattle.std.proofs.Common.{arith}
 
@@ -34,10 +34,10 @@ in_two [] (p ∷ []) (q ∷ qs) x e = absurd cc
 in_two [] (p ∷ r ∷ ps) qs x e = absurd cc
 in_two (n ∷ ns) (p ∷ ps) qs x e =
     let head : n ≡ p = cc in
-    let tail : ns ++ x ∷ [] ≡ ps ++ qs = cc in
-    elim (in_two ns ps qs x tail) [
-      | inl l ↦ inl (l.0, ap (λ (t : List _). p ∷ t) l.1 ∙ ap (λ t. t ∷ ns ++ x ∷ []) (sym head))
-      | inr r ↦ inr (record { others = r.others; last = r.last; whole = ap (λ (t : List _). n ∷ t) r.whole ∙ ap (λ t. t ∷ ps ++ r.others) head })
+    elim (in_two ns ps qs x cc) [
+      | inl l ↦ inl (l.0, rw l.1 (ap (λ t. t ∷ ns ++ x ∷ []) (sym head)))
+      | inr r ↦ inr (record { others = r.others; last = r.last; whole =
+          rw r.whole (ap (λ t. t ∷ ps ++ r.others) head) })
     ]
 
 no_cons : {N : Type 0} (y : N) (qs : List N) → y ∷ qs ≡ [] → ⊥
@@ -47,8 +47,7 @@ founded_by : {N : Type 0} (place : N → List ℕ) (IsDue : List N → N → Typ
     → IsDue ns x → (ps qs : List N) (y : N) (others : List N) → y ∷ qs ≡ others ++ x ∷ [] → ns ≡ ps ++ others → AllBefore place ps (place y) × IsDue ps y
 founded_by {N} place IsDue ns x founded before due ps qs y [] last whole = grind (arith, append-nil)
 founded_by {N} place IsDue ns x founded before due ps qs y (o ∷ others) last whole =
-    let same : y ≡ o = cc in
-    founded ps others y (whole ∙ ap (λ (t : N). ps ++ t ∷ others) (sym same))
+    founded ps others y (whole ∙ ap (λ t. ps ++ t ∷ others) (sym cc))
 
 -- a founded list is founded with one more that is behind it and due
 pub grow_founded : {N : Type 0} (place : N → List ℕ) (IsDue : List N → N → Type 0) (ns : List N) (x : N) → IsFounded place IsDue ns
@@ -64,7 +63,7 @@ pub grow : {N : Type 0} {place : N → List ℕ} (IsDue : List N → N → Type 
     → IsRun place IsDue mark ns → AllBefore place ns (place x) → IsDue ns x
     → NothingDueUpTo place IsDue mark ns (place x) → IsRun place IsDue (behind (place x)) (ns ++ x ∷ [])
 grow {N} {place} IsDue {ns} x run before due nothing =
-    let at_x : IsIn x (ns ++ x ∷ []) = in_right x ns (x ∷ []) (inl refl) in
+    let at_x = in_right x ns (x ∷ []) (inl refl) in
     record {
       founded = grow_founded place IsDue ns x run.founded before due;
       full = λ ps qs y e b n d w.
@@ -73,10 +72,10 @@ grow {N} {place} IsDue {ns} x run before due nothing =
             | inr (inr gt) ↦ absurd (nothing_between (place x) (place y) gt w)
             | inl lt ↦
                 elim (in_two ns ps qs x e) [
-                  | inl l ↦ absurd (never_self (place x) (chain (place x) (place y) (place x) (b x (subst (λ t. IsIn x t) (sym l.1) at_x)) lt))
+                  | inl l ↦ absurd (never_self (place x) (chain (place x) (place y) (place x) (b x (rw l.1 at_x)) lt))
                   | inr r ↦
                       let none : NoneBefore place r.others (place y) = λ m i. n m
-                      (subst (λ t. IsIn m t) (sym r.last) (in_left m r.others (x ∷ []) i)) in
+                      (rw r.last (in_left m r.others (x ∷ []) i)) in
                       let found = run.full ps r.others y r.whole b none d (nothing.gap ps r.others y r.whole b none d lt) in
                       (found.0, in_left found.0 ns (x ∷ []) found.1, found.2)
                 ]
@@ -84,7 +83,7 @@ grow {N} {place} IsDue {ns} x run before due nothing =
       within = λ m i.
           elim (in_parts m ns (x ∷ []) i) [
             | inl l ↦ chain (place m) (place x) (behind (place x)) (before m l) (before_behind (place x))
-            | inr (inl e) ↦ subst (λ (t : N). IsBefore (place t) (behind (place x))) (sym e) (before_behind (place x))
+            | inr (inl e) ↦ rw e (before_behind (place x))
             | inr (inr none) ↦ absurd none
           ];
     }

@@ -1,5 +1,5 @@
 -- What can't be missing from a run.
-use Rattle.run_law.proofs.Words.{◌++◌, ◌∙◌, ◌∷◌, ◌≡◌, AllBefore, IsBefore, IsFounded, IsIn, List, ap, append_assoc, inl, inr, refl, subst, sym, ℕ}
+use Rattle.run_law.proofs.Words.{◌++◌, ◌∙◌, ◌∷◌, ◌≡◌, AllBefore, IsBefore, IsFounded, IsIn, List, ap, append_assoc, inl, inr, refl, sym, ℕ}
 use Rattle.run_law.{proofs.runs.Places.{chain, in_parts, in_right, never_self, parted}, specs.runs.Runs.IsFull}
 
 -- all that follows y in a founded list is behind it
@@ -7,7 +7,8 @@ pub behind_first : {N : Type 0} (place : N → List ℕ) (IsDue : List N → N �
     → IsBefore (place y) (place z)
 behind_first place IsDue ps ys y z founded i =
     let at = parted z ys i in
-    let whole : ps ++ y ∷ ys ≡ (ps ++ y ∷ at.0) ++ z ∷ at.1 = ap (λ (t : List _). ps ++ y ∷ t) at.2 ∙ sym (append_assoc ps (y ∷ at.0) (z ∷ at.1)) in
+    let whole : ps ++ y ∷ ys ≡ (ps ++ y ∷ at.0) ++ z ∷ at.1 =
+        ap (λ t. ps ++ y ∷ t) at.2 ∙ sym (append_assoc ps (y ∷ at.0) (z ∷ at.1)) in
     (founded (ps ++ y ∷ at.0) at.1 z whole).0 y (in_right y ps (y ∷ at.0) (inl refl))
 
 -- what is before y is before it and all that follows it
@@ -22,6 +23,6 @@ pub lacking : {N : Type 0} (place : N → List ℕ) (IsDue : List N → N → Ty
 lacking place IsDue mark ps ys x full before due here first =
     let there = full ps ys x refl before (λ n i sooner. never_self (place x) (chain (place x) (place n) (place x) (first n i) sooner)) due here in
     elim (in_parts there.0 ps ys there.1) [
-      | inl i ↦ never_self (place x) (subst (λ p. IsBefore p (place x)) there.2 (before there.0 i))
-      | inr i ↦ never_self (place x) (subst (λ p. IsBefore (place x) p) there.2 (first there.0 i))
+      | inl i ↦ never_self (place x) (rw there.2 at (before there.0 i))
+      | inr i ↦ never_self (place x) (rw there.2 at (first there.0 i))
     ]

@@ -13,7 +13,7 @@ with_next network before note = before ++ happening network before note ∷ []
 
 notes_of_parts : (hs gs : List Happening) → notes_of (hs ++ gs) ≡ notes_of hs ++ notes_of gs
 notes_of_parts [] gs = refl
-notes_of_parts (h ∷ hs) gs = ap (λ (ns : List Note). h.note ∷ ns) (notes_of_parts hs gs)
+notes_of_parts (h ∷ hs) gs = rw (notes_of_parts hs gs)
 
 module _ (network : Network) where
   notes_from : (before : List Happening) (ns : List Note)
@@ -52,10 +52,10 @@ earlier_run_is_front network reading events mark later notes more earlier a b =
       sym (same_notes network more)
           ∙ ap notes_of front.1
           ∙ notes_of_parts (happenings network notes) front.0
-          ∙ ap (λ (ns : List Note). ns ++ notes_of front.0) (same_notes network notes),
+          ∙ ap (λ ns. ns ++ notes_of front.0) (same_notes network notes),
     )
 
 pub run_goes_on : RunGoesOn
 run_goes_on s mark notes note next run is more =
     let grown = grow (IsDue s) next run more.behind_all more.due more.first in
-    subst (IsRun place_of (IsDue s) _) (ap (λ (h : Happening). happenings s.network notes ++ h ∷ []) is ∙ sym (one_more s.network notes note)) grown
+    subst (IsRun place_of (IsDue s) _) (rw is (sym (one_more s.network notes note))) grown

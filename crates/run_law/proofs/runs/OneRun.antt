@@ -1,5 +1,5 @@
 -- There is one run, and what is due is its next record.
-use Rattle.run_law.proofs.Words.{◌++◌, ◌∙◌, ◌∷◌, ◌≡◌, AllBefore, IsBefore, IsDetermined, IsIn, IsRun, List, NoneBefore, [], ap, inl, inr, refl, subst, sym, ℕ}
+use Rattle.run_law.proofs.Words.{◌++◌, ◌∙◌, ◌∷◌, ◌≡◌, AllBefore, IsBefore, IsDetermined, IsIn, IsRun, List, NoneBefore, [], ap, inl, inr, refl, sym, ℕ}
 use Rattle.{run_law.proofs.runs.{FrontOfRun.front_of_run, Lacking.behind_first, Places.{in_parts, never_self}}, tte_units.proofs.general_lemmas.Lists.fronts}
 
 pub one_run : {N : Type 0} {place : N → List ℕ} (IsDue : List N → N → Type 0) {mark : List ℕ}
@@ -11,7 +11,7 @@ one_run IsDue one {xs} {ys} a b =
 
 -- a record at the place of x can't be in the part before x
 not_in_front : {N : Type 0} (place : N → List ℕ) (ps : List N) (x m : N) → AllBefore place ps (place x) → IsIn m ps → place m ≡ place x → ⊥
-not_in_front place ps x m before i same = never_self (place x) (subst (λ p. IsBefore p (place x)) same (before m i))
+not_in_front place ps x m before i same = never_self (place x) (rw same at (before m i))
 
 -- in a run, a record that is due given a part, behind all of it and before none of the rest, is the next
 pub due_is_next : {N : Type 0} {place : N → List ℕ} (IsDue : List N → N → Type 0) {mark : List ℕ}
@@ -25,6 +25,7 @@ due_is_next {place} IsDue one ps (q ∷ qs) x run before none due here =
     let there = run.full ps (q ∷ qs) x refl before none due here in
     elim (in_parts there.0 ps (q ∷ qs) there.1) [
       | inl i ↦ absurd (not_in_front place ps x there.0 before i there.2)
-      | inr (inl e) ↦ (qs, ap (λ (n : _). n ∷ qs) (one ps q x (run.founded ps qs q refl).1 due (ap place (sym e) ∙ there.2)))
-      | inr (inr i) ↦ absurd (none q (inl refl) (subst (λ p. IsBefore (place q) p) there.2 (behind_first place IsDue ps qs q there.0 run.founded i)))
+      | inr (inl e) ↦ (qs, rw (one ps q x (run.founded ps qs q refl).1 due (ap place (sym e) ∙ there.2)))
+      | inr (inr i) ↦ absurd (none q (inl refl) (rw
+          there.2 at (behind_first place IsDue ps qs q there.0 run.founded i)))
     ]

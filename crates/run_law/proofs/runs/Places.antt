@@ -1,5 +1,5 @@
 -- The order of places, and what is in lists.
-use Rattle.run_law.proofs.Words.{◌++◌, ◌+◌, ◌<◌, ◌∙◌, ◌∷◌, ◌≡◌, ◌≤◌, ◌⊎◌, IsBefore, IsIn, List, [], ap, arith, inl, inr, refl, sym, ℕ}
+use Rattle.run_law.proofs.Words.{◌++◌, ◌+◌, ◌<◌, ◌∙◌, ◌∷◌, ◌≡◌, ◌≤◌, ◌⊎◌, IsBefore, IsIn, List, [], arith, inl, inr, refl, sym, ℕ}
 use Rattle.std.proofs.lemmas.Bool.{cases_order}
 pub use Rattle.run_law.specs.records.Order.{behind}
 
@@ -95,5 +95,5 @@ in_parts x (a ∷ ls) bs (inr i) = elim (in_parts x ls bs i) [ inl l ↦ inl (in
 -- what is in a list has a part before it and one behind it
 pub parted : {N : Type 0} (x : N) (ns : List N) → IsIn x ns → (ps : List N) × (qs : List N) × (ns ≡ ps ++ x ∷ qs)
 parted x [] i = absurd i
-parted x (n ∷ ns) (inl e) = ([], ns, ap (λ y. y ∷ ns) (sym e))
-parted x (n ∷ ns) (inr i) = let p = parted x ns i in (n ∷ p.0, p.1, ap (λ ys. n ∷ ys) p.2)
+parted x (n ∷ ns) (inl e) = ([], ns, rw (sym e))
+parted x (n ∷ ns) (inr i) = let p = parted x ns i in (n ∷ p.0, p.1, rw p.2)

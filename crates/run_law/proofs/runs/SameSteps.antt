@@ -3,7 +3,7 @@ use Rattle.std.proofs.Common.{MatchBool, arith}
 use Rattle.run_law.proofs.Words.{◌∙◌, ◌≡◌, Arrival, ArrivesAs, BecomesPermanent, Bool, Departs, Device, DeviceId, Gives, Happening, Judgement, Launch, LinkId}
 use Rattle.run_law.proofs.Words.{List, Master, Network, None, NoteBody, Option, Pcf, Reason, Ripe, Role, Scenario, Some, State, Units, ap, arrival_of}
 use Rattle.run_law.proofs.Words.{device_at, false, is_relay, launched, numbered, observation_window, option_map_or, refl, ripe_as, same_some, subst, sym}
-use Rattle.run_law.{proofs.Words.{time_of, true, ℕ}, specs.{control.Leaving.{Departure, departure}, scenario.Devices.{is_cm, is_cm_role, is_relay_role}}}
+use Rattle.run_law.{proofs.Words.{time_of, true, ℕ}, specs.{control.Leaving.{Departure}, scenario.Devices.{is_cm, is_cm_role, is_relay_role}}}
 use Rattle.run_law.specs.{control.Collections.{IsCollectedAs, points_of, ripe_by_role}, device.States.{adjustment_at_hearing, state_at_hearing}}
 use Rattle.run_law.specs.control.{Permanence.{IsCollectedOrDropped, IsJudgedBy, IsPermanenceOutcome, IsPermanent, before_permanence}, Wires.{Arrives, Signal}}
 use Rattle.compression.{proofs.Times.one_list_of_clusters, specs.{Clusters.Point, Role.role, declared.taken.Taken.Taken}}
@@ -17,7 +17,8 @@ use Rattle.run_law.specs.declared.steps.Ripe.TheVariants as ripe
 same_signal : {s : Scenario} {h : Happening} {device : DeviceId} {link : LinkId} {t : ℕ} {a b : Signal}
     → Arrives s h device link t a → Arrives s h device link t b → a ≡ b
 same_signal {s} {h} {link} {a} {b} x y =
-    ap (λ (l : Launch). l.signal) (same_some (launched s h (time_of h) h.note.body) (record { link = link; way = x.way; signal = a })
+    ap (λ l. l.signal) (same_some (launched s h (time_of h) h.note.body)
+        (record { link = link; way = x.way; signal = a })
     (record { link = link; way = y.way; signal = b }) x.put y.put)
 
 -- and one thing becomes of it
@@ -67,7 +68,7 @@ module _ (s : Scenario) (hs : List Happening) (t : ℕ) (device : DeviceId) (lin
       → IsPermanent s hs device t link cause g q → f ≡ g
   same_frame {f} {g} a b =
       let one = same_permanent_arrival a b in
-      same_some a.arrival.frame f g a.of_frame (ap (λ (h : Happening). h.frame) one ∙ b.of_frame)
+      same_some a.arrival.frame f g a.of_frame (rw one b.of_frame)
 
   pub same_point : {f g : Pcf} {p q : Units} → IsPermanent s hs device t link cause f p
       → IsPermanent s hs device t link cause g q → p ≡ q
@@ -132,7 +133,6 @@ puts_or_gives s h t other device link l put gives = gives
 pub no_launch : (s : Scenario) (h : Happening) (t : ℕ) (body : NoteBody) (device : DeviceId) (link : LinkId) (from clock : ℕ) (l : Launch)
     → body ≡ notes.Arrived device link from clock → launched s h t body ≡ Some l → ⊥
 no_launch s h t body device link from clock l is put =
-    let none : launched s h t (notes.Arrived device link from clock) ≡ Some l = subst (λ b. launched s h t b ≡ Some l) is put in
     cc
 
 module _ (s : Scenario) (hs : List Happening) (t : ℕ) (device : DeviceId) (link : LinkId) (cause : ℕ)
@@ -159,7 +159,7 @@ devices_differ (Some d) a b = roles_differ d.role a b
 gives_as_relay : (network : Network) (body : NoteBody) (device : DeviceId) (link by : LinkId) (from clock : ℕ) → body ≡ notes.Arrived device by from clock
     → Gives network body device link → is_relay network device ≡ true
 gives_as_relay network body device link by from clock is gives =
-    let there : Gives network (notes.Arrived device by from clock) device link = subst (λ b. Gives network b device link) is gives in
+    let there : Gives network (notes.Arrived device by from clock) device link = rw is at gives in
     there.1.relay
 
 -- no frame that a device drops when it is permanent leaves it
@@ -168,6 +168,6 @@ pub dropped_or_departs : {s : Scenario} {hs : List Happening} {t : ℕ} {device 
     (ripe.Dropped reason) → Departs s hs device t link cause d → ⊥
 dropped_or_departs {s} {hs} {t} {device} {link} {cause} reason x y =
     let one = same_some (numbered hs cause) x.permanent.arrival y.giving x.permanent.there y.there in
-    let is = ap (λ (h : Happening). h.note.body) (sym one) ∙ x.permanent.arrived in
+    let is = ap (λ h. h.note.body) (sym one) ∙ x.permanent.arrived in
     let relay = gives_as_relay s.network y.giving.note.body device link link x.permanent.from x.permanent.clock is y.gives in
     devices_differ (device_at s.network device) (dropped_at_cm s hs t device link cause reason x) relay

@@ -4,7 +4,7 @@ use Rattle.{run_law.proofs.scenario.Decisions.{IsDecided, decided_same, decided_
 use Rattle.sync_state.specs.{Standing.{IsAtIntegration, Standing}, Verdicts.IsOutnumbered, membership.{BestFrame.Qualifies, Members.count_of, Summary.best_on}}
 
 pub decided_le : (a b : ℕ) → IsDecided (a ≤ b)
-decided_le a b = elim (cases_lt b a) [ inl lt ↦ inr (λ le. absurd (omega (arith, lt, le))) | inr ge ↦ inl ge ]
+decided_le a b = elim (cases_lt b a) [ inl lt ↦ inr (λ le. absurd (omega arith)) | inr ge ↦ inl ge ]
 
 pub qualifies : (threshold : ℕ) (o : Option HeardFrame) → IsDecided (Qualifies threshold o)
 qualifies threshold o = decided_some o (λ frame. threshold ≤ count_of frame.members) (λ frame. decided_le threshold (count_of frame.members))

@@ -1,13 +1,13 @@
 -- Each condition of the fault hypothesis is decided.
 use Rattle.net_plan.specs.{Places.IsSwitchOf, Rules.HasOffSwitch, declared.event.What.TheVariants.{Break, Cut, Hold, On, Rate, Wire}}
-use Rattle.run_law.proofs.Words.{◌++◌, ◌+ℤ◌, ◌<ℤ◌, ◌<◌, ◌∙◌, ◌∷◌, ◌≡◌, ◌⊎◌, A, B, DeviceId, Event, IsSomeAnd, LinkId, List, Network, None, Option, Send, Some}
-use Rattle.run_law.proofs.Words.{Units, What, [], ap, device_at, inl, inr, is_master, link_at, refl, subst, sym, true, unsigned_abs, ℕ}
+use Rattle.run_law.proofs.Words.{◌++◌, ◌+ℤ◌, ◌<ℤ◌, ◌∙◌, ◌∷◌, ◌≡◌, ◌⊎◌, A, B, DeviceId, Event, IsSomeAnd, LinkId, List, Network, None, Option, Send, Some}
+use Rattle.run_law.proofs.Words.{Units, What, [], ap, device_at, inl, inr, is_master, link_at, refl, subst, sym, true, unsigned_abs}
 use Rattle.run_law.proofs.scenario.Decisions.{IsDecided, decided_and, decided_any, decided_at, decided_by, decided_false, decided_less, decided_less_int}
 use Rattle.run_law.proofs.scenario.Decisions.{decided_not, decided_or, decided_same, decided_some, decided_true}
 use Rattle.run_law.specs.scenario.Faults.{BeginsOn, Breaks, Cuts, CutsOn, IsBroken, IsFaulty, IsFirstCutOn, IsLinkOf, IsTurnedOn, TurnsOn}
 use Rattle.run_law.specs.scenario.Hypothesis.{BreaksNoMaster, BreaksSecond, ComesTooEarly, CutsOtherChannel, LeavesTooFew, SendsUnbroken, SetsFastRate}
 use Rattle.{run_law.specs.scenario.Hypothesis.{SetsLongHold, SetsOtherWire, TurnsOnAgain, sound_masters}, std.proofs.Common.{◌≢◌, Any, IsNone, is_some}}
-use Rattle.tte_units.{proofs.general_lemmas.Lists.{any_behind, any_first, any_none, any_of}, specs.declared.{frames.channel.Channel.Channel, rates.Ppb.Ppb}}
+use Rattle.tte_units.{proofs.general_lemmas.Lists.{any_behind, any_first, any_none, any_of}, specs.declared.{frames.channel.Channel.Channel}}
 
 -- ---- the time of an event
 
@@ -29,9 +29,9 @@ pub too_early : (before : List Event) (event : Event) → IsDecided (ComesTooEar
 too_early [] event = inr (λ h. no_last h.front h.last h.order)
 too_early (e ∷ []) event =
     decided_by (λ lt. record { front = []; last = e; order = refl; later = lt })
-    (λ h. subst (λ (l : Event). event.time.0 <ℤ l.time.0) (only_last h.front e h.last h.order) h.later) (decided_less_int event.time.0 e.time.0)
+    (λ h. rw (only_last h.front e h.last h.order) at h.later) (decided_less_int event.time.0 e.time.0)
 too_early (e ∷ f ∷ rest) event = decided_by
-    (λ h. record { front = e ∷ h.front; last = h.last; order = ap (λ (t : List Event). e ∷ t) h.order; later = h.later })
+    (λ h. record { front = e ∷ h.front; last = h.last; order = rw h.order; later = h.later })
     (λ h. let more = last_of_rest h.front e f rest h.last h.order in record { front = more.0; last = h.last; order = more.1; later = h.later })
     (too_early (f ∷ rest) event)
 
@@ -40,9 +40,9 @@ too_early (e ∷ f ∷ rest) event = decided_by
 fast_rate_by : (network : Network) (event : Event) (what : What) → event.what ≡ what → IsDecided (SetsFastRate network event)
 fast_rate_by network event (Rate device rate) is = decided_by
     (λ fast. record { device = device; rate = rate; what = is; fast = fast })
-    (λ h. let both = sym h.what ∙ is in let same : h.rate ≡ rate = cc in subst (λ (r : Ppb). network.rho < unsigned_abs r.0) same h.fast)
+    (λ h. let same : h.rate ≡ rate = cc in rw same at h.fast)
     (decided_less network.rho (unsigned_abs rate.0))
-fast_rate_by network event other is = inr (λ h. let both = sym h.what ∙ is in cc)
+fast_rate_by network event other is = inr (λ h. cc)
 
 pub fast_rate : (network : Network) (event : Event) → IsDecided (SetsFastRate network event)
 fast_rate network event = fast_rate_by network event event.what refl
@@ -54,13 +54,12 @@ other_wire_by : (network : Network) (event : Event) (what : What) → event.what
 other_wire_by network event (Wire link way delay) is = decided_by
     (λ other. record { link = link; way = way; delay = delay; what = is; other = other })
     (λ h.
-    let both = sym h.what ∙ is in
     let links : h.link ≡ link = cc in
     let delays : h.delay ≡ delay = cc in
-    subst (IsOtherWire network link) delays (subst (λ l. IsOtherWire network l h.delay) links h.other))
+    subst (IsOtherWire network link) delays (rw links at h.other))
     (decided_some (link_at network link) (λ l. (delay.0 <ℤ l.wire.0) ⊎ ((l.wire.0 +ℤ l.jitter.0) <ℤ delay.0))
     (λ l. decided_or (decided_less_int delay.0 l.wire.0) (decided_less_int (l.wire.0 +ℤ l.jitter.0) delay.0)))
-other_wire_by network event other is = inr (λ h. let both = sym h.what ∙ is in cc)
+other_wire_by network event other is = inr (λ h. cc)
 
 pub other_wire : (network : Network) (event : Event) → IsDecided (SetsOtherWire network event)
 other_wire network event = other_wire_by network event event.what refl
@@ -72,12 +71,11 @@ long_hold_by : (network : Network) (event : Event) (what : What) → event.what 
 long_hold_by network event (Hold link way delay) is = decided_by
     (λ long. record { link = link; way = way; delay = delay; what = is; long = long })
     (λ h.
-    let both = sym h.what ∙ is in
     let links : h.link ≡ link = cc in
     let delays : h.delay ≡ delay = cc in
-    subst (IsLongHold network link) delays (subst (λ l. IsLongHold network l h.delay) links h.long))
+    subst (IsLongHold network link) delays (rw links at h.long))
     (decided_some (link_at network link) (λ l. l.hold.0 <ℤ delay.0) (λ l. decided_less_int l.hold.0 delay.0))
-long_hold_by network event other is = inr (λ h. let both = sym h.what ∙ is in cc)
+long_hold_by network event other is = inr (λ h. cc)
 
 pub long_hold : (network : Network) (event : Event) → IsDecided (SetsLongHold network event)
 long_hold network event = long_hold_by network event event.what refl
@@ -102,7 +100,7 @@ no_channel P each = decided_by (λ none c p. none (c, p)) (λ none h. none h.0 h
 
 is_channel : (o : Option Channel) (c : Channel) → IsDecided (o ≡ Some c)
 is_channel None c = inr (λ e. cc)
-is_channel (Some d) c = decided_by (λ e. ap (λ (x : Channel). Some x) e) (λ e. let same : d ≡ c = cc in same) (same_channel d c)
+is_channel (Some d) c = decided_by (λ e. rw e) (λ e. let same : d ≡ c = cc in same) (same_channel d c)
 
 is_link_of : (network : Network) (channel : Channel) (link : LinkId) → IsDecided (IsLinkOf network channel link)
 is_link_of network channel link =
@@ -120,14 +118,14 @@ has_off_switch network channel = decided_by
 
 cuts_by : (event : Event) (what : What) → event.what ≡ what → IsDecided ((link : LinkId) × Cuts link event)
 cuts_by event (Cut link way) is = inl (link, (way, is))
-cuts_by event other is = inr (λ h. let both = sym h.1.1 ∙ is in cc)
+cuts_by event other is = inr (λ h. cc)
 
 cuts_on_by : (network : Network) (channel : Channel) (event : Event) (what : What) → event.what ≡ what → IsDecided (CutsOn network channel event)
 cuts_on_by network channel event (Cut link way) is = decided_by
     (λ on. (link, (way, is), on))
     (λ h. let both = sym h.1.1 ∙ is in let same : h.0 ≡ link = cc in subst (IsLinkOf network channel) same h.2)
     (is_link_of network channel link)
-cuts_on_by network channel event other is = inr (λ h. let both = sym h.1.1 ∙ is in cc)
+cuts_on_by network channel event other is = inr (λ h. cc)
 
 module _ (network : Network) (channel : Channel) (e : Event) (rest : List Event) where
   -- where the first of the events cuts, it is the first cut
@@ -171,7 +169,7 @@ first_cut network channel (e ∷ rest) =
             before = e ∷ h.before;
             cut = h.cut;
             behind = h.behind;
-            order = ap (λ (t : List Event). e ∷ t) h.order;
+            order = rw h.order;
             none_before = λ link later. elim (any_of (Cuts link) e h.before later) [ inl cut ↦ fails (link, cut) | inr more ↦ h.none_before link more ];
             cuts = h.cuts;
           })
@@ -204,7 +202,7 @@ module _ (network : Network) (before : List Event) where
       let same : h.link ≡ link = cc in
       (h.channel, (subst (IsLinkOf network h.channel) same h.on, (h.faulty, (h.is_faulty, h.other)))))
       (some_channel (HasOther network before link) (has_other link))
-  other_channel_by event other is = inr (λ h. let both = sym h.what ∙ is in cc)
+  other_channel_by event other is = inr (λ h. cc)
 
   pub other_channel : (event : Event) → IsDecided (CutsOtherChannel network before event)
   other_channel event = other_channel_by event event.what refl
@@ -212,19 +210,20 @@ module _ (network : Network) (before : List Event) where
 -- ---- devices
 
 pub same_device : (a b : DeviceId) → IsDecided (a ≡ b)
-same_device a b = decided_by (λ e. ap (λ (n : ℕ). let d : DeviceId = record { 0 = n } in d) e) (λ e. ap (λ (d : DeviceId). d.0) e) (decided_same a.0 b.0)
+same_device a b = decided_by (λ e. rw e) (λ e. rw e) (decided_same a.0 b.0)
 
 breaks_by : (device : DeviceId) (event : Event) (what : What) → event.what ≡ what → IsDecided (Breaks device event)
-breaks_by device event (Break other) is = decided_by (λ e. is ∙ ap (λ (d : DeviceId). Break d) e) (λ h. let both = sym h ∙ is in cc) (same_device other device)
-breaks_by device event other is = inr (λ h. let both = sym h ∙ is in cc)
+breaks_by device event (Break other) is = decided_by (λ e. is ∙ ap (λ d. Break d) e) (λ h. cc)
+    (same_device other device)
+breaks_by device event other is = inr (λ h. cc)
 
 breaks_some_by : (event : Event) (what : What) → event.what ≡ what → IsDecided ((device : DeviceId) × Breaks device event)
 breaks_some_by event (Break device) is = inl (device, is)
-breaks_some_by event other is = inr (λ h. let both = sym h.1 ∙ is in cc)
+breaks_some_by event other is = inr (λ h. cc)
 
 turns_on_by : (device : DeviceId) (event : Event) (what : What) → event.what ≡ what → IsDecided (TurnsOn device event)
-turns_on_by device event (On other) is = decided_by (λ e. is ∙ ap (λ (d : DeviceId). On d) e) (λ h. let both = sym h ∙ is in cc) (same_device other device)
-turns_on_by device event other is = inr (λ h. let both = sym h ∙ is in cc)
+turns_on_by device event (On other) is = decided_by (λ e. is ∙ ap (λ d. On d) e) (λ h. cc) (same_device other device)
+turns_on_by device event other is = inr (λ h. cc)
 
 pub is_broken : (events : List Event) (device : DeviceId) → IsDecided (IsBroken events device)
 is_broken events device = decided_any (Breaks device) (λ e. breaks_by device e e.what refl) events
@@ -250,9 +249,9 @@ IsNoMaster network device = IsSomeAnd (device_at network device) (λ d. is_maste
 no_master_by : (network : Network) (event : Event) (what : What) → event.what ≡ what → IsDecided (BreaksNoMaster network event)
 no_master_by network event (Break device) is = decided_by
     (λ fails. record { device = device; breaks = is; no_master = fails })
-    (λ h. let both = sym h.breaks ∙ is in let same : h.device ≡ device = cc in subst (IsNoMaster network) same h.no_master)
+    (λ h. let same : h.device ≡ device = cc in subst (IsNoMaster network) same h.no_master)
     (decided_not (decided_some (device_at network device) (λ d. is_master d.role ≡ true) (λ d. decided_true (is_master d.role))))
-no_master_by network event other is = inr (λ h. let both = sym h.breaks ∙ is in cc)
+no_master_by network event other is = inr (λ h. cc)
 
 pub no_master : (network : Network) (event : Event) → IsDecided (BreaksNoMaster network event)
 no_master network event = no_master_by network event event.what refl
@@ -279,7 +278,7 @@ module _ (network : Network) (before : List Event) (event : Event) where
       (λ h. let both = sym h.what ∙ is in let same : h.link ≡ link = cc in subst (IsUnbroken network before) same
       h.unbroken)
       (decided_not (decided_some (link_at network link) (λ l. IsBroken before l.child) (λ l. is_broken before l.child)))
-  sends_unbroken_by other is = inr (λ h. let both = sym h.what ∙ is in cc)
+  sends_unbroken_by other is = inr (λ h. cc)
 
   pub sends_unbroken : IsDecided (SendsUnbroken network before event)
   sends_unbroken = sends_unbroken_by event.what refl
@@ -293,7 +292,7 @@ module _ (network : Network) (before : List Event) (event : Event) where
       (λ h. let both = sym h.what ∙ is in let same : h.device ≡ device = cc in subst (IsKnown network before) same
       h.known)
       (decided_or (begins_on network device) (decided_or (is_turned_on before device) (is_broken before device)))
-  turns_on_again_by other is = inr (λ h. let both = sym h.what ∙ is in cc)
+  turns_on_again_by other is = inr (λ h. cc)
 
   pub turns_on_again : IsDecided (TurnsOnAgain network before event)
   turns_on_again = turns_on_again_by event.what refl

@@ -79,7 +79,7 @@ module _ (network : Network) (before : List Event) (event : Event) where
               | inl same ↦
                   elim (violates network before event (condition_of n)) [
                     | inl broken ↦ inr
-                        (condition_of n, record { violates = broken; first = λ c lower. keeps c (subst (λ m. condition_number c < m) same lower) })
+                        (condition_of n, record { violates = broken; first = λ c lower. keeps c (rw same at lower) })
                     | inr kept ↦ inl (keeps_next n keeps (λ same broken. kept broken))
                   ]
             ]

@@ -33,7 +33,7 @@ pub decided_same : (a b : ℕ) → IsDecided (a ≡ b)
 decided_same a b = cases_eq a b
 
 pub decided_less_int : (a b : ℤ) → IsDecided (a <ℤ b)
-decided_less_int a b = by_lt_z {P = IsDecided (a <ℤ b)} a b (λ lt. inl lt) (λ ge. inr (λ lt. clash_ℤ lt ge))
+decided_less_int a b = by_lt_z a b (λ lt. inl lt) (λ ge. inr (λ lt. clash_ℤ lt ge))
 
 pub decided_true : (b : Bool) → IsDecided (b ≡ true)
 decided_true true = inl refl

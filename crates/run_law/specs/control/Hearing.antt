@@ -1,6 +1,6 @@
 -- How a device hears a compressed frame.
 pub use Rattle.sync_state.specs.Integration.{last_cycle}
-use Rattle.std.specs.Prelude.{if◌then◌else◌, ◌&&◌, ◌+ℤ◌, ◌+◌, ◌-ℤ◌, ◌^◌, Bool, int_le, nat_le, ℕ, ℤ}
+use Rattle.std.specs.Prelude.{if◌then◌else◌, ◌&&◌, ◌+ℤ◌, ◌-ℤ◌, Bool, int_le, nat_le, ℕ, ℤ}
 use Rattle.run_law.specs.declared.judgement.Judgement.{Judgement, TheVariants.{Ignored, Integrates, Outside, Within}}
 use Rattle.sync_state.specs.{Plan.expected_at, membership.Members.count_of}
 use Rattle.{sync_state.specs.declared.plan.SyncPlan.SyncPlan, tte_units.specs.declared.frames.members.Members.Members}

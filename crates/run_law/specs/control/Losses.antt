@@ -1,6 +1,6 @@
 -- How the way of a frame ends: on a cut link, or dropped for a reason.
 use Rattle.std.specs.Prelude.{◌≡◌, ◌⊎◌, List, Some, false, slice_get, true, ℕ}
-use Rattle.net_plan.specs.declared.{event.{Event.Event, What.TheVariants.Send}, ids.{DeviceId.DeviceId, LinkId.LinkId}}
+use Rattle.net_plan.specs.declared.{event.{What.TheVariants.Send}, ids.{DeviceId.DeviceId, LinkId.LinkId}}
 use Rattle.net_plan.specs.declared.{ids.VlId.VlId, tables.{Link.Link, Way.TheVariants.Up}}
 use Rattle.tte_units.specs.declared.units.Units.{Units}
 use Rattle.run_law.specs.control.{Leaving.{Departs, on_cut_way, too_old}, Permanence.BecomesPermanent}

@@ -1,7 +1,7 @@
 -- What changes the state of a device.
 use Rattle.std.specs.Prelude.{◌≡◌, List, false, true, ℕ}
-use Rattle.net_plan.specs.declared.{event.{Event.Event, What.TheVariants.On}, ids.DeviceId.DeviceId}
-use Rattle.sync_state.specs.declared.answers.Verdict.TheVariants.{AsyncClique, Corrected, SyncClique}
+use Rattle.net_plan.specs.declared.{event.{What.TheVariants.On}, ids.DeviceId.DeviceId}
+use Rattle.sync_state.specs.declared.answers.Verdict.TheVariants.{AsyncClique, SyncClique}
 use Rattle.sync_state.specs.declared.state.State.{State, TheVariants.{Integrating, Joining, Synchronised}}
 use Rattle.tte_units.specs.declared.units.Units.{Units}
 use Rattle.run_law.specs.{control.Corrections.ComesToCorrection, declared.judgement.Why.Why}

@@ -2,4 +2,4 @@ use Rattle.{drift_clock.specs.{RateSteps.up_to, Steady.steady_reading}, std.proo
 use Rattle.drift_clock.proofs.laws.steady_law.Goals as goal
 
 pub returns : goal.returns
-returns c = λ grain steps t. ap (λ g. steady_reading g t) (fold_stays _ grain (λ s. refl) (up_to t steps))
+returns c = λ grain steps t. rw (fold_stays _ grain (λ s. refl) (up_to t steps))

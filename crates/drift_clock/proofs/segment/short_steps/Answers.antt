@@ -8,11 +8,11 @@ overflow_sub-result c =
     let more = c.shifted_lack-more.result in
     let near = gain_near c.args.rate.0 1000000 c.requires.slow (omega arith) in
     let low = near.0 in
-    let some : 0 < each = omega (arith, low, c.gain_of-each.ensures) in
+    let some : 0 < each = omega (arith, c.gain_of-each.ensures) in
     let y = 1000000000 * c.args.missing - c.args.part in
     let whole = shifted_ceiling more y each c.args.missing 4500000000 c.div_ceil.result some c.div_ceil.ensures
     (omega (arith, c.shifted_lack-more.ensures, c.requires.some)) in
-    omega (arith, whole)
+    omega arith
 
 pub returns : goal.returns
 returns c =
@@ -20,9 +20,9 @@ returns c =
     let more = c.shifted_lack-more.result in
     let near = gain_near c.args.rate.0 1000000 c.requires.slow (omega arith) in
     let low = near.0 in
-    let some : 0 < each = omega (arith, low, c.gain_of-each.ensures) in
+    let some : 0 < each = omega (arith, c.gain_of-each.ensures) in
     let y = 1000000000 * c.args.missing - c.args.part in
     let whole = shifted_ceiling more y each c.args.missing 4500000000 c.div_ceil.result some c.div_ceil.ensures
     (omega (arith, c.shifted_lack-more.ensures, c.requires.some)) in
-    let steps : c.args.missing + c.div_ceil.result - 4500000000 ≡ div_ceil y each = omega (arith, whole) in
+    let steps : c.args.missing + c.div_ceil.result - 4500000000 ≡ div_ceil y each = omega arith in
     steps ∙ ap (div_ceil y) c.gain_of-each.ensures

@@ -4,19 +4,19 @@ use Rattle.drift_clock.proofs.segment.SegmentClockClock.rate.Goals as goal
 
 grows : (c : Segment) (t : ℕ) → c.count ≤ 1001000000 * c.at → c.at ≤ t → gain c.rate ≤ 1001000000 → segment_count c t ≤ 1001000000 * t
 grows c t bound le fast =
-    let part : gain c.rate * (t - c.at) ≤ 1001000000 * (t - c.at) = mul-le-mul_right (t - c.at) fast in
+    let part = mul-le-mul_right (t - c.at) fast in
     omega arith
 
 pub invariant_of-self : goal.invariant_of-self
 invariant_of-self c =
     let i = c.self.inside in
     let s : Segment = record { grain = i.grain; at = i.at; count = counted i.whole i.part; rate = i.rate.0 } in
-    let is : s ≡ c.args.self.now = c.self.view_is in
+    let is = c.self.view_is in
     let t = c.amount-t.result in
-    let after : i.at ≤ t = omega (arith, ints, ap (λ (x : Segment). x.at) is, c.requires.stepped, c.amount-t.ensures.whole) in
+    let after : i.at ≤ t = omega (arith, ints, ap (λ x. x.at) is, c.requires.stepped, c.amount-t.ensures.whole) in
     let fast = gain_near i.rate.0 1000000 c.self.invariant.0.slow (omega arith) in
     let k = c.count_at-count.result in
-    let count : counted k.whole k.part ≡ segment_count s t = c.count_at-count.ensures.count ∙ ap (λ (x : Segment). segment_count x t) (sym is) in (
+    let count = c.count_at-count.ensures.count ∙ ap (λ x. segment_count x t) (sym is) in (
       record {
         some_grain = c.self.invariant.0.some_grain;
         fine = c.self.invariant.0.fine;

@@ -4,12 +4,12 @@ use Rattle.drift_clock.proofs.steady.SteadyClockClock.reach.Goals as goal
 
 pub returns : goal.returns
 returns c =
-    let grain : ℕ = c.args.self.now in
-    let t : ℕ = unsigned_abs c.args.from.0 in
-    let n : ℕ = c.amount.result in
-    let m : ℕ = c.next_multiple_of.result in
-    let is : c.self.inside.grain ≡ grain = c.self.view_is in
-    let some : 1 ≤ grain = omega (arith, is, c.self.invariant.0) in
+    let grain = c.args.self.now in
+    let t = unsigned_abs c.args.from.0 in
+    let n = c.amount.result in
+    let m = c.next_multiple_of.result in
+    let is = c.self.view_is in
+    let some : 1 ≤ grain = omega (arith, c.self.invariant.0) in
     let short : grain * (t / grain) < n = omega (arith, ints, c.read.ensures, c.if-v-read.false, c.amount.ensures.whole) in
     let whole : m % grain ≡ 0 = rw is at c.next_multiple_of.ensures.multiple in
     let least : m < n + grain = rw is at c.next_multiple_of.ensures.upper_bound in
