@@ -2,7 +2,7 @@
 use Rattle.{audit_law.specs.collections.{Kept.{History, cluster_kept}, Steps.Grows}, compression.specs.Collection.{joined, joined_end, opening}}
 use Rattle.{audit_law.specs.declared.collections.kept.KeptCluster.KeptCluster, std.proofs.lemmas.List.{append-nil, drop-append-le, length-append, length-drop}}
 use Rattle.{compression.specs.Clusters.{Cluster, point_at}, std.proofs.Math.Pow.pow-lt, tte_units.proofs.general_lemmas.Lists.drop-front}
-use Rattle.std.proofs.Common.{◌%◌, ◌*◌, ◌++◌, ◌+ℤ◌, ◌+◌, ◌<◌, ◌^◌, ◌∷◌, ◌≡◌, ◌≤◌, List, [], ap, arith, drop, length, refl, suc, sym, take, zero, ℕ, ℤ}
+use Rattle.std.proofs.Common.{◌%◌, ◌*◌, ◌++◌, ◌+ℤ◌, ◌+◌, ◌<◌, ◌^◌, ◌∷◌, ◌≡◌, ◌≤◌, List, [], arith, drop, length, refl, suc, sym, take, zero, ℕ, ℤ}
 use Rattle.std.specs.Prelude.{bit_or}
 
 pub grows-none : (h : History) → Grows h h
@@ -16,17 +16,17 @@ grows-none h = record {
 }
 
 pub push-same : {xs ys : List KeptCluster} → xs ≡ ys → (k : KeptCluster) → xs ++ k ∷ [] ≡ ys ++ k ∷ []
-push-same e k = ap (λ (ks : List KeptCluster). ks ++ k ∷ []) e
+push-same e k = rw e
 
 -- a bit of 64
 pub shift : (m : ℕ) → m < 64 → 1 * 2 ^ m % 18446744073709551616 ≡ 2 ^ m
-shift m few = let small : 2 ^ m < 18446744073709551616 = pow-lt few in omega (arith, small)
+shift m few = let small = pow-lt few in omega arith
 
 take-all : {X : Type 0} (n : ℕ) (xs : List X) → length xs ≤ n → take n xs ≡ xs
 take-all zero [] le = refl
-take-all zero (x ∷ xs) le = absurd (omega (arith, le))
+take-all zero (x ∷ xs) le = absurd (omega arith)
 take-all (suc n) [] le = refl
-take-all (suc n) (x ∷ xs) le = ap (λ (ys : List _). x ∷ ys) (take-all n xs (omega (arith, le)))
+take-all (suc n) (x ∷ xs) le = rw (take-all n xs (omega arith))
 
 -- the points up to the last, with one more
 points-joined : (counted : List ℤ) (from count : ℕ) (reading : ℤ) → from + count ≡ length counted

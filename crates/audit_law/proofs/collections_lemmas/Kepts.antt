@@ -19,13 +19,13 @@ module _ (counted : List ℤ) (front : List KeptCluster) (last : KeptCluster) (p
   pub role-within : p.reading ≤ℤ last.end → role (map (cluster_kept counted) (front ++ last ∷ [])) p
       ≡ role_in (Some (cluster_kept counted last)) p
   role-within within =
-      ap (λ o. role_in o p) (open_at-in (map (cluster_kept counted) (front ++ last ∷ [])) (cluster_kept counted last)
+      rw (open_at-in (map (cluster_kept counted) (front ++ last ∷ [])) (cluster_kept counted last)
       p.reading
       (last_or-map (cluster_kept counted) None front last) within)
 
   pub role-beyond : last.end <ℤ p.reading → role (map (cluster_kept counted) (front ++ last ∷ [])) p ≡ Opened
   role-beyond past =
-      ap (λ o. role_in o p) (open_at-beyond (map (cluster_kept counted) (front ++ last ∷ []))
+      rw (open_at-beyond (map (cluster_kept counted) (front ++ last ∷ []))
       (cluster_kept counted last) p.reading
       (last_or-map (cluster_kept counted) None front last) past)
 
@@ -53,7 +53,7 @@ module _ (counted : List ℤ) (k : KeptCluster) where
 -- what is emitted, by its parts
 pub emitted-is : (ow calc : ℤ) (c : Cluster) (opened at : ℤ) → opened ≡ c.opened → at ≡ emission ow calc c
     → emitted_by opened at c.cycle c.members ≡ emitted ow calc c
-emitted-is ow calc c opened at start is = ap (λ o. emitted_by o at c.cycle c.members) start ∙ ap (λ a. emitted_by c.opened a c.cycle c.members) is
+emitted-is ow calc c opened at start is = rw start (ap (λ a. emitted_by c.opened a c.cycle c.members) is)
 
 -- the emission at a place
 pub emission-at : (h : History) (ks : List KeptCluster) (place : ℕ) (k : KeptCluster) → slice_get ks place ≡ Some k
@@ -73,9 +73,9 @@ pub all-emissions : (h : History) (P : Emitted → Type 0) (ks : List KeptCluste
     → All P (map (emitted h.ow h.calc) (map (cluster_kept h.counted) ks))
 all-emissions h P ks each =
     All-from_recursion P (map (emitted h.ow h.calc) (map (cluster_kept h.counted) ks))
-    (over ks (each-from (λ (k : KeptCluster). P (emitted h.ow h.calc (cluster_kept h.counted k))) ks each))
+    (over ks (each-from (λ k. P (emitted h.ow h.calc (cluster_kept h.counted k))) ks each))
   where
-    over : (ks : List KeptCluster) → AllByRecursion (λ (k : KeptCluster). P (emitted h.ow h.calc (cluster_kept h.counted k))) ks
+    over : (ks : List KeptCluster) → AllByRecursion (λ k. P (emitted h.ow h.calc (cluster_kept h.counted k))) ks
         → AllByRecursion P (map (emitted h.ow h.calc) (map (cluster_kept h.counted) ks))
     over [] all = tt
     over (k ∷ ks) all = (all.0, over ks all.1)

@@ -3,12 +3,12 @@ use Rattle.audit_law.{proofs.collections_lemmas.{Kepts.all-emissions, Spaced.{ri
 use Rattle.{audit_law.specs.collections.{Gathered.{HasRow, IsGathered}, Rising.{IsPlaceFor, IsRising}}, tte_units.proofs.general_lemmas.Lists.got_within}
 use Rattle.audit_law.specs.{collections.Kept.{History, cluster_kept, emitted, kept_in}, declared.collections.gathering.{Gathering.Gathering, Row.Row}}
 use Rattle.{audit_law.specs.declared.collections.kept.KeptCluster.KeptCluster, std.proofs.lemmas.{Int.ints, List.{length-append, length-drop, length-take-le}}}
-use Rattle.{compression.specs.Clusters.AreClusters, std.{proofs.{Common.{ℕ, ℤ}, lemmas.Bool.{cases_eq, cases_lt}}, specs.Prelude.{All, slice_get}}}
-use Rattle.std.proofs.Common.{◌+◌, ◌<ℤ◌, ◌<◌, ◌∙◌, ◌∷◌, ◌≡◌, ◌≤ℤ◌, ◌≤◌, List, Option, Some, [], ap, arith, drop, inl, inr, length, map, pos, subst, sym, take}
+use Rattle.{std.{proofs.{Common.{ℕ, ℤ}, lemmas.Bool.{cases_eq, cases_lt}}, specs.Prelude.{All, slice_get}}}
+use Rattle.std.proofs.Common.{◌+◌, ◌<ℤ◌, ◌<◌, ◌∙◌, ◌∷◌, ◌≡◌, ◌≤ℤ◌, ◌≤◌, List, Option, Some, [], ap, arith, drop, inl, inr, length, map, pos, sym, take}
 
 same_at : (ks : List KeptCluster) (i j : ℕ) (k d : KeptCluster) → i ≡ j → slice_get ks i ≡ Some k → slice_get ks j ≡ Some d → k ≡ d
 same_at ks i j k d e at there =
-    let both : Some k ≡ Some d = sym at ∙ ap (slice_get ks) e ∙ there in
+    let both = sym at ∙ ap (slice_get ks) e ∙ there in
     cc
 
 -- so many clusters a row has
@@ -22,7 +22,7 @@ pub gathered-rising : {h : History} {g : Gathering} (row : Row) → pos 0 ≤ℤ
     → IsRising (kept_in h (Some row))
 gathered-rising {h} row some is e =
     rising h.counted (kept_in h (Some row)) (spaced h.ow is.0 (map (cluster_kept h.counted) (kept_in h (Some row))) some
-    (subst (λ r. AreClusters h.ow is.0 (map (cluster_kept h.counted) (kept_in h r))) e is.1.are))
+    (rw e at is.1.are))
 
 -- the emissions of clusters, none of which opened there
 pub none-opened : (h : History) (ks : List KeptCluster) (opened : ℤ) (result : Option Emitted)
@@ -35,7 +35,7 @@ pub none-behind : {ks : List KeptCluster} {opened : ℤ} {place : ℕ} → IsPla
     → (i : ℕ) (k : KeptCluster) → slice_get ks i ≡ Some k → k.opened ≡ opened → ⊥
 none-behind {ks} is past i k at same =
     let before = is.before i k (omega (arith, past, got_within ks i k at)) at in
-    omega (arith, ints, before, same)
+    omega (arith, ints)
 
 -- where another opens at the place
 pub none-beside : {ks : List KeptCluster} {opened : ℤ} {place : ℕ} (d : KeptCluster) → IsRising ks
@@ -43,14 +43,14 @@ pub none-beside : {ks : List KeptCluster} {opened : ℤ} {place : ℕ} (d : Kept
     → slice_get ks i ≡ Some k → k.opened ≡ opened → ⊥
 none-beside {ks} {opened} {place} d up is there other i k at same =
     elim (cases_lt i place) [
-      | inl less ↦ let before = is.before i k less at in omega (arith, ints, before, same)
+      | inl less ↦ let before = is.before i k less at in omega (arith, ints)
       | inr more ↦
           elim (cases_eq i place) [
-            | inl e ↦ let both : k ≡ d = same_at ks i place k d e at there in other (subst (λ (x : KeptCluster). x.opened ≡ opened) both same)
+            | inl e ↦ let both = same_at ks i place k d e at there in other (rw both at same)
             | inr apart ↦
                 let least = is.others place d (omega arith) there in
                 let above = up place i d k (omega (arith, more, apart)) there at in
-                omega (arith, ints, least, above, same)
+                omega (arith, ints)
           ]
     ]
 
@@ -66,13 +66,13 @@ only-there h {ks} {opened} {place} d up is there opens =
         → Some (emitted h.ow h.calc (cluster_kept h.counted d)) ≡ Some (emitted h.ow h.calc (cluster_kept h.counted k))
     each i k at same =
         elim (cases_eq i place) [
-          | inl e ↦ ap (λ x. Some (emitted h.ow h.calc (cluster_kept h.counted x))) (sym (same_at ks i place k d e at there))
+          | inl e ↦ rw (sym (same_at ks i place k d e at there))
           | inr apart ↦
               elim (cases_lt i place) [
-                | inl less ↦ let before = is.before i k less at in absurd (omega (arith, ints, before, same))
+                | inl less ↦ let before = is.before i k less at in absurd (omega (arith, ints))
                 | inr more ↦
                     let above = up place i d k (omega (arith, more, apart)) there at in
-                    absurd (omega (arith, ints, above, same, opens))
+                    absurd (omega (arith, ints))
               ]
         ]
 
@@ -83,8 +83,8 @@ module _ (ks : List KeptCluster) (opened : ℤ) (m : ℕ) (d : KeptCluster) (up 
       → c.opened <ℤ opened
   before-step less k c inside at =
       elim (cases_eq k m) [
-        | inl e ↦ subst (λ (x : KeptCluster). x.opened <ℤ opened) (sym (same_at ks k m c d e at there)) less
-        | inr apart ↦ let above = up k m c d (omega (arith, inside, apart)) at there in omega (arith, ints, above, less)
+        | inl e ↦ rw (same_at ks k m c d e at there) less
+        | inr apart ↦ let above = up k m c d (omega arith) at there in omega (arith, ints)
       ]
 
   -- and those from one on that does not do so neither
@@ -92,7 +92,7 @@ module _ (ks : List KeptCluster) (opened : ℤ) (m : ℕ) (d : KeptCluster) (up 
       → opened ≤ℤ c.opened
   others-step least k c inside at =
       elim (cases_eq k m) [
-        | inl e ↦ subst (λ (x : KeptCluster). opened ≤ℤ x.opened) (sym (same_at ks k m c d e at there)) least
+        | inl e ↦ rw (same_at ks k m c d e at there) least
         | inr apart ↦ let above = up m k d c (omega (arith, inside, apart)) there at in
-            omega (arith, ints, above, least)
+            omega (arith, ints)
       ]

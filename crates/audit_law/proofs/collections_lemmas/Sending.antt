@@ -2,7 +2,7 @@
 use Rattle.{audit_law.specs.collections.Gathered.Sends, compression.specs.declared.compressed.Compressed.Compressed, std.specs.Prelude.{All, Contains}}
 use Rattle.audit_law.specs.{collections.Kept.{History, as_emitted, clusters_in, emissions_in, emitted}, declared.collections.gathering.Gathering.Gathering}
 use Rattle.{audit_law.specs.declared.collections.emitted.Emitted.Emitted, compression.proofs.Elements.{in_cases, in_head, in_none, in_tail}}
-use Rattle.std.proofs.{Common.{◌∙◌, ◌∷◌, ◌≡◌, List, None, Option, Some, [], ap, inl, inr, map, subst, sym}, lemmas.List.Elements.All-contains}
+use Rattle.std.proofs.{Common.{◌∙◌, ◌∷◌, ◌≡◌, List, None, Option, Some, [], ap, inl, inr, map, sym}, lemmas.List.Elements.All-contains}
 
 pub in_map : {X Y : Type 0} (f : X → Y) (xs : List X) (y : Y) → Contains (map f xs) y → (x : X) × Contains xs x × (f x ≡ y)
 in_map f [] y at = absurd (in_none y at)
@@ -16,7 +16,7 @@ map_in : {X Y : Type 0} (f : X → Y) (xs : List X) (x : X) → Contains xs x �
 map_in f [] x at = absurd (in_none x at)
 map_in f (z ∷ zs) x at =
     elim (in_cases z x zs at) [
-      | inl e ↦ subst (λ (w : _). Contains (f z ∷ map f zs) (f w)) e (in_head (f z) (map f zs))
+      | inl e ↦ rw (sym e) (in_head (f z) (map f zs))
       | inr here ↦ in_tail (f z) (f x) (map f zs) (map_in f zs x here)
     ]
 
@@ -35,8 +35,8 @@ pub sends-found : (h : History) (g : Gathering) (sent : Compressed) (result : Op
 sends-found h g sent result all (c, there, is) =
     let same : emitted h.ow h.calc c ≡ as_emitted sent = ap as_emitted (sym is) in
     let at = map_in (emitted h.ow h.calc) (clusters_in h g) c there in
-    All-contains (λ (e : Emitted). e.opened ≡ sent.opened.0
-    → result ≡ Some e) (emissions_in h g) (emitted h.ow h.calc c) all at (ap (λ (e : Emitted). e.opened) same)
+    All-contains (λ e. e.opened ≡ sent.opened.0
+    → result ≡ Some e) (emissions_in h g) (emitted h.ow h.calc c) all at (ap (λ e. e.opened) same)
     ∙ ap Some same
 
 pub some_is : (d e : Emitted) → Some d ≡ Some e → d ≡ e

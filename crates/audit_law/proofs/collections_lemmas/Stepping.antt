@@ -1,6 +1,6 @@
 -- What a point does to the clusters that a gathering stands for.
 use Rattle.audit_law.proofs.collections_lemmas.{Growing.{all-kept, clusters-same, has-ends}, Spaced.{at-last, before-last, ends-most, opened-most, spaced}}
-use Rattle.audit_law.specs.collections.{Gathered.{EndsWith, Gathers, HasRow, IsHeld}, Kept.{History, IsCounted, cluster_kept, clusters_in, kept_in}}
+use Rattle.audit_law.specs.collections.{Gathered.{EndsWith, Gathers, IsHeld}, Kept.{History, IsCounted, cluster_kept, clusters_in, kept_in}}
 use Rattle.{audit_law.specs.collections.Steps.{Grows, Joins, Opens}, compression.{proofs.Standing.ended_later, specs.Clusters.{AreClusters, Cluster, Point}}}
 use Rattle.audit_law.specs.declared.collections.{gathering.{Gathering.Gathering, Row.Row}, kept.KeptCluster.KeptCluster}
 use Rattle.compression.proofs.{Growth.{AreClusters-opened, AreClusters-within, Grows as Takes}, Taking.{role_in-ignored, role_in-joined, role_in-opened}}
@@ -22,7 +22,7 @@ all-add r (k ∷ ks) c all past = (all.0, all-add r ks c all.1 past)
 before : (ow : ℤ) (ps : List Point) (front : List Cluster) (c : Cluster) (r : ℤ) → pos 0 ≤ℤ ow → AreClusters ow ps (front ++ c ∷ []) → AreBefore ps r
     → AllByRecursion (λ k. k.end <ℤ r) front × (c.opened ≤ℤ r)
 before ow ps front c r some are past =
-    let opened : c.opened ≤ℤ r = at-last (λ (k : Cluster). k.opened ≤ℤ r) front c (opened-most ow r ps (front ++ c ∷ []) some are past) in
+    let opened = at-last (λ k. k.opened ≤ℤ r) front c (opened-most ow r ps (front ++ c ∷ []) some are past) in
     (ended_later c.opened r front opened (before-last front c (spaced ow ps (front ++ c ∷ []) some are)), opened)
 
 -- where none is open at a reading, all have ended
@@ -41,7 +41,7 @@ ended ow ps cs r some are past none =
           | inl over ↦
               let split = last_split cs c l in
               let front = before ow ps split.0 c r some (subst (AreClusters ow ps) split.1 are) past in
-              let end : c.end <ℤ r = grind (arith, ints, over) in
+              let end : c.end <ℤ r = grind (arith, ints) in
               subst (AllByRecursion (λ k. k.end <ℤ r)) (sym split.1) (all-add r split.0 c front.0 end)
           | inr here ↦ absurd (none_is_some c (rw (l, here) at none))
         ]
@@ -70,13 +70,13 @@ are-joined ow ps front c p some are past is =
     let cs = front ++ c ∷ [] in
     let j = role_in-joined (open_at cs p.reading) p (sym is) in
     let at = open_at-some cs p.reading j.c j.is in
-    let last : Some j.c ≡ Some c = sym at.0 ∙ last_pushed None front c in
+    let last = sym at.0 ∙ last_pushed None front c in
     let same : j.c ≡ c = cc in
-    let most = at-last (λ (k : Cluster). k.end ≤ℤ (k.opened +ℤ (pos 2 *ℤ ow))) front c (ends-most ow ps cs some are) in
-    let cycle : p.cycle ≡ c.cycle = subst (λ (k : Cluster). p.cycle ≡ k.cycle) same j.same in
-    let new : has_point_of c p.master ≡ false = subst (λ k. has_point_of k p.master ≡ false) same j.new in
-    within {ow = ow} ps front {c = c} {d = joined ow c p.reading p.master} {p = p} some are past
-    (subst (λ (k : Cluster). p.reading ≤ℤ k.end) same at.1)
+    let most = at-last (λ k. k.end ≤ℤ (k.opened +ℤ (pos 2 *ℤ ow))) front c (ends-most ow ps cs some are) in
+    let cycle : p.cycle ≡ c.cycle = rw same at j.same in
+    let new : has_point_of c p.master ≡ false = rw same at j.new in
+    within ps front some are past
+    (rw same at at.1)
     (longer-joined ow c p.reading most)
     (record { other = λ other. absurd (other cycle); repeat = λ _ old. absurd (true_is_false (sym old ∙ new)); joins = λ _ _. refl })
 
@@ -102,28 +102,27 @@ all-front P (y ∷ ys) x all = (all.0, all-front P ys x all.1)
 map-grown : {old new : History} (ks : List KeptCluster) → Grows old new → AllByRecursion (IsCounted old.counted) ks
     → map (cluster_kept new.counted) ks ≡ map (cluster_kept old.counted) ks
 map-grown {old} ks grows all =
-    ap (λ xs. map (cluster_kept xs) ks) grows.counted ∙ clusters-same old.counted grows.later_points ks all
+    rw grows.counted (clusters-same old.counted grows.later_points ks all)
 
 held-by : {h : History} (g : Gathering) {row : Row} → g.row ≡ Some row → EndsWith h row → IsHeld h g
-held-by {h} g is ends = subst (λ (r : Option Row). IfSome r (HasRow h)) (sym is) (has-ends ends)
+held-by {h} g is ends = rw is (has-ends ends)
 
 -- a gathering with a point that opens a cluster
 pub gathers-opened : (old new : History) (g r : Gathering) (p : Point) → pos 0 ≤ℤ old.ow → All (IsCounted old.counted) old.closed → Grows old new
     → Opens old new g p r → Opened ≡ role (clusters_in old g) p → (points : List Point) → Gathers old g points → All (λ q. q.reading ≤ℤ p.reading) points
     → Gathers new r (points ++ p ∷ [])
 gathers-opened old new g r p some all grows opens is points gathers past =
-    let before_is = recursion_from_All (λ (q : Point). q.reading ≤ℤ p.reading) points past in
+    let before_is = recursion_from_All (λ q. q.reading ≤ℤ p.reading) points past in
     let are = are-opened old.ow points (clusters_in old g) p some gathers.are before_is is in
     let front = map-grown (kept_in old g.row) grows (all-kept old g.row all gathers.held) in
     let same : clusters_in new r ≡ clusters_in old g ++ opening old.ow p ∷ [] =
-    ap (λ x. map (cluster_kept new.counted) (kept_in new x)) opens.is ∙ ap (map (cluster_kept new.counted)) opens.kept
+    rw opens.is (ap (map (cluster_kept new.counted)) opens.kept
     ∙ map-append (cluster_kept new.counted) (kept_in old g.row) (opens.row.last ∷ [])
-    ∙ ap (λ (cs : List Cluster). cs ++ cluster_kept new.counted opens.row.last ∷ []) front
-    ∙ ap (λ (c : Cluster). clusters_in old g ++ c ∷ []) opens.cluster in
+    ∙ ap (λ cs. cs ++ cluster_kept new.counted opens.row.last ∷ []) front
+    ∙ ap (λ c. clusters_in old g ++ c ∷ []) opens.cluster) in
     record {
       held = held-by r opens.is opens.ends;
-      are = subst (λ ow. AreClusters ow (points ++ p ∷ []) (clusters_in new r)) (sym grows.ow)
-          (subst (AreClusters old.ow (points ++ p ∷ [])) (sym same) are);
+      are = rw grows.ow (subst (AreClusters old.ow (points ++ p ∷ [])) (sym same) are);
     }
 
 -- one with a point that joins the last cluster
@@ -132,7 +131,7 @@ pub gathers-joined : {old new : History} {g r : Gathering} {was : Row} (p : Poin
     → Joins old new was p.reading p.master r → Joined ≡ role (clusters_in old g) p → {points : List Point}
     → Gathers old g points → All (λ q. q.reading ≤ℤ p.reading) points → Gathers new r (points ++ p ∷ [])
 gathers-joined {old} {new} {g} {r} {was} p some all grows row joins is {points} gathers past =
-    let before_is = recursion_from_All (λ (q : Point). q.reading ≤ℤ p.reading) points past in
+    let before_is = recursion_from_All (λ q. q.reading ≤ℤ p.reading) points past in
     let front = map (cluster_kept old.counted) joins.front in
     let c = cluster_kept old.counted was.last in
     let kept : kept_in old g.row ≡ joins.front ++ was.last ∷ [] = ap (kept_in old) row ∙ joins.were in
@@ -144,14 +143,13 @@ gathers-joined {old} {new} {g} {r} {was} p some all grows row joins is {points} 
     subst (AllByRecursion (IsCounted old.counted)) kept (all-kept old g.row all gathers.held) in
     let front_is = map-grown joins.front grows (all-front (IsCounted old.counted) joins.front was.last counted) in
     let same : clusters_in new r ≡ front ++ joined old.ow c p.reading p.master ∷ [] =
-    ap (λ x. map (cluster_kept new.counted) (kept_in new x)) joins.is ∙ ap (map (cluster_kept new.counted)) joins.are
+    rw joins.is (ap (map (cluster_kept new.counted)) joins.are
     ∙ map-append (cluster_kept new.counted) joins.front (joins.row.last ∷ [])
-    ∙ ap (λ (cs : List Cluster). cs ++ cluster_kept new.counted joins.row.last ∷ []) front_is
-    ∙ ap (λ (d : Cluster). front ++ d ∷ []) joins.cluster in
+    ∙ ap (λ cs. cs ++ cluster_kept new.counted joins.row.last ∷ []) front_is
+    ∙ ap (λ d. front ++ d ∷ []) joins.cluster) in
     record {
       held = held-by r joins.is joins.ends;
-      are = subst (λ ow. AreClusters ow (points ++ p ∷ []) (clusters_in new r)) (sym grows.ow)
-          (subst (AreClusters old.ow (points ++ p ∷ [])) (sym same) are);
+      are = rw grows.ow (subst (AreClusters old.ow (points ++ p ∷ [])) (sym same) are);
     }
 
 -- it has one, where a point joins
@@ -168,7 +166,7 @@ gathers-joins old new g r p some all grows joins is points gathers past =
     by_row None e = absurd (opened_not (is ∙ ap (λ y. role (map (cluster_kept old.counted) (kept_in old y)) p) e))
     by_row (Some was) e =
         gathers-joined p some all grows e
-        (subst (λ (y : Option Row). IfSome y (λ (w : Row). Joins old new w p.reading p.master r)) e joins) is gathers
+        (rw e at joins) is gathers
         past
 
 -- one with a point that does not count

@@ -4,7 +4,7 @@ use Rattle.{std.proofs.lemmas.Int.{ints, to_z-of_z}, tte_units.specs.Mean.mean_o
 
 -- sums of a few small numbers fit
 pub fits_wide : (z : ℤ) → neg_ℤ (pos (2 ^ 100)) ≤ℤ z → z ≤ℤ pos (2 ^ 100) → FitsSigned w128 z
-fits_wide z low high = grind (arith, ints, low, high)
+fits_wide z low high = grind (arith, ints)
 
 pub fits_small : {z : ℤ} → IsSmall z → FitsSigned w128 z
 fits_small is = grind (arith, ints, is.low, is.high)

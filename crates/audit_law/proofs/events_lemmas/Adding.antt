@@ -4,13 +4,13 @@ use Rattle.audit_law.proofs.events_lemmas.Keeping.{AreDevicesTold, AreWaysTold, 
 use Rattle.audit_law.proofs.events_lemmas.{Keeping.{remembers_more, steps_more, turned_first, turned_stays, way_stays, ways_set}, Valuing.{set_more, set_stays}}
 use Rattle.{audit_law.specs.declared.events.history.DeviceHistory.DeviceHistory, run_law.specs.scenario.Ways.{cut_set, hold_set, is_way_of, wire_of, wire_set}}
 use Rattle.audit_law.specs.{declared.events.history.{EventHistory.EventHistory, WayHistory.WayHistory}, events.Remembering.{MayBefall, Remembers, way_place}}
-use Rattle.{audit_law.specs.declared.events.settings.{Setting.Setting, Settings.Settings}, run_law.specs.scenario.Rates.{rate_steps, step_by}, std.specs.List.All}
+use Rattle.{audit_law.specs.declared.events.settings.{Settings.Settings}, run_law.specs.scenario.Rates.{rate_steps, step_by}, std.specs.List.All}
 use Rattle.{audit_law.specs.events.Clocks.clocks_after, net_plan.specs.declared.{ids.LinkId.LinkId, tables.Way.Way}, tte_units.specs.declared.units.Units.Units}
 use Rattle.{audit_law.specs.events.Settings.{IsSetBy, change_to, value_at}, run_law.specs.scenario.Hypothesis.{IsWithinHypothesis, breaks_at}}
 use Rattle.{drift_clock.specs.{RateSteps.RateStep, Readings.value_after}, std.specs.Prelude.{slice_get, slice_set}, tte_units.specs.declared.rates.Ppb.Ppb}
 use Rattle.{net_plan.specs.declared.{event.Event.Event, ids.DeviceId.DeviceId, network.Network.Network}, tte_units.proofs.general_lemmas.Naturals.unequal}
 use Rattle.{net_plan.specs.declared.event.What.What, run_law.specs.scenario.Scenarios.turns_on, std.proofs.{Common.{true, ℕ}, lemmas.Bool.{eq-eqb, false≢true}}}
-use Rattle.std.proofs.Common.{◌++◌, ◌==◌, ◌∙◌, ◌∷◌, ◌≡◌, ◌≤ℤ◌, ◌≤◌, Bool, List, None, Option, Some, [], ap, false, if◌then◌else◌, nat_le, pos, refl, subst, sym}
+use Rattle.std.proofs.Common.{◌++◌, ◌==◌, ◌∙◌, ◌∷◌, ◌≡◌, ◌≤ℤ◌, ◌≤◌, Bool, List, None, Option, Some, [], ap, false, if◌then◌else◌, nat_le, pos, refl, sym}
 use Rattle.tte_units.specs.Amount.{amount}
 use Rattle.net_plan.specs.declared.event.What.TheVariants as events
 
@@ -51,9 +51,8 @@ pub delay_set : (network : Network) (all : List Event) (event : Event) (link : L
     → AreWaysTold network (all ++ event ∷ []) (slice_set ways place (record { delay = new; hold = told.hold; cut = told.cut }))
 delay_set network all event link way delay place ways told new are here at what first more =
     let new_way : WayHistory = record { delay = new; hold = told.hold; cut = told.cut } in
-    let h = are link way told (subst (λ p. slice_get ways p ≡ Some told) here at) in
-    subst (λ p. AreWaysTold network (all ++ event ∷ []) (slice_set ways p new_way)) (sym here)
-    (ways_set {network = network} all {behind = all ++ event ∷ []} {link = link} {way = way} ways {new = new_way} are
+    let h = are link way told (rw here at at) in
+    rw here (ways_set all ways are
     (record {
       delay = set_more (wire_set link way) (wire_of network link) all event (amount delay) new
           (ap (wire_set link way) what ∙ set_so (is_way_of link way link way) (amount delay) (own_way link way)) first more h.delay;
@@ -71,9 +70,8 @@ pub hold_set_to : (network : Network) (all : List Event) (event : Event) (link :
     → AreWaysTold network (all ++ event ∷ []) (slice_set ways place (record { delay = told.delay; hold = new; cut = told.cut }))
 hold_set_to network all event link way hold place ways told new are here at what first more =
     let new_way : WayHistory = record { delay = told.delay; hold = new; cut = told.cut } in
-    let h = are link way told (subst (λ p. slice_get ways p ≡ Some told) here at) in
-    subst (λ p. AreWaysTold network (all ++ event ∷ []) (slice_set ways p new_way)) (sym here)
-    (ways_set {network = network} all {behind = all ++ event ∷ []} {link = link} {way = way} ways {new = new_way} are
+    let h = are link way told (rw here at at) in
+    rw here (ways_set all ways are
     (record {
       delay = set_stays (wire_set link way) (wire_of network link) all event (ap (wire_set link way) what) h.delay;
       hold = set_more (hold_set link way) 0 all event (amount hold) new
@@ -122,9 +120,8 @@ pub cut_set_to : (network : Network) (all : List Event) (event : Event) (link : 
     → AreWaysTold network (all ++ event ∷ []) (slice_set ways place (record { delay = told.delay; hold = told.hold; cut = new }))
 cut_set_to network all event link way cut place ways told new are here at what first more =
     let new_way : WayHistory = record { delay = told.delay; hold = told.hold; cut = new } in
-    let h = are link way told (subst (λ p. slice_get ways p ≡ Some told) here at) in
-    subst (λ p. AreWaysTold network (all ++ event ∷ []) (slice_set ways p new_way)) (sym here)
-    (ways_set {network = network} all {behind = all ++ event ∷ []} {link = link} {way = way} ways {new = new_way} are
+    let h = are link way told (rw here at at) in
+    rw here (ways_set all ways are
     (record {
       delay = set_stays (wire_set link way) (wire_of network link) all event
           (ap (wire_set link way) what ∙ no_wire cut link link way way) h.delay;
@@ -150,9 +147,8 @@ pub same_way : (network : Network) (all : List Event) (link : LinkId) (way : Way
     → new.hold.initial ≡ told.hold.initial → new.hold.changes.items ≡ told.hold.changes.items
     → new.cut.initial ≡ told.cut.initial → new.cut.changes.items ≡ told.cut.changes.items → AreWaysTold network all (slice_set ways place new)
 same_way network all link way place ways told new are here at a b c d e f =
-    let h = are link way told (subst (λ p. slice_get ways p ≡ Some told) here at) in
-    subst (λ p. AreWaysTold network all (slice_set ways p new)) (sym here)
-    (ways_set {network = network} all {behind = all} {link = link} {way = way} ways {new = new} are
+    let h = are link way told (rw here at at) in
+    rw here (ways_set all ways are
     (record {
       delay = same_set new.delay a b h.delay;
       hold = same_set new.hold c d h.hold;
@@ -177,13 +173,14 @@ rate_set network all event device rate devices told new are at what past first m
     let step : RateStep = record { at = time; rate = rate.0 } in
     let before = told.clock.changes.items in
     let clock_is : value_at told.clock.initial before time ≡ value_after stepped_segment fresh steps =
-    ap (λ c. value_at c before time) h.fresh ∙ ap (λ l. value_at fresh l time) h.clock
-    ∙ value_last time fresh steps (subst (λ (l : List (Setting Segment)). All (λ c. c.from ≤ time) l) h.clock past) in
-    devices_set {network = network} all {behind = all ++ event ∷ []} {device = device} devices {new = new_device} are
+    rw h.fresh (ap (λ l. value_at fresh l time) h.clock
+    ∙ value_last time fresh steps (rw h.clock at past)) in
+    devices_set all devices are
     (record {
       fresh = first ∙ h.fresh;
       clock = more
-          ∙ ap (λ (l : List (Setting Segment)). l ++ change_to time (stepped_segment (value_at told.clock.initial before time) time rate.0) ∷ []) h.clock
+          ∙ ap (λ l. l ++ change_to time (stepped_segment (value_at told.clock.initial before time) time rate.0) ∷ [])
+              h.clock
           ∙ ap (λ c. clocks_after fresh steps ++ change_to time (stepped_segment c time rate.0) ∷ []) clock_is
           ∙ sym (clocks_more fresh steps step)
           ∙ ap (clocks_after fresh) (sym (steps_more all event device (Some step)
@@ -202,7 +199,7 @@ pub same_device : (network : Network) (all : List Event) (device : DeviceId) (de
     → AreDevicesTold network all (slice_set devices device.0 (record { clock = new; broken = told.broken; turned_on = told.turned_on }))
 same_device network all device devices told new are at first same =
     let h = are device told at in
-    devices_set {network = network} all {behind = all} {device = device} devices {new = record { clock = new; broken = told.broken; turned_on = told.turned_on }} are
+    devices_set all devices {new = record { clock = new; broken = told.broken; turned_on = told.turned_on }} are
     (record { fresh = first ∙ h.fresh; clock = same ∙ h.clock; broken = h.broken; turned_on = h.turned_on })
     (λ d x other h. h)
 
@@ -216,7 +213,7 @@ module _ (network : Network) (all : List Event) (event : Event) (device : Device
       (slice_set devices device.0 (record { clock = told.clock; broken = Some time; turned_on = told.turned_on }))
   break_set what when within =
       let h = are device told at in
-      devices_set {network = network} all {behind = all ++ event ∷ []} {device = device} devices
+      devices_set all devices
       {new = record { clock = told.clock; broken = Some time; turned_on = told.turned_on }} are
       (record {
         fresh = h.fresh;
@@ -233,7 +230,7 @@ module _ (network : Network) (all : List Event) (event : Event) (device : Device
       (slice_set devices device.0 (record { clock = told.clock; broken = told.broken; turned_on = Some time }))
   turn_set what when within =
       let h = are device told at in
-      devices_set {network = network} all {behind = all ++ event ∷ []} {device = device} devices
+      devices_set all devices
       {new = record { clock = told.clock; broken = told.broken; turned_on = Some time }} are
       (record {
         fresh = h.fresh;

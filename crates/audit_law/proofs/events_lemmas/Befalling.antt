@@ -15,8 +15,8 @@ soon {network} before event range within begun = elim (cases_lt (2 ^ 60) (amount
   | inl late ↦
       let low = range.cycle.least in
       let high = range.cycle.most in
-      let cycle : amount network.cycle ≤ 2 ^ 40 = omega (arith, ints, low, high) in
-      absurd (within outside.Late (omega (arith, ints, late, cycle, begun)))
+      let cycle : amount network.cycle ≤ 2 ^ 40 = omega (arith, ints) in
+      absurd (within outside.Late (omega (arith, ints)))
   | inr le ↦ le
 ]
 
@@ -29,7 +29,7 @@ AreEventsFrom rho least (e ∷ es) = (least ≤ amount e.time) × (amount e.time
 
 begun_in : (front : List Event) (e : Event) (rest : List Event) → HaveBegun (front ++ e ∷ rest) → pos 0 ≤ℤ e.time.0
 begun_in [] e rest begun = begun 0 e (omega arith)
-begun_in (x ∷ front) e rest begun = begun_in front e rest (λ k d lt. begun (suc k) d (omega (arith, lt)))
+begun_in (x ∷ front) e rest begun = begun_in front e rest (λ k d lt. begun (suc k) d (omega arith))
 
 begun_at : (all front : List Event) (e : Event) (rest : List Event) → all ≡ front ++ e ∷ rest → HaveBegun all → pos 0 ≤ℤ e.time.0
 begun_at all front e rest same begun = begun_in front e rest (subst HaveBegun same begun)
@@ -77,12 +77,12 @@ steps_from rho least (e ∷ es) device h =
 
 last_later : (rho least : ℕ) (all : List Event) (event : Event) → AreEventsFrom rho least (all ++ event ∷ []) → least ≤ amount event.time
 last_later rho least [] event h = h.0
-last_later rho least (e ∷ es) event h = let behind = last_later rho (amount e.time) es event h.3 in omega (arith, behind, h.0)
+last_later rho least (e ∷ es) event h = let behind = last_later rho (amount e.time) es event h.3 in omega (arith, h.0)
 
 one_more : (rho bound time : ℕ) (o : Option RateStep) (steps : List RateStep) → time ≤ bound → Holds o (IsStepAt rho time) → StepsUpTo bound steps
     → StepsUpTo bound (cons_option o steps)
 one_more rho bound time None steps le here h = h
-one_more rho bound time (Some step) steps le here h = (omega (arith, le, here.at), h)
+one_more rho bound time (Some step) steps le here h = (omega (arith, here.at), h)
 
 pub steps_up_to : (rho least : ℕ) (all : List Event) (event : Event) (device : DeviceId) → AreEventsFrom rho least (all ++ event ∷ [])
     → StepsUpTo (amount event.time) (rate_steps all device)

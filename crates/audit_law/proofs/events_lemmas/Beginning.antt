@@ -5,7 +5,7 @@ use Rattle.{audit_law.specs.declared.events.{history.WayHistory.WayHistory, sett
 use Rattle.{audit_law.specs.events.Settings.IsSetBy, net_plan.specs.{Ranges.IsInRange, declared.event.What.What}, std.specs.{List.All, Option.option_map_or}}
 use Rattle.net_plan.specs.declared.{ids.{DeviceId.DeviceId, LinkId.LinkId}, network.Network.Network, tables.{Link.Link, Way.{TheVariants.{Down, Up}, Way}}}
 use Rattle.{run_law.specs.scenario.Ways.{cut_set, hold_set, wire_set}, std.proofs.lemmas.Option.{get_or_from_slice_get, slice_get_within}}
-use Rattle.std.{proofs.Common.{◌*◌, ◌++◌, ◌+◌, ◌∷◌, ◌≡◌, List, Option, Some, [], ap, arith, length, refl, subst, suc, zero, ℕ}, specs.Prelude.slice_get}
+use Rattle.std.{proofs.Common.{◌*◌, ◌++◌, ◌+◌, ◌∷◌, ◌≡◌, List, Option, Some, [], arith, length, refl, suc, zero, ℕ}, specs.Prelude.slice_get}
 use Rattle.tte_units.specs.Amount.{amount}
 
 -- ---- ways
@@ -25,7 +25,7 @@ ways_counted [] [] h = refl
 ways_counted [] (w ∷ ways) h = absurd h
 ways_counted (l ∷ links) [] h = absurd h
 ways_counted (l ∷ links) (w ∷ []) h = absurd h
-ways_counted (l ∷ links) (w ∷ v ∷ ways) h = let e = ways_counted links ways h.2 in omega (arith, e)
+ways_counted (l ∷ links) (w ∷ v ∷ ways) h = let e = ways_counted links ways h.2 in omega arith
 
 -- the way of a link at its place
 way_there : (links : List Link) (ways : List WayHistory) (n : ℕ) (way : Way) (told : WayHistory) → AreWaysOf links ways
@@ -39,10 +39,10 @@ way_there (l ∷ links) (u ∷ d ∷ ways) zero Up told h at = grind arith
 way_there (l ∷ links) (u ∷ d ∷ ways) zero Down told h at = grind arith
 way_there (l ∷ links) (u ∷ d ∷ ways) (suc n) Up told h at =
     let below : 2 * suc n ≡ suc (suc (2 * n)) = omega arith in
-    way_there links ways n Up told h.2 (subst (λ k. slice_get (u ∷ d ∷ ways) k ≡ Some told) below at)
+    way_there links ways n Up told h.2 (rw below at at)
 way_there (l ∷ links) (u ∷ d ∷ ways) (suc n) Down told h at =
     let below : 2 * suc n + 1 ≡ suc (suc (2 * n + 1)) = omega arith in
-    way_there links ways n Down told h.2 (subst (λ k. slice_get (u ∷ d ∷ ways) k ≡ Some told) below at)
+    way_there links ways n Down told h.2 (rw below at at)
 
 untouched_set : {V : Type 0} (setting : What → Option V) {initial : V} {settings : Settings V}
     → IsUntouched initial settings → IsSetBy setting initial [] settings
@@ -74,7 +74,7 @@ pub remembers_none : {network : Network} (history : EventHistory) → IsInRange 
 remembers_none {network} history range ways count devices = record {
   range = range;
   within = λ before behind event same. absurd (none_before before behind event same);
-  begun = λ k d lt. absurd (omega (arith, lt));
+  begun = λ k d lt. absurd (omega arith);
   ways_count = ways_counted network.link history.ways.items ways;
   ways = untouched_tells network history.ways.items ways;
   devices_count = count;

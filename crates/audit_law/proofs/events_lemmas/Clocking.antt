@@ -13,29 +13,32 @@ StepsFrom rho least (s ∷ steps) = (least ≤ s.at) × (s.at ≤ 2 ^ 60) × (un
 
 pub steps_sooner : (rho least more : ℕ) (steps : List RateStep) → least ≤ more → StepsFrom rho more steps → StepsFrom rho least steps
 steps_sooner rho least more [] le h = tt
-steps_sooner rho least more (s ∷ steps) le h = (omega (arith, le, h.0), h.1, h.2, h.3)
+steps_sooner rho least more (s ∷ steps) le h = (omega (arith, h.0), h.1, h.2, h.3)
 
 -- ---- their order
 
 clocks_from : (rho least : ℕ) (clock : Segment) (steps : List RateStep) → StepsFrom rho least steps → All (λ c. least ≤ c.from) (clocks_after clock steps)
-clocks_from rho least clock [] h k d lt = absurd (omega (arith, lt))
+clocks_from rho least clock [] h k d lt = absurd (omega arith)
 clocks_from rho least clock (s ∷ steps) h zero d lt = h.0
 clocks_from rho least clock (s ∷ steps) h (suc k) d lt =
-    let behind = clocks_from rho s.at (stepped_segment clock s.at s.rate) steps h.3 k d (omega (arith, lt)) in omega (arith, behind, h.0)
+    let behind = clocks_from rho s.at (stepped_segment clock s.at s.rate) steps h.3 k d (omega arith) in
+        omega (arith, h.0)
 
 clocks_sorted : (rho least : ℕ) (clock : Segment) (steps : List RateStep) → StepsFrom rho least steps
     → IsNonDecreasingBy (λ c. c.from) (clocks_after clock steps)
-clocks_sorted rho least clock [] h i j d le lt = absurd (omega (arith, lt))
+clocks_sorted rho least clock [] h i j d le lt = absurd (omega arith)
 clocks_sorted rho least clock (s ∷ steps) h zero zero d le lt = omega arith
-clocks_sorted rho least clock (s ∷ steps) h zero (suc j) d le lt = clocks_from rho s.at (stepped_segment clock s.at s.rate) steps h.3 j d (omega (arith, lt))
-clocks_sorted rho least clock (s ∷ steps) h (suc i) zero d le lt = absurd (omega (arith, le))
+clocks_sorted rho least clock (s ∷ steps) h zero (suc j) d le lt =
+    clocks_from rho s.at (stepped_segment clock s.at s.rate) steps h.3 j d (omega arith)
+clocks_sorted rho least clock (s ∷ steps) h (suc i) zero d le lt = absurd (omega arith)
 clocks_sorted rho least clock (s ∷ steps) h (suc i) (suc j) d le lt =
-    clocks_sorted rho s.at (stepped_segment clock s.at s.rate) steps h.3 i j d (omega (arith, le)) (omega (arith, lt))
+    clocks_sorted rho s.at (stepped_segment clock s.at s.rate) steps h.3 i j d (omega arith) (omega arith)
 
 clocks_readable : (rho least : ℕ) (clock : Segment) (steps : List RateStep) → StepsFrom rho least steps → All IsReadable (clocks_after clock steps)
-clocks_readable rho least clock [] h k d lt = absurd (omega (arith, lt))
+clocks_readable rho least clock [] h k d lt = absurd (omega arith)
 clocks_readable rho least clock (s ∷ steps) h zero d lt = record { stepped = omega arith; limit = h.1 }
-clocks_readable rho least clock (s ∷ steps) h (suc k) d lt = clocks_readable rho s.at (stepped_segment clock s.at s.rate) steps h.3 k d (omega (arith, lt))
+clocks_readable rho least clock (s ∷ steps) h (suc k) d lt =
+    clocks_readable rho s.at (stepped_segment clock s.at s.rate) steps h.3 k d (omega arith)
 
 clocks_go_on : (clock : Segment) (steps : List RateStep) → GoOn clock (clocks_after clock steps)
 clocks_go_on clock [] = tt
@@ -57,21 +60,23 @@ StepsUpTo bound [] = Unit {0}
 StepsUpTo bound (s ∷ steps) = (s.at ≤ bound) × StepsUpTo bound steps
 
 pub clocks_up_to : (bound : ℕ) (clock : Segment) (steps : List RateStep) → StepsUpTo bound steps → All (λ c. c.from ≤ bound) (clocks_after clock steps)
-clocks_up_to bound clock [] h k d lt = absurd (omega (arith, lt))
+clocks_up_to bound clock [] h k d lt = absurd (omega arith)
 clocks_up_to bound clock (s ∷ steps) h zero d lt = h.0
-clocks_up_to bound clock (s ∷ steps) h (suc k) d lt = clocks_up_to bound (stepped_segment clock s.at s.rate) steps h.1 k d (omega (arith, lt))
+clocks_up_to bound clock (s ∷ steps) h (suc k) d lt = clocks_up_to bound (stepped_segment clock s.at s.rate) steps h.1 k
+    d (omega arith)
 
 -- ---- the clock at a time
 
 none_up_to : (rho least t : ℕ) (steps : List RateStep) → StepsFrom rho least steps → t < least → up_to t steps ≡ []
 none_up_to rho least t [] h lt = refl
 none_up_to rho least t (s ∷ steps) h lt =
-    ap (λ b. if b then s ∷ up_to t steps else up_to t steps) (lt-leb s.at t (omega (arith, lt, h.0)))
-    ∙ none_up_to rho s.at t steps h.3 (omega (arith, lt, h.0))
+    rw (lt-leb s.at t (omega (arith, h.0)))
+    (none_up_to rho s.at t steps h.3 (omega (arith, h.0)))
 
 clocks_late : (rho least t : ℕ) (clock : Segment) (steps : List RateStep) → StepsFrom rho least steps → t < least
     → AllWithin (λ c. t < c.from) (clocks_after clock steps) 0 (length (clocks_after clock steps))
-clocks_late rho least t clock steps h lt k d low high = let from = clocks_from rho least clock steps h k d high in omega (arith, lt, from)
+clocks_late rho least t clock steps h lt k d low high = let from = clocks_from rho least clock steps h k d high in
+    omega arith
 
 -- what the steps up to a time make of the clock
 pub clock_value : (rho least t : ℕ) (clock : Segment) (steps : List RateStep) → StepsFrom rho least steps
@@ -86,19 +91,19 @@ clock_value rho least t clock (s ∷ steps) h =
       | inr le ↦
           ap (λ b. value_at (if b then next else clock) (clocks_after next steps) t) (le-leb s.at t le)
           ∙ clock_value rho s.at t next steps h.3
-          ∙ sym (ap (λ b. value_after stepped_segment clock (if b then s ∷ up_to t steps else up_to t steps)) (le-leb s.at t le))
+          ∙ sym (rw (le-leb s.at t le))
     ]
 
 -- and so what it reads
 pub clock_reads : (rho least t : ℕ) (clock : Segment) (steps : List RateStep) → StepsFrom rho least steps
     → clocks_reading clock (clocks_after clock steps) t ≡ reading_at stepped_segment segment_reading clock steps t
-clock_reads rho least t clock steps h = ap (λ c. segment_reading c t) (clock_value rho least t clock steps h)
+clock_reads rho least t clock steps h = rw (clock_value rho least t clock steps h)
 
 -- it can be read then
 pub value_ready : (clock : Segment) (changes : List (Setting Segment)) (t : ℕ) → clock.at ≤ t → All IsReadable changes → (value_at clock changes t).at ≤ t
 value_ready clock [] t begun each = begun
 value_ready clock (c ∷ cs) t begun each =
-    let rest : All IsReadable cs = λ k d lt. each (suc k) d (omega (arith, lt)) in
+    let rest : All IsReadable cs = λ k d lt. each (suc k) d (omega arith) in
     let first = each 0 c (omega arith) in
     elim (cases_lt t c.from) [
       | inl lt ↦ subst (λ b. (value_at (if b then c.value else clock) cs t).at ≤ t) (sym (lt-leb c.from t lt)) (value_ready clock cs t begun rest)
@@ -114,33 +119,35 @@ value_last t clock (s ∷ steps) all =
     let next = stepped_segment clock s.at s.rate in
     let first = all 0 (change_to s.at next) (omega arith) in
     ap (λ b. value_at (if b then next else clock) (clocks_after next steps) t) (le-leb s.at t first)
-    ∙ value_last t next steps (λ k d lt. all (suc k) d (omega (arith, lt)))
+    ∙ value_last t next steps (λ k d lt. all (suc k) d (omega arith))
 
 -- one step more
 pub clocks_more : (clock : Segment) (steps : List RateStep) (s : RateStep) → clocks_after clock (steps ++ s ∷ []) ≡ clocks_after clock steps
     ++ change_to s.at (stepped_segment (value_after stepped_segment clock steps) s.at s.rate) ∷ []
 clocks_more clock [] s = refl
 clocks_more clock (x ∷ steps) s =
-    ap (λ (l : List (Setting Segment)). change_to x.at (stepped_segment clock x.at x.rate) ∷ l) (clocks_more (stepped_segment clock x.at x.rate) steps s)
+    rw (clocks_more (stepped_segment clock x.at x.rate) steps s)
 
 -- ---- a history
 
 steps_at : (rho least : ℕ) (steps : List RateStep) → StepsFrom rho least steps → All (λ s. least ≤ s.at) steps
-steps_at rho least [] h k d lt = absurd (omega (arith, lt))
+steps_at rho least [] h k d lt = absurd (omega arith)
 steps_at rho least (s ∷ steps) h zero d lt = h.0
-steps_at rho least (s ∷ steps) h (suc k) d lt = let behind = steps_at rho s.at steps h.3 k d (omega (arith, lt)) in omega (arith, behind, h.0)
+steps_at rho least (s ∷ steps) h (suc k) d lt = let behind = steps_at rho s.at steps h.3 k d (omega arith) in
+    omega (arith, h.0)
 
 steps_sorted : (rho least : ℕ) (steps : List RateStep) → StepsFrom rho least steps → IsNonDecreasingBy (λ s. s.at) steps
-steps_sorted rho least [] h i j d le lt = absurd (omega (arith, lt))
+steps_sorted rho least [] h i j d le lt = absurd (omega arith)
 steps_sorted rho least (s ∷ steps) h zero zero d le lt = omega arith
-steps_sorted rho least (s ∷ steps) h zero (suc j) d le lt = steps_at rho s.at steps h.3 j d (omega (arith, lt))
-steps_sorted rho least (s ∷ steps) h (suc i) zero d le lt = absurd (omega (arith, le))
-steps_sorted rho least (s ∷ steps) h (suc i) (suc j) d le lt = steps_sorted rho s.at steps h.3 i j d (omega (arith, le)) (omega (arith, lt))
+steps_sorted rho least (s ∷ steps) h zero (suc j) d le lt = steps_at rho s.at steps h.3 j d (omega arith)
+steps_sorted rho least (s ∷ steps) h (suc i) zero d le lt = absurd (omega arith)
+steps_sorted rho least (s ∷ steps) h (suc i) (suc j) d le lt =
+    steps_sorted rho s.at steps h.3 i j d (omega arith) (omega arith)
 
 steps_slow : (rho least : ℕ) (steps : List RateStep) → StepsFrom rho least steps → All (λ s. unsigned_abs s.rate ≤ rho) steps
-steps_slow rho least [] h k d lt = absurd (omega (arith, lt))
+steps_slow rho least [] h k d lt = absurd (omega arith)
 steps_slow rho least (s ∷ steps) h zero d lt = h.2
-steps_slow rho least (s ∷ steps) h (suc k) d lt = steps_slow rho s.at steps h.3 k d (omega (arith, lt))
+steps_slow rho least (s ∷ steps) h (suc k) d lt = steps_slow rho s.at steps h.3 k d (omega arith)
 
 pub steps_history : (rho least : ℕ) (steps : List RateStep) → StepsFrom rho least steps → IsHistory rho steps
 steps_history rho least steps h = record { in_order = steps_sorted rho least steps h; within = steps_slow rho least steps h }

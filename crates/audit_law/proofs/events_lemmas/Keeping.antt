@@ -44,10 +44,10 @@ way_same Down Up e = absurd (false≢true e)
 way_same Down Down e = refl
 
 places_same : (link other : LinkId) (way turned : Way) → way_place link way ≡ way_place other turned → (link.0 ≡ other.0) × (is_way way turned ≡ true)
-places_same link other Up Up e = (omega (arith, e), refl)
-places_same link other Up Down e = absurd (omega (arith, e))
-places_same link other Down Up e = absurd (omega (arith, e))
-places_same link other Down Down e = (omega (arith, e), refl)
+places_same link other Up Up e = (omega arith, refl)
+places_same link other Up Down e = absurd (omega arith)
+places_same link other Down Up e = absurd (omega arith)
+places_same link other Down Down e = (omega arith, refl)
 
 pub own_way : (link : LinkId) (way : Way) → is_way_of link way link way ≡ true
 own_way link way = rw (eq-eqb link.0 link.0 refl) (way_itself way)
@@ -61,14 +61,12 @@ ways_set {network} before {behind} {link} {way} ways {new} told here stays l w x
     elim (cases_Bool (is_way_of l w link way)) [
       | inl hit ↦
           let parts = and_parts (l.0 == link.0) (is_way w way) hit in
-          let one : l ≡ link = same_link l link (eqb-true l.0 link.0 parts.0) in
-          let turned : w ≡ way = way_same w way parts.1 in
+          let one = same_link l link (eqb-true l.0 link.0 parts.0) in
+          let turned = way_same w way parts.1 in
           let at_own : slice_get (slice_set ways (way_place link way) new) (way_place link way) ≡ Some x =
-          subst (λ v. slice_get (slice_set ways (way_place link way) new) (way_place link v) ≡ Some x) turned
-          (subst (λ k. slice_get (slice_set ways (way_place link way) new) (way_place k w) ≡ Some x) one at) in
-          subst (λ k. TellsWay network behind k w x) (sym one)
-          (subst (λ v. TellsWay network behind link v x) (sym turned)
-          (subst (TellsWay network behind link way) (set_same ways (way_place link way) new x at_own) here))
+          rw turned at (rw one at at) in
+          rw one (rw turned (subst (TellsWay network behind link way) (set_same ways (way_place link way) new x at_own)
+              here))
       | inr miss ↦
           let differ : way_place link way ≡ way_place l w → ⊥ = λ e.
           let same = places_same l link w way (sym e) in
@@ -100,10 +98,9 @@ pub devices_set : {network : Network} (before : List Event) {behind : List Event
 devices_set {network} before {behind} {device} devices {new} told here stays d x at =
     elim (cases_Bool (d.0 == device.0)) [
       | inl hit ↦
-          let one : d ≡ device = same_device d device (eqb-true d.0 device.0 hit) in
-          let at_own = subst (λ (k : DeviceId). slice_get (slice_set devices device.0 new) k.0 ≡ Some x) one at in
-          subst (λ k. TellsDevice network behind k x) (sym one)
-          (subst (TellsDevice network behind device) (set_same devices device.0 new x at_own) here)
+          let one = same_device d device (eqb-true d.0 device.0 hit) in
+          let at_own = rw one at at in
+          rw one (subst (TellsDevice network behind device) (set_same devices device.0 new x at_own) here)
       | inr miss ↦
           let differ : d.0 ≡ device.0 → ⊥ = λ e. false≢true (sym miss ∙ eq-eqb d.0 device.0 e) in
           stays d x differ (told d x (sym (set_other devices device.0 d.0 new (λ e. differ (sym e))) ∙ at))
@@ -114,14 +111,14 @@ pub steps_more : (all : List Event) (event : Event) (device : DeviceId) (o : Opt
     → rate_steps (all ++ event ∷ []) device ≡ rate_steps all device ++ cons_option o []
 steps_more all event device o is =
     filter_map-append (λ e. step_by device (amount e.time) e.what) all (event ∷ [])
-    ∙ ap (λ (m : Option RateStep). rate_steps all device ++ cons_option m []) is
+    ∙ ap (λ m. rate_steps all device ++ cons_option m []) is
 
 append_none : {X : Type 0} (xs : List X) → xs ≡ xs ++ []
 append_none [] = refl
-append_none {X} (x ∷ xs) = ap (λ (l : List X). x ∷ l) (append_none xs)
+append_none {X} (x ∷ xs) = ap (λ l. x ∷ l) (append_none xs)
 
 none_of : (a b : Bool) → b ≡ false → (a || b) ≡ a
-none_of a b miss = ap (λ x. a || x) miss ∙ or_none a
+none_of a b miss = rw miss (or_none a)
 
 module _ (network : Network) (all : List Event) (event : Event) (device : DeviceId) (t : ℕ) where
   -- whether one more event breaks the device by then
@@ -154,7 +151,7 @@ module _ (network : Network) (all : List Event) (event : Event) (device : Device
       → is_turned_on_at (scenario_under network (all ++ event ∷ [])) device t
       ≡ is_turned_on_at (scenario_under network all) device t
   turned_stays t none =
-      turned_more network all event device t ∙ none_of _ _ (ap (λ b. b && amount event.time == t) none)
+      turned_more network all event device t ∙ none_of _ _ (rw none)
 
   -- a device that the event does not concern
   pub device_stays : {told : DeviceHistory} → step_by device (amount event.time) event.what ≡ None
@@ -173,14 +170,14 @@ none_any : (P : Event → Type 0) (b : Event → Bool) → ((e : Event) → b e 
 none_any P b tells [] none = refl
 none_any P b tells (e ∷ es) none =
     let first = false_from_ne_true (b e) (λ hit. none (any_first P e es (tells e hit))) in
-    ap (λ x. x || list_any b es) first ∙ none_any P b tells es (λ h. none (any_behind P e es h))
+    rw first (none_any P b tells es (λ h. none (any_behind P e es h)))
 
 none_filtered : (b p : Event → Bool) (all : List Event) → list_any b all ≡ false → list_any b (filter p all) ≡ false
 none_filtered b p [] none = refl
 none_filtered b p (e ∷ es) none =
     let parts = or_parts (b e) (list_any b es) none in
     elim (p e) as (λ q. list_any b (if q then e ∷ filter p es else filter p es) ≡ false) [
-      | true ↦ ap (λ x. x || list_any b (filter p es)) parts.0 ∙ none_filtered b p es parts.1
+      | true ↦ rw parts.0 (none_filtered b p es parts.1)
       | false ↦ none_filtered b p es parts.1
     ]
   where

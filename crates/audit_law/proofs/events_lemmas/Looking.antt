@@ -1,5 +1,5 @@
 -- What a history tells is what the events set.
-use Rattle.{audit_law.proofs.events_lemmas.{Adding.cut_event, Keeping.begun_more, Valuing.last_is}, drift_clock.specs.Segment.{Segment, fresh_segment}}
+use Rattle.{audit_law.proofs.events_lemmas.{Adding.cut_event, Keeping.begun_more, Valuing.last_is}, drift_clock.specs.Segment.{fresh_segment}}
 use Rattle.audit_law.{proofs.events_lemmas.Befalling.{AreEventsFrom, events_from, steps_from, steps_up_to}, specs.declared.events.settings.Settings.Settings}
 use Rattle.audit_law.{proofs.events_lemmas.Clocking.{StepsFrom, are_clocks, clock_reads, clocks_up_to}, specs.events.Clocks.{AreClocks, clocks_reading}}
 use Rattle.audit_law.specs.{declared.events.history.{DeviceHistory.DeviceHistory, EventHistory.EventHistory}, events.Readings.{clock_reading, scenario_under}}
@@ -15,13 +15,13 @@ use Rattle.{std.{proofs.Common.{sym, true, zero, ℕ}, specs.List.{All, cons_opt
 
 more_later : {V : Type 0} (least time : ℕ) (m : Option V) (cs : List (Setting V)) → least ≤ time → All (λ c. time ≤ c.from) cs
     → All (λ c. least ≤ c.from) (cons_option (option_map (change_to time) m) cs)
-more_later least time None cs le h k d lt = let behind = h k d lt in omega (arith, le, behind)
+more_later least time None cs le h k d lt = let behind = h k d lt in omega arith
 more_later least time (Some v) cs le h zero d lt = le
-more_later least time (Some v) cs le h (suc k) d lt = let behind = h k d (omega (arith, lt)) in omega (arith, le, behind)
+more_later least time (Some v) cs le h (suc k) d lt = let behind = h k d (omega arith) in omega arith
 
 changes_later : {V : Type 0} (rho least : ℕ) (setting : What → Option V) (all : List Event) → AreEventsFrom rho least all
     → All (λ c. least ≤ c.from) (changes_by setting all)
-changes_later rho least setting [] h k d lt = absurd (omega (arith, lt))
+changes_later rho least setting [] h k d lt = absurd (omega arith)
 changes_later rho least setting (e ∷ es) h k d lt =
     more_later least (amount e.time) (setting e.what) (changes_by setting es) h.0 (changes_later rho (amount e.time) setting es h.3) k d lt
 
@@ -29,13 +29,13 @@ more_sorted : {V : Type 0} (time : ℕ) (m : Option V) (cs : List (Setting V)) �
     → IsNonDecreasingBy (λ c. c.from) (cons_option (option_map (change_to time) m) cs)
 more_sorted time None cs later sorted i j d le lt = sorted i j d le lt
 more_sorted time (Some v) cs later sorted zero zero d le lt = omega arith
-more_sorted time (Some v) cs later sorted zero (suc j) d le lt = later j d (omega (arith, lt))
-more_sorted time (Some v) cs later sorted (suc i) zero d le lt = absurd (omega (arith, le))
-more_sorted time (Some v) cs later sorted (suc i) (suc j) d le lt = sorted i j d (omega (arith, le)) (omega (arith, lt))
+more_sorted time (Some v) cs later sorted zero (suc j) d le lt = later j d (omega arith)
+more_sorted time (Some v) cs later sorted (suc i) zero d le lt = absurd (omega arith)
+more_sorted time (Some v) cs later sorted (suc i) (suc j) d le lt = sorted i j d (omega arith) (omega arith)
 
 changes_sorted : {V : Type 0} (rho least : ℕ) (setting : What → Option V) (all : List Event) → AreEventsFrom rho least all
     → IsNonDecreasingBy (λ c. c.from) (changes_by setting all)
-changes_sorted rho least setting [] h i j d le lt = absurd (omega (arith, lt))
+changes_sorted rho least setting [] h i j d le lt = absurd (omega arith)
 changes_sorted rho least setting (e ∷ es) h i j d le lt =
     more_sorted (amount e.time) (setting e.what) (changes_by setting es) (changes_later rho (amount e.time) setting es h.3)
     (changes_sorted rho (amount e.time) setting es h.3) i j d le lt
@@ -51,7 +51,7 @@ pub looked_up : {V : Type 0} {network : Network} {all : List Event} {history : E
     → result ≡ last_set (scenario_under network all) setting initial time
 looked_up {V} {network} {all} {setting} {initial} {settings} time result h told found =
     let order = changes_sorted network.rho 0 setting all (events_from all h.range h.within h.begun) in
-    found (subst (λ (l : List (Setting V)). IsNonDecreasingBy (λ c. c.from) l) (sym told.changes) order)
+    found (rw told.changes order)
     ∙ ap (λ v. value_at v settings.changes.items time) told.first
     ∙ ap (λ l. value_at initial l time) told.changes
     ∙ sym (last_is setting initial time all)
@@ -59,8 +59,8 @@ looked_up {V} {network} {all} {setting} {initial} {settings} time result h told 
 -- ---- places
 
 pub has_place : (network : Network) (link : LinkId) (way : Way) → HasLink network link → way_place link way < 2 * length network.link
-has_place network link Up has = omega (arith, has)
-has_place network link Down has = omega (arith, has)
+has_place network link Up has = omega arith
+has_place network link Down has = omega arith
 
 pub cut_has : (network : Network) (cut : Bool) (link : LinkId) (way : Way) → IsOfNetwork network (cut_event cut link way) → HasLink network link
 cut_has network true link way h = h
@@ -76,18 +76,17 @@ module _ (network : Network) (all : List Event) (history : EventHistory) (device
   pub told_clocks : {told : DeviceHistory} → Remembers network all history → TellsDevice network all device told
       → AreClocks told.clock.initial told.clock.changes.items
   told_clocks {told} h tells =
-      subst (λ c. AreClocks c told.clock.changes.items) (sym tells.fresh)
-      (subst (λ l. AreClocks (fresh_segment (amount network.grain)) l) (sym tells.clock)
-      (are_clocks network.rho 0 (fresh_segment (amount network.grain)) (rate_steps all device) refl (steps_of h)))
+      rw tells.fresh (rw tells.clock (are_clocks network.rho 0 (fresh_segment (amount network.grain))
+          (rate_steps all device) refl (steps_of h)))
 
   -- they read what the clock of the scenario reads
   pub told_reads : {told : DeviceHistory} (time : ℕ) → Remembers network all history
       → TellsDevice network all device told → clocks_reading told.clock.initial told.clock.changes.items time
       ≡ clock_reading network all device time
   told_reads {told} time h tells =
-      ap (λ c. clocks_reading c told.clock.changes.items time) tells.fresh
-      ∙ ap (λ l. clocks_reading (fresh_segment (amount network.grain)) l time) tells.clock
-      ∙ clock_reads network.rho 0 time (fresh_segment (amount network.grain)) (rate_steps all device) (steps_of h)
+      rw tells.fresh
+      (ap (λ l. clocks_reading (fresh_segment (amount network.grain)) l time) tells.clock
+      ∙ clock_reads network.rho 0 time (fresh_segment (amount network.grain)) (rate_steps all device) (steps_of h))
 
 -- ---- a device that is ready for a step
 
@@ -109,6 +108,6 @@ devices_ready {network} {all} {history} {event} h may begun k d lt =
     (begun_more all event h.begun begun) in
     record {
       clocks = told_clocks network all history device h tells;
-      later = subst (λ (l : List (Setting Segment)). All (λ c. c.from ≤ amount event.time) l) (sym tells.clock)
-          (clocks_up_to (amount event.time) fresh (rate_steps all device) (steps_up_to network.rho 0 all event device from));
+      later = rw tells.clock (clocks_up_to (amount event.time) fresh (rate_steps all device)
+          (steps_up_to network.rho 0 all event device from));
     }

@@ -12,7 +12,7 @@ module _ (network : Network) (event : Event) (device : DeviceId) (rate : Ppb) (b
     (is : event.what ≡ events.Rate device rate) (slow : unsigned_abs rate.0 ≤ network.rho) where
   pub rate_within : IsWithinHypothesis network [] event
   rate_within outside.Order v = none_before v.front [] v.last v.order
-  rate_within outside.Late v = omega (arith, ints, v, begins)
+  rate_within outside.Late v = omega (arith, ints)
   rate_within outside.Rate v = grind (arith, rate_of, unsigned_abs)
   rate_within outside.Wire v = let what = v.what in absurd cc
   rate_within outside.Hold v = let what = v.what in absurd cc
@@ -21,4 +21,4 @@ module _ (network : Network) (event : Event) (device : DeviceId) (rate : Ppb) (b
   rate_within outside.SecondBreak v = let what = v.breaks in absurd cc
   rate_within outside.TooFewMasters v = let what = v.breaks in absurd cc
   rate_within outside.NotBroken v = let what = v.what in absurd cc
-  rate_within outside.NotOff v = let what = v.what in absurd cc
+  rate_within outside.NotOff v = absurd cc

@@ -1,5 +1,5 @@
 -- The clocks that events set read on.
-use Rattle.{audit_law.proofs.events_lemmas.Befalling.{events_from, steps_from}, std.proofs.Common.{◌*◌, ◌+◌, ◌-◌, ◌<◌, ◌^◌, ◌≡◌, ◌≤◌, arith, refl, subst, ℕ}}
+use Rattle.{audit_law.proofs.events_lemmas.Befalling.{events_from, steps_from}, std.proofs.Common.{◌*◌, ◌+◌, ◌-◌, ◌<◌, ◌^◌, ◌≡◌, ◌≤◌, arith, refl, ℕ}}
 use Rattle.{audit_law.{proofs.events_lemmas.Clocking.steps_history, specs.events.Readings.{ClocksReadOn, clock_reading}}, std.specs.Int.abs_diff}
 use Rattle.drift_clock.specs.{ClockLaws.{AlwaysBeginsAtZero, AlwaysKeepsClockLaws}, Segment.{fresh_segment, segment_reading, stepped_segment}}
 use Rattle.{run_law.specs.scenario.Rates.rate_steps, std.proofs.{Math.Nat.mul-le-mul_right, lemmas.Int.ints}, tte_units.specs.Amount.amount}
@@ -8,8 +8,8 @@ use Rattle.{run_law.specs.scenario.Rates.rate_steps, std.proofs.{Math.Nat.mul-le
 bound_of : (rho grain r t zero_time d : ℕ) → t ≤ 2 ^ 60 → rho ≤ 1000000 → grain ≤ 2 ^ 20 → zero_time ≡ 0 → r ≤ d + t
     → 10 ^ 9 * d ≤ rho * t + 2 * grain * 10 ^ 9 → r ≤ 2 ^ 60 + 2 ^ 51
 bound_of rho grain r t z d le slow fine zero near h =
-    let most : rho * t ≤ 1000000 * t = mul-le-mul_right t slow in
-    omega (arith, most, le, fine, near, h)
+    let most = mul-le-mul_right t slow in
+    omega arith
 
 diff_near : (a b : ℕ) → a ≤ abs_diff a b + b
 diff_near a b = omega arith
@@ -20,8 +20,8 @@ same_times rho t s e = rw e refl
 -- what a clock goes on by in one unit of time
 step_of : (rho grain real seen : ℕ) → real ≡ 1 → rho ≤ 1000000 → grain ≤ 2 ^ 20 → 10 ^ 9 * abs_diff seen real ≤ rho * real + 2 * grain * 10 ^ 9 → seen < 2 ^ 32
 step_of rho grain real seen one slow fine measured =
-    let m : 10 ^ 9 * abs_diff seen 1 ≤ rho * 1 + 2 * grain * 10 ^ 9 = subst (λ (r : ℕ). 10 ^ 9 * abs_diff seen r ≤ rho * r + 2 * grain * 10 ^ 9) one measured in
-    omega (arith, m, slow, fine)
+    let m : 10 ^ 9 * abs_diff seen 1 ≤ rho * 1 + 2 * grain * 10 ^ 9 = rw one at measured in
+    omega arith
 
 pub reads_on : AlwaysKeepsClockLaws fresh_segment stepped_segment segment_reading
     → AlwaysBeginsAtZero fresh_segment stepped_segment segment_reading → ClocksReadOn
@@ -30,8 +30,8 @@ reads_on laws begins network all device range within begun =
     let grain = amount network.grain in
     let low = range.grain.least in
     let high = range.grain.most in
-    let some : 1 ≤ grain = omega (arith, ints, low) in
-    let fine : grain ≤ 2 ^ 20 = omega (arith, ints, high) in
+    let some : 1 ≤ grain = omega (arith, ints) in
+    let fine : grain ≤ 2 ^ 20 = omega (arith, ints) in
     let keeps = laws network.rho grain steps range.rho some
     (steps_history network.rho 0 steps (steps_from network.rho 0 all device (events_from all range within begun))) in
     record {
@@ -40,13 +40,13 @@ reads_on laws begins network all device range within begun =
       step = λ t.
           let r = clock_reading network all device in
           let seen = step_of network.rho grain ((t + 1) - t) (r (t + 1) - r t) (omega arith) range.rho fine (keeps.drifts t (t + 1) (omega arith)) in
-          omega (arith, seen);
+          omega arith;
       bound = λ t le.
           let r = clock_reading network all device in
           let drift = keeps.drifts 0 t (omega arith) in
           let zero_first = begins grain steps in
           let near = diff_near (r t - r 0) (t - 0) in
-          let same : network.rho * (t - 0) ≡ network.rho * t = same_times network.rho t (t - 0) (omega arith) in
-          bound_of network.rho grain (r t) t 0 (abs_diff (r t - r 0) (t - 0)) le range.rho fine refl (omega (arith, near, zero_first))
-          (omega (arith, drift, same));
+          let same = same_times network.rho t (t - 0) (omega arith) in
+          bound_of network.rho grain (r t) t 0 (abs_diff (r t - r 0) (t - 0)) le range.rho fine refl (omega arith)
+          (omega arith);
     }

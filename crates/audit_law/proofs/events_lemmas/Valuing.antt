@@ -2,7 +2,7 @@
 use Rattle.audit_law.specs.{declared.events.settings.{Setting.Setting, Settings.Settings}, events.Settings.{IsSetBy, change_to, changes_by, later_than, value_at}}
 use Rattle.{net_plan.specs.declared.event.Event.Event, std.proofs.Common.{refl, suc, sym, true, zero, ℕ}, tte_units.proofs.general_lemmas.Lists.append_none}
 use Rattle.{net_plan.specs.declared.event.What.What, std.specs.List.{AllWithin, cons_option, last_or}, tte_units.specs.Amount.amount}
-use Rattle.std.proofs.Common.{◌++◌, ◌+◌, ◌-◌, ◌<◌, ◌∙◌, ◌∷◌, ◌≡◌, ◌≤◌, List, None, Option, Some, [], ap, arith, false, if◌then◌else◌, length, nat_le, nat_lt}
+use Rattle.std.proofs.Common.{◌++◌, ◌+◌, ◌-◌, ◌<◌, ◌∙◌, ◌∷◌, ◌≡◌, ◌≤◌, List, None, Option, Some, [], ap, arith, false, if◌then◌else◌, length, nat_le}
 use Rattle.std.{proofs.lemmas.Bool.{le-leb, leb-false, leb-true, lt-leb}, specs.Prelude.{drop, filter, filter_map, option_map, slice_index_or, unwrap_or}}
 use Rattle.std.{proofs.lemmas.List.Elements.filter_map-append, specs.List.Sorted.{IsNonDecreasingBy, IsPartitionPoint, IsPartitionedBy}}
 
@@ -23,7 +23,7 @@ next_of zero some = absurd (some refl)
 next_of (suc k) some = omega arith
 
 pub below : (count n : ℕ) → count ≡ (count - 1) + 1 → count ≤ n → count - 1 < n
-below count n next bound = omega (arith, next, bound)
+below count n next bound = omega arith
 
 -- ---- the value there
 
@@ -33,32 +33,32 @@ pub value_before : {V : Type 0} (v : V) (changes : List (Setting V)) (time : ℕ
 value_before v [] time late = refl
 value_before v (c ∷ cs) time late =
     let first = lt-leb c.from time (late 0 c (omega arith) (omega arith)) in
-    ap (λ b. value_at (if b then c.value else v) cs time) first
-    ∙ value_before v cs time (λ k d low high. late (suc k) d (omega arith) (omega (arith, high)))
+    rw first
+    (value_before v cs time (λ k d low high. late (suc k) d (omega arith) (omega arith)))
 
 -- the last change up to the time counts
 pub value_found : {V : Type 0} (v : V) (changes : List (Setting V)) (time place : ℕ) (d : Setting V) → place < length changes
     → IsPartitionPoint (λ c. c.from ≤ time) (λ c. time < c.from) changes (place + 1) → value_at v changes time ≡ (slice_index_or changes place d).value
-value_found v [] time place d within h = absurd (omega (arith, within))
+value_found v [] time place d within h = absurd (omega arith)
 value_found v (c ∷ cs) time zero d within h =
     let first = le-leb c.from time (h.0 0 c (omega arith) (omega arith)) in
-    ap (λ b. value_at (if b then c.value else v) cs time) first
-    ∙ value_before c.value cs time (λ k e low high. h.1 (suc k) e (omega arith) (omega (arith, high)))
+    rw first
+    (value_before c.value cs time (λ k e low high. h.1 (suc k) e (omega arith) (omega arith)))
 value_found v (c ∷ cs) time (suc k) d within h =
     let first = le-leb c.from time (h.0 0 c (omega arith) (omega arith)) in
-    ap (λ b. value_at (if b then c.value else v) cs time) first
-    ∙ value_found c.value cs time k d (omega (arith, within)) (
-      λ i e low high. h.0 (suc i) e (omega arith) (omega (arith, high)),
-      λ i e low high. h.1 (suc i) e (omega (arith, low)) (omega (arith, high)),
-    )
+    rw first
+    (value_found c.value cs time k d (omega arith) (
+      λ i e low high. h.0 (suc i) e (omega arith) (omega arith),
+      λ i e low high. h.1 (suc i) e (omega arith) (omega arith),
+    ))
 
 -- the changes behind that place are the later ones
 pub all_later : {V : Type 0} (changes : List (Setting V)) (time : ℕ) → AllWithin (λ c. time < c.from) changes 0 (length changes)
     → changes ≡ later_than time changes
 all_later [] time late = refl
 all_later {V} (c ∷ cs) time late =
-    let first : nat_lt time c.from ≡ true = le-leb (suc time) c.from (let l = late 0 c (omega arith) (omega arith) in omega (arith, l)) in
-    ap (λ (l : List (Setting V)). c ∷ l) (all_later cs time (λ k d low high. late (suc k) d (omega arith) (omega (arith, high))))
+    let first = le-leb (suc time) c.from (let l = late 0 c (omega arith) (omega arith) in omega arith) in
+    ap (λ l. c ∷ l) (all_later cs time (λ k d low high. late (suc k) d (omega arith) (omega arith)))
     ∙ sym (ap (λ b. if b then c ∷ later_than time cs else later_than time cs) first)
 
 pub later_found : {V : Type 0} (changes : List (Setting V)) (time place : ℕ)
@@ -67,12 +67,12 @@ later_found [] time zero h = refl
 later_found [] time (suc k) h = refl
 later_found (c ∷ cs) time zero h = all_later (c ∷ cs) time h.1
 later_found (c ∷ cs) time (suc k) h =
-    let first : nat_lt time c.from ≡ false = lt-leb (suc time) c.from (let l = h.0 0 c (omega arith) (omega arith) in omega (arith, l)) in
+    let first = lt-leb (suc time) c.from (let l = h.0 0 c (omega arith) (omega arith) in omega arith) in
     later_found cs time k (
-      λ i e low high. h.0 (suc i) e (omega arith) (omega (arith, high)),
-      λ i e low high. h.1 (suc i) e (omega (arith, low)) (omega (arith, high)),
+      λ i e low high. h.0 (suc i) e (omega arith) (omega arith),
+      λ i e low high. h.1 (suc i) e (omega arith) (omega arith),
     )
-    ∙ sym (ap (λ b. if b then c ∷ later_than time cs else later_than time cs) first)
+    ∙ sym (rw first)
 
 -- ---- a setting by events
 
@@ -115,7 +115,7 @@ set_by : {V : Type 0} (setting : What → Option V) (events : List Event) (event
     → changes_by setting (events ++ event ∷ []) ≡ changes_by setting events ++ cons_option (option_map (change_to (amount event.time)) m) []
 set_by {V} setting events event m is =
     filter_map-append (λ e. option_map (change_to (amount e.time)) (setting e.what)) events (event ∷ [])
-    ∙ ap (λ (o : Option V). changes_by setting events ++ cons_option (option_map (change_to (amount event.time)) o) []) is
+    ∙ ap (λ o. changes_by setting events ++ cons_option (option_map (change_to (amount event.time)) o) []) is
 
 module _ {V : Type 0} (setting : What → Option V) (initial : V) (events : List Event) (event : Event) where
   -- an event that sets the value
@@ -124,7 +124,7 @@ module _ {V : Type 0} (setting : What → Option V) (initial : V) (events : List
       → IsSetBy setting initial events old → IsSetBy setting initial (events ++ event ∷ []) new
   set_more v new is first more h = record {
     first = first ∙ h.first;
-    changes = more ∙ ap (λ (l : List (Setting V)). l ++ change_to (amount event.time) v ∷ []) h.changes ∙ sym
+    changes = more ∙ ap (λ l. l ++ change_to (amount event.time) v ∷ []) h.changes ∙ sym
         (set_by setting events event (Some v) is);
   }
 

@@ -4,10 +4,10 @@ use Rattle.audit_law.{proofs.law_lemmas.{Changing.change_law, LosingSends.loss_l
 use Rattle.audit_law.{proofs.law_lemmas.{Correcting.{by_point, point_law}, Departing.departure_law}, specs.law.Arrivals.{IsDueByArrival, arrival_record}}
 use Rattle.audit_law.proofs.law_lemmas.{Debts.{due_by_part, due_in, lack_of_unpaid, lacks_nothing, one_due, unpaid_of_lack}, Determined.due_is_determined}
 use Rattle.audit_law.proofs.law_lemmas.{Dispatching.{dispatch_law, sending_law}, Owing.PaidAt, Sound.{founded_of_sound, run_exactly, within_of_sound}}
-use Rattle.audit_law.proofs.law_lemmas.{Emitting.emission_law, EndingClocks.clock_law, TracingEvents.event_law, Words.{subst, sym, time_of, ℕ}}
+use Rattle.audit_law.proofs.law_lemmas.{Emitting.emission_law, EndingClocks.clock_law, TracingEvents.event_law, Words.{sym, time_of, ℕ}}
 use Rattle.audit_law.{proofs.law_lemmas.Ripening.{permanence_law, recorded}, specs.law.Dispatched.{IsDueByDispatch, IsDueBySending, dispatch_record}}
 use Rattle.audit_law.proofs.law_lemmas.Words.{◌+◌, ◌∙◌, ◌∷◌, ◌≡◌, ArrivesAs, Debt, Dispatch, Happening, IsBefore, IsCaused, IsDue, IsDueIn, IsFounded}
-use Rattle.audit_law.proofs.law_lemmas.Words.{IsOwed, IsPaid, IsRun, List, NoteBody, Old, Pays, Reason, Scenario, [], ap, inl, inr, place_of, refl, ripe_as}
+use Rattle.audit_law.proofs.law_lemmas.Words.{IsOwed, IsPaid, IsRun, List, NoteBody, Pays, Scenario, [], ap, inl, inr, place_of, refl, ripe_as}
 use Rattle.audit_law.specs.law.{Changes.IsDueByChange, Debts.AreDebts, Emitted.IsDueByEmission, EndClocks.IsDueByEnd, LostSends.IsDueBySend, Owed.falls_due}
 use Rattle.run_law.specs.{control.Leaving.{leaves, on_cut_way, too_old}, declared.steps.Arrival.Arrival}
 use Rattle.run_law.specs.declared.judgement.Why.TheVariants as whys
@@ -71,8 +71,8 @@ module _ {s : Scenario} {hs : List Happening} {until : ℕ} {x : Happening} (h :
       let r = (event_law s hs until h.founded).each x (part_in s (IsDueByEvent s) h.due d) h.here in
       (debts.event r.0, r.1, r.2, r.3)
   pays_one (notes.Arrived device link cause clock) is c =
-      let shown : x.note.body ≡ notes.Arrived device link cause c.frame.clock =
-      is ∙ ap (λ (k : ℕ). notes.Arrived device link cause k) c.shows in
+      let shown =
+      is ∙ ap (λ k. notes.Arrived device link cause k) c.shows in
       let of : (a : Arrival) → ArrivesAs s h.due.before device (time_of x) link cause a → x.note.body
       ≡ arrival_record device link cause a → PaysOne s hs until x
       = λ a arrives says.
@@ -160,8 +160,8 @@ module _ {s : Scenario} {hs : List Happening} {until : ℕ} {x : Happening} (h :
             for_permanence
             (record { due = h.due.due; device = device; link = link; cause = cause; point = r.0; is = ripe.Dropped reason; becomes = r.1; says = is })
         | inr (inr l) ↦
-            let old : x.note.body ≡ notes.Dropped device link cause Old =
-            is ∙ ap (λ (r : Reason). notes.Dropped device link cause r) l.1 in
+            let old =
+            is ∙ ap (λ r. notes.Dropped device link cause r) l.1 in
             for_leaving (record { due = h.due.due; device = device; link = link; cause = cause; is = too_old; departs = l.0; says = old })
       ]
   pays_one (notes.Clock device shown adjustment state) is c =
@@ -231,7 +231,7 @@ module _ (s : Scenario) (hs : List Happening) (until : ℕ) (founded : IsFounded
         let up : IsDueUpTo s hs until x = record { founded = founded; due = h; here = here } in
         pays_one up x.note.body refl h.due.cause;
     some = λ o owed. is_payable o owed;
-    one = λ o x y. has_one_place o {x = x} {y = y};
+    one = λ o x y. has_one_place o;
   }
 
 -- in a run each debt is paid
@@ -240,10 +240,10 @@ paid_in_run : (s : Scenario) {hs : List Happening} (until : ℕ) → IsRun place
 paid_in_run s {hs} until run o owed =
     let x = is_payable s hs until run.founded o owed in
     let there = run.full x.1.before x.1.behind x.0 x.1.parts x.1.all_before x.1.none_before x.1.due x.2 in
-    let same : there.0 ≡ x.0 =
+    let same =
     one_due place_of (IsDue s) (due_is_determined s) (due_in place_of (IsDue s) hs there.0 run.founded there.1) x.1
     there.2 in
-    (there.0, there.1, subst (λ m. Pays s m o) (sym same) x.3)
+    (there.0, there.1, rw same x.3)
 
 abbrev first_of : List ℕ → ℕ
 first_of [] = 0
@@ -259,7 +259,7 @@ pub one_time : (s : Scenario) (hs : List Happening) (until : ℕ) → IsFounded 
 one_time s hs until founded o a b =
     let x = is_payable s hs until founded o a in
     let y = is_payable s hs until founded o b in
-    let same = has_one_place s hs until founded o {x = x.0} {y = y.0} a x.1 y.1 x.3 y.3 in
+    let same = has_one_place s hs until founded o a x.1 y.1 x.3 y.3 in
     sym x.4 ∙ same_time x.0 y.0 same ∙ y.4
 
 pub debt_law : DebtLaw

@@ -4,15 +4,15 @@ use Rattle.audit_law.proofs.law_lemmas.Words.{◌&&◌, ◌+◌, ◌==◌, ◌||
 use Rattle.audit_law.proofs.law_lemmas.Words.{IsDueIn, IsFounded, IsIn, IsSplit, LinkId, List, Network, None, NoteBody, Option, Pcf, Reason, Scenario, Some}
 use Rattle.audit_law.proofs.law_lemmas.Words.{Units, VlId, [], adjustment_after, amount, and_parts, ap, append-nil, arith, both_ways, cases_lt, earlier}
 use Rattle.audit_law.proofs.law_lemmas.Words.{eqb-true, false, false_from_ne_true, filter, filter-append, if◌then◌else◌, in_right, inl, inr, is_broken}
-use Rattle.audit_law.proofs.law_lemmas.Words.{is_turned_on_at, key, last_or, length, members_in, nat_lt, none_kept, not, numbered, numbered_in, option_and_then}
+use Rattle.audit_law.proofs.law_lemmas.Words.{is_turned_on_at, key, length, members_in, nat_lt, none_kept, not, numbered, numbered_in}
 use Rattle.audit_law.proofs.law_lemmas.Words.{place_at, place_of, rank, refl, same_earlier, same_some, split, state_after, subst, sym, time_of, true, units_of}
 use Rattle.{audit_law.proofs.law_lemmas.Words.ℕ, net_plan.proofs.SameIds.same_device, std.specs.Prelude.{Err, Ok}}
 use Rattle.{audit_law.specs.law.Arrivals.{IsDueByArrival, OwesArrival, TellsArrival, arrival_record}, net_plan.specs.declared.tables.Way.TheVariants.{Down, Up}}
 use Rattle.{audit_law.specs.law.DebtLaws.ArrivalLaw, net_plan.specs.declared.tables.Way.Way, std.proofs.lemmas.Bool.{ltb-true, or_cases}}
 use Rattle.{run_law.{proofs.runs.SameSteps.same_arrival, specs.declared.steps.Arrival.Arrival}, schedule_tables.specs.declared.entry.Entry.Entry}
-use Rattle.run_law.specs.{control.Arrivals.{control_arrival, frame_fault, frame_or_fault}, device.Standpoints.{Standpoint, clock_of, cycle_at, standpoint}}
+use Rattle.run_law.specs.{control.Arrivals.{frame_fault, frame_or_fault}, device.Standpoints.{Standpoint, clock_of, cycle_at, standpoint}}
 use Rattle.run_law.specs.{control.Wires.{Arrives, Launch, Signal, control, launched, time_on_port, timed}, scenario.Devices.{is_end, is_parent_of, is_relay}}
-use Rattle.run_law.specs.{scenario.Ways.{delay_at, receiver_of}, timed.Receptions.{arrival_of, comes_before, is_taken_before, last_taken, taken_cycle}}
+use Rattle.run_law.specs.{scenario.Ways.{delay_at, receiver_of}, timed.Receptions.{arrival_of, comes_before, is_taken_before, last_taken}}
 use Rattle.run_law.specs.timed.Arrivals.{entry_arrival, octets_fault, octets_or_fault, row_fault, taken_or_fault, timed_arrival}
 use Rattle.run_law.specs.declared.note.NoteBody.TheVariants as notes
 use Rattle.run_law.specs.declared.steps.Arrival.TheVariants as arrivals
@@ -31,8 +31,7 @@ module _ (network : Network) (device : DeviceId) where
       ≡ entry_arrival network device at size other entry
   by_entry at size last other None same = refl
   by_entry at size last other (Some entry) same =
-      ap (λ o. taken_or_fault network device at entry (row_fault network at entry size o))
-      (same entry.row.vl)
+      rw (same entry.row.vl)
 
   pub by_octets : (link : LinkId) (at : Standpoint) (octets : List ℕ) (last other : VlId → Option ℕ)
       (fault : Option Reason) → ((vl : VlId) → last vl ≡ other vl)
@@ -175,7 +174,7 @@ module _ (s : Scenario) (hs : List Happening) (t : ℕ) (device : DeviceId) (lin
       ≡ last_taken hs device t link cause vl
   same_taken vl founded at may =
       let test : Happening → Bool = λ h. is_taken_before device vl t link cause (time_of h) h.note.body in
-      let none : filter test at.rest ≡ [] = none_kept test at.rest (λ h i.
+      let none = none_kept test at.rest (λ h i.
       not_taken t (members_in h) (rank (arrival_record device link cause a)) (time_of h) device vl link cause
       h.note.body
       (timed_rank s.network device link cause a may) (at.none h i)
@@ -183,9 +182,9 @@ module _ (s : Scenario) (hs : List Happening) (t : ℕ) (device : DeviceId) (lin
       let there = founded_at s hs h founded (subst (IsIn h) (sym at.whole) (in_right h at.front at.rest i)) in
       let end = end_of_delivery s there.front h.note.time h.note.body other by from of_vl cycle there.due.cause is in
       end_rank s.network device link cause a may
-      (subst (λ d. is_end s.network d ≡ true) (sym (same_device device other ids)) end))) in
-      let kept : filter test at.front ≡ filter test hs = grind (arith, append-nil, filter, test, none, filter-append) in
-      ap (λ (gs : List Happening). option_and_then (λ (h : Happening). taken_cycle h.note.body) (last_or None gs)) kept
+      (rw (same_device device other ids) end))) in
+      let kept : filter test at.front ≡ filter test hs = grind (arith, append-nil, filter, filter-append) in
+      rw kept
 
   -- so an arrival is judged by the front as by the list
   same_outcome : (signal : Signal) → IsFounded place_of (IsDue s) hs
@@ -193,8 +192,7 @@ module _ (s : Scenario) (hs : List Happening) (t : ℕ) (device : DeviceId) (lin
       → IsOutcome s.network device signal a → arrival_of s at.front device t link cause signal
       ≡ arrival_of s hs device t link cause signal
   same_outcome (control frame) founded at may =
-      ap (λ p. control_arrival s.network device link p frame)
-      (same_standpoint s device t at.front hs (same_earlier t _ at))
+      rw (same_standpoint s device t at.front hs (same_earlier t _ at))
   same_outcome (timed octets) founded at may =
       let here = standpoint s hs device t in
       ap (λ p. timed_arrival s.network device link p octets (last_taken at.front device t link cause))
@@ -273,7 +271,7 @@ some_arrival {s} {hs} {until} {cause} founded o =
     let sooner = subst (IsBefore (place_of o.arrives.putting)) (record_place o.time 0 o.device o.link cause o.is) o.behind in
     let arrives = arrives_in_front s hs o.time o.device o.link cause o.is founded at o.arrives sooner in
     let x = next_of s at.front o.time body in
-    let place : place_of x ≡ p = record_place o.time (members_in x) o.device o.link cause o.is in
+    let place = record_place o.time (members_in x) o.device o.link cause o.is in
     let due : IsDueByArrival s at.front x = record {
       due = next_is_due s at.front o.time body (causes_record o.is arrives);
       device = o.device;
@@ -296,15 +294,14 @@ some_arrival {s} {hs} {until} {cause} founded o =
 due_place : {s : Scenario} {before : List Happening} {x : Happening} (h : IsDueByArrival s before x) → place_of x
     ≡ arrival_place (time_of x) (rank (arrival_record h.device h.link h.cause h.is)) h.device h.link h.cause
 due_place {x} h =
-    ap (λ b. place_at (time_of x) (members_in x) b) h.says ∙ record_place (time_of x) (members_in x) h.device h.link h.cause h.is
+    rw h.says (record_place (time_of x) (members_in x) h.device h.link h.cause h.is)
 
 -- where the list parts at it
 due_split : (s : Scenario) {hs : List Happening} {x : Happening} (h : IsDueIn place_of (IsDueByArrival s) hs x) →
     (at : IsSplit place_of hs (arrival_place (time_of x) (rank (arrival_record h.due.device h.due.link h.due.cause
     h.due.is)) h.due.device h.due.link h.due.cause)) × (at.front ≡ h.before)
 due_split s {hs} {x} h =
-    subst (λ p. (at : IsSplit place_of hs p) × (at.front ≡ h.before)) (due_place h.due)
-    (split_at (IsDueByArrival s) hs x h, refl)
+    rw (sym (due_place h.due)) (split_at (IsDueByArrival s) hs x h, refl)
 
 -- it arrives by the list
 due_arrives : (s : Scenario) {hs : List Happening} {x : Happening} → IsFounded place_of (IsDue s) hs
@@ -313,7 +310,7 @@ due_arrives : (s : Scenario) {hs : List Happening} {x : Happening} → IsFounded
 due_arrives s {hs} {x} founded h =
     let at = due_split s h in
     arrives_in_whole s hs (time_of x) h.due.device h.due.link h.due.cause h.due.is founded at.0
-    (subst (λ gs. ArrivesAs s gs h.due.device (time_of x) h.due.link h.due.cause h.due.is) (sym at.1) h.due.arrives)
+    (rw at.1 h.due.arrives)
 
 tells_its : {s : Scenario} {before : List Happening} {x : Happening} (h : IsDueByArrival s before x)
     → TellsArrival h.cause x.note.body
@@ -325,9 +322,9 @@ arrival_owed : (s : Scenario) {hs : List Happening} (until : ℕ) {x : Happening
 arrival_owed s {hs} until {x} founded h here =
     let d = h.due in
     let arrives = due_arrives s founded h in
-    let one : d.arrives.putting ≡ arrives.putting = same_some (numbered hs d.cause) d.arrives.putting arrives.putting
+    let one = same_some (numbered hs d.cause) d.arrives.putting arrives.putting
     (in_whole hs h.before h.behind d.cause d.arrives.putting h.parts d.arrives.there) arrives.there in
-    let first : IsBefore (place_of d.arrives.putting) (place_of x) = h.all_before d.arrives.putting
+    let first = h.all_before d.arrives.putting
     (numbered_in h.before d.cause d.arrives.putting d.arrives.there) in
     let place = due_place d ∙ sym (record_place (time_of x) 0 d.device d.link d.cause d.is) in
     let owed : OwesArrival s hs until d.cause = record {
@@ -336,8 +333,7 @@ arrival_owed s {hs} until {x} founded h here =
       time = time_of x;
       is = d.is;
       arrives = arrives;
-      behind = subst (λ h. IsBefore (place_of h) (place_at (time_of x) 0 (arrival_record d.device d.link d.cause d.is))) one
-          (subst (IsBefore (place_of d.arrives.putting)) place first);
+      behind = rw one at (subst (IsBefore (place_of d.arrives.putting)) place first);
       timely = timely (time_of x) until (rank x.note.body ∷ key (members_in x) x.note.body) here;
     } in
     (d.cause, owed, tells_its d, refl)
@@ -369,7 +365,7 @@ by_arrival : {s : Scenario} {before : List Happening} {x : Happening} (cause : �
     → x.note.body ≡ body → IsCaused s before x.note.time body → TellsArrival cause body
     → (h : IsDueByArrival s before x) × (h.cause ≡ cause)
 by_arrival {s} {before} {x} cause due put (notes.Arrived device link from clock) is c e =
-    let shown : x.note.body ≡ notes.Arrived device link from c.frame.clock = is ∙ ap (λ (k : ℕ). notes.Arrived device link from k) c.shows in
+    let shown = is ∙ ap (λ k. notes.Arrived device link from k) c.shows in
     let of : (a : Arrival) → ArrivesAs s before device (time_of x) link from a → x.note.body ≡ arrival_record device link from a
     → (h : IsDueByArrival s before x) × (h.cause ≡ cause) = λ a h says.
     (record { due = due; device = device; link = link; cause = from; is = a; arrives = h; says = says }, e) in
@@ -387,10 +383,10 @@ by_arrival {s} {before} cause due put (notes.Dropped device link from reason) is
       | inl a ↦ (record { due = due; device = device; link = link; cause = from; is = arrivals.Dropped reason; arrives = a; says = is }, e)
       | inr (inl r) ↦
           let p = r.1.permanent in
-          absurd (subst IsPutting p.arrived (put p.arrival (subst (λ n. numbered before n ≡ Some p.arrival) e p.there)))
+          absurd (subst IsPutting p.arrived (put p.arrival (rw e at p.there)))
       | inr (inr l) ↦
           let g = l.0.giving in
-          absurd (gives_none s.network g.note.body device link (put g (subst (λ n. numbered before n ≡ Some g) e l.0.there)) l.0.gives)
+          absurd (gives_none s.network g.note.body device link (put g (rw e at l.0.there)) l.0.gives)
     ]
 by_arrival cause due put other is c e = absurd e
 
@@ -398,35 +394,34 @@ by_arrival cause due put other is c e = absurd e
 same_coming : {s : Scenario} {h : Happening} {d e : DeviceId} {l m : LinkId} {t u : ℕ} {v w : Signal}
     → Arrives s h d l t v → Arrives s h e m u w → (d ≡ e) × (l ≡ m) × (t ≡ u)
 same_coming {s} {h} {d} {e} {l} {m} {v} {w} a b =
-    let one : (let x : Launch = record { link = l; way = a.way; signal = v } in x)
-    ≡ record { link = m; way = b.way; signal = w } =
+    let one =
     same_some (launched s h (time_of h) h.note.body) (record { link = l; way = a.way; signal = v }) (record { link = m; way = b.way; signal = w })
     a.put b.put in
-    let links : l ≡ m = ap (λ (x : Launch). x.link) one in
-    let ways : a.way ≡ b.way = ap (λ (x : Launch). x.way) one in
-    let signals : v ≡ w = ap (λ (x : Launch). x.signal) one in
+    let links : l ≡ m = ap (λ x. x.link) one in
+    let ways : a.way ≡ b.way = ap (λ x. x.way) one in
+    let signals : v ≡ w = ap (λ x. x.signal) one in
     let devices = same_some (receiver_of s.network l a.way) d e a.receiver
-    (ap (λ k. receiver_of s.network k a.way) links ∙ ap (receiver_of s.network m) ways ∙ b.receiver) in
+    (rw links (ap (receiver_of s.network m) ways ∙ b.receiver)) in
     let at : LinkId → Way → Signal → ℕ = λ k y g. time_of h + time_on_port s.network k g + delay_at s k y (time_of h) in
-    (devices, links, a.at ∙ ap (λ (k : LinkId). at k a.way v) links ∙ ap (λ (y : Way). at m y v) ways ∙ ap (at m b.way) signals ∙ sym b.at)
+    (devices, links, a.at ∙ ap (λ k. at k a.way v) links ∙ ap (λ y. at m y v) ways ∙ ap (at m b.way) signals ∙ sym b.at)
 
 -- where two arrivals of one record stand
 same_place : {s : Scenario} {hs : List Happening} {t u : ℕ} {d e : DeviceId} {l m : LinkId} {c f : ℕ} {a b : Arrival}
     → c ≡ f → ArrivesAs s hs d t l c a → ArrivesAs s hs e u m f b
     → arrival_place t (rank (arrival_record d l c a)) d l c ≡ arrival_place u (rank (arrival_record e m f b)) e m f
 same_place {s} {hs} {t} {u} {d} {e} {l} {m} {c} {a} {b} causes x y =
-    let one : y.putting ≡ x.putting = same_some (numbered hs c) y.putting x.putting (ap (numbered hs) causes ∙ y.there) x.there in
-    let there = subst (λ h. Arrives s h e m u y.signal) one y.arrives in
+    let one = same_some (numbered hs c) y.putting x.putting (ap (numbered hs) causes ∙ y.there) x.there in
+    let there = rw one at y.arrives in
     let same = same_coming x.arrives there in
-    let moved = subst (λ k. ArrivesAs s hs k t l c b) (sym same.0) (subst (λ k. ArrivesAs s hs e t k c b) (sym same.1)
-    (subst (λ n. ArrivesAs s hs e n m c b) (sym same.2) (subst (λ n. ArrivesAs s hs e u m n b) (sym causes) y))) in
-    let outcomes : a ≡ b = same_arrival x moved in
+    let moved = subst (λ k. ArrivesAs s hs k t l c b) (sym same.0)
+        (rw (sym same.1) at (rw (sym same.2) at (rw (sym causes) at y))) in
+    let outcomes = same_arrival x moved in
     let at : ℕ → DeviceId → LinkId → ℕ → Arrival → List ℕ = λ n k i g o. arrival_place n (rank (arrival_record k i g o)) k i g in
-    ap (λ (o : Arrival). at t d l c o) outcomes
-    ∙ ap (λ (n : ℕ). at n d l c b) same.2
-    ∙ ap (λ (k : DeviceId). at u k l c b) same.0
-    ∙ ap (λ (i : LinkId). at u e i c b) same.1
-    ∙ ap (λ (g : ℕ). at u e m g b) causes
+    rw outcomes
+    (ap (λ n. at n d l c b) same.2
+    ∙ ap (λ k. at u k l c b) same.0
+    ∙ ap (λ i. at u e i c b) same.1
+    ∙ ap (λ g. at u e m g b) causes)
 
 -- what is due and tells of an arrival that is owed is due by it in the list
 due_so : {s : Scenario} {hs : List Happening} {until cause : ℕ} {x : Happening} → OwesArrival s hs until cause
@@ -434,9 +429,10 @@ due_so : {s : Scenario} {hs : List Happening} {until cause : ℕ} {x : Happening
     → (h : IsDueIn place_of (IsDueByArrival s) hs x) × (h.due.cause ≡ cause)
 due_so {s} {hs} {cause} {x} o h tells =
     let put : (g : Happening) → numbered h.before cause ≡ Some g → IsPutting g.note.body = λ g there.
-    let one : o.arrives.putting ≡ g = same_some (numbered hs cause) o.arrives.putting g o.arrives.there (in_whole hs h.before h.behind cause g h.parts there) in
+    let one = same_some (numbered hs cause) o.arrives.putting g o.arrives.there
+        (in_whole hs h.before h.behind cause g h.parts there) in
     let p = o.arrives.putting in
-    subst (λ (k : Happening). IsPutting k.note.body) one (puts s p (time_of p) p.note.body _ o.arrives.arrives.put) in
+    rw one at (puts s p (time_of p) p.note.body _ o.arrives.arrives.put) in
     let by = by_arrival cause h.due put x.note.body refl h.due.cause tells in
     (record { before = h.before; behind = h.behind; parts = h.parts; all_before = h.all_before; none_before = h.none_before; due = by.0 }, by.1)
 
@@ -449,7 +445,5 @@ arrival_law s hs until founded = record {
       let second = due_so o b q in
       let here = due_arrives s founded first.0 in
       let there = due_arrives s founded second.0 in
-      let i = first.0.due in
-      let j = second.0.due in
-      due_place i ∙ same_place (first.1 ∙ sym second.1) here there ∙ sym (due_place j);
+      due_place first.0.due ∙ same_place (first.1 ∙ sym second.1) here there ∙ sym (due_place second.0.due);
 }

@@ -1,5 +1,5 @@
 -- Records behind the last change of a device's adjustment: they bring it to no state with a correction point.
-use Rattle.audit_law.proofs.law_lemmas.Words.{◌==◌, ◌∙◌, ◌∷◌, ◌≡◌, ◌⊎◌, Bool, ChangesState, DeviceId, Happening, Integrating, IsIn, Joining, List, NoteBody}
+use Rattle.audit_law.proofs.law_lemmas.Words.{◌==◌, ◌∷◌, ◌≡◌, ◌⊎◌, Bool, ChangesState, DeviceId, Happening, Integrating, IsIn, Joining, List, NoteBody}
 use Rattle.audit_law.proofs.law_lemmas.Words.{Off, Scenario, Some, State, Synchronised, Why, [], ap, both_ways, changes_adjustment, eqb-true, false, fold}
 use Rattle.{audit_law.proofs.law_lemmas.Words.{if◌then◌else◌, inl, inr, is_joined_by, numbered, refl, time_of, true, ℕ}, std.proofs.lemmas.Bool.eq-eqb}
 use Rattle.{run_law.{proofs.device.States.joined_changes, specs.device.States.state_with}, std.proofs.Common.arith}
@@ -37,7 +37,7 @@ state_or false state old says = inl refl
 pub calm : (device : DeviceId) (body : NoteBody) → changes_adjustment device body ≡ false → SaysIntegrating device body → IsCalm device body
 calm device (notes.State other state cause why) e says old = state_or (device.0 == other.0) state old (λ b. says (eqb-true device.0 other.0 b))
 calm device (notes.Corrected other cycle by adjustment) e says old = inl refl
-calm device body e says old = inl (ap (λ (b : Bool). if b then Joining else old) (not_joined device body e))
+calm device body e says old = inl (ap (λ b. if b then Joining else old) (not_joined device body e))
 
 -- a change of state that no change of the adjustment brings is to integrating
 pub leaves : (s : Scenario) (front : List Happening) (device : DeviceId) (t : ℕ) (state : State) (cause : ℕ) (why : Why)
@@ -63,7 +63,7 @@ pub stays_integrating : (device : DeviceId) (ys : List Happening) → ((h : Happ
     → fold (after device) Integrating ys ≡ Integrating
 stays_integrating device [] each = refl
 stays_integrating device (y ∷ ys) each =
-    ap (λ (u : State). fold (after device) u ys) (from_integrating device y (each y (inl refl))) ∙ stays_integrating device ys (λ h i. each h (inr i))
+    rw (from_integrating device y (each y (inl refl))) (stays_integrating device ys (λ h i. each h (inr i)))
 
 pub stays_or_leaves : (device : DeviceId) (old : State) (ys : List Happening) → ((h : Happening) → IsIn h ys → IsCalm device h.note.body)
     → (fold (after device) old ys ≡ old) ⊎ (fold (after device) old ys ≡ Integrating)

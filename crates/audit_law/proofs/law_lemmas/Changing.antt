@@ -20,8 +20,8 @@ brings_to (notes.Corrected device cycle by adjustment) = Some device.0
 brings_to other = None
 
 joins_to : (device : DeviceId) (body : NoteBody) → is_joined_by device body ≡ true → brings_to body ≡ Some device.0
-joins_to device (notes.Permanent other link cause point Integrates) e = ap (λ (n : ℕ). Some n) (sym (eqb-true device.0 other.0 e))
-joins_to device (notes.Compressed other opened at cycle members Integrates) e = ap (λ (n : ℕ). Some n) (sym (eqb-true device.0 other.0 e))
+joins_to device (notes.Permanent other link cause point Integrates) e = rw (sym (eqb-true device.0 other.0 e))
+joins_to device (notes.Compressed other opened at cycle members Integrates) e = rw (sym (eqb-true device.0 other.0 e))
 joins_to device other e = absurd cc
 
 joins_before : (device : DeviceId) (body : NoteBody) → is_joined_by device body ≡ true → rank body < 7
@@ -40,12 +40,12 @@ bringing_of : (s : Scenario) (hs : List Happening) (device : DeviceId) (t : ℕ)
     → ChangesState s hs device t state cause why → IsBringing hs t cause device
 bringing_of s hs device t state cause whys.On b c =
     let low : rank c.2.1.note.body ≡ 1 = ap rank c.2.3 in
-    record { bringing = c.2.1; is = c.2.2; to = ap brings_to c.2.3; lower = omega (arith, low) }
+    record { bringing = c.2.1; is = c.2.2; to = ap brings_to c.2.3; lower = omega arith }
 bringing_of s hs device t state cause whys.Frame b c =
     record { bringing = c.1.0; is = c.1.1; to = joins_to device c.1.0.note.body c.1.2; lower = joins_before device c.1.0.note.body c.1.2 }
 bringing_of s hs device t state cause whys.Correction b c =
     let low : rank c.2.3.note.body ≡ 6 = ap rank c.2.5 in
-    record { bringing = c.2.3; is = c.2.4; to = ap brings_to c.2.5; lower = omega (arith, low) }
+    record { bringing = c.2.3; is = c.2.4; to = ap brings_to c.2.5; lower = omega arith }
 bringing_of s hs device t state cause whys.SyncClique b c = absurd b
 bringing_of s hs device t state cause whys.AsyncClique b c = absurd b
 
@@ -61,7 +61,7 @@ pub moved : (s : Scenario) (gs hs : List Happening) (device : DeviceId) (t : ℕ
     → ChangesState s gs device t state cause why → ChangesState s hs device t state cause why
 moved s gs hs device t state cause whys.On b same there c =
     let low : rank c.2.1.note.body ≡ 1 = ap rank c.2.3 in
-    (c.0, c.1, (c.2.0, c.2.1, of_this_time hs c.2.2 (there c.2.1 c.2.2 (omega (arith, low))), c.2.3))
+    (c.0, c.1, (c.2.0, c.2.1, of_this_time hs c.2.2 (there c.2.1 c.2.2 (omega arith)), c.2.3))
 moved s gs hs device t state cause whys.Frame b same there c =
     (c.0, (c.1.0, of_this_time hs c.1.1 (there c.1.0 c.1.1 (joins_before device c.1.0.note.body c.1.2)), c.1.2))
 moved s gs hs device t state cause whys.Correction b same there c = grind (arith, rank, is_turned_on_at, state_after, of_this_time)
@@ -132,14 +132,14 @@ told : (s : Scenario) {hs : List Happening} (cause : ℕ) {x : Happening} (h : I
     → (cause ≡ 0 → ⊥) → (body : NoteBody) → x.note.body ≡ body → IsCaused s h.before x.note.time body
     → TellsChange cause body → IsTold hs cause x
 told s {hs} cause {x} h some (notes.State device state from why) is c e =
-    let changes = subst (λ n. ChangesState s h.before device (time_of x) state n why) e c in
+    let changes = rw e at c in
     let brought = brought_by_cause s h.before device (time_of x) state cause why some changes in
     let by = bringing_of s h.before device (time_of x) state cause why brought changes in
     record {
       device = device;
       state = state;
       why = why;
-      says = is ∙ ap (λ (n : ℕ). notes.State device state n why) e;
+      says = is ∙ ap (λ n. notes.State device state n why) e;
       is = record {
         bringing = by.bringing;
         is = of_this_time hs by.is (in_whole hs h.before h.behind cause by.bringing h.parts by.is.there);

@@ -2,8 +2,8 @@
 use Rattle.audit_law.proofs.law_lemmas.{Determined.same_verdict, Words.{standing_at, state_after, subst, sym, time_of, units_of, up_to, ℕ, ℤ}}
 use Rattle.{audit_law.proofs.law_lemmas.Owing.{PaidAt, due_there, next_is_due, next_of, split_at, timely, within}, run_law.proofs.law.FirstPlaces.in_filter}
 use Rattle.audit_law.proofs.law_lemmas.Words.{◌&&◌, ◌++◌, ◌+ℤ◌, ◌+◌, ◌-ℤ◌, ◌-◌, ◌<◌, ◌==◌, ◌∙◌, ◌∷◌, ◌≡◌, ◌≤◌, AsyncClique, Bool, ComesToPoint, Corrected}
-use Rattle.audit_law.proofs.law_lemmas.Words.{DeviceId, Happening, HasVerdict, Integrating, IsBefore, IsCaused, IsDue, IsDueIn, IsFounded, IsIn, IsSplit, List}
-use Rattle.audit_law.proofs.law_lemmas.Words.{Network, None, NoteBody, Option, Scenario, Some, State, Summarizes, SyncClique, Units, Verdict, []}
+use Rattle.audit_law.proofs.law_lemmas.Words.{DeviceId, Happening, Integrating, IsBefore, IsCaused, IsDue, IsDueIn, IsFounded, IsIn, IsSplit, List}
+use Rattle.audit_law.proofs.law_lemmas.Words.{Network, None, NoteBody, Option, Scenario, Some, SyncClique, Units, Verdict, []}
 use Rattle.audit_law.proofs.law_lemmas.Words.{adjustment_after, adjustment_before, after_last, ap, append-nil, arith, cases_lt, changes_adjustment}
 use Rattle.audit_law.proofs.law_lemmas.Words.{correction_value, earlier, filter, filter-append, heard_since_point, if◌then◌else◌, inl, inr, int_div_euclid}
 use Rattle.audit_law.proofs.law_lemmas.Words.{int_le, int_lt, integration_cycle, is_turned_on_at, key, last_or, le-ltb, members_in, nat_le, nat_lt, natural}
@@ -42,8 +42,8 @@ comes_by {s} {gs} hs {device} {t} {cycle} {v} same heard h =
       reached = reaches_by hs same h.reached;
       correct = h.correct;
       summary = h.summary;
-      heard = subst (λ ls. Summarizes h.summary ls) heard h.heard;
-      comes = subst (λ st. HasVerdict st h.summary v) standing h.comes;
+      heard = rw heard at h.heard;
+      comes = rw standing at h.comes;
     }
 
 -- ---- what is heard up to a time
@@ -62,7 +62,7 @@ pub record HasLate (hs : List Happening) (t : ℕ) (front : List Happening) : Ty
   pub not_lower : (h : Happening) → IsIn h late → rank h.note.body < 6 → ⊥
 
 pub time_before : (u r t q : ℕ) (ks ls : List ℕ) → IsBefore (u ∷ r ∷ ks) (t ∷ q ∷ ls) → u ≤ t
-time_before u r t q ks ls (inl lt) = omega (arith, lt)
+time_before u r t q ks ls (inl lt) = omega arith
 time_before u r t q ks ls (inr b) = omega (arith, b.0)
 
 pub late_part : {hs : List Happening} (t r : ℕ) (more : List ℕ) → 6 ≤ r → (at : IsSplit place_of hs (t ∷ r ∷ more))
@@ -75,12 +75,13 @@ late_part t r more high at =
     elim (cases_lt (time_of h) t) [ inl lt ↦ absurd (at.none h (in_filter test at.rest h i) (inl lt)) | inr ge ↦ ge ] in
     record {
       late = filter test at.rest;
-      whole = ap (filter test) at.whole ∙ filter-append test at.front at.rest ∙ ap (λ (gs : List Happening). gs ++ filter test at.rest) kept;
+      whole = ap (filter test) at.whole ∙ filter-append test at.front at.rest ∙ ap (λ gs. gs ++ filter test at.rest)
+          kept;
       not_earlier = from;
       not_lower = λ h i low.
           let first = from h i in
           let last = leb-true (time_of h) t (has_passed test at.rest h i) in
-          at.none h (in_filter test at.rest h i) (inr (omega (arith, first, last), inl (omega (arith, low, high))));
+          at.none h (in_filter test at.rest h i) (inr (omega arith, inl (omega arith)));
     }
 
 -- the records of earlier times are all in the front
@@ -97,16 +98,16 @@ late_heard s {hs} device {t} {front} l =
     let kept : List Happening → Happening → Bool = λ es h. come_by s device t es == come_by s device (time_of h) es in
     let es = earlier t front in
     let since = after_more set front l.late
-    (λ h i. ap (λ (b : Bool). b && changes_adjustment device h.note.body) (le-ltb (time_of h) t (l.not_earlier h i))) in
+    (λ h i. rw (le-ltb (time_of h) t (l.not_earlier h i))) in
     let quiet = makes_none f (filter (kept es) l.late)
     (λ h i. high_quiet s.network device h h.note.body (l.not_lower h (in_filter (kept es) l.late h i))) in
-    ap (λ (gs : List Happening). filter_map f (filter (kept gs) (after_last set (up_to t hs)))) (late_earlier l)
-    ∙ ap (λ (gs : List Happening). filter_map f (filter (kept es) (after_last set gs))) l.whole
+    rw (late_earlier l)
+    (ap (λ gs. filter_map f (filter (kept es) (after_last set gs))) l.whole
     ∙ ap (λ gs. filter_map f (filter (kept es) gs)) since
     ∙ ap (filter_map f) (filter-append (kept es) (after_last set front) l.late)
     ∙ filter_map-append f (filter (kept es) (after_last set front)) (filter (kept es) l.late)
-    ∙ ap (λ (ts : List Hearing). filter_map f (filter (kept es) (after_last set front)) ++ ts) quiet
-    ∙ append-nil (filter_map f (filter (kept es) (after_last set front)))
+    ∙ ap (λ ts. filter_map f (filter (kept es) (after_last set front)) ++ ts) quiet
+    ∙ append-nil (filter_map f (filter (kept es) (after_last set front))))
 
 -- ---- the records of correction points
 
@@ -168,9 +169,9 @@ module _ (s : Scenario) (gs : List Happening) (device : DeviceId) (t cycle : ℕ
   -- what a record shows of a verdict
   shown_place : (m : ℕ) (v : Verdict) (body : NoteBody) → ShowsVerdict s gs device t cycle v body
       → place_at t m body ≡ point_place t device v
-  shown_place m (Corrected by) body h = ap (λ b. place_at t m b) h.says
-  shown_place m SyncClique body h = ap (λ b. place_at t m b) h
-  shown_place m AsyncClique body h = ap (λ b. place_at t m b) h
+  shown_place m (Corrected by) body h = rw h.says
+  shown_place m SyncClique body h = rw h
+  shown_place m AsyncClique body h = rw h
   shown_place m Cleared body h = absurd h
 
   shown_device : (v : Verdict) (body : NoteBody) → ShowsVerdict s gs device t cycle v body → IsPointOf device body
@@ -194,7 +195,7 @@ some_point {s} {hs} {until} {device} {time} founded o =
     let v = o.verdict in
     let p = point_place time device v in
     let at = split place_of (IsDue s) hs p founded in
-    let late = late_part {hs = hs} time (point_rank v) (point_key device v) (high_rank v) at in
+    let late = late_part time (point_rank v) (point_key device v) (high_rank v) at in
     let comes = comes_by at.front (late_earlier late) (late_heard s device late) o.comes in
     let adjustment = adjusted s at.front device time v in
     let body = point_record device o.cycle adjustment v in
@@ -229,7 +230,7 @@ due_comes {s} {hs} {x} h d =
     let at = subst (λ p. (at : IsSplit place_of hs p) × (at.front ≡ h.before)) (due_place d)
     (split_at (IsDue s) hs x h, refl) in
     let late = late_part t (point_rank d.verdict) (point_key d.device d.verdict) (high_rank d.verdict) at.0 in
-    let here = subst (λ gs. ComesToPoint s gs d.device t d.cycle d.verdict) (sym at.1) d.comes in
+    let here = rw (sym at.1) at d.comes in
     comes_by (up_to t hs) (sym (late_earlier late)) (sym (late_heard s d.device late)) here
 
 point_owed : (s : Scenario) {hs : List Happening} (until : ℕ) {x : Happening}
@@ -281,8 +282,8 @@ by_point device due (notes.State other state cause whys.SyncClique) is c e = (
     verdict = SyncClique;
     comes = c.2.1;
     shows = is
-        ∙ ap (λ (u : State). notes.State other u cause whys.SyncClique) c.0
-        ∙ ap (λ (n : ℕ). notes.State other Integrating n whys.SyncClique) c.1;
+        ∙ ap (λ u. notes.State other u cause whys.SyncClique) c.0
+        ∙ ap (λ n. notes.State other Integrating n whys.SyncClique) c.1;
   },
   e,
 )
@@ -294,8 +295,8 @@ by_point device due (notes.State other state cause whys.AsyncClique) is c e = (
     verdict = AsyncClique;
     comes = c.2.1;
     shows = is
-        ∙ ap (λ (u : State). notes.State other u cause whys.AsyncClique) c.0
-        ∙ ap (λ (n : ℕ). notes.State other Integrating n whys.AsyncClique) c.1;
+        ∙ ap (λ u. notes.State other u cause whys.AsyncClique) c.0
+        ∙ ap (λ n. notes.State other Integrating n whys.AsyncClique) c.1;
   },
   e,
 )
@@ -306,10 +307,10 @@ same_place : {s : Scenario} (hs : List Happening) {t u : ℕ} {device other : De
     → ComesToPoint s (up_to u hs) other u number w → point_place t device v ≡ point_place u other w
 same_place {s} hs {t} {u} {device} {other} {number} {w} times devices a b =
     let there = subst (λ d. ComesToPoint s (up_to t hs) d t number w) (sym devices)
-    (subst (λ n. ComesToPoint s (up_to n hs) other n number w) (sym times) b) in
-    ap (λ x. point_place t device x) (same_verdict a there)
-    ∙ ap (λ n. point_place n device w) times
-    ∙ ap (λ d. point_place u d w) devices
+    (rw (sym times) at b) in
+    rw (same_verdict a there)
+    (ap (λ n. point_place n device w) times
+    ∙ ap (λ d. point_place u d w) devices)
 
 pub point_law : PointLaw
 point_law s hs until founded = record {

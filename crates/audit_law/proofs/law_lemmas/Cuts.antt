@@ -82,8 +82,8 @@ cut_at IsDue hs t founded =
       whole = at.whole;
       same = ap (filter test) at.whole
           ∙ filter-append test at.front at.rest
-          ∙ ap (λ (gs : List Happening). gs ++ filter test at.rest) (all_kept test at.front (λ h i. lt-ltb (time_of h) t (before h i)))
-          ∙ ap (λ (gs : List Happening). at.front ++ gs) (none_kept test at.rest (λ h i. le-ltb (time_of h) t (later h i)))
+          ∙ ap (λ gs. gs ++ filter test at.rest) (all_kept test at.front (λ h i. lt-ltb (time_of h) t (before h i)))
+          ∙ ap (λ gs. at.front ++ gs) (none_kept test at.rest (λ h i. le-ltb (time_of h) t (later h i)))
           ∙ append-nil at.front;
       before = before;
       later = later;
@@ -98,10 +98,10 @@ run_before IsDue u {t} le run cut =
       founded = front_founded place_of IsDue cut.front cut.rest here.founded;
       full = λ ps qs y e before none due now.
           let early = earlier_time (time_of y) t (rest_of y) now in
-          let whole = ap (λ (gs : List Happening). gs ++ cut.rest) e ∙ append_assoc ps qs cut.rest in
+          let whole = ap (λ gs. gs ++ cut.rest) e ∙ append_assoc ps qs cut.rest in
           let none_behind : NoneBefore place_of (qs ++ cut.rest) (place_of y) = λ n i b. elim (in_parts n qs cut.rest i) [
             | inl l ↦ none n l b
-            | inr r ↦ let late = cut.later n r in let sooner = in_time n y b in omega (arith, late, sooner, early)
+            | inr r ↦ let late = cut.later n r in let sooner = in_time n y b in omega arith
           ] in
           let found = here.full ps (qs ++ cut.rest) y whole before none_behind due (before_later_time (place_of y) t u le now) in
           elim (in_parts found.0 cut.front cut.rest found.1) [
@@ -109,7 +109,7 @@ run_before IsDue u {t} le run cut =
             | inr r ↦
                 let late = cut.later found.0 r in
                 let times : time_of found.0 ≡ time_of y = cc (found.2) in
-                absurd (omega (arith, late, times, early))
+                absurd (omega arith)
           ];
       within = λ n i. inl (cut.before n i);
     }
@@ -127,7 +127,7 @@ run_by IsDue IsCaused same run = record {
       let due = run.founded ps qs x e in
       let order = subst (IsFounded place_of IsDue) e run.founded in
       let none : NoneBefore place_of (x ∷ qs) (place_of x) = λ n i b. elim i [
-        | inl is ↦ never_self (place_of x) (subst (λ h. IsBefore (place_of h) (place_of x)) is b)
+        | inl is ↦ never_self (place_of x) (rw is at b)
         | inr later ↦ never_self (place_of x) (chain (place_of x) (place_of n) (place_of x) (behind_first place_of IsDue ps qs x n order later) b)
       ] in
       let here = run.within x (subst (IsIn x) (sym e) (in_right x ps (x ∷ qs) (inl refl))) in
@@ -140,7 +140,7 @@ run_by IsDue IsCaused same run = record {
 
 stays_all : {A : Type 0} (f : A → Happening → A) (a : A) (xs : List Happening) → ((b : A) (h : Happening) → IsIn h xs → f b h ≡ b) → fold f a xs ≡ a
 stays_all f a [] stays = refl
-stays_all f a (x ∷ xs) stays = ap (λ b. fold f b xs) (stays a x (inl refl)) ∙ stays_all f a xs (λ b h i. stays b h (inr i))
+stays_all f a (x ∷ xs) stays = rw (stays a x (inl refl)) (stays_all f a xs (λ b h i. stays b h (inr i)))
 
 pub stays : {A : Type 0} (f : A → Happening → A) (a : A) (xs ys : List Happening) → ((b : A) (h : Happening) → IsIn h ys → f b h ≡ b)
     → fold f a (xs ++ ys) ≡ fold f a xs
@@ -150,4 +150,4 @@ stays f a (x ∷ xs) ys quiet = stays f (f a x) xs ys quiet
 -- ---- what stands behind the last of a kind is in the list
 
 pub in_behind : {X : Type 0} (p : X → Bool) (xs : List X) (x : X) → IsIn x (after_last p xs) → IsIn x xs
-in_behind {X} p xs x i = in_drop (length xs - suffix_len (λ (y : X). not (p y)) xs) xs x i
+in_behind {X} p xs x i = in_drop (length xs - suffix_len (λ y. not (p y)) xs) xs x i

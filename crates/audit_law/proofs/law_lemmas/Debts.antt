@@ -10,13 +10,13 @@ module _ {N : Type 0} (place : N → List ℕ) where
       → NoneBefore place qs p → AllBefore place ls p → NoneBefore place rs p → ps ≡ ls
   one_split p [] qs [] rs e a n b m = refl
   one_split p [] qs (l ∷ ls) rs e a n b m =
-      absurd (n l (subst (λ t. IsIn l t) (sym e) (inl refl)) (b l (inl refl)))
+      absurd (n l (rw e (inl refl)) (b l (inl refl)))
   one_split p (x ∷ ps) qs [] rs e a n b m =
-      absurd (m x (subst (λ t. IsIn x t) e (inl refl)) (a x (inl refl)))
+      absurd (m x (rw (sym e) (inl refl)) (a x (inl refl)))
   one_split p (x ∷ ps) qs (l ∷ ls) rs e a n b m =
       let head : x ≡ l = cc in
       let tail : ps ++ qs ≡ ls ++ rs = cc in
-      ap (λ (t : N). t ∷ ps) head ∙ ap (λ (t : List N). l ∷ t)
+      ap (λ t. t ∷ ps) head ∙ ap (λ (t : List N). l ∷ t)
       (one_split p ps qs ls rs tail (λ y i. a y (inr i)) n (λ y i. b y (inr i)) m)
 
   -- each record of a founded list is due in it
@@ -32,7 +32,7 @@ module _ {N : Type 0} (place : N → List ℕ) where
         parts = at.2;
         all_before = here.0;
         none_before = λ n j sooner. elim j [
-          | inl same ↦ never_self (place m) (subst (λ (t : N). IsBefore (place t) (place m)) same sooner)
+          | inl same ↦ never_self (place m) (rw same at sooner)
           | inr later ↦ never_self (place m) (chain (place m) (place n) (place m)
               (behind_first place IsDue at.0 at.1 m n whole later) sooner)
         ];
@@ -45,9 +45,9 @@ module _ {N : Type 0} (place : N → List ℕ) where
   one_due IsDue {x} {y} one a b same =
       let fronts =
       one_split (place x) a.before a.behind b.before b.behind (sym a.parts ∙ b.parts) a.all_before a.none_before
-      (subst (λ p. AllBefore place b.before p) (sym same) b.all_before)
-      (subst (λ p. NoneBefore place b.behind p) (sym same) b.none_before) in
-      one a.before x y a.due (subst (λ t. IsDue t y) (sym fronts) b.due) same
+      (rw same b.all_before)
+      (rw same b.none_before) in
+      one a.before x y a.due (rw fronts b.due) same
 
   lacking_of : (IsDue : List N → N → Type 0) {ns : List N} {x : N} → IsDueIn place IsDue ns x
       → ((m : N) → IsIn m ns → place m ≡ place x → ⊥) → IsLacking place IsDue ns x
@@ -97,9 +97,9 @@ lack_of_unpaid {N} {place} IsDue IsDueSo {mark} {ns} IsOwed Pays one part debts 
           unpaid (
             m,
             i,
-            subst (λ t. Pays t o) (sym (one_due place IsDue one
+            rw (one_due place IsDue one
                 (due_in place IsDue ns m (founded_of_sound place IsDue mark ns sound) i)
-                (due_by_part place IsDue IsDueSo part x.1) same)) x.3,
+                (due_by_part place IsDue IsDueSo part x.1) same) x.3,
           )),
       x.2,
       x.3,

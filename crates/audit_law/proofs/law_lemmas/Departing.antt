@@ -1,9 +1,9 @@
 -- What is owed of leavings is due.
 use Rattle.audit_law.proofs.law_lemmas.Owing.{PaidAt, due_there, found_before, from_one, front_of, in_whole, next_is_due, next_of, split_at, taken_there}
 use Rattle.audit_law.proofs.law_lemmas.{Owing.{timely, within}, PermanentDrops.not_old, Words.{subst, sym, time_of, units_of, ℕ}}
-use Rattle.audit_law.proofs.law_lemmas.Words.{◌++◌, ◌+◌, ◌<◌, ◌∙◌, ◌∷◌, ◌≡◌, ◌≤◌, DeviceId, Gives, Happening, HasAccepted, IsBefore, IsCaused, IsDue}
-use Rattle.audit_law.proofs.law_lemmas.Words.{IsDueIn, IsFounded, LinkId, List, Network, NoteBody, Old, Reason, Scenario, Some, VlId, [], ahead, ap, arith}
-use Rattle.audit_law.proofs.law_lemmas.Words.{false, inl, inr, is_broken, key, members_in, numbered, place_at, place_of, rank, refl, same_some, split}
+use Rattle.audit_law.proofs.law_lemmas.Words.{◌++◌, ◌+◌, ◌<◌, ◌∙◌, ◌∷◌, ◌≡◌, DeviceId, Gives, Happening, HasAccepted, IsBefore, IsCaused, IsDue}
+use Rattle.audit_law.proofs.law_lemmas.Words.{IsDueIn, IsFounded, LinkId, List, Network, NoteBody, Scenario, Some, VlId, [], ahead, ap, arith}
+use Rattle.audit_law.proofs.law_lemmas.Words.{inl, inr, key, members_in, numbered, place_at, place_of, rank, refl, same_some, split}
 use Rattle.audit_law.specs.law.{DebtLaws.DepartureLaw, Departures.{IsDueByLeaving, OwesDeparture, TellsDeparture, leaves_at, leaving_record}}
 use Rattle.run_law.{proofs.runs.SameSteps.same_departure, specs.control.Leaving.{Departs, Departure, departure, leaves, on_cut_way, too_old}}
 use Rattle.run_law.specs.control.Wires.{Launch, launched}
@@ -55,7 +55,7 @@ some_departure {s} {hs} {until} {cause} {link} founded o =
     let body = leaving_record o.device link cause d in
     let p = leaving_place t o.device link cause d in
     let at = split place_of (IsDue s) hs p founded in
-    let sooner : IsBefore (place_of o.giving) p = ahead (time_of o.giving) t (rank o.giving.note.body) (rank body)
+    let sooner = ahead (time_of o.giving) t (rank o.giving.note.body) (rank body)
     (key (members_in o.giving) o.giving.note.body) (o.device.0 ∷ link.0 ∷ cause ∷ []) (omega arith)
     (given_before s.network o.giving.note.body o.device link cause d o.gives) in
     let departs : Departs s at.front o.device t link cause d = record {
@@ -106,8 +106,8 @@ departure_owed s {hs} until {x} h here =
       gives = d.gives;
       frame = d.frame;
       of_frame = d.of_frame;
-      correct = subst (λ u. is_broken s h.due.device u ≡ false) d.held d.correct;
-      timely = subst (λ u. u ≤ until) d.held (timely (time_of x) until (rank x.note.body ∷ key (members_in x) x.note.body) here);
+      correct = rw d.held at d.correct;
+      timely = rw d.held at (timely (time_of x) until (rank x.note.body ∷ key (members_in x) x.note.body) here);
     } in
     let told = subst (TellsDeparture h.due.cause h.due.link) (sym h.due.says) (tells h.due.device h.due.link h.due.cause h.due.is) in
     ((h.due.cause, h.due.link), owed, told, d.held)
@@ -155,7 +155,7 @@ by_leaving cause link due founded some gives (notes.Left device by from clock) i
     (record { due = due; device = device; link = by; cause = from; is = leaves clock; departs = c; says = is }, e.1, e.0)
 by_leaving {s} {before} cause link due founded some gives (notes.Lost device by from) is c e =
     let all : (g : Happening) → numbered before from ≡ Some g → IsGiving g.note.body = λ g here.
-    gives g (subst (λ n. numbered before n ≡ Some g) e.1 here) in
+    gives g (rw e.1 at here) in
     elim c [
       | inl d ↦ (record { due = due; device = device; link = by; cause = from; is = on_cut_way; departs = d; says = is }, e.1, e.0)
       | inr (inl row) ↦
@@ -167,12 +167,12 @@ by_leaving {s} {before} cause link due founded some gives (notes.Lost device by 
     ]
 by_leaving {s} {before} {x} cause link due founded some gives (notes.Dropped device by from reason) is c e =
     let all : (g : Happening) → numbered before from ≡ Some g → IsGiving g.note.body = λ g here.
-    gives g (subst (λ n. numbered before n ≡ Some g) e.1 here) in
+    gives g (rw e.1 at here) in
     elim c [
       | inl a ↦ absurd (puts_none s a.putting (time_of a.putting) a.putting.note.body _ (all a.putting a.there) a.arrives.put)
       | inr (inl r) ↦ absurd (not_old reason r.1 e.2)
       | inr (inr l) ↦
-          let old : x.note.body ≡ notes.Dropped device by from Old = is ∙ ap (λ (r : Reason). notes.Dropped device by from r) l.1 in
+          let old = is ∙ ap (λ r. notes.Dropped device by from r) l.1 in
           (record { due = due; device = device; link = by; cause = from; is = too_old; departs = l.0; says = old }, e.1, e.0)
     ]
 by_leaving cause link due founded some gives other is c e = absurd e
@@ -190,28 +190,28 @@ pub same_place : {s : Scenario} {hs : List Happening} {t u : ℕ} {device other 
     {cause from : ℕ} {d e : Departure} → cause ≡ from → link ≡ by → Departs s hs device t link cause d
     → Departs s hs other u by from e → leaving_place t device link cause d ≡ leaving_place u other by from e
 same_place {s} {hs} {t} {u} {device} {other} {link} {by} {cause} {d} {e} causes links a b =
-    let there = subst (λ k. Departs s hs other u k cause e) (sym links) (subst (λ n. Departs s hs other u by n e) (sym causes) b) in
-    let one : there.giving ≡ a.giving = same_some (numbered hs cause) there.giving a.giving there.there a.there in
-    let devices : device ≡ other = one_giver s.network a.giving.note.body device other link a.gives
-    (subst (λ (h : Happening). Gives s.network h.note.body other link) one there.gives) in
-    let times : t ≡ u = a.held
+    let there = subst (λ k. Departs s hs other u k cause e) (sym links) (rw (sym causes) at b) in
+    let one = same_some (numbered hs cause) there.giving a.giving there.there a.there in
+    let devices = one_giver s.network a.giving.note.body device other link a.gives
+    (rw (sym one) there.gives) in
+    let times = a.held
     ∙ ap (λ x. leaves_at s x link a.giving) devices
     ∙ ap (λ h. leaves_at s other link h) (sym one)
     ∙ sym there.held in
     let moved = subst (λ k. Departs s hs k t link cause e) (sym devices)
-    (subst (λ n. Departs s hs other n link cause e) (sym times) there) in
-    let outcomes : d ≡ e = same_departure s hs t device link cause a moved in
-    ap (λ o. leaving_place t device link cause o) outcomes
-    ∙ ap (λ n. leaving_place n device link cause e) times
+    (rw (sym times) at there) in
+    let outcomes = same_departure s hs t device link cause a moved in
+    rw outcomes
+    (ap (λ n. leaving_place n device link cause e) times
     ∙ ap (λ k. leaving_place u k link cause e) devices
     ∙ ap (λ k. leaving_place u other k cause e) links
-    ∙ ap (λ n. leaving_place u other by n e) causes
+    ∙ ap (λ n. leaving_place u other by n e) causes)
 
 -- the place of what is due by a leaving
 due_place : {s : Scenario} {before : List Happening} {x : Happening} (h : IsDueByLeaving s before x)
     → place_of x ≡ leaving_place (time_of x) h.device h.link h.cause h.is
 due_place {x} h =
-    ap (λ b. place_at (time_of x) (members_in x) b) h.says ∙ record_place (time_of x) (members_in x) h.device h.link h.cause h.is
+    rw h.says (record_place (time_of x) (members_in x) h.device h.link h.cause h.is)
 
 -- what is due and tells of a leaving that is owed is due by it in the list
 due_so : {s : Scenario} {hs : List Happening} {until cause : ℕ} {link : LinkId} {x : Happening}
@@ -221,8 +221,8 @@ due_so {s} {hs} {cause} {link} {x} founded o h tells =
     let front = front_of s hs (place_of x) founded (split_at (IsDue s) hs x h) in
     let gives = gives_so s.network o.giving.note.body o.device link o.gives in
     let all : (g : Happening) → numbered h.before cause ≡ Some g → IsGiving g.note.body = λ g there.
-    subst (λ (k : Happening). IsGiving k.note.body)
-    (same_some (numbered hs cause) o.giving g o.there (in_whole hs h.before h.behind cause g h.parts there)) gives in
+    rw (same_some (numbered hs cause) o.giving g o.there (in_whole hs h.before h.behind cause g h.parts
+        there)) at gives in
     by_leaving cause link h.due front (from_one hs cause o.giving o.there) all x.note.body refl h.due.cause tells
 
 -- it departs by the list

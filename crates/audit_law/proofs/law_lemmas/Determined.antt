@@ -1,7 +1,7 @@
 -- A record that is due in an audit is determined by its place.
-use Rattle.audit_law.proofs.law_lemmas.Words.{◌+ℤ◌, ◌∙◌, ◌≡◌, ◌⊎◌, AsyncClique, ChangesState, ComesToPoint, Corrected, DeviceId, Happening, HasVerdict}
-use Rattle.audit_law.proofs.law_lemmas.Words.{IsCaused, IsDue, List, NoteBody, Scenario, State, SyncClique, Units, Verdict, Why, adjustment_before, amount, ap}
-use Rattle.audit_law.proofs.law_lemmas.Words.{arith, heard_since_point, inl, inr, key, members_in, next_point, place_of, rank, standing_at, subst, sym, true, ℕ}
+use Rattle.audit_law.proofs.law_lemmas.Words.{◌+ℤ◌, ◌∙◌, ◌≡◌, ◌⊎◌, ChangesState, ComesToPoint, DeviceId, Happening}
+use Rattle.audit_law.proofs.law_lemmas.Words.{IsCaused, IsDue, List, NoteBody, Scenario, State, Units, Verdict, Why, adjustment_before, amount, ap}
+use Rattle.audit_law.proofs.law_lemmas.Words.{arith, heard_since_point, inl, inr, key, members_in, next_point, place_of, rank, standing_at, sym, true, ℕ}
 use Rattle.{audit_law.specs.law.DueRecords.IsCorrectedRecord, run_law.specs.{device.States.{is_joined_by, state_before}, records.Happenings.happening}}
 use Rattle.{net_plan.proofs.SameIds.same_device, run_law.specs.runs.Runs.IsDetermined}
 use Rattle.{run_law.proofs.control.Joined.looking_by, sync_state.proofs.LawLemmas.one_verdict, tte_units.proofs.general_lemmas.Options.one}
@@ -78,7 +78,7 @@ module _ {s : Scenario} {hs : List Happening} {t : ℕ} {device : DeviceId} {cyc
   same_verdict =
       let heard = one_summary (heard_since_point s hs device t) a.summary b.summary a.heard b.heard in
       one_verdict (standing_at s hs device t) a.summary v w a.comes
-      (subst (λ u. HasVerdict (standing_at s hs device t) u w) (sym heard) b.comes)
+      (rw heard b.comes)
 
 module _ (s : Scenario) (hs : List Happening) (t : ℕ) (device : DeviceId) where
   same_corrected : {cycle other : ℕ} {by gain adjustment later : Units}
@@ -88,11 +88,11 @@ module _ (s : Scenario) (hs : List Happening) (t : ℕ) (device : DeviceId) wher
       let cycles = same_cycle a.corrected b.corrected in
       let verdicts = same_verdict a.corrected b.corrected in
       let gains : by ≡ gain = cc in
-      let sums = same_units adjustment later (a.sum ∙ ap (λ (u : Units). (adjustment_before s hs device t).0 +ℤ u.0)
+      let sums = same_units adjustment later (a.sum ∙ ap (λ u. (adjustment_before s hs device t).0 +ℤ u.0)
       gains ∙ sym b.sum) in
-      ap (λ (c : ℕ). notes.Corrected device c by adjustment) cycles
-      ∙ ap (λ (u : Units). notes.Corrected device other u adjustment) gains
-      ∙ ap (λ (u : Units). notes.Corrected device other gain u) sums
+      rw cycles
+      (ap (λ u. notes.Corrected device other u adjustment) gains
+      ∙ ap (λ u. notes.Corrected device other gain u) sums)
 
   -- a change that no correction point brings has a cause
   has_cause : (other : DeviceId) (cause : ℕ) (state : State) (why : Why)
@@ -115,22 +115,22 @@ module _ (s : Scenario) (hs : List Happening) (time : Units) (m n : ℕ) where
       → rank a ≡ rank b → key m a ≡ key n b → ⊥
   apart (notes.Corrected device cycle by adjustment) (notes.Corrected other number gain later) p off a b kinds keys =
       off
-  apart (notes.Corrected device cycle by adjustment) body p off a b kinds keys = omega (arith, kinds)
+  apart (notes.Corrected device cycle by adjustment) body p off a b kinds keys = omega arith
   apart (notes.State device state cause whys.SyncClique) (notes.State other later from for) p off a b kinds keys =
       let causes : cause ≡ from = cc in has_cause s hs (amount time) other other from later for off b (sym causes ∙ a.1)
   apart (notes.State device state cause whys.AsyncClique) (notes.State other later from for) p off a b kinds keys =
       let causes : cause ≡ from = cc in has_cause s hs (amount time) other other from later for off b (sym causes ∙ a.1)
-  apart (notes.State device state cause why) body p off a b kinds keys = omega (arith, kinds)
+  apart (notes.State device state cause why) body p off a b kinds keys = omega arith
   apart body other p off a b kinds keys = absurd p
 
   same_body : (a b : NoteBody) → IsOfPoint a → IsOfPoint b → IsCaused s hs time a → IsCaused s hs time b
       → rank a ≡ rank b → key m a ≡ key n b → a ≡ b
   same_body (notes.Corrected device cycle by adjustment) (notes.Corrected other number gain later) p q a b kinds keys =
       let ids : device.0 ≡ other.0 = cc in
-      let devices : device ≡ other = same_device device other ids in
-      let there = subst (λ d. IsCorrectedRecord s hs d (amount time) number gain later) (sym devices) b in
+      let devices = same_device device other ids in
+      let there = rw (sym devices) at b in
       same_corrected s hs (amount time) device a there
-      ∙ ap (λ (d : DeviceId). notes.Corrected d number gain later) devices
+      ∙ ap (λ d. notes.Corrected d number gain later) devices
   same_body (notes.State device state cause whys.SyncClique) (notes.State other later from whys.SyncClique) p q a b
       kinds keys =
       let ids : device.0 ≡ other.0 =
@@ -142,23 +142,21 @@ module _ (s : Scenario) (hs : List Happening) (time : Units) (m n : ℕ) where
   same_body (notes.State device state cause whys.SyncClique) (notes.State other later from whys.AsyncClique) p q a b
       kinds keys =
       let ids : other.0 ≡ device.0 = cc in
-      let there = subst (λ d. ComesToPoint s hs d (amount time) b.2.0 AsyncClique)
-      (same_device other device ids) b.2.1 in
+      let there = rw (same_device other device ids) at b.2.1 in
       let verdicts = same_verdict a.2.1 there in absurd cc
   same_body (notes.State device state cause whys.AsyncClique) (notes.State other later from whys.SyncClique) p q a b
       kinds keys =
       let ids : other.0 ≡ device.0 = cc in
-      let there = subst (λ d. ComesToPoint s hs d (amount time) b.2.0 SyncClique)
-      (same_device other device ids) b.2.1 in
+      let there = rw (same_device other device ids) at b.2.1 in
       let verdicts = same_verdict a.2.1 there in absurd cc
-  same_body (notes.Corrected device cycle by adjustment) body p q a b kinds keys = absurd (omega (arith, kinds))
+  same_body (notes.Corrected device cycle by adjustment) body p q a b kinds keys = absurd (omega arith)
   same_body (notes.State device state cause why) (notes.Corrected other number gain later) p q a b kinds keys =
-      absurd (omega (arith, kinds))
+      absurd (omega arith)
   same_body (notes.State device state cause whys.On) body p q a b kinds keys = absurd p
   same_body (notes.State device state cause whys.Frame) body p q a b kinds keys = absurd p
   same_body (notes.State device state cause whys.Correction) body p q a b kinds keys = absurd p
   same_body (notes.State device state cause why) (notes.State other later from for) p q a b kinds keys = absurd q
-  same_body (notes.State device state cause why) body p q a b kinds keys = absurd (omega (arith, kinds))
+  same_body (notes.State device state cause why) body p q a b kinds keys = absurd (omega arith)
   same_body body other p q a b kinds keys = absurd p
 
 pub due_in_run : {s : Scenario} {ps : List Happening} {x : Happening} → IsOfNoPoint x.note.body → IsDue s ps x
@@ -169,11 +167,10 @@ due_in_run {s} {ps} {x} off d =
 -- given the same records before, two that are due at one place are one
 pub due_is_determined : (s : Scenario) → IsDetermined place_of (IsDue s)
 due_is_determined s ps x y a b same =
-    let amounts : amount x.note.time ≡ amount y.note.time = cc in
     let kinds : rank x.note.body ≡ rank y.note.body = cc in
     let keys : key (members_in x) x.note.body ≡ key (members_in y) y.note.body = cc in
-    let times = same_time x.note.time y.note.time a.begun b.begun amounts in
-    let there = subst (λ t. IsCaused s ps t y.note.body) (sym times) b.cause in
+    let times = same_time x.note.time y.note.time a.begun b.begun cc in
+    let there = rw (sym times) at b.cause in
     elim (either x.note.body) [
       | inl p ↦ elim (either y.note.body) [
         | inl q ↦

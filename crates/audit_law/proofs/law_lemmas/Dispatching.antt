@@ -1,8 +1,8 @@
 -- What is owed of schedules is due.
 use Rattle.{audit_law.proofs.law_lemmas.Owing.{PaidAt, due_there, earlier_in, next_is_due, next_of, timely, within}, run_law.proofs.device.States.reaches_by}
-use Rattle.audit_law.proofs.law_lemmas.Words.{◌+◌, ◌∙◌, ◌∷◌, ◌≡◌, ◌≤◌, Bool, DeviceId, Dispatch, Happening, IsBefore, IsCaused, IsDue, IsDueIn, IsFounded}
+use Rattle.audit_law.proofs.law_lemmas.Words.{◌+◌, ◌∙◌, ◌∷◌, ◌≡◌, Bool, DeviceId, Dispatch, Happening, IsBefore, IsCaused, IsDue, IsDueIn, IsFounded}
 use Rattle.audit_law.proofs.law_lemmas.Words.{LinkId, List, Scenario, VlId, [], amount, ap, earlier, false, inl, inr, is_turned_on_at, key}
-use Rattle.audit_law.proofs.law_lemmas.Words.{members_in, place_at, place_of, rank, refl, same_earlier, split, state_after, subst, sym, time_of, true, units_of}
+use Rattle.audit_law.proofs.law_lemmas.Words.{members_in, place_at, place_of, rank, refl, same_earlier, split, state_after, sym, time_of, true, units_of}
 use Rattle.{audit_law.proofs.law_lemmas.Words.ℕ, run_law.proofs.timed.Rows.at_hand_by, std.proofs.Common.arith}
 use Rattle.{audit_law.specs.law.{DebtLaws.{DispatchLaw, SendingLaw}, Dispatched.is_cut_then}, run_law.specs.timed.Dispatching.{Dispatches, IsUp, Sends}}
 use Rattle.audit_law.specs.law.Dispatched.{IsDueByDispatch, IsDueBySending, OwesDispatch, OwesSending, Sending, TellsDispatch, TellsSending, dispatch_record}
@@ -51,8 +51,8 @@ sending_owed s {hs} until {x} h here =
 
 sending_place : {o : Sending} {x : Happening} → TellsSending o x
     → place_of x ≡ place_at o.time 0 (notes.Sent o.device o.cycle)
-sending_place {o} {x} h = ap (λ b. place_at (time_of x) (members_in x) b) h.says ∙ ap
-    (λ t. place_at t 0 (notes.Sent o.device o.cycle)) h.at
+sending_place {o} {x} h = rw h.says (ap
+    (λ t. place_at t 0 (notes.Sent o.device o.cycle)) h.at)
 
 pub sending_law : SendingLaw
 sending_law s hs until founded = record {
@@ -103,10 +103,10 @@ dispatch_owed : (s : Scenario) {hs : List Happening} (until : ℕ) {x : Happenin
 dispatch_owed s {hs} until {x} h here =
     let d = h.due in
     let same : earlier d.is.time h.before ≡ earlier d.is.time hs =
-    subst (λ t. earlier t h.before ≡ earlier t hs) d.at (earlier_in (IsDueByDispatch s) h) in
+    rw d.at at (earlier_in (IsDueByDispatch s) h) in
     let owed : OwesDispatch s hs until d.is = record {
       dispatches = dispatches_by s h.before hs d.is.device d.is.time same d.dispatches;
-      timely = subst (λ t. t ≤ until) d.at (timely (time_of x) until (rank x.note.body ∷ key (members_in x) x.note.body) here);
+      timely = rw d.at at (timely (time_of x) until (rank x.note.body ∷ key (members_in x) x.note.body) here);
     } in
     (d.is, owed, record { at = d.at; says = d.says }, d.at)
 

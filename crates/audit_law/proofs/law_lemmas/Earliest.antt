@@ -1,7 +1,7 @@
 -- The first time at which a debt of a sort is not paid: of one, of two sorts, of one sort after another, and of all.
 use Rattle.audit_law.specs.law.FirstDebts.{FirstDebtLaw, JoinedSortsLaw, TellsFirst, TellsUnpaid, earlier_of}
 use Rattle.audit_law.proofs.law_lemmas.Words.{◌+◌, ◌<◌, ◌≡◌, ◌≤◌, ◌⊎◌, Debt, Happening, IsDue, IsFounded, IsOwed}
-use Rattle.audit_law.proofs.law_lemmas.Words.{IsPaid, List, None, Option, Pays, Scenario, Some, arith, cases_lt, inl}
+use Rattle.audit_law.proofs.law_lemmas.Words.{List, None, Option, Scenario, Some, arith, cases_lt, inl}
 use Rattle.audit_law.proofs.law_lemmas.Words.{inr, place_of, refl, subst, sym, ℕ}
 use Rattle.{audit_law.proofs.law_lemmas.AllOwed.{debt_law, one_time}, std.specs.Prelude.IsTrue}
 use Rattle.{audit_law.specs.law.Owed.falls_due, tte_units.proofs.general_lemmas.Naturals.below_next}
@@ -31,11 +31,11 @@ module _ (s : Scenario) (hs : List Happening) (until : ℕ) where
               one = right g.debt g.one;
               owed = g.owed;
               unpaid = g.unpaid;
-              at = let due = g.at in omega (arith, due, less);
+              at = let due = g.at in omega arith;
               first = λ other is in_c not.
                   elim (parts other in_c) [
-                    | inl p ↦ let late = h.first other is p not in omega (arith, late, less)
-                    | inr q ↦ let late = g.first other is q not in omega (arith, late, less)
+                    | inl p ↦ let late = h.first other is p not in omega arith
+                    | inr q ↦ let late = g.first other is q not in omega arith
                   ];
             }
         | inr more ↦
@@ -44,11 +44,11 @@ module _ (s : Scenario) (hs : List Happening) (until : ℕ) where
               one = left h.debt h.one;
               owed = h.owed;
               unpaid = h.unpaid;
-              at = let due = h.at in omega (arith, due, more);
+              at = let due = h.at in omega arith;
               first = λ other is in_c not.
                   elim (parts other in_c) [
-                    | inl p ↦ let late = h.first other is p not in omega (arith, late, more)
-                    | inr q ↦ let late = g.first other is q not in omega (arith, late, more)
+                    | inl p ↦ let late = h.first other is p not in omega arith
+                    | inr q ↦ let late = g.first other is q not in omega arith
                   ];
             }
       ]
@@ -61,7 +61,7 @@ module _ (s : Scenario) (hs : List Happening) (until : ℕ) where
   pub first_of_one : IsFounded place_of (IsDue s) hs → (x : Debt) (r : Option ℕ) → TellsUnpaid s hs until x r
       → TellsFirst s hs until (λ o. o ≡ x) r
   first_of_one founded x None h = λ o is owed.
-      subst (λ (y : Debt). IsOwed s hs until y → IsPaid hs (Pays s) y) (sym is) h owed
+      (rw (sym is) at h) owed
   first_of_one founded x (Some t) h = record {
     debt = x;
     one = refl;
@@ -69,7 +69,7 @@ module _ (s : Scenario) (hs : List Happening) (until : ℕ) where
     unpaid = h.unpaid;
     at = h.at;
     first = λ other is same not.
-        subst (λ (y : Debt). (owed : IsOwed s hs until y) → t ≤ falls_due s hs until y owed) (sym same)
+        subst (λ y. (owed : IsOwed s hs until y) → t ≤ falls_due s hs until y owed) (sym same)
         (λ owed. let at = h.at in let one = one_time s hs until founded x h.owed owed in omega (arith, at, one)) is;
   }
 
@@ -82,7 +82,7 @@ module _ (s : Scenario) (hs : List Happening) (until : ℕ) where
   -- ---- one sort after another
 
   pub first_of_none : (Is : ℕ → Debt → Type 0) → TellsFirst s hs until (IsOfFirst Is 0) None
-  first_of_none Is = λ o is owed. let lt = is.1 in absurd (omega (arith, lt))
+  first_of_none Is = λ o is owed. let lt = is.1 in absurd (omega arith)
 
   pub first_of_next : (Is : ℕ → Debt → Type 0) (n : ℕ) (first one : Option ℕ)
       → TellsFirst s hs until (IsOfFirst Is n) first → TellsFirst s hs until (Is n) one
@@ -92,9 +92,9 @@ module _ (s : Scenario) (hs : List Happening) (until : ℕ) where
       (λ o is.
       elim (below_next is.0 n is.1) [
         | inl less ↦ inl (is.0, less, is.2)
-        | inr same ↦ inr (subst (λ (m : ℕ). Is m o) same is.2)
+        | inr same ↦ inr (rw same at is.2)
       ])
-      (λ o is. let lt = is.1 in (is.0, omega (arith, lt), is.2))
+      (λ o is. let lt = is.1 in (is.0, omega arith, is.2))
       (λ o is. (n, omega arith, is))
 
 pub joined_sorts : JoinedSortsLaw

@@ -1,10 +1,10 @@
 -- What is owed of clusters is due.
 use Rattle.audit_law.proofs.law_lemmas.{Owing.{PaidAt, due_there, next_is_due, next_of, split_at, timely, within}, Words.{split, subst, sym, time_of, ℕ}}
-use Rattle.audit_law.proofs.law_lemmas.Words.{◌+◌, ◌∙◌, ◌∷◌, ◌≡◌, AllBefore, Bool, DeviceId, Happening, IsBefore, IsCaused, IsDue, IsDueIn, IsFounded}
+use Rattle.audit_law.proofs.law_lemmas.Words.{◌+◌, ◌∙◌, ◌∷◌, ◌≡◌, AllBefore, DeviceId, Happening, IsBefore, IsCaused, IsDue, IsDueIn, IsFounded}
 use Rattle.audit_law.proofs.law_lemmas.Words.{IsReach, IsSplit, List, NoteBody, Scenario, [], ap, append-nil, false_from_ne_true, filter, filter-append}
-use Rattle.audit_law.proofs.law_lemmas.Words.{if◌then◌else◌, inl, inr, is_before, is_there, key, members_in, none_kept, place_at, place_of, pos, rank, refl}
+use Rattle.audit_law.proofs.law_lemmas.Words.{inl, inr, is_before, is_there, key, members_in, none_kept, place_at, place_of, pos, rank, refl}
 use Rattle.audit_law.specs.law.{DebtLaws.EmissionLaw, Emitted.{IsDueByEmission, OwesEmission, TellsEmission, before_place, emission_place, emission_record}}
-use Rattle.{compression.specs.declared.compressed.Compressed.Compressed, run_law.{proofs.records.Order.before_is, specs.control.Emissions.Emits}}
+use Rattle.{compression.specs.declared.compressed.Compressed.Compressed, run_law.{proofs.records.Order.before_is}}
 use Rattle.{drift_clock.proofs.Reaches.one_reach, std.proofs.Common.arith}
 use Rattle.run_law.specs.declared.note.NoteBody.TheVariants as notes
 
@@ -13,8 +13,8 @@ use Rattle.run_law.specs.declared.note.NoteBody.TheVariants as notes
 all_kept : (hs : List Happening) (p : List ℕ) → AllBefore place_of hs p → before_place hs p ≡ hs
 all_kept [] p all = refl
 all_kept (h ∷ hs) p all =
-    ap (λ (b : Bool). if b then h ∷ before_place hs p else before_place hs p) (before_is (place_of h) p (all h (inl refl)))
-    ∙ ap (λ (gs : List Happening). h ∷ gs) (all_kept hs p (λ g i. all g (inr i)))
+    rw (before_is (place_of h) p (all h (inl refl)))
+    (ap (λ gs. h ∷ gs) (all_kept hs p (λ g i. all g (inr i))))
 
 -- where a list parts at a place, its front is the records before that
 pub before_is_front : {hs : List Happening} {p : List ℕ} (at : IsSplit place_of hs p) → before_place hs p ≡ at.front
@@ -30,7 +30,7 @@ some_emission {s} {hs} {until} {device} {sent} founded o =
     let body = emission_record device sent o.verdict in
     let p = emission_place o.time device sent in
     let at = split place_of (IsDue s) hs p founded in
-    let emits = subst (λ gs. Emits s gs device o.time sent o.verdict) (before_is_front at) o.emits in
+    let emits = rw (before_is_front at) at o.emits in
     let x = next_of s at.front o.time body in
     let due : IsDueByEmission s at.front x = record {
       due = next_is_due s at.front o.time body emits;
@@ -46,7 +46,7 @@ some_emission {s} {hs} {until} {device} {sent} founded o =
 -- the place of what is due by an emission
 due_place : {s : Scenario} {before : List Happening} {x : Happening} (h : IsDueByEmission s before x)
     → place_of x ≡ emission_place (time_of x) h.device h.sent
-due_place {x} h = ap (λ b. place_at (time_of x) (members_in x) b) h.says
+due_place {x} h = rw h.says
 
 emission_owed : (s : Scenario) {hs : List Happening} (until : ℕ) {x : Happening}
     → IsDueIn place_of (IsDueByEmission s) hs x → IsBefore (place_of x) ((until + 1) ∷ [])
@@ -59,7 +59,7 @@ emission_owed s {hs} until {x} h here =
     let owed : OwesEmission s hs until d.device d.sent = record {
       time = time_of x;
       verdict = d.verdict;
-      emits = subst (λ gs. Emits s gs d.device (time_of x) d.sent d.verdict) (sym front) d.emits;
+      emits = rw front d.emits;
       timely = timely (time_of x) until (rank x.note.body ∷ key (members_in x) x.note.body) here;
     } in
     ((d.device, d.sent), owed, subst (TellsEmission d.device d.sent) (sym d.says) (refl, refl, refl, refl, refl), refl)

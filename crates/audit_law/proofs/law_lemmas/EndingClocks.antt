@@ -44,7 +44,7 @@ clock_owed s until {x} h here =
     ((d.device, time_of x), owed, (refl, subst (IsClockOf d.device) (sym d.says) refl), refl)
 
 pub place_of_clock : (t m : ℕ) (device : DeviceId) (body : NoteBody) → IsClockOf device body → place_at t m body ≡ t ∷ 14 ∷ device.0 ∷ []
-place_of_clock t m device (notes.Clock other shown adjustment state) e = ap (λ (d : DeviceId). t ∷ 14 ∷ d.0 ∷ []) e
+place_of_clock t m device (notes.Clock other shown adjustment state) e = rw e
 place_of_clock t m device other e = absurd e
 
 pub clock_law : ClockLaw
@@ -53,6 +53,6 @@ clock_law s hs until founded = record {
   some = λ at o. some_clock hs founded o;
   one = λ at x y o a b p q.
       place_of_clock (time_of x) (members_in x) at.0 x.note.body p.1
-      ∙ ap (λ (t : ℕ). t ∷ 14 ∷ at.0.0 ∷ []) (p.0 ∙ sym q.0)
+      ∙ ap (λ t. t ∷ 14 ∷ at.0.0 ∷ []) (p.0 ∙ sym q.0)
       ∙ sym (place_of_clock (time_of y) (members_in y) at.0 y.note.body q.1);
 }

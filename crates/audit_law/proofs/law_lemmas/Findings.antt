@@ -1,7 +1,7 @@
 -- What may be found wrong with the records of a scenario.
 use Rattle.audit_law.proofs.law_lemmas.{Numbered.by_number, Sound.{founded_of_sound, lacks_in_gaps, next_exactly, none_unsound, one_unsound, run_exactly}}
 use Rattle.audit_law.proofs.law_lemmas.Words.{◌∷◌, ◌≡◌, ◌⊎◌, DeviceId, Happening, HasAccepted, IsCaused, IsDue, IsFounded, List, NoteBody, Scenario, Some}
-use Rattle.{audit_law.proofs.law_lemmas.Words.{Units, VlId, front_founded, inl, inr, numbered, place_of, refl, subst, sym, ℕ}, std.proofs.Common.arith}
+use Rattle.{audit_law.proofs.law_lemmas.Words.{Units, VlId, front_founded, inl, inr, numbered, place_of, refl, subst, ℕ}, std.proofs.Common.arith}
 use Rattle.{audit_law.specs.law.Laws.{AuditLaws, GapLaw, NextLaw}, run_law.{proofs.law.FirstDeliveries.accepted_in, specs.records.Causes.cause_of}}
 use Rattle.run_law.specs.declared.judgement.Why.TheVariants as whys
 use Rattle.run_law.specs.declared.note.NoteBody.TheVariants as notes
@@ -25,7 +25,7 @@ module _ (s : Scenario) (before : List Happening) where
       → HasAccepted before device vl t cause cycle → HasCauseAt before cause
   has_number founded has =
       let found = by_number s before has.taken founded (accepted_in has) in
-      inr (has.taken, subst (λ n. numbered before n ≡ Some has.taken) (sym has.number) found)
+      inr (has.taken, rw has.number found)
 
   caused : (time : Units) (body : NoteBody) → IsFounded place_of (IsDue s) before → IsCaused s before time body
       → HasCauseAt before (cause_of body)

@@ -1,5 +1,5 @@
 -- The first record that is lacking is that of the first debt that is not paid.
-use Rattle.audit_law.proofs.law_lemmas.Words.{◌∙◌, ◌∷◌, ◌≡◌, Happening, List, Scenario, arith, cases_lt, inl, inr, key, members_in, rank, sym, time_of, ℕ}
+use Rattle.audit_law.proofs.law_lemmas.Words.{◌∙◌, ◌∷◌, Happening, List, Scenario, arith, cases_lt, inl, inr, key, members_in, rank, sym, time_of, ℕ}
 use Rattle.audit_law.{proofs.law_lemmas.{AllOwed.debt_law, Owing.{timely, within}}, specs.law.DebtLaws.{IsFirstDebt, IsFirstLack, LackLaw, ShowsInDebts}}
 
 lack_to_debt : {s : Scenario} {hs : List Happening} {until time : ℕ} → ShowsInDebts s hs until
@@ -14,7 +14,7 @@ lack_to_debt shows lack =
       first = λ other is not.
           let x = shows.unpaid other is not in
           let late = lack.first x.0 x.1 in
-          omega (arith, late, x.4);
+          omega (arith, x.4);
     }
 
 debt_to_lack : {s : Scenario} {hs : List Happening} {until time : ℕ} → ShowsInDebts s hs until
@@ -22,7 +22,7 @@ debt_to_lack : {s : Scenario} {hs : List Happening} {until time : ℕ} → Shows
 debt_to_lack {until} {time} shows debt =
     let x = shows.unpaid debt.debt debt.owed debt.unpaid in
     let place : Happening → List ℕ = λ h. rank h.note.body ∷ key (members_in h) h.note.body in
-    let at : time ≡ time_of x.0 = debt.at ∙ sym x.4 in
+    let at = debt.at ∙ sym x.4 in
     record {
       missing = x.0;
       lacking = x.1;
@@ -30,15 +30,15 @@ debt_to_lack {until} {time} shows debt =
       at = at;
       first = λ other lacks.
           elim (cases_lt until (time_of other)) [
-            | inl later ↦ let soon = timely (time_of x.0) until (place x.0) x.2 in omega (arith, later, soon, at)
+            | inl later ↦ let soon = timely (time_of x.0) until (place x.0) x.2 in omega arith
             | inr here ↦
                 let p = shows.lacking other lacks (within (time_of other) until (place other) here) in
                 let late = debt.first p.0 p.1 p.4 in
-                omega (arith, late, p.3)
+                omega (arith, p.3)
           ];
     }
 
 pub lack_law : LackLaw
 lack_law s hs until time sound =
     let shows = debt_law s hs until sound in
-    (lack_to_debt {time = time} shows, debt_to_lack {time = time} shows)
+    (lack_to_debt shows, debt_to_lack shows)

@@ -4,7 +4,7 @@ use Rattle.audit_law.proofs.law_lemmas.{Owing.{timely, within}, Words.{rank, ref
 use Rattle.audit_law.proofs.law_lemmas.Words.{◌+◌, ◌∙◌, ◌∷◌, ◌≡◌, DeviceId, Gives, Happening, IsBefore, IsCaused, IsDue, IsDueIn, IsFounded, LinkId, List}
 use Rattle.audit_law.proofs.law_lemmas.Words.{Network, NoteBody, Scenario, Some, [], ahead, ap, arith, inl, inr, key, members_in, numbered, place_at, place_of}
 use Rattle.{audit_law.specs.law.DebtLaws.LossLaw, run_law.specs.control.Losses.IsSendLost}
-use Rattle.{audit_law.specs.law.LostSends.{IsDueBySend, OwesLoss, TellsLoss}, net_plan.specs.declared.{event.What.TheVariants.Send, tables.Link.Link}}
+use Rattle.{audit_law.specs.law.LostSends.{IsDueBySend, OwesLoss, TellsLoss}}
 use Rattle.run_law.specs.declared.note.NoteBody.TheVariants as notes
 
 -- a loss is one by other records that have its event
@@ -21,8 +21,8 @@ some_loss {s} {hs} {until} {cause} founded o =
     let at = split place_of (IsDue s) hs p founded in
     let event = o.lost.event in
     let low : rank event.note.body ≡ 1 = ap rank o.lost.sends in
-    let sooner : IsBefore (place_of event) p = ahead (time_of event) o.time (rank event.note.body) 9 (key (members_in event) event.note.body)
-    (o.device.0 ∷ o.link.0 ∷ cause ∷ []) (omega (arith, o.lost.is.same_time)) (omega (arith, low)) in
+    let sooner = ahead (time_of event) o.time (rank event.note.body) 9 (key (members_in event) event.note.body)
+    (o.device.0 ∷ o.link.0 ∷ cause ∷ []) (omega (arith, o.lost.is.same_time)) (omega arith) in
     let lost = moved at.front o.lost (found_before s hs p founded at cause event o.lost.is.there sooner) in
     let x = next_of s at.front o.time body in
     let due : IsDueBySend s at.front x = record {
@@ -66,7 +66,7 @@ by_send : {s : Scenario} {before : List Happening} {x : Happening} (cause : ℕ)
     → (h : IsDueBySend s before x) × (h.cause ≡ cause)
 by_send {s} {before} cause due founded some sends (notes.Lost device link from) is c e =
     let all : (g : Happening) → numbered before from ≡ Some g → IsSending g.note.body = λ g here.
-    sends g (subst (λ n. numbered before n ≡ Some g) e here) in
+    sends g (rw e at here) in
     elim c [
       | inl d ↦ absurd (gives_none s.network d.giving.note.body device link (all d.giving d.there) d.gives)
       | inr (inl row) ↦
@@ -90,8 +90,9 @@ due_so : {s : Scenario} {hs : List Happening} {until cause : ℕ} {x : Happening
 due_so {s} {hs} {cause} {x} founded o h tells =
     let event = o.lost.event in
     let sends : (g : Happening) → numbered h.before cause ≡ Some g → IsSending g.note.body = λ g there.
-    let one : event ≡ g = same_some (numbered hs cause) event g o.lost.is.there (in_whole hs h.before h.behind cause g h.parts there) in
-    subst (λ (k : Happening). IsSending k.note.body) one (subst IsSending (sym o.lost.sends) tt) in
+    let one = same_some (numbered hs cause) event g o.lost.is.there
+        (in_whole hs h.before h.behind cause g h.parts there) in
+    rw one at (subst IsSending (sym o.lost.sends) tt) in
     by_send cause h.due (front_of s hs (place_of x) founded (split_at (IsDue s) hs x h))
     (from_one hs cause event o.lost.is.there) sends
     x.note.body refl h.due.cause tells

@@ -1,6 +1,6 @@
 -- The records of a founded list by their numbers.
 use Rattle.audit_law.proofs.law_lemmas.Words.{◌++◌, ◌∷◌, ◌≡◌, Happening, IsDue, IsFounded, IsIn, List, Scenario, Some, [], ap, arith, front_founded, length}
-use Rattle.audit_law.proofs.law_lemmas.Words.{numbered, parted, place_of, refl, slice_get, subst, suc, sym, zero, ℕ}
+use Rattle.audit_law.proofs.law_lemmas.Words.{numbered, parted, place_of, refl, slice_get, subst, suc, zero, ℕ}
 use Rattle.run_law.proofs.law.FirstPlaces.{numbered_next}
 
 -- a record of a founded list, with those before it
@@ -29,8 +29,7 @@ module _ (s : Scenario) (hs : List Happening) (h : Happening) (founded : IsFound
   pub by_number : numbered hs h.note.number ≡ Some h
   by_number =
       let at = founded_at in
-      subst (λ t. numbered t h.note.number ≡ Some h) (sym at.whole)
-      (numbered_next at.front at.rest h h.note.number at.due.number)
+      rw at.whole (numbered_next at.front at.rest h h.note.number at.due.number)
 
 -- what a founded list has by a number has that number
 pub number_is : (s : Scenario) (hs : List Happening) (n : ℕ) (h : Happening) → IsFounded place_of (IsDue s) hs → numbered hs n ≡ Some h → h.note.number ≡ n
@@ -43,7 +42,7 @@ number_is s hs (suc n) h founded e =
     parted_at : (gs : List Happening) (i : ℕ) (g : Happening) → slice_get gs i ≡ Some g → (ps : List Happening) × (qs : List Happening) × (gs ≡ ps ++ g ∷ qs)
         × (length ps ≡ i)
     parted_at [] i g e = absurd cc
-    parted_at (f ∷ gs) zero g e = let same : f ≡ g = cc in ([], gs, ap (λ (x : Happening). x ∷ gs) same, refl)
+    parted_at (f ∷ gs) zero g e = let same : f ≡ g = cc in ([], gs, ap (λ x. x ∷ gs) same, refl)
     parted_at (f ∷ gs) (suc i) g e =
         let more = parted_at gs i g e in
-        (f ∷ more.0, more.1, ap (λ (t : List Happening). f ∷ t) more.2, ap suc more.3)
+        (f ∷ more.0, more.1, rw more.2, ap suc more.3)

@@ -1,7 +1,7 @@
 -- What is due in a founded list, by its places.
-use Rattle.audit_law.proofs.law_lemmas.{Numbered.{by_number, number_is}, Words.{rank, refl, same_earlier, subst, suc, sym, time_of, units_of, zero, ℕ, ℤ}}
+use Rattle.audit_law.proofs.law_lemmas.{Numbered.{by_number, number_is}, Words.{rank, refl, same_earlier, subst, suc, sym, time_of, units_of, zero, ℕ}}
 use Rattle.audit_law.proofs.law_lemmas.Words.{◌++◌, ◌+◌, ◌∷◌, ◌≡◌, ◌≤ℤ◌, ◌≤◌, DeviceId, Happening, HasAccepted, IsBefore, IsCaused, IsDue, IsDueIn}
-use Rattle.audit_law.proofs.law_lemmas.Words.{IsFounded, IsSplit, List, NoteBody, Scenario, Some, Units, VlId, [], amount, ap, arith, earlier}
+use Rattle.audit_law.proofs.law_lemmas.Words.{IsFounded, IsSplit, List, NoteBody, Scenario, Some, Units, VlId, [], amount, arith, earlier}
 use Rattle.audit_law.proofs.law_lemmas.Words.{front_founded, inl, inr, ints, key, length, members_in, numbered, numbered_front, numbered_in, place_of, pos}
 use Rattle.run_law.{proofs.law.{FirstDeliveries.accepted_in, FirstPlaces.in_front_of}, specs.{declared.note.Note.Note, records.Happenings.happening}}
 use Rattle.tte_units.proofs.general_lemmas.Integers.{whole}
@@ -19,7 +19,7 @@ earlier_in IsDueSo {hs} {x} h =
 
 -- what a front has by a number, the list has by it
 pub in_whole : (hs before rest : List Happening) (n : ℕ) (h : Happening) → hs ≡ before ++ rest → numbered before n ≡ Some h → numbered hs n ≡ Some h
-in_whole hs before rest n h e there = subst (λ gs. numbered gs n ≡ Some h) (sym e) (numbered_front before rest n h there)
+in_whole hs before rest n h e there = rw e (numbered_front before rest n h there)
 
 module _ (s : Scenario) (hs : List Happening) (p : List ℕ) (founded : IsFounded place_of (IsDue s) hs) where
   -- the front of a founded list is founded
@@ -33,7 +33,7 @@ module _ (s : Scenario) (hs : List Happening) (p : List ℕ) (founded : IsFounde
   found_before at n h there sooner =
       let i = in_front_of at h (numbered_in hs n h there) sooner in
       let number = number_is s hs n h founded there in
-      subst (λ m. numbered at.front m ≡ Some h) number (by_number s at.front h (front_of at) i)
+      rw (sym number) (by_number s at.front h (front_of at) i)
 
 -- the record that comes next behind these, with this body at this time
 abbrev pub next_of : Scenario → List Happening → ℕ → NoteBody → Happening
@@ -50,11 +50,11 @@ due_there IsDueSo at x place due = grind (arith, place_of)
 
 -- what is of a time up to another is before the end of that
 pub within : (t until : ℕ) (ks : List ℕ) → t ≤ until → IsBefore (t ∷ ks) ((until + 1) ∷ [])
-within t until ks le = inl (omega (arith, le))
+within t until ks le = inl (omega arith)
 
 -- and what is before the end is of such a time
 pub timely : (t until : ℕ) (ks : List ℕ) → IsBefore (t ∷ ks) ((until + 1) ∷ []) → t ≤ until
-timely t until ks (inl lt) = omega (arith, lt)
+timely t until ks (inl lt) = omega arith
 timely t until ks (inr h) = absurd h.1
 
 -- no record has the number 0
@@ -68,11 +68,11 @@ pub taken_there : (s : Scenario) {before : List Happening} {device : DeviceId} {
     → numbered before cause ≡ Some has.taken
 taken_there s {before} founded has =
     let found = by_number s before has.taken founded (accepted_in has) in
-    subst (λ n. numbered before n ≡ Some has.taken) (sym has.number) found
+    rw has.number found
 
 -- a time from 0 on is of its amount
 pub of_amount : (t : Units) → pos 0 ≤ℤ t.0 → t ≡ units_of (amount t)
-of_amount t begun = ap (λ (n : ℤ). let u : Units = record { 0 = n } in u) (whole t.0 begun)
+of_amount t begun = rw (whole t.0 begun)
 
 -- a record that is due so in the list, and before the end of the time, tells this at the time at which it is owed
 abbrev pub PaidAt : Scenario → List Happening → ℕ → (List Happening → Happening → Type 0) → ℕ → (Happening → Type 0) → Type 0

@@ -10,13 +10,13 @@ use Rattle.audit_law.proofs.law_lemmas.Words.{Standing, State, Summarizes, SyncC
 use Rattle.audit_law.proofs.law_lemmas.Words.{and_parts, and_right, ap, append-nil, arith, behind_first, both_ways, cases_lt, changes_adjustment}
 use Rattle.audit_law.proofs.law_lemmas.Words.{correction_value, earlier, eqb-true, false, false_from_ne_true, filter, filter-append, fold, heard_since_point}
 use Rattle.audit_law.proofs.law_lemmas.Words.{if◌then◌else◌, in_right, inl, inr, int_div_euclid, int_le, int_lt, integration_cycle, ints, is_broken}
-use Rattle.audit_law.proofs.law_lemmas.Words.{is_joined_by, is_turned_on_at, last_or, nat_le, nat_lt, natural, next_point, none_kept, numbered, numbered_front}
+use Rattle.audit_law.proofs.law_lemmas.Words.{is_turned_on_at, last_or, nat_le, nat_lt, natural, next_point, none_kept, numbered, numbered_front}
 use Rattle.audit_law.proofs.law_lemmas.Words.{numbered_in, option_map_or, parted, place_of, plan_of, pos, recorded_cycle, refl, same_some, slice_get}
 use Rattle.{audit_law.specs.law.Changes.{OwesChange, TellsChange}, sync_state.specs.{Standing.{IsAtIntegration, point_in}, membership.Summary.Summary}}
 use Rattle.{audit_law.specs.law.CorrectionPoints.{IsPointOf, OwesPoint}, sync_state.specs.declared.answers.Verdict.TheVariants.Cleared}
 use Rattle.{audit_law.specs.law.TracedEvents.{OwesEvent, TellsEvent}, tte_units.proofs.general_lemmas.Integers.{int_le-from, int_le-is, int_lt-from, int_lt-is}}
 use Rattle.{net_plan.specs.declared.event.{Event.Event, What.TheVariants.On}, run_law.proofs.{device.States.adjustment_kept, scenario.Choices.at_integration}}
-use Rattle.{net_plan.specs.declared.event.What.What, run_law.specs.device.LocalClocks.Reaches, std.proofs.Common.{◌^◌, negsuc, unsigned_abs}}
+use Rattle.{run_law.specs.device.LocalClocks.Reaches, std.proofs.Common.{◌^◌, negsuc, unsigned_abs}}
 use Rattle.run_law.{proofs.control.Summaries.{summary_of, verdict_of}, specs.{control.Corrections.is_integration_cycle, device.States.{cycle_in, state_with}}}
 use Rattle.run_law.{proofs.{control.Verdicts.cycle_stays, records.Happenings.fold_parts}, specs.{runs.DueRecords.IsEventRecord, scenario.Scenarios.turns_on}}
 use Rattle.{run_law.proofs.{law.FirstPlaces.in_at, runs.Places.in_left}, std.{proofs.lemmas.Int.by_lt_z, specs.{List.list_any, Prelude.◌<ℤ◌}}}
@@ -42,7 +42,7 @@ filtered {X} p q (x ∷ xs) weaker = grind (arith, cases_Bool, filter, (filtered
 
 pub earlier_of_up : (u : ℕ) (hs : List Happening) → earlier u (up_to u hs) ≡ earlier u hs
 earlier_of_up u hs = filtered (λ h. nat_lt (time_of h) u) (λ h. nat_le (time_of h) u) hs
-    (λ h lt. let low = ltb-true (time_of h) u lt in le-leb (time_of h) u (omega (arith, low)))
+    (λ h lt. let low = ltb-true (time_of h) u lt in le-leb (time_of h) u (omega arith))
 
 -- ---- where a device stands, by what the records leave
 
@@ -109,7 +109,7 @@ timed_point Synchronised n is = refl
 set_state : (device other : DeviceId) (state old : State) (cause : ℕ) (why : Why) → other ≡ device → state ≡ Integrating
     → state_with device old (notes.State other state cause why) ≡ Integrating
 set_state device other state old cause why e is =
-    ap (λ (b : Bool). if b then state else old) (eq-eqb device.0 other.0 (ap (λ (d : DeviceId). d.0) (sym e))) ∙ is
+    rw (eq-eqb device.0 other.0 (rw (sym e))) is
 
 -- the next correction point is that of the cycle by whose frame the device joined, and up to the time its clock has not
 -- come to a further one
@@ -127,22 +127,23 @@ module _ (s : Scenario) (clocked : IsClocked s) (gs : List Happening) (device : 
 
   quiet : (h : Happening) → IsIn h gs → changed < time_of h → changes_adjustment device h.note.body ≡ false
   quiet h i late = false_from_ne_true (changes_adjustment device h.note.body) (λ e.
-      let low = no_later (λ x. changes_adjustment device x.note.body) gs h (sorted (IsDue s) gs run.founded) i e in omega (arith, low, late))
+      let low = no_later (λ x. changes_adjustment device x.note.body) gs h (sorted (IsDue s) gs run.founded) i e in
+          omega arith)
 
   -- a state that a later record says of the device is integrating
   says : (x : Happening) → IsIn x gs → changed < time_of x → SaysIntegrating device x.note.body
   says x i late =
       let at = founded_at s gs x run.founded i in
       by at.front (λ h cause there same. quiet h (subst (IsIn h) (sym at.whole) (in_left h at.front (x ∷ at.rest) (numbered_in at.front cause h there)))
-      (subst (λ n. changed < n) (sym same) late)) x.note.body at.due.cause
+      (rw same late)) x.note.body at.due.cause
     where
       by : (front : List Happening)
           → ((h : Happening) (cause : ℕ) → numbered front cause ≡ Some h → time_of h ≡ time_of x → changes_adjustment device h.note.body ≡ false)
           → (body : NoteBody) → IsCaused s front x.note.time body → SaysIntegrating device body
       by front calm_there (notes.State other state cause why) c = λ ids.
-          let devices : other ≡ device = ap (λ (n : ℕ). let d : DeviceId = record { 0 = n } in d) (sym ids) in
+          let devices : other ≡ device = rw (sym ids) in
           leaves s front device (time_of x) state cause why (λ h there same. calm_there h cause there same)
-          (subst (λ d. ChangesState s front d (time_of x) state cause why) devices c)
+          (rw devices at c)
       by front calm_there body c = tt
 
   calm_later : (x : Happening) → IsIn x gs → changed < time_of x → IsCalm device x.note.body
@@ -160,17 +161,17 @@ module _ (s : Scenario) (clocked : IsClocked s) (gs : List Happening) (device : 
       let rest = stays_integrating device at.1 (λ h j.
       let in_all : IsIn h gs = subst (IsIn h) (sym at.2) (in_right h at.0 (x ∷ at.1) (inr j)) in
       let order = in_time x h (behind_first place_of (IsDue s) at.0 at.1 x h (subst (IsFounded place_of (IsDue s)) at.2 run.founded) j) in
-      calm_later h in_all (omega (arith, late, order))) in
+      calm_later h in_all (omega arith)) in
       let ends : state_after s gs device ≡ Integrating = ap (fold leave start) at.2
       ∙ fold_parts leave start at.0 (x ∷ at.1)
-      ∙ ap (λ (u : State). fold leave u at.1) here
+      ∙ ap (λ u. fold leave u at.1) here
       ∙ rest in
       subst IsTimed ends timed
 
   no_clique : (x : Happening) → IsIn x gs → changed < time_of x → (other : DeviceId) (state : State) (cause : ℕ) (why : Why)
       → x.note.body ≡ notes.State other state cause why → other ≡ device → ⊥
   no_clique x i late other state cause why is e =
-      let integrating = subst (SaysIntegrating device) is (says x i late) (ap (λ (d : DeviceId). d.0) (sym e)) in
+      let integrating = subst (SaysIntegrating device) is (says x i late) (rw (sym e)) in
       never_left x i late (λ old. ap (state_with device old) is ∙ set_state device other state old cause why e integrating)
 
   -- what the records before a later time leave is what all do
@@ -178,7 +179,8 @@ module _ (s : Scenario) (clocked : IsClocked s) (gs : List Happening) (device : 
   same_before u late =
       let cut = cut_at (IsDue s) gs u run.founded in
       let behind : (h : Happening) → IsIn h cut.rest → IsIn h gs = λ h i. subst (IsIn h) (sym cut.whole) (in_right h cut.front cut.rest i) in
-      let after : (h : Happening) → IsIn h cut.rest → changed < time_of h = λ h i. let l = cut.later h i in omega (arith, l, late) in
+      let after : (h : Happening) → IsIn h cut.rest → changed < time_of h = λ h i. let l = cut.later h i in
+          omega arith in
       let still : (h : Happening) → IsIn h cut.rest → changes_adjustment device h.note.body ≡ false = λ h i. quiet h (behind h i) (after h i) in
       let start = state_after s [] device in
       let set : Happening → Bool = λ h. changes_adjustment device h.note.body in
@@ -188,7 +190,7 @@ module _ (s : Scenario) (clocked : IsClocked s) (gs : List Happening) (device : 
         | inr left ↦ absurd (subst IsTimed (ap (fold leave start) cut.whole ∙ fold_parts leave start cut.front cut.rest ∙ left) timed)
       ] in
       record {
-        state = ap (λ es. state_after s es device) cut.same ∙ state;
+        state = rw cut.same state;
         adjustment = ap (λ es. adjustment_after s es device) cut.same
             ∙ sym (ap (λ es. adjustment_after s es device) cut.whole
             ∙ stays _ (adjustment_after s [] device) cut.front cut.rest (λ b h i. adjustment_kept s device (cycle_in h) b h.note.body (still h i)));
@@ -198,16 +200,16 @@ module _ (s : Scenario) (clocked : IsClocked s) (gs : List Happening) (device : 
         integrated = ap (λ es. integration_cycle es device) cut.same
             ∙ sym (ap (λ es. integration_cycle es device) cut.whole
             ∙ stays _ None cut.front cut.rest
-            (λ b h i. ap (λ (t : Bool). if t then Some (cycle_in h) else b) (not_joined device h.note.body (still h i))));
+            (λ b h i. rw (not_joined device h.note.body (still h i))));
         changed = ap (λ es. last_changed es device) cut.same
             ∙ sym (ap (λ es. last_changed es device) cut.whole
-            ∙ ap (λ (es : List Happening). option_map_or time_of (last_or None es) 0) (filter-append set cut.front cut.rest
-            ∙ ap (λ (es : List Happening). filter set cut.front ++ es) (none_kept set cut.rest still)
+            ∙ ap (λ es. option_map_or time_of (last_or None es) 0) (filter-append set cut.front cut.rest
+            ∙ ap (λ es. filter set cut.front ++ es) (none_kept set cut.rest still)
             ∙ append-nil (filter set cut.front)));
       }
 
   same_up_to : (u : ℕ) → changed < u → LeavesSame s device (earlier u (up_to u gs)) gs
-  same_up_to u late = subst (λ es. LeavesSame s device es gs) (sym (earlier_of_up u gs)) (same_before u late)
+  same_up_to u late = rw (earlier_of_up u gs) (same_before u late)
 
   -- what is owed is paid
   paid : (o : Debt) → IsOwed s gs until o → IsPaid gs (Pays s) o
@@ -226,42 +228,41 @@ module _ (s : Scenario) (clocked : IsClocked s) (gs : List Happening) (device : 
         event = event;
         is = found.2;
         begun = clocked.begun event (in_at s.events found.1 event found.2);
-        timely = omega (arith, at, le);
+        timely = omega arith;
       } in
       let told = paid (debts.event (found.1 + 1)) owed in
-      of_event event found.1 found.2 (turned device event.what both.0) at told.0 told.1 told.0.note.body (refl {a = told.0.note.body}) told.2)
+      of_event event found.1 found.2 (turned device event.what both.0) at told.0 told.1 told.0.note.body (refl) told.2)
     where
       brings : (front rest : List Happening) (cause line : ℕ) (x y : Happening) → gs ≡ front ++ rest → numbered gs cause ≡ Some x
           → x.note.body ≡ notes.Event line (On device) → (t : ℕ) (other : DeviceId) (state : State) (why : Why) → ChangesState s front other t state cause why
           → (other ≡ device) × (t ≡ time_of x) × (state ≡ Integrating)
       brings front rest cause line x y whole there is t other state whys.On c =
-          let here = same_some (numbered gs cause) c.2.1 x (subst (λ hs. numbered hs cause ≡ Some c.2.1) (sym whole)
-          (numbered_front front rest cause c.2.1 c.2.2.there)) there in
-          let bodies : notes.Event c.2.0 (On other) ≡ notes.Event line (On device) = sym c.2.3 ∙ ap (λ (h : Happening). h.note.body) here ∙ is in
-          let devices : other ≡ device = cc in
-          (devices, sym c.2.2.same_time ∙ ap time_of here, c.0)
+          let here = same_some (numbered gs cause) c.2.1 x (rw whole
+              (numbered_front front rest cause c.2.1 c.2.2.there)) there in
+          let bodies = sym c.2.3 ∙ ap (λ h. h.note.body) here ∙ is in
+          (cc, sym c.2.2.same_time ∙ ap time_of here, c.0)
       brings front rest cause line x y whole there is t other state whys.Frame c =
-          let here = same_some (numbered gs cause) c.1.0 x (subst (λ hs. numbered hs cause ≡ Some c.1.0) (sym whole)
-          (numbered_front front rest cause c.1.0 c.1.1.there)) there in
-          let joins : false ≡ true = sym (ap (λ (h : Happening). is_joined_by other h.note.body) here ∙ ap (is_joined_by other) is) ∙ c.1.2 in
+          let here = same_some (numbered gs cause) c.1.0 x (rw whole
+              (numbered_front front rest cause c.1.0 c.1.1.there)) there in
           absurd cc
       brings front rest cause line x y whole there is t other state whys.Correction c =
-          let here = same_some (numbered gs cause) c.2.3 x (subst (λ hs. numbered hs cause ≡ Some c.2.3) (sym whole)
-          (numbered_front front rest cause c.2.3 c.2.4.there)) there in
-          let bodies : notes.Corrected other c.2.0 c.2.1 c.2.2 ≡ notes.Event line (On device) = sym c.2.5 ∙ ap (λ (h : Happening). h.note.body) here ∙ is in
+          let here = same_some (numbered gs cause) c.2.3 x (rw whole
+              (numbered_front front rest cause c.2.3 c.2.4.there)) there in
+          let bodies = sym c.2.5 ∙ ap (λ h. h.note.body) here ∙ is in
           absurd cc
       brings front rest cause line x y whole there is t other state whys.SyncClique c =
-          let none : numbered gs 0 ≡ Some x = subst (λ n. numbered gs n ≡ Some x) c.1 there in absurd cc
+          let none : numbered gs 0 ≡ Some x = rw c.1 at there in absurd cc
       brings front rest cause line x y whole there is t other state whys.AsyncClique c =
-          let none : numbered gs 0 ≡ Some x = subst (λ n. numbered gs n ≡ Some x) c.1 there in absurd cc
+          absurd cc
 
       said : (cause line : ℕ) (x y : Happening) → numbered gs cause ≡ Some x → time_of x ≡ u → x.note.body ≡ notes.Event line (On device) → IsIn y gs
           → (body : NoteBody) → y.note.body ≡ body → TellsChange cause body → ⊥
       said cause line x y there at is i (notes.State other state from why) of pays =
           let by = founded_at s gs y run.founded i in
-          let c = subst (λ n. ChangesState s by.front other (time_of y) state n why) pays (subst (IsCaused s by.front y.note.time) of by.due.cause) in
+          let c = rw pays at (subst (IsCaused s by.front y.note.time) of by.due.cause) in
           let b = brings by.front (y ∷ by.rest) cause line x y by.whole there is (time_of y) other state why c in
-          never_left y i (omega (arith, late, b.1, at)) (λ old. ap (state_with device old) of ∙ set_state device other state old from why b.0 b.2)
+          never_left y i (omega (arith, b.1)) (λ old. ap (state_with device old) of ∙ set_state device other state old
+              from why b.0 b.2)
       said cause line x y there at is i body of pays = absurd pays
 
       of_event : (event : Event) (i : ℕ) → slice_get s.events i ≡ Some event → event.what ≡ On device → amount event.time ≡ u → (x : Happening) → IsIn x gs
@@ -269,12 +270,12 @@ module _ (s : Scenario) (clocked : IsClocked s) (gs : List Happening) (device : 
       of_event event i there what_is at x inside (notes.Event line what) is pays =
           let by = founded_at s gs x run.founded inside in
           let c : IsEventRecord s.events x.note.time line what = subst (IsCaused s by.front x.note.time) is by.due.cause in
-          let places : c.before ≡ i = omega (arith, c.line_is, pays) in
-          let same : c.event ≡ event = same_some (slice_get s.events i) c.event event (subst (λ (n : ℕ). slice_get s.events n ≡ Some c.event) places c.is)
+          let places : c.before ≡ i = omega (arith, c.line_is) in
+          let same = same_some (slice_get s.events i) c.event event (rw places at c.is)
           there in
-          let now : time_of x ≡ u = ap amount (c.at ∙ ap (λ (v : Event). v.time) same) ∙ at in
-          let turns : what ≡ On device = c.same ∙ ap (λ (v : Event). v.what) same ∙ what_is in
-          let body_is : x.note.body ≡ notes.Event line (On device) = is ∙ ap (λ (w : What). notes.Event line w) turns in
+          let now : time_of x ≡ u = ap amount (c.at ∙ ap (λ v. v.time) same) ∙ at in
+          let turns = c.same ∙ ap (λ v. v.what) same ∙ what_is in
+          let body_is = is ∙ ap (λ w. notes.Event line w) turns in
           let number = by_number s gs x run.founded inside in
           let owed : OwesChange s gs until x.note.number = record {
             device = device;
@@ -282,18 +283,19 @@ module _ (s : Scenario) (clocked : IsClocked s) (gs : List Happening) (device : 
             state = Integrating;
             why = whys.On;
             brought = tt;
-            changes = (refl, correct_before s device u (until + 1) (omega (arith, le)) correct, (line, x, record { there = number; same_time = now }, body_is));
+            changes = (refl, correct_before s device u (until + 1) (omega arith) correct,
+                (line, x, record { there = number; same_time = now }, body_is));
             timely = le;
           } in
           let told = paid (debts.change x.note.number) owed in
-          said x.note.number line x told.0 number now body_is told.1 told.0.note.body (refl {a = told.0.note.body}) told.2
+          said x.note.number line x told.0 number now body_is told.1 told.0.note.body (refl) told.2
       of_event event i there what_is at x inside body is pays = absurd pays
 
   -- no later record is of a correction point
   no_point : (x : Happening) → IsIn x gs → changed < time_of x → (body : NoteBody) → x.note.body ≡ body → IsPointOf device body → ⊥
   no_point x i late (notes.Corrected other cycle by adjustment) is e =
       both_ways (changes_adjustment device x.note.body) (quiet x i late)
-      (ap (changes_adjustment device) is ∙ eq-eqb device.0 other.0 (ap (λ (d : DeviceId). d.0) (sym e)))
+      (ap (changes_adjustment device) is ∙ eq-eqb device.0 other.0 (rw (sym e)))
   no_point x i late (notes.State other state cause whys.SyncClique) is e = no_clique x i late other state cause whys.SyncClique is e
   no_point x i late (notes.State other state cause whys.AsyncClique) is e = no_clique x i late other state cause whys.AsyncClique is e
   no_point x i late body is e = absurd e
@@ -325,19 +327,19 @@ module _ (s : Scenario) (clocked : IsClocked s) (gs : List Happening) (device : 
 
       wrong : (v : Verdict) → HasVerdict st summary.0 v → (v ≡ Cleared → ⊥) → ⊥
       wrong v has more =
-          let point : next_point st ≡ Some m = timed_point (state_after s gs device) st.number timed ∙ ap (λ (n : ℕ). Some n) number in
+          let point = timed_point (state_after s gs device) st.number timed ∙ ap (λ n. Some n) number in
           let comes : ComesToPoint s (up_to u gs) device u m v = record {
             next = subst (λ x. next_point x ≡ Some m) (sym stands) point;
             reached = reaches_same u (correction_value s.network m) (up_to u gs) same below reach;
-            correct = correct_before s device u (until + 1) (omega (arith, le)) correct;
+            correct = correct_before s device u (until + 1) (omega arith) correct;
             summary = summary.0;
             heard = summary.1;
-            comes = subst (λ x. HasVerdict x summary.0 v) (sym stands) has;
+            comes = rw stands has;
           } in
           let owed : OwesPoint s gs until device u = record { cycle = m; verdict = v; comes = comes; more = more; timely = le } in
           let told = paid (debts.point device u) owed in
           let at = told.2.at in
-          no_point told.0 told.1 (omega (arith, at, late)) told.0.note.body refl told.2.of_point
+          no_point told.0 told.1 (omega arith) told.0.note.body refl told.2.of_point
 
   -- ---- the first point, and none behind it
 
@@ -363,15 +365,14 @@ module _ (s : Scenario) (clocked : IsClocked s) (gs : List Happening) (device : 
   goes_on : (u : ℕ) → shown (u + 1) <ℤ (shown u +ℤ s.network.cycle.0)
   goes_on u =
       let range = clocked.range in
-      let grain = range.grain.most in
-      let fine : amount s.network.grain ≤ 1048576 = small s.network.grain.0 range.grain.least range.grain.most in
+      let fine = small s.network.grain.0 range.grain.least range.grain.most in
       let short = short_step u range.rho fine (clocked.clocks device) in
       let long = long_cycle in
-      omega (arith, ints, short, long)
+      omega (arith, ints)
     where
       small : (g : ℤ) → pos 1 ≤ℤ g → g ≤ℤ pos 1048576 → unsigned_abs g ≤ 1048576
-      small (pos n) least most = omega (arith, ints, most)
-      small (negsuc n) least most = absurd (omega (arith, ints, least))
+      small (pos n) least most = omega (arith, ints)
+      small (negsuc n) least most = absurd (omega (arith, ints))
 
   -- the first point comes at some time
   record ComesFirst (by : ℕ) : Type 0 where
@@ -393,39 +394,40 @@ module _ (s : Scenario) (clocked : IsClocked s) (gs : List Happening) (device : 
   come_none by short =
       let off = false_from_ne_true (has_come by) (λ e.
       let reached = int_le-is first (shown (by - 1)) (and_parts (int_lt (shown changed) first) (int_le first (shown (by - 1))) e).1 in
-      omega (arith, ints, short, reached)) in
-      ap (λ (b : Bool). if b then further by else 0) off
+      omega (arith, ints)) in
+      rw off
 
   come_one : (by : ℕ) → shown changed <ℤ first → first ≤ℤ shown (by - 1) → shown (by - 1) <ℤ (first +ℤ s.network.cycle.0) → come by ≡ 1
   come_one by below reached short =
       let on = and_from (int_lt (shown changed) first) (int_le first (shown (by - 1))) (int_lt-from (shown changed) first below)
       (int_le-from first (shown (by - 1)) reached) in
-      let none = none_more (shown (by - 1) -ℤ first) s.network.cycle.0 (omega (arith, ints, reached)) (omega (arith, ints, short)) in
-      ap (λ (b : Bool). if b then further by else 0) on ∙ ap (λ n. n + 1) none
+      let none = none_more (shown (by - 1) -ℤ first) s.network.cycle.0 (omega (arith, ints)) (omega (arith, ints)) in
+      rw on (ap (λ n. n + 1) none)
 
   came_since : first ≤ℤ shown until → shown changed <ℤ first → changed ≤ until
   came_since reached below = elim (cases_lt until changed) [
-    | inl lt ↦ let up = rises until changed (omega (arith, lt)) in absurd (omega (arith, ints, up, reached, below))
+    | inl lt ↦ let up = rises until changed (omega arith) in absurd (omega (arith, ints))
     | inr ge ↦ ge
   ]
 
   first_comes : shown changed <ℤ first → first ≤ℤ shown until → ComesFirst until
   first_comes below reached =
-      let r = reached_by reading rises changed (first -ℤ (adjustment_after s gs device).0) until (came_since reached below) (omega (arith, ints, reached)) in
+      let r = reached_by reading rises changed (first -ℤ (adjustment_after s gs device).0) until
+          (came_since reached below) (omega (arith, ints)) in
       let there = r.reach.reached in
       let late : changed < r.time = elim (cases_lt changed r.time) [
         | inl lt ↦ lt
-        | inr ge ↦ let up = rises r.time changed ge in absurd (omega (arith, ints, up, there, below))
+        | inr ge ↦ let up = rises r.time changed ge in absurd (omega (arith, ints))
       ] in
       let before : (u : ℕ) → changed ≤ u → u < r.time → shown u <ℤ first = λ u from lt.
-      let low = r.reach.not_before u (omega (arith, ints, from)) (omega (arith, ints, lt)) in omega (arith, ints, low) in
-      let none = come_none r.time (before (r.time - 1) (omega (arith, late)) (omega (arith, late))) in
-      let number : recorded_cycle gs device + come r.time ≡ recorded_cycle gs device = omega (arith, none) in
+      let low = r.reach.not_before u (omega (arith, ints)) (omega (arith, ints)) in omega (arith, ints) in
+      let none = come_none r.time (before (r.time - 1) (omega arith) (omega arith)) in
+      let number : recorded_cycle gs device + come r.time ≡ recorded_cycle gs device = omega arith in
       record {
         time = r.time;
         within = r.within;
         late = late;
-        enough = omega (arith, ints, there);
+        enough = omega (arith, ints);
         not_before = before;
         clears = only_clears r.time (recorded_cycle gs device) late r.within below r.reach number;
         number = number;
@@ -438,7 +440,7 @@ module _ (s : Scenario) (clocked : IsClocked s) (gs : List Happening) (device : 
       by : (c : ℤ) → pos (2 ^ 32) ≤ℤ c → pos ((recorded_cycle gs device + 1) * unsigned_abs c + amount s.network.correction)
           ≡ pos (recorded_cycle gs device * unsigned_abs c + amount s.network.correction) +ℤ c
       by (pos c) long = omega (arith, ints)
-      by (negsuc c) long = absurd (omega (arith, ints, long))
+      by (negsuc c) long = absurd (omega (arith, ints))
 
   -- the clock has come to one point at the most, which is the one at which the joiner clears
   passes_one : shown changed <ℤ first → first ≤ℤ shown until → PassesOne s gs device until
@@ -448,15 +450,15 @@ module _ (s : Scenario) (clocked : IsClocked s) (gs : List Happening) (device : 
       f = first_comes below reached
 
       joined : integration_cycle gs device ≡ Some (recorded_cycle gs device)
-      joined = f.clears.cycle ∙ ap (λ (n : ℕ). Some n) f.number
+      joined = f.clears.cycle ∙ ap (λ n. Some n) f.number
 
       -- when the first comes, the clock is not yet a cycle further
       at_first : shown f.time <ℤ (first +ℤ s.network.cycle.0)
       at_first =
-          let same : (f.time - 1) + 1 ≡ f.time = (let l = f.late in omega (arith, l)) in
-          let on = subst (λ u. shown u <ℤ (shown (f.time - 1) +ℤ s.network.cycle.0)) same (goes_on (f.time - 1)) in
-          let low = f.not_before (f.time - 1) (let l = f.late in omega (arith, l)) (let l = f.late in omega (arith, l)) in
-          omega (arith, ints, on, low)
+          let same : (f.time - 1) + 1 ≡ f.time = (let l = f.late in omega arith) in
+          let on = rw same at (goes_on (f.time - 1)) in
+          let low = f.not_before (f.time - 1) (let l = f.late in omega arith) (let l = f.late in omega arith) in
+          omega (arith, ints)
 
       second : (first +ℤ s.network.cycle.0) ≤ℤ shown until → ⊥
       second ge =
@@ -464,40 +466,41 @@ module _ (s : Scenario) (clocked : IsClocked s) (gs : List Happening) (device : 
           let value = correction_value s.network (n + 1) in
           let long = long_cycle in
           let r = reached_by reading rises changed (value -ℤ (adjustment_after s gs device).0) until (came_since reached below)
-          (omega (arith, ints, next_value, ge)) in
+          (omega (arith, ints, next_value)) in
           let there = r.reach.reached in
           let early = at_first in
           let later : f.time < r.time = elim (cases_lt f.time r.time) [
             | inl lt ↦ lt
-            | inr more ↦ let up = rises r.time f.time more in absurd (omega (arith, ints, up, there, early, next_value))
+            | inr more ↦ let up = rises r.time f.time more in absurd (omega (arith, ints, next_value))
           ] in
-          let late : changed < r.time = (let l = f.late in omega (arith, l, later)) in
-          let low = r.reach.not_before (r.time - 1) (omega (arith, ints, late)) (omega (arith, ints, late)) in
-          let up = rises f.time (r.time - 1) (omega (arith, later)) in
+          let late : changed < r.time = (let l = f.late in omega arith) in
+          let low = r.reach.not_before (r.time - 1) (omega (arith, ints)) (omega (arith, ints)) in
+          let up = rises f.time (r.time - 1) (omega arith) in
           let enough = f.enough in
-          let one = come_one r.time below (omega (arith, ints, up, enough)) (omega (arith, ints, low, next_value)) in
-          let number : n + come r.time ≡ n + 1 = omega (arith, one) in
-          let clears = only_clears r.time (n + 1) late r.within (omega (arith, ints, below, next_value, long)) r.reach number in
-          let cycles = same_some (integration_cycle gs device) n (n + 1) joined (clears.cycle ∙ ap (λ (k : ℕ). Some k) number) in
-          omega (arith, cycles)
+          let one = come_one r.time below (omega (arith, ints)) (omega (arith, ints, next_value)) in
+          let number : n + come r.time ≡ n + 1 = omega arith in
+          let clears = only_clears r.time (n + 1) late r.within (omega (arith, ints, next_value)) r.reach number in
+          let cycles = same_some (integration_cycle gs device) n (n + 1) joined
+              (clears.cycle ∙ ap (λ k. Some k) number) in
+          omega arith
 
   -- so it has come to one point where a joiner has cleared, and else to none
   pub counts : (by : ℕ) → by ≤ until + 1 → come by ≡ (if is_integration_cycle gs device && has_come by then 1 else 0)
   counts by le = elim (cases_Bool (has_come by)) [
     | inr none ↦
-        let not_cleared : (is_integration_cycle gs device && has_come by) ≡ false = and_right (is_integration_cycle gs device) (has_come by) none in
-        ap (λ (b : Bool). if b then further by else 0) none ∙ sym (ap (λ (b : Bool). if b then 1 else 0) not_cleared)
+        let not_cleared = and_right (is_integration_cycle gs device) (has_come by) none in
+        ap (λ b. if b then further by else 0) none ∙ sym (ap (λ b. if b then 1 else 0) not_cleared)
     | inl has ↦
         let both = and_parts (int_lt (shown changed) first) (int_le first (shown (by - 1))) has in
         let below = int_lt-is (shown changed) first both.0 in
         let reached = int_le-is first (shown (by - 1)) both.1 in
-        let up = rises (by - 1) until (omega (arith, le)) in
-        let p = passes_one below (omega (arith, ints, up, reached)) in
+        let up = rises (by - 1) until (omega arith) in
+        let p = passes_one below (omega (arith, ints)) in
         let short = p.no_further in
-        let one = come_one by below reached (omega (arith, ints, up, short)) in
+        let one = come_one by below reached (omega (arith, ints)) in
         let n = recorded_cycle gs device in
-        let joins : is_integration_cycle gs device ≡ true = ap (λ (o : Option ℕ). option_map_or (λ cycle. n == cycle) o false) p.joined ∙ eq-eqb n n refl in
-        one ∙ sym (ap (λ (b : Bool). if b then 1 else 0) (and_from (is_integration_cycle gs device) (has_come by) joins has))
+        let joins : is_integration_cycle gs device ≡ true = rw p.joined (eq-eqb n n refl) in
+        one ∙ sym (rw (and_from (is_integration_cycle gs device) (has_come by) joins has))
   ]
 
 -- before the first time no clock has come to a point
@@ -513,5 +516,5 @@ none_at_start {s} clocked gs device by le first =
     let both = and_parts (int_lt low first) (int_le first high) e in
     let below = int_lt-is low first both.0 in
     let reached = int_le-is first high both.1 in
-    let up = (clocked.clocks device).never_falls (by - 1) changed (omega (arith, le)) in
-    omega (arith, ints, up, below, reached))
+    let up = (clocked.clocks device).never_falls (by - 1) changed (omega arith) in
+    omega (arith, ints))

@@ -60,6 +60,6 @@ module _ {s : Scenario} {hs : List Happening} {t : ℕ} {device : DeviceId} {lin
   pub not_old : reason ≡ Old → ⊥
   not_old old =
       elim (gate_or_cycle) [
-        | inl gate ↦ let e : Gate ≡ Old = sym gate ∙ old in cc
-        | inr cycle ↦ let e : Cycle ≡ Old = sym cycle ∙ old in cc
+        | inl gate ↦ let e = sym gate ∙ old in cc
+        | inr cycle ↦ let e = sym cycle ∙ old in cc
       ]

@@ -1,14 +1,14 @@
 -- What is owed of permanences is due.
-use Rattle.audit_law.proofs.law_lemmas.{Arriving.{IsPutting, puts}, PermanentDrops.not_old, Words.{same_some, split, subst, sym, time_of, units_of, ℕ, ℤ}}
+use Rattle.audit_law.proofs.law_lemmas.{Arriving.{IsPutting, puts}, PermanentDrops.not_old, Words.{same_some, split, subst, sym, time_of, units_of, ℕ}}
 use Rattle.audit_law.proofs.law_lemmas.Owing.{PaidAt, due_there, found_before, in_whole, next_is_due, next_of, split_at, timely, within}
 use Rattle.audit_law.proofs.law_lemmas.Words.{◌++◌, ◌+◌, ◌<◌, ◌∙◌, ◌∷◌, ◌≡◌, Bool, DeviceId, Happening, IsBefore, IsCaused, IsDue, IsDueIn, IsFounded}
 use Rattle.audit_law.proofs.law_lemmas.Words.{IsReach, IsSplit, LinkId, List, Network, NoteBody, Option, Pcf, Scenario, Some, Units, [], ahead, ap}
 use Rattle.audit_law.proofs.law_lemmas.Words.{append-nil, arith, chain, false_from_ne_true, filter, filter-append, inl, inr, ints, is_before, is_there, key}
-use Rattle.audit_law.proofs.law_lemmas.Words.{members_in, none_kept, numbered, option_and_then, option_map_or, place_at, place_of, pos, rank, refl, ripe_as}
+use Rattle.audit_law.proofs.law_lemmas.Words.{members_in, none_kept, numbered, option_map_or, place_at, place_of, pos, rank, refl, ripe_as}
 use Rattle.audit_law.specs.law.{DebtLaws.PermanenceLaw, Permanences.{IsDueByPermanence, OwesPermanence, TellsPermanence, permanence_record}}
 use Rattle.drift_clock.proofs.Reaches.{one_reach}
 use Rattle.run_law.{proofs.{control.Verdicts.some_outcome, runs.SameSteps.same_ripening}, specs.control.Collections.points_of}
-use Rattle.run_law.specs.{control.Permanence.{BecomesPermanent, IsJudgedBy, IsPermanent, before_permanence}, declared.judgement.Judgement.Judgement}
+use Rattle.run_law.specs.{control.Permanence.{BecomesPermanent, IsPermanent, before_permanence}, declared.judgement.Judgement.Judgement}
 use Rattle.run_law.specs.{declared.steps.Ripe.Ripe, device.States.{adjustment_at_hearing, state_at_hearing}, records.Happenings.{frame_by, frame_from}}
 use Rattle.run_law.specs.declared.judgement.Judgement.TheVariants as judgements
 use Rattle.run_law.specs.declared.note.NoteBody.TheVariants as notes
@@ -53,24 +53,24 @@ module _ (network : Network) (ps : List Happening) (t : ℕ) (device : DeviceId)
       → place_at t (members_by (frame_by network ps (permanence_record device link cause point is)))
       (permanence_record device link cause point is) ≡ record_place t device link cause frame point is
   framed ripe.Opened e =
-      ap (λ o. place_at t (members_by o) (permanence_record device link cause point ripe.Opened)) e
+      rw e
   framed ripe.Joined e =
-      ap (λ o. place_at t (members_by o) (permanence_record device link cause point ripe.Joined)) e
+      rw e
   framed ripe.Repeat e =
-      ap (λ o. place_at t (members_by o) (permanence_record device link cause point ripe.Repeat)) e
+      rw e
   framed ripe.Within e =
-      ap (λ o. place_at t (members_by o) (permanence_record device link cause point ripe.Within)) e
+      rw e
   framed ripe.Outside e =
-      ap (λ o. place_at t (members_by o) (permanence_record device link cause point ripe.Outside)) e
+      rw e
   framed ripe.Integrates e =
-      ap (λ o. place_at t (members_by o) (permanence_record device link cause point ripe.Integrates)) e
+      rw e
   framed ripe.Ignored e =
-      ap (λ o. place_at t (members_by o) (permanence_record device link cause point ripe.Ignored)) e
+      rw e
   framed (ripe.Dropped reason) e = refl
 
 frame_there : (ps : List Happening) (cause : ℕ) (h : Happening) (frame : Pcf) → numbered ps cause ≡ Some h → h.frame ≡ Some frame
     → frame_from ps cause ≡ Some frame
-frame_there ps cause h frame there of_frame = ap (λ (o : Option Happening). option_and_then (λ (g : Happening). g.frame) o) there ∙ of_frame
+frame_there ps cause h frame there of_frame = rw there of_frame
 
 -- ---- by a front as by the list
 
@@ -81,11 +81,11 @@ same_judged : {hs : List Happening} (t : ℕ) (device : DeviceId) (link : LinkId
     ≡ before_permanence hs device t link cause frame point
 same_judged t device link cause frame point is at =
     let test : Happening → Bool = λ h. is_before (place_of h) (permanent_place t device link cause frame point) in
-    let none : filter test at.rest ≡ [] = none_kept test at.rest (λ h i. false_from_ne_true (test h) (λ e.
+    let none = none_kept test at.rest (λ h i. false_from_ne_true (test h) (λ e.
     at.none h i (behind_permanence (place_of h) t device link cause frame point is
     (is_there (place_of h) (permanent_place t device link cause frame point) e)))) in
     sym (append-nil (filter test at.front))
-    ∙ ap (λ (gs : List Happening). filter test at.front ++ gs) (sym none)
+    ∙ ap (λ gs. filter test at.front ++ gs) (sym none)
     ∙ sym (filter-append test at.front at.rest)
     ∙ ap (filter test) (sym at.whole)
 
@@ -136,14 +136,13 @@ some_permanence {s} {hs} {until} {cause} founded o =
     let low : rank arrival.note.body ≡ 2 = ap rank o.permanent.arrived in
     let higher = arrived_before o.device o.link cause o.point is in
     let from_on = o.permanent.reached.from_on in
-    let sooner : IsBefore (place_of arrival) p = ahead (time_of arrival) o.time (rank arrival.note.body) (rank body)
-    (key (members_in arrival) arrival.note.body) (key o.frame.members.0 body) (omega (arith, ints, from_on)) (omega (arith, low, higher)) in
+    let sooner = ahead (time_of arrival) o.time (rank arrival.note.body) (rank body)
+    (key (members_in arrival) arrival.note.body) (key o.frame.members.0 body) (omega (arith, ints)) (omega arith) in
     let there = found_before s hs p founded at cause arrival o.permanent.there sooner in
     let becomes : BecomesPermanent s at.front o.device o.time o.link cause o.point is = record {
       frame = o.frame;
       permanent = permanent_by at.front o.permanent there;
-      becomes = subst (λ gs. IsJudgedBy s gs o.device o.time o.frame o.point is)
-          (sym (same_judged {hs = hs} o.time o.device o.link cause o.frame o.point is at)) found.1;
+      becomes = rw (same_judged {hs = hs} o.time o.device o.link cause o.frame o.point is at) found.1;
     } in
     let x = next_of s at.front o.time body in
     let place = framed s.network at.front o.time o.device o.link cause o.frame o.point is
@@ -203,13 +202,13 @@ due_becomes {s} {hs} {x} h d =
     (split_at (IsDue s) hs x h, refl) in
     let same : before_permanence h.before d.device (time_of x) d.link d.cause frame d.point
     ≡ before_permanence hs d.device (time_of x) d.link d.cause frame d.point =
-    ap (λ gs. before_permanence gs d.device (time_of x) d.link d.cause frame d.point) (sym at.1)
-    ∙ same_judged (time_of x) d.device d.link d.cause frame d.point d.is at.0 in
+    rw (sym at.1)
+    (same_judged (time_of x) d.device d.link d.cause frame d.point d.is at.0) in
     let becomes : BecomesPermanent s hs d.device (time_of x) d.link d.cause d.point d.is = record {
       frame = frame;
       permanent = permanent_by hs permanent
           (in_whole hs h.before h.behind d.cause permanent.arrival h.parts permanent.there);
-      becomes = subst (λ gs. IsJudgedBy s gs d.device (time_of x) frame d.point d.is) same d.becomes.becomes;
+      becomes = rw same at d.becomes.becomes;
     } in
     (becomes, refl)
 
@@ -237,24 +236,19 @@ module _ (s : Scenario) (hs : List Happening) (t u : ℕ) (device other : Device
   one_permanence : {f g : Pcf} {p q : Units} → IsPermanent s hs device t link cause f p
       → IsPermanent s hs other u by cause g q → IsOnePermanence t u device other link by f g p q
   one_permanence {f} {g} {p} {q} a b =
-      let one : a.arrival ≡ b.arrival = same_some (numbered hs cause) a.arrival b.arrival a.there b.there in
-      let bodies : notes.Arrived device link a.from a.clock ≡ notes.Arrived other by b.from b.clock = sym a.arrived
-      ∙ ap (λ (h : Happening). h.note.body) one
+      let one = same_some (numbered hs cause) a.arrival b.arrival a.there b.there in
+      let bodies = sym a.arrived
+      ∙ ap (λ h. h.note.body) one
       ∙ b.arrived in
       let devices : device ≡ other = ap (λ c. arrived_device c device) bodies in
-      let clocks : a.clock ≡ b.clock = ap arrived_clock bodies in
-      let first = a.at_point in
-      let second = b.at_point in
       let values : p.0 ≡ q.0 = cc in
-      let points : p ≡ q = ap (λ (n : ℤ). let v : Units = record { 0 = n } in v) values in
+      let points : p ≡ q = rw values in
       let reached : IsReach (s.reading device) (pos (time_of a.arrival)) p.0 (pos u) =
-      subst (λ (d : DeviceId). IsReach (s.reading d) (pos (time_of a.arrival)) p.0 (pos u)) (sym devices)
-      (subst (λ n. IsReach (s.reading other) (pos (time_of a.arrival)) n (pos u)) (sym values)
-      (subst (λ h. IsReach (s.reading other) (pos (time_of h)) q.0 (pos u)) (sym one) b.reached)) in
+      rw devices (rw values (rw one b.reached)) in
       record {
         devices = devices;
         links = ap (λ c. arrived_link c link) bodies;
-        frames = same_some a.arrival.frame f g a.of_frame (ap (λ (h : Happening). h.frame) one ∙ b.of_frame);
+        frames = same_some a.arrival.frame f g a.of_frame (rw one b.of_frame);
         points = points;
         times = one_reach (s.reading device) (pos (time_of a.arrival)) p.0 t u a.reached reached;
       }
@@ -265,21 +259,18 @@ module _ (s : Scenario) (hs : List Happening) (t u : ℕ) (device other : Device
       → record_place t device link cause x.frame p a ≡ record_place u other by from y.frame q b
   same_place {p} {q} {a} {b} causes x y =
       let there : IsPermanent s hs other u by cause y.frame q =
-      subst (λ n. IsPermanent s hs other u by n y.frame q) (sym causes) y.permanent in
+      rw causes y.permanent in
       let same = one_permanence x.permanent there in
       let moved : BecomesPermanent s hs device t link cause q b =
-      subst (λ d. BecomesPermanent s hs d t link cause q b) (sym same.devices)
-      (subst (λ n. BecomesPermanent s hs other n link cause q b) (sym same.times)
-      (subst (λ l. BecomesPermanent s hs other u l cause q b) (sym same.links)
-      (subst (λ n. BecomesPermanent s hs other u by n q b) (sym causes) y))) in
-      let outcomes : a ≡ b = same_ripening s hs t device link cause x moved in
-      ap (λ r. record_place t device link cause x.frame p r) outcomes
-      ∙ ap (λ v. record_place t device link cause x.frame v b) same.points
+      rw same.devices (rw same.times (rw same.links (rw causes y))) in
+      let outcomes = same_ripening s hs t device link cause x moved in
+      rw outcomes
+      (ap (λ v. record_place t device link cause x.frame v b) same.points
       ∙ ap (λ f. record_place t device link cause f q b) same.frames
       ∙ ap (λ n. record_place n device link cause y.frame q b) same.times
       ∙ ap (λ d. record_place u d link cause y.frame q b) same.devices
       ∙ ap (λ l. record_place u other l cause y.frame q b) same.links
-      ∙ ap (λ n. record_place u other by n y.frame q b) causes
+      ∙ ap (λ n. record_place u other by n y.frame q b) causes)
 
 pub recorded : (device : DeviceId) (link : LinkId) (cause : ℕ) (point : Units) (v : Judgement)
     → permanence_record device link cause point (ripe_as v) ≡ notes.Permanent device link cause point v
@@ -317,7 +308,7 @@ by_permanence {s} {before} cause due arrived (notes.Dropped device link from rea
     elim c [
       | inl a ↦
           let p = a.putting in
-          let here = arrived p (subst (λ n. numbered before n ≡ Some p) e.0 a.there) in
+          let here = arrived p (rw e.0 at a.there) in
           absurd (puts_none p.note.body here (puts s p (time_of p) p.note.body _ a.arrives.put))
       | inr (inl r) ↦ (
         record { due = due; device = device; link = link; cause = from; point = r.0; is = ripe.Dropped reason; becomes = r.1; says = is },
@@ -333,8 +324,9 @@ due_so : {s : Scenario} {hs : List Happening} {until cause : ℕ} {x : Happening
 due_so {hs} {cause} {x} o h told =
     let arrival = o.permanent.arrival in
     let arrived : (g : Happening) → numbered h.before cause ≡ Some g → IsArrived g.note.body = λ g there.
-    let one : arrival ≡ g = same_some (numbered hs cause) arrival g o.permanent.there (in_whole hs h.before h.behind cause g h.parts there) in
-    subst (λ (k : Happening). IsArrived k.note.body) one (subst IsArrived (sym o.permanent.arrived) tt) in
+    let one = same_some (numbered hs cause) arrival g o.permanent.there
+        (in_whole hs h.before h.behind cause g h.parts there) in
+    rw one at (subst IsArrived (sym o.permanent.arrived) tt) in
     by_permanence cause h.due arrived x.note.body refl h.due.cause told
 
 pub permanence_law : PermanenceLaw

@@ -1,7 +1,7 @@
 -- Behind a run an audit and a run have the same records due.
 use Rattle.{audit_law.proofs.law_lemmas.{Calm.IsTimed, Words.{time_of, true, zero, ℕ, ℤ}}, tte_units.proofs.general_lemmas.Integers.{int_le-from, int_le-is}}
 use Rattle.audit_law.proofs.law_lemmas.{Cuts.in_behind, Determined.{caused_in_audit, caused_in_run}, Passing.{come_of, counts, last_changed, none_at_start}}
-use Rattle.audit_law.proofs.law_lemmas.Words.{◌&&◌, ◌+ℤ◌, ◌+◌, ◌-ℤ◌, ◌-◌, ◌==◌, ◌||◌, ◌∙◌, ◌∷◌, ◌≡◌, ◌≤◌, Bool, ComesToPoint, DeviceId, Happening, HasVerdict}
+use Rattle.audit_law.proofs.law_lemmas.Words.{◌&&◌, ◌+ℤ◌, ◌+◌, ◌-ℤ◌, ◌-◌, ◌==◌, ◌||◌, ◌∙◌, ◌∷◌, ◌≡◌, ◌≤◌, Bool, ComesToPoint, DeviceId, Happening}
 use Rattle.audit_law.proofs.law_lemmas.Words.{Integrating, IsCaused, IsClocked, IsDue, IsIn, IsRun, Joining, List, NoteBody, Off, Scenario, Some, Standing}
 use Rattle.audit_law.proofs.law_lemmas.Words.{State, Summarizes, Synchronised, Units, Verdict, [], adjustment_after, adjustment_before, after_last, amount}
 use Rattle.audit_law.proofs.law_lemmas.Words.{and_parts, and_right, ap, arith, changes_adjustment, correction_value, earlier, false, heard_since_point}
@@ -28,14 +28,14 @@ counted : {s : Scenario} (clocked : IsClocked s) (t : ℕ) {gs : List Happening}
 counted {s} clocked zero {gs} device run timed correct by le =
     let first = correction_value s.network (recorded_cycle gs device) in
     let shown : ℕ → ℤ = λ u. pos (s.reading device u) +ℤ (adjustment_after s gs device).0 in
-    let come : Bool = int_lt (shown (last_changed gs device)) first && int_le first (shown (by - 1)) in
-    let none : come ≡ false = none_at_start clocked gs device by le first in
-    ap (λ (b : Bool). if b then natural (int_div_euclid (shown (by - 1) -ℤ first) s.network.cycle.0) + 1 else 0) none
-    ∙ sym (ap (λ (b : Bool). if b then 1 else 0) (and_right (is_integration_cycle gs device) come none))
+    let come = int_lt (shown (last_changed gs device)) first && int_le first (shown (by - 1)) in
+    let none = none_at_start clocked gs device by le first in
+    ap (λ b. if b then natural (int_div_euclid (shown (by - 1) -ℤ first) s.network.cycle.0) + 1 else 0) none
+    ∙ sym (ap (λ b. if b then 1 else 0) (and_right (is_integration_cycle gs device) come none))
 counted {s} clocked (suc until) {gs} device run timed correct by le =
     let same : suc until ≡ until + 1 = omega arith in
-    counts s clocked gs device until (subst (λ (t : ℕ). IsRun place_of (IsDue s) (t ∷ []) gs) same run) timed
-    (subst (λ t. is_broken s device t ≡ false) same correct) by (omega (arith, le))
+    counts s clocked gs device until (rw same at run) timed
+    (rw same at correct) by (omega arith)
 
 -- ---- states
 
@@ -57,7 +57,7 @@ number_by false n = omega arith
 kept_by : (now then_ : Bool) → (then_ ≡ true → now ≡ true) → ((if now then 1 else 0) == (if then_ then 1 else 0)) ≡ (not now || then_)
 kept_by true true up = refl
 kept_by true false up = refl
-kept_by false true up = absurd (let e : false ≡ true = up refl in cc)
+kept_by false true up = absurd (let e = up refl in cc)
 kept_by false false up = refl
 
 -- ---- a correction point
@@ -71,7 +71,7 @@ module _ (s : Scenario) (clocked : IsClocked s) (ps : List Happening) (t : ℕ) 
     same_standing : standing_at s ps device t ≡ standing_before s ps device t
     same_standing =
         let n = recorded_cycle (earlier t ps) device in
-        ap (λ (k : ℕ). let st : Standing = record {
+        ap (λ k. let st : Standing = record {
           plan = plan_of s.network device;
           state = state_before s ps device t;
           adjustment = adjustment_before s ps device t;
@@ -89,9 +89,10 @@ module _ (s : Scenario) (clocked : IsClocked s) (ps : List Happening) (t : ℕ) 
         let outer = and_parts (is_integration_cycle (earlier t ps) device) (had_come s ps device first t by) e in
         let inner = and_parts (int_lt low first) (int_le first (shown (by - 1))) outer.1 in
         let reached = int_le-is first (shown (by - 1)) inner.1 in
-        let up = (clocked.clocks device).never_falls (by - 1) (t - 1) (omega (arith, le)) in
+        let up = (clocked.clocks device).never_falls (by - 1) (t - 1) (omega arith) in
         and_from (is_integration_cycle (earlier t ps) device) (had_come s ps device first t t) outer.0
-        (and_from (int_lt low first) (int_le first (shown (t - 1))) inner.0 (int_le-from first (shown (t - 1)) (omega (arith, ints, up, reached))))
+        (and_from (int_lt low first) (int_le first (shown (t - 1))) inner.0
+            (int_le-from first (shown (t - 1)) (omega (arith, ints))))
 
     same_heard : heard_since_point s ps device t ≡ heard_since s ps device t
     same_heard =
@@ -100,9 +101,9 @@ module _ (s : Scenario) (clocked : IsClocked s) (ps : List Happening) (t : ℕ) 
         ap (filter_map (λ h. hearing_by s.network device h h.note.body)) (same_kept (λ h. points_come s ps device t t == points_come s ps device t (time_of h))
         (λ h. not now || has_cleared s ps device t (time_of h)) (after_last set ps) (λ h i.
         let le = up_to_now h (in_behind set ps h i) in
-        ap (λ (k : ℕ). k == points_come s ps device t (time_of h)) (count t (omega arith))
-        ∙ ap (λ (k : ℕ). (if now then 1 else 0) == k) (count (time_of h) le)
-        ∙ kept_by now (has_cleared s ps device t (time_of h)) (cleared_up (time_of h) le)))
+        rw (count t (omega arith))
+        (ap (λ k. (if now then 1 else 0) == k) (count (time_of h) le)
+        ∙ kept_by now (has_cleared s ps device t (time_of h)) (cleared_up (time_of h) le))))
 
   timed_before : (device : DeviceId) (n cycle : ℕ) → point_in (state_before s ps device t) n ≡ Some cycle → IsTimed (state_after s (earlier t ps) device)
   timed_before device n cycle e =
@@ -118,7 +119,7 @@ module _ (s : Scenario) (clocked : IsClocked s) (ps : List Happening) (t : ℕ) 
         correct = c.correct;
         summary = c.summary;
         heard = subst (Summarizes c.summary) (same_heard device timed c.correct) c.heard;
-        comes = subst (λ st. HasVerdict st c.summary v) standing c.comes;
+        comes = rw standing at c.comes;
       }
 
   comes_in_audit : (device : DeviceId) (cycle : ℕ) (v : Verdict) → ComesToCorrection s ps device t cycle v → ComesToPoint s ps device t cycle v
@@ -131,7 +132,7 @@ module _ (s : Scenario) (clocked : IsClocked s) (ps : List Happening) (t : ℕ) 
         correct = c.correct;
         summary = c.summary;
         heard = subst (Summarizes c.summary) (sym (same_heard device timed c.correct)) c.heard;
-        comes = subst (λ st. HasVerdict st c.summary v) standing c.comes;
+        comes = rw standing at c.comes;
       }
 
 -- ---- what is due

@@ -1,7 +1,7 @@
 -- What is a run by what is due in an audit is one by what is due in a run, and the other way round.
 use Rattle.audit_law.{proofs.law_lemmas.{Cuts.{cut_at, in_time, run_before, run_by}, SameDue.same_due, Words.{time_of, zero, ℕ}}, specs.law.SameRuns.SameRuns}
 use Rattle.audit_law.proofs.law_lemmas.Words.{◌++◌, ◌+◌, ◌∙◌, ◌∷◌, ◌≡◌, ◌≤◌, AllBefore, Happening, IsClocked, IsDue, IsIn, IsRun, List, NoneBefore, Scenario}
-use Rattle.audit_law.proofs.law_lemmas.Words.{[], ap, append-nil, arith, cases_lt, earlier, filter-append, le-ltb, nat_lt, none_kept, place_of, subst, suc, sym}
+use Rattle.audit_law.proofs.law_lemmas.Words.{[], append-nil, arith, cases_lt, earlier, filter-append, le-ltb, nat_lt, none_kept, place_of, subst, suc, sym}
 use Rattle.run_law.proofs.records.Happenings.{soon}
 use Rattle.run_law.specs.runs.DueRecords as runs
 
@@ -26,22 +26,22 @@ up_to_now ps y before h i = in_time h y (before h i)
 in_run : {s : Scenario} (clocked : IsClocked s) {hs : List Happening} (u : ℕ) → IsRun place_of (IsDue s) (u ∷ []) hs
     → IsRun place_of (runs.IsDue s) (u ∷ []) hs
 in_run {s} clocked {hs} u run =
-    run_by (IsDue s) (runs.IsDue s) {mark = u ∷ []} {hs = hs} (λ ps qs y whole before none here.
+    run_by (IsDue s) (runs.IsDue s) (λ ps qs y whole before none here.
     let lt = soon y u here in
-    same_due clocked ps y (earlier_run (IsDue s) ps qs u y run (omega (arith, lt)) whole none)
+    same_due clocked ps y (earlier_run (IsDue s) ps qs u y run (omega arith) whole none)
     (up_to_now ps y before)) run
 
 -- and a run is one of an audit: up to each time, since it is so up to each earlier one
 in_audit : {s : Scenario} (clocked : IsClocked s) (most u : ℕ) → u ≤ most → (hs : List Happening)
     → IsRun place_of (runs.IsDue s) (u ∷ []) hs → IsRun place_of (IsDue s) (u ∷ []) hs
 in_audit {s} clocked zero u le hs run =
-    run_by (runs.IsDue s) (IsDue s) {mark = u ∷ []} {hs = hs} (λ ps qs y whole before none here. let lt = soon y u
-    here in absurd (omega (arith, lt, le))) run
+    run_by (runs.IsDue s) (IsDue s) (λ ps qs y whole before none here. let lt = soon y u
+    here in absurd (omega arith)) run
 in_audit {s} clocked (suc most) u le hs run =
-    run_by (runs.IsDue s) (IsDue s) {mark = u ∷ []} {hs = hs} (λ ps qs y whole before none here.
+    run_by (runs.IsDue s) (IsDue s) (λ ps qs y whole before none here.
     let lt = soon y u here in
-    let front = in_audit clocked most (time_of y) (omega (arith, lt, le)) (earlier (time_of y) ps)
-    (earlier_run (runs.IsDue s) ps qs u y run (omega (arith, lt)) whole none) in
+    let front = in_audit clocked most (time_of y) (omega arith) (earlier (time_of y) ps)
+    (earlier_run (runs.IsDue s) ps qs u y run (omega arith) whole none) in
     let same = same_due clocked ps y front (up_to_now ps y before) in
     (same.1, same.0)) run
 

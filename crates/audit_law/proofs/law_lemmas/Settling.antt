@@ -1,13 +1,13 @@
 -- What is owed up to a time is told by the records up to then.
-use Rattle.audit_law.proofs.law_lemmas.{Arriving.{by_octets, same_standpoint}, Words.{option_and_then, place_of, rank, refl, subst, sym, time_of, up_to, ℕ}}
+use Rattle.audit_law.proofs.law_lemmas.{Arriving.{by_octets, same_standpoint}, Words.{place_of, rank, refl, sym, time_of, up_to, ℕ}}
 use Rattle.audit_law.proofs.law_lemmas.{Correcting.comes_by, Dispatching.{dispatches_by, sends_by}, Numbered.{by_number, number_is}, Ripening.permanent_by}
 use Rattle.audit_law.proofs.law_lemmas.Words.{◌++◌, ◌+◌, ◌<◌, ◌∙◌, ◌∷◌, ◌≡◌, ◌≤◌, ArrivesAs, Bool, Debt, DeviceId, Happening, IsDue, IsFounded, IsIn}
-use Rattle.audit_law.proofs.law_lemmas.Words.{IsOwed, LinkId, List, None, NoteBody, Scenario, Some, VlId, and_right, ap, append-nil, arith, earlier, false}
+use Rattle.audit_law.proofs.law_lemmas.Words.{IsOwed, LinkId, List, NoteBody, Scenario, Some, VlId, and_right, append-nil, arith, earlier, false}
 use Rattle.audit_law.proofs.law_lemmas.Words.{false_from_ne_true, filter, filter-append, front_founded, heard_since_point, in_parts, inl, inr, ints}
-use Rattle.audit_law.proofs.law_lemmas.Words.{is_before, is_there, key, last_or, le-ltb, nat_le, nat_lt, none_kept, numbered, numbered_front, numbered_in}
+use Rattle.audit_law.proofs.law_lemmas.Words.{is_before, is_there, key, le-ltb, nat_le, nat_lt, none_kept, numbered, numbered_front, numbered_in}
 use Rattle.audit_law.specs.law.{DebtLaws.SettledLaw, Emitted.before_place}
-use Rattle.run_law.specs.{control.{Arrivals.control_arrival, Wires.{Signal, control, timed}}, device.Standpoints.standpoint}
-use Rattle.{run_law.specs.timed.Receptions.{arrival_of, is_taken_before, last_taken, taken_cycle}, std.proofs.lemmas.Bool.{and_left, lt-leb, ne_eqb, or_from}}
+use Rattle.run_law.specs.{control.{Wires.{Signal, control, timed}}}
+use Rattle.{run_law.specs.timed.Receptions.{arrival_of, is_taken_before, last_taken}, std.proofs.lemmas.Bool.{and_left, lt-leb, ne_eqb, or_from}}
 use Rattle.run_law.specs.declared.note.NoteBody.TheVariants as notes
 use Rattle.audit_law.specs.law.Owed as debts
 
@@ -39,14 +39,15 @@ not_before h t ks late = grind (arith, false_from_ne_true, is_before, place_of, 
 front_tells : (gs rest : List Happening) (until : ℕ) → ((h : Happening) → IsIn h rest → until < time_of h) → TellsSame gs (gs ++ rest) until
 front_tells gs rest until late = record {
   numbers = λ n h le there. numbered_front gs rest n h there;
-  earliers = λ t le. of_front (λ h. nat_lt (time_of h) t) gs rest (λ h i. le-ltb (time_of h) t (let l = late h i in omega (arith, l, le)));
-  ups = λ t le. of_front (λ h. nat_le (time_of h) t) gs rest (λ h i. lt-leb (time_of h) t (let l = late h i in omega (arith, l, le)));
+  earliers = λ t le. of_front (λ h. nat_lt (time_of h) t) gs rest
+      (λ h i. le-ltb (time_of h) t (let l = late h i in omega arith));
+  ups = λ t le. of_front (λ h. nat_le (time_of h) t) gs rest
+      (λ h i. lt-leb (time_of h) t (let l = late h i in omega arith));
   befores = λ t ks le. of_front (λ h. is_before (place_of h) (t ∷ ks)) gs rest
-      (λ h i. not_before h t ks (let l = late h i in omega (arith, l, le)));
+      (λ h i. not_before h t ks (let l = late h i in omega arith));
   takens = λ device vl t link cause le.
-      ap (λ (ks : List Happening). option_and_then (λ (h : Happening). taken_cycle h.note.body) (last_or None ks))
-      (of_front (λ h. is_taken_before device vl t link cause (time_of h) h.note.body) gs rest
-      (λ h i. not_taken t (time_of h) device vl link cause h.note.body (let l = late h i in omega (arith, l, le))));
+      rw (of_front (λ h. is_taken_before device vl t link cause (time_of h) h.note.body) gs rest
+      (λ h i. not_taken t (time_of h) device vl link cause h.note.body (let l = late h i in omega arith)));
 }
 
 module _ (s : Scenario) (gs rest : List Happening) (until : ℕ) (founded : IsFounded place_of (IsDue s) (gs ++ rest))
@@ -56,9 +57,8 @@ module _ (s : Scenario) (gs rest : List Happening) (until : ℕ) (founded : IsFo
   in_front n h le there =
       let number = number_is s (gs ++ rest) n h founded there in
       elim (in_parts h gs rest (numbered_in (gs ++ rest) n h there)) [
-        | inl i ↦ subst (λ m. numbered gs m ≡ Some h) number
-            (by_number s gs h (front_founded place_of (IsDue s) gs rest founded) i)
-        | inr i ↦ let l = late h i in absurd (omega (arith, l, le))
+        | inl i ↦ rw (sym number) (by_number s gs h (front_founded place_of (IsDue s) gs rest founded) i)
+        | inr i ↦ let l = late h i in absurd (omega arith)
       ]
 
   tells_front : TellsSame (gs ++ rest) gs until
@@ -78,12 +78,12 @@ same_outcome : (s : Scenario) {gs hs : List Happening} {until : ℕ} (device : D
     (cause : ℕ) (signal : Signal) → TellsSame gs hs until → t ≤ until
     → arrival_of s gs device t link cause signal ≡ arrival_of s hs device t link cause signal
 same_outcome s {gs} {hs} device t link cause (control frame) same le =
-    ap (λ p. control_arrival s.network device link p frame) (same_standpoint s device t gs hs (same.earliers t le))
+    rw (same_standpoint s device t gs hs (same.earliers t le))
 same_outcome s device t link cause (timed octets) same le = grind (arith, same_standpoint, by_octets)
 
 -- what comes to a time from an earlier one is not earlier
 sum_within : (t a b c until : ℕ) → t ≡ a + b + c → t ≤ until → a ≤ until
-sum_within t a b c until is le = omega (arith, is, le)
+sum_within t a b c until is le = omega arith
 
 -- what one of two such lists owes, the other does
 owed_by : (s : Scenario) {gs hs : List Happening} {until : ℕ} → TellsSame gs hs until → (o : Debt)

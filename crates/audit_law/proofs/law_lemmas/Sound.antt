@@ -1,6 +1,6 @@
 -- What may be found wrong with a list of records, of any kinds.
-use Rattle.audit_law.proofs.law_lemmas.Words.{◌++◌, ◌∙◌, ◌∷◌, ◌≡◌, ◌⊎◌, AllBefore, AreSound, IsBefore, IsFounded, IsIn, IsRun, LacksNothing, List, NoneBefore}
-use Rattle.audit_law.proofs.law_lemmas.Words.{[], ap, arith, chain, in_parts, in_right, inl, inr, length, never_self, parted, refl, subst, sym, ℕ}
+use Rattle.audit_law.proofs.law_lemmas.Words.{◌++◌, ◌∙◌, ◌∷◌, ◌≡◌, ◌⊎◌, AllBefore, AreSound, IsFounded, IsIn, IsRun, LacksNothing, List, NoneBefore}
+use Rattle.audit_law.proofs.law_lemmas.Words.{[], ap, arith, chain, in_parts, in_right, inl, inr, length, never_self, parted, refl, sym, ℕ}
 use Rattle.{audit_law.specs.law.Findings.{IsGap, IsLacking, IsUnfoundedAt}, run_law.proofs.runs.{Grow.grow, Places.{before_behind, behind, either_way}}}
 use Rattle.{run_law.specs.runs.Runs.IsNextOf, std.proofs.Common.{◌↔◌, append_assoc}}
 
@@ -19,7 +19,7 @@ module _ {N : Type 0} (place : N → List ℕ) where
       → AreSound place IsDue mark ns
   sound_of_run IsDue run ps qs x e =
       let h = run.founded ps qs x e in
-      record { behind_all = h.0; due = h.1; within = run.within x (subst (λ t. IsIn x t) (sym e) (in_right x ps (x ∷ qs) (inl refl))) }
+      record { behind_all = h.0; due = h.1; within = run.within x (rw e (in_right x ps (x ∷ qs) (inl refl))) }
 
   -- ---- what a list lacks
 
@@ -37,18 +37,14 @@ module _ {N : Type 0} (place : N → List ℕ) where
       elim (at_place ns p) [
         | inl found ↦ inl (found.0, inr found.1, found.2)
         | inr none ↦
-            let head : place n ≡ p → ⊥ → ((m : N) × IsIn m (n ∷ ns) × (place m ≡ p))
-            ⊎ ((m : N) → IsIn m (n ∷ ns) → place m ≡ p → ⊥) = λ e f. absurd f in
             elim (either_way (place n) p) [
               | inr (inl e) ↦ inl (n, inl refl, e)
               | inl lt ↦ inr (λ m i e. elim i [
-                | inl same ↦ never_self p (subst (λ q. IsBefore q p)
-                    (ap place (sym same) ∙ e) lt)
+                | inl same ↦ never_self p (rw (ap place (sym same) ∙ e) at lt)
                 | inr later ↦ none m later e
               ])
               | inr (inr gt) ↦ inr (λ m i e. elim i [
-                | inl same ↦ never_self p (subst (λ q. IsBefore p q)
-                    (ap place (sym same) ∙ e) gt)
+                | inl same ↦ never_self p (rw (ap place (sym same) ∙ e) at gt)
                 | inr later ↦ none m later e
               ])
             ]
@@ -93,22 +89,21 @@ pub record IsAhead {N : Type 0} (x : N) (longer shorter : List N) : Type 0 where
 
 pub fronts : {N : Type 0} (ls bs cs ds : List N) (x y : N) → ls ++ x ∷ bs ≡ cs ++ y ∷ ds → ((length ls ≡ length cs) ⊎ (IsAhead x cs ls ⊎ IsAhead y ls cs))
 fronts [] bs [] ds x y e = inl refl
-fronts [] bs (c ∷ cs) ds x y e = let head : x ≡ c = cc in inr (inl (record { rest = cs; is = ap (λ t. t ∷ cs) (sym head) }))
-fronts (a ∷ ls) bs [] ds x y e = let head : y ≡ a = cc in inr (inr (record { rest = ls; is = ap (λ t. t ∷ ls) (sym head) }))
+fronts [] bs (c ∷ cs) ds x y e = let head : x ≡ c = cc in inr (inl (record { rest = cs; is = rw (sym head) }))
+fronts (a ∷ ls) bs [] ds x y e = let head : y ≡ a = cc in inr (inr (record { rest = ls; is = rw (sym head) }))
 fronts (a ∷ ls) bs (c ∷ cs) ds x y e =
     let head : a ≡ c = cc in
-    let tail : ls ++ x ∷ bs ≡ cs ++ y ∷ ds = cc in
-    elim (fronts ls bs cs ds x y tail) [
-      | inl same ↦ inl (omega (arith, same))
-      | inr (inl h) ↦ inr (inl (record { rest = h.rest; is = ap (λ t. t ∷ cs) (sym head) ∙ ap (λ (t : List _). a ∷ t) h.is }))
-      | inr (inr h) ↦ inr (inr (record { rest = h.rest; is = ap (λ t. t ∷ ls) head ∙ ap (λ (t : List _). c ∷ t) h.is }))
+    elim (fronts ls bs cs ds x y cc) [
+      | inl same ↦ inl (omega arith)
+      | inr (inl h) ↦ inr (inl (record { rest = h.rest; is = rw (sym head) (ap (λ t. a ∷ t) h.is) }))
+      | inr (inr h) ↦ inr (inr (record { rest = h.rest; is = rw head (ap (λ t. c ∷ t) h.is) }))
     ]
 
 pub one_unsound : {N : Type 0} (place : N → List ℕ) (IsDue : List N → N → Type 0) (mark : List ℕ) (ns : List N) (n m : ℕ) → IsUnfoundedAt place IsDue mark ns n
     → IsUnfoundedAt place IsDue mark ns m → n ≡ m
 one_unsound place IsDue mark ns n m a b =
     elim (fronts a.before a.behind b.before b.behind a.record_there b.record_there (sym a.parts ∙ b.parts)) [
-      | inl same ↦ omega (arith, a.number, b.number, same)
+      | inl same ↦ omega (arith, a.number, b.number)
       | inr (inl h) ↦ absurd (a.unsound (b.sound_before a.before h.rest a.record_there h.is))
       | inr (inr h) ↦ absurd (b.unsound (a.sound_before b.before h.rest b.record_there h.is))
     ]
@@ -130,9 +125,9 @@ lack_of_gap {place} IsDue ns {before} {rest} {x} parts gap = record {
   none_before = λ m i sooner. never_self (place x) (chain (place x) (place m) (place x) (gap.first m i) sooner);
   due = gap.due;
   absent = λ m i same.
-      elim (in_parts m before rest (subst (λ t. IsIn m t) parts i)) [
-        | inl l ↦ never_self (place x) (subst (λ p. IsBefore p (place x)) same (gap.all_before m l))
-        | inr r ↦ never_self (place x) (subst (λ p. IsBefore (place x) p) same (gap.first m r))
+      elim (in_parts m before rest (rw parts at i)) [
+        | inl l ↦ never_self (place x) (rw same at (gap.all_before m l))
+        | inr r ↦ never_self (place x) (rw same at (gap.first m r))
       ];
 }
 
@@ -160,17 +155,17 @@ next_of_grown {N} {place} IsDue {mark} {ns} x run grown =
       due = here.1;
       first = record {
         gap = λ ps qs y e before none due sooner.
-            let parts : ns ++ x ∷ [] ≡ ps ++ (qs ++ x ∷ []) = ap (λ (t : List N). t ++ x ∷ []) e ∙ append_assoc ps qs (x ∷ []) in
+            let parts : ns ++ x ∷ [] ≡ ps ++ (qs ++ x ∷ []) = rw e (append_assoc ps qs (x ∷ [])) in
             let not_x : NoneBefore place (qs ++ x ∷ []) (place y) = λ m i lt.
             elim (in_parts m qs (x ∷ []) i) [
               | inl l ↦ none m l lt
-              | inr (inl same) ↦ never_self (place x) (chain (place x) (place y) (place x) (subst (λ (t : N). IsBefore (place t) (place y)) same lt) sooner)
+              | inr (inl same) ↦ never_self (place x) (chain (place x) (place y) (place x) (rw same at lt) sooner)
               | inr (inr none_left) ↦ absurd none_left
             ] in
             let there = grown.full ps (qs ++ x ∷ []) y parts before not_x due (chain (place y) (place x) (behind (place x)) sooner (before_behind (place x))) in
             elim (in_parts there.0 ns (x ∷ []) there.1) [
-              | inl l ↦ subst (λ p. IsBefore p mark) there.2 (run.within there.0 l)
-              | inr (inl same) ↦ absurd (never_self (place x) (subst (λ p. IsBefore p (place x)) (sym there.2 ∙ ap place same) sooner))
+              | inl l ↦ rw there.2 at (run.within there.0 l)
+              | inr (inl same) ↦ absurd (never_self (place x) (rw (sym there.2 ∙ ap place same) at sooner))
               | inr (inr none_left) ↦ absurd none_left
             ];
       };

@@ -1,7 +1,7 @@
 -- What is owed of events is due.
 use Rattle.{audit_law.proofs.law_lemmas.Owing.{PaidAt, due_there, next_is_due, next_of, of_amount, timely, within}, run_law.specs.runs.DueRecords.IsEventRecord}
-use Rattle.audit_law.proofs.law_lemmas.Words.{◌+◌, ◌∙◌, ◌∷◌, ◌≡◌, ◌≤ℤ◌, ◌≤◌, Happening, IsBefore, IsCaused, IsDue, IsDueIn, IsFounded, List, NoteBody, Scenario}
-use Rattle.audit_law.proofs.law_lemmas.Words.{Some, Units, [], amount, ap, arith, key, members_in, place_at, place_of, pos, rank, refl, same_some, slice_get}
+use Rattle.audit_law.proofs.law_lemmas.Words.{◌+◌, ◌∙◌, ◌∷◌, ◌≡◌, Happening, IsBefore, IsCaused, IsDue, IsDueIn, IsFounded, List, NoteBody, Scenario}
+use Rattle.audit_law.proofs.law_lemmas.Words.{Some, [], amount, ap, arith, key, members_in, place_at, place_of, rank, refl, same_some, slice_get}
 use Rattle.audit_law.{proofs.law_lemmas.Words.{split, subst, sym, time_of, units_of, ℕ}, specs.law.TracedEvents.{IsDueByEvent, OwesEvent, TellsEvent}}
 use Rattle.{audit_law.specs.law.DebtLaws.EventLaw, net_plan.specs.declared.event.Event.Event}
 use Rattle.run_law.specs.declared.note.NoteBody.TheVariants as notes
@@ -31,8 +31,8 @@ event_owed s hs until x h here =
       line_is = b.line_is;
       event = b.event;
       is = b.is;
-      begun = subst (λ (u : Units). pos 0 ≤ℤ u.0) b.at d.due.begun;
-      timely = subst (λ u. amount u ≤ until) b.at le;
+      begun = rw b.at at d.due.begun;
+      timely = rw b.at at le;
     } in
     (d.line, owed, subst (TellsEvent d.line) (sym d.says) refl, ap amount b.at)
 
@@ -59,6 +59,6 @@ event_law s hs until founded = record {
       let second = at_line s b.before line y y.note.body refl b.due.cause q in
       let befores : first.before ≡ second.before = omega (arith, first.line_is, second.line_is) in
       let events = same_some (slice_get s.events first.before) first.event second.event first.is (ap (slice_get s.events) befores ∙ second.is) in
-      let times : time_of x ≡ time_of y = first.at ∙ ap (λ (e : Event). amount e.time) events ∙ sym second.at in
-      first.place ∙ ap (λ (t : ℕ). t ∷ 1 ∷ line ∷ []) times ∙ sym second.place;
+      let times = first.at ∙ ap (λ e. amount e.time) events ∙ sym second.at in
+      first.place ∙ ap (λ t. t ∷ 1 ∷ line ∷ []) times ∙ sym second.place;
 }

@@ -1,6 +1,6 @@
 use Rattle.{audit_law.{proofs.events_lemmas.Beginning.two_more, specs.events.Beginnings.AreWaysOf}, tte_units.proofs.general_lemmas.Lists.take_all}
-use Rattle.{audit_law.specs.declared.events.history.WayHistory.WayHistory, std.proofs.Common.{◌++◌, ◌+◌, ◌∙◌, ◌∷◌, ◌≡◌, List, [], ap, subst, sym}}
-use Rattle.{net_plan.specs.declared.tables.Link.Link, std.{proofs.lemmas.List.take_more, specs.Prelude.take}}
+use Rattle.{std.proofs.Common.{◌++◌, ◌∙◌, ◌∷◌, [], ap, subst, sym}}
+use Rattle.{std.{proofs.lemmas.List.take_more, specs.Prelude.take}}
 use Rattle.audit_law.proofs.events.history.untouched_ways.Goals as goal
 
 pub loop-link-init : goal.loop-link-init
@@ -11,15 +11,15 @@ loop-link-preserved c =
     let links = c.as_slice-link-items.result.now in
     let n = c.loop-link.link-index in
     let link = c.link-item.result in
-    let front : take (n + 1) links ≡ take n links ++ link ∷ [] =
-    take_more links n link c.loop-link-test.true ∙ ap (λ (l : Link). take n links ++ l ∷ []) (sym c.link-item.is) in
-    let ways = c.in_ok-push-2.ensures.items ∙ ap (λ (l : List WayHistory). l ++ c.untouched_way-in-loop-link.result ∷ []) c.in_ok-push.ensures.items in
-    subst (λ l. AreWaysOf l c.push-in-loop-link.new.self.items) (sym front)
-    (subst (AreWaysOf (take n links ++ link ∷ [])) (sym ways)
+    let front =
+    take_more links n link c.loop-link-test.true ∙ ap (λ l. take n links ++ l ∷ []) (sym c.link-item.is) in
+    let ways = c.in_ok-push-2.ensures.items ∙ ap (λ l. l ++ c.untouched_way-in-loop-link.result ∷ [])
+        c.in_ok-push.ensures.items in
+    rw front (subst (AreWaysOf (take n links ++ link ∷ [])) (sym ways)
     (two_more (take n links) c.loop-link.ways.items link c.loop-link.invariant
     c.untouched_way.ensures c.untouched_way-in-loop-link.ensures))
 
 pub returns : goal.returns
 returns c =
-    subst (λ l. AreWaysOf l c.loop-link.ways.items)
-    (take_all c.as_slice-link-items.result.now c.loop-link.link-index c.loop-link-test.false ∙ c.as_slice-link-items.ensures) c.loop-link.invariant
+    rw (take_all c.as_slice-link-items.result.now c.loop-link.link-index c.loop-link-test.false ∙
+        c.as_slice-link-items.ensures) at c.loop-link.invariant

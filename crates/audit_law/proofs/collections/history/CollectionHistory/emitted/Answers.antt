@@ -8,8 +8,8 @@ overflow_add-result-2 c = fits_wide _ (omega (arith, ints)) (omega (arith, ints)
 pub overflow_add-result-3 : goal.overflow_add-result-3
 overflow_add-result-3 c =
     let middle = to_z-of_z w128 c.middle.result (fits_small c.middle.ensures.small) in
-    fits_wide _ (omega (arith, ints, middle, c.middle.ensures.small.low, c.middle.ensures.small.high))
-    (omega (arith, ints, middle, c.middle.ensures.small.low, c.middle.ensures.small.high))
+    fits_wide _ (omega (arith, ints, c.middle.ensures.small.low, c.middle.ensures.small.high))
+    (omega (arith, ints, c.middle.ensures.small.low, c.middle.ensures.small.high))
 
 pub returns : goal.returns
 returns c =
@@ -18,4 +18,4 @@ returns c =
     let middle = to_z-of_z w128 c.middle.result (fits_small c.middle.ensures.small) in
     let whole = to_z-of_z w128 _ (overflow_add-result-3 c) in
     emitted-is c.args.self.now.ow c.args.self.now.calc (cluster_kept c.args.self.now.counted c.args.kept.now) _ _ (omega (arith, ints))
-    (whole ∙ omega (arith, ints, ow, calc, middle, c.middle.ensures.value))
+    (whole ∙ omega (arith, ints, c.middle.ensures.value))

@@ -1,4 +1,4 @@
-use Rattle.std.proofs.{Common.{◌+◌, ◌-◌, ◌/◌, ◌<ℤ◌, ◌≤ℤ◌, FitsSigned, Some, arith, rules, subst, sym, w64}, lemmas.Int.{ints, to_z-of_z}}
+use Rattle.std.proofs.{Common.{◌+◌, ◌-◌, ◌/◌, ◌<ℤ◌, ◌≤ℤ◌, FitsSigned, Some, arith, rules, w64}, lemmas.Int.{ints, to_z-of_z}}
 use Rattle.audit_law.{proofs.collections_lemmas.Places.{before-step, others-step}, specs.collections.Kept.kept_in}
 use Rattle.audit_law.proofs.collections.history.CollectionHistory.search.Goals as goal
 
@@ -13,7 +13,8 @@ halves-preserved-then-kept_at-opened c =
     let less : d.opened <ℤ c.args.opened = omega (arith, ints, c.if-kept_at-opened.true) in (
       omega (arith, c.halves-test.true),
       i.1,
-      λ k e inside at. subst (λ x. e.opened <ℤ x) (sym o) (before-step ks c.args.opened m d c.requires.rising c.kept_at.ensures.there less k e inside at),
+      λ k e inside at. rw o (before-step ks c.args.opened m d c.requires.rising c.kept_at.ensures.there less k e inside
+          at),
       i.3,
     )
 
@@ -29,6 +30,6 @@ halves-preserved c =
       omega (arith, c.halves-test.true),
       omega (arith, c.halves-test.true, i.1),
       i.2,
-      λ k e inside at. subst (λ x. x ≤ℤ e.opened) (sym o)
-          (others-step ks c.args.opened m d c.requires.rising c.kept_at.ensures.there least k e inside at),
+      λ k e inside at. rw o (others-step ks c.args.opened m d c.requires.rising c.kept_at.ensures.there least k e inside
+          at),
     )

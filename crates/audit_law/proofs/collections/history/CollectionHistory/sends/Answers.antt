@@ -1,6 +1,5 @@
-use Rattle.std.{proofs.{Common.{◌∙◌, ◌≡◌, FitsSigned, IsTrue, Some, false, rules, subst, sym, w64, ℤ}, lemmas.Int.to_z-of_z}, specs.Prelude.All}
+use Rattle.std.{proofs.{Common.{◌∙◌, ◌≡◌, FitsSigned, IsTrue, Some, false, rules, sym, w64}, lemmas.Int.to_z-of_z}, specs.Prelude.All}
 use Rattle.audit_law.{proofs.collections_lemmas.Sending.{none_is, sends-found, sends-from, some_is}, specs.collections.Kept.{as_emitted, emissions_in}}
-use Rattle.audit_law.specs.declared.collections.emitted.Emitted.{Emitted}
 use Rattle.audit_law.proofs.collections.history.CollectionHistory.sends.Goals as goal
 
 pub returns-in-Some : goal.returns-in-Some
@@ -9,9 +8,8 @@ returns-in-Some c =
     let g = c.args.gathering.now in
     let sent = c.args.sent.now in
     let fits : FitsSigned w64 sent.opened.0 = search rules in
-    let each : All (λ (e : Emitted). e.opened ≡ sent.opened.0 → c.opened_at.result ≡ Some e) (emissions_in h g) =
-    subst (λ (x : ℤ). All (λ (e : Emitted). e.opened ≡ x → c.opened_at.result ≡ Some e) (emissions_in h g)) (to_z-of_z w64 sent.opened.0 fits)
-    c.opened_at.ensures.each in (
+    let each : All (λ e. e.opened ≡ sent.opened.0 → c.opened_at.result ≡ Some e) (emissions_in h g) =
+    rw (to_z-of_z w64 sent.opened.0 fits) at c.opened_at.ensures.each in (
       λ true_is. sends-from h g sent c.in-Some.emitted c.in-Some.ensures.found.0 (c.is.ensures.0 true_is),
       λ sends. c.is.ensures.1 (some_is c.in-Some.emitted (as_emitted sent) (sym c.in-Some.is ∙ sends-found h g sent c.opened_at.result each sends)),
     )
@@ -22,9 +20,8 @@ returns-in-None c =
     let g = c.args.gathering.now in
     let sent = c.args.sent.now in
     let fits : FitsSigned w64 sent.opened.0 = search rules in
-    let each : All (λ (e : Emitted). e.opened ≡ sent.opened.0 → c.opened_at.result ≡ Some e) (emissions_in h g) =
-    subst (λ (x : ℤ). All (λ (e : Emitted). e.opened ≡ x → c.opened_at.result ≡ Some e) (emissions_in h g)) (to_z-of_z w64 sent.opened.0 fits)
-    c.opened_at.ensures.each in (
+    let each : All (λ e. e.opened ≡ sent.opened.0 → c.opened_at.result ≡ Some e) (emissions_in h g) =
+    rw (to_z-of_z w64 sent.opened.0 fits) at c.opened_at.ensures.each in (
       λ never. absurd (true_not never),
       λ sends. absurd (none_is (as_emitted sent) (sym c.in-None.is ∙ sends-found h g sent c.opened_at.result each sends)),
     )

@@ -1,4 +1,4 @@
-use Rattle.{audit_law.proofs.events_lemmas.Looking.looked_up, std.proofs.{Common.{◌≡◌, Some, length, refl, subst}, lemmas.Option.slice_get_read}}
+use Rattle.{audit_law.proofs.events_lemmas.Looking.looked_up, std.proofs.{Common.{◌≡◌, Some, length, refl}, lemmas.Option.slice_get_read}}
 use Rattle.std.specs.Prelude.{slice_get}
 use Rattle.audit_law.proofs.events.history.EventHistory.hold.Goals as goal
 
@@ -8,7 +8,8 @@ returns-in-Some c = λ network all h has.
     let told = c.in-Some.told.now in
     let place = c.way_place.result in
     let found = c.in-Some.ensures.lookup in
-    let at : slice_get history.ways.items place ≡ Some told = subst (λ xs. slice_get xs place ≡ Some told) c.deref.ensures.value
-    (slice_get_read c.deref.result.now (length c.deref.result.now) place told refl found.3.0 found.1) in
-    let tells = h.ways c.args.link c.args.way told (subst (λ p. slice_get history.ways.items p ≡ Some told) c.way_place.ensures at) in
+    let at : slice_get history.ways.items place ≡ Some told =
+        rw c.deref.ensures.value at (slice_get_read c.deref.result.now (length c.deref.result.now) place told refl
+        found.3.0 found.1) in
+    let tells = h.ways c.args.link c.args.way told (rw c.way_place.ensures at at) in
     looked_up c.args.time c.at.result h tells.hold c.at.ensures

@@ -1,5 +1,5 @@
-use Rattle.{audit_law.proofs.events_lemmas.{Adding.nothing_set, Befalling.soon, Looking.devices_ready}, std.proofs.Common.{◌^◌, ◌≤◌, arith, refl, subst, sym}}
-use Rattle.{audit_law.specs.events.Beginnings.IsReadyFor, run_law.proofs.scenario.Rated.slow_what, std.specs.List.All}
+use Rattle.{audit_law.proofs.events_lemmas.{Adding.nothing_set, Befalling.soon, Looking.devices_ready}, std.proofs.Common.{arith, refl, sym}}
+use Rattle.{run_law.proofs.scenario.Rated.slow_what}
 use Rattle.net_plan.specs.declared.event.What.TheVariants as events
 use Rattle.audit_law.proofs.events.history.EventHistory.keep.Goals as goal
 
@@ -8,20 +8,19 @@ set_rate-requires-clause-slow c =
     let at = c.requires.within in
     let slow = slow_what at.0 at.1 c.args.event.now (events.Rate c.in-Rate.device c.in-Rate.rate) c.in-Rate.is at.3.within in
     let most = at.2.range.rho in
-    omega (arith, slow, most)
+    omega arith
 
 pub set_rate-requires-clause-limit : goal.set_rate-requires-clause-limit
 set_rate-requires-clause-limit c =
     let at = c.requires.within in
     let early = soon at.1 c.args.event.now at.2.range at.3.within c.requires.begun in
     let same = c.amount-time.ensures.value in
-    subst (λ n. n ≤ 2 ^ 60) (sym same) early
+    rw same early
 
 pub set_rate-requires-clause-ready : goal.set_rate-requires-clause-ready
 set_rate-requires-clause-ready c =
     let at = c.requires.within in
-    subst (λ t. All (IsReadyFor t) c.args.self.now.devices.items) (sym c.amount-time.ensures.value)
-    (devices_ready at.2 at.3 c.requires.begun)
+    rw c.amount-time.ensures.value (devices_ready at.2 at.3 c.requires.begun)
 
 pub returns-in-Rate : goal.returns-in-Rate
 returns-in-Rate c = c.set_rate.ensures c.args.event.now c.in-Rate.is (sym c.amount-time.ensures.value) c.requires.begun

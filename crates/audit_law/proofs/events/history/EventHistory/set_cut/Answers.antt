@@ -1,7 +1,7 @@
 use Rattle.audit_law.proofs.events_lemmas.Adding.{cut_event, cut_no_break, cut_no_step, cut_no_turn, cut_set_to, no_devices, same_way}
 use Rattle.audit_law.{proofs.events_lemmas.{Keeping.{match_map, remembers_more, remembers_same}, Looking.{cut_has, has_place}}, specs.events.Settings.change_to}
-use Rattle.{net_plan.specs.Belonging.IsOfNetwork, std.{proofs.lemmas.Option.slice_get_read, specs.Prelude.slice_get}, tte_units.specs.Amount.amount}
-use Rattle.{std.proofs.Common.{◌++◌, ◌∙◌, ◌∷◌, ◌≡◌, Some, [], ap, arith, length, refl, subst, sym}, tte_units.proofs.general_lemmas.Lists.set_length}
+use Rattle.{net_plan.specs.Belonging.IsOfNetwork, std.{proofs.lemmas.Option.slice_get_read}, tte_units.specs.Amount.amount}
+use Rattle.{std.proofs.Common.{◌++◌, ◌∙◌, ◌∷◌, [], ap, arith, length, refl, subst, sym}, tte_units.proofs.general_lemmas.Lists.set_length}
 use Rattle.audit_law.proofs.events.history.EventHistory.set_cut.Goals as goal
 
 pub returns-in-Some : goal.returns-in-Some
@@ -11,7 +11,7 @@ returns-in-Some c = λ event what time begun network all h may.
     let told = c.in-Some.told.now in
     let place = c.way_place.result in
     let item = c.in-Some.ensures.item in
-    let at : slice_get ways place ≡ Some told = slice_get_read ways (length ways) place told refl item.3.0 item.1 in
+    let at = slice_get_read ways (length ways) place told refl item.3.0 item.1 in
     match_map c.set.result _ _ _ _
     (λ x more. remembers_more _ h may begun (set_length ways place _)
     (cut_set_to network all event c.args.link c.args.way c.args.cut place ways told c.set.new.self h.ways c.way_place.ensures at what
@@ -29,4 +29,4 @@ returns-in-None c = λ event what time begun network all h may.
     let has = cut_has network c.args.cut link c.args.way (subst (IsOfNetwork network) what may.of_network) in
     let there = has_place network link c.args.way has in
     let past = c.in-None.ensures.item.3 in
-    absurd (omega (arith, there, past, c.way_place.ensures, h.ways_count))
+    absurd (omega (arith, c.way_place.ensures, h.ways_count))

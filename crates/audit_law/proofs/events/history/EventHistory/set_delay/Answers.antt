@@ -1,6 +1,6 @@
 use Rattle.audit_law.proofs.events_lemmas.{Adding.{delay_set, no_devices, same_way}, Keeping.{match_map, remembers_more, remembers_same}}
-use Rattle.{audit_law.specs.events.Settings.change_to, std.{proofs.lemmas.Option.slice_get_read, specs.Prelude.slice_get}}
-use Rattle.{std.proofs.Common.{◌++◌, ◌∙◌, ◌∷◌, ◌≡◌, Some, [], ap, length, refl, sym}, tte_units.{proofs.general_lemmas.Lists.set_length, specs.Amount.amount}}
+use Rattle.{audit_law.specs.events.Settings.change_to, std.{proofs.lemmas.Option.slice_get_read}}
+use Rattle.{std.proofs.Common.{◌++◌, ◌∙◌, ◌∷◌, [], ap, length, refl, sym}, tte_units.{proofs.general_lemmas.Lists.set_length, specs.Amount.amount}}
 use Rattle.net_plan.specs.declared.event.What.TheVariants as events
 use Rattle.audit_law.proofs.events.history.EventHistory.set_delay.Goals as goal
 
@@ -11,7 +11,7 @@ returns-in-Some c = λ event set what value time begun network all h may.
     let told = c.in-Some.told.now in
     let place = c.way_place.result in
     let item = c.in-Some.ensures.item in
-    let at : slice_get ways place ≡ Some told = slice_get_read ways (length ways) place told refl item.3.0 item.1 in
+    let at = slice_get_read ways (length ways) place told refl item.3.0 item.1 in
     match_map c.set.result _ _ _ _
     (λ x more. remembers_more _ h may begun (set_length ways place _)
     (delay_set network all event c.args.link c.args.way set place ways told c.set.new.self h.ways c.way_place.ensures at what

@@ -1,7 +1,7 @@
 use Rattle.audit_law.proofs.events_lemmas.{Adding.{no_ways, rate_set, same_device}, Clocking.value_ready, Keeping.{match_map, remembers_more, remembers_same}}
-use Rattle.{audit_law.proofs.events_lemmas.Looking.ready_at, std.{proofs.lemmas.Int.ints, specs.List.All}, tte_units.proofs.general_lemmas.Lists.set_length}
-use Rattle.{audit_law.specs.events.Settings.{change_to, value_at}, drift_clock.specs.Segment.{Segment, stepped_segment}, std.specs.Prelude.slice_get}
-use Rattle.std.proofs.{Common.{◌++◌, ◌∙◌, ◌∷◌, ◌≡◌, ◌≤◌, Some, [], ap, arith, length, refl, subst, sym, unsigned_abs, ℕ}, lemmas.Option.slice_get_read}
+use Rattle.{audit_law.proofs.events_lemmas.Looking.ready_at, std.{proofs.lemmas.Int.ints}, tte_units.proofs.general_lemmas.Lists.set_length}
+use Rattle.{audit_law.specs.events.Settings.{change_to, value_at}, drift_clock.specs.Segment.{Segment, stepped_segment}}
+use Rattle.std.proofs.{Common.{◌++◌, ◌∙◌, ◌∷◌, ◌≤◌, [], ap, arith, length, refl, sym, unsigned_abs, ℕ}, lemmas.Option.slice_get_read}
 use Rattle.net_plan.specs.declared.event.What.TheVariants as events
 use Rattle.audit_law.proofs.events.history.EventHistory.set_rate.Goals as goal
 
@@ -12,10 +12,10 @@ rate-requires-clause-stepped c =
     let item = c.in-Some.ensures.item in
     let ready = ready_at devices c.args.device.0 c.args.time told item.3.0 item.1 c.requires.ready in
     let begins = ready.clocks.begins in
-    let read = value_ready told.clock.initial told.clock.changes.items c.args.time (omega (arith, begins)) ready.clocks.each in
-    let at : c.at-clock.result.at ≤ c.args.time = subst (λ x. x.at ≤ c.args.time) (sym (c.at-clock.ensures ready.clocks.in_order)) read in
+    let read = value_ready told.clock.initial told.clock.changes.items c.args.time (omega arith) ready.clocks.each in
+    let at : c.at-clock.result.at ≤ c.args.time = rw (c.at-clock.ensures ready.clocks.in_order) read in
     let whole = c.from_amount.ensures.whole in
-    omega (arith, ints, at, whole)
+    omega (arith, ints)
 
 pub returns-in-Some : goal.returns-in-Some
 returns-in-Some c = λ event what time begun network all h may.
@@ -24,12 +24,12 @@ returns-in-Some c = λ event what time begun network all h may.
     let device = c.args.device in
     let told = c.in-Some.told.now in
     let item = c.in-Some.ensures.item in
-    let at : slice_get devices device.0 ≡ Some told = slice_get_read devices (length devices) device.0 told refl item.3.0 item.1 in
+    let at = slice_get_read devices (length devices) device.0 told refl item.3.0 item.1 in
     let ready = ready_at devices device.0 c.args.time told item.3.0 item.1 c.requires.ready in
     let before = told.clock.changes.items in
     let value = c.at-clock.ensures ready.clocks.in_order in
     let at_time : ℕ → Segment = λ t. stepped_segment (value_at told.clock.initial before t) t c.args.rate.0 in
-    let stepped : c.rate.new.self ≡ at_time c.args.time = c.rate.ensures
+    let stepped = c.rate.ensures
     ∙ ap (λ k. stepped_segment k (unsigned_abs c.from_amount.result.0) c.args.rate.0) value
     ∙ ap (λ n. stepped_segment (value_at told.clock.initial before c.args.time) (unsigned_abs n) c.args.rate.0) c.from_amount.ensures.whole in
     match_map c.set.result _ _ _ _
@@ -37,7 +37,7 @@ returns-in-Some c = λ event what time begun network all h may.
     (no_ways network all event (events.Rate device c.args.rate) old.ways.items what (λ l w. refl) (λ l w. refl) (λ l w. refl) h.ways)
     (set_length devices device.0 _)
     (rate_set network all event device c.args.rate devices told c.set.new.self h.devices at what
-    (subst (λ t. All (λ ch. ch.from ≤ t) before) (sym time) ready.later) c.set.ensures.initial
+    (rw time ready.later) c.set.ensures.initial
     (more ∙ ap (λ k. before ++ change_to c.args.time k ∷ []) stepped ∙ ap (λ t. before ++ change_to t (at_time t) ∷ []) (sym time))))
     (λ x same. remembers_same _ h refl h.ways (set_length devices device.0 _)
     (same_device network all device devices told c.set.new.self h.devices at c.set.ensures.initial same))

@@ -3,7 +3,6 @@ use Rattle.audit_law.proofs.events.settings.Settings.after.Goals as goal
 
 pub returns : goal.returns
 returns g c = λ order.
-    let items = c.args.self.now.changes.items in
     let count = c.count_up_to-count.result in
     c.split_at.ensures.back ∙ ap (drop count) c.deref.ensures.value
-    ∙ later_found items c.args.time count (c.count_up_to-count.ensures.part order)
+    ∙ later_found c.args.self.now.changes.items c.args.time count (c.count_up_to-count.ensures.part order)
