@@ -62,10 +62,10 @@ lack_read r n part each d slow short less each_is is small =
     let most : base ≤ 4504500000000000000 = omega arith in
     let back : base + part ≡ 4500000000 * each = omega arith in
     let read : to_z w64 base -ℤ to_z w64 (of_z w64 d) ≡ pos base -ℤ d =
-        ap (λ z. z -ℤ to_z w64 (of_z w64 d)) (pos_read base (omega arith))
+    ap (λ z. z -ℤ to_z w64 (of_z w64 d)) (pos_read base (omega arith))
     ∙ ap (λ (z : ℤ). pos base -ℤ z) (reads d (omega arith)) in
     let whole : to_z w64 (of_z w64 (to_z w64 base -ℤ to_z w64 (of_z w64 d))) ≡ pos base -ℤ (r *ℤ pos n) =
-        ap (λ z. to_z w64 (of_z w64 z)) read
+    ap (λ z. to_z w64 (of_z w64 z)) read
     ∙ reads (pos base -ℤ d) (omega (arith, ints)) ∙ ap (λ (z : ℤ). pos base -ℤ z) is in
     let counted = without_drift r n base _ slow short much whole in
     let same : each * n ≡ gain r * n = ap (λ k. k * n) each_is in

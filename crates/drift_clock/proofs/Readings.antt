@@ -42,7 +42,7 @@ count_first after_step count law rho from c (s ∷ steps) i =
           let rest = count_first after_step count law rho s.at next steps i.2 in
           let here = rest ∙ law.keeps c s.at s.rate in
           reading_at-cons after_step count c s steps from now ∙
-              subst (λ t. reading_at after_step count next steps t ≡ count c t) same here
+          subst (λ t. reading_at after_step count next steps t ≡ count c t) same here
     ]
 
 -- between any two times from there on the count advances rightly

@@ -16,9 +16,11 @@ opened-most ow x [] [] some are all = tt
 opened-most ow x [] (c ∷ cs) some are all = absurd are
 opened-most ow x (o ∷ ps) [] some are all = tt
 opened-most ow x (o ∷ ps) (c ∷ cs) some are all =
-    let first = first_end ow o ps c some are.0 in
-    (omega (arith, ints, first.0, all.0), opened-most ow x (beyond c.end ps) cs some are.1
-        (all-filter (λ q. q.reading ≤ℤ x) _ ps all.1))
+    let first = first_end ow o ps c some are.0 in (
+      omega (arith, ints, first.0, all.0),
+      opened-most ow x (beyond c.end ps) cs some are.1
+          (all-filter (λ q. q.reading ≤ℤ x) _ ps all.1),
+    )
 
 -- each ends two observation windows after it opens, or before
 pub ends-most : (ow : ℤ) (ps : List Point) (cs : List Cluster) → pos 0 ≤ℤ ow → AreClusters ow ps cs

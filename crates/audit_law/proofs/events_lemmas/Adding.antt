@@ -180,7 +180,7 @@ rate_set network all event device rate devices told new are at what past first m
       fresh = first ∙ h.fresh;
       clock = more
           ∙ ap (λ l. l ++ change_to time (stepped_segment (value_at told.clock.initial before time) time rate.0) ∷ [])
-              h.clock
+          h.clock
           ∙ ap (λ c. clocks_after fresh steps ++ change_to time (stepped_segment c time rate.0) ∷ []) clock_is
           ∙ sym (clocks_more fresh steps step)
           ∙ ap (clocks_after fresh) (sym (steps_more all event device (Some step)

@@ -22,7 +22,7 @@ clocks_from rho least clock [] h k d lt = absurd (omega arith)
 clocks_from rho least clock (s ∷ steps) h zero d lt = h.0
 clocks_from rho least clock (s ∷ steps) h (suc k) d lt =
     let behind = clocks_from rho s.at (stepped_segment clock s.at s.rate) steps h.3 k d (omega arith) in
-        omega (arith, h.0)
+    omega (arith, h.0)
 
 clocks_sorted : (rho least : ℕ) (clock : Segment) (steps : List RateStep) → StepsFrom rho least steps
     → IsNonDecreasingBy (λ c. c.from) (clocks_after clock steps)

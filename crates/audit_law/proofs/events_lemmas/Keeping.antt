@@ -66,7 +66,7 @@ ways_set {network} before {behind} {link} {way} ways {new} told here stays l w x
           let at_own : slice_get (slice_set ways (way_place link way) new) (way_place link way) ≡ Some x =
           rw turned at (rw one at at) in
           rw one (rw turned (subst (TellsWay network behind link way) (set_same ways (way_place link way) new x at_own)
-              here))
+          here))
       | inr miss ↦
           let differ : way_place link way ≡ way_place l w → ⊥ = λ e.
           let same = places_same l link w way (sym e) in

@@ -77,7 +77,7 @@ module _ (network : Network) (all : List Event) (history : EventHistory) (device
       → AreClocks told.clock.initial told.clock.changes.items
   told_clocks {told} h tells =
       rw tells.fresh (rw tells.clock (are_clocks network.rho 0 (fresh_segment (amount network.grain))
-          (rate_steps all device) refl (steps_of h)))
+      (rate_steps all device) refl (steps_of h)))
 
   -- they read what the clock of the scenario reads
   pub told_reads : {told : DeviceHistory} (time : ℕ) → Remembers network all history

@@ -44,19 +44,29 @@ pub record IsLeft (clock : Segment) (start : ℕ) (later : List (Setting Segment
 
 pub left_behind : (v : Segment) (changes : List (Setting Segment)) (from : ℕ) → IsNonDecreasingBy (λ c. c.from) changes → All IsReadable changes
     → GoOn v changes → IsLeft (value_at v changes from) from (later_than from changes)
-left_behind v [] from order each on = record { order = order; each = each; after =
-    λ k d lt. absurd (omega arith); go_on = tt }
+left_behind v [] from order each on = record {
+  order = order;
+  each = each;
+  after =
+      λ k d lt. absurd (omega arith);
+  go_on = tt;
+}
 left_behind v (c ∷ cs) from order each on = elim (cases_lt from c.from) [
   | inl lt ↦
       let late = behind_late c cs from order lt in
       rw (value_before v (c ∷ cs) from late) (subst (IsLeft v from) (all_later (c ∷ cs) from late)
-      (record { order = order; each = each; after = λ k d within. let l = late k d (omega arith) within in
-          omega arith; go_on = on }))
+      (record {
+        order = order;
+        each = each;
+        after = λ k d within. let l = late k d (omega arith) within in
+            omega arith;
+        go_on = on;
+      }))
   | inr ge ↦
       let now = le-leb c.from from ge in
       let gone = lt-leb (suc from) c.from (omega arith) in
       rw now (rw gone (left_behind c.value cs from (tail_order c cs order) (λ k d lt. each (suc k) d (omega arith))
-          on.1))
+      on.1))
 ]
 
 left_tail : {clock : Segment} {start : ℕ} (c : Setting Segment) (cs : List (Setting Segment))

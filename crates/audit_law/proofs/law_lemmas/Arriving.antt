@@ -414,7 +414,7 @@ same_place {s} {hs} {t} {u} {d} {e} {l} {m} {c} {a} {b} causes x y =
     let there = rw one at y.arrives in
     let same = same_coming x.arrives there in
     let moved = subst (λ k. ArrivesAs s hs k t l c b) (sym same.0)
-        (rw (sym same.1) at (rw (sym same.2) at (rw (sym causes) at y))) in
+    (rw (sym same.1) at (rw (sym same.2) at (rw (sym causes) at y))) in
     let outcomes = same_arrival x moved in
     let at : ℕ → DeviceId → LinkId → ℕ → Arrival → List ℕ = λ n k i g o. arrival_place n (rank (arrival_record k i g o)) k i g in
     rw outcomes
@@ -430,7 +430,7 @@ due_so : {s : Scenario} {hs : List Happening} {until cause : ℕ} {x : Happening
 due_so {s} {hs} {cause} {x} o h tells =
     let put : (g : Happening) → numbered h.before cause ≡ Some g → IsPutting g.note.body = λ g there.
     let one = same_some (numbered hs cause) o.arrives.putting g o.arrives.there
-        (in_whole hs h.before h.behind cause g h.parts there) in
+    (in_whole hs h.before h.behind cause g h.parts there) in
     let p = o.arrives.putting in
     rw one at (puts s p (time_of p) p.note.body _ o.arrives.arrives.put) in
     let by = by_arrival cause h.due put x.note.body refl h.due.cause tells in

@@ -222,7 +222,7 @@ due_so {s} {hs} {cause} {link} {x} founded o h tells =
     let gives = gives_so s.network o.giving.note.body o.device link o.gives in
     let all : (g : Happening) → numbered h.before cause ≡ Some g → IsGiving g.note.body = λ g there.
     rw (same_some (numbered hs cause) o.giving g o.there (in_whole hs h.before h.behind cause g h.parts
-        there)) at gives in
+    there)) at gives in
     by_leaving cause link h.due front (from_one hs cause o.giving o.there) all x.note.body refl h.due.cause tells
 
 -- it departs by the list

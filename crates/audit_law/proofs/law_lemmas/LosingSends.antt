@@ -91,7 +91,7 @@ due_so {s} {hs} {cause} {x} founded o h tells =
     let event = o.lost.event in
     let sends : (g : Happening) → numbered h.before cause ≡ Some g → IsSending g.note.body = λ g there.
     let one = same_some (numbered hs cause) event g o.lost.is.there
-        (in_whole hs h.before h.behind cause g h.parts there) in
+    (in_whole hs h.before h.behind cause g h.parts there) in
     rw one at (subst IsSending (sym o.lost.sends) tt) in
     by_send cause h.due (front_of s hs (place_of x) founded (split_at (IsDue s) hs x h))
     (from_one hs cause event o.lost.is.there) sends

@@ -128,7 +128,7 @@ module _ (s : Scenario) (clocked : IsClocked s) (gs : List Happening) (device : 
   quiet : (h : Happening) → IsIn h gs → changed < time_of h → changes_adjustment device h.note.body ≡ false
   quiet h i late = false_from_ne_true (changes_adjustment device h.note.body) (λ e.
       let low = no_later (λ x. changes_adjustment device x.note.body) gs h (sorted (IsDue s) gs run.founded) i e in
-          omega arith)
+      omega arith)
 
   -- a state that a later record says of the device is integrating
   says : (x : Happening) → IsIn x gs → changed < time_of x → SaysIntegrating device x.note.body
@@ -180,7 +180,7 @@ module _ (s : Scenario) (clocked : IsClocked s) (gs : List Happening) (device : 
       let cut = cut_at (IsDue s) gs u run.founded in
       let behind : (h : Happening) → IsIn h cut.rest → IsIn h gs = λ h i. subst (IsIn h) (sym cut.whole) (in_right h cut.front cut.rest i) in
       let after : (h : Happening) → IsIn h cut.rest → changed < time_of h = λ h i. let l = cut.later h i in
-          omega arith in
+      omega arith in
       let still : (h : Happening) → IsIn h cut.rest → changes_adjustment device h.note.body ≡ false = λ h i. quiet h (behind h i) (after h i) in
       let start = state_after s [] device in
       let set : Happening → Bool = λ h. changes_adjustment device h.note.body in
@@ -238,16 +238,16 @@ module _ (s : Scenario) (clocked : IsClocked s) (gs : List Happening) (device : 
           → (other ≡ device) × (t ≡ time_of x) × (state ≡ Integrating)
       brings front rest cause line x y whole there is t other state whys.On c =
           let here = same_some (numbered gs cause) c.2.1 x (rw whole
-              (numbered_front front rest cause c.2.1 c.2.2.there)) there in
+          (numbered_front front rest cause c.2.1 c.2.2.there)) there in
           let bodies = sym c.2.3 ∙ ap (λ h. h.note.body) here ∙ is in
           (cc, sym c.2.2.same_time ∙ ap time_of here, c.0)
       brings front rest cause line x y whole there is t other state whys.Frame c =
           let here = same_some (numbered gs cause) c.1.0 x (rw whole
-              (numbered_front front rest cause c.1.0 c.1.1.there)) there in
+          (numbered_front front rest cause c.1.0 c.1.1.there)) there in
           absurd cc
       brings front rest cause line x y whole there is t other state whys.Correction c =
           let here = same_some (numbered gs cause) c.2.3 x (rw whole
-              (numbered_front front rest cause c.2.3 c.2.4.there)) there in
+          (numbered_front front rest cause c.2.3 c.2.4.there)) there in
           let bodies = sym c.2.5 ∙ ap (λ h. h.note.body) here ∙ is in
           absurd cc
       brings front rest cause line x y whole there is t other state whys.SyncClique c =
@@ -262,7 +262,7 @@ module _ (s : Scenario) (clocked : IsClocked s) (gs : List Happening) (device : 
           let c = rw pays at (subst (IsCaused s by.front y.note.time) of by.due.cause) in
           let b = brings by.front (y ∷ by.rest) cause line x y by.whole there is (time_of y) other state why c in
           never_left y i (omega (arith, b.1)) (λ old. ap (state_with device old) of ∙ set_state device other state old
-              from why b.0 b.2)
+          from why b.0 b.2)
       said cause line x y there at is i body of pays = absurd pays
 
       of_event : (event : Event) (i : ℕ) → slice_get s.events i ≡ Some event → event.what ≡ On device → amount event.time ≡ u → (x : Happening) → IsIn x gs
@@ -283,8 +283,11 @@ module _ (s : Scenario) (clocked : IsClocked s) (gs : List Happening) (device : 
             state = Integrating;
             why = whys.On;
             brought = tt;
-            changes = (refl, correct_before s device u (until + 1) (omega arith) correct,
-                (line, x, record { there = number; same_time = now }, body_is));
+            changes = (
+              refl,
+              correct_before s device u (until + 1) (omega arith) correct,
+              (line, x, record { there = number; same_time = now }, body_is),
+            );
             timely = le;
           } in
           let told = paid (debts.change x.note.number) owed in
@@ -413,7 +416,7 @@ module _ (s : Scenario) (clocked : IsClocked s) (gs : List Happening) (device : 
   first_comes : shown changed <ℤ first → first ≤ℤ shown until → ComesFirst until
   first_comes below reached =
       let r = reached_by reading rises changed (first -ℤ (adjustment_after s gs device).0) until
-          (came_since reached below) (omega (arith, ints)) in
+      (came_since reached below) (omega (arith, ints)) in
       let there = r.reach.reached in
       let late : changed < r.time = elim (cases_lt changed r.time) [
         | inl lt ↦ lt
@@ -481,7 +484,7 @@ module _ (s : Scenario) (clocked : IsClocked s) (gs : List Happening) (device : 
           let number : n + come r.time ≡ n + 1 = omega arith in
           let clears = only_clears r.time (n + 1) late r.within (omega (arith, ints, next_value)) r.reach number in
           let cycles = same_some (integration_cycle gs device) n (n + 1) joined
-              (clears.cycle ∙ ap (λ k. Some k) number) in
+          (clears.cycle ∙ ap (λ k. Some k) number) in
           omega arith
 
   -- so it has come to one point where a joiner has cleared, and else to none

@@ -325,7 +325,7 @@ due_so {hs} {cause} {x} o h told =
     let arrival = o.permanent.arrival in
     let arrived : (g : Happening) → numbered h.before cause ≡ Some g → IsArrived g.note.body = λ g there.
     let one = same_some (numbered hs cause) arrival g o.permanent.there
-        (in_whole hs h.before h.behind cause g h.parts there) in
+    (in_whole hs h.before h.behind cause g h.parts there) in
     rw one at (subst IsArrived (sym o.permanent.arrived) tt) in
     by_permanence cause h.due arrived x.note.body refl h.due.cause told
 

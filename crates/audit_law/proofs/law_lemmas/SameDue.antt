@@ -92,7 +92,7 @@ module _ (s : Scenario) (clocked : IsClocked s) (ps : List Happening) (t : ℕ) 
         let up = (clocked.clocks device).never_falls (by - 1) (t - 1) (omega arith) in
         and_from (is_integration_cycle (earlier t ps) device) (had_come s ps device first t t) outer.0
         (and_from (int_lt low first) (int_le first (shown (t - 1))) inner.0
-            (int_le-from first (shown (t - 1)) (omega (arith, ints))))
+        (int_le-from first (shown (t - 1)) (omega (arith, ints))))
 
     same_heard : heard_since_point s ps device t ≡ heard_since s ps device t
     same_heard =

@@ -15,8 +15,16 @@ pub reached_by : (reading : ℕ → ℕ) → ((a b : ℕ) → a ≤ b → readin
 reached_by reading rises from v zero le enough = grind (arith, ints)
 reached_by reading rises from v (suc by) le enough =
     let late : ((x : ℕ) → pos from ≤ℤ pos x → pos x <ℤ pos (suc by) → pos (reading x) <ℤ v) → IsReachedBy reading from v (suc by) = λ none.
-    record { time = suc by; within = omega arith; reach = record { from_on = omega (arith, ints); reached =
-        enough; not_before = none } } in
+    record {
+      time = suc by;
+      within = omega arith;
+      reach = record {
+        from_on = omega (arith, ints);
+        reached =
+            enough;
+        not_before = none;
+      };
+    } in
     elim (cases_lt by from) [
       | inl last ↦ late (λ x after before. absurd (omega (arith, ints)))
       | inr more ↦ by_lt_z (pos (reading by)) v

@@ -61,14 +61,25 @@ goes_with : (relay parent : Bool) (frame : Pcf) (point : Units) (clock : ℕ)
     → Goes (if relay then (if parent then arrivals.Passes frame Up else arrivals.PassesAndWaits frame Down point) else arrivals.Waits frame point) clock
     → clock ≡ frame.clock
 goes_with true true frame point clock g =
-    elim g.4 [ inl e ↦ absurd cc | inr (inl e) ↦ (let same : frame ≡ g.0 = cc in g.3 ∙ ap (λ f. f.clock) (sym same))
-        | inr (inr e) ↦ absurd cc ]
+    elim g.4 [
+      | inl e ↦ absurd cc
+      | inr (inl e) ↦ (let same : frame ≡ g.0 = cc in g.3 ∙ ap (λ f. f.clock) (sym same))
+      | inr (inr e) ↦ absurd cc
+    ]
 goes_with true false frame point clock g =
-    elim g.4 [ inl e ↦ absurd cc | inr (inl e) ↦ absurd cc | inr (inr e) ↦
-        (let same : frame ≡ g.0 = cc in g.3 ∙ ap (λ f. f.clock) (sym same)) ]
+    elim g.4 [
+      | inl e ↦ absurd cc
+      | inr (inl e) ↦ absurd cc
+      | inr (inr e) ↦
+          (let same : frame ≡ g.0 = cc in g.3 ∙ ap (λ f. f.clock) (sym same))
+    ]
 goes_with false parent frame point clock g =
-    elim g.4 [ inl e ↦ (let same : frame ≡ g.0 = cc in g.3 ∙ ap (λ f. f.clock) (sym same)) | inr (inl e) ↦
-        absurd cc | inr (inr e) ↦ absurd cc ]
+    elim g.4 [
+      | inl e ↦ (let same : frame ≡ g.0 = cc in g.3 ∙ ap (λ f. f.clock) (sym same))
+      | inr (inl e) ↦
+          absurd cc
+      | inr (inr e) ↦ absurd cc
+    ]
 
 -- a control frame that goes on is young, and its gate open
 control_finds : (network : Network) (device : DeviceId) (link : LinkId) (at : Standpoint) (frame : Result Pcf PcfRefusal) (clock : ℕ)

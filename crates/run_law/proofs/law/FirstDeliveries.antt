@@ -143,7 +143,7 @@ begins_by {s} hs {ps} qs {g} whole founded due back (notes.TtSent device link ca
           let found = by_number s ps taken founded there in
           let within = numbered_within ps taken.note.number taken found in
           let in_whole : numbered hs taken.note.number ≡ Some taken =
-              rw whole (numbered_front ps (g ∷ qs) taken.note.number taken found) in
+          rw whole (numbered_front ps (g ∷ qs) taken.note.number taken found) in
           let from : cause_of g.note.body ≡ taken.note.number = ap cause_of is ∙ has.1.number in
           further g
           (rw from in_whole)
@@ -164,7 +164,7 @@ begins_from s hs founded (suc n) h i small taken =
     let number = number_is s at.front (cause_of h.note.body) put.putting at.founded put.there in
     let within = numbered_within at.front (cause_of h.note.body) put.putting put.there in
     let there : numbered hs (cause_of h.note.body) ≡ Some put.putting =
-        rw (sym at.whole) at (numbered_front at.front (h ∷ at.rest) (cause_of h.note.body) put.putting put.there) in
+    rw (sym at.whole) at (numbered_front at.front (h ∷ at.rest) (cause_of h.note.body) put.putting put.there) in
     let of = founded_at s hs put.putting founded (numbered_in hs (cause_of h.note.body) put.putting there) in
     further h there
     (begins_by hs of.rest of.whole of.founded of.due

@@ -132,8 +132,11 @@ left_frame network ps h clock frame found of_frame =
 
 -- a record of sending is before the leaving
 sent_before : (u held : ℕ) (r : ℕ) (rest more : List ℕ) → r ≡ 5 → IsBefore (u ∷ r ∷ rest) ((u + held) ∷ 8 ∷ more)
-sent_before u held r rest more five = elim (cases_lt u (u + held)) [ inl lt ↦ inl lt | inr ge ↦
-    inr (omega arith, inl (omega arith)) ]
+sent_before u held r rest more five = elim (cases_lt u (u + held)) [
+  | inl lt ↦ inl lt
+  | inr ge ↦
+      inr (omega arith, inl (omega arith))
+]
 
 -- a frame that a master sends on a whole way up leaves
 has_left : {s : Scenario} {mark : List ℕ} {hs : List Happening} (h : Happening) (master : DeviceId) (cycle : ℕ)

@@ -36,8 +36,12 @@ in_two (n ∷ ns) (p ∷ ps) qs x e =
     let head : n ≡ p = cc in
     elim (in_two ns ps qs x cc) [
       | inl l ↦ inl (l.0, rw l.1 (ap (λ t. t ∷ ns ++ x ∷ []) (sym head)))
-      | inr r ↦ inr (record { others = r.others; last = r.last; whole =
-          rw r.whole (ap (λ t. t ∷ ps ++ r.others) head) })
+      | inr r ↦ inr (record {
+        others = r.others;
+        last = r.last;
+        whole =
+            rw r.whole (ap (λ t. t ∷ ps ++ r.others) head);
+      })
     ]
 
 no_cons : {N : Type 0} (y : N) (qs : List N) → y ∷ qs ≡ [] → ⊥

@@ -8,7 +8,7 @@ pub behind_first : {N : Type 0} (place : N → List ℕ) (IsDue : List N → N �
 behind_first place IsDue ps ys y z founded i =
     let at = parted z ys i in
     let whole : ps ++ y ∷ ys ≡ (ps ++ y ∷ at.0) ++ z ∷ at.1 =
-        ap (λ t. ps ++ y ∷ t) at.2 ∙ sym (append_assoc ps (y ∷ at.0) (z ∷ at.1)) in
+    ap (λ t. ps ++ y ∷ t) at.2 ∙ sym (append_assoc ps (y ∷ at.0) (z ∷ at.1)) in
     (founded (ps ++ y ∷ at.0) at.1 z whole).0 y (in_right y ps (y ∷ at.0) (inl refl))
 
 -- what is before y is before it and all that follows it

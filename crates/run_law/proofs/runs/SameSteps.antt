@@ -18,7 +18,7 @@ same_signal : {s : Scenario} {h : Happening} {device : DeviceId} {link : LinkId}
     → Arrives s h device link t a → Arrives s h device link t b → a ≡ b
 same_signal {s} {h} {link} {a} {b} x y =
     ap (λ l. l.signal) (same_some (launched s h (time_of h) h.note.body)
-        (record { link = link; way = x.way; signal = a })
+    (record { link = link; way = x.way; signal = a })
     (record { link = link; way = y.way; signal = b }) x.put y.put)
 
 -- and one thing becomes of it

@@ -38,8 +38,13 @@ all_within network past event all here before behind e order =
 pub in_turn : (network : Network) (front : List Event) (last event : Event) → IsWithinHypothesis network (front ++ last ∷ []) event → pos 0 ≤ℤ last.time.0
     → pos 0 ≤ℤ event.time.0 → amount last.time ≤ amount event.time
 in_turn network front last event within first second = elim (cases_lt (amount event.time) (amount last.time)) [
-  | inl sooner ↦ absurd (within outside.Order (record { front = front; last = last; order = refl; later =
-      omega (arith, ints) }))
+  | inl sooner ↦ absurd (within outside.Order (record {
+    front = front;
+    last = last;
+    order = refl;
+    later =
+        omega (arith, ints);
+  }))
   | inr later ↦ later
 ]
 

@@ -17,14 +17,14 @@ count_short-count-requires-clause-rising c =
     let from = c.args.from in
     let changes = s.changes.items in
     rw (c.after-later.ensures clocks.in_order) (rising (value_at s.initial changes from) from (later_than from changes)
-        (left_of s.initial changes from clocks))
+    (left_of s.initial changes from clocks))
 
 pub returns-then-count-eq0-clause-readable : goal.returns-then-count-eq0-clause-readable
 returns-then-count-eq0-clause-readable c =
     let s = c.args.clocks.now in
     let clocks = c.requires.clocks in
     rw (c.at.ensures clocks.in_order) (last_readable s.initial s.changes.items c.args.from 0 clocks c.requires.limit
-        (omega arith))
+    (omega arith))
 
 pub returns-then-count-eq0-clause-same : goal.returns-then-count-eq0-clause-same
 returns-then-count-eq0-clause-same c =

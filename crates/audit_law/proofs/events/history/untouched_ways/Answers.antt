@@ -14,7 +14,7 @@ loop-link-preserved c =
     let front =
     take_more links n link c.loop-link-test.true ∙ ap (λ l. take n links ++ l ∷ []) (sym c.link-item.is) in
     let ways = c.in_ok-push-2.ensures.items ∙ ap (λ l. l ++ c.untouched_way-in-loop-link.result ∷ [])
-        c.in_ok-push.ensures.items in
+    c.in_ok-push.ensures.items in
     rw front (subst (AreWaysOf (take n links ++ link ∷ [])) (sym ways)
     (two_more (take n links) c.loop-link.ways.items link c.loop-link.invariant
     c.untouched_way.ensures c.untouched_way-in-loop-link.ensures))
@@ -22,4 +22,4 @@ loop-link-preserved c =
 pub returns : goal.returns
 returns c =
     rw (take_all c.as_slice-link-items.result.now c.loop-link.link-index c.loop-link-test.false ∙
-        c.as_slice-link-items.ensures) at c.loop-link.invariant
+    c.as_slice-link-items.ensures) at c.loop-link.invariant

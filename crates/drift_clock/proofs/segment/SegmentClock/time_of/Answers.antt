@@ -11,8 +11,8 @@ is_counted c =
     let low = near.0 in
     let fast : 0 < gain i.rate.0 = omega arith in
     rw (sym (ap (λ (x : Segment). x.at) (sym c.self.view_is)))
-        (segment_counts_up s c.args.goal c.steps_to.result (rw (sym c.self.view_is) fast) c.requires.ahead
-        c.steps_to.ensures)
+    (segment_counts_up s c.args.goal c.steps_to.result (rw (sym c.self.view_is) fast) c.requires.ahead
+    c.steps_to.ensures)
 
 pub returns-clause-counted : goal.returns-clause-counted
 returns-clause-counted c = (is_counted c).counted

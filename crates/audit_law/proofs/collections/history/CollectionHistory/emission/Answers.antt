@@ -6,4 +6,4 @@ pub returns : goal.returns
 returns c =
     let h = c.args.self.now in
     ap Some c.emitted.ensures ∙ sym (rw c.in-Some.is
-        (emission-at h (kept_in h (Some c.in-Some.row)) c.args.place c.kept_at.result.now c.kept_at.ensures.there))
+    (emission-at h (kept_in h (Some c.in-Some.row)) c.args.place c.kept_at.result.now c.kept_at.ensures.there))

@@ -9,7 +9,7 @@ returns-clause-opened c =
     let closes = c.in_ok-from.ensures.closes in
     let fits : FitsSigned w64 c.args.reading = search rules in
     let counted : c.self.inside.counted.items ≡ h.counted = ap (λ v. v.counted) c.self.view_is ∙
-        c.in_ok-from.ensures.counted in
+    c.in_ok-from.ensures.counted in
     let push = c.in_ok-push.ensures.items
     ∙ (rw (to_z-of_z w64 c.args.reading fits)
     (ap (λ ps. ps ++ c.args.reading ∷ []) counted)) in

@@ -9,7 +9,7 @@ returns-in-Some c = λ network all h has.
     let place = c.way_place.result in
     let found = c.in-Some.ensures.lookup in
     let at : slice_get history.ways.items place ≡ Some told =
-        rw c.deref.ensures.value at (slice_get_read c.deref.result.now (length c.deref.result.now) place told refl
-        found.3.0 found.1) in
+    rw c.deref.ensures.value at (slice_get_read c.deref.result.now (length c.deref.result.now) place told refl
+    found.3.0 found.1) in
     let tells = h.ways c.args.link c.args.way told (rw c.way_place.ensures at at) in
     looked_up c.args.time c.at.result h tells.hold c.at.ensures

@@ -18,8 +18,8 @@ reach-requires-clause-clocks c =
     let place = c.args.device.0 in
     let found = c.in-Some.ensures.lookup in
     let at : slice_get history.devices.items place ≡ Some told =
-        rw c.deref.ensures.value at (slice_get_read c.deref.result.now (length c.deref.result.now) place told refl
-        found.3.0 found.1) in
+    rw c.deref.ensures.value at (slice_get_read c.deref.result.now (length c.deref.result.now) place told refl
+    found.3.0 found.1) in
     let some = c.requires.some in
     told_clocks some.0 some.1 history c.args.device some.2 (some.2.devices c.args.device told at)
 
@@ -30,8 +30,8 @@ returns-in-Some c = λ network all h has.
     let place = c.args.device.0 in
     let found = c.in-Some.ensures.lookup in
     let at : slice_get history.devices.items place ≡ Some told =
-        rw c.deref.ensures.value at (slice_get_read c.deref.result.now (length c.deref.result.now) place told refl
-        found.3.0 found.1) in
+    rw c.deref.ensures.value at (slice_get_read c.deref.result.now (length c.deref.result.now) place told refl
+    found.3.0 found.1) in
     reach_of_value (clocks_reading told.clock.initial told.clock.changes.items) (clock_reading network all c.args.device) c.args.from c.args.value
     c.goal_of.result.0 c.args.until c.reach.result
     (λ x. told_reads network all history c.args.device x h (h.devices c.args.device told at))

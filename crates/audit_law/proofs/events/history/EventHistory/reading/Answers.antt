@@ -9,8 +9,8 @@ reading-requires-clause-clocks c =
     let place = c.args.device.0 in
     let found = c.in-Some.ensures.lookup in
     let at : slice_get history.devices.items place ≡ Some told =
-        rw c.deref.ensures.value at (slice_get_read c.deref.result.now (length c.deref.result.now) place told refl
-        found.3.0 found.1) in
+    rw c.deref.ensures.value at (slice_get_read c.deref.result.now (length c.deref.result.now) place told refl
+    found.3.0 found.1) in
     let some = c.requires.some in
     told_clocks some.0 some.1 history c.args.device some.2 (some.2.devices c.args.device told at)
 
@@ -21,6 +21,6 @@ returns-in-Some c = λ network all h has.
     let place = c.args.device.0 in
     let found = c.in-Some.ensures.lookup in
     let at : slice_get history.devices.items place ≡ Some told =
-        rw c.deref.ensures.value at (slice_get_read c.deref.result.now (length c.deref.result.now) place told refl
-        found.3.0 found.1) in
+    rw c.deref.ensures.value at (slice_get_read c.deref.result.now (length c.deref.result.now) place told refl
+    found.3.0 found.1) in
     c.reading.ensures ∙ told_reads network all history c.args.device c.args.time h (h.devices c.args.device told at)

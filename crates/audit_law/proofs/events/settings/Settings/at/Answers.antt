@@ -17,5 +17,5 @@ returns-else-count-eq0 g c = λ order.
     let next = next_of count c.if-count-eq0.false in
     rw c.index.ensures
     (sym (value_found c.args.self.now.initial items c.args.time (count - 1) c.index.result.now
-        (below count (length items) next bound)
+    (below count (length items) next bound)
     (rw next at part)))

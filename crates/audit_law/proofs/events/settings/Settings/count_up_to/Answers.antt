@@ -7,5 +7,5 @@ returns-clause-part g c = λ order.
     let time = c.args.time in
     part_at c.args.self.now.changes.items time c.partition_point.result
     (rw c.deref.ensures.value at (c.partition_point.ensures.partitioned (λ c. nat_le c.from time)
-        (always_returns_same _ _ _ (λ a r f k. search (rules, of_calls)))
+    (always_returns_same _ _ _ (λ a r f k. search (rules, of_calls)))
     (rw c.deref.ensures.value (parted c.args.self.now.changes.items time order))))

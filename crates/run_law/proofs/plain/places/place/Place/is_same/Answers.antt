@@ -11,8 +11,7 @@ returns-then-not-is_before c =
     )
 
 pub returns-else-not-is_before : goal.returns-else-not-is_before
-returns-else-not-is_before c =
-    (
-      λ is. absurd (cc (is, c.if-not-is_before.false)),
-      λ same. ap not (c.is_before.ensures ∙ itself c.args.self.now c.args.other.now same),
-    )
+returns-else-not-is_before c = (
+  λ is. absurd (cc (is, c.if-not-is_before.false)),
+  λ same. ap not (c.is_before.ensures ∙ itself c.args.self.now c.args.other.now same),
+)

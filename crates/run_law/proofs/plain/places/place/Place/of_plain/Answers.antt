@@ -12,5 +12,5 @@ pub returns-in-TtSent : goal.returns-in-TtSent
 returns-in-TtSent c =
     rw c.in-TtSent.is (c.of_dispatch.ensures c.args.members
     ∙ ap (λ cycle. place_at c.args.time c.args.members (notes.TtSent c.in-TtSent.device c.in-TtSent.link
-        c.in-TtSent.cause c.in-TtSent.vl cycle))
+    c.in-TtSent.cause c.in-TtSent.vl cycle))
     c.from-in-TtSent.ensures)
