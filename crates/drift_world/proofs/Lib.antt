@@ -22,6 +22,7 @@ pub mod Gave
 pub mod Givings
 pub mod Halves
 pub mod Hears
+pub mod Heeds
 pub mod Rising
 pub mod Laters
 pub mod Launches

@@ -8,7 +8,7 @@ use Rattle.tte_units.specs.declared.units.Units.{Units}
 use Rattle.world_law.specs.{steps.Turns.TurnsBy, world.{Moves.{ComesFirst, settled_as}, World.{Stands, World}}}
 use Rattle.world_state.specs.{Acting.body_of, Applying.device_in, Keeping.keeps, Views.settled_at}
 use Rattle.world_state.specs.{declared.{contents.{Settled.Settled, Waits.Waits}, kept.Kept.Kept}, timers.Times.{AreFrom, never}}
-use Rattle.world_state.specs.declared.timers.Timer.{Timer}
+use Rattle.world_state.specs.{Hearing.TellsBefore, declared.{hearing.Before.{Before, TheVariants.{Due, Same}}, timers.Timer.Timer}}
 use Rattle.drift_world.specs.{Acting.IsPartAt, Parts.{IsNoSooner, part_rank}, Sound.IsSized, Views.world_of}
 use Rattle.drift_world.specs.declared.state.State.{State}
 use Rattle.drift_world.specs.declared.part.Part.{Part}
@@ -167,6 +167,20 @@ abbrev pub IsDueTimed : {C M : Type 0} → (C → ℕ → ℕ) → Network → S
 IsDueTimed reading network state device due =
     (clock : _) (timer : Timer) → slice_get state.clocks.items device ≡ Some clock
     → slice_get state.timers (length network.device + device) ≡ Some timer → IsTimerBy reading clock due state.time timer
+
+-- and so is that of the state for what the device had to do before
+abbrev pub IsTimedFor : {C M : Type 0} → (C → ℕ → ℕ) → (M → Network → DeviceId → Node → Type 0) → Network → State C M
+    → ℕ → Before → Type 0
+IsTimedFor reading stands network state device Same =
+    IsActTimed reading stands network state.timers state (record { 0 = device })
+IsTimedFor reading stands network state device (Due due) = IsDueTimed reading network state device due
+
+-- this is what the device had to do before its machine became another
+abbrev pub ToldBefore : {C M : Type 0} → (M → Network → DeviceId → Node → Type 0) → State C M → State C M → ℕ → Before
+    → Type 0
+ToldBefore stands old new device before =
+    (was is : Kept _) → slice_get old.machines.items device ≡ Some was → slice_get new.machines.items device ≡ Some is
+    → TellsBefore (keeps stands) was is before
 
 -- the timer is that of a part, and nothing that the device has to do at its time is of an earlier one
 abbrev pub KeepsPart : {C M : Type 0} → (C → ℕ → ℕ) → (M → Network → DeviceId → Node → Type 0) → Network → State C M → ℕ

@@ -1,5 +1,6 @@
 ghost use Rattle.std.specs.Prelude.{◌+◌, ◌<◌, ◌≡◌, ◌≤◌, IfOk, None, OnErr, Some, false, length};
-ghost use Rattle.drift_world.specs.{Sound.IsSound, Stepping.{ChangesOnly, TurnsPast}, Turns.{IsKept, MayWork}};
+ghost use Rattle.drift_world.specs.{Sound.IsSound, Stepping.{ChangesOnly, ToldBefore, TurnsPast}, Turns.IsKept};
+ghost use Rattle.drift_world.specs.Turns.{MayWork};
 ghost use Rattle.drift_world.specs.{Turns.{WorkSays, given_in, noted}, declared.source.Source.{Source as SourceOf}};
 ghost use Rattle.run_law.specs.records.Ranks.{rank};
 ghost use Rattle.world_state.specs.{Frames.room_of, Giving.{HasItsOctets, changed_device}, queue.Places.numbers_of};
@@ -14,22 +15,29 @@ use run_law::Moment;
 use run_law::plain::PlainNote;
 use tte_units::Units;
 use world_state::OutOfMemory;
-use world_state::hearing::{Heard, arrived, hear_signal, take_wire};
+use world_state::hearing::{Before, Heard, Hearing, arrived, hear_signal, take_wire};
 use world_state::queue::DueAt;
 use world_state::settled::put_in;
+
+/// What has come to a device, seen as the record of it, and what the device had to do before.
+struct Reception {
+    heard: Heard,
+    before: Before,
+}
 
 impl<C: Clock, M: TellsKind + Drop> State<C, M> {
     /// What is on a wire and the first of all that is under way arrives: its device hears it. It is answered,
     /// seen as the record of it, which is to be put in among what is settled.
     #[inline(always)]
-    fn hear_wire(&mut self, network: &Network, place: DueAt) -> Heard
+    fn hear_wire(&mut self, network: &Network, place: DueAt) -> Reception
         requires may { MayWork C.last_step C.reading M.stands network.now self.old (SourceOf.Arrival place) }
         ensures sound { IsSound C.last_step network.now self.new }
-        ensures octets { HasItsOctets result.body result.octets }
-        ensures device { rank result.body ≡ 2 → changed_device result.body ≡ place.device }
-        ensures late { (rank result.body ≡ 2 → ⊥) → is_at_source result.body ≡ false }
-        ensures turns { TurnsPast C.reading M.stands network.now self.old self.new (numbers_of place) (Some result)
-            None }
+        ensures octets { HasItsOctets result.heard.body result.heard.octets }
+        ensures device { rank result.heard.body ≡ 2 → changed_device result.heard.body ≡ place.device }
+        ensures late { (rank result.heard.body ≡ 2 → ⊥) → is_at_source result.heard.body ≡ false }
+        ensures turns { TurnsPast C.reading M.stands network.now self.old self.new (numbers_of place)
+            (Some result.heard) None }
+        ensures before { ToldBefore M.stands self.old self.new place.device result.before }
         ensures others { ChangesOnly place.device self.old self.new }
         ensures same { self.new ≡ record self.old {
           machines = self.new.machines;
@@ -49,9 +57,11 @@ impl<C: Clock, M: TellsKind + Drop> State<C, M> {
         };
         let link = LinkId(place.link);
         let machine = &mut self.machines[index];
-        let arrival = hear_signal(machine, network, moment, link, &signal, &mut self.made);
+        let hearing = hear_signal(machine, network, moment, link, &signal, &mut self.made);
+        let Hearing { arrival, before } = hearing;
         self.early = false;
-        arrived(place, arrival, signal)
+        let heard = arrived(place, arrival, signal);
+        Reception { heard, before }
     }
 }
 
@@ -85,8 +95,8 @@ impl<C: Clock, M: TellsKind + Drop> State<C, M> {
         ensures kept { IsKept C.last_step C.reading M.stands network.now self.old self.new (noted result note.new) }
         ensures says { WorkSays network.now self.old self.new note.new result }
     {
-        let before = self.due_of(network, place.device);
-        let heard = self.hear_wire(network, place);
+        let came = self.hear_wire(network, place);
+        let Reception { heard, before } = came;
         if heard.is_taken() {
             let taken = heard.record();
             self.give_first(network, taken, note);

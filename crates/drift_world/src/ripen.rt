@@ -15,6 +15,7 @@ use run_law::{Machine, Moment, Ripe};
 use tte_units::Units;
 use world_state::changes::put_change;
 use world_state::contents::Waits;
+use world_state::hearing::Before;
 use world_state::ripening::{joined, record_of, settle_ripe};
 
 /// A frame that is permanent, and what becomes of it.
@@ -104,11 +105,11 @@ impl<C: Clock, M: TellsKind + Drop> State<C, M> {
             let change = joined(number, ripened.waits.device, ripened.ripe);
             put_change(&mut self.settled, change);
             self.give_first(network, record, note);
-            self.rekey_from(network, one.device.0, before);
+            self.rekey_from(network, one.device.0, Before::Due(before));
             return Turn::Gives;
         }
         settle_ripe(&mut self.settled, number, &ripened.waits, ripened.ripe);
-        self.rekey_from(network, one.device.0, before);
+        self.rekey_from(network, one.device.0, Before::Due(before));
         Turn::GoesOn
     }
 }

@@ -9,6 +9,7 @@ use drift_clock::Clock;
 use net_plan::Network;
 use run_law::plain::Rank;
 use tte_units::Units;
+use world_state::hearing::Before;
 use world_state::timing::{least_point, time_for};
 
 /// Are two readings, if there are such, the same?
@@ -20,7 +21,7 @@ fn is_same(one: Option<Units>, other: Option<Units>) -> bool
 
 impl<C: Clock, M: TellsKind + Drop> State<C, M> {
     ghost use Rattle.drift_world.specs.{Acting.{IsDueAt, IsNextDue, IsPartAt}, Sound.IsSized, Sourcing.AreTimed};
-    ghost use Rattle.drift_world.specs.Stepping.{IsActTimed, IsDueTimed, IsRekeyed, IsRipeTimed, MaySetTimers};
+    ghost use Rattle.drift_world.specs.Stepping.{IsActTimed, IsRekeyed, IsRipeTimed, IsTimedFor, MaySetTimers};
     ghost use Rattle.drift_world.specs.{Parts.part_rank, Stepping.{KeepsPart, MayRekey, SetsOnly}};
 
     /// The reading at which the machine of a device acts by itself next, if it does.
@@ -129,28 +130,33 @@ impl<C: Clock, M: TellsKind + Drop> State<C, M> {
         part.is_from(timer.rank)
     }
 
-    /// Sets the timer of a device for what it does by itself, if the reading that its machine tells is not this, for
-    /// which it is right but for the part.
+    /// Sets the timer of a device for what it does by itself, if it has other things to do than before, for which it is
+    /// right but for the part.
     #[inline(always)]
-    pub fn rekey_act_from(&mut self, network: &Network, device: u32, before: Option<Units>)
+    pub fn rekey_act_from(&mut self, network: &Network, device: u32, before: Before)
         requires may { MayRekey C.last_step C.reading M.stands network.now self.old (record { 0 = device }) }
-        requires before { IsDueTimed C.reading network.now self.old device before }
+        requires before { IsTimedFor C.reading M.stands network.now self.old device before }
         ensures sets { SetsOnly (λ slot. slot ≡ length network.now.device + device) self.old self.new }
         ensures timed { IsActTimed C.reading M.stands network.now self.new.timers self.new (record { 0 = device }) }
     {
-        let due = self.due_of(network, device);
-        if is_same(due, before) && self.keeps_part(network, device) {
-            return;
+        match before {
+            Before::Same => {}
+            Before::Due(before) => {
+                let due = self.due_of(network, device);
+                if is_same(due, before) && self.keeps_part(network, device) {
+                    return;
+                }
+                self.rekey_act_at(network, device, due);
+            }
         }
-        self.rekey_act_at(network, device, due);
     }
 
-    /// Sets the timers of a device: for the frames that wait at it, and for what it does by itself, if the reading that
-    /// its machine tells is not this, for which that is right but for the part.
+    /// Sets the timers of a device: for the frames that wait at it, and for what it does by itself, if it has other
+    /// things to do than before, for which that is right but for the part.
     #[inline(always)]
-    pub fn rekey_from(&mut self, network: &Network, device: u32, before: Option<Units>)
+    pub fn rekey_from(&mut self, network: &Network, device: u32, before: Before)
         requires may { MayRekey C.last_step C.reading M.stands network.now self.old (record { 0 = device }) }
-        requires before { IsDueTimed C.reading network.now self.old device before }
+        requires before { IsTimedFor C.reading M.stands network.now self.old device before }
         ensures { IsRekeyed C.reading M.stands network.now (record { 0 = device }) self.old self.new }
     {
         self.rekey_ripe(network, device);

@@ -3,8 +3,10 @@ use Rattle.std.specs.Prelude.{◌≡◌, ◌≤◌, List, None, Option, Some, le
 use Rattle.net_plan.specs.declared.{ids.{DeviceId.DeviceId, LinkId.LinkId}, network.Network.Network}
 use Rattle.tte_units.specs.declared.frames.pcf.Pcf.{Pcf}
 use Rattle.run_law.specs.{control.Wires.{Signal, signal_of, timed}, declared.steps.{Arrival.Arrival, Moment.Moment}}
-use Rattle.run_law.specs.machines.{Calls.{HasLink, MayArrive, MayCall}, Nodes.{Node, arriving}}
+use Rattle.run_law.specs.machines.{Calls.{HasLink, MayArrive, MayCall}, Nodes.{Node, arriving}, Tasks.IsDueReading}
 use Rattle.world_law.specs.world.Outcomes.{arrival_body}
+use Rattle.device_rules.specs.Reading.{StandsAsBefore}
+use Rattle.world_state.specs.declared.hearing.Before.{Before, TheVariants.{Due, Same}}
 use Rattle.world_state.specs.{Views.octets_of, declared.{contents.Timed.Timed, queue.DueAt.DueAt}}
 use Rattle.world_state.specs.declared.contents.{Settled.Settled, Signal.{Signal as SignalSent}, Timed.TheVariants.Sent}
 use Rattle.run_law.specs.declared.steps.Arrival.TheVariants as arrivals
@@ -28,6 +30,13 @@ pub record MayCome (signal : Signal) (moment : Moment) (link : LinkId) (network 
   pub call : MayCall network device node moment arriving
   pub arrives : (octets : List ℕ) → AreOctetsOf signal octets → HasLink network device
       → MayArrive network device link octets
+
+-- this tells what the device of the machine had to do: what it has to do now, or when it acted next by itself
+abbrev pub TellsBefore : {M : Type 0} → (M → Network → DeviceId → Node → Type 0) → M → M → Before → Type 0
+TellsBefore stands old new Same = StandsAsBefore stands old new
+TellsBefore stands old new (Due due) =
+    (network : Network) (device : DeviceId) (node : Node) → stands old network device node
+    → IsDueReading network device node due
 
 -- the octets of what was on the wire, where they were those of a frame of the schedule
 abbrev pub timed_in : SignalSent → Option Timed

@@ -5,7 +5,8 @@ ghost use Rattle.{pcf_codec.specs.Encoded.encoded, run_law.specs.control.Wires.{
 ghost use Rattle.run_law.specs.{machines.Calls.StandsFor, plain.Bodies.body_of, records.Ranks.rank};
 ghost use Rattle.world_law.specs.world.{Calls.HasHeard, Outcomes.arrival_body};
 ghost use Rattle.world_state.specs.queue.Places.{IsFirst};
-ghost use Rattle.world_state.specs.Hearing.{AreOctetsOf, IsAsSent, MayCome, arrived, frame_kept, octets_kept, timed_in};
+ghost use Rattle.world_state.specs.Hearing.{AreOctetsOf, IsAsSent, MayCome, TellsBefore, arrived, frame_kept};
+ghost use Rattle.world_state.specs.Hearing.{octets_kept, timed_in};
 ghost use Rattle.world_state.specs.{Keeping.keeps, Sound.{AreUnderWay, rank_of}, Views.{octets_of, signal_as}};
 
 use crate::contents::{Content, Settled, Signal, Timed};
@@ -17,6 +18,7 @@ use net_plan::{DeviceId, LinkId, Network};
 use run_law::plain::{PlainBody, PlainKind};
 use run_law::{Arrival, Moment};
 use std::marker::Model;
+use tte_units::Units;
 use tte_units::frames::{Mac, Pcf};
 
 /// Takes out what is on a wire and the first of all that is under way.
@@ -106,6 +108,21 @@ fn has_octets(frame: &Pcf)
     is_long(frame.clock);
 }
 
+/// What a device had to do by itself before something came to it.
+#[derive(Clone, Copy)]
+pub enum Before {
+    /// What it has to do now.
+    Same,
+    /// It acted next at this reading, in units of 2^-16 ns, or never.
+    Due(Option<Units>),
+}
+
+/// What becomes of what comes to a device, and what the device had to do before.
+pub struct Hearing {
+    pub arrival: Arrival,
+    pub before: Before,
+}
+
 /// What becomes of what is on a wire, at the device that it comes to.
 #[inline(always)]
 pub fn hear_signal<M: TellsKind + Drop>(
@@ -115,21 +132,34 @@ pub fn hear_signal<M: TellsKind + Drop>(
     link: LinkId,
     signal: &Signal,
     made: &mut MadeFrame,
-) -> Arrival
+) -> Hearing
     requires range { IsInRange network.now }
     requires may { StandsFor (keeps M.stands) kept.old (MayCome (signal_as network.now signal.now) moment link) }
     requires as_sent { IsAsSent network.now signal.now }
-    ensures { (octets : List ℕ) × AreOctetsOf (signal_as network.now signal.now) octets
+    ensures hears { (octets : List ℕ) × AreOctetsOf (signal_as network.now signal.now) octets
         × ((other : NetworkValue) (device : DeviceOf)
-        → HasHeard (keeps M.stands) other device moment link octets result kept.old kept.new) }
+        → HasHeard (keeps M.stands) other device moment link octets result.arrival kept.old kept.new) }
+    ensures before { TellsBefore (keeps M.stands) kept.old kept.new result.before }
 {
     match signal {
         Signal::Control(frame) => {
             has_octets(frame);
-            kept.hear_pcf(moment, link, frame)
+            let arrival = kept.hear_pcf(moment, link, frame);
+            Hearing {
+                arrival,
+                before: Before::Same,
+            }
         }
-        Signal::Timed(frame) => hear_timed(kept, network, moment, link, frame, made),
-        Signal::Octets(octets) => kept.hear(moment, link, octets.as_slice()),
+        Signal::Timed(frame) => {
+            let before = Before::Due(kept.due());
+            let arrival = hear_timed(kept, network, moment, link, frame, made);
+            Hearing { arrival, before }
+        }
+        Signal::Octets(octets) => {
+            let before = Before::Due(kept.due());
+            let arrival = kept.hear(moment, link, octets.as_slice());
+            Hearing { arrival, before }
+        }
     }
 }
 

@@ -4,33 +4,33 @@ use Rattle.world_state.specs.{Hearing.{AreOctetsOf, IsAsSent, MayCome}, Keeping.
 use Rattle.world_state.specs.declared.contents.Signal.TheVariants as signals
 use Rattle.world_state.proofs.hearing.hear_signal.Goals as goal
 
-pub hear_pcf-requires : goal.hear_pcf-requires
-hear_pcf-requires g c =
+pub hear_pcf-arrival-requires : goal.hear_pcf-arrival-requires
+hear_pcf-arrival-requires g c =
     let frame = c.in-Control.frame in
     let are = c.has_octets.ensures in
     may_hear_some (keeps g.M.Machine.stands) c.args.kept.now c.args.moment c.args.link (AreOfFrame frame)
     (subst (λ x. StandsFor (keeps g.M.Machine.stands) c.args.kept.now (MayCome (signal_as c.args.network.now x) c.args.moment c.args.link))
     c.in-Control.is c.requires.may) are are.is
 
-pub returns-in-Control : goal.returns-in-Control
-returns-in-Control g c =
+pub returns-in-Control-clause-hears : goal.returns-in-Control-clause-hears
+returns-in-Control-clause-hears g c =
     let frame = c.in-Control.frame in
     let are = c.has_octets.ensures in (
       encoded frame,
       subst (λ x. AreOctetsOf (signal_as c.args.network.now x) (encoded frame)) (sym c.in-Control.is) are,
-      c.hear_pcf.ensures (encoded frame) are.is,
+      c.hear_pcf-arrival.ensures.hears (encoded frame) are.is,
     )
 
-pub hear_timed-requires-clause-may : goal.hear_timed-requires-clause-may
-hear_timed-requires-clause-may g c =
+pub hear_timed-arrival-requires-clause-may : goal.hear_timed-arrival-requires-clause-may
+hear_timed-arrival-requires-clause-may g c =
     subst (λ x. StandsFor (keeps g.M.Machine.stands) c.args.kept.now (MayCome (signal_as c.args.network.now x) c.args.moment c.args.link))
     c.in-Timed.is c.requires.may
 
-pub hear_timed-requires-clause-as_sent : goal.hear_timed-requires-clause-as_sent
-hear_timed-requires-clause-as_sent g c = subst (IsAsSent c.args.network.now) c.in-Timed.is c.requires.as_sent
+pub hear_timed-arrival-requires-clause-as_sent : goal.hear_timed-arrival-requires-clause-as_sent
+hear_timed-arrival-requires-clause-as_sent g c = subst (IsAsSent c.args.network.now) c.in-Timed.is c.requires.as_sent
 
-pub hear-requires : goal.hear-requires
-hear-requires g c =
+pub hear-arrival-requires : goal.hear-arrival-requires
+hear-arrival-requires g c =
     let network = c.args.network.now in
     let given = c.in-Octets.octets in
     let sent = signals.Octets given in

@@ -1,11 +1,12 @@
-use Rattle.drift_world.proofs.{Dues.due_stays, state.State.hear_turn.Goals.{After-give_first, After-put_in}}
+use Rattle.drift_world.proofs.{Heeds.told_timed, state.State.hear_turn.Goals.{After-give_first, After-put_in}}
+use Rattle.std.proofs.Common.{slice_get}
 use Rattle.world_state.specs.Frames.{Waiting, room_of}
 use Rattle.drift_world.proofs.{AtSource.source_at, Fits.{all_put, have_octets, sound_same}, Timings.rekeyed}
 use Rattle.drift_world.{proofs.{Halves.{set_act, waits_as}, OwnPlaces.{changes_both, no_shelf, waits_at}}, specs.declared.state.State.State}
 use Rattle.drift_world.proofs.Turning.{kept_timers, rekeyed_step, runs_on, step_kept}
 use Rattle.drift_world.specs.{Stepping.TurnsPast, declared.source.Source.TheVariants.Arrival}
 use Rattle.drift_world.proofs.Turned.{all_put_in, first_given, next_first, turns_of}
-use Rattle.drift_world.proofs.Words.{◌++◌, ◌<◌, ◌∙◌, ◌∷◌, ◌≡◌, ChangesOnly, DeviceId, IsSound, List, None, Note}
+use Rattle.drift_world.proofs.Words.{◌++◌, ◌<◌, ◌∙◌, ◌∷◌, ◌≡◌, ChangesOnly, DeviceId, IsSound, List, Network, None, Note}
 use Rattle.drift_world.proofs.Words.{Scenario, Settled, Some, Stands, [], ap, arith, changed_device, keeps, length, numbers_of, rank}
 use Rattle.drift_world.proofs.Words.{refl, subst, sym, world_of}
 use Rattle.world_law.specs.world.World.{is_at_source}
@@ -17,22 +18,22 @@ use Rattle.drift_world.proofs.state.State.hear_turn.Goals as goal
 pub give_first-requires-clause-number : goal.give_first-requires-clause-number
 give_first-requires-clause-number g c =
     let numbers = c.requires.may.room.numbers in
-    let given = ap (λ (t : State _ _). t.given) c.hear_wire-heard.ensures.same in
+    let given = ap (λ (t : State _ _). t.given) c.hear_wire-came.ensures.same in
     omega (arith, numbers, given)
 
 pub give_first-requires-clause-room : goal.give_first-requires-clause-room
 give_first-requires-clause-room g c =
     let launches = c.requires.may.room.launches in
-    let kept = c.hear_wire-heard.ensures.room in
+    let kept = c.hear_wire-came.ensures.room in
     omega (arith, launches, kept)
 
 pub give_first-requires-clause-octets : goal.give_first-requires-clause-octets
-give_first-requires-clause-octets g c = subst have_octets (sym c.record-taken.ensures) c.hear_wire-heard.ensures.octets
+give_first-requires-clause-octets g c = subst have_octets (sym c.record-taken.ensures) c.hear_wire-came.ensures.octets
 
 pub give_first-requires-clause-capacity : goal.give_first-requires-clause-capacity
 give_first-requires-clause-capacity g c =
-    let hear = c.hear_wire-heard.ensures in
-    waits_at c.record-taken.result.body c.hear_wire-heard.new.self.waiting
+    let hear = c.hear_wire-came.ensures in
+    waits_at c.record-taken.result.body c.hear_wire-came.new.self.waiting
     (subst (λ (z : Settled). rank z.body ≡ 2 → changed_device z.body ≡ c.args.place.device)
     (sym c.record-taken.ensures) hear.device)
     (λ two. subst (λ (w : Waiting). 0 < room_of w c.args.place.device) (sym (ap (λ (t : State _ _). t.waiting) hear.same)) c.requires.room)
@@ -41,7 +42,7 @@ pub give_first-requires-clause-place : goal.give_first-requires-clause-place
 give_first-requires-clause-place g c =
     let two : rank c.record-taken.result.body ≡ 2 = ap (λ (z : Settled). rank z.body) c.record-taken.ensures
     ∙ c.is_taken.ensures.yes c.if-is_taken.true in
-    no_shelf c.record-taken.result.body c.hear_wire-heard.new.self.stored (λ taken. omega (arith, taken, two))
+    no_shelf c.record-taken.result.body c.hear_wire-came.new.self.stored (λ taken. omega (arith, taken, two))
 
 pub give_first-requires-clause-next : goal.give_first-requires-clause-next
 give_first-requires-clause-next g c =
@@ -50,13 +51,13 @@ give_first-requires-clause-next g c =
     let network = c.args.network.now in
     let well = c.requires.may.well in
     let run = well.running in
-    let mid = c.hear_wire-heard.new.self in
+    let mid = c.hear_wire-came.new.self in
     let one = c.record-taken.result in
     let two : rank one.body ≡ 2 = ap (λ (z : Settled). rank z.body) c.record-taken.ensures
     ∙ c.is_taken.ensures.yes c.if-is_taken.true in
     let turn = turns_of K.last_step K.reading S network c.args.self.now mid (Arrival c.args.place) (Some one) None c.requires.may tt
     (subst (λ (z : Settled). TurnsPast K.reading S network c.args.self.now mid (numbers_of c.args.place) (Some z) None)
-    (sym c.record-taken.ensures) c.hear_wire-heard.ensures.turns) run.s run.notes run.is in
+    (sym c.record-taken.ensures) c.hear_wire-came.ensures.turns) run.s run.notes run.is in
     record {
       s = run.s;
       notes = run.notes;
@@ -77,13 +78,13 @@ given_so g c s notes is =
     let K = g.C.Clock in
     let S = g.M.Machine.stands in
     let network = c.args.network.now in
-    let mid = c.hear_wire-heard.new.self in
+    let mid = c.hear_wire-came.new.self in
     let one = c.record-taken.result in
     let give = c.give_first.ensures in
     (first_given K.reading S network s notes (world_of network mid) _ mid.settled.items refl one None
     (turns_of K.last_step K.reading S network c.args.self.now mid (Arrival c.args.place) (Some one) None c.requires.may tt
     (subst (λ (z : Settled). TurnsPast K.reading S network c.args.self.now mid (numbers_of c.args.place) (Some z) None)
-    (sym c.record-taken.ensures) c.hear_wire-heard.ensures.turns) s notes is)
+    (sym c.record-taken.ensures) c.hear_wire-came.ensures.turns) s notes is)
     mid.settled.items refl (source_at (Arrival c.args.place) one.body (arriving g c)) (world_of network c.give_first.new.self)
     c.give_first.new.note give.note (ap (λ (t : State _ _). world_of network t) give.same) (give.launched s notes)).0
 
@@ -91,25 +92,25 @@ pub rekey_from-requires : goal.rekey_from-requires
 rekey_from-requires g c =
     let may = c.requires.may in
     let run = may.well.running in
-    let hear = c.hear_wire-heard.ensures in
+    let hear = c.hear_wire-came.ensures in
     let give = c.give_first.ensures in
     let timers = ap (λ (t : State _ _). t.timers) give.same ∙ ap (λ (t : State _ _). t.timers) hear.same in
+    let device : DeviceId = record { 0 = c.args.place.device } in
+    let gave = given_so g (goal.at.rekey_from-requires g c).After-give_first run.s run.notes run.is in
+    let has = gave.devices device (subst (λ (n : Network). device.0 < length n.device) gave.same may.foremost.there.device) in
     record {
       may = record {
         sized = give.sound.sized;
         there = may.foremost.there.device;
         few = may.range.few_devices;
         slots = ap length timers ∙ may.well.timed.sized;
-        running = record {
-          s = run.s;
-          notes = _;
-          is = given_so g (goal.at.rekey_from-requires g c).After-give_first run.s run.notes run.is;
-        };
+        running = record { s = run.s; notes = _; is = gave };
       };
-      before = due_stays g.C.Clock.reading g.M.Machine.stands c.args.network.now g.C.Clock.last_step c.args.self.now c.give_first.new.self
-          (record { 0 = c.args.place.device }) c.due_of-before.result may.well
+      before = told_timed g.C.Clock.reading g.M.Machine.stands c.args.network.now g.C.Clock.last_step c.args.self.now c.give_first.new.self
+          device c.hear_wire-came.result.before may.well
           may.foremost.there.device
-          c.due_of-before.ensures
+          (λ was is at now. hear.before was is at (sym (ap (λ (t : State _ _). slice_get t.machines.items device.0) give.same) ∙ now))
+          has.0 has.1
           (ap (λ (t : State _ _). t.clocks) give.same ∙ ap (λ (t : State _ _). t.clocks) hear.same)
           (ap (λ (t : State _ _). t.time) give.same ∙ ap (λ (t : State _ _). t.time) hear.same)
           timers;
@@ -117,11 +118,11 @@ rekey_from-requires g c =
 
 pub returns-then-is_taken-clause-kept : goal.returns-then-is_taken-clause-kept
 returns-then-is_taken-clause-kept g c =
-    let mid = c.hear_wire-heard.new.self in
+    let mid = c.hear_wire-came.new.self in
     let gave = c.give_first.new.self in
     let device : DeviceId = record { 0 = c.args.place.device } in
     let may = c.requires.may in
-    let hear = c.hear_wire-heard.ensures in
+    let hear = c.hear_wire-came.ensures in
     let give = c.give_first.ensures in
     let changes : ChangesOnly device.0 c.args.self.now gave = changes_both hear.others
     (subst (λ d. ChangesOnly d mid gave)
@@ -142,11 +143,11 @@ returns-then-is_taken-clause-kept g c =
 
 sound_after : (g : given.Over) (c : After-put_in g)
     → IsSound g.C.Clock.last_step c.args.network.now
-    (record c.hear_wire-heard.new.self { settled = c.put_in.new.settled })
+    (record c.hear_wire-came.new.self { settled = c.put_in.new.settled })
 sound_after g c =
-    let mid = c.hear_wire-heard.new.self in
+    let mid = c.hear_wire-came.new.self in
     let put = c.put_in.ensures.is in
-    let hear = c.hear_wire-heard.ensures in
+    let hear = c.hear_wire-came.ensures in
     sound_same g.C.Clock.last_step c.args.network.now mid _ hear.sound refl refl refl refl refl refl refl refl refl refl
     (all_put have_octets c.record-other.result mid.settled.items c.put_in.new.settled.items put.0 put.1
     (subst have_octets (sym c.record-other.ensures) hear.octets) hear.sound.fit.octets)
@@ -154,40 +155,42 @@ sound_after g c =
 still : (g : given.Over) (c : After-put_in g) (s : Scenario) (notes : List Note)
     → Stands g.C.Clock.reading (keeps g.M.Machine.stands) s (world_of c.args.network.now c.args.self.now) notes
     → Stands g.C.Clock.reading (keeps g.M.Machine.stands) s
-    (world_of c.args.network.now (record c.hear_wire-heard.new.self { settled = c.put_in.new.settled })) notes
+    (world_of c.args.network.now (record c.hear_wire-came.new.self { settled = c.put_in.new.settled })) notes
 still g c s notes is =
     let K = g.C.Clock in
     let S = g.M.Machine.stands in
     let network = c.args.network.now in
-    let mid = c.hear_wire-heard.new.self in
+    let mid = c.hear_wire-came.new.self in
     let one = c.record-other.result in
     let late = ap (λ (z : Settled). is_at_source z.body) c.record-other.ensures
-    ∙ c.hear_wire-heard.ensures.late (c.is_taken.ensures.no c.if-is_taken.false) in
+    ∙ c.hear_wire-came.ensures.late (c.is_taken.ensures.no c.if-is_taken.false) in
     (all_put_in K.reading S network s notes (world_of network mid) _ mid.settled.items refl (Some one) None
     c.put_in.new.settled.items c.put_in.new.settled.items
     (turns_of K.last_step K.reading S network c.args.self.now mid (Arrival c.args.place) (Some one) None c.requires.may tt
     (subst (λ (z : Settled). TurnsPast K.reading S network c.args.self.now mid (numbers_of c.args.place) (Some z) None)
-    (sym c.record-other.ensures) c.hear_wire-heard.ensures.turns) s notes is) c.put_in.ensures.is refl late).0
+    (sym c.record-other.ensures) c.hear_wire-came.ensures.turns) s notes is) c.put_in.ensures.is refl late).0
 
 pub rekey_act_from-requires : goal.rekey_act_from-requires
 rekey_act_from-requires g c =
     let may = c.requires.may in
-    let hear = c.hear_wire-heard.ensures in
-    let after : State _ _ = record c.hear_wire-heard.new.self { settled = c.put_in.new.settled } in
+    let hear = c.hear_wire-came.ensures in
+    let after : State _ _ = record c.hear_wire-came.new.self { settled = c.put_in.new.settled } in
     let timers = ap (λ (t : State _ _). t.timers) hear.same in
+    let device : DeviceId = record { 0 = c.args.place.device } in
+    let runs = runs_on g.C.Clock.last_step g.C.Clock.reading g.M.Machine.stands c.args.network.now c.args.self.now after may.well
+    (still g (goal.at.rekey_act_from-requires g c).After-put_in) in
+    let has = runs.is.devices device (subst (λ (n : Network). device.0 < length n.device) runs.is.same may.foremost.there.device) in
     record {
       may = record {
         sized = (sound_after g (goal.at.rekey_act_from-requires g c).After-put_in).sized;
         there = may.foremost.there.device;
         few = may.range.few_devices;
         slots = ap length timers ∙ may.well.timed.sized;
-        running = runs_on g.C.Clock.last_step g.C.Clock.reading g.M.Machine.stands c.args.network.now
-            c.args.self.now after may.well
-            (still g (goal.at.rekey_act_from-requires g c).After-put_in);
+        running = runs;
       };
-      before = due_stays g.C.Clock.reading g.M.Machine.stands c.args.network.now g.C.Clock.last_step c.args.self.now after (record { 0 = c.args.place.device })
-          c.due_of-before.result may.well may.foremost.there.device
-          c.due_of-before.ensures (ap (λ (t : State _ _). t.clocks) hear.same) (ap (λ (t : State _ _). t.time) hear.same) timers;
+      before = told_timed g.C.Clock.reading g.M.Machine.stands c.args.network.now g.C.Clock.last_step c.args.self.now after device
+          c.hear_wire-came.result.before may.well may.foremost.there.device
+          hear.before has.0 has.1 (ap (λ (t : State _ _). t.clocks) hear.same) (ap (λ (t : State _ _). t.time) hear.same) timers;
     }
 
 pub returns-clause-kept : goal.returns-clause-kept
@@ -195,9 +198,9 @@ returns-clause-kept g c =
     let device : DeviceId = record { 0 = c.args.place.device } in
     let may = c.requires.may in
     let there = may.foremost.there.device in
-    let hear = c.hear_wire-heard.ensures in
+    let hear = c.hear_wire-came.ensures in
     let o = hear.others in
-    let after : State _ _ = record c.hear_wire-heard.new.self { settled = c.put_in.new.settled } in
+    let after : State _ _ = record c.hear_wire-came.new.self { settled = c.put_in.new.settled } in
     let new = c.rekey_act_from.new.self in
     let keyed = c.rekey_act_from.ensures in
     let timers = ap (λ (t : State _ _). t.timers) hear.same in

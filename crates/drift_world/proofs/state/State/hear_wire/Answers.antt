@@ -2,7 +2,8 @@ use Rattle.drift_world.proofs.{Fits.{below_without, have_octets, sized_so}, stat
 use Rattle.{drift_world.proofs.Hears.{as_sent, heard_octets, heard_turns, may_come, moment_is}, tte_units.proofs.general_lemmas.Lists.{set_aside, set_same}}
 use Rattle.{drift_world.proofs.{OwnPlaces.{arrived_device, arrived_late}, Rising.settled_in_order, Turned.one_turn, Words.{false, subst, sym, world_of}}, world_state.proofs.UnderWays.sound_without}
 use Rattle.drift_world.proofs.Words.{◌+◌, ◌<◌, ◌∙◌, ◌≡◌, DeviceId, Moment, Network, Note, Scenario, Settled, Some, Stands, ap, arith, changed_device}
-use Rattle.drift_world.proofs.Words.{List, keeps, length, length-set, length_permutation, moment_of, rank, refl, settled_at, slice_get_read}
+use Rattle.world_state.specs.Hearing.{TellsBefore}
+use Rattle.drift_world.proofs.Words.{Kept, List, keeps, length, length-set, length_permutation, moment_of, rank, refl, settled_at, slice_get_read}
 use Rattle.{std.proofs.Common.{set, slice_get}, world_law.proofs.giving.GivenParts.some_same}
 use Rattle.world_law.specs.world.World.{is_at_source}
 use Rattle.drift_world.{proofs.Turning.is_at, specs.declared.source.Source.TheVariants.Arrival}
@@ -34,17 +35,17 @@ now_is g c s notes old =
     (omega (arith, clocks, within, held)) c.index.ensures))
     own.2 c.from_amount-time.ensures.value c.read.ensures
 
-pub hear_signal-arrival-requires-clause-may : goal.hear_signal-arrival-requires-clause-may
-hear_signal-arrival-requires-clause-may g c =
+pub hear_signal-hearing-requires-clause-may : goal.hear_signal-hearing-requires-clause-may
+hear_signal-hearing-requires-clause-may g c =
     let at = is_at g.C.Clock.last_step g.C.Clock.reading g.M.Machine.stands c.args.network.now c.args.self.now (Arrival c.args.place) c.requires.may tt in
     may_come g.C.Clock.reading (keeps g.M.Machine.stands) at.s c.args.network.now c.args.self.now at.notes at.is c.args.place c.take_wire-signal.result
     c.take_wire-signal.new.under_way.entries c.take_wire-signal.ensures.taken c.requires.may.foremost.there.rank_is c.requires.may.foremost.there.now c.index_mut-machine.result.now
     (record { time = c.from_amount-time.result; reading = c.read.result })
-    (held g (goal.at.hear_signal-arrival-requires-clause-may g c).After-index_mut-machine)
-    (now_is g (goal.at.hear_signal-arrival-requires-clause-may g c).After-read at.s at.notes at.is)
+    (held g (goal.at.hear_signal-hearing-requires-clause-may g c).After-index_mut-machine)
+    (now_is g (goal.at.hear_signal-hearing-requires-clause-may g c).After-read at.s at.notes at.is)
 
-pub hear_signal-arrival-requires-clause-as_sent : goal.hear_signal-arrival-requires-clause-as_sent
-hear_signal-arrival-requires-clause-as_sent g c =
+pub hear_signal-hearing-requires-clause-as_sent : goal.hear_signal-hearing-requires-clause-as_sent
+hear_signal-hearing-requires-clause-as_sent g c =
     let at = is_at g.C.Clock.last_step g.C.Clock.reading g.M.Machine.stands c.args.network.now c.args.self.now (Arrival c.args.place) c.requires.may tt in
     as_sent g.C.Clock.reading (keeps g.M.Machine.stands) at.s c.args.network.now c.args.self.now at.notes at.is c.args.place c.take_wire-signal.result
     c.take_wire-signal.new.under_way.entries c.take_wire-signal.ensures.taken c.requires.may.foremost.there.rank_is c.requires.may.foremost.there.now
@@ -57,7 +58,7 @@ returns-clause-sound g c =
     let took = c.take_wire-signal in
     record {
       sized = sized_so g.C.Clock.last_step c.args.network.now c.args.self.now _ z refl
-          (length-set w.machines.items c.args.place.device c.hear_signal-arrival.new.kept) refl refl refl refl refl;
+          (length-set w.machines.items c.args.place.device c.hear_signal-hearing.new.kept) refl refl refl refl refl;
       under_way = sound_without c.args.network.now w.under_way.entries took.new.under_way.entries _ c.requires.may.well.sound.under_way took.ensures.taken;
       fit = record {
         ups = fit.ups;
@@ -73,23 +74,23 @@ pub returns-clause-octets : goal.returns-clause-octets
 returns-clause-octets g c =
     let took = c.take_wire-signal in
     let at = is_at g.C.Clock.last_step g.C.Clock.reading g.M.Machine.stands c.args.network.now c.args.self.now (Arrival c.args.place) c.requires.may tt in
-    let heard = c.hear_signal-arrival in
-    subst have_octets (sym c.arrived.ensures)
+    let heard = c.hear_signal-hearing in
+    subst have_octets (sym c.arrived-heard.ensures)
     (heard_octets g.C.Clock.reading (keeps g.M.Machine.stands) at.s c.args.network.now c.args.self.now at.notes at.is c.args.place took.result
     took.new.under_way.entries took.ensures.taken c.requires.may.foremost.there.rank_is c.requires.may.foremost.there.now c.index_mut-machine.result.now
     (record { time = c.from_amount-time.result; reading = c.read.result }) (held g (goal.at.returns-clause-octets g c).After-index_mut-machine)
-    (now_is g (goal.at.returns-clause-octets g c).After-read at.s at.notes at.is) heard.new.kept heard.ensures.0 heard.result heard.ensures.1
-    heard.ensures.2)
+    (now_is g (goal.at.returns-clause-octets g c).After-read at.s at.notes at.is) heard.new.kept heard.ensures.hears.0 heard.result.arrival heard.ensures.hears.1
+    heard.ensures.hears.2)
 
 pub returns-clause-device : goal.returns-clause-device
 returns-clause-device g c = λ two.
-    subst (λ (r : Settled). rank r.body ≡ 2 → changed_device r.body ≡ c.args.place.device) (sym c.arrived.ensures)
-    (arrived_device c.args.place c.hear_signal-arrival.result c.take_wire-signal.result) two
+    subst (λ (r : Settled). rank r.body ≡ 2 → changed_device r.body ≡ c.args.place.device) (sym c.arrived-heard.ensures)
+    (arrived_device c.args.place c.hear_signal-hearing.result.arrival c.take_wire-signal.result) two
 
 pub returns-clause-late : goal.returns-clause-late
 returns-clause-late g c = λ not.
-    subst (λ (r : Settled). (rank r.body ≡ 2 → ⊥) → is_at_source r.body ≡ false) (sym c.arrived.ensures)
-    (arrived_late c.args.place c.hear_signal-arrival.result c.take_wire-signal.result) not
+    subst (λ (r : Settled). (rank r.body ≡ 2 → ⊥) → is_at_source r.body ≡ false) (sym c.arrived-heard.ensures)
+    (arrived_late c.args.place c.hear_signal-hearing.result.arrival c.take_wire-signal.result) not
 
 pub returns-clause-turns : goal.returns-clause-turns
 returns-clause-turns g c = λ s notes old first.
@@ -100,30 +101,42 @@ returns-clause-turns g c = λ s notes old first.
     let machines = c.requires.may.well.sound.sized.machines in
     let kept = w.machines.ok.0 in
     let took = c.take_wire-signal in
-    let heard = c.hear_signal-arrival in
+    let heard = c.hear_signal-hearing in
     let it = heard_turns g.C.Clock.reading (keeps g.M.Machine.stands) s network w notes old c.args.place took.result
     took.new.under_way.entries
     took.ensures.taken c.requires.may.foremost.there.rank_is c.requires.may.foremost.there.now c.index_mut-machine.result.now
     (record { time = c.from_amount-time.result; reading = c.read.result })
     (held g (goal.at.returns-clause-turns g c).After-index_mut-machine)
     (now_is g (goal.at.returns-clause-turns g c).After-read s notes old)
-    heard.new.kept heard.ensures.0 heard.result (set w.machines.items device.0 heard.new.kept)
-    c.requires.may.well.sound.under_way first heard.ensures.1 heard.ensures.2
+    heard.new.kept heard.ensures.hears.0 heard.result.arrival (set w.machines.items device.0 heard.new.kept)
+    c.requires.may.well.sound.under_way first heard.ensures.hears.1 heard.ensures.hears.2
     (record {
       there = set_same w.machines.items device.0 heard.new.kept (omega (arith, machines, within, kept));
       same = λ i apart. set_aside w.machines.items device.0 i heard.new.kept apart;
     }) in
-    one_turn g.C.Clock.reading g.M.Machine.stands network c.arrived.result _ (settled_in_order old)
-    (ap (settled_at network w.time) c.arrived.ensures ∙ it.0) it.1
+    one_turn g.C.Clock.reading g.M.Machine.stands network c.arrived-heard.result _ (settled_in_order old)
+    (ap (settled_at network w.time) c.arrived-heard.ensures ∙ it.0) it.1
 
 pub returns-clause-others : goal.returns-clause-others
 returns-clause-others g c = record {
   clocks = refl;
   time = refl;
   ended = refl;
-  machines = λ i apart. set_aside c.args.self.now.machines.items c.args.place.device i c.hear_signal-arrival.new.kept apart;
+  machines = λ i apart. set_aside c.args.self.now.machines.items c.args.place.device i c.hear_signal-hearing.new.kept apart;
   waiting = λ w apart. (λ there. there, λ there. there);
 }
 
 pub returns-clause-shorter : goal.returns-clause-shorter
 returns-clause-shorter g c = let same = length_permutation _ _ c.take_wire-signal.ensures.taken in omega (arith, same)
+
+pub returns-clause-before : goal.returns-clause-before
+returns-clause-before g c = λ was is at now.
+    let w = c.args.self.now in
+    let within = c.requires.may.foremost.there.device in
+    let machines = c.requires.may.well.sound.sized.machines in
+    let kept = w.machines.ok.0 in
+    let heard = c.hear_signal-hearing in
+    subst (λ (m : Kept _). TellsBefore (keeps g.M.Machine.stands) was m heard.result.before)
+    (some_same _ _ _ (set_same w.machines.items c.args.place.device heard.new.kept (omega (arith, machines, within, kept))) now)
+    (subst (λ (m : Kept _). TellsBefore (keeps g.M.Machine.stands) m heard.new.kept heard.result.before)
+    (some_same _ _ _ (held g (goal.at.returns-clause-before g c).After-index_mut-machine) at) heard.ensures.before)

@@ -3,8 +3,8 @@ use Rattle.{run_law.specs.machines.Tasks.IsDueReading, std.proofs.Common.{get_or
 use Rattle.world_state.specs.{declared.timers.Timer.Timer, timers.Times.unset}
 use Rattle.drift_world.proofs.state.State.rekey_act_from.Goals as goal
 
-pub returns-then-keeps_part : goal.returns-then-keeps_part
-returns-then-keeps_part g c =
+pub returns-in-Due-then-keeps_part : goal.returns-in-Due-then-keeps_part
+returns-in-Due-then-keeps_part g c =
     let w = c.args.self.now in
     let K = g.C.Clock in
     let S = g.M.Machine.stands in

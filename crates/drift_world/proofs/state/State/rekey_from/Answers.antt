@@ -1,5 +1,4 @@
-use Rattle.drift_world.{proofs.{Halves.set_both, Timings.may_still, Words.{◌+◌, ◌∙◌, ap, arith, length, subst, sym}}, specs.declared.state.State.State}
-use Rattle.{drift_world.specs.Stepping.IsTimerBy, std.proofs.Common.slice_get}
+use Rattle.drift_world.proofs.{Halves.set_both, Heeds.timed_still, Timings.may_still}
 use Rattle.drift_world.proofs.state.State.rekey_from.Goals as goal
 
 pub rekey_act_from-requires-clause-may : goal.rekey_act_from-requires-clause-may
@@ -13,9 +12,6 @@ returns g c =
     c.rekey_act_from.ensures.sets
 
 pub rekey_act_from-requires-clause-before : goal.rekey_act_from-requires-clause-before
-rekey_act_from-requires-clause-before g c = λ clock timer own at.
-    let ripe = c.rekey_ripe.ensures.sets in
-    let there = c.requires.may.there in
-    subst (λ n. IsTimerBy g.C.Clock.reading clock c.args.before n timer) (sym (ap (λ (t : State _ _). t.time) ripe.same))
-    (c.requires.before clock timer (sym (ap (λ (t : State _ _). slice_get t.clocks.items c.args.device) ripe.same) ∙ own)
-    (sym (ripe.others (length c.args.network.now.device + c.args.device) (λ e. omega (arith, e, there))) ∙ at))
+rekey_act_from-requires-clause-before g c =
+    timed_still g.C.Clock.reading g.M.Machine.stands c.args.network.now c.args.self.now c.rekey_ripe.new.self (record { 0 = c.args.device })
+    c.args.before c.requires.may.there c.rekey_ripe.ensures.sets c.requires.before
