@@ -26,8 +26,8 @@ le_by {a} {b} never = elim (cases_lt b a) [ inl lt ↦ absurd (never lt) | inr g
 -- a record that is before one of a lower rank is of an earlier time
 pub higher_before : (h g : Happening) → IsBefore (place_of h) (place_of g) → rank g.note.body < rank h.note.body → time_of h < time_of g
 higher_before h g (inl lt) low = lt
-higher_before h g (inr (same, inl less)) low = absurd (omega (arith, less, low))
-higher_before h g (inr (same, inr more)) low = absurd (omega (arith, more.0, low))
+higher_before h g (inr (same, inl less)) low = absurd (omega arith)
+higher_before h g (inr (same, inr more)) low = absurd (omega (arith, more.0))
 
 -- the element of which something holds
 pub any_is : {X : Type 0} (P : X → Type 0) (xs : List X) → Any P xs → (x : X) × IsIn x xs × P x
@@ -46,7 +46,7 @@ any_of_in P x (y ∷ xs) (inr i) p = any_later P y xs (any_of_in P x xs i p)
 
 -- a device of which this holds is there
 pub device_of : (f : Role → Bool) (o : Option Device) → option_map_or (λ d. f d.role) o false ≡ true → (d : Device) × (o ≡ Some d) × (f d.role ≡ true)
-device_of f o e = passed (λ (d : Device). f d.role) o e
+device_of f o e = passed (λ d. f d.role) o e
 
 pub cm_is_no_end : (role : Role) → is_cm_role role ≡ true → is_end_system role ≡ true → ⊥
 cm_is_no_end Master a b = absurd cc

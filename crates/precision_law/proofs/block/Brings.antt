@@ -8,8 +8,8 @@ use Rattle.precision_law.proofs.words.Clocks.{next_cycle_is_of_last, one_frame_s
 use Rattle.precision_law.proofs.words.{Clocks.synchronised_has_time, Plans.{State, Summary, Units, Verdict, amount, best_on, count_of, deviation_on}}
 use Rattle.precision_law.proofs.words.Laws.{BlockGoesSo, BlocksGoSo, ComesTo, CorrectsSo, DispatchesSo, HasTimeAt, Hull, IsDispatch, IsInBlock, IsInHull}
 use Rattle.precision_law.proofs.words.Laws.{IsOldAt, IsPointOf, IsView, JoinsSo, ShowsIn, View, adjustment_left, base_of, cycle_set, epoch_time}
-use Rattle.precision_law.proofs.words.Laws.{first_correction, has_time, hull_of, is_correction, last_setting, next_of, setting, state_left}
-use Rattle.precision_law.proofs.words.Plans.{A, B, Channel, Cleared, Corrected, DeviceId, HasVerdict, Integrating, IsAtIntegration, Joining, Masters, Standing}
+use Rattle.precision_law.proofs.words.Laws.{has_time, hull_of, is_correction, last_setting, next_of, setting, state_left}
+use Rattle.precision_law.proofs.words.Plans.{A, B, Channel, Cleared, Corrected, DeviceId, HasVerdict, IsAtIntegration, Joining, Masters, Standing}
 use Rattle.precision_law.proofs.words.Runs.{Happening, Integrates, IsIn, adjustment_with, correction_value, cycle_in, earlier, expected_by, has_cleared}
 use Rattle.precision_law.proofs.words.Runs.{integration_cycle, is_joined_by, is_synchronised, next_cycle, recorded_cycle, standing_before, state_after}
 use Rattle.precision_law.proofs.words.Std.{◌*◌, ◌+ℤ◌, ◌+◌, ◌<ℤ◌, ◌<◌, ◌∙◌, ◌≡◌, ◌≤ℤ◌, ◌≤◌, Bool, None, Option, Some, ap, arith, by_lt_z, cases_lt, false}
@@ -22,7 +22,7 @@ longer c d length le = mul-le-mul_right length le
 -- a clock that was set before the block is past the correction of its cycle
 past_correction : {v : View} (n : ℕ) {t : ℕ} (block : IsInBlock v n t) {shown : ℤ} → IsView v
     → ShowsIn v.sizes shown n block.before.hull t → 1 ≤ n → pos (n * v.sizes.cycle + v.sizes.correction) ≤ℤ shown
-past_correction zero block is shows some = absurd (omega (arith, some))
+past_correction zero block is shows some = absurd (omega arith)
 past_correction {v} (suc c) block is shows some =
     let before = block.before in
     let one = before.narrow c (omega arith) in
@@ -40,7 +40,7 @@ module _ (v : View) (n t : ℕ) (block : IsInBlock v n t) (is : IsView v) where
       let before = block.before in
       let ends = block_ends v n block.next before.hull before.is_hull block.is_over in
       let product : suc (suc n) * v.sizes.cycle ≡ n * v.sizes.cycle + 2 * v.sizes.cycle = omega arith in
-      omega (arith, ints, ends, block.to, shows.most, before_narrow before, product, room is)
+      omega (arith, ints, block.to, shows.most, before_narrow before, room is)
 
   -- nor is one that was set in the block
   new_before_next : (hull : Hull) (shown : ℤ) → hull_of v (suc n) ≡ Some hull → ShowsIn v.sizes shown (suc n) hull t
@@ -50,7 +50,14 @@ module _ (v : View) (n t : ℕ) (block : IsInBlock v n t) (is : IsView v) where
       let space = room is in
       let order = instants_are_in_order v.sizes before.hull hull space (before_narrow before) (follows_before n _ _ is before.is_hull is_hull) in
       let product : suc (suc n) * v.sizes.cycle ≡ suc n * v.sizes.cycle + v.sizes.cycle = omega arith in
-      omega (arith, ints, block_ends v n block.next before.hull before.is_hull block.is_over, block.to, order.last_not_late, shows.most, product, space)
+      omega (
+        arith,
+        ints,
+        block_ends v n block.next before.hull before.is_hull block.is_over,
+        block.to,
+        order.last_not_late,
+        shows.most,
+      )
 
   -- the cycle of a dispatch by an old clock
   old_cycle : (cycle : ℕ) (shown : ℤ) → ShowsIn v.sizes shown n block.before.hull t → 1 ≤ cycle → pos (cycle * v.sizes.cycle) ≤ℤ shown
@@ -59,23 +66,23 @@ module _ (v : View) (n t : ℕ) (block : IsInBlock v n t) (is : IsView v) where
       let top = before_next_cycle shown shows in
       let at_most : cycle ≤ suc n = elim (cases_lt (suc n) cycle) [
         | inr le ↦ le
-        | inl lt ↦ (let more = longer (suc (suc n)) cycle v.sizes.cycle (omega (arith, lt)) in absurd (omega (arith, ints, more, top, least)))
+        | inl lt ↦ (let more = longer (suc (suc n)) cycle v.sizes.cycle (omega arith) in absurd (omega (arith, ints)))
       ] in
       let at_least : suc n ≤ cycle = elim (cases_lt cycle (suc n)) [
         | inr ge ↦ ge
         | inl lt ↦
-            let past = past_correction n block is shows (omega (arith, lt, begun)) in
-            absurd (omega (arith, ints, past, longer cycle n v.sizes.cycle (omega (arith, lt)), most, room is))
+            let past = past_correction n block is shows (omega arith) in
+            absurd (omega (arith, ints, longer cycle n v.sizes.cycle (omega (arith, lt)), room is))
       ] in
-      omega (arith, at_most, at_least)
+      omega arith
 
   -- a clock that was set in the block dispatches nothing
   new_dispatches_none : (cycle : ℕ) (device : DeviceId) → HasDispatched v device cycle t → IsSetInBlock v n t device (adjustment_left v device t) → ⊥
   new_dispatches_none cycle device has set =
       let top = new_before_next _ _ set.is_hull (set_shows block is set) in
       elim (cases_lt (suc n) cycle) [
-        | inl lt ↦ (let more = longer (suc (suc n)) cycle v.sizes.cycle (omega (arith, lt)) in omega (arith, ints, more, top, has.least))
-        | inr le ↦ (let less = longer cycle (suc n) v.sizes.cycle le in omega (arith, ints, less, set.ahead, has.most))
+        | inl lt ↦ (let more = longer (suc (suc n)) cycle v.sizes.cycle (omega arith) in omega (arith, ints, has.least))
+        | inr le ↦ (let less = longer cycle (suc n) v.sizes.cycle le in omega (arith, ints, set.ahead, has.most))
       ]
 
   -- ---- correction points of old devices
@@ -114,7 +121,8 @@ module _ (v : View) (n t : ℕ) (block : IsInBlock v n t) (is : IsView v) (went 
       let product = ap (λ c. c * v.sizes.cycle) same ∙ one_more n v.sizes.cycle in
       let errors = (room is).errors in
       let inside = in_hull n before.hull before.is_hull (subst (IsDispatch v h device) same dispatch)
-      (omega (arith, ints, shows.most, has.least, product, errors.reach_is, at)) (omega (arith, ints, shows.least, has.most, product, errors.reach_is, at)) in
+      (omega (arith, ints, shows.most, has.least, errors.reach_is))
+      (omega (arith, ints, shows.least, has.most, errors.reach_is)) in
       record { of_cycle = same; old = old; inside = subst (IsInHull v (suc n)) at inside })
       (λ late. absurd (new_dispatches_none v n t block is cycle device has (set_within device timed late)))
 
@@ -125,8 +133,8 @@ module _ (v : View) (n t : ℕ) (block : IsInBlock v n t) (is : IsView v) (went 
       let space = room is in
       let join = joins h device is i joined in
       let enough : 3 ≤ count_of (members_by h) = omega (arith, (is.lawful.rules Masters 2).threshold_least refl, join.enough) in
-      let to : time_of h ≤ t = omega (arith, at) in
-      let late = late_from n (time_of h) block.before is (omega (arith, at, block.from)) in
+      let to : time_of h ≤ t = omega arith in
+      let late = late_from n (time_of h) block.before is (omega (arith, block.from)) in
       let frame = good_hearing laws v n t block.before is went device join.channel join.point h to Integrates tt join.hears late
       (λ e cm f. laws.three v e cm _ (members_by h) is f enough) in
       let near = near_hull laws v n t block.before is went device join.channel join.point h to frame (inl enough) in
@@ -144,9 +152,9 @@ module _ (v : View) (n t : ℕ) (block : IsInBlock v n t) (is : IsView v) (went 
         hull = frame.hull;
         is_hull = frame.is_hull;
         not_early = subst (λ u. frame.hull.least ≤ℤ pos u) at frame.not_early;
-        not_late = subst (λ u. pos u <ℤ first_correction v.sizes block.before.hull) at frame.not_late;
-        anchored = record { least = omega (arith, ints, anchored.least, adjusts, read, at); most = omega (arith, ints, anchored.most, adjusts, read, at) };
-        ahead = omega (arith, ints, frame.timely.least, expected_late device is, space, adjusts, read);
+        not_late = rw (sym at) frame.not_late;
+        anchored = record { least = omega (arith, ints, anchored.least); most = omega (arith, ints, anchored.most) };
+        ahead = omega (arith, ints, frame.timely.least, expected_late device is);
       }
 
   -- the frames of the block correct an old device
@@ -177,7 +185,7 @@ module _ (v : View) (n t : ℕ) (block : IsInBlock v n t) (is : IsView v) (went 
   -- the correction number of one whose clock a record of the block corrected, or told the time
   number_late : (o : Option Happening) → last_setting (earlier t v.records) device ≡ o
       → pos block.before.next ≤ℤ option_map_or (λ h. pos (time_of h)) o (negsuc 0) → suc (suc n) ≤ next_cycle v.scenario p.comes.front device t
-  number_late None e late = absurd (omega (arith, ints, late))
+  number_late None e late = absurd (omega (arith, ints))
   number_late (Some h) e late = by (is_correction h.note.body) refl (has_cleared v.scenario v.records device t t) refl
     where
       recorded : ℕ
@@ -187,11 +195,11 @@ module _ (v : View) (n t : ℕ) (block : IsInBlock v n t) (is : IsView v) (went 
       set = setting_is v device t h e
 
       so : BlockGoesSo v n block.before.next (time_of h) block.before.hull
-      so = went (time_of h) (omega (arith, ints, late)) set.early
+      so = went (time_of h) (omega (arith, ints)) set.early
 
       next : (c : Bool) → has_cleared v.scenario v.records device t t ≡ c
           → next_cycle v.scenario p.comes.front device t ≡ (if c then recorded + 1 else recorded)
-      next c clears = same_next device p.comes.split ∙ ap (λ (x : Bool). if x then recorded + 1 else recorded) clears
+      next c clears = same_next device p.comes.split ∙ ap (λ x. if x then recorded + 1 else recorded) clears
 
       at_least : (c : Bool) (r : ℕ) → r ≤ (if c then r + 1 else r)
       at_least true r = omega arith
@@ -203,8 +211,8 @@ module _ (v : View) (n t : ℕ) (block : IsInBlock v n t) (is : IsView v) (went 
           let here = has_corrected device h is p.has.good set.there set.sets corrected in
           let of_cycle = (old_point so here.point).1.of_cycle in
           let shown = next_cycle_is_of_last (earlier t v.records) device ∙ ap next_of e
-          ∙ ap (λ (b : Bool). if b then cycle_set h h.note.body + 1 else cycle_set h h.note.body) corrected in
-          omega (arith, next c clears, at_least c recorded, shown, ap (cycle_set h) here.is, of_cycle)
+          ∙ ap (λ b. if b then cycle_set h h.note.body + 1 else cycle_set h h.note.body) corrected in
+          omega (arith, next c clears, at_least c recorded, ap (cycle_set h) here.is)
       by false joined c clears =
           let integrates = joiner_integrates (earlier t v.records) device h e set.sets joined in
           let joins_it = joining_of_setting device h.note.body set.sets joined in
@@ -214,15 +222,15 @@ module _ (v : View) (n t : ℕ) (block : IsInBlock v n t) (is : IsView v) (went 
           waits : (c : Bool) → has_cleared v.scenario v.records device t t ≡ c → is_joined_by device h.note.body ≡ true → recorded ≡ cycle_in h
               → integration_cycle (earlier t v.records) device ≡ Some (cycle_in h) → cycle_in h ≡ suc n
               → suc (suc n) ≤ next_cycle v.scenario p.comes.front device t
-          waits true clears joins_it recorded_is integrates of_cycle = omega (arith, next true clears, recorded_is, of_cycle)
+          waits true clears joins_it recorded_is integrates of_cycle = omega (arith, next true clears)
           waits false clears joins_it recorded_is integrates of_cycle =
               let s = v.scenario in
               let front = p.comes.front in
               let es = earlier_before p.comes.split in
               let same_state : state_before s front device t ≡ state_left v device t =
-              ap (λ (b : Bool). if b then Integrating else state_after s (earlier t front) device) (not_turned_on_then device t is p.has.timed)
-              ∙ ap (λ hs. state_after s hs device) es in
-              let joining : state_left v device t ≡ Joining = joining_is (state_left v device t) p.has.timed (joiner_waits device t h is e joins_it) in
+              rw (not_turned_on_then device t is p.has.timed)
+              (ap (λ hs. state_after s hs device) es) in
+              let joining = joining_is (state_left v device t) p.has.timed (joiner_waits device t h is e joins_it) in
               let number : integration_cycle (earlier t front) device ≡ Some (next_cycle s front device t) =
               ap (λ hs. integration_cycle hs device) es ∙ integrates
               ∙ ap (λ (x : ℕ). Some x) (sym recorded_is ∙ sym (next false clears)) in
@@ -231,7 +239,7 @@ module _ (v : View) (n t : ℕ) (block : IsInBlock v n t) (is : IsView v) (went 
   -- such a device comes to no correction point in the block
   old_alone_so : IsOldAt v block.before.next device t
   old_alone_so =
-      by_lt_z {P = IsOldAt v block.before.next device t} (epoch_time (earlier t v.records) device) (pos block.before.next) (λ old. old) (λ late.
+      by_lt_z (epoch_time (earlier t v.records) device) (pos block.before.next) (λ old. old) (λ late.
       let s = v.scenario in
       let front = p.comes.front in
       let set = set_within v n t block is went device p.has late in
@@ -240,14 +248,14 @@ module _ (v : View) (n t : ℕ) (block : IsInBlock v n t) (is : IsView v) (went 
       let same = point_is (state_before s front device t) (next_cycle s front device t) cycle p.comes.point.next in
       let value = correction_value s.network cycle in
       let sharp = clocks_reach_sharply v device value t is (reaches_whole p.comes.split p.comes.point.reached) in
-      let product : cycle * amount s.network.cycle ≡ cycle * v.sizes.cycle = ap (λ (x : ℕ). cycle * x) (sym (sizes_are is).cycle) in
-      absurd (omega (arith, ints, top, sharp.least, product, longer (suc (suc n)) cycle v.sizes.cycle (omega (arith, same, number)))))
+      let product : cycle * amount s.network.cycle ≡ cycle * v.sizes.cycle = rw (sym (sizes_are is).cycle) in
+      absurd (omega (arith, ints, sharp.least, longer (suc (suc n)) cycle v.sizes.cycle (omega (arith, same, number)))))
 
 -- ---- the induction
 
 goes_by : FramesGoSo → (v : View) {n : ℕ} (fuel t : ℕ) (block : IsInBlock v n t) → IsView v
     → t < block.before.next + fuel → BlockGoesSo v n block.before.next t block.before.hull
-goes_by laws v zero t block is short = absurd (omega (arith, short, block.from))
+goes_by laws v zero t block is short = absurd (omega (arith, block.from))
 goes_by laws v {n} (suc fuel) t block is short =
     let went : WentSo v n block.before t =
     λ u from lt. goes_by laws _ fuel u (earlier_in_block _ _ _ _ block from (omega arith)) is (omega arith) in

@@ -5,7 +5,7 @@ use Rattle.precision_law.proofs.words.{Blocks.{members_by, near_hull, old_number
 use Rattle.precision_law.proofs.words.Clocks.{IsHearingOf, adjustment_stays, best_is_heard, hearing_of, hears_by, instants_are_in_order, int_le-is, room}
 use Rattle.precision_law.proofs.words.Clocks.{same_adjustment, same_cleared, same_next, set_clocks_show, setting_is, settings_stay, sizes_are, steady}
 use Rattle.precision_law.proofs.words.{Clocks.two_frames_anchor, Runs.{same_some, standing_before, time_of}, Std.{refl, subst, suc, sym, true, zero, ℕ, ℤ}}
-use Rattle.precision_law.proofs.words.Laws.{AreBeforeCorrections, CorrectsSo, HasTimeAt, HearsBy, Hull, IsAnchored, IsAnchoredIn, IsInBlock, IsNearHull}
+use Rattle.precision_law.proofs.words.Laws.{AreBeforeCorrections, CorrectsSo, HasTimeAt, HearsBy, Hull, IsAnchored, IsInBlock, IsNearHull}
 use Rattle.precision_law.proofs.words.Laws.{IsOldAt, IsSetFor, IsSharedCorrection, IsView, Stands, View, adjustment_left, base_of, cycle_set, first_correction}
 use Rattle.precision_law.proofs.words.Plans.{Channel, DeviceId, HeardFrame, Hearing, IsBestOf, IsMean, Masters, Summarizes, Summary, Units, best_on}
 use Rattle.precision_law.proofs.words.Plans.{correction_of, count_of, deviation_by, expected_at, mean_of-floor, within_on}
@@ -42,35 +42,45 @@ module _ (v : View) (k t : ℕ) (block : IsInBlock v (suc k) t) (device : Device
       (int_le value (pos (reading (q - 1)) +ℤ (adjustment_before s v.records device t).0)) come in
       let below = int_lt-is (local_at_change s v.records device t) value both.0 in
       let above = int_le-is value (pos (reading (q - 1)) +ℤ (adjustment_before s v.records device t).0) both.1 in
-      let same_time : changed_at v.records device before.next ≡ changed_at v.records device t = ap (λ (o : Option Happening). option_map_or time_of o 0) last in
+      let same_time : changed_at v.records device before.next ≡ changed_at v.records device t =
+      ap (λ o. option_map_or time_of o 0) last in
       let same_a = ap (λ (a : Units). a.0) (adjustment_stays device before.next t is block.from old) in
       let behind : changed_at v.records device t < q - 1 = elim (cases_lt (changed_at v.records device t) (q - 1)) [
         | inl lt ↦ lt
-        | inr ge ↦ (let up = (steady v is device).never_falls (q - 1) (changed_at v.records device t) ge in absurd (omega (arith, ints, up, below, above)))
+        | inr ge ↦ (let up = (steady v is device).never_falls (q - 1) (changed_at v.records device t) ge in
+            absurd (omega (arith, ints)))
       ] in
       let shows = set_clocks_show v.sizes reading (adjustment_left v device t) (suc k) before.hull set.set_at (q - 1) (steady v is device)
-      (omega (arith, set.since, same_time))
-      (omega (arith, ints, block_ends v (suc k) block.next _ before.is_hull block.is_over, before_narrow before, set.not_before, block.to, space))
-      (subst (λ a. IsAnchoredIn v.sizes reading a (suc k) before.hull set.set_at) same_a set.anchored) in
+      (omega (arith, set.since))
+      (omega (
+        arith,
+        ints,
+        block_ends v (suc k) block.next _ before.is_hull block.is_over,
+        before_narrow before,
+        set.not_before,
+        block.to,
+      ))
+      (rw (sym same_a) set.anchored) in
       let product = ap (λ x. recorded_cycle (earlier t v.records) device * x) (sym (sizes_are is).cycle) ∙ ap (λ c. c * v.sizes.cycle) recorded in
       let follows = follows_before k w before.hull is at_w before.is_hull in
-      omega (arith, ints, shows.most, above, product, (sizes_are is).correction, follows.least, space.errors.reach_is, behind)
+      omega (arith, ints, shows.most, (sizes_are is).correction, follows.least, space.errors.reach_is)
 
   -- what it heard since its last correction point came behind the first corrections of the cycle before
   late_by : (front : List Happening) (hearing : Hearing) → (split : AreBeforeCorrections v t front) → (heard : IsHearingOf v device t front hearing)
       → (o : Option Happening) → last_setting (earlier t v.records) device ≡ o → first_correction v.sizes w ≤ℤ pos (time_of heard.h)
   late_by front hearing split heard None e =
       let index : 0 ≡ suc k = ap (λ (x : Option Happening). option_map_or (λ g. cycle_set g g.note.body) x 0) (sym (last ∙ e)) ∙ set.index in
-      absurd (omega (arith, index))
+      absurd (omega arith)
   late_by front hearing split heard (Some x) e =
       let next = block.before.next in
       let here = setting_is v device t x e in
       elim (block.before.points w k refl at_w device (had_time next is block.from old has)).how [
         | inl corrected ↦
             let time = ap (λ (o : Option Happening). option_map_or (λ g. pos (time_of g)) o (negsuc 0)) (last ∙ e) in
-            omega (arith, ints, corrected.1, time, heard.since x (in_part x split here.there here.early) here.early here.sets)
+            omega (arith, ints, corrected.1, heard.since x (in_part x split here.there here.early) here.early here.sets)
         | inr joined ↦
-            let not_corrected = sym (ap (λ (o : Option Happening). option_map_or (λ g. is_correction g.note.body) o false) (last ∙ e)) ∙ joined.0 in
+            let not_corrected = sym (ap (λ o. option_map_or (λ g. is_correction g.note.body) o false) (last ∙ e)) ∙
+            joined.0 in
             let integrates = joiner_integrates (earlier t v.records) device x e here.sets not_corrected in
             let then_cleared = heard.cleared
             (same_cleared device t split ∙ cleared_from device next t t is block.from block.from old integrates.0 joined.1) in
@@ -82,14 +92,14 @@ module _ (v : View) (k t : ℕ) (block : IsInBlock v (suc k) t) (device : Device
 pub heard_late : {v : View} (n : ℕ) {t : ℕ} (block : IsInBlock v n t) {device : DeviceId} → IsView v
     → HasTimeAt v device t → IsOldAt v block.before.next device t → {front : List Happening} {hearing : Hearing}
     → AreBeforeCorrections v t front → (heard : IsHearingOf v device t front hearing) → IsLate v n (time_of heard.h)
-heard_late zero block is has old split heard k w le at = absurd (omega (arith, le))
+heard_late zero block is has old split heard k w le at = absurd (omega arith)
 heard_late {v} (suc c) {t} block {device} is has old {front} {hearing} split heard k w le at =
     let there = block.before.narrow c (omega arith) in
-    let gap : k + (c - k) ≡ c = omega (arith, le) in
+    let gap : k + (c - k) ≡ c = omega arith in
     let late = late_by v c t block device is has old there.0 there.1 front hearing split heard (last_setting (earlier t v.records) device) refl in
     let on = corrections_go_on k (c - k) block.before w _ is
     (omega arith) at (subst (λ x. hull_of v x ≡ Some there.0) (sym gap) there.1) in
-    omega (arith, ints, on, late)
+    omega (arith, ints)
 
 -- ---- the deviation of a channel
 
@@ -126,9 +136,10 @@ is_by_frame laws {v} {n} {t} block {device} is went has old {front} split sums c
     let in_all : IsIn h v.records = subst (IsIn h) (sym split.whole) (in_left h front split.rest heard.there) in
     let this = hears_by v device h hearing h.note.body in_all refl heard.shows in
     let hears = subst (λ j. HearsBy v device channel frame.point.0 j h) (this.judges.inside refl) this.hears in
-    let members : count_of frame.members ≡ count_of (members_by h) = ap (λ (m : ℕ). count_of (record { 0 = m })) (sym this.members) in
+    let members : count_of frame.members ≡ count_of (members_by h) =
+    ap (λ m. count_of (record { 0 = m })) (sym this.members) in
     let many = leb-true s.network.sync_threshold (count_of frame.members) both.0 in
-    let enough : 3 ≤ count_of (members_by h) = omega (arith, (is.lawful.rules Masters 2).threshold_least refl, many, members) in
+    let enough : 3 ≤ count_of (members_by h) = omega (arith, (is.lawful.rules Masters 2).threshold_least refl) in
     let by_then = split.only h heard.there in
     let g = good_hearing laws v n t block.before is went device channel frame.point.0 h by_then Within tt hears
     (heard_late n block is has old split heard) (λ c cm f. laws.three v c cm _ (members_by h) is f enough) in
@@ -143,7 +154,7 @@ is_by_frame laws {v} {n} {t} block {device} is went has old {front} split sums c
       heard = g;
       near = near_hull laws v n t block.before is went device channel frame.point.0 h by_then g (inl enough);
       by_then = by_then;
-      is = ap (λ (u : Units). u.0) (sym both.1) ∙ ap (λ z. z -ℤ (adjustment_before s front device t).0) moved
+      is = ap (λ u. u.0) (sym both.1) ∙ ap (λ z. z -ℤ (adjustment_before s front device t).0) moved
           ∙ ap (λ a. setting v.sizes (suc n) (expected_by s.network device) frame.point.0 -ℤ a) left;
     }
 
@@ -170,8 +181,8 @@ module _ (v : View) (n t : ℕ) (before : Stands v n) (is : IsView v) (device : 
       let floor = mean_of-floor (setting v.sizes (suc n) expected x.point) (setting v.sizes (suc n) expected y.point) in
       let both = two_frames_anchor v.sizes (v.scenario.reading device) (base_of v.sizes (time_of x.heard.emission)) (base_of v.sizes (time_of y.heard.emission))
       (time_of x.h) (time_of y.h) x.point y.point expected (suc n) (steady v is device) le
-      (omega (arith, ints, y.heard.not_late, x.heard.not_early, order, space)) x.heard.timely y.heard.timely in
-      record { least = omega (arith, ints, both.least, floor, mean, x.is, y.is); most = omega (arith, ints, both.most, floor, mean, x.is, y.is) }
+      (omega (arith, ints, y.heard.not_late, x.heard.not_early)) x.heard.timely y.heard.timely in
+      record { least = omega (arith, ints, both.least, x.is, y.is); most = omega (arith, ints, both.most, x.is, y.is) }
 
   -- what two deviations correct, which need not be of two frames
   shared_two : (c d : Channel) (a b by : Units) → (x : IsByFrame v n t before device c a) → IsByFrame v n t before device d b → IsMean a.0 b.0 by.0
@@ -184,12 +195,16 @@ module _ (v : View) (n t : ℕ) (before : Stands v n) (is : IsView v) (device : 
           other = other;
           near = near;
           set_at = time_of y.h;
-          not_before = omega (arith, ints, x.heard.not_early, le);
+          not_before = omega (arith, ints, x.heard.not_early);
           not_behind = y.by_then;
           anchored = two_anchor c d a b by x y le mean;
         }
         | inl lt ↦
-            let z = two_anchor d c b a by y x (omega (arith, lt)) (record { least = omega (arith, ints, mean.least); most = omega (arith, ints, mean.most) }) in
+            let z = two_anchor d c b a by y x (omega arith) (record {
+              least = omega (arith, ints, mean.least);
+              most =
+                  omega (arith, ints, mean.most);
+            }) in
             record {
               other = other;
               near = near;
@@ -206,7 +221,7 @@ module _ (v : View) (n t : ℕ) (before : Stands v n) (is : IsView v) (device : 
       → IsSharedCorrection v n t x.heard.hull (base_of v.sizes (time_of x.heard.emission)) device by
   shared_by c d a by None x other e =
       let same : a.0 ≡ by.0 = ap (λ (o : Option Units). option_map_or (λ u. u.0) o (pos 0)) e in
-      shared_two c c a a by x x (record { least = omega (arith, ints, same); most = omega (arith, ints, same) })
+      shared_two c c a a by x x (record { least = omega (arith, ints); most = omega (arith, ints) })
   shared_by c d a by (Some b) x other e =
       shared_two c d a b by x (other b refl)
       (subst (IsMean a.0 b.0) (ap (λ (o : Option Units). option_map_or (λ u. u.0) o (pos 0)) e) (mean_of-floor a.0 b.0))

@@ -45,19 +45,19 @@ module _ (v : View) (device : DeviceId) (t : ℕ) (is : IsView v) (on : BeginsOn
   was_synchronised w hs same lt =
       let quiet = false_from_ne_true (is_turned_on_at v.scenario device w) (λ turned.
       (let x = turned_at v.scenario device w turned in never_turned_on device x.event is on x.there x.turns)) in
-      ap (λ (b : Bool). if b then Integrating else state_after v.scenario (earlier w hs) device) quiet
-      ∙ ap (λ x. state_after v.scenario x device) same ∙ before w lt
+      rw quiet
+      (ap (λ x. state_after v.scenario x device) same ∙ before w lt)
 
   then_synchronised : (h : Happening) → (at : IsFoundedAt v.scenario v.records h) → time_of h < t
       → state_before v.scenario at.front device (time_of h) ≡ Synchronised
-  then_synchronised h at lt = was_synchronised (time_of h) at.front (earlier_before (before_of {h = h} is at)) lt
+  then_synchronised h at lt = was_synchronised (time_of h) at.front (earlier_before (before_of is at)) lt
 
   -- so no frame tells it the time
   pub never_joins : (h : Happening) → IsIn h v.records → time_of h < t → is_joined_by device h.note.body ≡ true → ⊥
   never_joins h i lt joined =
       let at = founded_at v.scenario v.records h is.run.founded i in
       let looks = looking_by v.scenario at.front h.note.time device h.note.body joined at.due.cause in
-      let both : Synchronised ≡ Integrating = sym (then_synchronised h at lt) ∙ looks in cc
+      let both = sym (then_synchronised h at lt) ∙ looks in cc
 
   -- and no record changes its state
   pub never_changes : (h : Happening) (state : State) (cause : ℕ) (why : Why) → IsIn h v.records → time_of h < t
@@ -76,15 +76,15 @@ module _ (v : View) (device : DeviceId) (t : ℕ) (is : IsView v) (on : BeginsOn
           let found = founded_at v.scenario v.records g is.run.founded (in_all g c.2.2.there) in
           let r = subst (IsCaused v.scenario found.front g.note.time) c.2.3 found.due.cause in
           never_turned_on device r.event is on (in_at v.scenario.events r.before r.event r.is) (sym r.same)
-      by whys.Frame body c = never_joins c.1.0 (in_all c.1.0 c.1.1.there) (omega (arith, c.1.1.same_time, lt)) c.1.2
-      by whys.Correction body c = (let both : Synchronised ≡ Joining = sym (then_synchronised h at lt) ∙ c.1 in cc)
+      by whys.Frame body c = never_joins c.1.0 (in_all c.1.0 c.1.1.there) (omega (arith, c.1.1.same_time)) c.1.2
+      by whys.Correction body c = (let both = sym (then_synchronised h at lt) ∙ c.1 in cc)
       by whys.SyncClique body c = none h state cause whys.SyncClique i lt body tt
       by whys.AsyncClique body c = none h state cause whys.AsyncClique i lt body tt
 
   stays_by : (h : Happening) (body : NoteBody) → IsIn h v.records → time_of h < t → h.note.body ≡ body → state_with device Synchronised body ≡ Synchronised
   stays_by h (notes.State other state cause why) i lt same =
       kept_state (device.0 == other.0) state (λ own. absurd (never_changes h state cause why i lt
-      (same ∙ ap (λ (d : DeviceId). notes.State d state cause why) (same_device device other own))))
+      (same ∙ ap (λ d. notes.State d state cause why) (same_device device other own))))
   stays_by h (notes.Permanent other link cause point Integrates) i lt same =
       kept_state (device.0 == other.0) Joining (λ own. absurd (never_joins h i lt (ap (is_joined_by device) same ∙ own)))
   stays_by h (notes.Compressed other opened own cycle members Integrates) i lt same =
@@ -95,7 +95,7 @@ module _ (v : View) (device : DeviceId) (t : ℕ) (is : IsView v) (on : BeginsOn
       → start ≡ Synchronised → fold (λ state h. state_with device state h.note.body) start hs ≡ Synchronised
   all_stay [] each start same = same
   all_stay (h ∷ hs) each start same =
-      all_stay hs (λ g i. each g (inr i)) (state_with device start h.note.body) (ap (λ x. state_with device x h.note.body) same ∙ each h (inl refl))
+      all_stay hs (λ g i. each g (inr i)) (state_with device start h.note.body) (rw same (each h (inl refl)))
 
   stays_now : state_left v device t ≡ Synchronised
   stays_now =
@@ -105,10 +105,10 @@ module _ (v : View) (device : DeviceId) (t : ℕ) (is : IsView v) (on : BeginsOn
 stays_synchronised : {v : View} (device : DeviceId) (bound t : ℕ) → IsView v → t ≤ bound
     → BeginsOn v.scenario.network device → NoCliqueBefore v device t → state_left v device t ≡ Synchronised
 stays_synchronised {v} device zero t is le on none =
-    stays_now v device t is on none (λ w lt. absurd (omega (arith, lt, le)))
+    stays_now v device t is on none (λ w lt. absurd (omega arith))
 stays_synchronised {v} device (suc bound) t is le on none =
-    stays_now v device t is on none (λ w lt. stays_synchronised device bound w is (omega (arith, lt, le)) on
-    (λ h state cause why i early. none h state cause why i (omega (arith, early, lt))))
+    stays_now v device t is on none (λ w lt. stays_synchronised device bound w is (omega arith) on
+    (λ h state cause why i early. none h state cause why i (omega arith)))
 
 -- a device that is to keep the time has kept it up to a block
 pub firm_kept : {v : View} {n : ℕ} (before : Stands v n) {device : DeviceId} → IsFirm v device
@@ -135,9 +135,9 @@ module _ (goes : BlocksGoSo) (v : View) (n t : ℕ) (block : IsInBlock v n t) (d
   pub early_point : (w cycle : ℕ) (verdict : Verdict) → IsView v → IsEarly v n t block b → block.before.next ≤ w → w ≤ b
       → HasPoint v w device cycle verdict → ⊥
   early_point w cycle verdict is early from le p =
-      let here = earlier_in_block v n t w block from (omega (arith, le, early.1)) in
+      let here = earlier_in_block v n t w block from (omega (arith, early.1)) in
       let late = (old_point (goes v n w here is) p).1.not_early in
-      omega (arith, ints, late, early.0, le)
+      omega (arith, ints, early.0)
 
   -- so the clock of a good device that is synchronised by then was set before the block
   set_before : (w : ℕ) → IsView v → IsEarly v n t block b → IsGood v device → w ≤ b + 1
@@ -146,9 +146,9 @@ module _ (goes : BlocksGoSo) (v : View) (n t : ℕ) (block : IsInBlock v n t) (d
   set_before w is early good le synchronised None e = omega (arith, ints)
   set_before w is early good le synchronised (Some h) e =
       let set = setting_is v device w h e in
-      let to : time_of h ≤ b = omega (arith, set.early, le) in
+      let to : time_of h ≤ b = omega (arith, set.early) in
       elim (cases_lt (time_of h) block.before.next) [
-        | inl lt ↦ omega (arith, ints, lt)
+        | inl lt ↦ omega (arith, ints)
         | inr from ↦ elim (cases_Bool (is_correction h.note.body)) [
           | inr joined ↦
               let joins = joining_of_setting device h.note.body set.sets joined in
@@ -174,7 +174,7 @@ module _ (goes : BlocksGoSo) (v : View) (n t : ℕ) (block : IsInBlock v n t) (d
     | inl early ↦ at.kept h state cause why i early body clique
     | inr from ↦
         let lost = has_lost device h state cause why is at.good i body clique in
-        no_point (time_of h) lost.cycle lost.verdict is at from (omega (arith, lt, le)) lost.point
+        no_point (time_of h) lost.cycle lost.verdict is at from (omega arith) lost.point
   ]
 
   -- it is synchronised
@@ -184,19 +184,22 @@ module _ (goes : BlocksGoSo) (v : View) (n t : ℕ) (block : IsInBlock v n t) (d
   pub synchronised_before : (q : ℕ) (hs : List Happening) → IsView v → IsCalm v n t block device b → earlier q hs ≡ earlier q v.records → q ≤ b
       → state_before v.scenario hs device q ≡ Synchronised
   synchronised_before q hs is at same le =
-      was_synchronised v device (b + 1) is at.on (no_clique (b + 1) is at (omega arith)) (λ w lt. synchronised_then w is at (omega (arith, lt))) q hs same
-      (omega (arith, le))
+      was_synchronised v device (b + 1) is at.on (no_clique (b + 1) is at (omega arith))
+      (λ w lt. synchronised_then w is at (omega arith)) q hs same
+      (omega arith)
 
   pub joins_never : (h : Happening) → IsView v → IsCalm v n t block device b → IsIn h v.records → time_of h ≤ b → is_joined_by device h.note.body ≡ true → ⊥
   joins_never h is at i le joined =
-      never_joins v device (b + 1) is at.on (no_clique (b + 1) is at (omega arith)) (λ w lt. synchronised_then w is at (omega (arith, lt))) h i
-      (omega (arith, le)) joined
+      never_joins v device (b + 1) is at.on (no_clique (b + 1) is at (omega arith))
+      (λ w lt. synchronised_then w is at (omega arith)) h i
+      (omega arith) joined
 
   pub changes_never : (h : Happening) (state : State) (cause : ℕ) (why : Why) → IsView v → IsCalm v n t block device b → IsIn h v.records → time_of h ≤ b
       → h.note.body ≡ notes.State device state cause why → ⊥
   changes_never h state cause why is at i le body =
-      never_changes v device (b + 1) is at.on (no_clique (b + 1) is at (omega arith)) (λ w lt. synchronised_then w is at (omega (arith, lt))) h state cause why
-      i (omega (arith, le)) body
+      never_changes v device (b + 1) is at.on (no_clique (b + 1) is at (omega arith))
+      (λ w lt. synchronised_then w is at (omega arith)) h state cause why
+      i (omega arith) body
 
   -- nothing sets its clock in the block by then
   old_by : (w : ℕ) → IsView v → IsCalm v n t block device b → w ≤ b + 1 → (o : Option Happening) → last_setting (earlier w v.records) device ≡ o
@@ -204,9 +207,9 @@ module _ (goes : BlocksGoSo) (v : View) (n t : ℕ) (block : IsInBlock v n t) (d
   old_by w is at le None e = omega (arith, ints)
   old_by w is at le (Some h) e =
       let set = setting_is v device w h e in
-      let to : time_of h ≤ b = omega (arith, set.early, le) in
+      let to : time_of h ≤ b = omega (arith, set.early) in
       elim (cases_lt (time_of h) block.before.next) [
-        | inl lt ↦ omega (arith, ints, lt)
+        | inl lt ↦ omega (arith, ints)
         | inr from ↦ elim (cases_Bool (is_correction h.note.body)) [
           | inr joined ↦ absurd (joins_never h is at set.there to (joining_of_setting device h.note.body set.sets joined))
           | inl corrected ↦
@@ -231,7 +234,7 @@ sends_there {v} {device} {u} cycle is le master begun synchronised reaches =
     let at = split place_of (IsDue s) v.records (u ∷ 5 ∷ device.0 ∷ cycle ∷ []) is.run.founded in
     let before = before_place v u (5 ∷ device.0 ∷ cycle ∷ []) at in
     let timed : has_time (state_left v device u) ≡ true = ap has_time synchronised in
-    let state = ap (λ (b : Bool). if b then Integrating else state_after s (earlier u at.front) device)
+    let state = ap (λ b. if b then Integrating else state_after s (earlier u at.front) device)
     (not_turned_on_then device u is timed) ∙ ap
     (λ hs. state_after s hs device) (earlier_before before) ∙ synchronised in
     let sends : Sends s at.front device u cycle = record {
@@ -241,9 +244,9 @@ sends_there {v} {device} {u} cycle is le master begun synchronised reaches =
       reached = reaches_front before reaches;
     } in
     let note : Note = record { number = length at.front + 1; time = units_of u; body = notes.Sent device cycle } in
-    let x : Happening = happening s.network at.front note in
+    let x = happening s.network at.front note in
     let due : IsDue s at.front x = record { number = refl; same = refl; begun = omega (arith, ints); cause = sends } in
-    (x, record { there = due_is_there {s = s} {mark = (v.until + 1) ∷ []} {x = x} at is.run due (inl (omega (arith, le))); is = refl; good = master.good }, refl)
+    (x, record { there = due_is_there at is.run due (inl (omega arith)); is = refl; good = master.good }, refl)
 
 -- at the last dispatch an old clock has reached the beginning of the cycle
 pub masters_dispatch : BlocksGoSo → MastersDispatch
@@ -258,14 +261,18 @@ masters_dispatch goes v n t block device is late master =
     omega (arith, ints, natural.1, early_show n before is, hull_ordered n before is, room is) in
     let calm : IsCalm v n t block device b = record {
       before = omega (arith, ints, natural.1, frames_come_first v.sizes before.hull (room is) (before_narrow before));
-      to = omega (arith, ints, natural.1, late);
+      to = omega (arith, ints, natural.1);
       kept = firm_kept before {device = device} (inl
           (record { end = master_is_end v device master.master; good = master.good }));
       good = master.good;
       on = master.on;
     } in
     let synchronised = λ (w : ℕ) (le : w ≤ b + 1). synchronised_then goes v n t block device b w is calm le in
-    let has_next : HasTimeAt v device before.next = record { good = master.good; timed = ap has_time (synchronised before.next (omega (arith, from))) } in
+    let has_next : HasTimeAt v device before.next = record {
+      good = master.good;
+      timed =
+          ap has_time (synchronised before.next (omega arith));
+    } in
     let found = reaches_in_block b v.sizes.cycle before is has_next from
     (old_then goes v n t block device b b is calm (omega arith)) (omega arith)
     (omega (arith, ints, natural.1)) (omega (arith, ints, natural.1)) in
@@ -274,5 +281,5 @@ masters_dispatch goes v n t block device is late master =
     let value_is : pos (n * v.sizes.cycle + v.sizes.cycle) ≡ pos (suc n * amount s.network.cycle) =
     ap pos (sym (one_more n v.sizes.cycle) ∙ ap (λ c. suc n * c) (sizes_are is).cycle) in
     let sent = sends_there {u = u} (suc n) is until master (omega arith) (synchronised u (omega (arith, found.2)))
-    (subst (λ z. Reaches s v.records device z u) value_is found.3) in
+    (rw (sym value_is) found.3) in
     (sent.0, sent.1, omega (arith, ints, sent.2, found.2, natural.1))

@@ -39,7 +39,7 @@ module _ (v : View) (n t : ℕ) (before : Stands v n) (went : WentSo v n before 
         | inl early ↦ (let r = before.dispatches h device cycle dispatch early in (omega (arith, r.0), r.1))
         | inr late ↦
             let so = (went (time_of h) late lt).dispatches h device cycle dispatch refl in
-            (omega (arith, so.of_cycle), subst (λ c. IsInHull v c (time_of h)) (sym so.of_cycle) so.inside)
+            (omega (arith, so.of_cycle), rw so.of_cycle so.inside)
       ]
 
   pub tidy : IsTidyBefore v t
@@ -62,7 +62,7 @@ pub in_part : {v : View} {t : ℕ} {front : List Happening} (h : Happening) → 
     → IsIn h v.records → time_of h < t → IsIn h front
 in_part {front} h split i lt = elim (in_parts h front split.rest (subst (IsIn h) split.whole i)) [
   | inl f ↦ f
-  | inr r ↦ (let wrong = split.later h r in absurd (omega (arith, wrong, lt)))
+  | inr r ↦ (let wrong = split.later h r in absurd (omega arith))
 ]
 
 -- so are those by which a frame is judged that becomes permanent
@@ -128,7 +128,7 @@ has_corrected {v} device h is good i changes corrected =
     let found = founded_at v.scenario v.records h is.run.founded i in
     let c = of_body h.note.body changes corrected in
     let cause = subst (IsCaused v.scenario found.front h.note.time) c.3 found.due.cause in
-    let left = ap (λ (a : Units). a.0) (same_adjustment device (before_of is found)) in
+    let left = ap (λ a. a.0) (same_adjustment device (before_of is found)) in
     record {
       cycle = c.0;
       by = c.1;
@@ -141,7 +141,7 @@ has_corrected {v} device h is good i changes corrected =
     of_body : (body : NoteBody) → changes_adjustment device body ≡ true → is_correction body ≡ true → (cycle : ℕ) × (by : Units) × (adjustment : Units)
         × (body ≡ notes.Corrected device cycle by adjustment)
     of_body (notes.Corrected other cycle by adjustment) changes e =
-        (cycle, by, adjustment, ap (λ (d : DeviceId). notes.Corrected d cycle by adjustment) (same_device device other changes))
+        (cycle, by, adjustment, rw (same_device device other changes))
     of_body body changes e = absurd cc
 
 -- the loss of the common time, with its point
@@ -179,22 +179,22 @@ pub corrections_go_on : {v : View} {n : ℕ} (k more : ℕ) (before : Stands v n
     → hull_of v k ≡ Some w → hull_of v (k + more) ≡ Some x → first_correction v.sizes w ≤ℤ first_correction v.sizes x
 corrections_go_on {v} k zero before w x is le at_w at_x =
     let same : k + zero ≡ k = omega arith in
-    let here = subst (λ c. hull_of v c ≡ Some x) same at_x in
-    omega (arith, ints, ap (λ (y : Hull). y.least) (same_some (hull_of v k) w x at_w here))
+    let here = rw same at at_x in
+    omega (arith, ints, ap (λ y. y.least) (same_some (hull_of v k) w x at_w here))
 corrections_go_on {v} k (suc more) before w x is le at_w at_x =
-    let there = before.narrow (k + more) (omega (arith, le)) in
+    let there = before.narrow (k + more) (omega arith) in
     let step : k + suc more ≡ suc (k + more) = omega arith in
-    let at : hull_of v (suc (k + more)) ≡ Some x = subst (λ c. hull_of v c ≡ Some x) step at_x in
+    let at : hull_of v (suc (k + more)) ≡ Some x = rw step at at_x in
     let order = instants_are_in_order v.sizes there.0 x (room is) there.2
     (follows_before (k + more) there.0 x is there.1 at) in
-    omega (arith, ints, corrections_go_on k more before w there.0 is (omega (arith, le)) at_w there.1, order.next_later)
+    omega (arith, ints, corrections_go_on k more before w there.0 is (omega arith) at_w there.1, order.next_later)
 
 -- a block begins before an old clock comes to the correction point of its cycle
 pub early_show : {v : View} (n : ℕ) (before : Stands v n) → IsView v
     → pos before.next ≤ℤ (before.hull.least +ℤ pos (v.sizes.correction + v.sizes.spread + 3 * v.sizes.reach + 1))
 early_show {v} zero before is =
-    let same : start_hull v.sizes ≡ before.hull = same_some (hull_of v zero) (start_hull v.sizes) before.hull refl before.is_hull in
-    omega (arith, ints, before.is_over, ap (λ (w : Hull). w.least) same, (room is).errors.spread_is)
+    let same = same_some (hull_of v zero) (start_hull v.sizes) before.hull refl before.is_hull in
+    omega (arith, ints, before.is_over, ap (λ w. w.least) same, (room is).errors.spread_is)
 early_show {v} (suc c) before is =
     let one = before.narrow c (omega arith) in
     let order = instants_are_in_order v.sizes one.0 before.hull (room is) one.2
@@ -212,15 +212,15 @@ IsLate v n q = (k : ℕ) (w : Hull) → suc k ≤ n → hull_of v k ≡ Some w �
 
 -- what comes behind the beginning of the block is late
 pub late_from : {v : View} (n q : ℕ) (before : Stands v n) → IsView v → before.next ≤ q → IsLate v n q
-late_from zero q before is le k w few at = absurd (omega (arith, few))
+late_from zero q before is le k w few at = absurd (omega arith)
 late_from {v} (suc c) q before is le k w few at =
     let there = before.narrow c (omega arith) in
-    let gap : k + (c - k) ≡ c = omega (arith, few) in
+    let gap : k + (c - k) ≡ c = omega arith in
     let low = corrections_go_on k (c - k) before w _ is
-    (omega (arith, few)) at (subst (λ x. hull_of v x ≡ Some there.0) (sym gap) there.1) in
+    (omega arith) at (subst (λ x. hull_of v x ≡ Some there.0) (sym gap) there.1) in
     let order = instants_are_in_order v.sizes there.0 before.hull (room is) there.2
     (follows_before c there.0 before.hull is there.1 before.is_hull) in
-    omega (arith, ints, low, block_ends v c before.next there.0 there.1 before.is_over, order.corrections, le)
+    omega (arith, ints, block_ends v c before.next there.0 there.1 before.is_over, order.corrections)
 
 -- ---- a frame of the block
 
@@ -259,22 +259,24 @@ module _ (laws : FramesGoSo) (v : View) (n t : ℕ) (before : Stands v n) (is : 
       let expected = expected_by v.scenario.network device in
       let good = has_good emission heard.1.cm heard.1.emission in
       let sent = laws.dispatched v emission heard.1.cm (cycle_in h) (members_by h) is heard.1.emission good in
-      let known = known_dispatch v n t before went sent.first sent.master (cycle_in h) sent.dispatch (omega (arith, sent.before, heard.2, le)) in
+      let known = known_dispatch v n t before went sent.first sent.master (cycle_in h) sent.dispatch
+      (omega (arith, sent.before, heard.2)) in
       let block = laws.in_blocks v device channel (cycle_in h) (members_by h) emission (time_of h) point expected is
-      (λ g d c dispatch lt. tidy v n t before went g d c dispatch (omega (arith, lt, heard.2, le))) good
-      (λ c same hull at. narrow_at c before hull (omega (arith, same, known.0)) at) heard.1 in
+      (λ g d c dispatch lt. tidy v n t before went g d c dispatch (omega (arith, heard.2))) good
+      (λ c same hull at. narrow_at c before hull (omega (arith, known.0)) at) heard.1 in
       let same : cycle_in h ≡ suc n = elim (cases_lt block.follows n) [
-        | inl lt ↦ (let after = late block.follows block.before (omega arith) block.is_before in absurd (omega (arith, ints, after, block.not_late)))
-        | inr ge ↦ omega (arith, ge, block.is_next, known.0)
+        | inl lt ↦ (let after = late block.follows block.before (omega arith) block.is_before in
+            absurd (omega (arith, ints, block.not_late)))
+        | inr ge ↦ omega (arith, block.is_next, known.0)
       ] in
-      let follows : block.follows ≡ n = omega (arith, same, block.is_next) in
-      let hull_n = subst (λ c. hull_of v c ≡ Some block.before) follows block.is_before in
+      let follows : block.follows ≡ n = omega (arith, block.is_next) in
+      let hull_n = rw follows at block.is_before in
       record {
         of_cycle = same;
         emission = emission;
         sent = record {
           cm = heard.1.cm;
-          emission = subst (λ c. IsEmission v emission heard.1.cm c (members_by h)) same heard.1.emission;
+          emission = rw same at heard.1.emission;
           of_channel = heard.1.of_channel;
           good = good;
         };
@@ -283,7 +285,7 @@ module _ (laws : FramesGoSo) (v : View) (n t : ℕ) (before : Stands v n) (is : 
         hull = block.hull;
         is_hull = subst (λ c. hull_of v c ≡ Some block.hull) same block.is_hull;
         not_early = block.not_early;
-        not_late = subst (λ w. pos (time_of h) <ℤ first_correction v.sizes w) (same_some _ _ _ hull_n before.is_hull) block.not_late;
+        not_late = rw (same_some _ _ _ hull_n before.is_hull) at block.not_late;
       }
 
   -- the base of one of three members, or of good ones alone, lies in the hull
@@ -291,6 +293,5 @@ module _ (laws : FramesGoSo) (v : View) (n t : ℕ) (before : Stands v n) (is : 
       → IsNearHull v.sizes g.hull (base_of v.sizes (time_of g.emission))
   near_hull g enough =
       let base = laws.bases v g.emission g.sent.cm (suc n) (members_by h) is g.sent.emission
-      (λ x d c dispatch early. tidy v n t before went x d c dispatch (omega (arith, early, g.in_order, le))) enough in
-      subst (λ w. IsNearHull v.sizes w (base_of v.sizes (time_of g.emission))) (same_some _ _ _ base.is g.is_hull)
-      (record { least = base.least; most = base.most })
+      (λ x d c dispatch early. tidy v n t before went x d c dispatch (omega (arith, g.in_order))) enough in
+      rw (sym (same_some _ _ _ base.is g.is_hull)) (record { least = base.least; most = base.most })

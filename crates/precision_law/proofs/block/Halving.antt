@@ -5,13 +5,13 @@ use Rattle.precision_law.proofs.words.Clocks.{adjustment_is_last, adjustment_sta
 use Rattle.precision_law.proofs.words.Clocks.{clocks_reach_sharply, device_of, earlier_before, frames_come_first, master_ends, never_some, over, passes}
 use Rattle.precision_law.proofs.words.Clocks.{reaches_whole, room, shared_clocks_halve, sizes_are, starts_stay_together, state_stays, steady}
 use Rattle.precision_law.proofs.words.{Clocks.{synchronised_has_time, tested, time_stays, within_run}, Runs.{same_some, start_of, state_after, time_of}, Std.ℤ}
-use Rattle.precision_law.proofs.words.Laws.{AreShared, BlocksGoSo, Hull, HullsAreNarrow, IsAnchored, IsDispatch, IsGood, IsInBlock, IsNearHull, IsOldAt}
+use Rattle.precision_law.proofs.words.Laws.{AreShared, BlocksGoSo, Hull, HullsAreNarrow, IsDispatch, IsGood, IsInBlock, IsNearHull, IsOldAt}
 use Rattle.precision_law.proofs.words.Laws.{IsOverBefore, IsReachedNear, IsView, Sizes, Stands, View, adjustment_left, epoch_time, first_dispatch, has_time}
-use Rattle.precision_law.proofs.words.Laws.{hull_of, hull_over, is_dispatch, last_correction, last_dispatch, last_setting, set_adjustment, start_hull}
-use Rattle.precision_law.proofs.words.Plans.{Device, DeviceId, Synchronised, Units, adjustment_at_start, amount, device_at, is_end_system, is_master}
+use Rattle.precision_law.proofs.words.Laws.{hull_of, is_dispatch, last_correction, last_dispatch, last_setting, set_adjustment, start_hull}
+use Rattle.precision_law.proofs.words.Plans.{DeviceId, adjustment_at_start, amount, device_at, is_master}
 use Rattle.precision_law.proofs.words.Runs.{Happening, IsCaused, IsIn, earlier, founded_at, has_role, in_filter, is_end, is_synchronised, is_turned_on_at}
 use Rattle.precision_law.proofs.words.Std.{◌*◌, ◌+ℤ◌, ◌+◌, ◌-ℤ◌, ◌<ℤ◌, ◌<◌, ◌∙◌, ◌∷◌, ◌≡◌, ◌≤ℤ◌, ◌≤◌, ◌⊎◌, List, None, Option, Some, [], ap, arith, by_lt_z}
-use Rattle.precision_law.proofs.words.Std.{clamps, false, filter, inl, inr, ints, negsuc, option_and_then, option_map_or, pos, refl, subst, suc, true, zero, ℕ}
+use Rattle.precision_law.proofs.words.Std.{clamps, filter, inl, inr, ints, negsuc, option_map_or, pos, refl, subst, suc, true, zero, ℕ}
 use Rattle.run_law.proofs.device.States.{is_in}
 
 -- ---- the ends of a hull
@@ -25,16 +25,16 @@ abbrev Widens : (Hull → ℤ) → Type 0
 Widens end = (o : Option Hull) (t : ℤ) (w : Hull) → widened o t ≡ Some w → (end w ≡ t) ⊎ ((old : Hull) × (o ≡ Some old) × (end w ≡ end old))
 
 least_widens : Widens (λ w. w.least)
-least_widens None t w e = inl (ap (λ (x : Hull). x.least) (same_some _ w _ e refl))
+least_widens None t w e = inl (rw (same_some _ w _ e refl))
 least_widens (Some x) t w e =
-    let same = ap (λ (y : Hull). y.least) (same_some _ w _ e refl) in
-    by_lt_z {P = _} x.least t (λ lt. inr (x, refl, omega (arith, ints, clamps, lt, same))) (λ ge. inl (omega (arith, ints, clamps, ge, same)))
+    let same = ap (λ y. y.least) (same_some _ w _ e refl) in
+    by_lt_z x.least t (λ lt. inr (x, refl, omega (arith, ints, clamps))) (λ ge. inl (omega (arith, ints, clamps)))
 
 greatest_widens : Widens (λ w. w.greatest)
-greatest_widens None t w e = inl (ap (λ (x : Hull). x.greatest) (same_some _ w _ e refl))
+greatest_widens None t w e = inl (rw (same_some _ w _ e refl))
 greatest_widens (Some x) t w e =
-    let same = ap (λ (y : Hull). y.greatest) (same_some _ w _ e refl) in
-    by_lt_z {P = _} x.greatest t (λ lt. inl (omega (arith, ints, clamps, lt, same))) (λ ge. inr (x, refl, omega (arith, ints, clamps, ge, same)))
+    let same = ap (λ y. y.greatest) (same_some _ w _ e refl) in
+    by_lt_z x.greatest t (λ lt. inl (omega (arith, ints, clamps))) (λ ge. inr (x, refl, omega (arith, ints, clamps)))
 
 end_of : (end : Hull → ℤ) → Widens end → (o : Option Hull) (hs : List Happening) (w : Hull) → over o hs ≡ Some w → IsEndOf end o hs w
 end_of end widens o [] w e = inr (w, e, refl)
@@ -77,15 +77,21 @@ in_next {v} {n} before w is low high in_run =
     record {
       next = next.0;
       is_over = (before.hull, before.is_hull, next.1.behind);
-      from = omega (arith, ints, next_first before is, low);
-      to = omega (arith, ints, high, next.1.behind, frames_come_first v.sizes before.hull (room is) (before_narrow before), before_narrow before);
+      from = omega (arith, ints, next_first before is);
+      to = omega (
+        arith,
+        ints,
+        next.1.behind,
+        frames_come_first v.sizes before.hull (room is) (before_narrow before),
+        before_narrow before,
+      );
       in_run = in_run;
     }
 
 pub master_is_end : (v : View) (device : DeviceId) → has_role v.scenario.network is_master device ≡ true → is_end v.scenario.network device ≡ true
 master_is_end v device e =
     let d = device_of is_master (device_at v.scenario.network device) e in
-    ap (λ (o : Option Device). option_map_or (λ x. is_end_system x.role) o false) d.1 ∙ master_ends d.0.role d.2
+    rw d.1 (master_ends d.0.role d.2)
 
 -- what a dispatch says of the master's clock
 pub record HasDispatched (v : View) (device : DeviceId) (cycle w : ℕ) : Type 0 where
@@ -103,18 +109,17 @@ has_dispatched {v} {h} {device} {cycle} is dispatch =
     let split = before_of is found in
     let state = up_state (is_turned_on_at v.scenario device (time_of h)) (state_after v.scenario (earlier (time_of h) found.front) device)
     sends.up.synchronised in
-    let left = subst (λ hs. state_after v.scenario hs device ≡ Synchronised)
-    (earlier_before split) state in
+    let left = rw (earlier_before split) at state in
     let reaches = reaches_whole split sends.reached in
     let sharp = clocks_reach_sharply v device (pos (cycle * amount v.scenario.network.cycle)) (time_of h) is reaches in
     let same : cycle * v.sizes.cycle ≡ cycle * amount v.scenario.network.cycle =
-    ap (λ (x : ℕ). cycle * x) (sizes_are is).cycle in
+    rw (sizes_are is).cycle in
     record {
       begun = sends.begun;
       end = master_is_end v device sends.master;
       synchronised = ap is_synchronised left;
-      least = omega (arith, ints, same, sharp.least);
-      most = omega (arith, ints, same, sharp.most);
+      least = omega (arith, ints, sharp.least);
+      most = omega (arith, ints, sharp.most);
     }
 
 -- ---- the first cycle
@@ -122,7 +127,7 @@ has_dispatched {v} {h} {device} {cycle} is dispatch =
 -- a clock that was not set before a dispatch stands as at the start
 unset : (o : Option Happening) → option_map_or (λ h. pos (time_of h)) o (negsuc 0) <ℤ pos 0 → o ≡ None
 unset None early = refl
-unset (Some h) early = absurd (omega (arith, ints, early))
+unset (Some h) early = absurd (omega (arith, ints))
 
 -- the sizes of the first cycle
 pub start_near : {v : View} {device : DeviceId} {w : ℕ} → IsView v → IsGood v device → HasDispatched v device 1 w
@@ -136,7 +141,7 @@ start_near {v} {device} {w} is good has early late =
     let at_start = subst (λ hs. has_time (state_after v.scenario hs device) ≡ true) (none_at_start v.records) timed in
     let start = has_start (start_of v.scenario.network device) at_start in
     let known = start_is device start.0 is start.1 in
-    let same = ap (λ (a : Units). a.0)
+    let same = ap (λ a. a.0)
     (adjustment_is_last v.scenario (earlier w v.records) device ∙ ap (set_adjustment v.scenario device) none ∙ ap adjustment_at_start start.1) in
     let zero_reading = (steady v is device).begins in
     let shows = anchored_clocks_show v.sizes reading (adjustment_left v device w) 0 (pos 0 -ℤ pos (2 * v.sizes.settled)) (pos 0) 0 w (steady v is device)
@@ -167,19 +172,19 @@ shared_near {v} {n} {w} before {device} share is good has from old late =
     let reading = v.scenario.reading device in
     let still = state_stays is_synchronised refl device before.next w is from old has.synchronised in
     let by = share.each device (record { end = has.end; good = good }) (is_in (state_left v device before.next) still) in
-    let same = ap (λ (a : Units). a.0) (adjustment_stays device before.next w is from old) in
+    let same = ap (λ a. a.0) (adjustment_stays device before.next w is from old) in
     let low = low_by v.sizes share.shared by.other in
     let high = high_by v.sizes share.shared by.other in
-    let anchored = subst (λ a. IsAnchored v.sizes (pos (reading by.set_at) +ℤ a) n low high by.set_at) same by.anchored in
+    let anchored = rw same at by.anchored in
     let shows = anchored_clocks_show v.sizes reading (adjustment_left v device w) n low high by.set_at w (steady v is device)
-    (omega (arith, by.not_behind, from)) (omega (arith, ints, late, by.not_before, before_narrow before, room is))
+    (omega (arith, by.not_behind)) (omega (arith, ints, by.not_before, before_narrow before, room is))
     anchored in
     let product : suc n * v.sizes.cycle ≡ n * v.sizes.cycle + v.sizes.cycle = omega arith in
     record {
       other = by.other;
       near = by.near;
       reached = anchored_clocks_reach v.sizes (pos (reading w) +ℤ adjustment_left v device w) n low high v.sizes.cycle w shows
-          (omega (arith, ints, has.least, product)) (omega (arith, ints, has.most, product));
+          (omega (arith, ints, has.least)) (omega (arith, ints, has.most));
     }
 
 -- ---- the hull
@@ -210,17 +215,16 @@ ends_near goes {v} zero {before} {g} {h} is one other =
   where
     near : (h : Happening) → IsEnd v zero before h → IsReachedNear v.sizes (pos 0 -ℤ pos (2 * v.sizes.settled)) (pos 0) v.sizes.cycle (time_of h)
     near h e =
-        let same : before.hull ≡ start_hull v.sizes = same_some (hull_of v zero) before.hull (start_hull v.sizes) before.is_hull refl in
-        let old = subst (λ x. epoch_time (earlier (time_of h) v.records) e.device <ℤ pos x) before.is_over
-        (end_old goes is e).1 in
+        let same = same_some (hull_of v zero) before.hull (start_hull v.sizes) before.is_hull refl in
+        let old = rw before.is_over at (end_old goes is e).1 in
         start_near is e.dispatch.good (has_dispatched is e.dispatch) old
-        (subst (λ w. pos (time_of h) ≤ℤ last_dispatch v.sizes w) same e.high)
+        (rw same at e.high)
 ends_near goes {v} (suc c) {before} {g} {h} is one other =
     let x = near g one in
     let y = near h other in
     let half = shared_clocks_halve v.sizes before.hull share.shared x.other y.other (time_of g) (time_of h) (room is)
     x.near y.near x.reached y.reached in
-    omega (arith, ints, half, before_narrow before, (room is).errors.spread_is)
+    omega (arith, ints, before_narrow before, (room is).errors.spread_is)
   where
     share : AreShared v (suc c) before.hull before.next
     share = before.shared (omega arith)
@@ -233,8 +237,7 @@ ends_near goes {v} (suc c) {before} {g} {h} is one other =
 pub hulls_are_narrow : BlocksGoSo → HullsAreNarrow
 hulls_are_narrow goes v n before hull is is_hull =
     let test = λ (g : Happening). is_dispatch v before.hull (suc n) g g.note.body in
-    let over_is = subst (λ (o : Option Hull). option_and_then (λ w. hull_over (filter (λ h. is_dispatch v w (suc n) h h.note.body) v.records)) o
-    ≡ Some hull) before.is_hull is_hull in
+    let over_is = rw before.is_hull at is_hull in
     let ends = ends_of None (filter test v.records) hull over_is in
     elim ends.greatest [
       | inr none ↦ absurd (never_some none.0 none.1)

@@ -2,7 +2,7 @@
 use Rattle.precision_law.proofs.words.Laws.{Follows, Hull, IsDispatch, IsInHull, View, first_dispatch, hull_of, hull_over, is_dispatch, last_dispatch, widened}
 use Rattle.precision_law.proofs.words.{Plans.{DeviceId, int_le-true}, Runs.{Happening, IsIn, NoteBody, in_filter, is_broken, time_of}}
 use Rattle.precision_law.proofs.words.Std.{◌∷◌, ◌≡◌, ◌≤ℤ◌, ◌≤◌, List, None, Option, Some, [], and_parts, ap, arith, clamps, eq-eqb, eqb-true, false, filter}
-use Rattle.precision_law.proofs.words.Std.{fold, inl, inr, int_le, ints, not, not-true, not_from_false, option_and_then, pos, refl, subst, suc, sym, true, ℕ, ℤ}
+use Rattle.precision_law.proofs.words.Std.{fold, inl, inr, int_le, ints, not, not-true, not_from_false, option_and_then, pos, refl, subst, suc, true, ℕ, ℤ}
 use Rattle.{run_law.proofs.records.{Members.in_kept, Order.has_passed}, std.proofs.lemmas.Option.none-some, tte_units.proofs.general_lemmas.Integers.int_le-is}
 use Rattle.run_law.specs.declared.note.NoteBody.TheVariants as notes
 
@@ -33,7 +33,7 @@ over_keeps o (h ∷ hs) u has = over_keeps (widened o (pos (time_of h))) hs u (w
 over_has : (o : Option Hull) (hs : List Happening) (h : Happening) → IsIn h hs → HasIn (pos (time_of h)) (over o hs)
 over_has o [] h i = absurd i
 over_has o (g ∷ hs) h (inl same) =
-    subst (λ x. HasIn (pos (time_of x)) (over o (g ∷ hs))) (sym same) (over_keeps _ hs _ (widened_has o (pos (time_of g))))
+    rw same (over_keeps _ hs _ (widened_has o (pos (time_of g))))
 over_has o (g ∷ hs) h (inr more) = over_has (widened o (pos (time_of g))) hs h more
 
 -- the hull, if it is there, lies between these
@@ -43,7 +43,8 @@ LiesBetween a b (Some w) = (a ≤ℤ w.least) × (w.greatest ≤ℤ b) × (w.lea
 
 widened_between : (a b t : ℤ) (o : Option Hull) → a ≤ℤ t → t ≤ℤ b → LiesBetween a b o → LiesBetween a b (widened o t)
 widened_between a b t None low high at = (low, high, omega (arith, ints))
-widened_between a b t (Some w) low high at = (omega (arith, ints, clamps, low), omega (arith, ints, clamps, high), omega (arith, ints, clamps))
+widened_between a b t (Some w) low high at =
+    (omega (arith, ints, clamps), omega (arith, ints, clamps), omega (arith, ints, clamps))
 
 over_between : (a b : ℤ) (o : Option Hull) (hs : List Happening) → ((h : Happening) → IsIn h hs → (a ≤ℤ pos (time_of h)) × (pos (time_of h) ≤ℤ b))
     → LiesBetween a b o → LiesBetween a b (over o hs)
@@ -85,7 +86,7 @@ pub in_hull : {v : View} (cycle : ℕ) (before : Hull) {h : Happening} {device :
 in_hull {v} cycle before {h} is_before dispatch low high =
     let test = λ (g : Happening). is_dispatch v before (suc cycle) g g.note.body in
     let i = in_kept test v.records h dispatch.there (passes_test before dispatch low high) in
-    let same = ap (λ (o : Option Hull). option_and_then (λ before. hull_over (filter (λ h. is_dispatch v before
+    let same = ap (λ o. option_and_then (λ before. hull_over (filter (λ h. is_dispatch v before
     (suc cycle) h h.note.body) v.records)) o) is_before in
     of_hull (hull_over (filter test v.records)) same (over_has None (filter test v.records) h i)
   where

@@ -1,7 +1,7 @@
 -- How a frame tells a device the time.
 use Rattle.run_law.proofs.control.Verdicts.{by_schedule}
 use Rattle.precision_law.proofs.words.{Clocks.{device_of, hearer_not_cm, passes, same_device, sizes_are, some_of}, Laws.{HearsBy, IsView, View, setting}}
-use Rattle.precision_law.proofs.words.Plans.{Channel, Cm, Device, DeviceId, Integrating, IsDeviceInRange, Joints, Link, LinkId, Members, Network, Off, Pcf}
+use Rattle.precision_law.proofs.words.Plans.{Channel, Cm, DeviceId, Integrating, IsDeviceInRange, Joints, Link, LinkId, Members, Network, Off, Pcf}
 use Rattle.precision_law.proofs.words.Plans.{Point, Role, State, SyncPlan, Units, all_at, amount, compression_time, count_of, device_at, expected_at}
 use Rattle.precision_law.proofs.words.{Plans.{is_end_system, link_at, opened, target_by}, Std.{sym, true, unsigned_abs, ℕ, ℤ}}
 use Rattle.precision_law.proofs.words.Runs.{Happening, Integrates, IsArrivedRecord, IsCaused, IsFoundedAt, IsIn, IsPermanenceOutcome, NoteBody, adjustment_with}
@@ -25,10 +25,10 @@ pub link_channel : {v : View} (link : LinkId) (l : Link) → IsView v → link_a
 link_channel {v} link l is at =
     let n = v.scenario.network in
     let joint = is.lawful.rules Joints link.0 l at in
-    let switch = opened (λ (d : Device). d.channel ≡ Some joint.0) (device_at n l.parent) joint.1 in (
+    let switch = opened (λ d. d.channel ≡ Some joint.0) (device_at n l.parent) joint.1 in (
       joint.0,
-      ap (λ (o : Option Link). option_and_then (λ k. channel_of n k.parent) o) at ∙ ap (λ (o : Option Device). option_and_then (λ d. d.channel) o)
-          switch.1 ∙ switch.2,
+      rw at (ap (λ o. option_and_then (λ d. d.channel) o)
+          switch.1 ∙ switch.2),
     )
 
 cm_not_end : (role : Role) → is_cm_role role ≡ true → is_end_system role ≡ false
@@ -40,9 +40,9 @@ pub cm_channel : {v : View} (device : DeviceId) → IsView v → is_cm v.scenari
     → (channel : Channel) × (channel_of v.scenario.network device ≡ Some channel)
 cm_channel {v} device is cm =
     let d = device_of is_cm_role (device_at v.scenario.network device) cm in
-    let known : IsDeviceInRange d.0 = all_at IsDeviceInRange v.scenario.network.device device.0 d.0 is.lawful.range.devices d.1 in
+    let known = all_at IsDeviceInRange v.scenario.network.device device.0 d.0 is.lawful.range.devices d.1 in
     let some = some_of d.0.channel (known.switches ∙ ap not (cm_not_end d.0.role d.2)) in
-    (some.0, ap (λ (o : Option Device). option_and_then (λ x. x.channel) o) d.1 ∙ some.1)
+    (some.0, ap (λ o. option_and_then (λ x. x.channel) o) d.1 ∙ some.1)
 
 -- ---- what is heard so
 
@@ -96,7 +96,7 @@ arrival_link v {device} {link} a = elim a.taken [
 pub joins : {v : View} (h : Happening) (device : DeviceId) → IsView v → IsIn h v.records
     → is_joined_by device h.note.body ≡ true → Joins v h device
 joins {v} h device is i joins_it =
-    by h.note.body refl (ap (λ (x : Happening). x.frame) at.due.same) at.due.cause joins_it
+    by h.note.body refl (ap (λ x. x.frame) at.due.same) at.due.cause joins_it
   where
     at : IsFoundedAt v.scenario v.records h
     at = founded_at v.scenario v.records h is.run.founded i
@@ -109,36 +109,38 @@ joins {v} h device is i joins_it =
         let l = arrival_link v
         (subst (IsCaused v.scenario came.front p.arrival.note.time) p.arrived came.due.cause) in
         let channel = link_channel link l.0 is l.1 in
-        let of_frame : h.frame ≡ Some caused.frame = framed ∙ ap (λ (o : Option Happening). option_and_then (λ x. x.frame) o) p.there ∙ p.of_frame in
+        let of_frame = framed ∙ ap (λ o. option_and_then (λ x. x.frame) o) p.there ∙ p.of_frame in
         let ripe_so = ripe_integrates v.scenario.network other _ _ _ caused.frame point.0 caused.becomes in
-        let members : caused.frame.members.0 ≡ members_in h = ap (λ (o : Option Pcf). option_map_or (λ f. f.members.0) o 0) (sym of_frame) in
-        let body_is = same ∙ ap (λ (d : DeviceId). notes.Permanent d link cause point Integrates) (same_device device other joined) in
+        let members : caused.frame.members.0 ≡ members_in h =
+        ap (λ o. option_map_or (λ f. f.members.0) o 0) (sym of_frame) in
+        let body_is = same ∙ ap (λ d. notes.Permanent d link cause point Integrates)
+        (same_device device other joined) in
         record {
           channel = channel.0;
           point = point.0;
           hears = record { there = i; how = inl (link, cause, point, body_is, channel.1, refl) };
-          enough = subst (λ (m : ℕ). v.scenario.network.sync_threshold ≤ count_of (record { 0 = m })) members ripe_so.1.enough;
-          sets = λ old. ap (λ b. (adjustment_with v.scenario device (cycle_in h) old b).0) same ∙ rw joined refl;
+          enough = rw members at ripe_so.1.enough;
+          sets = λ old. rw same (rw joined refl);
         }
     by (notes.Compressed other opened point cycle members Integrates) same framed caused joined =
         let n = v.scenario.network in
-        let one : other ≡ device = same_device device other joined in
+        let one = same_device device other joined in
         let channel = cm_channel other is caused.cm in
         let enough = integrates_by (plan_of n other) (observation_window n) _ _ point.0 cycle members (sym caused.heard) in
-        let of_members : members.0 ≡ members_in h = ap (λ (o : Option Pcf). option_map_or (λ f. f.members.0) o 0) (sym framed) in
-        let of_cycle : cycle ≡ cycle_in h = ap (λ (o : Option Pcf). option_map_or (λ f. f.cycle) o 0) (sym framed) in
-        let body_is = same ∙ ap (λ (d : DeviceId). notes.Compressed d opened point cycle members Integrates) one in
+        let of_members : members.0 ≡ members_in h = ap (λ o. option_map_or (λ f. f.members.0) o 0) (sym framed) in
+        let of_cycle : cycle ≡ cycle_in h = ap (λ o. option_map_or (λ f. f.cycle) o 0) (sym framed) in
+        let body_is = same ∙ ap (λ d. notes.Compressed d opened point cycle members Integrates) one in
         record {
           channel = channel.0;
           point = point.0;
           hears = record {
             there = i;
-            how = inr (opened, point, cycle, members, body_is, subst (λ d. channel_of n d ≡ Some channel.0) one channel.1, refl);
+            how = inr (opened, point, cycle, members, body_is, rw (sym one) channel.1, refl);
           };
-          enough = subst (λ (m : ℕ). n.sync_threshold ≤ count_of (record { 0 = m })) of_members enough.enough;
+          enough = rw of_members at enough.enough;
           sets =
-              λ old. ap (λ b. (adjustment_with v.scenario device (cycle_in h) old b).0) same
-              ∙ rw joined (ap (λ c. expected_at (plan_of n device) c -ℤ point.0) of_cycle);
+              λ old. rw same
+              (rw joined (rw of_cycle));
         }
     by body same framed caused joined = absurd cc
 
@@ -146,7 +148,7 @@ joins {v} h device is i joins_it =
 
 times_pos : (n : ℕ) (z : ℤ) → pos 0 ≤ℤ z → (pos n *ℤ z) ≡ pos (n * unsigned_abs z)
 times_pos n (pos m) le = refl
-times_pos n (negsuc m) le = absurd (omega (arith, ints, le))
+times_pos n (negsuc m) le = absurd (omega (arith, ints))
 
 -- the value at which a device expects a frame
 pub expected_is : {v : View} (device : DeviceId) (cycle : ℕ) (point : ℤ) → IsView v
@@ -154,7 +156,13 @@ pub expected_is : {v : View} (device : DeviceId) (cycle : ℕ) (point : ℤ) →
     ≡ setting v.sizes cycle (expected_by v.scenario.network device) point
 expected_is {v} device cycle point is =
     let n = v.scenario.network in
-    omega (arith, ints, times_pos cycle n.cycle.0 (omega (arith, ints, is.lawful.range.cycle.least)), ap (λ (x : ℕ). cycle * x) (sizes_are is).cycle)
+    omega (
+      arith,
+      ints,
+      times_pos cycle n.cycle.0 (omega (arith, ints, is.lawful.range.cycle.least)),
+      ap
+          (λ x. cycle * x) (sizes_are is).cycle,
+    )
 
 -- a device expects frames well behind the beginning of their cycle
 pub expected_late : {v : View} (device : DeviceId) → IsView v

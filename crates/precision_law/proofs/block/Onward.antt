@@ -1,10 +1,10 @@
 -- When a block is over the network stands as it should.
-use Rattle.precision_law.proofs.words.Blocks.{HasCorrected, IsSetInBlock, before_narrow, block_ends, follows_before, has_corrected, has_lost, high_by}
-use Rattle.precision_law.proofs.words.Blocks.{hulls_are_narrow, int_lt-from, joiner_integrates, joining_of_setting, known_dispatch, later_end, low_by}
+use Rattle.precision_law.proofs.words.Blocks.{HasCorrected, IsSetInBlock, before_narrow, block_ends, follows_before, has_corrected, has_lost}
+use Rattle.precision_law.proofs.words.Blocks.{hulls_are_narrow, int_lt-from, joiner_integrates, joining_of_setting, known_dispatch, later_end}
 use Rattle.precision_law.proofs.words.{Blocks.{old_point, set_by, set_by_joining}, Clocks.{setting_is, sizes_are, steady}, Runs.{start_of, time_of}}
 use Rattle.precision_law.proofs.words.Clocks.{adjustment_is_last, instants_are_in_order, joiner_waits, room, set_clocks_have_reached, set_clocks_show}
-use Rattle.precision_law.proofs.words.Laws.{AreNarrow, BlockGoesSo, BlockIsOver, BlocksGoSo, FirmDevicesCorrect, HadPoint, HasTimeAt, Hull, IsAnchored}
-use Rattle.precision_law.proofs.words.Laws.{IsAnchoredIn, IsFirm, IsGood, IsGoodEnd, IsInBlock, IsNarrow, IsOldAt, IsPointOf, IsSetFor, IsSharedBy, IsView}
+use Rattle.precision_law.proofs.words.Laws.{AreNarrow, BlockGoesSo, BlockIsOver, BlocksGoSo, FirmDevicesCorrect, HadPoint, HasTimeAt, Hull}
+use Rattle.precision_law.proofs.words.Laws.{IsFirm, IsGood, IsGoodEnd, IsInBlock, IsOldAt, IsPointOf, IsSetFor, IsSharedBy, IsView}
 use Rattle.precision_law.proofs.words.Laws.{JoinsSo, NoneLost, PointsHaveCome, PointsShare, Stands, StandsOn, SwitchesAreGood, View, adjustment_left, cycle_set}
 use Rattle.precision_law.proofs.words.Laws.{first_correction, has_time, hull_of, is_correction, last_correction, last_setting, set_adjustment, start_hull}
 use Rattle.precision_law.proofs.words.{Laws.state_left, Plans.{Corrected, DeviceId, Synchronised, Units, adjustment_at_start, int_le-true}}
@@ -30,7 +30,7 @@ pub last_of : {v : View} {n : ℕ} (over : BlockIsOver v n) → IsView v → Has
 last_of {v} {n} over is =
     let ends = block_ends v n over.next over.before.hull over.before.is_hull over.is_over in
     let later = later_end n over.before is in
-    record { last = over.next - 1; is_last = omega (arith, ints, ends, later); at = omega (arith, ints, ends, later); from = omega (arith, ints, ends, later) }
+    record { last = over.next - 1; is_last = omega (arith, ints); at = omega (arith, ints); from = omega (arith, ints) }
 
 -- ---- what set a clock last
 
@@ -46,20 +46,20 @@ set_last : {v : View} {n : ℕ} (over : BlockIsOver v n) (device : DeviceId) (o 
     → last_setting (earlier over.next v.records) device ≡ o
     → pos over.before.next ≤ℤ option_map_or (λ h. pos (time_of h)) o (negsuc 0)
     → (h : Happening) × IsSetBy v n over device h
-set_last over device None e late = absurd (omega (arith, ints, late))
+set_last over device None e late = absurd (omega (arith, ints))
 set_last {v} over device (Some h) e late =
     let at = setting_is v device over.next h e in
-    (h, record { last = e; there = at.there; from = omega (arith, ints, late); to = at.early; sets = at.sets })
+    (h, record { last = e; there = at.there; from = omega (arith, ints); to = at.early; sets = at.sets })
 
 -- each instant of the block went so
 all_went : BlocksGoSo → {v : View} {n : ℕ} (over : BlockIsOver v n) → IsView v → (t : ℕ) → over.before.next ≤ t
     → t < over.next → BlockGoesSo v n over.before.next t over.before.hull
-all_went goes {v} {n} over is t from to = goes v n t (instant v n over t from to (omega (arith, to, over.in_run))) is
+all_went goes {v} {n} over is t from to = goes v n t (instant v n over t from to (omega (arith, over.in_run))) is
 
 module _ (goes : BlocksGoSo) (v : View) (n : ℕ) (over : BlockIsOver v n) (is : IsView v) (device : DeviceId) (h : Happening) (good : IsGood v device)
     (by : IsSetBy v n over device h) where
   abbrev at_setting : IsInBlock v n (time_of h)
-  at_setting = instant v n over (time_of h) by.from by.to (let to = by.to in omega (arith, to, over.in_run))
+  at_setting = instant v n over (time_of h) by.from by.to (let to = by.to in omega (arith, over.in_run))
 
   went_then : BlockGoesSo v n over.before.next (time_of h) over.before.hull
   went_then = goes v n (time_of h) at_setting is
@@ -92,7 +92,7 @@ module _ (goes : BlocksGoSo) (v : View) (n : ℕ) (over : BlockIsOver v n) (is :
       let point = (corrected_old (has_corrected device h is good by.there by.sets corrected)).1 in
       let time = ap (λ (o : Option Happening). option_map_or (λ g. pos (time_of g)) o (negsuc 0)) by.last in
       let is_so = ap (λ (o : Option Happening). option_map_or (λ g. is_correction g.note.body) o false) by.last ∙ corrected in
-      record { how = inl (is_so, omega (arith, ints, time, point.not_early)) }
+      record { how = inl (is_so, omega (arith, ints, point.not_early)) }
   has_point false joined =
       let s = v.scenario in
       let reading = s.reading device in
@@ -106,18 +106,19 @@ module _ (goes : BlocksGoSo) (v : View) (n : ℕ) (over : BlockIsOver v n) (is :
       let order = instants_are_in_order v.sizes over.before.hull set.hull space (before_narrow over.before) follows in
       let a = adjustment_left v device over.next in
       let same_hull : so.hull ≡ set.hull = same_some (hull_of v (suc n)) so.hull set.hull so.is_hull set.is_hull in
-      let early : set.hull.least ≤ℤ pos (time_of h) = subst (λ (w : Hull). w.least ≤ℤ pos (time_of h)) same_hull so.not_early in
-      let within : last.last ≤ set.set_at + 2 * v.sizes.cycle = omega (arith, ints, last.at, order.last_not_late, set.not_before, space) in
+      let early : set.hull.least ≤ℤ pos (time_of h) = rw same_hull at so.not_early in
+      let within : last.last ≤ set.set_at + 2 * v.sizes.cycle =
+      omega (arith, ints, last.at, order.last_not_late, set.not_before) in
       let reached = set_clocks_have_reached v.sizes reading a (suc n) set.hull set.set_at v.sizes.correction last.last space (steady v is device)
       (omega (arith, set.not_behind, by.to, last.is_last)) within set.anchored (omega (arith, ints, last.at, order.last_not_early)) in
       let then_shows = set_clocks_show v.sizes reading a (suc n) set.hull set.set_at (time_of h) (steady v is device) set.not_behind
-      (omega (arith, by.to, last.is_last, within)) set.anchored in
+      (omega (arith, by.to, last.is_last)) set.anchored in
       let recorded : recorded_cycle (earlier over.next v.records) device ≡ suc n = integrates.1 ∙ so.of_cycle in
       let value = correction_value s.network (recorded_cycle (earlier over.next v.records) device) in
       let sizes = sizes_are is in
       let product = ap (λ x. recorded_cycle (earlier over.next v.records) device * x) (sym sizes.cycle) ∙ ap (λ c. c * v.sizes.cycle) recorded in
       let at_change : reading (changed_at v.records device over.next) ≡ reading (time_of h) =
-      ap (λ (o : Option Happening). reading (option_map_or time_of o 0)) by.last in
+      rw by.last in
       let at_last : reading (over.next - 1) ≡ reading last.last = ap reading (omega (arith, last.is_last)) in
       record {
         how = inr (
@@ -150,24 +151,24 @@ module _ (goes : BlocksGoSo) (v : View) (n : ℕ) (over : BlockIsOver v n) (is :
         near = shared.near;
         set_at = shared.set_at;
         not_before = shared.not_before;
-        not_behind = (let to = by.to in omega (arith, shared.not_behind, to));
-        anchored = subst (λ a. IsAnchored v.sizes (pos (v.scenario.reading device shared.set_at) +ℤ a) (suc n)
-            (low_by v.sizes share.shared shared.other) (high_by v.sizes share.shared shared.other) shared.set_at) (sym left) shared.anchored;
+        not_behind = (let to = by.to in omega (arith, shared.not_behind));
+        anchored = rw (sym left) at shared.anchored;
       }
 
   clock_is_set : (hull : Hull) → hull_of v (suc n) ≡ Some hull → IsSetFor v (suc n) hull over.next device
   clock_is_set hull is_hull =
       let set = set_so in
       let same : set.hull ≡ hull = same_some (hull_of v (suc n)) set.hull hull set.is_hull is_hull in
-      let time : changed_at v.records device over.next ≡ time_of h = ap (λ (o : Option Happening). option_map_or time_of o 0) by.last in
+      let time : changed_at v.records device over.next ≡ time_of h = ap (λ o. option_map_or time_of o 0) by.last in
       record {
-        index = ap (λ (o : Option Happening). option_map_or (λ g. cycle_set g g.note.body) o 0) by.last ∙ set_cycle (is_correction h.note.body) refl;
+        index = ap (λ o. option_map_or (λ g. cycle_set g g.note.body) o 0) by.last ∙ set_cycle
+            (is_correction h.note.body) refl;
         set_at = set.set_at;
-        not_before = subst (λ (w : Hull). w.least ≤ℤ pos set.set_at) same set.not_before;
-        not_behind = (let to = by.to in omega (arith, set.not_behind, to));
-        since = omega (arith, set.not_behind, time);
+        not_before = rw (sym same) set.not_before;
+        not_behind = (let to = by.to in omega (arith, set.not_behind));
+        since = omega (arith, set.not_behind);
         anchored =
-            subst (λ w. IsAnchoredIn v.sizes (v.scenario.reading device) (adjustment_left v device over.next) (suc n) w set.set_at) same set.anchored;
+            rw (sym same) set.anchored;
       }
 
 -- ---- none is lost
@@ -196,17 +197,17 @@ narrow_on : BlocksGoSo → {v : View} {n : ℕ} (before : Stands v n) (hull : Hu
     → hull_of v (suc n) ≡ Some hull → AreNarrow v (suc n)
 narrow_on goes {v} {n} before hull is is_hull c le =
     elim (cases_lt c (suc n)) [
-      | inl lt ↦ before.narrow c (omega (arith, lt))
+      | inl lt ↦ before.narrow c (omega arith)
       | inr ge ↦
-          let same : suc n ≡ c = omega (arith, le, ge) in
-          subst (λ x. (w : Hull) × (hull_of v x ≡ Some w) × IsNarrow v.sizes w) same (hull, is_hull, hulls_are_narrow goes v n before hull is is_hull)
+          let same : suc n ≡ c = omega arith in
+          rw (sym same) (hull, is_hull, hulls_are_narrow goes v n before hull is is_hull)
     ]
 
 -- a hull is not behind itself
 pub hull_ordered : {v : View} (n : ℕ) (stands : Stands v n) → IsView v → stands.hull.least ≤ℤ stands.hull.greatest
 hull_ordered {v} zero stands is =
-    let same : start_hull v.sizes ≡ stands.hull = same_some (hull_of v zero) (start_hull v.sizes) stands.hull refl stands.is_hull in
-    omega (arith, ints, ap (λ (w : Hull). w.least) same, ap (λ (w : Hull). w.greatest) same)
+    let same = same_some (hull_of v zero) (start_hull v.sizes) stands.hull refl stands.is_hull in
+    omega (arith, ints, ap (λ w. w.least) same, ap (λ w. w.greatest) same)
 hull_ordered (suc c) stands is =
     let one = stands.narrow c (omega arith) in
     (follows_before c one.0 stands.hull is one.1 stands.is_hull).ordered
@@ -215,7 +216,8 @@ pub stands_on : BlocksGoSo → PointsHaveCome → FirmDevicesCorrect → Switche
 stands_on goes come correct switches v n is over =
     let before = over.before in
     let last = last_of over is in
-    let in_last : IsInBlock v n last.last = instant v n over last.last last.from (omega (arith, last.is_last)) (omega (arith, last.is_last, over.in_run)) in
+    let in_last = instant v n over last.last last.from (omega (arith, last.is_last))
+    (omega (arith, last.is_last, over.in_run)) in
     let share = correct v n last.last in_last is (omega (arith, ints, last.at, hull_ordered n before is)) in
     let hull = share.0 in
     let by : (device : DeviceId) → HasTimeAt v device over.next → (h : Happening) × IsSetBy v n over device h = λ device has.
@@ -230,11 +232,10 @@ stands_on goes come correct switches v n is over =
       dispatches = known_dispatch v n over.next before (all_went goes over is);
       clocks = λ device has. (let set = by device has in clock_is_set goes v n over is device set.0 has.good set.1 hull share.1);
       points = λ w c same at device has.
-          let one : c ≡ n = omega (arith, same) in
-          let same_hull : before.hull ≡ w = same_some (hull_of v n) before.hull w before.is_hull (subst (λ x. hull_of v x ≡ Some w) one at) in
+          let one : c ≡ n = omega arith in
+          let same_hull = same_some (hull_of v n) before.hull w before.is_hull (rw one at at) in
           let set = by device has in
-          subst (λ x. HadPoint v over.next (first_correction v.sizes x) device) same_hull
-          (has_point goes v n over is device set.0 has.good set.1 (is_correction set.0.note.body) refl);
+          rw same_hull at (has_point goes v n over is device set.0 has.good set.1 (is_correction set.0.note.body) refl);
       shared =
           λ some. record {
             shared = share.2.shared;
@@ -244,7 +245,7 @@ stands_on goes come correct switches v n is over =
                 shared_by goes v n over is device set.0 end.good set.1 hull share.2 (is_correction set.0.note.body) refl end synchronised);
           };
       joined = λ h device i joins good lt. elim (cases_lt (time_of h) before.next) [
-        | inl early ↦ (let low = before.joined h device i joins good early in omega (arith, low))
+        | inl early ↦ (let low = before.joined h device i joins good early in omega arith)
         | inr from ↦ (let so = (all_went goes over is (time_of h) from lt).joins h device i joins good refl in
             omega (arith, so.of_cycle))
       ];

@@ -1,9 +1,9 @@
 -- At the beginning the network stands as it should.
 use Rattle.precision_law.proofs.{Plain.reached, words.{Clocks.{room, sizes_are, starts_are_set, steady}, Laws.start_hull, Std.true}}
-use Rattle.precision_law.proofs.words.Laws.{HasTimeAt, Hull, IsAnchoredIn, IsNarrow, IsSetFor, IsView, StandsAtStart, View, epoch_cycle, has_time, hull_of}
-use Rattle.precision_law.proofs.words.Plans.{Device, DeviceId, IsDeviceInRange, IsWithin, Masters, Units, adjustment_at_start, all_at, device_at}
-use Rattle.precision_law.proofs.words.{Plans.state_at_start, Runs.{Happening, adjustment_after, earlier, none_kept, start_of, state_after, time_of}}
-use Rattle.precision_law.proofs.words.Std.{◌^◌, ◌∙◌, ◌≡◌, ◌≤ℤ◌, IfSome, List, None, Option, Some, [], ap, arith, ints, le-ltb, nat_lt, pos, refl, subst, sym}
+use Rattle.precision_law.proofs.words.Laws.{HasTimeAt, IsSetFor, IsView, StandsAtStart, View, has_time}
+use Rattle.precision_law.proofs.words.Plans.{DeviceId, IsDeviceInRange, IsWithin, Masters, Units, adjustment_at_start, all_at, device_at}
+use Rattle.precision_law.proofs.words.{Plans.state_at_start, Runs.{Happening, adjustment_after, earlier, none_kept, start_of, time_of}}
+use Rattle.precision_law.proofs.words.Std.{◌^◌, ◌∙◌, ◌≡◌, ◌≤ℤ◌, IfSome, List, None, Option, Some, [], ap, arith, ints, le-ltb, nat_lt, pos, refl, sym}
 
 -- before time 0 there is no record
 pub none_at_start : (hs : List Happening) → earlier 0 hs ≡ []
@@ -17,7 +17,7 @@ has_start None e = absurd cc
 has_start (Some u) e = (u, refl)
 
 if_some : {X : Type 0} (P : X → Type 0) (o : Option X) (x : X) → o ≡ Some x → IfSome o P → P x
-if_some {X} P o x e h = subst (λ (s : Option X). IfSome s P) e h
+if_some {X} P o x e h = rw e at h
 
 -- a start is from 0 to settled
 pub record IsStart (v : View) (u : Units) : Type 0 where
@@ -28,12 +28,12 @@ pub start_is : {v : View} (device : DeviceId) (u : Units) → IsView v → start
     → IsStart v u
 start_is {v} device u is e =
     let n = v.scenario.network in
-    let from = reached (λ (d : Device). d.start) (device_at n device) u e in
-    let known : IsDeviceInRange from.0 = all_at IsDeviceInRange n.device device.0 from.0 is.lawful.range.devices from.1 in
-    let within : IsWithin 0 (2 ^ 40) u = if_some (IsWithin 0 (2 ^ 40)) from.0.start u from.2 known.start in
+    let from = reached (λ d. d.start) (device_at n device) u e in
+    let known = all_at IsDeviceInRange n.device device.0 from.0 is.lawful.range.devices from.1 in
+    let within = if_some (IsWithin 0 (2 ^ 40)) from.0.start u from.2 known.start in
     let settled = all_at (λ d. IfSome d.start (λ start. start.0 ≤ℤ n.settled.0)) n.device device.0 from.0 ((is.lawful.rules Masters 4).starts refl) from.1 in
-    let small : u.0 ≤ℤ n.settled.0 = if_some (λ start. start.0 ≤ℤ n.settled.0) from.0.start u from.2 settled in
-    record { least = within.least; most = omega (arith, ints, small, (sizes_are is).settled, within.least) }
+    let small = if_some (λ start. start.0 ≤ℤ n.settled.0) from.0.start u from.2 settled in
+    record { least = within.least; most = omega (arith, ints, (sizes_are is).settled, within.least) }
 
 -- ---- the beginning
 
@@ -41,19 +41,19 @@ set_at_start : {v : View} {device : DeviceId} → IsView v → HasTimeAt v devic
     → IsSetFor v 0 (start_hull v.sizes) 0 device
 set_at_start {v} {device} is has =
     let none = none_at_start v.records in
-    let timed = subst (λ hs. has_time (state_after v.scenario hs device) ≡ true) none has.timed in
+    let timed = rw none at has.timed in
     let start = has_start (start_of v.scenario.network device) timed in
     let known = start_is device start.0 is start.1 in
     let same = ap (λ hs. adjustment_after v.scenario hs device) none ∙ ap adjustment_at_start start.1 in
     let anchored = starts_are_set v.sizes (v.scenario.reading device) start.0.0 (room is) (steady v is device)
     known.least known.most in
     record {
-      index = ap (λ hs. epoch_cycle hs device) none;
+      index = rw none;
       set_at = 0;
       not_before = omega (arith, ints);
       not_behind = omega arith;
       since = omega arith;
-      anchored = subst (λ (a : Units). IsAnchoredIn v.sizes (v.scenario.reading device) a.0 0 (start_hull v.sizes) 0) (sym same) anchored;
+      anchored = rw (sym same) at anchored;
     }
 
 pub stands_at_start : StandsAtStart
@@ -65,12 +65,12 @@ stands_at_start v is =
       in_run = omega arith;
       hull = start_hull v.sizes;
       is_hull = refl;
-      narrow = λ c le. subst (λ x. (hull : Hull) × (hull_of v x ≡ Some hull) × IsNarrow v.sizes hull) (let e : 0 ≡ c = omega (arith, le) in e)
+      narrow = λ c le. rw (sym (let e : 0 ≡ c = omega (arith, le) in e))
           (start_hull v.sizes, refl, omega (arith, ints, space.errors.spread_is));
-      dispatches = λ h device cycle dispatch lt. absurd (omega (arith, lt));
+      dispatches = λ h device cycle dispatch lt. absurd (omega arith);
       clocks = λ device has. set_at_start is has;
-      points = λ before c e. absurd (omega (arith, e));
-      shared = λ le. absurd (omega (arith, le));
-      joined = λ h device i joined good lt. absurd (omega (arith, lt));
-      kept = λ h device state cause why i lt. absurd (omega (arith, lt));
+      points = λ before c e. absurd (omega arith);
+      shared = λ le. absurd (omega arith);
+      joined = λ h device i joined good lt. absurd (omega arith);
+      kept = λ h device state cause why i lt. absurd (omega arith);
     }

@@ -7,14 +7,15 @@ use Rattle.precision_law.proofs.words.{Plans.{mean_of, mean_of-floor}, Std.{◌*
 -- ---- setting a clock
 
 pub one_frame_anchors : OneFrameAnchors
-one_frame_anchors n reading base q point expected cycle timely = record { least = omega (arith, ints, timely); most = omega (arith, ints, timely) }
+one_frame_anchors n reading base q point expected cycle timely =
+    record { least = omega (arith, ints); most = omega (arith, ints) }
 
 pub two_frames_anchor : TwoFramesAnchor
 two_frames_anchor n reading first second q u p r expected cycle steady le within one other =
     let fast = steady.fast q u le within in
     let slow = steady.slow q u le within in
     let mean = mean_of-floor (setting n cycle expected p) (setting n cycle expected r) in
-    record { least = omega (arith, ints, mean, fast, slow, one, other); most = omega (arith, ints, mean, fast, slow, one, other) }
+    record { least = omega (arith, ints); most = omega (arith, ints) }
 
 pub anchors_widen : AnchorsWiden
 anchors_widen n shown cycle low high lower higher r down up anchored = record { least = omega (arith, ints); most = omega (arith, ints) }
@@ -29,13 +30,13 @@ pub two_frames_set : TwoFramesSet
 two_frames_set n reading hull first second q u p r expected cycle room steady le within near far one other =
     anchors_widen n (pos (reading u) +ℤ mean_of (setting n cycle expected p) (setting n cycle expected r)) cycle
     ((first +ℤ second) -ℤ pos (2 * n.path + 4 * n.grain + n.drift)) ((first +ℤ second) +ℤ pos (2 * n.path + n.drift + 1))
-    (low_of n hull) (high_of n hull) u (omega (arith, ints, near, far, room.errors)) (omega (arith, ints, near, far, room.errors))
+    (low_of n hull) (high_of n hull) u (omega (arith, ints, room.errors)) (omega (arith, ints, room.errors))
     (two_frames_anchor n reading first second q u p r expected cycle steady le within one other)
 
 pub starts_are_set : StartsAreSet
 starts_are_set n reading start room steady least most =
-    let zero : reading 0 ≡ 0 = steady.begins in
-    record { least = omega (arith, ints, zero, least, most); most = omega (arith, ints, zero, least, most, room.errors.clock_is) }
+    let zero = steady.begins in
+    record { least = omega (arith, ints); most = omega (arith, ints, room.errors.clock_is) }
 
 -- ---- reading an anchored clock
 
@@ -43,7 +44,7 @@ pub anchored_clocks_show : AnchoredClocksShow
 anchored_clocks_show n reading adjustment cycle low high r t steady le within anchored =
     let fast = steady.fast r t le within in
     let slow = steady.slow r t le within in
-    record { least = omega (arith, ints, fast, slow, anchored.least); most = omega (arith, ints, fast, slow, anchored.most) }
+    record { least = omega (arith, ints, anchored.least); most = omega (arith, ints, anchored.most) }
 
 pub anchored_clocks_reach : AnchoredClocksReach
 anchored_clocks_reach n shown cycle low high v t shows least most = record { not_early = omega (arith, ints); not_late = omega (arith, ints) }
@@ -65,17 +66,17 @@ clocks_of_one_cycle n x y cycle hull t room narrow one other = record { one = om
 -- a whole number from a natural number on is one
 pub natural_of : (z : ℤ) (least : ℕ) → pos least ≤ℤ z → (m : ℕ) × (z ≡ pos m)
 natural_of (pos m) least le = (m, refl)
-natural_of (negsuc m) least le = absurd (omega (arith, ints, le))
+natural_of (negsuc m) least le = absurd (omega (arith, ints))
 
 pub clocks_of_two_cycles : ClocksOfTwoCycles
 clocks_of_two_cycles n x y cycle before hull t room narrow follows one other =
     let more = suc-mul cycle n.cycle in
-    record { one = omega (arith, ints, more, narrow, follows, one, other, room); other = omega (arith, ints, more, narrow, follows, one, other, room) }
+    record { one = omega (arith, ints); other = omega (arith, ints) }
 
 -- ---- halving
 
 pub shared_clocks_halve : SharedClocksHalve
-shared_clocks_halve n hull shared x y t u room near far one other = omega (arith, ints, near, far, one, other, room)
+shared_clocks_halve n hull shared x y t u room near far one other = omega (arith, ints)
 
 pub starts_stay_together : StartsStayTogether
-starts_stay_together n t u room one other = omega (arith, ints, one, other, room)
+starts_stay_together n t u room one other = omega (arith, ints)

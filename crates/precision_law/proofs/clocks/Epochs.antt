@@ -34,9 +34,9 @@ adjustment_set s device cycle old other body e = absurd cc
 
 pub adjustment_is_last : AdjustmentIsLast
 adjustment_is_last s hs device =
-    fold_last (λ (a : Units) (h : Happening). adjustment_with s device (cycle_in h) a h.note.body)
-    (λ (h : Happening). adjustment_with s device (cycle_in h) (adjustment_at_start (start_of s.network device)) h.note.body)
-    (λ (h : Happening). changes_adjustment device h.note.body) None (adjustment_at_start (start_of s.network device)) hs
+    fold_last (λ a h. adjustment_with s device (cycle_in h) a h.note.body)
+    (λ h. adjustment_with s device (cycle_in h) (adjustment_at_start (start_of s.network device)) h.note.body)
+    (λ h. changes_adjustment device h.note.body) None (adjustment_at_start (start_of s.network device)) hs
     (λ a h e. adjustment_set s device (cycle_in h) a (adjustment_at_start (start_of s.network device)) h.note.body e)
     (λ a h e. adjustment_kept s device (cycle_in h) a h.note.body e)
 
@@ -55,7 +55,8 @@ number_set device old h body e = absurd cc
 
 pub next_cycle_is_of_last : NextCycleIsOfLast
 next_cycle_is_of_last hs device =
-    fold_last (λ (n : ℕ) (h : Happening). cycle_after device n h h.note.body) number_by (λ (h : Happening). changes_adjustment device h.note.body) None 1 hs
+    fold_last (λ n h. cycle_after device n h h.note.body) number_by (λ h. changes_adjustment device h.note.body) None 1
+    hs
     (λ n h e. number_set device n h h.note.body e) (λ n h e. cycle_stays device n h h.note.body e)
     ∙ elim (last_setting hs device) as (λ o. option_map_or number_by o 1 ≡ next_of o) [ None ↦ refl | Some h ↦ refl ]
 
@@ -71,7 +72,7 @@ no_setting : (u : ℕ) (device : DeviceId) (xs ys : List Happening) → ((h : Ha
 no_setting u device xs [] late early = refl
 no_setting u device xs (y ∷ ys) late early =
     let last = last_some (last_or None xs) y ys in
-    absurd (omega (arith, ints, ap time_of_last (last_more None xs (y ∷ ys) ∙ last.1), late last.0 last.2, early))
+    absurd (omega (arith, ints, ap time_of_last (last_more None xs (y ∷ ys) ∙ last.1), late last.0 last.2))
 
 -- the records between the last setting and t set nothing
 pub none_between : {v : View} (device : DeviceId) (u t : ℕ) → IsView v → u ≤ t
@@ -83,7 +84,7 @@ none_between {v} device u t is le early =
     (earlier u v.records) (between u t v.records) in
     no_setting u device (filter sets (earlier u v.records)) (filter sets (between u t v.records))
     (λ h i. (in_between u t v.records h (in_filter sets (between u t v.records) h i)).1)
-    (subst (λ (hs : List Happening). time_of_last (last_or None hs) <ℤ pos u) moved early)
+    (rw moved at early)
 
 pub settings_stay : SettingsStay
 settings_stay v device u t is le early =
@@ -91,7 +92,7 @@ settings_stay v device u t is le early =
     let none = none_between device u t is le early in
     let same = ap (filter sets) (earlier_parts u t v.records (in_order is) le) ∙ filter-append sets
     (earlier u v.records) (between u t v.records) ∙ ap
-    (λ (hs : List Happening). filter sets (earlier u v.records) ++ hs) none ∙ append-nil (filter sets (earlier u v.records)) in
+    (λ hs. filter sets (earlier u v.records) ++ hs) none ∙ append-nil (filter sets (earlier u v.records)) in
     ap (last_or None) (sym same)
 
 -- a record between sets no clock that was set before
@@ -100,7 +101,8 @@ pub sets_none : {v : View} (device : DeviceId) (from t : ℕ) → IsView v → f
     → time_of h < t → changes_adjustment device h.note.body ≡ false
 sets_none {v} device from t is le old h i late early =
     false_from_ne_true (changes_adjustment device h.note.body) (λ sets.
-    let kept = in_kept (λ (x : Happening). changes_adjustment device x.note.body) (between from t v.records) h (is_between from t v.records h i late early) sets
+    let kept = in_kept (λ x. changes_adjustment device x.note.body) (between from t v.records) h
+    (is_between from t v.records h i late early) sets
     in
     absurd (subst (IsIn h) (none_between device from t is le old) kept))
 
@@ -109,7 +111,7 @@ pub adjustment_stays : {v : View} (device : DeviceId) (u t : ℕ) → IsView v �
     → epoch_time (earlier t v.records) device <ℤ pos u → adjustment_before v.scenario v.records device u
     ≡ adjustment_before v.scenario v.records device t
 adjustment_stays {v} device u t is le early =
-    adjustment_is_last v.scenario (earlier u v.records) device ∙ ap (λ (o : Option Happening). option_map_or
+    adjustment_is_last v.scenario (earlier u v.records) device ∙ ap (λ o. option_map_or
     (λ h. adjustment_with v.scenario device (cycle_in h) (adjustment_at_start (start_of v.scenario.network device)) h.note.body) o
     (adjustment_at_start (start_of v.scenario.network device))) (settings_stay v device u t is le early)
     ∙ sym (adjustment_is_last v.scenario (earlier t v.records) device)
@@ -150,8 +152,7 @@ module _ (p : State → Bool) (out : p Integrating ≡ false) (s : Scenario) (ps
       → IsCaused s ps time body → Keeps p device body
   keeps time device (notes.State other state cause why) e none c old timed =
       kept_if p (device.0 == other.0) state old (λ same is.
-      let here = subst (λ d. ChangesState s ps d (amount time) state cause why)
-      (one_device device other same) c in
+      let here = rw (one_device device other same) at c in
       no_change (amount time) device state cause why none here is) timed
   keeps time device (notes.Permanent other link cause point Integrates) e none c old timed =
       (let at = rw e at timed in at)
@@ -165,17 +166,17 @@ pub state_stays : (p : State → Bool) → p Integrating ≡ false → {v : View
     → p (state_left v device u) ≡ true
 state_stays p out {v} device u t is le early timed =
     let unset = sets_none device u t is le early in
-    let whole = subst (λ hs. p (state_after v.scenario hs device) ≡ true)
-    (earlier_parts u t v.records (in_order is) le) timed in
-    let apart = fold-append (λ (state : State) (h : Happening). state_with device state h.note.body) (state_at_start (start_of v.scenario.network device))
+    let whole = rw (earlier_parts u t v.records (in_order is) le) at timed in
+    let apart = fold-append (λ state h. state_with device state h.note.body)
+    (state_at_start (start_of v.scenario.network device))
     (earlier u v.records) (between u t v.records) in
     kept_by_all p device (between u t v.records) (λ h i.
     let there = in_between u t v.records h i in
     let at = founded_at v.scenario v.records h is.run.founded there.0 in
     keeps p out v.scenario at.front h.note.time device h.note.body (unset h there.0 there.1 there.2) (λ g j same.
     let in_all : IsIn g v.records = subst (IsIn g) (sym at.whole) (in_left g at.front (h ∷ at.rest) j) in
-    unset g in_all (omega (arith, same, there.1)) (omega (arith, same, there.2))) at.due.cause)
-    (state_after v.scenario (earlier u v.records) device) (subst (λ (x : State). p x ≡ true) apart whole)
+    unset g in_all (omega (arith, there.1)) (omega (arith, there.2))) at.due.cause)
+    (state_after v.scenario (earlier u v.records) device) (rw apart at whole)
 
 pub time_stays : TimeStays
 time_stays v device u t is le early timed = state_stays has_time refl device u t is le early timed
@@ -191,20 +192,24 @@ pub clocks_have_reached : ClocksHaveReached
 clocks_have_reached v device value x t is le lt below above =
     let reading = v.scenario.reading device in
     let r = reach_is_there v.sizes reading (changed_at v.records device t) x (value -ℤ adjustment_left v device t) t (steady v is device) le lt
-    (omega (arith, ints, below)) (omega (arith, ints, above)) in
+    (omega (arith, ints)) (omega (arith, ints)) in
     let u = r.0 in
     let early : epoch_time (earlier t v.records) device <ℤ pos u =
     elim (last_setting (earlier t v.records) device) as (λ o. option_map_or time_of o 0 ≤ x → time_of_last o <ℤ pos u) [
       | None ↦ λ set. omega (arith, ints)
-      | Some h ↦ λ set. omega (arith, ints, set, r.1)
+      | Some h ↦ λ set. omega (arith, ints, r.1)
     ] le in
     let same_last = settings_stay v device u t is r.2 early in
-    let same_time : changed_at v.records device u ≡ changed_at v.records device t = ap (λ (o : Option Happening). option_map_or time_of o 0) same_last in
+    let same_time : changed_at v.records device u ≡ changed_at v.records device t = rw same_last in
     let same_adjustment : adjustment_left v device u ≡ adjustment_left v device t =
-    ap (λ (a : Units). a.0) (adjustment_stays device u t is r.2 early) in
+    ap (λ a. a.0) (adjustment_stays device u t is r.2 early) in
     let low = (steady v is device).never_falls (changed_at v.records device t) x le in (
       u,
       r.1,
       r.2,
-      record { below = rw (same_time, same_adjustment) (omega (arith, ints, low, below)); reach = rw (same_time, same_adjustment) r.3 },
+      record {
+        below = rw (same_time, same_adjustment) (omega (arith, ints));
+        reach =
+            rw (same_time, same_adjustment) r.3;
+      },
     )

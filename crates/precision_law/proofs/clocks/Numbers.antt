@@ -3,10 +3,10 @@ use Rattle.precision_law.proofs.words.Clocks.{adjustment_stays, fold_last, in_ea
 use Rattle.precision_law.proofs.words.{Clocks.{passes, sets_none, setting_is, settings_stay, steady, time_stays}, Runs.{next_cycle, recorded_cycle, time_of}}
 use Rattle.precision_law.proofs.words.Laws.{HasTimeAt, IsGood, IsOldAt, IsView, Stands, View, cycle_set, epoch_time, is_corrected, is_correction, last_setting}
 use Rattle.{precision_law.proofs.words.Laws.next_of, tte_units.proofs.general_lemmas.Integers.{int_lt-from, int_lt-is}}
-use Rattle.precision_law.proofs.words.{Plans.{DeviceId, Units, int_le-true}, Std.{last_or, negsuc, option_map_or, pos, refl, subst, suc, sym, true, zero, ℕ}}
+use Rattle.precision_law.proofs.words.{Plans.{DeviceId, int_le-true}, Std.{last_or, option_map_or, pos, refl, subst, suc, sym, true, zero, ℕ}}
 use Rattle.precision_law.proofs.words.Runs.{Happening, IsIn, NoteBody, adjustment_before, changed_at, changes_adjustment, correction_value, cycle_in, earlier}
 use Rattle.precision_law.proofs.words.Runs.{had_come, has_cleared, in_filter, integration_cycle, is_integration_cycle, is_joined_by, local_at_change}
-use Rattle.precision_law.proofs.words.Std.{◌+ℤ◌, ◌+◌, ◌-◌, ◌<ℤ◌, ◌<◌, ◌==◌, ◌∙◌, ◌∷◌, ◌≡◌, ◌≤◌, ◌⊎◌, Bool, List, None, Option, Some, [], and_from, and_parts}
+use Rattle.precision_law.proofs.words.Std.{◌+ℤ◌, ◌+◌, ◌-◌, ◌<ℤ◌, ◌==◌, ◌∙◌, ◌∷◌, ◌≡◌, ◌≤◌, ◌⊎◌, Bool, List, None, Option, Some, [], and_from, and_parts}
 use Rattle.precision_law.proofs.words.Std.{ap, arith, both_ways, cases_Bool, eq-eqb, eqb-true, false, filter, if◌then◌else◌, inl, inr, int_le, int_lt, ints}
 use Rattle.run_law.specs.declared.note.NoteBody.TheVariants as notes
 
@@ -19,7 +19,7 @@ last_of_both p q o r [] h up at both e = both e
 last_of_both {X} p q o r (x ∷ xs) h up at both e =
     elim (p x) as (λ b. p x ≡ b → last_or r (if b then x ∷ filter p xs else filter p xs) ≡ Some h) [
       | true ↦ λ here. last_of_both p q (Some x) (Some x) xs h up at (λ s. s)
-          (subst (λ (b : Bool). last_or o (if b then x ∷ filter q xs else filter q xs) ≡ Some h) (up x here) e)
+          (rw (up x here) at e)
       | false ↦ λ not_here. elim (q x) as (λ b. last_or o (if b then x ∷ filter q xs else filter q xs) ≡ Some h → last_or r (filter p xs) ≡ Some h) [
         | true ↦ last_of_both p q (Some x) r xs h up at (λ s.
             let same : h ≡ x = cc in
@@ -32,8 +32,8 @@ last_of_both {X} p q o r (x ∷ xs) h up at both e =
 joining_is_last : (hs : List Happening) (device : DeviceId) → integration_cycle hs device ≡ option_map_or (λ h. Some (cycle_in h))
     (last_or None (filter (λ h. is_joined_by device h.note.body) hs)) None
 joining_is_last hs device =
-    fold_last (λ (last : Option ℕ) (h : Happening). if is_joined_by device h.note.body then Some (cycle_in h) else last) (λ (h : Happening). Some (cycle_in h))
-    (λ (h : Happening). is_joined_by device h.note.body) None None hs (λ last h e. rw e refl) (λ last h e. rw e refl)
+    fold_last (λ last h. if is_joined_by device h.note.body then Some (cycle_in h) else last) (λ h. Some (cycle_in h))
+    (λ h. is_joined_by device h.note.body) None None hs (λ last h e. rw e refl) (λ last h e. rw e refl)
 
 -- a joining of the device, of this cycle
 pub record IsJoining (hs : List Happening) (device : DeviceId) (cycle : ℕ) : Type 0 where
@@ -49,8 +49,6 @@ module _ (hs : List Happening) (device : DeviceId) (cycle : ℕ) where
   joining_by (x ∷ xs) same e =
       let joins = λ (h : Happening). is_joined_by device h.note.body in
       let last = last_some None x xs in
-      let shown : Some (cycle_in last.0) ≡ Some cycle =
-      ap (λ (o : Option Happening). option_map_or (λ h. Some (cycle_in h)) o None) (sym last.1) ∙ e in
       let i : IsIn last.0 (filter joins hs) = subst (IsIn last.0) same last.2 in
       record { h = last.0; there = in_filter joins hs last.0 i; joins = passes joins hs last.0 i; of_cycle = cc }
 
@@ -63,7 +61,7 @@ module _ (hs : List Happening) (device : DeviceId) (cycle : ℕ) where
 -- what is tested to be the integration cycle
 integration_by : (recorded : ℕ) (o : Option ℕ) → option_map_or (λ cycle. recorded == cycle) o false ≡ true → o ≡ Some recorded
 integration_by recorded None e = absurd cc
-integration_by recorded (Some c) e = ap (λ (x : ℕ). Some x) (sym (eqb-true recorded c e))
+integration_by recorded (Some c) e = rw (sym (eqb-true recorded c e))
 
 pub joining_of_setting : (device : DeviceId) (body : NoteBody) → changes_adjustment device body ≡ true → is_correction body ≡ false
     → is_joined_by device body ≡ true
@@ -108,7 +106,7 @@ cleared_from {v} device u q t is le_q le old at cleared =
     let last = settings_stay v device u t is le old in
     let a = adjustment_stays device u t is le old in
     let recorded = next_cycle_is_of_last (earlier u v.records) device ∙ ap next_of last ∙ sym (next_cycle_is_of_last (earlier t v.records) device) in
-    let time : changed_at v.records device u ≡ changed_at v.records device t = ap (λ (o : Option Happening). option_map_or time_of o 0) last in
+    let time : changed_at v.records device u ≡ changed_at v.records device t = rw last in
     let value_u = correction_value s.network (recorded_cycle (earlier u v.records) device) in
     let value_t = correction_value s.network (recorded_cycle (earlier t v.records) device) in
     let value : value_u ≡ value_t = ap (correction_value s.network) recorded in
@@ -117,12 +115,12 @@ cleared_from {v} device u q t is le_q le old at cleared =
     (int_le value_u (pos (reading (u - 1)) +ℤ (adjustment_before s v.records device u).0)) come in
     let below = int_lt-is (local_at_change s v.records device u) value_u both.0 in
     let above = int_le-is value_u (pos (reading (u - 1)) +ℤ (adjustment_before s v.records device u).0) both.1 in
-    let same_a : (adjustment_before s v.records device u).0 ≡ (adjustment_before s v.records device t).0 = ap (λ (x : Units). x.0) a in
-    let up = (steady v is device).never_falls (u - 1) (q - 1) (omega (arith, le_q)) in
+    let same_a : (adjustment_before s v.records device u).0 ≡ (adjustment_before s v.records device t).0 = rw a in
+    let up = (steady v is device).never_falls (u - 1) (q - 1) (omega arith) in
     and_from (is_integration_cycle (earlier t v.records) device) (had_come s v.records device value_t t q) at
     (and_from (int_lt (local_at_change s v.records device t) value_t) (int_le value_t (pos (reading (q - 1)) +ℤ (adjustment_before s v.records device t).0))
-    (int_lt-from (local_at_change s v.records device t) value_t (omega (arith, ints, below, same_a, ap reading time, value)))
-    (int_le-true value_t (pos (reading (q - 1)) +ℤ (adjustment_before s v.records device t).0) (omega (arith, ints, above, same_a, value, up))))
+    (int_lt-from (local_at_change s v.records device t) value_t (omega (arith, ints, ap reading time)))
+    (int_le-true value_t (pos (reading (q - 1)) +ℤ (adjustment_before s v.records device t).0) (omega (arith, ints))))
 
 -- the device joined, and had cleared when the block began
 pub had_cleared : {v : View} (n t : ℕ) {device : DeviceId} (before : Stands v n) → IsView v → before.next ≤ t
@@ -130,12 +128,12 @@ pub had_cleared : {v : View} (n t : ℕ) {device : DeviceId} (before : Stands v 
     → last_setting (earlier t v.records) device ≡ Some h → is_correction h.note.body ≡ false
     → has_cleared v.scenario v.records device before.next before.next ≡ true
 had_cleared {v} zero t {device} before is from has old h e joined =
-    let time : epoch_time (earlier t v.records) device ≡ pos (time_of h) = ap (λ (o : Option Happening). option_map_or (λ g. pos (time_of g)) o (negsuc 0)) e in
-    absurd (omega (arith, ints, before.is_over, time, old))
+    let time : epoch_time (earlier t v.records) device ≡ pos (time_of h) = rw e in
+    absurd (omega (arith, ints, before.is_over))
 had_cleared {v} (suc c) t {device} before is from has old h e joined =
     let one = before.narrow c (omega arith) in
     let last = settings_stay v device before.next t is from old in
-    let not_corrected = ap (λ (o : Option Happening). option_map_or (λ g. is_correction g.note.body) o false) (last ∙ e) ∙ joined in
+    let not_corrected = ap (λ o. option_map_or (λ g. is_correction g.note.body) o false) (last ∙ e) ∙ joined in
     elim (before.points one.0 c refl one.1 device has).how [
       | inl corrected ↦ absurd (both_ways (is_corrected (earlier before.next v.records) device) not_corrected corrected.0)
       | inr cleared ↦ cleared.1
@@ -149,19 +147,23 @@ module _ {v : View} {n : ℕ} (t : ℕ) (device : DeviceId) (before : Stands v n
       → (recorded_cycle (earlier t v.records) device ≡ suc n)
       ⊎ ((recorded_cycle (earlier t v.records) device ≡ n) × (has_cleared v.scenario v.records device t t ≡ true))
   set_or_cleared has old None e index =
-      inl (omega (arith, index, next_cycle_is_of_last (earlier t v.records) device ∙ ap next_of e))
+      inl (omega (arith, next_cycle_is_of_last (earlier t v.records) device ∙ ap next_of e))
   set_or_cleared has old (Some h) e index =
       let recorded = next_cycle_is_of_last (earlier t v.records) device ∙ ap next_of e in
       let number = λ (b : Bool). if b then cycle_set h h.note.body + 1 else cycle_set h h.note.body in
       elim (is_correction h.note.body) as (λ b. is_correction h.note.body ≡ b
       → (recorded_cycle (earlier t v.records) device ≡ suc n)
       ⊎ ((recorded_cycle (earlier t v.records) device ≡ n) × (has_cleared v.scenario v.records device t t ≡ true))) [
-        | true ↦ λ corrected. inl (omega (arith, index, recorded, ap number corrected))
+        | true ↦ λ corrected. inl (omega (arith, ap number corrected))
         | false ↦ λ joined.
             let integrates =
             joiner_integrates (earlier t v.records) device h e (setting_is v device t h e).sets joined in
             let first = had_cleared n t before is from has old h e joined in
-            inr (omega (arith, index, recorded, ap number joined), cleared_from device before.next t t is from from old integrates.0 first)
+            inr (
+              omega (arith, ap number joined),
+              cleared_from device before.next t t is from from old integrates.0
+                  first,
+            )
       ] refl
 
   -- where a device has cleared, it joined in an earlier cycle
@@ -172,7 +174,7 @@ module _ {v : View} {n : ℕ} (t : ℕ) (device : DeviceId) (before : Stands v n
       let j = joining_from hs device (recorded_cycle hs device)
       (integration_by (recorded_cycle hs device) (integration_cycle hs device) at) in
       let back = in_earlier t v.records j.h j.there in
-      let early : time_of j.h < before.next = lt_by (λ ge. both_ways (changes_adjustment device j.h.note.body)
+      let early = lt_by (λ ge. both_ways (changes_adjustment device j.h.note.body)
       (sets_none device before.next t is from old j.h back.0 ge back.1)
       (joined_changes device j.h.note.body j.joins)) in
       omega (arith, before.joined j.h device back.0 j.joins good early, j.of_cycle)
@@ -185,7 +187,7 @@ module _ {v : View} {n : ℕ} (t : ℕ) (device : DeviceId) (before : Stands v n
       record { good = has.good; timed = time_stays v device before.next t is from old has.timed } in
       let recorded = recorded_cycle (earlier t v.records) device in
       let number = λ (b : Bool). if b then recorded + 1 else recorded in
-      let index = ap (λ (x : Option Happening). option_map_or (λ h. cycle_set h h.note.body) x 0)
+      let index = ap (λ x. option_map_or (λ h. cycle_set h h.note.body) x 0)
       (sym (settings_stay v device before.next t is from old))
       ∙ (before.clocks device then_has).index in
       let which = set_or_cleared then_has old _ refl index in
@@ -193,7 +195,11 @@ module _ {v : View} {n : ℕ} (t : ℕ) (device : DeviceId) (before : Stands v n
         | inl cleared ↦
             let at = (and_parts (is_integration_cycle (earlier t v.records) device) _ cleared).0 in
             let small = earlier_join has.good old at in
-            ap number cleared ∙ elim which [ inl more ↦ absurd (omega (arith, more, small)) | inr so ↦ (let one = so.0 in omega (arith, one)) ]
+            ap number cleared ∙ elim which [
+              | inl more ↦ absurd (omega arith)
+              | inr so ↦
+                  (let one = so.0 in omega arith)
+            ]
         | inr not_cleared ↦ ap number not_cleared ∙ elim which [
           | inl more ↦ more
           | inr so ↦ absurd (both_ways (has_cleared v.scenario v.records device t t) not_cleared so.1)

@@ -12,11 +12,11 @@ clocks_are_steady s path device lawful =
     let reading = s.reading device in
     let both : (a b : ℕ) → a ≤ b → b ≤ a + 2 * amount n.cycle → (reading b ≤ reading a + (b - a) + (2 * n.rho * amount n.cycle / 10 ^ 9 + 2 * amount n.grain))
     × (reading a + (b - a) ≤ reading b + (2 * n.rho * amount n.cycle / 10 ^ 9 + 2 * amount n.grain)) = λ a b le within.
-    let drift : n.rho * (b - a) ≤ n.rho * (2 * amount n.cycle) = mul-le-mul_left n.rho (omega (arith, within)) in
+    let drift : n.rho * (b - a) ≤ n.rho * (2 * amount n.cycle) = mul-le-mul_left n.rho (omega arith) in
     let floor : 2 * n.rho * amount n.cycle < 10 ^ 9 * (2 * n.rho * amount n.cycle / 10 ^ 9 + 1) = omega arith in
     let facts = laws.drifts a b le in
     let up = laws.never_falls a b le in
-    (omega (arith, drift, floor, facts, up), omega (arith, drift, floor, facts, up)) in
+    (omega arith, omega arith) in
     record {
       begins = lawful.begins device;
       never_falls = laws.never_falls;
@@ -25,14 +25,19 @@ clocks_are_steady s path device lawful =
       steps = λ t.
           let unit : (t + 1) - t ≡ 1 = omega arith in
           let here = rw unit at (laws.drifts t (t + 1) (omega arith)) in
-          omega (arith, laws.never_falls t (t + 1) (omega arith), here, lawful.range.rho);
+          omega (arith, laws.never_falls t (t + 1) (omega arith), lawful.range.rho);
     }
 
 -- ---- long stretches
 
 pub short_by_reading : ShortByReading
 short_by_reading n reading s t steady le less =
-    lt_by (λ ge. omega (arith, steady.never_falls (s + 2 * n.cycle) t ge, steady.slow s (s + 2 * n.cycle) (omega arith) (omega arith), less))
+    lt_by (λ ge. omega (
+      arith,
+      steady.never_falls (s + 2 * n.cycle) t ge,
+      steady.slow s (s + 2 * n.cycle) (omega arith)
+          (omega arith),
+    ))
 
 -- ---- reaching a value
 
@@ -44,12 +49,18 @@ step_back (suc t) steady after = grind arith
 
 pub reach_is_sharp : ReachIsSharp
 reach_is_sharp n reading from v t steady below reach =
-    let after : from < t = lt_by (λ ge.
+    let after = lt_by (λ ge.
     let same : t ≡ from = omega (arith, ints, reach.from_on, ge) in
     let there = rw same at reach.reached in
-    omega (arith, ints, there, below)) in
+    omega (arith, ints)) in
     let before = reach.not_before (t - 1) (omega (arith, ints, after)) (omega (arith, ints, after)) in
-    record { after = after; before = before; least = reach.reached; most = omega (arith, ints, before, step_back t steady (omega (arith, after))) }
+    record {
+      after = after;
+      before = before;
+      least = reach.reached;
+      most =
+          omega (arith, ints, step_back t steady (omega (arith, after)));
+    }
 
 -- among the units behind x there is a first at which the value is read
 first_of_all : {n : Sizes} {reading : ℕ → ℕ} (from x : ℕ) (v : ℤ) (more : ℕ) → IsSteady n reading → from ≤ x
@@ -57,7 +68,7 @@ first_of_all : {n : Sizes} {reading : ℕ → ℕ} (from x : ℕ) (v : ℤ) (mor
     → (u : ℕ) × (x < u) × (u ≤ x + more) × IsReach reading (pos from) v (pos u)
 first_of_all from x v zero steady le below above = grind (arith, ints)
 first_of_all {reading} from x v (suc more) steady le below above =
-    by_lt_z {P = (u : ℕ) × (x < u) × (u ≤ x + suc more) × IsReach reading (pos from) v (pos u)} (pos (reading (x + more))) v (λ less. (
+    by_lt_z (pos (reading (x + more))) v (λ less. (
       x + suc more,
       omega arith,
       omega arith,
@@ -65,7 +76,7 @@ first_of_all {reading} from x v (suc more) steady le below above =
         from_on = omega (arith, ints);
         reached = above;
         not_before = λ y from_y y_before.
-            omega (arith, ints, steady.never_falls y (x + more) (omega (arith, ints, y_before)), less);
+            omega (arith, ints, steady.never_falls y (x + more) (omega (arith, ints, y_before)));
       },
     )) (λ enough. let r = first_of_all from x v more steady le below enough in (r.0, r.1, omega arith, r.3))
 
@@ -82,19 +93,19 @@ pub permanence_is_sharp : PermanenceIsSharp
 permanence_is_sharp n reading arrived point q steady up reach =
     elim (cases_lt arrived q) [
       | inl lt ↦
-          let before = reach.not_before (q - 1) (omega (arith, ints, lt)) (omega (arith, ints, lt)) in
-          let back = step_back q steady (omega (arith, lt)) in
-          record { after = omega arith; least = reach.reached; most = omega (arith, ints, before, back); before = inl before }
+          let before = reach.not_before (q - 1) (omega (arith, ints)) (omega (arith, ints)) in
+          let back = step_back q steady (omega arith) in
+          record { after = omega arith; least = reach.reached; most = omega (arith, ints); before = inl before }
       | inr ge ↦
-          let same : q ≡ arrived = omega (arith, ints, reach.from_on, ge) in
+          let same : q ≡ arrived = omega (arith, ints, reach.from_on) in
           let here : pos (reading q) ≤ℤ point = rw same up in
-          let there : point ≤ℤ pos (reading q) = reach.reached in
-          record { after = omega (arith, same); least = there; most = omega (arith, ints, here); before = inr (omega (arith, ints, here, there)) }
+          let there = reach.reached in
+          record { after = omega arith; least = there; most = omega (arith, ints); before = inr (omega (arith, ints)) }
     ]
 
 pub ripe_in_order : RipeInOrder
 ripe_in_order n reading a b p r q u steady one other lt =
     elim other.before [
-      | inl before ↦ omega (arith, ints, steady.never_falls q (u - 1) (omega arith), before, one.least)
-      | inr at ↦ omega (arith, ints, steady.never_falls q u (omega arith), at, one.least)
+      | inl before ↦ omega (arith, ints, steady.never_falls q (u - 1) (omega arith), one.least)
+      | inr at ↦ omega (arith, ints, steady.never_falls q u (omega arith), one.least)
     ]

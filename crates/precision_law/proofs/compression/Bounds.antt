@@ -5,7 +5,7 @@ use Rattle.{precision_law.proofs.compression.Made.three_have_good, std.proofs.le
 use Rattle.precision_law.proofs.words.Clocks.{Apart, all_but_one, ascending_from, few_members, one_member, room, short_by_reading, steady}
 use Rattle.precision_law.proofs.words.Laws.{AreGood, BasesAreInHulls, BasesAreNearHulls, Hull, IsBaseIn, IsEmission, IsSteady, IsTidyBefore, IsView, Sizes}
 use Rattle.precision_law.proofs.words.Plans.{DeviceId, LiesWithin, Members, Ordered, Point, count_of, last_from, mean_of-floor, members_of, middle_among_others}
-use Rattle.precision_law.proofs.words.{Plans.{middle_from_first_to_last, middle_point}, Std.{length, map, negsuc, pos, refl, subst, sym, ℕ, ℤ}}
+use Rattle.precision_law.proofs.words.{Plans.{middle_from_first_to_last, middle_point}, Std.{length, map, negsuc, pos, refl, sym, ℕ, ℤ}}
 use Rattle.precision_law.proofs.words.Std.{◌*◌, ◌+ℤ◌, ◌+◌, ◌-ℤ◌, ◌-◌, ◌<◌, ◌∙◌, ◌∷◌, ◌≡◌, ◌≤ℤ◌, ◌≤◌, ◌⊎◌, List, Some, [], ap, arith, cases_lt, inl, inr, ints}
 
 -- ---- numbers
@@ -15,10 +15,10 @@ later_by : {n : Sizes} {reading : ℕ → ℕ} (a s gap : ℕ) → IsSteady n re
     → reading a + gap ≤ reading s → 1 ≤ gap → a + gap ≤ s + n.drift
 later_by {n} a s gap steady short le some =
     elim (cases_lt a s) [
-      | inr ge ↦ (let up = steady.never_falls s a ge in absurd (omega (arith, up, le, some)))
+      | inr ge ↦ (let up = steady.never_falls s a ge in absurd (omega arith))
       | inl lt ↦ elim (cases_lt (a + 2 * n.cycle) s) [
-        | inl long ↦ omega (arith, long, short)
-        | inr within ↦ (let fast = steady.fast a s (omega (arith, lt)) within in omega (arith, fast, le))
+        | inl long ↦ omega arith
+        | inr within ↦ (let fast = steady.fast a s (omega arith) within in omega arith)
       ]
     ]
 
@@ -27,8 +27,12 @@ sooner_by : {n : Sizes} {reading : ℕ → ℕ} (b s gap : ℕ) → IsSteady n r
     → reading s ≤ reading b + gap → s ≤ b + gap + n.drift
 sooner_by {n} {reading} b s gap steady short le =
     elim (cases_lt b s) [
-      | inr ge ↦ omega (arith, ge)
-      | inl lt ↦ omega (arith, steady.slow b s (omega arith) (omega (arith, short_by_reading n reading b s steady (omega arith) (omega arith))), le)
+      | inr ge ↦ omega arith
+      | inl lt ↦ omega (
+        arith,
+        steady.slow b s (omega arith)
+            (omega (arith, short_by_reading n reading b s steady (omega arith) (omega arith))),
+      )
     ]
 
 -- ---- middles
@@ -48,7 +52,7 @@ record HasLeast (z : ℤ) : Type 0 where
   pub least : (q : ℕ) → z ≤ℤ pos q → n ≤ q
 
 has_least : (z : ℤ) → HasLeast z
-has_least (pos n) = record { n = n; above = omega (arith, ints); least = λ q le. omega (arith, ints, le) }
+has_least (pos n) = record { n = n; above = omega (arith, ints); least = λ q le. omega (arith, ints) }
 has_least (negsuc n) = record { n = 0; above = omega (arith, ints); least = λ q le. omega arith }
 
 -- the reading lies between those of the compression master at the two times
@@ -74,7 +78,8 @@ bounds_of {v} {cm} cycle {q} is tidy of_cycle good =
     let begun : pos 0 ≤ℤ hull.greatest = omega (arith, ints, inside.most) in
     let a = has_least ((hull.least +ℤ pos n.dmax) -ℤ pos n.path) in
     let b = has_least (hull.greatest +ℤ pos (n.dmax + n.path)) in
-    let b_is : (hull.greatest +ℤ pos (n.dmax + n.path)) ≡ pos b.n = top (hull.greatest +ℤ pos (n.dmax + n.path)) b (omega (arith, ints, begun)) in
+    let b_is : (hull.greatest +ℤ pos (n.dmax + n.path)) ≡ pos b.n =
+    top (hull.greatest +ℤ pos (n.dmax + n.path)) b (omega (arith, ints)) in
     let hull_is : hull_of v cycle ≡ Some hull = ap (hull_of v) (sym of_cycle) ∙ inside.is in
     record {
       hull = hull;
@@ -82,19 +87,19 @@ bounds_of {v} {cm} cycle {q} is tidy of_cycle good =
       a = a.n;
       b = b.n;
       from = omega (arith, ints, a.above);
-      to = omega (arith, ints, b_is);
+      to = omega (arith, ints);
       each = λ x x_cycle x_good.
           let at = tidy x_good.first x_good.master x.cycle x_good.dispatch x_good.before in
           let same : at.hull ≡ hull = same_some (hull_of v cycle) at.hull hull (ap (hull_of v) (sym x_cycle) ∙ at.is) hull_is in
-          let low : hull.least ≤ℤ pos (time_of x_good.first) = subst (λ (k : Hull). k.least ≤ℤ pos (time_of x_good.first)) same at.least in
-          let high : pos (time_of x_good.first) ≤ℤ hull.greatest = subst (λ (k : Hull). pos (time_of x_good.first) ≤ℤ k.greatest) same at.most in
-          let down = (steady v is cm).never_falls x_good.ripe b.n (omega (arith, ints, high, x_good.in_time.not_late, b_is)) in
+          let low : hull.least ≤ℤ pos (time_of x_good.first) = rw same at at.least in
+          let high : pos (time_of x_good.first) ≤ℤ hull.greatest = rw (sym same) at.most in
+          let down = (steady v is cm).never_falls x_good.ripe b.n (omega (arith, ints, x_good.in_time.not_late)) in
           (omega (arith, ints, (steady v is cm).never_falls a.n x_good.ripe (a.least x_good.ripe (omega (arith, ints))), x_good.most), omega (arith, ints));
     }
   where
     top : (z : ℤ) (l : HasLeast z) → pos 0 ≤ℤ z → z ≡ pos l.n
-    top (pos n) l le = (let up = l.above in let down = l.least n (omega (arith, ints)) in omega (arith, ints, up, down))
-    top (negsuc n) l le = absurd (omega (arith, ints, le))
+    top (pos n) l le = (let up = l.above in let down = l.least n (omega (arith, ints)) in omega (arith, ints))
+    top (negsuc n) l le = absurd (omega (arith, ints))
 
 -- the middle of any number of points within bounds lies within them
 good_lie : (low high : ℤ) (first : Point) (more : List Point) → Ordered (first ∷ more) → ((q : Point) → IsIn q (first ∷ more) → LiesWithin low high q.reading)
@@ -112,17 +117,16 @@ near_lie : {v : View} (low high : ℤ) (first : Point) (more : List Point) (q : 
     → LiesWithin low high q.reading → LiesWithin (low -ℤ pos v.sizes.precision) (high +ℤ pos v.sizes.precision)
     (middle_point (map (λ q. q.reading) (first ∷ more)))
 near_lie low high first [] q is up differ close each (inl same) at =
-    let here : LiesWithin low high first.reading = subst (λ (x : Point). LiesWithin low high x.reading) same at in
+    let here : LiesWithin low high first.reading = rw (sym same) at in
     let m = middle_from_first_to_last first.reading [] tt in
     (omega (arith, ints, m.0, here.0), omega (arith, ints, m.1, here.1))
 near_lie low high first [] q is up differ close each (inr i) at = absurd i
 near_lie low high first (next ∷ []) q is up differ close each i at =
     let m = mean_of-floor (first.reading -ℤ first.reading) (next.reading -ℤ first.reading) in
-    let order : first.reading ≤ℤ next.reading = up.0.0 in
     let near = close next (inr (inl refl)) in
     let which : LiesWithin low high first.reading ⊎ LiesWithin low high next.reading = elim i [
-      | inl same ↦ inl (subst (λ (x : Point). LiesWithin low high x.reading) same at)
-      | inr (inl same) ↦ inr (subst (λ (x : Point). LiesWithin low high x.reading) same at)
+      | inl same ↦ inl (rw (sym same) at)
+      | inr (inl same) ↦ inr (rw (sym same) at)
       | inr (inr none) ↦ absurd none
     ] in
     elim which [ inl one ↦ (omega (arith, ints), omega (arith, ints)) | inr other ↦ (omega (arith, ints), omega (arith, ints)) ]
@@ -154,19 +158,19 @@ module _ (v : View) (h : Happening) (cm : DeviceId) (cycle : ℕ) (members : Mem
       let m = made v h cm cycle members is e in
       let sharp = emissions_are_sharp v h cm cycle members e is in
       let space = room is in
-      let fit : 2 * v.sizes.grain + slack + 1 ≤ v.sizes.compression = omega (arith, space, small) in
-      let short : v.sizes.compression + slack + 2 * v.sizes.grain + v.sizes.drift < 2 * v.sizes.cycle = omega (arith, space, small) in
-      let gap : ℕ = v.sizes.compression - (2 * v.sizes.grain + slack) in
-      let gap_is : gap + (2 * v.sizes.grain + slack) ≡ v.sizes.compression = omega (arith, fit) in
-      let late = later_by bounds.a (time_of h) gap (steady v is cm) (omega (arith, short, gap_is))
-      (omega (arith, ints, sharp, lies.0, m.at, gap_is)) (omega (arith, fit, gap_is)) in
+      let fit : 2 * v.sizes.grain + slack + 1 ≤ v.sizes.compression = omega arith in
+      let short : v.sizes.compression + slack + 2 * v.sizes.grain + v.sizes.drift < 2 * v.sizes.cycle = omega arith in
+      let gap = v.sizes.compression - (2 * v.sizes.grain + slack) in
+      let gap_is : gap + (2 * v.sizes.grain + slack) ≡ v.sizes.compression = omega arith in
+      let late = later_by bounds.a (time_of h) gap (steady v is cm) (omega arith)
+      (omega (arith, ints, lies.0, m.at)) (omega arith) in
       let soon = sooner_by bounds.b (time_of h) (v.sizes.compression + slack + 2 * v.sizes.grain) (steady v is cm) short
-      (omega (arith, ints, sharp, lies.1, m.at)) in
+      (omega (arith, ints, lies.1, m.at)) in
       record {
         hull = bounds.hull;
         is = bounds.is;
-        least = omega (arith, ints, late, bounds.from, gap_is, space.errors.base_is);
-        most = omega (arith, ints, soon, bounds.to, space.errors.base_is);
+        least = omega (arith, ints, bounds.from, space.errors.base_is);
+        most = omega (arith, ints, bounds.to, space.errors.base_is);
       }
 
   -- where it lies within them, the base lies in the hull
@@ -187,7 +191,8 @@ module _ (v : View) (h : Happening) (cm : DeviceId) (cycle : ℕ) (members : Mem
   three_lie : (bounds : HasBounds v cm cycle (time_of h)) → 3 ≤ length points → LiesBetween v cm bounds.a bounds.b middle
   three_lie bounds many =
       let m = made v h cm cycle members is e in
-      middle_among_others (map (λ q. q.reading) points) _ _ (omega (arith, length-map points (λ (q : Point). q.reading), many))
+      middle_among_others (map (λ q. q.reading) points) _ _ (omega
+      (arith, length-map points (λ (q : Point). q.reading)))
       (ascending_from points m.ordered)
       (all_but_one _ _ (IsBadPoint v) points m.differ (within_or_bad bounds) (λ p q i j a b. bad_is_one is a b))
 
@@ -207,9 +212,11 @@ bases_are_in_hulls v h cm cycle members is e tidy which =
       | inl many ↦
           let good = three_have_good v h cm cycle members is e many in
           let p = good_member_point v h cm cycle members is e good.0 good.1 good.2 in
-          let same : count_of members ≡ count_of (record { 0 = members_of (m.first ∷ m.more) }) = ap (λ (x : ℕ). count_of (record { 0 = x })) m.members_are in
+          let same : count_of members ≡ count_of (record { 0 = members_of (m.first ∷ m.more) }) =
+          ap (λ x. count_of (record { 0 = x })) m.members_are in
           let bounds = bounds_by v h cm cycle members is e tidy p.0 p.1 p.2 in
-          base_in v h cm cycle members is e bounds (three_lie v h cm cycle members is e bounds (omega (arith, few_members (m.first ∷ m.more), same, many)))
+          base_in v h cm cycle members is e bounds (three_lie v h cm cycle members is e bounds
+          (omega (arith, few_members (m.first ∷ m.more))))
       | inr are ↦
           let good = all_good v h cm cycle members is e are in
           let bounds = bounds_by v h cm cycle members is e tidy m.first (inl refl) (good m.first (inl refl)) in

@@ -30,16 +30,18 @@ Apart (p ∷ ps) = AllByRecursion (λ q. q.master ≡ p.master → ⊥) ps × Ap
 apart_push : (xs : List Point) (x : Point) → Apart xs → has_master xs x.master ≡ false → Apart (xs ++ x ∷ [])
 apart_push [] x apart none = (tt, tt)
 apart_push (p ∷ ps) x apart none =
-    let parts = or_parts (p.master == x.master) (has_master ps x.master) none in
-    (all-push (λ (q : Point). q.master ≡ p.master → ⊥) ps x apart.0 (λ e. eqb-false p.master x.master parts.0 (sym e)), apart_push ps x apart.1 parts.1)
+    let parts = or_parts (p.master == x.master) (has_master ps x.master) none in (
+      all-push (λ q. q.master ≡ p.master → ⊥) ps x apart.0 (λ e. eqb-false p.master x.master parts.0 (sym e)),
+      apart_push
+          ps x apart.1 parts.1,
+    )
 
 fold_apart : (acc xs : List Point) → Apart acc → Apart (fold with_first acc xs)
 fold_apart acc [] apart = apart
 fold_apart acc (x ∷ xs) apart =
     elim (cases_Bool (has_master acc x.master)) [
-      | inl old ↦ subst (λ (a : List Point). Apart (fold with_first a xs)) (sym (with_first-old acc x old)) (fold_apart acc xs apart)
-      | inr new ↦ subst (λ (a : List Point). Apart (fold with_first a xs)) (sym (with_first-new acc x new))
-          (fold_apart (acc ++ x ∷ []) xs (apart_push acc x apart new))
+      | inl old ↦ rw (with_first-old acc x old) (fold_apart acc xs apart)
+      | inr new ↦ rw (with_first-new acc x new) (fold_apart (acc ++ x ∷ []) xs (apart_push acc x apart new))
     ]
 
 pub firsts_apart : (xs : List Point) → Apart (firsts xs)
@@ -47,21 +49,24 @@ firsts_apart xs = fold_apart [] xs tt
 
 ordered_push : (xs : List Point) (x : Point) → Ordered xs → ((a : Point) → IsIn a xs → a.reading ≤ℤ x.reading) → Ordered (xs ++ x ∷ [])
 ordered_push [] x up below = (tt, tt)
-ordered_push (p ∷ ps) x up below =
-    (all-push (λ (q : Point). p.reading ≤ℤ q.reading) ps x up.0 (below p (inl refl)), ordered_push ps x up.1 (λ a i. below a (inr i)))
+ordered_push (p ∷ ps) x up below = (
+  all-push (λ q. p.reading ≤ℤ q.reading) ps x up.0 (below p (inl refl)),
+  ordered_push ps x up.1
+      (λ a i. below a (inr i)),
+)
 
 fold_ordered : (acc xs : List Point) → Ordered acc → Ordered xs → ((a x : Point) → IsIn a acc → IsIn x xs → a.reading ≤ℤ x.reading)
     → Ordered (fold with_first acc xs)
 fold_ordered acc [] up more below = up
 fold_ordered acc (x ∷ xs) up more below =
     elim (cases_Bool (has_master acc x.master)) [
-      | inl old ↦ subst (λ (a : List Point). Ordered (fold with_first a xs)) (sym (with_first-old acc x old))
-          (fold_ordered acc xs up more.1 (λ a y i j. below a y i (inr j)))
+      | inl old ↦ rw (with_first-old acc x old) (fold_ordered acc xs up more.1 (λ a y i j. below a y i (inr j)))
       | inr new ↦
-          subst (λ (a : List Point). Ordered (fold with_first a xs)) (sym (with_first-new acc x new))
-          (fold_ordered (acc ++ x ∷ []) xs (ordered_push acc x up (λ a i. below a x i (inl refl))) more.1 (λ a y i j. elim (in_parts a acc (x ∷ []) i) [
+          rw (with_first-new acc x new) (fold_ordered (acc ++ x ∷ []) xs
+          (ordered_push acc x up (λ a i. below a x i (inl refl))) more.1
+          (λ a y i j. elim (in_parts a acc (x ∷ []) i) [
             | inl l ↦ below a y l (inr j)
-            | inr (inl same) ↦ subst (λ (b : Point). b.reading ≤ℤ y.reading) (sym same) (in_all (λ (q : Point). x.reading ≤ℤ q.reading) xs y more.0 j)
+            | inr (inl same) ↦ rw same (in_all (λ q. x.reading ≤ℤ q.reading) xs y more.0 j)
             | inr (inr none) ↦ absurd none
           ]))
     ]
@@ -76,7 +81,7 @@ ordered_filter test (p ∷ ps) up = grind (arith, cases_Bool, all-filter, (order
 pub firsts_in : (xs : List Point) (q : Point) → IsIn q (firsts xs) → Contains xs q
 firsts_in xs q i =
     let c = counts [] xs in
-    (in_all (λ (p : Point). Contains xs p × (has_master [] p.master ≡ false)) c.more q c.each (subst (IsIn q) c.is i)).0
+    (in_all (λ p. Contains xs p × (has_master [] p.master ≡ false)) c.more q c.each (subst (IsIn q) c.is i)).0
 
 -- the point of a master that has one
 pub has_one : (ps : List Point) (m : ℕ) → has_master ps m ≡ true → (q : Point) × IsIn q ps × (q.master ≡ m)
@@ -104,7 +109,7 @@ all_but_one low high Bad (p ∷ ps) apart each same = elim (each p (inl refl)) [
   | inl lies ↦ inr (lies, all_but_one low high Bad ps apart.1 (λ q i. each q (inr i)) (λ q r i j. same q r (inr i) (inr j)))
   | inr bad ↦ inl (lies_all low high ps (λ q i. elim (each q (inr i)) [
     | inl lies ↦ lies
-    | inr also ↦ absurd (in_all (λ (r : Point). r.master ≡ p.master → ⊥) ps q apart.0 i (same q p (inr i) (inl refl) also bad))
+    | inr also ↦ absurd (in_all (λ r. r.master ≡ p.master → ⊥) ps q apart.0 i (same q p (inr i) (inl refl) also bad))
   ]))
 ]
 
@@ -117,11 +122,10 @@ pub middle_near : (ow : ℤ) (Bad : Point → Type 0) (k o : Point) (more : List
 middle_near ow Bad k o [] some up apart i each same short = grind (arith, ints)
 middle_near ow Bad k o (b ∷ []) some up apart i each same short =
     let m = mean_of-floor (o.reading -ℤ o.reading) (b.reading -ℤ o.reading) in
-    let later : o.reading ≤ℤ b.reading = up.0.0 in
     let near = short b (inr (inl refl)) in
     elim i [
-      | inl e ↦ (let at : k.reading ≡ o.reading = ap (λ (p : Point). p.reading) e in (omega (arith, ints), omega (arith, ints)))
-      | inr (inl e) ↦ (let at : k.reading ≡ b.reading = ap (λ (p : Point). p.reading) e in (omega (arith, ints), omega (arith, ints)))
+      | inl e ↦ (let at : k.reading ≡ o.reading = rw e in (omega (arith, ints), omega (arith, ints)))
+      | inr (inl e) ↦ (let at : k.reading ≡ b.reading = rw e in (omega (arith, ints), omega (arith, ints)))
       | inr (inr none) ↦ absurd none
     ]
 middle_near ow Bad k o (b ∷ c ∷ rest) some up apart i each same short =
@@ -194,7 +198,8 @@ has_firsts ow o rest some =
     let held = of_cycle_within o.cycle o.reading end (o ∷ rest) in
     let test = λ (x : Point). x.cycle == o.cycle && (int_le o.reading x.reading && int_le x.reading end) in
     let start = firsts-start o (of_cycle_within o.cycle o.reading end rest) in
-    let are : firsts held ≡ o ∷ start.0 = ap firsts (held-start o end rest (omega (arith, ints, end_of-least ow o (o ∷ rest) some, some))) ∙ start.1 in
+    let are : firsts held ≡ o ∷ start.0 = ap firsts
+    (held-start o end rest (omega (arith, ints, end_of-least ow o (o ∷ rest) some))) ∙ start.1 in
     record {
       more = start.0;
       are = are;
@@ -224,11 +229,12 @@ ones_or (suc k) n = grind (arith, pow-suc, bit_or, or_half, ones_step, count_one
 
 ones_fold : (a : ℕ) (qs : List Point) → count_ones (fold (λ members q. bit_or members (2 ^ q.master)) a qs) ≤ count_ones a + length qs
 ones_fold a [] = omega arith
-ones_fold a (q ∷ qs) = (let more = ones_fold (bit_or a (2 ^ q.master)) qs in let one = ones_or q.master a in omega (arith, more, one))
+ones_fold a (q ∷ qs) = (let more = ones_fold (bit_or a (2 ^ q.master)) qs in let one = ones_or q.master a in
+    omega arith)
 
 -- there are not more members than points
 pub few_members : (qs : List Point) → count_ones (members_of qs) ≤ length qs
-few_members qs = (let all = ones_fold 0 qs in let none = ones_le_self 0 in omega (arith, all, none))
+few_members qs = (let all = ones_fold 0 qs in let none = ones_le_self 0 in omega arith)
 
 -- ---- members and points
 
@@ -237,7 +243,7 @@ member_has qs i set =
     elim (cases_Bool (has_master qs i)) [
       | inl has ↦ has
       | inr none ↦ (let clear = members_of-clear qs i none in let and = and_pow (members_of qs) i in let same = rw set at
-          and in absurd (omega (arith, clear, same, pow_pos i)))
+          and in absurd (omega (arith, pow_pos i)))
     ]
 
 pub has_is_member : (qs : List Point) (i : ℕ) → has_master qs i ≡ true → bit_at (members_of qs) i ≡ 1

@@ -15,7 +15,7 @@ abbrev NotNegative : ℤ → Type 0
 NotNegative z = pos 0 ≤ℤ z
 
 mean_not_negative : (a b : ℤ) → NotNegative a → NotNegative b → NotNegative (mean_of a b)
-mean_not_negative a b x y = (let m = mean_of-floor a b in omega (arith, ints, m, x, y))
+mean_not_negative a b x y = (let m = mean_of-floor a b in omega (arith, ints))
 
 last_not_negative : (p q : ℤ) (xs : List ℤ) → NotNegative p → AllByRecursion NotNegative (q ∷ xs) → NotNegative (last_but_one p q xs)
 last_not_negative p q [] x all = x
@@ -38,14 +38,14 @@ middle_not_negative (a ∷ b ∷ c ∷ d ∷ e ∷ f ∷ more) all =
 all_late : (o : Point) (qs : List Point) → ((q : Point) → IsIn q qs → o.reading ≤ℤ q.reading)
     → AllByRecursion NotNegative (map (λ q. q -ℤ o.reading) (map (λ q. q.reading) qs))
 all_late o [] from = tt
-all_late o (q ∷ qs) from = (let low = from q (inl refl) in omega (arith, ints, low), all_late o qs (λ x i. from x (inr i)))
+all_late o (q ∷ qs) from = (let low = from q (inl refl) in omega (arith, ints), all_late o qs (λ x i. from x (inr i)))
 
 -- the middle of a cluster is not before its first point
 pub middle_late : (ow : ℤ) (o : Point) (rest : List Point) → pos 0 ≤ℤ ow → NotNegative (middle_of (relative (cluster_of ow o (o ∷ rest)).points))
 middle_late ow o rest some =
     let f = has_firsts ow o rest some in
-    subst (λ (qs : List Point). NotNegative (middle_of (relative (map (λ q. q.reading) qs)))) (sym f.are)
-    (middle_not_negative (map (λ q. q -ℤ o.reading) (map (λ q. q.reading) (o ∷ f.more))) (all_late o (o ∷ f.more) (λ q i. (f.each q i).from)))
+    rw f.are (middle_not_negative (map (λ q. q -ℤ o.reading) (map (λ q. q.reading) (o ∷ f.more)))
+    (all_late o (o ∷ f.more) (λ q i. (f.each q i).from)))
 
 -- ---- points
 
@@ -67,8 +67,8 @@ module _ (v : View) (hs : List Happening) (t : ℕ) (device : DeviceId) (link : 
       → clock ≤ amount v.scenario.network.dmax
   arrival_young a =
       let x = taken_as a in
-      let young = young_by x.1.signal a.frame (subst (λ y. TakesWith y a.frame) x.1.becomes x.2) in
-      omega (arith, young, a.shows)
+      let young = young_by x.1.signal a.frame (rw x.1.becomes at x.2) in
+      omega (arith, a.shows)
 
 -- the record gives the device this point
 pub record GivesPoint (cm : DeviceId) (k : Happening) (p : Point) : Type 0 where
@@ -89,10 +89,10 @@ gives_by cm k p (notes.Permanent other link cause point verdict) same e =
       cause = cause;
       point = point;
       verdict = verdict;
-      is = same ∙ ap (λ (d : DeviceId). notes.Permanent d link cause point verdict) (same_device cm other both.0);
-      reads = sym (ap (λ (x : Point). x.reading) both.1);
-      of_master = sym (ap (λ (x : Point). x.master) both.1);
-      of_cycle = sym (ap (λ (x : Point). x.cycle) both.1);
+      is = same ∙ ap (λ d. notes.Permanent d link cause point verdict) (same_device cm other both.0);
+      reads = sym (ap (λ x. x.reading) both.1);
+      of_master = sym (ap (λ x. x.master) both.1);
+      of_cycle = sym (ap (λ x. x.cycle) both.1);
     }
 gives_by cm k p body same e = absurd cc
 
@@ -103,7 +103,7 @@ gives_point cm k p e = gives_by cm k p k.note.body refl e
 pub point_record : (cm : DeviceId) (front : List Happening) (p : Point) → IsIn p (points_of front cm) → (k : Happening) × IsIn k front × GivesPoint cm k p
 point_record cm front p i =
     let ends = λ (h : Happening). ends_stretch cm h.note.body in
-    let made = in_filter_map (λ (h : Happening). point_by cm h h.note.body) (after_last ends front) p i in
+    let made = in_filter_map (λ h. point_by cm h h.note.body) (after_last ends front) p i in
     let cut = behind_last ends front in
     (made.0, subst (IsIn made.0) (sym cut.whole) (in_right made.0 cut.front (after_last ends front) made.1), gives_point cm made.0 p made.2)
 
@@ -131,5 +131,12 @@ emissions_are_sharp v h cm cycle members e is =
     let middle = middle_late ow c.first c.rest wide in
     let shown = ap (emission ow (pos (amount s.network.calc))) c.is in
     reach_is_sharp v.sizes (s.reading cm) 0 e.at.0 (time_of h) (steady v is cm)
-    (omega (arith, ints, (steady v is cm).begins, ap (λ (x : Compressed). x.at.0) emits.is, shown, first, middle, (sizes_are is).precision, room is))
+    (omega (
+      arith,
+      ints,
+      (steady v is cm).begins,
+      ap (λ (x : Compressed). x.at.0) emits.is,
+      (sizes_are is).precision,
+      room is,
+    ))
     emits.reached

@@ -6,9 +6,9 @@ use Rattle.precision_law.proofs.{compression.Stretches.points_ordered, hearing.T
 use Rattle.precision_law.proofs.words.Clocks.{Apart, any_in, before_of, cluster_from, few_members, frames_up_are_of_masters, has_firsts, has_is_member}
 use Rattle.precision_law.proofs.words.{Clocks.{has_member, in_all, in_any, le_by, member_has, one_bad, one_member, sizes_are}, Plans.{middle_of, relative}}
 use Rattle.precision_law.proofs.words.Laws.{EmissionsAreOfDispatches, HasGood, IsBad, IsDispatch, IsEmission, IsGood, IsGoodMember, IsInTime, IsView}
-use Rattle.precision_law.proofs.words.Plans.{Cluster, Compressed, DeviceId, IsMember, Members, Ordered, Pcf, Point, amount, count_of, emission, members_of}
+use Rattle.precision_law.proofs.words.Plans.{Cluster, DeviceId, IsMember, Members, Ordered, Point, amount, count_of, emission, members_of}
 use Rattle.precision_law.proofs.words.Runs.{Happening, IsCaused, IsFoundedAt, IsIn, cycle_in, founded_at, frame_by, in_left, is_broken, is_cm, master_of}
-use Rattle.precision_law.proofs.words.Std.{◌*◌, ◌++◌, ◌+ℤ◌, ◌<◌, ◌==◌, ◌^◌, ◌∙◌, ◌∷◌, ◌≡◌, ◌≤ℤ◌, ◌≤◌, ◌⊎◌, List, Option, Some, [], ap, arith, bit_at}
+use Rattle.precision_law.proofs.words.Std.{◌*◌, ◌++◌, ◌+ℤ◌, ◌<◌, ◌==◌, ◌^◌, ◌∙◌, ◌∷◌, ◌≡◌, ◌≤ℤ◌, ◌≤◌, ◌⊎◌, List, Some, [], ap, arith, bit_at}
 use Rattle.precision_law.proofs.words.Std.{bit_at-zero, both_ways, eq-eqb, eqb-true, inl, inr, ints, map, option_map_or, pos, refl, subst, sym, true}
 
 -- ---- points
@@ -41,7 +41,7 @@ pub point_not_both : {v : View} {cm : DeviceId} {by : ℕ} {p q : Point} → IsV
     → IsBadPoint v q → p.master ≡ q.master → ⊥
 point_not_both {v} is good bad same =
     not_both v _ _ good.dispatch.good bad.bad (one_member good.master bad.master _ is good.is_member
-    (bad.is_member ∙ ap (λ (m : ℕ). Some m) (sym same)))
+    (bad.is_member ∙ ap (λ m. Some m) (sym same)))
 
 -- bad points are of one master
 pub bad_is_one : {v : View} {p q : Point} → IsView v → IsBadPoint v p → IsBadPoint v q → p.master ≡ q.master
@@ -52,7 +52,8 @@ pub dispatch_clock : {v : View} {first : Happening} {master : DeviceId} {cycle :
     → IsDispatch v first master cycle → clock_in first ≡ 0
 dispatch_clock {v} {first} is d =
     let at = founded_at v.scenario v.records first is.run.founded d.there in
-    ap (λ (o : Option Pcf). option_map_or (λ f. f.clock) o 0) (ap (λ (x : Happening). x.frame) at.due.same ∙ ap (frame_by v.scenario.network at.front) d.is)
+    ap (λ o. option_map_or (λ f. f.clock) o 0) (ap (λ x. x.frame) at.due.same ∙ ap
+    (frame_by v.scenario.network at.front) d.is)
 
 -- a point that a record gives is that of a good master or of a bad one
 pub record_point : {v : View} {cm : DeviceId} {q : Point} (by : ℕ) {k : Happening} → IsView v → IsIn k v.records
@@ -64,7 +65,8 @@ record_point {v} {cm} {q} by {k} is there early one g =
       | inr bad ↦ inr (record {
         master = bad.master;
         bad = bad.bad;
-        is_member = bad.is_member ∙ ap (λ (m : ℕ). Some m) (sym (master_is bad.master bad.member g.of_master r.members bad.is_member bad.members));
+        is_member = bad.is_member ∙ ap (λ m. Some m) (sym
+            (master_is bad.master bad.member g.of_master r.members bad.is_member bad.members));
       })
       | inl good ↦
           let channel = cm_channel cm is one in
@@ -75,8 +77,9 @@ record_point {v} {cm} {q} by {k} is there early one g =
             first = good.first;
             master = good.master;
             dispatch = subst (IsDispatch v good.first good.master) (sym r.cycle ∙ sym g.of_cycle) good.dispatch;
-            is_member = good.is_member ∙ ap (λ (m : ℕ). Some m) (sym (master_is good.master good.member g.of_master r.members good.is_member good.members));
-            before = omega (arith, good.in_order, r.sharp.after, early);
+            is_member = good.is_member ∙ ap (λ m. Some m) (sym
+                (master_is good.master good.member g.of_master r.members good.is_member good.members));
+            before = omega (arith, good.in_order, r.sharp.after);
             ripe = time_of k;
             not_behind = early;
             in_time =
@@ -105,7 +108,7 @@ pub point_is : {v : View} {h : Happening} (cm : DeviceId) (q : Point) → IsView
     → (at : IsFoundedAt v.scenario v.records h) → is_cm v.scenario.network cm ≡ true → IsIn q (points_of at.front cm)
     → IsGoodPoint v cm (time_of h) q ⊎ IsBadPoint v q
 point_is {h} cm q is at one i =
-    front_point cm q (time_of h) at.front (h ∷ at.rest) is at.whole (before_of {h = h} is at).only one i
+    front_point cm q (time_of h) at.front (h ∷ at.rest) is at.whole (before_of is at).only one i
 
 -- ---- clusters
 
@@ -139,19 +142,31 @@ made_of {v} {h} {cm} {cycle} is e =
     let wide : pos 0 ≤ℤ ow = omega (arith, ints) in
     let f = has_firsts ow o c.rest wide in
     let soon = ends_soon ow o (o ∷ c.rest) wide in
-    let cycle_is : cycle ≡ o.cycle = ap (λ (x : Compressed). x.cycle) emits.is ∙ ap (λ (x : Cluster). x.cycle) c.is in
-    let sent = ap (λ (x : Compressed). x.at.0) emits.is ∙ ap (emission ow (pos (amount v.scenario.network.calc))) c.is in
+    let cycle_is : cycle ≡ o.cycle = ap (λ x. x.cycle) emits.is ∙ ap (λ (x : Cluster). x.cycle) c.is in
+    let sent = ap (λ x. x.at.0) emits.is ∙ ap (emission ow (pos (amount v.scenario.network.calc))) c.is in
     record {
       is_cm_one = emits.cm;
       first = o;
       more = f.more;
-      members_are = ap (λ (x : Compressed). x.members.0) emits.is ∙ ap (λ (x : Cluster). x.members) c.is ∙ ap members_of f.are;
+      members_are = ap (λ x. x.members.0) emits.is ∙ ap (λ (x : Cluster). x.members) c.is ∙ ap members_of f.are;
       each = λ q i.
           let k = f.each q i in
-          record { of_cycle = k.of_cycle ∙ sym cycle_is; from = k.from; to = omega (arith, ints, k.to, soon, sizes_are is); there = in_cluster c q k.there };
+          record {
+            of_cycle = k.of_cycle ∙ sym cycle_is;
+            from = k.from;
+            to =
+                omega (arith, ints, k.to, sizes_are is);
+            there = in_cluster c q k.there;
+          };
       differ = f.differ;
       ordered = f.ordered (c.ordered (points_ordered cm at.front (h ∷ at.rest) is at.whole));
-      at = omega (arith, ints, sent, ap (λ (qs : List Point). middle_of (relative (map (λ q. q.reading) qs))) f.are, sizes_are is);
+      at = omega (
+        arith,
+        ints,
+        ap (λ (qs : List Point). middle_of (relative (map (λ q. q.reading) qs))) f.are,
+        sizes_are
+            is,
+      );
     }
 
 -- ---- good members
@@ -159,12 +174,13 @@ made_of {v} {h} {cm} {cycle} is e =
 -- a member has a point
 pub point_of_member : (qs : List Point) (i : ℕ) → bit_at (members_of qs) i ≡ 1 → (q : Point) × IsIn q qs × (q.master ≡ i)
 point_of_member qs i set =
-    let found = any_in (λ (q : Point). q.master == i) qs (member_has qs i set) in
+    let found = any_in (λ q. q.master == i) qs (member_has qs i set) in
     (found.0, found.1, eqb-true found.0.master i found.2)
 
 -- and a point's master is a member
 pub member_of_point : (qs : List Point) (q : Point) → IsIn q qs → bit_at (members_of qs) q.master ≡ 1
-member_of_point qs q i = has_is_member qs q.master (in_any (λ (x : Point). x.master == q.master) qs q i (eq-eqb q.master q.master refl))
+member_of_point qs q i = has_is_member qs q.master (in_any (λ x. x.master == q.master) qs q i
+    (eq-eqb q.master q.master refl))
 
 module _ (v : View) (h : Happening) (cm : DeviceId) (cycle : ℕ) (members : Members) (is : IsView v) (e : IsEmission v h cm cycle members) where
   -- the points of what is sent
@@ -177,15 +193,15 @@ module _ (v : View) (h : Happening) (cm : DeviceId) (cycle : ℕ) (members : Mem
 
   -- and its master is a member
   pub is_of_member : (q : Point) → IsIn q (made.first ∷ made.more) → IsMember q.master members
-  is_of_member q i = ap (λ (x : ℕ). bit_at x q.master) made.members_are ∙ member_of_point (made.first ∷ made.more) q i
+  is_of_member q i = rw made.members_are (member_of_point (made.first ∷ made.more) q i)
 
   pub good_member_point : (i : ℕ) → IsMember i members → IsGoodMember v i → (q : Point) × IsIn q (made.first ∷ made.more) × IsGoodPoint v cm (time_of h) q
   good_member_point i set good =
-      let p = point_of_member (made.first ∷ made.more) i (ap (λ (x : ℕ). bit_at x i) (sym made.members_are) ∙ set) in
+      let p = point_of_member (made.first ∷ made.more) i (rw (sym made.members_are) set) in
       elim (good_or_bad_point p.0 p.1) [
         | inl one ↦ (p.0, p.1, one)
         | inr bad ↦ absurd (not_both v good.0 bad.master good.2 bad.bad
-            (one_member good.0 bad.master i is good.1 (bad.is_member ∙ ap (λ (x : ℕ). Some x) p.2)))
+            (one_member good.0 bad.master i is good.1 (bad.is_member ∙ ap (λ x. Some x) p.2)))
       ]
 
   -- some member is good, or the only point is a broken master's
@@ -206,21 +222,22 @@ module _ (v : View) (h : Happening) (cm : DeviceId) (cycle : ℕ) (members : Mem
           let i : IsIn next made.more = subst (IsIn next) (sym some) (inl refl) in
           elim (good_or_bad_point next (inr i)) [
             | inl good ↦ inl (has next (inr i) good)
-            | inr other ↦ absurd (in_all (λ (q : Point). q.master ≡ made.first.master → ⊥) made.more next made.differ.0 i
+            | inr other ↦ absurd (in_all (λ q. q.master ≡ made.first.master → ⊥) made.more next made.differ.0 i
                 (bad_is_one is other bad))
           ]
 
   one_at_least : 1 ≤ count_of members
   one_at_least = le_by (λ none.
-      let bit = ap (λ (x : ℕ). bit_at x made.first.master) (zero_from_ones members.0 (omega (arith, none))) in
-      omega (arith, is_of_member made.first (inl refl), bit, bit_at-zero made.first.master))
+      let bit = ap (λ x. bit_at x made.first.master) (zero_from_ones members.0 (omega arith)) in
+      omega (arith, is_of_member made.first (inl refl), bit_at-zero made.first.master))
 
   -- one point makes one member
   one_at_most : made.more ≡ [] → count_of members ≤ 1
   one_at_most none =
       let same : count_of members ≡ count_of (record { 0 = members_of (made.first ∷ []) }) =
-      ap (λ (x : ℕ). count_of (record { 0 = x })) (made.members_are ∙ ap (λ (qs : List Point). members_of (made.first ∷ qs)) none) in
-      omega (arith, few_members (made.first ∷ []), same)
+      ap (λ x. count_of (record { 0 = x })) (made.members_are ∙ ap (λ (qs : List Point). members_of (made.first ∷ qs))
+      none) in
+      omega (arith, few_members (made.first ∷ []))
 
 pub emissions_are_of_dispatches : EmissionsAreOfDispatches
 emissions_are_of_dispatches v h cm cycle members is e good =
@@ -232,7 +249,7 @@ emissions_are_of_dispatches v h cm cycle members is e good =
 pub three_have_good : ThreeHaveGood
 three_have_good v h cm cycle members is e many = elim (good_or_alone v h cm cycle members is e (made v h cm cycle members is e).more refl) [
   | inl good ↦ good
-  | inr alone ↦ absurd (omega (arith, one_at_most v h cm cycle members is e alone.1, many))
+  | inr alone ↦ absurd (omega (arith, one_at_most v h cm cycle members is e alone.1))
 ]
 
 pub members_are_masters : MembersAreMasters
@@ -244,10 +261,10 @@ members_are_masters v h cm cycle members is e =
         | inl good ↦ inl good
         | inr alone ↦ inr (
           λ i member.
-              let p = point_of_member (m.first ∷ m.more) i (ap (λ (x : ℕ). bit_at x i) (sym m.members_are) ∙ member) in
+              let p = point_of_member (m.first ∷ m.more) i (rw (sym m.members_are) member) in
               let only : p.0 ≡ m.first = elim p.1 [ inl same ↦ same | inr more ↦ absurd (subst (IsIn p.0) alone.1 more) ] in
-              (alone.0.master, alone.0.is_member ∙ ap (λ (x : ℕ). Some x) (ap (λ (q : Point). q.master) (sym only) ∙ p.2), alone.0.bad),
-          omega (arith, one, one_at_most v h cm cycle members is e alone.1),
+              (alone.0.master, alone.0.is_member ∙ ap (λ x. Some x) (rw (sym only) p.2), alone.0.bad),
+          omega (arith, one_at_most v h cm cycle members is e alone.1),
         )
       ],
     )

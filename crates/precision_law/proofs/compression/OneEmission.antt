@@ -6,8 +6,8 @@ use Rattle.precision_law.proofs.compression.{Made.{IsBadPoint, IsGoodPoint, bad_
 use Rattle.{precision_law.proofs.compression.Stretches.{IsGivenIn, later_point, points_go_on, points_ordered, read_at}, run_law.proofs.records.Order.contained}
 use Rattle.precision_law.proofs.words.Clocks.{all_by, ascending_from, before_of, cluster_from, contains, founded_by, has_firsts, has_member, has_one}
 use Rattle.precision_law.proofs.words.Clocks.{higher_before, member_has, middle_near, no_later, one_member, room, sizes_are, steady}
-use Rattle.precision_law.proofs.words.Laws.{EmissionIsOne, HasGood, Hull, IsEmission, IsGoodMember, IsInHull, IsNarrowIfThere, IsTidyBefore, IsView, View}
-use Rattle.precision_law.proofs.words.Plans.{AreClusters, AreInOrder, Cluster, Compressed, DeviceId, IsKept, LiesIn, LiesWithin, Members, Point, amount}
+use Rattle.precision_law.proofs.words.Laws.{EmissionIsOne, HasGood, IsEmission, IsGoodMember, IsNarrowIfThere, IsTidyBefore, IsView, View}
+use Rattle.precision_law.proofs.words.Plans.{AreClusters, AreInOrder, Cluster, DeviceId, IsKept, LiesIn, LiesWithin, Members, Point, amount}
 use Rattle.precision_law.proofs.words.Runs.{Happening, IsBefore, IsCaused, IsDue, IsFounded, IsFoundedAt, IsIn, behind_first, in_left, in_parts}
 use Rattle.precision_law.proofs.words.Runs.{in_right, is_cm, key, members_in, never_self, observation_window, parted, place_of, points_of, rank, same_some}
 use Rattle.precision_law.proofs.words.{Runs.time_of, Std.{append_assoc, arith, bit_at, cases_lt, inl, inr, ints, map, pos, refl, subst, sym, true, ℕ, ℤ}}
@@ -26,17 +26,24 @@ pub good_near : {v : View} {t cycle : ℕ} {cm : DeviceId} {by late : ℕ} {p q 
     → late < t → p.cycle ≡ cycle → q.cycle ≡ cycle → IsGoodPoint v cm by p → IsGoodPoint v cm late q
     → p.reading ≤ℤ (q.reading +ℤ pos v.sizes.precision)
 good_near {v} {cm} {p} {q} k lt less of_p of_q a b =
-    let w = subst (λ c. IsInHull v c (time_of a.first)) of_p (k.tidy a.first a.master p.cycle a.dispatch (omega (arith, a.before, lt))) in
-    let x = subst (λ c. IsInHull v c (time_of b.first)) of_q (k.tidy b.first b.master q.cycle b.dispatch (omega (arith, b.before, less))) in
-    let low : w.hull.least ≤ℤ pos (time_of b.first) = subst (λ (y : Hull). y.least ≤ℤ pos (time_of b.first)) (same_some _ _ _ x.is w.is) x.least in
+    let w = rw of_p at (k.tidy a.first a.master p.cycle a.dispatch (omega (arith, a.before))) in
+    let x = rw of_q at (k.tidy b.first b.master q.cycle b.dispatch (omega (arith, b.before))) in
+    let low : w.hull.least ≤ℤ pos (time_of b.first) = rw (same_some _ _ _ x.is w.is) at x.least in
     let space = room k.is in
     let clock = steady v k.is cm in
     let narrow = k.narrow w.hull w.is in
     elim (cases_lt b.ripe a.ripe) [
-      | inr le ↦ (let up = clock.never_falls a.ripe b.ripe le in omega (arith, ints, up, a.least, b.most, space))
+      | inr le ↦ (let up = clock.never_falls a.ripe b.ripe le in omega (arith, ints, a.least, b.most))
       | inl more ↦
-          let within : a.ripe ≤ b.ripe + (v.sizes.spread + 2 * v.sizes.path) = omega (arith, ints, narrow, low, w.most, a.in_time, b.in_time) in
-          omega (arith, ints, clock.fast b.ripe a.ripe (omega (arith, more)) (omega (arith, within, space)), within, a.least, b.most, space)
+          let within : a.ripe ≤ b.ripe + (v.sizes.spread + 2 * v.sizes.path) =
+          omega (arith, ints, w.most, a.in_time, b.in_time) in
+          omega (
+            arith,
+            ints,
+            clock.fast b.ripe a.ripe (omega (arith, more)) (omega (arith, within, space)),
+            a.least,
+            b.most,
+          )
     ]
 
 -- ---- a good point of what is sent
@@ -85,14 +92,14 @@ front_witness {v} {cycle} {cm} {by} {front} {rest} {clusters} {cluster} f m bit 
     let soon = ends_soon ow o (o ∷ c.rest) wide in
     let h = has_firsts ow o c.rest wide in
     let in_points : (q : Point) → IsIn q (o ∷ h.more) → IsIn q ps = λ q i. in_cluster c q (h.each q i).there in
-    let cycle_is : o.cycle ≡ cycle = ap (λ (x : Cluster). x.cycle) (sym c.is) ∙ f.cycle_is in
-    let found = has_one _ m (member_has _ m (subst (λ (x : Cluster). bit_at x.members m ≡ 1) c.is bit)) in
+    let cycle_is : o.cycle ≡ cycle = ap (λ x. x.cycle) (sym c.is) ∙ f.cycle_is in
+    let found = has_one _ m (member_has _ m (rw c.is at bit)) in
     let x = found.0 in
     let i : IsIn x (o ∷ h.more) = subst (IsIn x) h.are found.1 in
     let is_good : IsGoodPoint v cm by x = elim (point x (in_points x i)) [
       | inl one ↦ one
       | inr bad ↦ absurd (not_both v _ _ good.2 bad.bad
-          (one_member good.0 bad.master m k.is good.1 (bad.is_member ∙ ap (λ (m : ℕ). Some m) found.2)))
+          (one_member good.0 bad.master m k.is good.1 (bad.is_member ∙ ap (λ m. Some m) found.2)))
     ] in
     let of_cycle : (q : Point) → IsIn q (o ∷ h.more) → q.cycle ≡ cycle = λ q j. (h.each q j).of_cycle ∙ cycle_is in
     let lies : (q : Point) → IsIn q (o ∷ h.more) → LiesWithin (x.reading -ℤ ow) (x.reading +ℤ ow) q.reading
@@ -101,17 +108,17 @@ front_witness {v} {cycle} {cm} {by} {front} {rest} {clusters} {cluster} f m bit 
       | inl one ↦
           let above = good_near k f.early f.early (of_cycle q j) (of_cycle x i) one is_good in
           let below = good_near k f.early f.early (of_cycle x i) (of_cycle q j) is_good one in
-          inl (omega (arith, ints, below, sizes_are k.is), omega (arith, ints, above, sizes_are k.is))
+          inl (omega (arith, ints, sizes_are k.is), omega (arith, ints, sizes_are k.is))
     ] in
     let near = middle_near ow (IsBadPoint v) x o h.more wide
     (h.ordered (c.ordered (points_ordered cm front rest k.is f.whole))) h.differ i lies
     (λ p q a d bad also. bad_is_one k.is bad also)
-    (λ q j. (let to = (h.each q j).to in omega (arith, ints, to, soon))) in
-    let at : ℤ = emission ow (pos (amount n.calc)) cluster in
-    let points = ap (λ (zs : List Point). middle_of (relative (map (λ q. q.reading) zs))) h.are in
+    (λ q j. (let to = (h.each q j).to in omega (arith, ints))) in
+    let at = emission ow (pos (amount n.calc)) cluster in
+    let points = ap (λ zs. middle_of (relative (map (λ q. q.reading) zs))) h.are in
     let whole = (ap (emission ow (pos (amount n.calc))) c.is) ∙ ap (λ z. ((o.reading +ℤ (pos 2 *ℤ ow)) +ℤ pos (amount n.calc)) +ℤ z) points in
-    let late = subst (λ z. pos 0 ≤ℤ z) points (middle_late ow o c.rest wide) in
-    let calc : 1 ≤ amount n.calc = (let m = (room k.is).compression_least in omega (arith, m, sizes_are k.is)) in
+    let late = rw points at (middle_late ow o c.rest wide) in
+    let calc : 1 ≤ amount n.calc = (let m = (room k.is).compression_least in omega (arith, sizes_are k.is)) in
     let given = point_record cm front o (in_points o (inl refl)) in
     let begun = (read_at k.is (subst (IsIn given.0) (sym f.whole) (in_left given.0 front rest given.1))
     given.2).not_negative in
@@ -121,13 +128,13 @@ front_witness {v} {cycle} {cm} {by} {front} {rest} {clusters} {cluster} f m bit 
       record {
         there = in_points x i;
         of_cycle = of_cycle x i;
-        of_cluster = here.of_cycle ∙ sym (ap (λ (y : Cluster). y.cycle) c.is);
+        of_cluster = here.of_cycle ∙ sym (ap (λ y. y.cycle) c.is);
         lies = grind (arith, x.reading, here.from, here.to);
         good = is_good;
-        near = omega (arith, ints, calc, whole, near.0, sizes);
-        ends = omega (arith, ints, calc, whole, late, soon, ap (λ (y : Cluster). y.end) c.is);
-        begun = omega (arith, ints, calc, whole, late, begun);
-        soon = omega (arith, ints, whole, near.1, sizes);
+        near = omega (arith, ints, near.0);
+        ends = omega (arith, ints, ap (λ (y : Cluster). y.end) c.is);
+        begun = omega (arith, ints);
+        soon = omega (arith, ints, near.1);
       },
     )
 
@@ -146,18 +153,18 @@ witness : {v : View} {t : ℕ} {h : Happening} {cm : DeviceId} {cycle : ℕ} {me
     → HasGood v members → (b : IsSentBy v h cm cycle members e at.front)
     → (x : Point) × IsWitness v cm (time_of h) cycle e.at.0 (points_of at.front cm) b.cluster x
 witness {v} {t} {h} {cm} {cycle} k e at early good b =
-    let found = front_witness {v = v} {t = t} {cycle = cycle} {cm = cm} {by = time_of h} {front = at.front} {rest = h ∷ at.rest} {clusters = b.clusters} {cluster = b.cluster}
+    let found = front_witness
     (record {
       known = k;
       whole = at.whole;
-      only = (before_of {h = h} k.is at).only;
+      only = (before_of k.is at).only;
       early = early;
       one = b.cm;
       are = b.are;
       there = b.there;
-      cycle_is = ap (λ (x : Compressed). x.cycle) (sym b.is);
-    }) good.0 (ap (λ (x : Compressed). bit_at x.members.0 good.0) (sym b.is) ∙ good.1) good.2 in
-    let sent = ap (λ (x : Compressed). x.at.0) (sym b.is) in
+      cycle_is = ap (λ x. x.cycle) (sym b.is);
+    }) good.0 (ap (λ x. bit_at x.members.0 good.0) (sym b.is) ∙ good.1) good.2 in
+    let sent = ap (λ x. x.at.0) (sym b.is) in
     (found.0, subst (λ z. IsWitness v cm (time_of h) cycle z (points_of at.front cm) b.cluster found.0) sent found.1)
 
 -- ---- the number of the broken master
@@ -190,7 +197,7 @@ bad_number {v} cm by qs is each = elim (bad_or_none v cm by qs each) [
     record {
       of_bad = λ q i bad. absurd (point_not_both is (all q i) bad refl);
       of_good = λ q i good same. (let small = (has_member good.master q.master is good.is_member).small in
-          omega (arith, small, same));
+          omega arith);
     },
   )
 ]
@@ -250,7 +257,7 @@ not_behind {v} {t} {h} {g} {cm} {cycle} {members} {others} k e f early good also
     let before = behind_first place_of (IsDue s) front (mid ++ g ∷ rest) h g founded (in_right g mid (g ∷ rest) (inl refl)) in
     let order = no_later (time_of h) (time_of g) (rank h.note.body ∷ key (members_in h) h.note.body) (rank g.note.body ∷ key (members_in g) g.note.body)
     before in
-    let early_h : time_of h < t = omega (arith, order, early) in
+    let early_h : time_of h < t = omega arith in
     let b = sent_by e at_h in
     let c = sent_by f at in
     let x = witness k e at_h early_h good b in
@@ -260,10 +267,9 @@ not_behind {v} {t} {h} {g} {cm} {cycle} {members} {others} k e f early good also
     let late : (p : Point) → IsGivenIn cm (h ∷ mid) p → e.at.0 ≤ℤ p.reading = λ p given.
     let point = gives_point cm given.0 p given.2 in
     elim given.1 [
-      | inl same ↦ (let wrong : notes.Compressed cm e.opened e.at cycle members e.verdict ≡ notes.Permanent cm point.link point.cause point.point
-          point.verdict = sym e.is ∙ ap (λ (z : Happening). z.note.body) (sym same) ∙ point.is in absurd cc)
+      | inl same ↦ (let wrong = sym e.is ∙ ap (λ z. z.note.body) (sym same) ∙ point.is in absurd cc)
       | inr i ↦
-          let in_rest : IsIn given.0 (mid ++ g ∷ rest) = in_left given.0 mid (g ∷ rest) i in
+          let in_rest = in_left given.0 mid (g ∷ rest) i in
           let behind = behind_first place_of (IsDue s) front (mid ++ g ∷ rest) h given.0 founded in_rest in
           let lt = higher_before h given.0 behind (omega (arith, ap rank e.is, ap rank point.is)) in
           let in_all : IsIn given.0 v.records = subst (IsIn given.0) (sym whole) (in_right given.0 front (h ∷ (mid ++ g ∷ rest)) (inr in_rest)) in
@@ -272,27 +278,27 @@ not_behind {v} {t} {h} {g} {cm} {cycle} {members} {others} k e f early good also
     elim (points_go_on cm front (h ∷ mid)) [
       | inr anew ↦
           let near = good_near k early early_h y.1.of_cycle x.1.of_cycle y.1.good x.1.good in
-          (omega (arith, ints, late y.0 (anew y.0 y.1.there), near, x.1.near))
+          (omega (arith, ints, late y.0 (anew y.0 y.1.there), x.1.near))
       | inl adds ↦
-          let past = all_by (λ (q : Point). b.cluster.end <ℤ q.reading) adds.more
-          (λ q i. (let above = late q (adds.given q i) in let ends = x.1.ends in omega (arith, ints, above, ends))) in
-          let next = subst (λ ps. AreClusters ow ps c.clusters) adds.whole c.are in
+          let past = all_by (λ q. b.cluster.end <ℤ q.reading) adds.more
+          (λ q i. (let above = late q (adds.given q i) in let ends = x.1.ends in omega (arith, ints))) in
+          let next = rw adds.whole at c.are in
           let stays = (same_beyond _ _ adds.more _ _ b.cluster wide b.are next past).0 b.there in
           let ix : IsIn x.0 (points_of at.front cm) = subst (IsIn x.0) (sym adds.whole) (in_left x.0 (points_of front cm) adds.more x.1.there) in
           let one = one_of_two v t g cm cycle k at early c.cm c.clusters c.are b.cluster c.cluster stays c.there x.0 y.0 ix y.1.there x.1.of_cycle y.1.of_cycle
           x.1.of_cluster y.1.of_cluster x.1.lies y.1.lies (time_of h) early_h x.1.good y.1.good in
           let sent = b.is ∙ ap (compressed ow (pos (amount s.network.calc))) one ∙ sym c.is in
-          let at_same : e.at.0 ≡ f.at.0 = ap (λ (x : Compressed). x.at.0) sent in
+          let at_same : e.at.0 ≡ f.at.0 = ap (λ x. x.at.0) sent in
           let same_time : time_of h ≡ time_of g = elim (cases_lt (time_of h) (time_of g)) [
-            | inr ge ↦ omega (arith, ge, order)
+            | inr ge ↦ omega arith
             | inl lt ↦
-                let up = (steady v k.is cm).never_falls (time_of h) (time_of g - 1) (omega (arith, lt)) in
-                (let reached = sharp.least in let not_yet = sharp_g.before in absurd (omega (arith, ints, up, reached, not_yet, at_same)))
+                let up = (steady v k.is cm).never_falls (time_of h) (time_of g - 1) (omega arith) in
+                (let reached = sharp.least in let not_yet = sharp_g.before in absurd (omega (arith, ints)))
           ] in
-          let place : place_of h ≡ place_of g = ap (λ z. time_of h ∷ rank z ∷ key (members_in h) z) e.is
-          ∙ ap (λ (z : ℕ). z ∷ 4 ∷ key 0 (notes.Compressed cm e.opened e.at cycle members e.verdict)) same_time
-          ∙ ap (λ (x : Compressed). time_of g ∷ 4 ∷ key 0 (notes.Compressed cm x.opened x.at x.cycle x.members e.verdict)) sent
-          ∙ sym (ap (λ z. time_of g ∷ rank z ∷ key (members_in g) z) f.is) in
+          let place : place_of h ≡ place_of g = rw e.is
+          (ap (λ z. z ∷ 4 ∷ key 0 (notes.Compressed cm e.opened e.at cycle members e.verdict)) same_time
+          ∙ ap (λ x. time_of g ∷ 4 ∷ key 0 (notes.Compressed cm x.opened x.at x.cycle x.members e.verdict)) sent
+          ∙ sym (rw f.is)) in
           never_self (place_of g) (subst (λ p. IsBefore p (place_of g)) place before)
     ]
 
@@ -303,11 +309,11 @@ emission_is_one v t h g cm cycle members others is tidy narrow e f before after 
     elim (in_parts h at.0 (g ∷ at.1) (subst (IsIn h) at.2 e.there)) [
       | inl first ↦
           let p = parted h at.0 first in
-          let whole = at.2 ∙ ap (λ (hs : List Happening). hs ++ g ∷ at.1) p.2 ∙ append_assoc p.0 (h ∷ p.1) (g ∷ at.1) in
+          let whole = at.2 ∙ ap (λ hs. hs ++ g ∷ at.1) p.2 ∙ append_assoc p.0 (h ∷ p.1) (g ∷ at.1) in
           absurd (not_behind k e f after good also p.0 p.1 at.1 whole)
       | inr (inl same) ↦ same
       | inr (inr later) ↦
           let p = parted h at.1 later in
-          let whole = at.2 ∙ ap (λ (hs : List Happening). at.0 ++ g ∷ hs) p.2 in
+          let whole = at.2 ∙ ap (λ hs. at.0 ++ g ∷ hs) p.2 in
           absurd (not_behind k f e before also good at.0 p.0 p.1 whole)
     ]

@@ -2,10 +2,10 @@
 use Rattle.precision_law.proofs.{compression.Emitted.arrival_young, hearing.Timely.arrived_clock, words.Laws.{IsPermanentAt, IsRipe, IsView, View, clock_in}}
 use Rattle.precision_law.proofs.words.Clocks.{child_kind, cm_is_no_end, device_of, natural, permanence_is_sharp, receiver_down, receiver_way, sizes_are, steady}
 use Rattle.precision_law.proofs.words.Clocks.{taken_as}
-use Rattle.precision_law.proofs.words.Plans.{DeviceId, Down, IsChildOf, LinkId, Master, Pcf, Relay, Role, Units, Up, Way, amount, device_at}
+use Rattle.precision_law.proofs.words.Plans.{DeviceId, Down, IsChildOf, LinkId, Master, Relay, Role, Units, Up, Way, amount, device_at}
 use Rattle.precision_law.proofs.words.{Plans.{is_end_system, point_of}, Runs.{master_of, members_in, numbered_in, receiver_of, same_some, time_of, way_to}}
 use Rattle.precision_law.proofs.words.Runs.{Happening, IsArrivedRecord, IsCaused, IsIn, Judgement, cycle_in, founded_at, frame_by, in_left, is_cm, is_cm_role}
-use Rattle.precision_law.proofs.words.Std.{◌^◌, ◌∙◌, ◌∷◌, ◌≡◌, ◌≤ℤ◌, ◌≤◌, List, Option, Some, ap, arith, bit_at-pow_other, bit_at-trailing_zeros, cases_eq, inl}
+use Rattle.precision_law.proofs.words.Std.{◌^◌, ◌∙◌, ◌∷◌, ◌≡◌, ◌≤ℤ◌, ◌≤◌, List, Some, ap, arith, bit_at-pow_other, bit_at-trailing_zeros, cases_eq, inl}
 use Rattle.precision_law.proofs.words.Std.{inr, ints, option_and_then, option_map_or, pos, pow_below, pow_pos, subst, sym, trailing_zeros, true, w32, ℕ, ℤ}
 use Rattle.run_law.specs.declared.note.NoteBody.TheVariants as notes
 
@@ -56,14 +56,14 @@ ripening {v} device ripe link cause point verdict is i body =
     let ripens = subst (IsCaused s at.front ripe.note.time) body at.due.cause in
     let p = ripens.permanent in
     let arrival = p.arrival in
-    let in_front : IsIn arrival at.front = numbered_in at.front cause arrival p.there in
+    let in_front = numbered_in at.front cause arrival p.there in
     let in_all : IsIn arrival v.records = subst (IsIn arrival) (sym at.whole) (in_left arrival at.front (ripe ∷ at.rest) in_front) in
     let at_a = founded_at s at.front arrival at.founded in_front in
     let caused = subst (IsCaused s at_a.front arrival.note.time) p.arrived at_a.due.cause in
     let young = arrival_young v at_a.front (amount arrival.note.time) device link p.from caused in
-    let of_frame : ripe.frame ≡ Some ripens.frame = ap (λ (x : Happening). x.frame) at.due.same ∙ ap (frame_by n at.front) body
-    ∙ ap (λ (o : Option Happening). option_and_then (λ x. x.frame) o) p.there ∙ p.of_frame in
-    let same : ripe.frame ≡ arrival.frame = of_frame ∙ sym p.of_frame in
+    let of_frame : ripe.frame ≡ Some ripens.frame = ap (λ x. x.frame) at.due.same ∙ ap (frame_by n at.front) body
+    ∙ ap (λ o. option_and_then (λ x. x.frame) o) p.there ∙ p.of_frame in
+    let same = of_frame ∙ sym p.of_frame in
     let reading = s.reading device in
     let dmax = (sizes_are is).dmax in
     let point_is = p.at_point ∙ ap (point_of (pos (reading (time_of arrival))) p.clock) ((natural n.dmax.0 (omega (arith, ints))) ∙ ap pos (sym dmax)) in
@@ -72,11 +72,12 @@ ripening {v} device ripe link cause point verdict is i body =
       arrived = in_all;
       permanent = record { link = link; from = p.from; clock = p.clock; is = p.arrived; at_point = point_is; reached = p.reached };
       sharp =
-          permanence_is_sharp v.sizes reading (time_of arrival) point.0 (time_of ripe) (steady v is device) (omega (arith, ints, point_is, young, dmax))
+          permanence_is_sharp v.sizes reading (time_of arrival) point.0 (time_of ripe) (steady v is device)
+          (omega (arith, ints))
           p.reached;
-      members = ap (λ (o : Option Pcf). option_map_or (λ f. f.members.0) o 0) same;
-      cycle = ap (λ (o : Option Pcf). option_map_or (λ f. f.cycle) o 0) same;
-      not_negative = omega (arith, ints, point_is, young, dmax);
+      members = ap (λ o. option_map_or (λ f. f.members.0) o 0) same;
+      cycle = ap (λ o. option_map_or (λ f. f.cycle) o 0) same;
+      not_negative = omega (arith, ints);
       clock = arrived_clock arrival device link p.from p.clock is in_all p.arrived ripens.frame p.of_frame;
       up = λ one. arrives_up is one caused;
     }
@@ -84,8 +85,9 @@ ripening {v} device ripe link cause point verdict is i body =
 -- the master whose bit is a power of two
 pub master_of_bit : (m : ℕ) → m ≤ 31 → master_of (2 ^ m) ≡ m
 master_of_bit m small =
-    let t = bit_at-trailing_zeros w32 (2 ^ m) (pow_pos m) (pow_below m 32 (omega (arith, small))) in
+    let t = bit_at-trailing_zeros w32 (2 ^ m) (pow_pos m) (pow_below m 32 (omega arith)) in
     elim (cases_eq (trailing_zeros w32 (2 ^ m)) m) [
       | inl same ↦ same
-      | inr other ↦ (let clear = bit_at-pow_other m (trailing_zeros w32 (2 ^ m)) other in let set = t.1 in absurd (omega (arith, clear, set)))
+      | inr other ↦ (let clear = bit_at-pow_other m (trailing_zeros w32 (2 ^ m)) other in let set = t.1 in
+          absurd (omega arith))
     ]

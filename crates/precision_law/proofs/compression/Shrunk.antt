@@ -14,9 +14,9 @@ opens_behind : (ow end : ℤ) (qs : List Point) (cs : List Cluster) (c : Cluster
 opens_behind ow end qs cs c some are at =
     let from = cluster_from ow (beyond end qs) cs c are at in
     let opened = (from_beyond end qs from.first from.there).1 in
-    let ends : c.end ≡ end_of ow from.first (from.first ∷ from.rest) = ap (λ (x : Cluster). x.end) from.is in
-    let opens : c.opened ≡ from.first.reading = ap (λ (x : Cluster). x.opened) from.is in
-    (omega (arith, ints, opened, opens), omega (arith, ints, end_of-least ow from.first (from.first ∷ from.rest) some, ends, opens, some))
+    let ends : c.end ≡ end_of ow from.first (from.first ∷ from.rest) = ap (λ x. x.end) from.is in
+    let opens : c.opened ≡ from.first.reading = ap (λ x. x.opened) from.is in
+    (omega (arith, ints), omega (arith, ints, end_of-least ow from.first (from.first ∷ from.rest) some))
 
 -- the first cluster is the same with a point more, where either ends before it
 first_same : (ow : ℤ) (o : Point) (ps : List Point) (p : Point) (k e : Cluster) → pos 0 ≤ℤ ow → k ≡ cluster_of ow o (o ∷ ps)
@@ -35,20 +35,20 @@ same_by ow (o ∷ ps) p (k ∷ cs) [] c some are next past = absurd next
 same_by ow (o ∷ ps) p (k ∷ cs) (e ∷ ds) c some are next past =
     let one = first_same ow o ps p k e some are.0 next.0 in
     let rest = λ (same : k ≡ e) (behind : k.end <ℤ p.reading).
-    same_by ow (beyond k.end ps) p cs ds c some are.1 (subst (λ qs. AreClusters ow qs ds) (beyond-push_out k.end ps p behind)
-    (subst (λ (x : Cluster). AreClusters ow (beyond x.end (ps ++ p ∷ [])) ds) (sym same) next.1)) past in (
+    same_by ow (beyond k.end ps) p cs ds c some are.1 (rw (sym (beyond-push_out k.end ps p behind))
+    (rw (sym same) at next.1)) past in (
       λ at. elim (in_cases k c cs at) [
-        | inl same ↦ subst (Contains (e ∷ ds)) (sym (one (inl (subst (λ (x : Cluster). x.end <ℤ p.reading) (sym same) past))) ∙ same) (in_head e ds)
+        | inl same ↦ subst (Contains (e ∷ ds)) (sym (one (inl (rw same past))) ∙ same) (in_head e ds)
         | inr later ↦
-            let behind : k.end <ℤ p.reading = omega (arith, ints, opens_behind ow k.end ps cs c some are.1 later, past) in
+            let behind : k.end <ℤ p.reading = omega (arith, ints, opens_behind ow k.end ps cs c some are.1 later) in
             in_tail e c ds ((rest (one (inl behind)) behind).0 later)
       ],
       λ at. elim (in_cases e c ds at) [
-        | inl same ↦ subst (Contains (k ∷ cs)) (one (inr (subst (λ (x : Cluster). x.end <ℤ p.reading) (sym same) past)) ∙ same) (in_head k cs)
+        | inl same ↦ subst (Contains (k ∷ cs)) (one (inr (rw same past)) ∙ same) (in_head k cs)
         | inr later ↦
             let opens = opens_behind ow e.end (ps ++ p ∷ []) ds c some next.1 later in
-            let same = one (inr (omega (arith, ints, opens, past))) in
-            in_tail k c cs ((rest same (omega (arith, ints, opens, past, ap (λ (x : Cluster). x.end) same))).1 later)
+            let same = one (inr (omega (arith, ints))) in
+            in_tail k c cs ((rest same (omega (arith, ints, ap (λ (x : Cluster). x.end) same))).1 later)
       ],
     )
 
@@ -57,11 +57,11 @@ pub same_beyond : (ow : ℤ) (ps more : List Point) (cs ds : List Cluster) (c : 
     → AllByRecursion (λ q. c.end <ℤ q.reading) more → (Contains cs c → Contains ds c) × (Contains ds c → Contains cs c)
 same_beyond ow ps [] cs ds c some are next past =
     let unique = (one_list_of_clusters ow ps).2 in
-    let same : ds ≡ cs = unique ds (subst (λ qs. AreClusters ow qs ds) (append-nil ps) next) ∙ sym (unique cs are) in
-    (subst (λ (x : List Cluster). Contains x c) (sym same), subst (λ (x : List Cluster). Contains x c) same)
+    let same = unique ds (rw (append-nil ps) at next) ∙ sym (unique cs are) in
+    (subst (λ x. Contains x c) (sym same), subst (λ x. Contains x c) same)
 same_beyond ow ps (p ∷ more) cs ds c some are next past =
     let found = one_list_of_clusters ow (ps ++ p ∷ []) in
-    let whole : AreClusters ow ((ps ++ p ∷ []) ++ more) ds = subst (λ qs. AreClusters ow qs ds) (sym (append_assoc ps (p ∷ []) more)) next in
+    let whole : AreClusters ow ((ps ++ p ∷ []) ++ more) ds = rw (append_assoc ps (p ∷ []) more) next in
     let one = same_by ow ps p cs found.0 c some are found.1 past.0 in
     let all = same_beyond ow (ps ++ p ∷ []) more found.0 ds c some found.1 whole past.1 in
     (λ at. all.0 (one.0 at), λ at. one.1 (all.1 at))
@@ -77,22 +77,23 @@ pub is_held : (ow : ℤ) (ps : List Point) (cs : List Cluster) {c : Cluster} {p 
 is_held ow [] cs {p} some up are at there holds = absurd (in_none p there)
 is_held ow (o ∷ ps) [] some up are at there holds = absurd are
 is_held ow (o ∷ ps) (k ∷ cs) {c} {p} some up are at there holds =
-    let ends : k.end ≡ end_of ow o (o ∷ ps) = ap (λ (x : Cluster). x.end) are.0 in
+    let ends : k.end ≡ end_of ow o (o ∷ ps) = rw are.0 in
     elim (in_cases k c cs at) [
       | inl same ↦
-          let is : c ≡ cluster_of ow o (o ∷ ps) = sym same ∙ are.0 in
+          let is = sym same ∙ are.0 in
           let end = end_of ow o (o ∷ ps) in
-          let low : o.reading ≤ℤ p.reading = subst (λ (x : Cluster). x.opened ≤ℤ p.reading) is holds.1.low in
-          let high : p.reading ≤ℤ end = subst (λ (x : Cluster). p.reading ≤ℤ x.end) is holds.1.high in
-          let cycle : p.cycle ≡ o.cycle = holds.0 ∙ ap (λ (x : Cluster). x.cycle) is in
+          let low : o.reading ≤ℤ p.reading = rw is at holds.1.low in
+          let high : p.reading ≤ℤ end = rw is at holds.1.high in
+          let cycle = holds.0 ∙ ap (λ x. x.cycle) is in
           let pass = and_from (p.cycle == o.cycle) (int_le o.reading p.reading && int_le p.reading end) (eq-eqb p.cycle o.cycle cycle)
           (and_from (int_le o.reading p.reading) (int_le p.reading end) (int_le-true o.reading p.reading low) (int_le-true p.reading end high)) in
           let within = in_filter_from (λ q. q.cycle == o.cycle && (int_le o.reading q.reading && int_le q.reading end)) (o ∷ ps) p there pass in
           let bit = has_is_member (firsts (of_cycle_within o.cycle o.reading end (o ∷ ps))) p.master
           (firsts-has (of_cycle_within o.cycle o.reading end (o ∷ ps)) p within) in
-          subst (λ (x : Cluster). bit_at x.members p.master ≡ 1) (sym is) bit
+          rw is bit
       | inr later ↦
           let opens = opens_behind ow k.end ps cs c some are.1 later in
-          is_held ow (beyond k.end ps) cs {p = p} some (Ordered-beyond k.end ps up.1) are.1 later
-          (in_rest o ps p k.end (omega (arith, ints, end_of-least ow o (o ∷ ps) some, ends, some)) (omega (arith, ints, opens.0, holds.1.low)) there) holds
+          is_held ow (beyond k.end ps) cs some (Ordered-beyond k.end ps up.1) are.1 later
+          (in_rest o ps p k.end (omega (arith, ints, end_of-least ow o (o ∷ ps) some))
+          (omega (arith, ints, opens.0, holds.1.low)) there) holds
     ]

@@ -21,7 +21,7 @@ read_at {v} {cm} {k} is i g =
     let r = ripening cm k g.link g.cause g.point g.verdict is i g.is in
     record {
       arrived = time_of r.arrival;
-      ripe = subst (λ z. IsRipe v.sizes (v.scenario.reading cm) (time_of r.arrival) z (time_of k)) (sym g.reads) r.sharp;
+      ripe = rw g.reads r.sharp;
       not_negative = omega (arith, ints, g.reads, r.not_negative);
     }
 
@@ -31,8 +31,8 @@ pub later_point : {v : View} {cm : DeviceId} {point : ℤ} (t : ℕ) {q : ℕ} �
 later_point {v} {cm} t {q} is r lt =
     let up = (steady v is cm).never_falls in
     elim r.ripe.before [
-      | inl before ↦ (let u = up t (q - 1) (omega (arith, lt)) in omega (arith, ints, u, before))
-      | inr at ↦ (let u = up t q (omega (arith, lt)) in omega (arith, ints, u, at))
+      | inl before ↦ (let u = up t (q - 1) (omega arith) in omega (arith, ints))
+      | inr at ↦ (let u = up t q (omega (arith, lt)) in omega (arith, ints))
     ]
 
 -- ---- order
@@ -47,7 +47,7 @@ points_in_order {v} {cm} {k} {l} {p} {q} is i j gk gl before =
     elim (place_order (time_of k) (time_of l) cm.0 (amount gk.point) (amount gl.point) (members_in k ∷ gk.link.0 ∷ gk.cause ∷ [])
     (members_in l ∷ gl.link.0 ∷ gl.cause ∷ []) of_l) [
       | inl lt ↦ ripe_in_order v.sizes (v.scenario.reading cm) a.arrived b.arrived p.reading q.reading (time_of k) (time_of l) (steady v is cm) a.ripe b.ripe lt
-      | inr le ↦ omega (arith, ints, le, gk.reads, gl.reads, a.not_negative, b.not_negative)
+      | inr le ↦ omega (arith, ints, gk.reads, gl.reads, a.not_negative, b.not_negative)
     ]
 
 ordered_by : {v : View} (cm : DeviceId) (ps ks rest : List Happening) → IsView v → v.records ≡ ps ++ (ks ++ rest)
@@ -61,9 +61,9 @@ ordered_by {v} cm ps (k ∷ ks) rest is whole =
         → Ordered (cons_option o (filter_map (λ h. point_by cm h h.note.body) ks))
     by None e up = up
     by (Some p) e up = (
-      all_by (λ (q : Point). p.reading ≤ℤ q.reading) (filter_map (λ h. point_by cm h h.note.body) ks) (λ q i.
-          let made = in_filter_map (λ (h : Happening). point_by cm h h.note.body) ks q i in
-          let in_rest : IsIn made.0 (ks ++ rest) = in_left made.0 ks rest made.1 in
+      all_by (λ q. p.reading ≤ℤ q.reading) (filter_map (λ h. point_by cm h h.note.body) ks) (λ q i.
+          let made = in_filter_map (λ h. point_by cm h h.note.body) ks q i in
+          let in_rest = in_left made.0 ks rest made.1 in
           let before = behind_first place_of (IsDue v.scenario) ps (ks ++ rest) k made.0 (subst (IsFounded place_of (IsDue v.scenario)) whole is.run.founded)
           in_rest in
           points_in_order is (subst (IsIn k) (sym whole) (in_right k ps (k ∷ (ks ++ rest)) (inl refl)))
@@ -76,9 +76,10 @@ ordered_by {v} cm ps (k ∷ ks) rest is whole =
 pub points_ordered : {v : View} (cm : DeviceId) (front rest : List Happening) → IsView v → v.records ≡ front ++ rest
     → Ordered (points_of front cm)
 points_ordered cm front rest is whole =
-    let cut = behind_last (λ (h : Happening). ends_stretch cm h.note.body) front in
-    ordered_by cm cut.front (after_last (λ (h : Happening). ends_stretch cm h.note.body) front) rest is
-    (whole ∙ ap (λ (hs : List Happening). hs ++ rest) cut.whole ∙ append_assoc cut.front (after_last (λ (h : Happening). ends_stretch cm h.note.body) front)
+    let cut = behind_last (λ h. ends_stretch cm h.note.body) front in
+    ordered_by cm cut.front (after_last (λ h. ends_stretch cm h.note.body) front) rest is
+    (whole ∙ ap (λ hs. hs ++ rest) cut.whole ∙ append_assoc cut.front
+    (after_last (λ h. ends_stretch cm h.note.body) front)
     rest)
 
 -- ---- stretches
@@ -92,7 +93,7 @@ last_parts : {X : Type 0} {p : X → Bool} (xs : List X) {ys : List X} → Parts
     → (after_last p (xs ++ ys) ≡ after_last p xs ++ ys) ⊎ ((x : X) → IsIn x (after_last p (xs ++ ys)) → IsIn x ys)
 last_parts {p} xs {ys} (none all) = inl (after_more ys all (parts_at_last p xs))
 last_parts {X} {p} xs (some front rest last whole here all) =
-    let at = ap (λ (zs : List X). after_last p (xs ++ zs)) whole ∙ ap (after_last p) (sym (append_assoc xs front (last ∷ rest)))
+    let at = ap (λ zs. after_last p (xs ++ zs)) whole ∙ ap (after_last p) (sym (append_assoc xs front (last ∷ rest)))
     ∙ after_last_at p (xs ++ front) last rest here (not_each p rest all) in
     inr (λ x i. subst (IsIn x) (sym whole) (in_right x front (last ∷ rest) (inr (subst (IsIn x) at i))))
 

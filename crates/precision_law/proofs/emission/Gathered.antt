@@ -6,12 +6,12 @@ use Rattle.precision_law.proofs.words.{Blocks.{master_of_bit, place_order, point
 use Rattle.precision_law.proofs.words.Clocks.{IsRipeArrival, IsRipeRecord, before_place, contains, has_member, is_collected, last_in}
 use Rattle.precision_law.proofs.words.Clocks.{master_member, opened_by, permanence_is_sharp, place_of_ripe, room, sizes_are, steady, trip_says}
 use Rattle.precision_law.proofs.words.Laws.{Hull, IsFirstMaster, IsInBlock, IsRipe, IsTrip, IsView, Leg, View, first_correction}
-use Rattle.precision_law.proofs.words.Plans.{AreClusters, Channel, Cluster, DeviceId, IsCmOf, Members, Pcf, Point, Up, Way, amount, has_point_of, none, point_at}
-use Rattle.precision_law.proofs.words.Runs.{Happening, IsBefore, IsCaused, IsDue, IsIn, IsSplit, Judgement, adjustment_at_hearing, cycle_in}
-use Rattle.precision_law.proofs.words.Runs.{founded_at, frame_by, in_left, key, master_of, member_of, members_in, observation_window, place_of}
-use Rattle.precision_law.proofs.words.{Runs.{ends_stretch, point_by, point_fault, points_of, rank, split, state_at_hearing, time_of}, Std.{unsigned_abs, unwrap_or, ℕ, ℤ}}
+use Rattle.precision_law.proofs.words.Plans.{AreClusters, Channel, Cluster, DeviceId, IsCmOf, Pcf, Point, Up, Way, amount, has_point_of, none, point_at}
+use Rattle.precision_law.proofs.words.Runs.{Happening, IsCaused, IsDue, IsIn, IsSplit, Judgement, adjustment_at_hearing, cycle_in}
+use Rattle.precision_law.proofs.words.Runs.{founded_at, frame_by, in_left, master_of, member_of, members_in, observation_window, place_of}
+use Rattle.precision_law.proofs.words.{Runs.{ends_stretch, point_by, point_fault, points_of, split, state_at_hearing, time_of}, Std.{unsigned_abs, unwrap_or, ℕ, ℤ}}
 use Rattle.precision_law.proofs.words.Std.{◌*◌, ◌+ℤ◌, ◌+◌, ◌^◌, ◌∙◌, ◌∷◌, ◌≡◌, ◌≤ℤ◌, ◌≤◌, Bool, List, None, Option, Some, [], ap, arith, eq-eqb, false}
-use Rattle.precision_law.proofs.words.Std.{if◌then◌else◌, inl, inr, int_lt, ints, last_or, option_and_then, option_map_or, pos, refl, subst, suc, sym, true}
+use Rattle.precision_law.proofs.words.Std.{if◌then◌else◌, inl, inr, int_lt, ints, last_or, option_and_then, pos, refl, subst, suc, sym, true}
 use Rattle.compression.specs.declared.taken.Taken.TheVariants as taken
 
 -- ---- points that come
@@ -35,7 +35,7 @@ meets_other cs p e = by (last_or None cs) refl e
     within c i true past e = absurd cc
     within c i false past e =
         let other = λ (same : p.cycle ≡ c.cycle). kinds (has_point_of c p.master) (rw (eq-eqb p.cycle c.cycle same) at e) in
-        record { cluster = c; there = i; to = grind (arith, ints, past); other = other }
+        record { cluster = c; there = i; to = grind (arith, ints); other = other }
 
     by : (o : Option Cluster) → last_or None cs ≡ o → role_in (option_and_then (λ c. if int_lt c.end p.reading then None else Some c) o) p ≡ taken.OtherCycle
         → MeetsOther cs p
@@ -46,7 +46,7 @@ meets_other cs p e = by (last_or None cs) refl e
 
 -- the last record of a trip is one of the run
 last_there : (v : View) (way : Way) (first last : Happening) (legs : List Leg) → IsTrip v way first legs last → IsIn first v.records → IsIn last v.records
-last_there v way first last [] trip i = subst (λ h. IsIn h v.records) trip i
+last_there v way first last [] trip i = rw trip at i
 last_there v way first last (leg ∷ legs) trip i = last_there v way leg.arriving last legs trip.2 trip.1.arrived
 
 -- the point of a first master's frame at the compression master
@@ -83,7 +83,7 @@ has_frame {v} {cm} {master} s is first =
     let p = b.permanent in
     let at = founded_at v.scenario v.records s.first is.run.founded s.dispatch.there in
     let says = trip_says Up s.first b.last b.legs _ is b.trip
-    (ap (λ (x : Happening). x.frame) at.due.same ∙ ap (frame_by network at.front) s.dispatch.is) in
+    (ap (λ x. x.frame) at.due.same ∙ ap (frame_by network at.front) s.dispatch.is) in
     let member = master_member master is first.master in
     let there = last_there v Up s.first b.last b.legs b.trip s.dispatch.there in
     let at_a = founded_at v.scenario v.records b.last is.run.founded there in
@@ -96,12 +96,13 @@ has_frame {v} {cm} {master} s is first =
       frame = says.carried;
       of_frame = says.is;
       of_cycle = says.of_cycle;
-      of_members = ap (λ (m : Members). m.0) says.of_members ∙ ap (λ (o : Option ℕ). 2 ^ unwrap_or o 0) member.1;
+      of_members = rw says.of_members (ap (λ o. 2 ^ unwrap_or o 0) member.1);
       there = there;
       sharp =
-          permanence_is_sharp v.sizes (v.scenario.reading cm) (time_of b.last) b.point b.q (steady v is cm) (omega (arith, ints, p.at_point, young, size))
+          permanence_is_sharp v.sizes (v.scenario.reading cm) (time_of b.last) b.point b.q (steady v is cm)
+          (omega (arith, ints, p.at_point))
           p.reached;
-      not_negative = omega (arith, ints, p.at_point, young, size);
+      not_negative = omega (arith, ints, p.at_point);
     }
 
 -- the compression master of a channel that is whole from the block's dispatches on, once the correction points may come, and
@@ -131,7 +132,7 @@ module _ (v : View) (channel : Channel) (n t : ℕ) (block : IsInBlock v n t) (c
       let space = room is in
       let b = s.brought in
       let high = s.high in (
-        omega (arith, ints, high, b.in_time.not_late, c.over),
+        omega (arith, ints, b.in_time.not_late, c.over),
         record {
           sent = time_of s.first;
           low = s.low;
@@ -140,7 +141,7 @@ module _ (v : View) (channel : Channel) (n t : ℕ) (block : IsInBlock v n t) (c
           not_late = b.in_time.not_late;
           least = f.sharp.least;
           most = f.sharp.most;
-          late = omega (arith, ints, early_show n before is, s.low, b.in_time.not_early, space);
+          late = omega (arith, ints, early_show n before is, s.low, b.in_time.not_early);
         },
       )
 
@@ -163,34 +164,35 @@ module _ (v : View) (channel : Channel) (n t : ℕ) (block : IsInBlock v n t) (c
       let early = split_at.only k given.1 in
       let r = read_at is i g in
       let read : IsReadAt v cm b.point b.q = record { arrived = time_of b.last; ripe = f.sharp; not_negative = f.not_negative } in
-      let placed = subst (λ z. IsBefore (time_of k ∷ rank z ∷ key (members_in k) z)
-      (place_of_ripe cm b.last b.permanent.link f.frame b.point b.q)) g.is (at.before k given.1) in
+      let placed = rw g.is at (at.before k given.1) in
       let low : o.reading ≤ℤ b.point = elim (place_order (time_of k) b.q cm.0 (amount g.point) (unsigned_abs b.point) (members_in k ∷ g.link.0 ∷ g.cause ∷ [])
       (f.frame.members.0 ∷ b.permanent.link.0 ∷ b.last.note.number ∷ []) placed) [
-        | inl lt ↦ (let above = later_point (time_of k) is read lt in let below = r.ripe.least in omega (arith, ints, above, below))
-        | inr le ↦ omega (arith, ints, le, g.reads, r.not_negative, f.not_negative)
+        | inl lt ↦ (let above = later_point (time_of k) is read lt in let below = r.ripe.least in omega (arith, ints))
+        | inr le ↦ omega (arith, ints, g.reads, r.not_negative, f.not_negative)
       ] in
       let size = (sizes_are is).precision in
       let soon = ends_soon ow o (o ∷ opened.rest) (omega (arith, ints)) in
-      let high : b.point ≤ℤ (o.reading +ℤ pos (2 * v.sizes.precision)) = omega (arith, ints, meets.to, soon, ap (λ (x : Cluster). x.end) opened.is, size) in
-      let same = c.alike b.point b.q k o aims.0 aims.1 i (omega (arith, early, to)) g low high in
-      meets.other (f.of_cycle ∙ sym same ∙ sym (ap (λ (x : Cluster). x.cycle) opened.is))
+      let high : b.point ≤ℤ (o.reading +ℤ pos (2 * v.sizes.precision)) =
+      omega (arith, ints, meets.to, ap (λ (x : Cluster). x.end) opened.is) in
+      let same = c.alike b.point b.q k o aims.0 aims.1 i (omega arith) g low high in
+      meets.other (f.of_cycle ∙ sym same ∙ sym (ap (λ x. x.cycle) opened.is))
 
   -- so its record gives its point
   recorded : (verdict : Judgement) → IsRipeRecord v cm s.brought.last s.brought.permanent.link s.brought.point s.brought.q verdict f.frame
       → IsGathered v n block.before.hull block.before.next cm master by
   recorded verdict r =
       let b = s.brought in
-      let p : Point = point_at b.point (master_of (members_in r.h)) (cycle_in r.h) in
-      let members : members_in r.h ≡ 2 ^ f.member = ap (λ (o : Option Pcf). option_map_or (λ x. x.members.0) o 0) r.of_frame ∙ f.of_members in
+      let p = point_at b.point (master_of (members_in r.h)) (cycle_in r.h) in
+      let members : members_in r.h ≡ 2 ^ f.member = rw r.of_frame f.of_members in
       record {
         k = r.h;
         there = r.there;
         p = p;
-        gives = ap (point_by cm r.h) r.is ∙ ap (λ (x : Bool). if x then Some p else None) (eq-eqb cm.0 cm.0 refl);
-        of_cycle = ap (λ (o : Option Pcf). option_map_or (λ x. x.cycle) o 0) r.of_frame ∙ f.of_cycle;
+        gives = ap (point_by cm r.h) r.is ∙ ap (λ x. if x then Some p else None) (eq-eqb cm.0 cm.0 refl);
+        of_cycle = rw r.of_frame f.of_cycle;
         of_master =
-            f.is_member ∙ ap (λ (m : ℕ). Some m) (sym (ap master_of members ∙ master_of_bit f.member (has_member master f.member is f.is_member).small));
+            f.is_member ∙ ap (λ m. Some m) (sym (ap master_of members ∙ master_of_bit f.member
+            (has_member master f.member is f.is_member).small));
         aimed = subst (IsAimed v block.before.hull block.before.next cm b.point) (sym r.time) aims.1;
         to = omega (arith, r.time, aims.0);
       }
@@ -213,9 +215,7 @@ module _ (v : View) (channel : Channel) (n t : ℕ) (block : IsInBlock v n t) (c
       } in
       let at = split place_of (IsDue v.scenario) v.records (place_of_ripe cm b.last link f.frame b.point b.q) is.run.founded in
       let split_at = before_place v b.q (3 ∷ cm.0 ∷ unsigned_abs b.point ∷ f.frame.members.0 ∷ link.0 ∷ b.last.note.number ∷ []) at in
-      let fine = subst (λ k. point_fault v.scenario.network (state_at_hearing v.scenario at.front cm b.q)
-      (adjustment_at_hearing v.scenario at.front cm b.q).0 b.point k ≡ None) (sym f.of_cycle)
-      (c.fine b.q at.front b.point (up_to_then split_at) aims.0 aims.1) in
+      let fine = rw (sym f.of_cycle) at (c.fine b.q at.front b.point (up_to_then split_at) aims.0 aims.1) in
       elim (is_collected is cm_so.one ripe at fine) [
         | inl meets ↦ absurd (never_other at meets.0 meets.1 meets.2)
         | inr found ↦ recorded found.0 found.1

@@ -1,7 +1,7 @@
 -- The compression master of the sound channel, a good master that began on, and what its dispatches bring.
 use Rattle.precision_law.proofs.{block.Dispatched.masters_dispatch, trips.{Gates.dispatches_pass, SoundUp.frames_go_up}}
 use Rattle.precision_law.proofs.words.{Blocks.{before_narrow, earlier_in_block, follows_before}, Std.{slice_get, subst, suc, true, zero, ℕ}}
-use Rattle.precision_law.proofs.words.{Clocks.{enough_masters, frames_come_first, room}, Laws.last_dispatch, Plans.{count_of, device_at, is_master, opened}}
+use Rattle.precision_law.proofs.words.{Clocks.{enough_masters, frames_come_first, room}, Laws.last_dispatch, Plans.{device_at, is_master, opened}}
 use Rattle.precision_law.proofs.words.Laws.{BlocksGoSo, Hull, IsBrought, IsDispatch, IsFirstMaster, IsInBlock, IsInHull, IsView, IsWholeFrom, View, first_correction, first_dispatch}
 use Rattle.precision_law.proofs.words.Plans.{A, B, Channel, CompressionMasters, Device, DeviceId, IsCmOf, IsSwitchOf, LinkId, Masters, Role, Up, closed}
 use Rattle.precision_law.proofs.words.Runs.{Happening, has_role, is_broken, is_cm, is_cm_role, is_parent_of, is_relay_role, time_of, waits_for}
@@ -38,12 +38,16 @@ first_or_not v device = grind (arith, cases_Bool, has_role, is_master, both_ways
 
 -- of what may be found at a place, it is at one below this, or at none
 some_below : (P : ℕ → Type 0) → ((i : ℕ) → P i ⊎ (P i → ⊥)) → (n : ℕ) → ((i : ℕ) × P i) ⊎ ((i : ℕ) → i < n → P i → ⊥)
-some_below P decide zero = inr (λ i lt p. omega (arith, lt))
+some_below P decide zero = inr (λ i lt p. omega arith)
 some_below P decide (suc n) = elim (decide n) [
   | inl here ↦ inl (n, here)
   | inr not_here ↦ elim (some_below P decide n) [
     | inl found ↦ inl found
-    | inr none ↦ inr (λ i lt p. elim (cases_lt i n) [ inl below ↦ none i below p | inr ge ↦ not_here (subst P (omega (arith, lt, ge)) p) ])
+    | inr none ↦ inr (λ i lt p. elim (cases_lt i n) [
+      | inl below ↦ none i below p
+      | inr ge ↦
+          not_here (subst P (omega arith) p)
+    ])
   ]
 ]
 
@@ -51,7 +55,7 @@ some_below P decide (suc n) = elim (decide n) [
 within : (xs : List Device) (i : ℕ) (kind : Role → Bool) → option_map_or (λ d. kind d.role) (slice_get xs i) false ≡ true → i < length xs
 within [] i kind e = absurd cc
 within (x ∷ xs) zero kind e = omega arith
-within (x ∷ xs) (suc i) kind e = (let more = within xs i kind e in omega (arith, more))
+within (x ∷ xs) (suc i) kind e = (let more = within xs i kind e in omega arith)
 
 -- the masters are enough, so there is one
 pub first_master : {v : View} → IsView v → (device : DeviceId) × IsFirstMaster v device
@@ -61,8 +65,8 @@ first_master {v} is =
       | inr none ↦
           let enough = enough_masters v (record { 0 = 0 }) is
           (λ device i m e. absurd (none device.0 (within v.scenario.network.device device.0 is_master m.master) m)) in
-          let nothing : count_of (record { 0 = 0 }) ≤ 0 = ones_le_self 0 in
-          absurd (omega (arith, enough, (is.lawful.rules Masters 2).threshold_least refl, nothing))
+          let nothing = ones_le_self 0 in
+          absurd (omega (arith, (is.lawful.rules Masters 2).threshold_least refl))
     ]
 
 -- ---- what a dispatch brings
@@ -83,14 +87,14 @@ pub sends_up : BlocksGoSo → {v : View} (channel : Channel) {n t : ℕ} (block 
 sends_up goes {v} channel {n} {t} block cm {master} is late one whole first =
     let before = block.before in
     let space = frames_come_first v.sizes before.hull (room is) (before_narrow before) in
-    let sent = masters_dispatch goes v n t block master is (omega (arith, ints, space, late)) first in
+    let sent = masters_dispatch goes v n t block master is (omega (arith, ints)) first in
     let w = time_of sent.0 in
-    let soon : w + v.sizes.dmax + v.sizes.path ≤ v.until = omega (arith, ints, sent.2, space, late, block.in_run) in
+    let soon : w + v.sizes.dmax + v.sizes.path ≤ v.until = omega (arith, ints, sent.2, block.in_run) in
     let from : before.next ≤ w = elim (cases_lt w before.next) [
       | inr ge ↦ ge
-      | inl early ↦ (let wrong = (before.dispatches sent.0 master (suc n) sent.1 early).0 in absurd (omega (arith, wrong)))
+      | inl early ↦ (let wrong = (before.dispatches sent.0 master (suc n) sent.1 early).0 in absurd (omega arith))
     ] in
-    let there : IsInBlock v n w = earlier_in_block _ _ _ _ block from (omega (arith, ints, sent.2, space, late)) in
+    let there = earlier_in_block _ _ _ _ block from (omega (arith, ints, sent.2)) in
     let so = (goes v n w there is).dispatches sent.0 master (suc n) sent.1 refl in
     let hull = so.inside in
     let low : first_dispatch v.sizes before.hull ≤ℤ pos w =
@@ -101,5 +105,5 @@ sends_up goes {v} channel {n} {t} block cm {master} is late one whole first =
       low = low;
       high = sent.2;
       brought = frames_go_up v channel sent.0 master cm (suc n) is (whole w hull) sent.1 one
-          (dispatches_pass goes channel there is low sent.2 (omega (arith, soon))) soon;
+          (dispatches_pass goes channel there is low sent.2 (omega arith)) soon;
     }

@@ -13,7 +13,7 @@ use Rattle.precision_law.proofs.words.Plans.{AreClusters, Channel, Cluster, IsCm
 use Rattle.precision_law.proofs.words.Runs.{BeginsOn, Happening, IsDue, IsFounded, IsIn, IsSplit, before_later_time, before_next_time, earlier_time, ends_stretch}
 use Rattle.precision_law.proofs.words.Runs.{front_founded, in_front_of, in_left, in_parts, in_right, is_cm, key, member_of, members_in, observation_window}
 use Rattle.precision_law.proofs.words.Std.{◌*◌, ◌++◌, ◌+ℤ◌, ◌+◌, ◌<ℤ◌, ◌<◌, ◌∙◌, ◌∷◌, ◌≡◌, ◌≤ℤ◌, ◌≤◌, ◌⊎◌, Contains, List, Some, [], ap, append_assoc, arith}
-use Rattle.precision_law.proofs.words.Std.{after_last, bit_at, cases_lt, false, false_from_ne_true, filter_map, filter_map-append, inl, inr, ints, pos, refl}
+use Rattle.precision_law.proofs.words.Std.{after_last, cases_lt, false, false_from_ne_true, filter_map, filter_map-append, inl, inr, ints, pos, refl}
 
 -- ---- the points by then
 
@@ -43,7 +43,8 @@ module _ (goes : BlocksGoSo) (v : View) (channel : Channel) (n t : ℕ) (block :
   up_to : (h : Happening) → IsIn h by_then.front → IsIn h v.records × (time_of h ≤ by)
   up_to h i = (
     subst (IsIn h) (sym by_then.whole) (in_left h by_then.front by_then.rest i),
-    (let lt = earlier_time (time_of h) (by + 1) (rank h.note.body ∷ key (members_in h) h.note.body) (by_then.before h i) in omega (arith, lt)),
+    (let lt = earlier_time (time_of h) (by + 1) (rank h.note.body ∷ key (members_in h) h.note.body)
+        (by_then.before h i) in omega arith),
   )
 
   abbrev points : List Point
@@ -87,7 +88,7 @@ module _ (goes : BlocksGoSo) (v : View) (channel : Channel) (n t : ℕ) (block :
         | inr there ↦ there
         | inl before ↦
             let early = earlier_time (time_of g.k) next (rank g.k.note.body ∷ key (members_in g.k) g.k.note.body) (cut.before g.k before) in
-            absurd (omega (arith, early, g.aimed.late))
+            absurd (omega (arith, g.aimed.late))
       ] in
       let more = points_more cm cut.front cut.rest (λ h i. coll.quiet h (up_to h (in_all h i)).0 (late h i) (up_to h (in_all h i)).1) in
       subst (IsIn g.p) (sym (ap (λ hs. points_of hs cm) cut.whole ∙ more))
@@ -113,7 +114,8 @@ module _ (goes : BlocksGoSo) (v : View) (channel : Channel) (n t : ℕ) (block :
       let ends : dropped.0.end ≡ end_of ow o (o ∷ opened.rest) = ap (λ (x : Cluster). x.end) opened.is in
       let opens : dropped.0.opened ≡ o.reading = ap (λ (x : Cluster). x.opened) opened.is in
       let cycle = coll.alike g.p.reading (time_of g.k) given.0 o g.to g.aimed there.0 there.1 given.2
-      (omega (arith, ints, lies.low, opens)) (omega (arith, ints, lies.high, ends, ends_soon ow o (o ∷ opened.rest) (omega (arith, ints)), sizes_are is)) in
+      (omega (arith, ints, lies.low)) (omega
+      (arith, ints, lies.high, ends_soon ow o (o ∷ opened.rest) (omega (arith, ints)), sizes_are is)) in
       dropped.2 (g.of_cycle ∙ sym cycle ∙ sym (ap (λ (x : Cluster). x.cycle) opened.is))
 
   -- ---- the cluster
@@ -150,7 +152,7 @@ module _ (goes : BlocksGoSo) (v : View) (channel : Channel) (n t : ℕ) (block :
   is_member device i first e =
       let p = all.holds device first in
       let bit = is_held ow points found.0 (omega (arith, ints)) ordered found.1 all.there (contains points p.0 p.2) p.3 in
-      subst (λ (j : ℕ). bit_at all.cluster.members j ≡ 1) (same_some (member_of v.scenario.network device) p.0.master i p.1 e) bit
+      rw (sym (same_some (member_of v.scenario.network device) p.0.master i p.1 e)) bit
 
   -- it is of the block's cycle
   of_cycle : all.cluster.cycle ≡ suc n
@@ -190,13 +192,25 @@ module _ (goes : BlocksGoSo) (v : View) (channel : Channel) (n t : ℕ) (block :
       let q = g.ripe in
       let w = subst (λ m. IsInHull v m (time_of g.first)) e.of_cycle (known.tidy g.first g.master near.cycle g.dispatch (omega (arith, g.before))) in
       let high = w.most in
-      let last = natural_of (w.hull.greatest +ℤ pos (v.sizes.dmax + v.sizes.compression + v.sizes.base + v.sizes.precision)) 0 (omega (arith, ints, high)) in
+      let last = natural_of (w.hull.greatest +ℤ pos
+      (v.sizes.dmax + v.sizes.compression + v.sizes.base + v.sizes.precision)) 0 (omega (arith, ints)) in
       let x = last.0 in
-      let after : q ≤ x = omega (arith, ints, last.1, high, g.in_time.not_late, space.errors.base_is) in
-      let within : x ≤ q + 2 * v.sizes.cycle = omega (arith, ints, last.1, known.narrow w.hull w.is, w.least, g.in_time.not_early, space) in
+      let after : q ≤ x = omega (arith, ints, last.1, g.in_time.not_late, space.errors.base_is) in
+      let within : x ≤ q + 2 * v.sizes.cycle = omega
+      (arith, ints, last.1, known.narrow w.hull w.is, w.least, g.in_time.not_early) in
       let reached : sent_reading ≤ℤ pos (reading x) =
-      omega (arith, ints, clock.slow q x after within, last.1, high, g.in_time.not_late, space.errors.base_is, g.least, e.soon) in
-      let there = reach_is_there v.sizes reading 0 0 sent_reading x clock (omega arith) (omega (arith, ints, last.1, high, space.compression_least))
+      omega (
+        arith,
+        ints,
+        clock.slow q x after within,
+        last.1,
+        g.in_time.not_late,
+        space.errors.base_is,
+        g.least,
+        e.soon,
+      ) in
+      let there = reach_is_there v.sizes reading 0 0 sent_reading x clock (omega arith)
+      (omega (arith, ints, last.1, space.compression_least))
       (omega (arith, ints, clock.begins, e.begun)) reached in
       let follows = follows_before n block.before.hull w.hull is block.before.is_hull w.is in
       (there.0, omega (arith, ints, there.2, last.1, follows.most, coll.over), there.3)
@@ -216,10 +230,10 @@ module _ (goes : BlocksGoSo) (v : View) (channel : Channel) (n t : ℕ) (block :
       let above : g.ripe ≤ u = elim (cases_lt u g.ripe) [
         | inr ge ↦ ge
         | inl lt ↦
-            let up = (steady v is cm).never_falls u g.ripe (omega (arith, lt)) in
-            absurd (omega (arith, ints, up, g.most, e.near, comes_to.2.reached, space))
+            let up = (steady v is cm).never_falls u g.ripe (omega arith) in
+            absurd (omega (arith, ints, g.most, e.near, comes_to.2.reached))
       ] in
-      omega (arith, ints, above, early_show n block.before is, follows, w.least, g.in_time.not_early, space)
+      omega (arith, ints, early_show n block.before is, w.least, g.in_time.not_early)
 
   -- the records before the place of the frame
   first : IsSplit place_of by_then.front (place_of_sent v cm all.cluster u)
@@ -253,7 +267,7 @@ module _ (goes : BlocksGoSo) (v : View) (channel : Channel) (n t : ℕ) (block :
         | inl lt ↦ lt
         | inr le ↦ elim (cases_lt (time_of k) u) [
           | inl lt ↦ absurd (first.none k made.1 (inl lt))
-          | inr ge ↦ absurd (first.none k made.1 (inr (omega (arith, le, ge), inl (omega (arith, ap rank g.is)))))
+          | inr ge ↦ absurd (first.none k made.1 (inr (omega arith, inl (omega (arith, ap rank g.is)))))
         ]
       ] in
       omega (arith, ints, later_point u is (read_at is in_all g) behind, comes_to.2.reached)
@@ -266,23 +280,24 @@ module _ (goes : BlocksGoSo) (v : View) (channel : Channel) (n t : ℕ) (block :
       let whole = ap (λ hs. points_of hs cm) first.whole ∙ points_more cm first.front first.rest (λ h i.
       (let there = up_to h (subst (IsIn h) (sym first.whole) (in_right h first.front first.rest i)) in
       let late : u ≤ time_of h = elim (cases_lt (time_of h) u) [ inl lt ↦ absurd (first.none h i (inl lt)) | inr ge ↦ ge ] in
-      coll.quiet h there.0 (omega (arith, late, begun)) there.1)) in
+      coll.quiet h there.0 (omega (arith, begun)) there.1)) in
       let ends = emerges.1.ends in
-      let past = all_by (λ (q : Point). all.cluster.end <ℤ q.reading) more (λ q i. (let above = past_sent q i in omega (arith, ints, above, ends))) in
+      let past = all_by (λ (q : Point). all.cluster.end <ℤ q.reading) more
+      (λ q i. (let above = past_sent q i in omega (arith, ints))) in
       let before = one_list_of_clusters ow (points_of first.front cm) in
       let was = cluster_was ow (points_of first.front cm) more before.0 found.0 all.cluster (omega (arith, ints)) before.1
-      (subst (λ ps. AreClusters ow ps found.0) whole found.1) all.there past in
+      (rw (sym whole) found.1) all.there past in
       is_sent cm u all.cluster before.0 is one coll.good (omega (arith, comes_to.1, coll.to, block.in_run)) all_before before.1 was comes_to.2
 
   -- and its base lies in the hull
   pub emits : (hull : Hull) × (hull_of v (suc n) ≡ Some hull) × SendsOn v channel n hull
   emits =
       let members : Members = record { 0 = all.cluster.members } in
-      let emission : IsEmission v sends.h cm (suc n) members = subst (λ k. IsEmission v sends.h cm k members) of_cycle sends.emission in
+      let emission : IsEmission v sends.h cm (suc n) members = rw (sym of_cycle) sends.emission in
       let enough = enough_masters v members is is_member in
       let base = bases_are_in_hulls v sends.h cm (suc n) members is emission
-      (λ h d m dispatch lt. known.tidy h d m dispatch (omega (arith, lt, sends.time, comes_to.1)))
-      (inl (omega (arith, (is.lawful.rules Masters 2).threshold_least refl, enough))) in (
+      (λ h d m dispatch lt. known.tidy h d m dispatch (omega (arith, sends.time, comes_to.1)))
+      (inl (omega (arith, (is.lawful.rules Masters 2).threshold_least refl))) in (
         base.hull,
         base.is,
         record {
@@ -309,13 +324,13 @@ calm_master_sends goes {v} channel {n} {t} block cm is of_channel on kept whole 
     let space = room is in
     let natural = natural_of (last_dispatch v.sizes before.hull +ℤ pos
     (v.sizes.dmax + v.sizes.compression + v.sizes.base + v.sizes.path + v.sizes.precision)) 0
-    (omega (arith, ints, early_show n before is, hull_ordered n before is, space)) in
-    let by : ℕ = natural.0 in
+    (omega (arith, ints, early_show n before is, hull_ordered n before is)) in
+    let by = natural.0 in
     let early = frames_come_first v.sizes before.hull space (before_narrow before) in
     let as_cm = cm_is v channel cm of_channel in
     let calm : IsCalm v n t block cm by = record {
-      before = omega (arith, ints, natural.1, early);
-      to = omega (arith, ints, natural.1, early, late);
+      before = omega (arith, ints, natural.1);
+      to = omega (arith, ints, natural.1);
       kept = kept;
       good = switches_are_good v channel cm is as_cm.switch;
       on = on;
@@ -338,4 +353,4 @@ sound_master_sends goes v n t block is late =
     let cm = channel_cm v.channel is in
     let switch = (cm_is v v.channel cm.0 cm.1).switch in
     calm_master_sends goes v.channel block cm.0 is cm.1 (sound_switches_begin_on v cm.0 is switch)
-    (firm_kept block.before {device = cm.0} (inr switch)) (λ u inside. sound_is_whole u is) late
+    (firm_kept block.before (inr switch)) (λ u inside. sound_is_whole u is) late

@@ -1,7 +1,7 @@
 -- Where no device is broken, the compression master of a channel that is whole sends its frame, whatever its state.
 use Rattle.precision_law.proofs.block.Dispatched.{IsEarly, early_point, old_early}
 use Rattle.precision_law.proofs.block.Goings.{has_corrected, has_lost, known_dispatch, narrow_at}
-use Rattle.precision_law.proofs.emission.Aimed.{IsAimed, IsTakenFor, no_point_fault, taken_by_old}
+use Rattle.precision_law.proofs.emission.Aimed.{IsAimed, no_point_fault, taken_by_old}
 use Rattle.precision_law.proofs.emission.Senders.{channel_cm, cm_is}
 use Rattle.precision_law.proofs.emission.SoundMaster.{emits}
 use Rattle.precision_law.proofs.compression.Made.{record_point}
@@ -15,11 +15,11 @@ use Rattle.precision_law.proofs.words.Laws.{BlockGoesSo, BlocksGoSo, HasTimeAt, 
 use Rattle.precision_law.proofs.words.Laws.{IsInHull, IsView, IsWholeFrom, View, adjustment_left, first_correction}
 use Rattle.precision_law.proofs.words.Laws.{hull_of, is_correction, last_dispatch, state_left}
 use Rattle.precision_law.proofs.words.Plans.{Channel, Corrected, DeviceId, Integrating, IsCmOf, Joining, Masters}
-use Rattle.precision_law.proofs.words.Plans.{Members, Network, Off, Point, State, SyncPlan, Synchronised, Taken, Units}
+use Rattle.precision_law.proofs.words.Plans.{Members, Network, Off, Point, State, SyncPlan, Synchronised, Taken}
 use Rattle.precision_law.proofs.words.Plans.{count_of}
 use Rattle.precision_law.proofs.words.Runs.{observation_window, plan_of, ChangesState, Cycle, Gate, Happening}
 use Rattle.precision_law.proofs.words.Runs.{Integrates, IsCaused, IsCollectedOrDropped, IsIn, NoteBody, Reason, Why}
-use Rattle.precision_law.proofs.words.Runs.{adjustment_after, adjustment_at_hearing, changes_adjustment, dispatch_value}
+use Rattle.precision_law.proofs.words.Runs.{adjustment_at_hearing, changes_adjustment}
 use Rattle.precision_law.proofs.words.Runs.{earlier, ends_stretch, first_reason, founded_at, has_joined_at, heard_as}
 use Rattle.precision_law.proofs.words.Runs.{heard_by_schedule, heard_enough, in_left, is_broken, is_cm, is_joined_by}
 use Rattle.precision_law.proofs.words.Runs.{is_synchronised, is_turned_on_at, last_cycle, numbered_in, point_fault}
@@ -27,7 +27,7 @@ use Rattle.precision_law.proofs.words.Runs.{ripe_as, ripe_by_role, same_some, st
 use Rattle.precision_law.proofs.words.Std.{◌&&◌, ◌*◌, ◌+ℤ◌, ◌+◌, ◌<◌, ◌==◌, ◌||◌, ◌∙◌, ◌∷◌, ◌≡◌, ◌≤ℤ◌, ◌≤◌}
 use Rattle.precision_law.proofs.words.Std.{if◌then◌else◌, [], Bool, List, MatchBool-at_true, None, Option, Some}
 use Rattle.precision_law.proofs.words.Std.{and_parts, ap, arith, both_ways, cases_Bool, cases_lt, eq-eqb, false}
-use Rattle.precision_law.proofs.words.Std.{false_from_ne_true, filter, inl, inr, ints, le-leb, leb-true, list_any}
+use Rattle.precision_law.proofs.words.Std.{false_from_ne_true, inl, inr, ints, le-leb, leb-true, list_any}
 use Rattle.precision_law.proofs.words.Std.{lt-ltb, nat_le, nat_lt, not, pos, refl, subst, suc, sym, true, zero, ℕ, ℤ}
 use Rattle.precision_law.specs.SoundEmissions.{SendsOn}
 use Rattle.run_law.proofs.runs.SameSteps.{never_dropped}
@@ -60,7 +60,7 @@ in_step : {v : View} (device : DeviceId) {q : ℕ} {hs : List Happening} → Are
 in_step {v} device {q} {hs} up so =
     let parts = in_step_by (has_joined_at hs device q) (is_turned_on_at v.scenario device q)
     (state_after v.scenario (earlier q hs) device) so in
-    (parts.0, ap (λ es. is_synchronised (state_after v.scenario es device)) (sym up.all) ∙ parts.1)
+    (parts.0, rw (sym up.all) parts.1)
 
 or_not : (a b : Bool) → (a ≡ false → b ≡ false) → (a || b) ≡ a
 or_not true b quiet = refl
@@ -74,11 +74,11 @@ adjusts_as {v} device {q} {hs} up none =
     let quiet : (h : Happening) → IsIn h hs → q ≤ time_of h → is_joined_by device h.note.body ≡ false = λ h i ge.
     false_from_ne_true (is_joined_by device h.note.body) (λ joins.
     (let to = up.to h i in
-    let at = eq-eqb (time_of h) q (omega (arith, ge, to)) in
-    both_ways (has_joined_at hs device q) none (in_any (λ (g : Happening). time_of g == q && is_joined_by device
+    let at = eq-eqb (time_of h) q (omega arith) in
+    both_ways (has_joined_at hs device q) none (in_any (λ g. time_of g == q && is_joined_by device
     g.note.body) hs h i
-    (ap (λ (b : Bool). b && is_joined_by device h.note.body) at ∙ joins)))) in
-    let kept : filter (λ h. nat_lt (time_of h) q || is_joined_by device h.note.body) hs ≡ earlier q hs =
+    (rw at joins)))) in
+    let kept =
     same_kept (λ h. nat_lt (time_of h) q || is_joined_by device h.note.body) (λ h. nat_lt (time_of h) q) hs
     (λ h i. or_not (nat_lt (time_of h) q) (is_joined_by device h.note.body) (λ not_early.
     elim (cases_lt (time_of h) q) [
@@ -86,7 +86,7 @@ adjusts_as {v} device {q} {hs} up none =
           (lt-ltb (time_of h) q early))
       | inr ge ↦ quiet h i ge
     ])) in
-    ap (λ es. (adjustment_after v.scenario es device).0) (kept ∙ up.all)
+    rw (kept ∙ up.all)
 
 -- ---- points of other cycles
 
@@ -94,19 +94,19 @@ adjusts_as {v} device {q} {hs} up none =
 pub leasts_grow : {v : View} (c n : ℕ) (a b : Hull) → IsView v → c ≤ n → hull_of v c ≡ Some a → hull_of v n ≡ Some b
     → a.least ≤ℤ b.least
 leasts_grow {v} c zero a b is le one two =
-    let same : c ≡ zero = omega (arith, le) in
-    let equal = same_some (hull_of v zero) a b (subst (λ k. hull_of v k ≡ Some a) same one) two in
-    omega (arith, ints, ap (λ (h : Hull). h.least) equal)
+    let same : c ≡ zero = omega arith in
+    let equal = same_some (hull_of v zero) a b (rw same at one) two in
+    omega (arith, ints, ap (λ h. h.least) equal)
 leasts_grow {v} c (suc n) a b is le one two =
     elim (cases_lt c (suc n)) [
       | inl lt ↦
           let has = has_before v n b (within_run is) two in
-          let more = leasts_grow c n a has.before is (omega (arith, lt)) one has.is_before in
-          omega (arith, ints, more, has.follows.least, room is)
+          let more = leasts_grow c n a has.before is (omega arith) one has.is_before in
+          omega (arith, ints, has.follows.least, room is)
       | inr ge ↦
-          let same : c ≡ suc n = omega (arith, le, ge) in
-          let equal = same_some (hull_of v (suc n)) a b (subst (λ k. hull_of v k ≡ Some a) same one) two in
-          omega (arith, ints, ap (λ (h : Hull). h.least) equal)
+          let same : c ≡ suc n = omega arith in
+          let equal = same_some (hull_of v (suc n)) a b (rw same at one) two in
+          omega (arith, ints, ap (λ h. h.least) equal)
     ]
 
 -- ---- joinings
@@ -182,16 +182,16 @@ module _ (goes : BlocksGoSo) (v : View) (n t : ℕ) (block : IsInBlock v n t) (c
         | inl so ↦
             let step = in_step cm up so in
             let has : HasTimeAt v cm q = record { good = all cm; timed = has_it (state_left v cm q) step.1 } in
-            let old = old_early goes v n t block cm by q is early (all cm) (omega (arith, le)) step.1 in
-            let value = taken_by_old block is (omega (arith, le, early.1)) has old aimed in
+            let old = old_early goes v n t block cm by q is early (all cm) (omega arith) step.1 in
+            let value = taken_by_old block is (omega (arith, early.1)) has old aimed in
             let same = adjusts_as cm up step.0
-            ∙ sym (ap (λ (a : Units). a.0) (adjustment_stays cm next q is (omega (arith, aimed.late)) old)) in
+            ∙ sym (ap (λ a. a.0) (adjustment_stays cm next q is (omega (arith, aimed.late)) old)) in
             no_point_fault state adjustment point is
-            (subst (λ z. IsTakenFor v.sizes (suc n) (dispatch_value network z point)) (sym same) value)
+            (rw same value)
       ]
 
   went : (u : ℕ) → block.before.next ≤ u → u < by + 1 → BlockGoesSo v n block.before.next u block.before.hull
-  went u from lt = goes v n u (earlier_in_block _ _ _ _ block from (omega (arith, lt, early.1))) is
+  went u from lt = goes v n u (earlier_in_block _ _ _ _ block from (omega (arith, early.1))) is
 
   -- what lies so near before one is of the block's cycle
   alike : (point : ℤ) (q : ℕ) (k : Happening) (o : Point) → q ≤ by
@@ -206,21 +206,21 @@ module _ (goes : BlocksGoSo) (v : View) (n t : ℕ) (block : IsInBlock v n t) (c
             let known = known_dispatch v n (by + 1) block.before went good.first good.master o.cycle good.dispatch
             (omega (arith, good.before)) in
             elim (cases_lt o.cycle (suc n)) [
-              | inr ge ↦ omega (arith, ge, known.0)
+              | inr ge ↦ omega (arith, known.0)
               | inl lt ↦
                   let w = known.1 in
-                  let narrow = narrow_at o.cycle block.before w.hull (omega (arith, lt)) w.is in
+                  let narrow = narrow_at o.cycle block.before w.hull (omega arith) w.is in
                   let least = leasts_grow o.cycle n w.hull block.before.hull is
-                  (omega (arith, lt)) w.is block.before.is_hull in
+                  (omega arith) w.is block.before.is_hull in
                   let clock = steady v is cm in
                   let x = good.ripe in
                   let space = room is in
                   let apart : x + 4 * v.sizes.precision ≤ q =
-                  omega (arith, ints, least, narrow, w.most, good.in_time.not_late, aimed.low, aimed.not_early, space)
+                  omega (arith, ints, w.most, good.in_time.not_late, aimed.low, aimed.not_early)
                   in
                   let slow = clock.slow x (x + 4 * v.sizes.precision) (omega arith) (omega (arith, space.cycles)) in
                   let more = clock.never_falls (x + 4 * v.sizes.precision) q apart in
-                  absurd (omega (arith, ints, slow, more, good.least, aimed.most, high, space))
+                  absurd (omega (arith, ints, good.least, aimed.most))
             ]
       ]
 
@@ -248,12 +248,12 @@ module _ (goes : BlocksGoSo) (v : View) (n t : ℕ) (block : IsInBlock v n t) (c
       let g = c.2.3 in
       let there : IsIn g v.records = subst (IsIn g) (sym at.whole) (in_left g at.front (h ∷ at.rest)
       (numbered_in at.front cause g c.2.4.there)) in
-      let same : time_of g ≡ time_of h = c.2.4.same_time in
+      let same = c.2.4.same_time in
       let sets = ap (changes_adjustment cm) c.2.5 ∙ eq-eqb cm.0 cm.0 refl in
       let corrected = has_corrected cm g is (all cm) there sets (ap is_correction c.2.5) in
       absurd (early_point goes v n t block cm by (time_of g) corrected.cycle (Corrected corrected.by) is early
-      (omega (arith, same, from))
-      (omega (arith, same, le)) corrected.point)
+      (omega arith)
+      (omega arith) corrected.point)
   told_by h state cause whys.SyncClique i from le body other =
       let lost = has_lost cm h state cause whys.SyncClique is (all cm) i body tt in
       absurd (early_point goes v n t block cm by (time_of h) lost.cycle lost.verdict is early from le lost.point)
@@ -267,7 +267,7 @@ module _ (goes : BlocksGoSo) (v : View) (n t : ℕ) (block : IsInBlock v n t) (c
       → ends_stretch cm body ≡ true → IsTold v cm (time_of h)
   told h (notes.State other state cause why) i from le same e =
       let parts = not_on cm other state cause why e in
-      told_by h state cause why i from le (same ∙ ap (λ (d : DeviceId). notes.State d state cause why)
+      told_by h state cause why i from le (same ∙ ap (λ d. notes.State d state cause why)
       (same_device cm other parts.1)) parts.0
   told h body i from le same e = record { g = h; there = i; at = refl; joined = ap (is_joined_by cm) same ∙ e }
 
@@ -278,28 +278,28 @@ module _ (goes : BlocksGoSo) (v : View) (n t : ℕ) (block : IsInBlock v n t) (c
       → IsFrameSent v channel n
   sent_by channel of_channel g (notes.Permanent other link cause point Integrates) i from le same e =
       let at = founded_at v.scenario v.records g is.run.founded i in
-      let body = same ∙ ap (λ (d : DeviceId). notes.Permanent d link cause point Integrates) (same_device cm other e) in
+      let body = same ∙ ap (λ d. notes.Permanent d link cause point Integrates) (same_device cm other e) in
       let ripens = subst (IsCaused v.scenario at.front g.note.time) body at.due.cause in
       absurd (no_telling _ _ _ _ (MatchBool-at_true _ _ one ripens.becomes))
   sent_by channel of_channel g (notes.Compressed other opened own cycle members Integrates) i from le same e =
       let at = founded_at v.scenario v.records g is.run.founded i in
-      let body = same ∙ ap (λ (d : DeviceId). notes.Compressed d opened own cycle members Integrates)
+      let body = same ∙ ap (λ d. notes.Compressed d opened own cycle members Integrates)
       (same_device cm other e) in
       let emits_so = subst (IsCaused v.scenario at.front g.note.time) body at.due.cause in
-      let enough : v.scenario.network.sync_threshold ≤ count_of members =
+      let enough =
       enough_by (plan_of v.scenario.network cm) (observation_window v.scenario.network)
       (state_at_hearing v.scenario at.front cm (time_of g))
       (adjustment_at_hearing v.scenario at.front cm (time_of g)).0 own.0 cycle members emits_so.heard in
       let shows = emission_shows g cm opened own cycle members Integrates is i body in
       let joined = ap (is_joined_by cm) same ∙ e in
-      let joins = (went (time_of g) from (omega (arith, le))).joins g cm i joined (all cm) refl in
-      let of_cycle : cycle ≡ suc n = shows.0 ∙ joins.of_cycle in
+      let joins = (went (time_of g) from (omega arith)).joins g cm i joined (all cm) refl in
+      let of_cycle = shows.0 ∙ joins.of_cycle in
       let emission : IsEmission v g cm (suc n) members =
-      subst (λ k. IsEmission v g cm k members) of_cycle (record
+      rw (sym of_cycle) (record
       { there = i; opened = opened; at = own; verdict = Integrates; is = body }) in
       let base = bases_are_in_hulls v g cm (suc n) members is emission
-      (λ h d m dispatch lt. (known_dispatch v n (by + 1) block.before went h d m dispatch (omega (arith, lt, le))).1)
-      (inl (omega (arith, (is.lawful.rules Masters 2).threshold_least refl, enough))) in (
+      (λ h d m dispatch lt. (known_dispatch v n (by + 1) block.before went h d m dispatch (omega arith)).1)
+      (inl (omega (arith, (is.lawful.rules Masters 2).threshold_least refl))) in (
         base.hull,
         base.is,
         record {
@@ -326,13 +326,13 @@ whole_master_sends goes {v} channel {n} {t} block is all whole late =
     let space = room is in
     let natural = natural_of (last_dispatch v.sizes before.hull +ℤ pos
     (v.sizes.dmax + v.sizes.compression + v.sizes.base + v.sizes.path + v.sizes.precision)) 0
-    (omega (arith, ints, early_show n before is, hull_ordered n before is, space)) in
-    let by : ℕ = natural.0 in
+    (omega (arith, ints, early_show n before is, hull_ordered n before is)) in
+    let by = natural.0 in
     let first = frames_come_first v.sizes before.hull space (before_narrow before) in
     let early : IsEarly v n t block by = (
-      omega (arith, ints, natural.1, first),
+      omega (arith, ints, natural.1),
       omega
-          (arith, ints, natural.1, first, late),
+          (arith, ints, natural.1),
     ) in
     let cm = channel_cm channel is in
     let one = (cm_is v channel cm.0 cm.1).one in
@@ -359,9 +359,8 @@ whole_master_sends goes {v} channel {n} {t} block is all whole late =
             (let x = told goes v n t block cm.0 by is all one early h h.note.body i from le refl ends in
             let same = x.at in
             both_ways (list_any test v.records) none (in_any test v.records x.g x.there
-            (ap (λ (b : Bool). b && (nat_le (time_of x.g) by && is_joined_by cm.0 x.g.note.body))
-            (le-leb next (time_of x.g) (omega (arith, same, from)))
-            ∙ ap (λ (b : Bool). b && is_joined_by cm.0 x.g.note.body)
-            (le-leb (time_of x.g) by (omega (arith, same, le))) ∙ x.joined))));
+            (rw (le-leb next (time_of x.g) (omega arith))
+            (ap (λ b. b && is_joined_by cm.0 x.g.note.body)
+            (le-leb (time_of x.g) by (omega arith)) ∙ x.joined)))));
       })
     ]

@@ -13,10 +13,10 @@ use Rattle.precision_law.proofs.words.Std.{◌*◌, ◌+ℤ◌, ◌+◌, ◌-◌
 ordered_before : {v : View} {k : ℕ} (stands : Stands v k) (j : ℕ) (hull : Hull) → IsView v → j ≤ k
     → hull_of v j ≡ Some hull → hull.least ≤ℤ hull.greatest
 ordered_before {v} stands zero hull view le is =
-    let same : start_hull v.sizes ≡ hull = same_some (hull_of v zero) (start_hull v.sizes) hull refl is in
-    omega (arith, ints, ap (λ (z : Hull). z.least) same, ap (λ (z : Hull). z.greatest) same)
+    let same = same_some (hull_of v zero) (start_hull v.sizes) hull refl is in
+    omega (arith, ints, ap (λ z. z.least) same, ap (λ z. z.greatest) same)
 ordered_before stands (suc i) hull view le is =
-    let prior = stands.narrow i (omega (arith, le)) in (follows_before i prior.0 hull view prior.1 is).ordered
+    let prior = stands.narrow i (omega arith) in (follows_before i prior.0 hull view prior.1 is).ordered
 
 module _ (cover : BlocksCover) (goes : BlocksGoSo) (s : Scenario) (hs : List Happening) (path x y until : ℕ)
     (near_in : AreNearIn s hs until) (most : y ≤ until) (two : AreViews s hs path x y) where
@@ -35,16 +35,16 @@ module _ (cover : BlocksCover) (goes : BlocksGoSo) (s : Scenario) (hs : List Hap
       elim one.how [
         | inl old ↦
             elim other.how [
-              | inl too ↦ omega (arith, ints, old.most, too.least, close, space, le)
+              | inl too ↦ omega (arith, ints, old.most, too.least)
               | inr new ↦ (let follows = follows_before n after.hull new.hull two.b.is after.is_hull new.is_hull in
-                  omega (arith, ints, old.most, new.shows.least, close, space, le, more, follows.most))
+                  omega (arith, ints, old.most, new.shows.least, follows.most))
             ]
         | inr set ↦
             elim other.how [
               | inl too ↦ (let follows = follows_before n before.hull set.hull two.a.is before.is_hull set.is_hull in
-                  omega (arith, ints, set.shows.most, too.least, close, space, le, more, follows.least))
+                  omega (arith, ints, set.shows.most, too.least, follows.least))
               | inr new ↦ (let both = near_hulls cover goes s hs path x y until near_in most two (suc n) set.hull new.hull set.is_hull new.is_hull in
-                  omega (arith, ints, set.shows.most, new.shows.least, both, space, le))
+                  omega (arith, ints, set.shows.most, new.shows.least))
             ]
       ]
 
@@ -56,18 +56,18 @@ module _ (cover : BlocksCover) (goes : BlocksGoSo) (s : Scenario) (hs : List Hap
       let order = two.le in
       let space = room two.a.is in
       let before = block.before in
-      let here = before.narrow n (omega (arith, le)) in
-      let next = before.narrow (suc n) (omega (arith, lt)) in
+      let here = before.narrow n (omega arith) in
+      let next = before.narrow (suc n) (omega arith) in
       let there = before.narrow j (omega arith) in
       let close = near_hulls cover goes s hs path x y until near_in most two n here.0 later.before.hull here.1 later.before.is_hull in
       let follows = follows_before n here.0 next.0 two.a.is here.1 next.1 in
-      let gap : suc n + (j - suc n) ≡ j = omega (arith, lt) in
-      let low = corrections_go_on (suc n) (j - suc n) before next.0 there.0 two.a.is (omega (arith, lt)) next.1
-      (subst (λ z. hull_of v z ≡ Some there.0) (sym gap) there.1) in
+      let gap : suc n + (j - suc n) ≡ j = omega arith in
+      let low = corrections_go_on (suc n) (j - suc n) before next.0 there.0 two.a.is (omega arith) next.1
+      (rw gap there.1) in
       let begins = block_ends v j before.next there.0 there.1 before.is_over in
       let ends = block_ends w n later.next later.before.hull later.before.is_hull later.is_over in
       let ordered = ordered_before before j there.0 two.a.is (omega arith) there.1 in
-      omega (arith, ints, close, follows.least, low, begins, ends, ordered, order, space, block.from, later.to)
+      omega (arith, ints, follows.least, block.from, later.to)
   not_back j n block later le (inr same) =
       let v = first_of two in
       let w = second_of two in
@@ -79,8 +79,8 @@ module _ (cover : BlocksCover) (goes : BlocksGoSo) (s : Scenario) (hs : List Hap
       let ordered = ordered_before before j there.0 two.a.is (omega arith) there.1 in
       let from = block.from in
       let none = no_later_hull cover goes s hs path x y until near_in most two n there.0 later.before.hull
-      (subst (λ z. hull_of v z ≡ Some there.0) (sym same) there.1) later.before.is_hull ordered (omega (arith, ints, begins, from)) in
-      omega (arith, ints, none, begins, ends, order, from, later.to)
+      (subst (λ z. hull_of v z ≡ Some there.0) (sym same) there.1) later.before.is_hull ordered (omega (arith, ints)) in
+      omega (arith, ints, later.to)
 
   -- in blocks of any two cycles
   falls : (k n : ℕ) (shown later : ℤ) → IsShown (first_of two) k x shown → IsShown (second_of two) n y later
@@ -92,26 +92,26 @@ module _ (cover : BlocksCover) (goes : BlocksGoSo) (s : Scenario) (hs : List Hap
             elim (cases_lt k n) [
               | inl lt ↦ ahead n later other lt
               | inr le ↦
-                  let same : n ≡ k = omega (arith, ge, le) in
-                  same_block k shown later one (subst (λ z. IsShown (second_of two) z y later) same other)
+                  let same : n ≡ k = omega arith in
+                  same_block k shown later one (rw same at other)
             ]
       ]
     where
       back : (k : ℕ) (shown : ℤ) → IsShown (first_of two) k x shown → n < k → ⊥
-      back zero shown one lt = omega (arith, lt)
-      back (suc j) shown one lt = not_back j n one.block other.block (omega (arith, lt)) (elim (cases_lt n j) [
+      back zero shown one lt = omega arith
+      back (suc j) shown one lt = not_back j n one.block other.block (omega arith) (elim (cases_lt n j) [
         | inl less ↦ inl less
-        | inr ge ↦ inr (omega (arith, ge, lt))
+        | inr ge ↦ inr (omega arith)
       ])
 
       ahead : (n : ℕ) (later : ℤ) → IsShown (second_of two) n y later → k < n → shown ≤ℤ (later +ℤ pos (first_of two).sizes.precision)
-      ahead zero later other lt = absurd (omega (arith, lt))
+      ahead zero later other lt = absurd (omega arith)
       ahead (suc m) later other lt =
           let v = first_of two in
           let a = most_shown two.a.is one in
           let b = least_shown m two.b.is other in
-          let product : suc k * v.sizes.cycle ≤ suc m * v.sizes.cycle = mul-le-mul_right v.sizes.cycle (omega (arith, lt)) in
-          omega (arith, ints, a, b, product)
+          let product : suc k * v.sizes.cycle ≤ suc m * v.sizes.cycle = mul-le-mul_right v.sizes.cycle (omega arith) in
+          omega (arith, ints)
 
 -- ---- in a run
 
@@ -128,12 +128,11 @@ left_in {s} {t} u {channel} {path} device at from to correct synchronised =
     let v = view_of s t channel path at.cut.front in
     let block = blocks_known.cover v t at.is (omega arith) in
     let same = sym (at.cut.early u to) in
-    let timed = timed_of _ (subst (λ gs. state_after s gs device ≡ Synchronised) same synchronised) in
+    let timed = timed_of _ (rw same at synchronised) in
     record {
       n = block.0;
       is =
-          subst (λ gs. IsShown v block.0 t (pos (s.reading device t) +ℤ (adjustment_after s gs device).0)) (sym same)
-          (is_shown blocks_known.goes {u = u} {d = device} block.1 at.is from to
+          rw same (is_shown blocks_known.goes block.1 at.is from to
           (record { good = correct; timed = timed }));
     }
 
@@ -142,15 +141,15 @@ shown_in : {s : Scenario} {hs : List Happening} {t : ℕ} {channel : Channel} {p
     → IsBlockOf (view_of s t channel path at.cut.front) t shown
 shown_in {s} {hs} {t} {channel} {path} {device} shown at (inl after) =
     let same = up_to_is t hs in
-    let state = subst (λ gs. state_after s gs device ≡ Synchronised) same after.0.synchronised in
+    let state = rw same at after.0.synchronised in
     let shows = after.1 ∙ ap (λ gs. pos (s.reading device t) +ℤ (adjustment_after s gs device).0) same in
     subst (IsBlockOf (view_of s t channel path at.cut.front) t) (sym shows)
-    (left_in {s = s} {hs = hs} {t = t} (t + 1) {channel = channel} {path = path} device at (omega arith)
+    (left_in (t + 1) device at (omega arith)
     (omega arith) after.0.correct state)
 shown_in {s} {hs} {t} {channel} {path} {device} shown at (inr before) =
     let state = not_integrating (is_turned_on_at s device t) (state_after s (earlier t hs) device) before.0.synchronised in
     subst (IsBlockOf (view_of s t channel path at.cut.front) t) (sym before.1)
-    (left_in {s = s} {hs = hs} {t = t} t {channel = channel} {path = path} device at (omega arith) (omega arith)
+    (left_in t device at (omega arith) (omega arith)
     before.0.correct state)
 
 pub never_fall : ClocksDoNotFallBack
@@ -162,12 +161,11 @@ never_fall s mark ns until up x y d e shown later le most one other =
     let is_beta = subst (IsBeta n) beta.value beta in
     let c = one_channel_is_sound s x up.lawful in
     let f = one_channel_is_sound s y up.lawful in
-    let a = view_with x c.0 path up is_beta (omega (arith, le, most)) c.1 in
+    let a = view_with x c.0 path up is_beta (omega arith) c.1 in
     let b = view_with y f.0 path up is_beta most f.1 in
     let two : AreViews s hs path x y = record { c = c.0; d = f.0; a = a; b = b; le = le } in
     let first = shown_in shown a one in
     let second = shown_in later b other in
-    let v = view_of s x c.0 path a.cut.front in
     let fall = falls blocks_known.cover blocks_known.goes s hs path x y until (near s mark ns until up) most two first.n second.n
     shown later first.is second.is in
     in_network shown later a.is fall

@@ -7,7 +7,7 @@ use Rattle.precision_law.{proofs.falls_lemmas.Views.in_network, specs.falls.Laws
 
 small_by : (s : Scenario) (by : Units) (reading left : ℤ) → (reading +ℤ left) ≤ℤ ((reading +ℤ (left +ℤ by.0)) +ℤ s.network.precision.0)
     → (reading +ℤ (left +ℤ by.0)) ≤ℤ ((reading +ℤ left) +ℤ s.network.precision.0) → IsSmall s.network by
-small_by s by reading left one other = record { least = omega (arith, ints, one); most = omega (arith, ints, other) }
+small_by s by reading left one other = record { least = omega (arith, ints); most = omega (arith, ints) }
 
 pub small : CorrectionsAreSmall
 small s mark ns until up h device number by adjustment i le body =
@@ -34,7 +34,8 @@ small s mark ns until up h device number by adjustment i le body =
     let order = instants_are_in_order v.sizes before.hull set.hull space (before_narrow before) follows in
     let was = old_shows block.1 at.is (omega arith) has old in
     let now = set_clocks_show v.sizes (s.reading device) (adjustment_left v device t +ℤ by.0) (suc n) set.hull set.set_at t
-    (steady v at.is device) set.not_behind (omega (arith, ints, point.not_late, order.last_not_late, set.not_before, space)) set.anchored in
+    (steady v at.is device) set.not_behind (omega (arith, ints, point.not_late, order.last_not_late, set.not_before))
+    set.anchored in
     let close = clocks_of_two_cycles v.sizes (pos (s.reading device t) +ℤ adjustment_left v device t)
     (pos (s.reading device t) +ℤ (adjustment_left v device t +ℤ by.0)) n before.hull set.hull t space
     (before_narrow before) follows was now in

@@ -25,12 +25,11 @@ pub is_shown : BlocksGoSo → {v : View} {n t u : ℕ} {d : DeviceId} (block : I
 is_shown goes {v} {n} {t} {u} {d} block is le most has = record {
   block = block;
   how =
-      by_lt_z {P = ShowsIn v.sizes (pos (v.scenario.reading d t) +ℤ adjustment_left v d u) n block.before.hull t
-      ⊎ IsNewShown v n t (pos (v.scenario.reading d t) +ℤ adjustment_left v d u)} (epoch_time (earlier u v.records) d) (pos block.before.next)
+      by_lt_z (epoch_time (earlier u v.records) d) (pos block.before.next)
       (λ old. inl (old_shows block is le has old))
       (λ late.
-      let set = new_shows {u = u} block (λ w from lt. goes v n w
-      (earlier_in_block v n t w block from (omega (arith, lt, most))) is) is most has
+      let set = new_shows block (λ w from lt. goes v n w
+      (earlier_in_block v n t w block from (omega arith)) is) is most has
       (last_setting (earlier u v.records) d) refl late in
       inr (record {
         hull = set.hull;
@@ -51,10 +50,10 @@ most_shown {v} {n} is s =
     let more = one_more n v.sizes.cycle in
     let to = s.block.to in
     elim s.how [
-      | inl old ↦ omega (arith, ints, ends, narrow, space, more, old.most, to)
+      | inl old ↦ omega (arith, ints, old.most)
       | inr new ↦
           let follows = follows_before n before.hull new.hull is before.is_hull new.is_hull in
-          omega (arith, ints, ends, narrow, space, more, new.shows.most, to, follows.least)
+          omega (arith, ints, new.shows.most, follows.least)
     ]
 
 -- from the beginning of its block on, at least this
@@ -69,15 +68,15 @@ least_shown {v} m is s =
     let more = one_more (suc m) v.sizes.cycle in
     let from = s.block.from in
     elim s.how [
-      | inl old ↦ omega (arith, ints, begins, follows.most, space, old.least, from)
-      | inr new ↦ omega (arith, ints, space, more, new.ahead)
+      | inl old ↦ omega (arith, ints, follows.most, old.least)
+      | inr new ↦ omega (arith, ints, new.ahead)
     ]
 
 -- ---- the precision of the network
 
 pub in_network : {v : View} (x y : ℤ) → IsView v → x ≤ℤ (y +ℤ pos v.sizes.precision)
     → x ≤ℤ (y +ℤ v.scenario.network.precision.0)
-in_network x y is le = omega (arith, ints, le, sizes_are is)
+in_network x y is le = omega (arith, ints, sizes_are is)
 
 -- ---- two views of a run
 
@@ -108,10 +107,10 @@ module _ (cover : BlocksCover) (goes : BlocksGoSo) (s : Scenario) (hs : List Hap
   near_hulls near most two zero hull other is are =
       let v = first_of two in
       let w = second_of two in
-      let one : start_hull v.sizes ≡ hull = same_some (hull_of v zero) (start_hull v.sizes) hull refl is in
-      let too : start_hull w.sizes ≡ other = same_some (hull_of w zero) (start_hull w.sizes) other refl are in
+      let one = same_some (hull_of v zero) (start_hull v.sizes) hull refl is in
+      let too = same_some (hull_of w zero) (start_hull w.sizes) other refl are in
       let space = room two.a.is in
-      omega (arith, ints, ap (λ (z : Hull). z.least) one, ap (λ (z : Hull). z.greatest) too, space.errors.spread_is)
+      omega (arith, ints, ap (λ z. z.least) one, ap (λ z. z.greatest) too, space.errors.spread_is)
   near_hulls near most two (suc c) hull other is are =
       let one = hull_lies cover goes two.a.is c hull is in
       let too = hull_lies cover goes two.b.is c other are in
@@ -119,9 +118,21 @@ module _ (cover : BlocksCover) (goes : BlocksGoSo) (s : Scenario) (hs : List Hap
       let h = one.is_earliest in
       let le = two.le in
       let apart = near (suc c) too.latest one.earliest
-      (record { there = two.b.cut.inside too.latest g.there; master = g.master; is = g.is; by_then = omega (arith, g.by_then, most) })
-      (record { there = two.a.cut.inside one.earliest h.there; master = h.master; is = h.is; by_then = omega (arith, h.by_then, most, le) }) in
-      omega (arith, ints, apart, one.first_is, too.last_is)
+      (record {
+        there = two.b.cut.inside too.latest g.there;
+        master = g.master;
+        is = g.is;
+        by_then =
+            omega (arith, g.by_then);
+      })
+      (record {
+        there = two.a.cut.inside one.earliest h.there;
+        master = h.master;
+        is = h.is;
+        by_then =
+            omega (arith, h.by_then);
+      }) in
+      omega (arith, ints, one.first_is, too.last_is)
 
   -- no later dispatch of a cycle whose block is over in the earlier view comes in the later one
   pub no_later_hull : AreNearIn s hs until → y ≤ until → (two : AreViews s hs path x y) (n : ℕ) (hull other : Hull) → hull_of (first_of two) n ≡ Some hull
@@ -130,20 +141,20 @@ module _ (cover : BlocksCover) (goes : BlocksGoSo) (s : Scenario) (hs : List Hap
   no_later_hull near most two zero hull other is are ordered behind =
       let v = first_of two in
       let w = second_of two in
-      let one : start_hull v.sizes ≡ hull = same_some (hull_of v zero) (start_hull v.sizes) hull refl is in
-      let too : start_hull w.sizes ≡ other = same_some (hull_of w zero) (start_hull w.sizes) other refl are in
-      omega (arith, ints, ap (λ (z : Hull). z.greatest) one, ap (λ (z : Hull). z.greatest) too)
+      let one = same_some (hull_of v zero) (start_hull v.sizes) hull refl is in
+      let too = same_some (hull_of w zero) (start_hull w.sizes) other refl are in
+      omega (arith, ints, ap (λ z. z.greatest) one, ap (λ z. z.greatest) too)
   no_later_hull near most two (suc c) hull other is are ordered behind =
       let v = first_of two in
       let space = room two.a.is in
       let too = hull_lies cover goes two.b.is c other are in
       let g = too.is_latest in
       let close = near_hulls near most two (suc c) hull other is are in
-      let early : time_of too.latest ≤ x = omega (arith, ints, close, too.last_is, ordered, behind, space) in
-      let inside = all_in_hulls cover goes two.a.is {h = too.latest} {device = g.master} {cycle = suc c} (record {
+      let early : time_of too.latest ≤ x = omega (arith, ints, too.last_is) in
+      let inside = all_in_hulls cover goes two.a.is (record {
         there = two.a.cut.has too.latest (two.b.cut.inside too.latest g.there) early;
         is = g.is;
         good = good_is_correct (second_of two) g.master x g.correct two.le;
       }) in
-      let same : inside.hull ≡ hull = same_some (hull_of v (suc c)) inside.hull hull inside.is is in
-      omega (arith, ints, inside.most, ap (λ (z : Hull). z.greatest) same, too.last_is)
+      let same = same_some (hull_of v (suc c)) inside.hull hull inside.is is in
+      omega (arith, ints, inside.most, ap (λ z. z.greatest) same, too.last_is)

@@ -47,13 +47,14 @@ module _ (v : View) (device : DeviceId) (t : ℕ) (is : IsView v) (none : (w : �
       elim (is_turned_on_at v.scenario device w) as (λ b. is_turned_on_at v.scenario device w ≡ b
       → is_on (if b then Integrating else state_after v.scenario (earlier w front) device) ≡ true → ⊥) [
         | true ↦ λ turned now. none w lt (turned_at v.scenario device w turned)
-        | false ↦ λ left on. before w lt (subst (λ hs. is_on (state_after v.scenario hs device) ≡ true) (earlier_before split) on)
+        | false ↦ λ left on. before w lt (rw (earlier_before split) at on)
       ] refl e
 
   never_joined : (h : Happening) → IsIn h v.records → time_of h < t → is_joined_by device h.note.body ≡ true → ⊥
   never_joined h i lt joined =
       let at = founded_at v.scenario v.records h is.run.founded i in
-      never_on (time_of h) at.front (before_of {h = h} is at) lt (ap is_on (looking_by v.scenario at.front h.note.time device h.note.body joined at.due.cause))
+      never_on (time_of h) at.front (before_of is at) lt (ap is_on
+      (looking_by v.scenario at.front h.note.time device h.note.body joined at.due.cause))
 
   never_changes : (w : ℕ) (front : List Happening) (state : State) (cause : ℕ) (why : Why) → AreBeforeCorrections v w front → w < t
       → ChangesState v.scenario front device w state cause why → ⊥
@@ -67,7 +68,7 @@ module _ (v : View) (device : DeviceId) (t : ℕ) (is : IsView v) (none : (w : �
   never_changes w front state cause whys.Frame split lt c =
       let h = c.1.0 in
       let i : IsIn h v.records = subst (IsIn h) (sym split.whole) (in_left h front split.rest (numbered_in front cause h c.1.1.there)) in
-      never_joined h i (omega (arith, c.1.1.same_time, lt)) c.1.2
+      never_joined h i (omega (arith, c.1.1.same_time)) c.1.2
   never_changes w front state cause whys.Correction split lt c = never_on w front split lt (ap is_on c.1)
   never_changes w front state cause why split lt c =
       never_on w front split lt (timed_on _ (point_has_time (state_before v.scenario front device w) _ c.2.0 c.2.1.next))
@@ -76,7 +77,7 @@ module _ (v : View) (device : DeviceId) (t : ℕ) (is : IsView v) (none : (w : �
       → AreBeforeCorrections v (time_of h) front → IsCaused v.scenario front h.note.time body → Keeps is_on device body
   keeps_off h front (notes.State other state cause why) i lt same split c old e =
       kept_if is_on (device.0 == other.0) state old (λ own on. never_changes (time_of h) front state cause why split lt
-      (subst (λ d. ChangesState v.scenario front d (time_of h) state cause why) (same_device device other own) c)) e
+      (rw (same_device device other own) at c)) e
   keeps_off h front (notes.Permanent other link cause point Integrates) i lt same split c old e =
       kept_if is_on (device.0 == other.0) Joining old (λ own on. never_joined h i lt (ap (is_joined_by device) same ∙ own)) e
   keeps_off h front (notes.Compressed other opened own cycle members Integrates) i lt same split c old e =
@@ -96,10 +97,10 @@ off_until : {v : View} (device : DeviceId) (bound t : ℕ) → IsView v → t �
     → (is_on (state_at_start (start_of v.scenario.network device)) ≡ true → ⊥) → is_on (state_left v device t) ≡ true
     → ⊥
 off_until {v} device zero t is le none begins e =
-    begins (started_on v device t is none (λ w lt on. absurd (omega (arith, lt, le))) e)
+    begins (started_on v device t is none (λ w lt on. absurd (omega arith)) e)
 off_until {v} device (suc bound) t is le none begins e =
     begins (started_on v device t is none (λ w lt on. off_until device bound w is (omega arith)
-    (λ x less. none x (omega (arith, less, lt))) begins on) e)
+    (λ x less. none x (omega arith)) begins on) e)
 
 -- ---- a device is turned on once
 
@@ -118,11 +119,12 @@ on_not_turned_on {v} device u is on_then =
     (subst (IsIn y.event) parts.2 y.there)) [
       | inl sooner ↦ is.lawful.within parts.0 parts.1 x.event parts.2 NotOff
           (record { device = device; what = x.turns; known = inr (inl (any_of_in (TurnsOn device) y.event parts.0 sooner y.turns)) })
-      | inr (inl same) ↦ (let time : amount y.event.time ≡ amount x.event.time = ap (λ (e : Event). amount e.time)
-          same in absurd (omega (arith, time, y.at, lt, x.at)))
+      | inr (inl same) ↦ (let time : amount y.event.time ≡ amount x.event.time = rw same in
+          absurd (omega (arith, y.at, x.at)))
       | inr (inr later) ↦
           let more = parted y.event parts.1 later in
-          let whole = parts.2 ∙ ap (λ (es : List Event). parts.0 ++ x.event ∷ es) more.2 ∙ sym (append_assoc parts.0 (x.event ∷ more.0) (y.event ∷ more.1)) in
+          let whole = parts.2 ∙ ap (λ es. parts.0 ++ x.event ∷ es) more.2 ∙ sym
+          (append_assoc parts.0 (x.event ∷ more.0) (y.event ∷ more.1)) in
           is.lawful.within (parts.0 ++ x.event ∷ more.0) more.1 y.event whole NotOff
           (record {
             device = device;

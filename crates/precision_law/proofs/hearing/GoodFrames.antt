@@ -7,9 +7,8 @@ use Rattle.precision_law.proofs.words.Laws.{AreGood, BlocksGoSo, HasTimeAt, Hear
 use Rattle.precision_law.proofs.words.Plans.{Channel, DeviceId, IsCmOf, Joining, Members, Pcf, State, SyncPlan, Synchronised, Units, count_of, expected_at}
 use Rattle.precision_law.proofs.words.Runs.{Happening, IsCaused, Judgement, Within, before_permanence, cycle_in, founded_at, frame_by, heard_as, heard_by}
 use Rattle.precision_law.proofs.words.{Runs.{hearing_by, last_cycle, observation_window, plan_of, same_judgement, time_of}, Std.{suc, sym, true, ℕ, ℤ}}
-use Rattle.precision_law.proofs.words.Std.{◌+ℤ◌, ◌-ℤ◌, ◌<ℤ◌, ◌<◌, ◌==◌, ◌∙◌, ◌≡◌, ◌≤ℤ◌, ◌≤◌, ◌⊎◌, Bool, List, MatchBool-at_false, Option, Some, ap, arith}
+use Rattle.precision_law.proofs.words.Std.{◌+ℤ◌, ◌-ℤ◌, ◌<ℤ◌, ◌<◌, ◌==◌, ◌∙◌, ◌≡◌, ◌≤ℤ◌, ◌≤◌, ◌⊎◌, List, MatchBool-at_false, Option, Some, ap, arith}
 use Rattle.precision_law.proofs.words.Std.{eq-eqb, if◌then◌else◌, inl, inr, ints, le-leb, nat_le, option_and_then, option_map, option_map_or, pos, refl, subst}
-use Rattle.run_law.specs.declared.note.NoteBody.TheVariants as notes
 
 -- ---- judgements
 
@@ -66,7 +65,7 @@ heard_as_within plan precision state adjustment point cycle members timed few lo
 -- ---- hearings
 
 if_same : {X : Type 0} (n : ℕ) (x y : X) → (if n == n then x else y) ≡ x
-if_same n x y = ap (λ (b : Bool). if b then x else y) (eq-eqb n n refl)
+if_same n x y = ap (λ b. if b then x else y) (eq-eqb n n refl)
 
 -- a frame that was heard within its time is a hearing
 pub heard_within_by : {v : View} {device : DeviceId} {channel : Channel} {point : ℤ} {h : Happening}
@@ -85,7 +84,7 @@ pub record IsAtPoint (v : View) (n t : ℕ) (block : IsInBlock v n t) (device : 
 -- what is heard before the first correction is heard before the point
 pub sooner : {v : View} {n t : ℕ} {block : IsInBlock v n t} {device : DeviceId} (q : ℕ)
     → IsAtPoint v n t block device → pos q <ℤ first_correction v.sizes block.before.hull → q < t
-sooner q at lt = omega (arith, ints, at.late, lt)
+sooner q at lt = omega (arith, ints, at.late)
 
 -- ---- one frame a channel
 
@@ -106,12 +105,10 @@ module _ (goes : BlocksGoSo) (v : View) (n t : ℕ) (block : IsInBlock v n t) (i
       → time_of a < t → time_of b < t → (a ≡ b) × (members ≡ others)
   same_sent channel a b members others x y before_a before_b =
       let one = one_cm channel y.cm x.cm is (sender_is is y) (sender_is is x) in
-      let e : IsEmission v b x.cm (suc n) others = subst (λ d. IsEmission v b d (suc n) others) one y.emission in
+      let e : IsEmission v b x.cm (suc n) others = rw (sym one) y.emission in
       let f = x.emission in
       let same = emission_is_one v t a b x.cm (suc n) members others is (tidy v n t block.before went_so)
       (λ hull at. hulls_are_narrow goes v n block.before hull is at) f e before_a before_b x.good y.good in
-      let body : notes.Compressed x.cm f.opened f.at (suc n) members f.verdict ≡ notes.Compressed x.cm e.opened e.at (suc n) others e.verdict =
-      sym f.is ∙ ap (λ (h : Happening). h.note.body) same ∙ e.is in
       (same, cc)
 
   -- an old device judges one of three members, or of good ones alone, to be within
@@ -122,13 +119,13 @@ module _ (goes : BlocksGoSo) (v : View) (n t : ℕ) (block : IsInBlock v n t) (i
       let s = v.scenario in
       let before = block.before in
       let q = time_of h in
-      let near = near_hull laws v n t before is went_so device channel point h (omega (arith, lt)) g enough in
+      let near = near_hull laws v n t before is went_so device channel point h (omega arith) g enough in
       let j = judged_as is hearer hears in
       let follows = follows_before n before.hull g.hull is before.is_hull g.is_hull in
       let le : before.next ≤ q = omega (arith, ints, next_first before is, follows.least, g.not_early) in
-      let here : IsInBlock v n q = earlier_in_block _ _ _ _ block le (omega (arith, lt)) in
+      let here : IsInBlock v n q = earlier_in_block _ _ _ _ block le (omega arith) in
       let stands = hears_as_at device before.next t is j.up_to le lt at.old at.has.timed in
-      let shows = old_shows here is (omega (arith, lt)) at.has at.old in
+      let shows = old_shows here is (omega arith) at.has at.old in
       let narrow = before_narrow before in
       let space = room is in
       let more = one_more n v.sizes.cycle in
@@ -136,5 +133,5 @@ module _ (goes : BlocksGoSo) (v : View) (n t : ℕ) (block : IsInBlock v n t) (i
       let precision = (sizes_are is).precision in
       j.is ∙ ap (λ c. judged_at s device j.judged q point c j.members) g.of_cycle
       ∙ heard_as_within (plan_of s.network device) (observation_window s.network) _ _ point (suc n) j.members stands.state
-      (le-leb (suc n) last_cycle (few_cycles (suc n) _ is g.is_hull (omega (arith, ints, g.not_early, lt, block.in_run))))
+      (le-leb (suc n) last_cycle (few_cycles (suc n) _ is g.is_hull (omega (arith, ints, g.not_early, block.in_run))))
       (omega (arith, ints, g.timely)) (omega (arith, ints, g.timely))

@@ -5,7 +5,7 @@ use Rattle.precision_law.proofs.{records.Points.earlier_before, words.Plans.{Cha
 use Rattle.precision_law.proofs.{records.{Times.AreSorted, Views.in_order}, words.Laws.{AreBeforeCorrections, HearsBy, IsOfHearer, IsView, View, last_setting}}
 use Rattle.precision_law.proofs.words.Runs.{Happening, IsIn, Judgement, NoteBody, Outside, Scenario, Within, adjustment_after, changes_adjustment, channel_of}
 use Rattle.precision_law.proofs.words.Runs.{channel_of_link, correction_value, has_cleared, heard_by, heard_since, hearing_by, in_filter, in_left, in_parts}
-use Rattle.precision_law.proofs.words.Std.{◌&&◌, ◌++◌, ◌+ℤ◌, ◌+◌, ◌-◌, ◌<◌, ◌==◌, ◌||◌, ◌∙◌, ◌∷◌, ◌≡◌, ◌≤◌, Bool, List, None, Option, Some, [], after_last}
+use Rattle.precision_law.proofs.words.Std.{◌&&◌, ◌++◌, ◌+ℤ◌, ◌-◌, ◌<◌, ◌==◌, ◌||◌, ◌∙◌, ◌∷◌, ◌≡◌, ◌≤◌, Bool, List, None, Option, Some, [], after_last}
 use Rattle.precision_law.proofs.words.Std.{and_from, ap, append_assoc, both_ways, false, filter, if◌then◌else◌, inl, inr, int_le, int_lt, lt-ltb, nat_lt, not}
 use Rattle.{precision_law.proofs.words.Std.{option_map, option_map_or, pos, refl, subst, sym, true, ℕ}, run_law.proofs.records.Order.{given_of, has_passed}}
 use Rattle.run_law.specs.declared.note.NoteBody.TheVariants as notes
@@ -27,8 +27,7 @@ same_cleared {v} device by split = ap (cleared_by v.scenario device by) (earlier
 pub same_next : {v : View} (device : DeviceId) {t : ℕ} {front : List Happening} → AreBeforeCorrections v t front
     → next_cycle v.scenario front device t ≡ next_cycle v.scenario v.records device t
 same_next {v} device {t} split =
-    ap (λ es. if cleared_by v.scenario device t es then recorded_cycle es device + 1 else recorded_cycle es device)
-    (earlier_before split)
+    rw (earlier_before split)
 
 -- ---- hearings
 
@@ -53,11 +52,11 @@ hearing_of {v} device {t} {front} hearing is split i =
     let set = λ (h : Happening). nat_lt (time_of h) t && changes_adjustment device h.note.body in
     let late = λ (h : Happening). not (has_cleared v.scenario front device t t) || has_cleared v.scenario front device t (time_of h) in
     let since = after_last set front in
-    let made = given_of (λ (h : Happening). hearing_by v.scenario.network device h h.note.body) (filter late since) hearing i in
+    let made = given_of (λ h. hearing_by v.scenario.network device h h.note.body) (filter late since) hearing i in
     let h = made.0 in
     let in_since = in_filter late since h made.1 in
     let cut = behind_last set front in
-    let all = split.whole ∙ ap (λ (hs : List Happening). hs ++ split.rest) cut.whole ∙ append_assoc cut.front since split.rest in
+    let all = split.whole ∙ ap (λ hs. hs ++ split.rest) cut.whole ∙ append_assoc cut.front since split.rest in
     record {
       h = h;
       there = subst (IsIn h) (sym cut.whole) (in_right h cut.front since in_since);
@@ -68,7 +67,8 @@ hearing_of {v} device {t} {front} hearing is split i =
         | inl ahead ↦ front_first cut.front (since ++ split.rest) x h (subst AreSorted all (in_order is)) ahead
             (in_left h since split.rest in_since)
       ];
-      cleared = λ c. subst (λ (b : Bool). (not b || has_cleared v.scenario front device t (time_of h)) ≡ true) c (has_passed late since h made.1);
+      cleared = λ c. subst (λ b. (not b || has_cleared v.scenario front device t (time_of h)) ≡ true) c
+          (has_passed late since h made.1);
     }
 
 -- ---- what is heard
@@ -103,7 +103,7 @@ hears_on : (v : View) (device : DeviceId) (h : Happening) (hearing : Hearing) {j
     → ((channel : Channel) → o ≡ Some channel → HearsBy v device channel point.0 judgement h)
     → option_map (λ channel. heard_by channel h point within) o ≡ Some hearing → HearsThis v device h hearing
 hears_on v device h hearing {judgement} {within} point o judges how e =
-    let at = mapped (λ (c : Channel). heard_by c h point within) o hearing e in
+    let at = mapped (λ c. heard_by c h point within) o hearing e in
     subst (HearsThis v device h) at.2 (record { judgement = judgement; judges = judges; hears = how at.0 at.1; members = refl })
 
 module _ (v : View) (device : DeviceId) (h : Happening) (hearing : Hearing) where
@@ -114,7 +114,7 @@ module _ (v : View) (device : DeviceId) (h : Happening) (hearing : Hearing) wher
       → HearsThis v device h hearing
   from_afar other link cause point judgement within judges i same e =
       let both = if_some (device.0 == other.0) _ hearing e in
-      let mine = same ∙ ap (λ (d : DeviceId). notes.Permanent d link cause point judgement) (one_device device other both.0) in
+      let mine = same ∙ ap (λ d. notes.Permanent d link cause point judgement) (one_device device other both.0) in
       hears_on v device h hearing point (channel_of_link v.scenario.network link) judges
       (λ channel of. record { there = i; how = inl (link, cause, point, mine, of, refl) }) both.1
 
@@ -125,7 +125,8 @@ module _ (v : View) (device : DeviceId) (h : Happening) (hearing : Hearing) wher
       → HearsThis v device h hearing
   from_itself other opened point cycle members judgement within judges i same e =
       let both = if_some (device.0 == other.0) _ hearing e in
-      let mine = same ∙ ap (λ (d : DeviceId). notes.Compressed d opened point cycle members judgement) (one_device device other both.0) in
+      let mine = same ∙ ap (λ d. notes.Compressed d opened point cycle members judgement)
+      (one_device device other both.0) in
       hears_on v device h hearing point (channel_of v.scenario.network device) judges
       (λ channel of. record { there = i; how = inr (opened, point, cycle, members, mine, of, refl) }) both.1
 

@@ -1,13 +1,13 @@
 -- What a device hears is a frame that a compression master sent.
-use Rattle.precision_law.proofs.{records.Points.before_of, words.Plans.{Up, all_at, amount, compression_time, device_at, is_end_system, link_at, opened}}
+use Rattle.precision_law.proofs.{records.Points.before_of, words.Plans.{all_at, amount, compression_time, device_at, is_end_system, link_at, opened}}
 use Rattle.{precision_law.proofs.trips.Descents.{emission_shows, frames_down_are_of_cms}, tte_units.proofs.general_lemmas.Options.passed}
-use Rattle.precision_law.proofs.words.Laws.{HearingsAreOfFrames, IsEmission, IsOfHearer, IsView, View, expectation}
-use Rattle.precision_law.proofs.words.Plans.{Channel, Device, DeviceId, Down, IsDeviceInRange, Joints, Link, LinkId, Network, Pcf, Point, Relay, Role, Taken}
-use Rattle.precision_law.proofs.words.Runs.{Happening, Integrates, IsCaused, IsCollectedOrDropped, IsIn, IsPermanenceOutcome, Judgement, Outside, Reason}
+use Rattle.precision_law.proofs.words.Laws.{HearingsAreOfFrames, IsOfHearer, IsView, View, expectation}
+use Rattle.precision_law.proofs.words.Plans.{DeviceId, Down, IsDeviceInRange, Joints, LinkId, Network, Pcf, Point, Relay, Role, Taken}
+use Rattle.precision_law.proofs.words.Runs.{Integrates, IsCaused, IsCollectedOrDropped, IsIn, IsPermanenceOutcome, Judgement, Outside, Reason}
 use Rattle.precision_law.proofs.words.Runs.{Within, cause_of, cycle_in, expected_by, founded_at, frame_by, in_left, is_cm, is_cm_role, is_parent_of}
-use Rattle.precision_law.proofs.words.{Runs.{is_relay_role, numbered, numbered_front, numbered_in, ripe_as, ripe_by_role, waits_for, way_to}, Std.{true, ℕ, ℤ}}
+use Rattle.precision_law.proofs.words.{Runs.{is_relay_role, numbered, numbered_front, numbered_in, ripe_as, ripe_by_role, waits_for, way_to}, Std.{true, ℤ}}
 use Rattle.precision_law.proofs.words.Std.{◌+◌, ◌==◌, ◌∙◌, ◌∷◌, ◌≡◌, Bool, List, MatchBool-at_true, None, Option, Some, ap, arith, both_ways, eqb-true, false}
-use Rattle.precision_law.proofs.words.Std.{false_from_ne_true, if◌then◌else◌, inl, inr, is_some, not-true, option_and_then, option_map_or, refl, subst, sym}
+use Rattle.precision_law.proofs.words.Std.{false_from_ne_true, if◌then◌else◌, inl, inr, not-true, option_and_then, option_map_or, refl, subst, sym}
 use Rattle.compression.specs.declared.taken.Taken.TheVariants as taken
 use Rattle.run_law.specs.declared.note.NoteBody.TheVariants as notes
 use Rattle.run_law.specs.declared.steps.Ripe.TheVariants as ripe
@@ -50,17 +50,19 @@ switch_is_relay role a b = absurd cc
 hearer_down : {v : View} (device : DeviceId) (link : LinkId) → IsView v → is_cm v.scenario.network device ≡ false
     → waits_for v.scenario.network device link ≡ true → way_to v.scenario.network device link ≡ Down
 hearer_down {v} device link is cm waits =
-    ap (λ (b : Bool). if b then Up else Down) (false_from_ne_true (is_parent_of v.scenario.network device link) (λ parent.
+    rw (false_from_ne_true (is_parent_of v.scenario.network device link) (λ parent.
     let n = v.scenario.network in
-    let l = passed (λ (k : Link). k.parent.0 == device.0) (link_at n link) parent in
-    let same : l.0.parent ≡ device = ap (λ (i : ℕ). let d : DeviceId = record { 0 = i } in d) (eqb-true l.0.parent.0 device.0 l.2) in
+    let l = passed (λ k. k.parent.0 == device.0) (link_at n link) parent in
+    let same : l.0.parent ≡ device = ap (λ i. let d : DeviceId = record { 0 = i } in d)
+    (eqb-true l.0.parent.0 device.0 l.2) in
     let joint = is.lawful.rules Joints link.0 l.0 l.1 in
-    let p = opened (λ (d : Device). d.channel ≡ Some joint.0) (device_at n l.0.parent) joint.1 in
-    let known : IsDeviceInRange p.0 = all_at IsDeviceInRange n.device l.0.parent.0 p.0 is.lawful.range.devices p.1 in
+    let p = opened (λ d. d.channel ≡ Some joint.0) (device_at n l.0.parent) joint.1 in
+    let known = all_at IsDeviceInRange n.device l.0.parent.0 p.0 is.lawful.range.devices p.1 in
     let dev : device_at n device ≡ Some p.0 = ap (device_at n) (sym same) ∙ p.1 in
-    let cm_p : is_cm_role p.0.role ≡ false = sym (ap (λ (o : Option Device). option_map_or (λ d. is_cm_role d.role) o false) dev) ∙ cm in
-    let not_end : is_end_system p.0.role ≡ false = not-true (is_end_system p.0.role) (sym known.switches ∙ (ap (λ (c : Option Channel). is_some c) p.2)) in
-    let relay = ap (λ (o : Option Device). option_map_or (λ d. is_relay_role d.role) o false) dev ∙ switch_is_relay p.0.role cm_p not_end in
+    let cm_p = sym (rw dev) ∙ cm in
+    let not_end = not-true (is_end_system p.0.role) (sym known.switches ∙ (rw p.2)) in
+    let relay = ap (λ o. option_map_or (λ d. is_relay_role d.role) o false) dev ∙ switch_is_relay p.0.role cm_p
+    not_end in
     let wrong : waits_for n device link ≡ false = rw (relay, parent) refl in
     both_ways (waits_for n device link) wrong waits))
 
@@ -82,17 +84,17 @@ hearings_are_of_frames v device channel point judgement h is hearer hears = elim
       let not_cm = hearer_not_cm v.scenario.network device _ _ _ ripens.frame far.2.0 judgement hearer ripens.becomes in
       let down = hearer_down device far.0 is not_cm p.waits in
       let from_cm = frames_down_are_of_cms v p.arrival device far.0 p.from p.clock is in_all p.arrived down in
-      let framed : h.frame ≡ p.arrival.frame = ap (λ (x : Happening). x.frame) found.due.same ∙ ap (frame_by v.scenario.network found.front) far.3
-      ∙ ap (λ (o : Option Happening). option_and_then (λ x. x.frame) o) p.there in
+      let framed : h.frame ≡ p.arrival.frame = ap (λ x. x.frame) found.due.same ∙ ap
+      (frame_by v.scenario.network found.front) far.3
+      ∙ ap (λ o. option_and_then (λ x. x.frame) o) p.there in
       let by_h : cause_of h.note.body ≡ cause = ap cause_of far.3 in
-      let there_all : numbered v.records (cause_of h.note.body) ≡ Some p.arrival = subst (λ n. numbered v.records n ≡ Some p.arrival) (sym by_h)
-      (subst (λ hs. numbered hs cause ≡ Some p.arrival) (sym found.whole) (numbered_front found.front (h ∷ found.rest) cause _ p.there)) in
+      let there_all : numbered v.records (cause_of h.note.body) ≡ Some p.arrival =
+      rw (sym by_h) at (rw (sym found.whole) at (numbered_front found.front (h ∷ found.rest) cause _ p.there)) in
       let earlier_arrival = (before_of is found).only p.arrival (numbered_in found.front cause p.arrival p.there) in (
         from_cm.first,
         record {
           cm = from_cm.cm;
-          emission = subst (λ (o : Option Pcf). IsEmission v from_cm.first from_cm.cm (option_map_or (λ f. f.cycle) o 0)
-              (record { 0 = option_map_or (λ f. f.members.0) o 0 })) (sym framed) from_cm.emission;
+          emission = rw (sym framed) at from_cm.emission;
           of_channel = sym (from_cm.same_channel device far.0 p.from p.clock p.arrived) ∙ far.4;
           hears = inr (record {
             ripe = h;
@@ -109,7 +111,7 @@ hearings_are_of_frames v device channel point judgement h is hearer hears = elim
             due = expected_is device false is not_cm;
           });
         },
-        (omega (arith, from_cm.in_order, earlier_arrival)),
+        (omega (arith, from_cm.in_order)),
       )
   | inr own ↦
       let found = founded_at v.scenario v.records h is.run.founded hears.there in
@@ -124,8 +126,8 @@ hearings_are_of_frames v device channel point judgement h is hearer hears = elim
             at = own.1;
             verdict = judgement;
             is = own.4
-                ∙ ap (λ (c : ℕ). notes.Compressed device own.0 own.1 c own.3 judgement) shown.0
-                ∙ ap (λ (m : ℕ). notes.Compressed device own.0 own.1 (cycle_in h) (record { 0 = m }) judgement) shown.1;
+                ∙ ap (λ c. notes.Compressed device own.0 own.1 c own.3 judgement) shown.0
+                ∙ ap (λ m. notes.Compressed device own.0 own.1 (cycle_in h) (record { 0 = m }) judgement) shown.1;
           };
           of_channel = own.5;
           hears = inl (record { same = refl; at_once = refl; reading = own.6; due = expected_is device true is emits.cm });

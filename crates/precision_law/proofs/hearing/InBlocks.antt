@@ -1,7 +1,7 @@
 -- When frames are heard.
 use Rattle.precision_law.proofs.words.{Blocks.has_dispatched, Clocks.{frames_come_first, has_before, room, within_run}}
-use Rattle.precision_law.proofs.words.Laws.{BasesAreNearHulls, EmissionsAreOfDispatches, HeardFramesAreTimely, HeardInTheirBlocks, expectation, hull_of}
-use Rattle.precision_law.proofs.words.Std.{◌+◌, ◌-◌, ◌≡◌, ◌≤◌, Some, arith, inl, inr, ints, subst, suc}
+use Rattle.precision_law.proofs.words.Laws.{BasesAreNearHulls, EmissionsAreOfDispatches, HeardFramesAreTimely, HeardInTheirBlocks, hull_of}
+use Rattle.precision_law.proofs.words.Std.{◌-◌, ◌≡◌, Some, arith, ints, subst, suc}
 
 pub heard_in_their_blocks : HeardFramesAreTimely → EmissionsAreOfDispatches → BasesAreNearHulls → HeardInTheirBlocks
 heard_in_their_blocks timely dispatched near v device channel cycle members h q point expected is tidy good narrow heard =
@@ -9,11 +9,7 @@ heard_in_their_blocks timely dispatched near v device channel cycle members h q 
     let sent = dispatched v h heard.cm cycle members is heard.emission good in
     let begun = (has_dispatched is sent.dispatch).begun in
     let k = cycle - 1 in
-    let next : cycle ≡ suc k = omega (arith, begun) in
-    let due : (v.sizes.dmax + v.sizes.compression ≤ expected) × (expected ≤ expectation v.sizes) = elim heard.hears [
-      | inl own ↦ (let is_due = own.due in (omega (arith, is_due), omega (arith, is_due)))
-      | inr afar ↦ (let is_due = afar.due in (omega (arith, is_due), omega (arith, is_due)))
-    ] in
+    let next : cycle ≡ suc k = omega arith in
     let base = near v h heard.cm cycle members is heard.emission tidy good in
     let before =
     has_before v k base.hull (within_run is) (subst (λ c. hull_of v c ≡ Some base.hull) next base.is) in
@@ -25,6 +21,6 @@ heard_in_their_blocks timely dispatched near v device channel cycle members h q 
       is_next = next;
       is_before = before.is_before;
       is_hull = base.is;
-      not_early = omega (arith, ints, on_time.not_early, base.least, space);
+      not_early = omega (arith, ints, on_time.not_early, base.least);
       not_late = omega (arith, ints, frames_come_first v.sizes before.before space (narrow k next before.before before.is_before));
     }

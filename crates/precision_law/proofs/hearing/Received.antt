@@ -9,12 +9,12 @@ use Rattle.precision_law.proofs.words.Clocks.{IsRipeArrival, IsRipeRecord, befor
 use Rattle.precision_law.proofs.words.Clocks.{frames_come_first, is_heard_of, place_of_ripe, receiver_down, room, time_stays}
 use Rattle.precision_law.proofs.words.Laws.{BlocksGoSo, HearsBy, Hull, IsBrought, IsEmission, IsFirm, IsInBlock, IsNearHull, IsGood, IsOfHearer, IsTrip, IsWholeFrom}
 use Rattle.precision_law.proofs.words.Laws.{IsView, Leg, Stands, View, base_of, epoch_time, first_correction, first_dispatch, has_time, hull_of, state_left}
-use Rattle.precision_law.proofs.words.Plans.{Cm, Device, DeviceId, Down, Integrating, IsCmOf, IsDeviceOf, Joining, LinkId, Members, Pcf, State, SyncPlan}
-use Rattle.precision_law.proofs.words.Runs.{Gives, Happening, IsCaused, IsDue, IsIn, Judgement, adjustment_at_hearing, channel_of, channel_of_link}
+use Rattle.precision_law.proofs.words.Plans.{Cm, Device, DeviceId, Down, IsCmOf, IsDeviceOf, Joining, LinkId, Members, Pcf, State, SyncPlan}
+use Rattle.precision_law.proofs.words.Runs.{Happening, IsCaused, IsDue, Judgement, adjustment_at_hearing, channel_of, channel_of_link}
 use Rattle.precision_law.proofs.words.Runs.{IsSplit, cycle_in, earlier, founded_at, heard_as, heard_by_schedule, is_cm, is_cm_role, is_off, is_parent_of, is_relay, members_in}
-use Rattle.precision_law.proofs.words.{Runs.{observation_window, place_of, plan_of, receiver_of, split, state_before, time_of}, Std.{true, unsigned_abs, ℕ, ℤ}}
+use Rattle.precision_law.proofs.words.{Runs.{observation_window, place_of, plan_of, split, state_before, time_of}, Std.{true, unsigned_abs, ℕ, ℤ}}
 use Rattle.precision_law.proofs.words.Std.{◌+◌, ◌<ℤ◌, ◌<◌, ◌||◌, ◌∙◌, ◌∷◌, ◌≡◌, ◌≤ℤ◌, ◌≤◌, ◌⊎◌, Bool, List, None, Option, Some, [], ap, arith, cases_eq, false}
-use Rattle.precision_law.proofs.words.Std.{false_from_ne_true, if◌then◌else◌, inl, inr, ints, not, option_and_then, option_map_or, pos, refl, subst, suc, sym}
+use Rattle.precision_law.proofs.words.Std.{false_from_ne_true, inl, inr, ints, not, option_map_or, pos, refl, subst, suc, sym}
 use Rattle.run_law.specs.declared.note.NoteBody.TheVariants as notes
 
 -- ---- when it is sent
@@ -32,8 +32,8 @@ sent_in_time {v} {n} before {hull} first is at near =
     let space = room is in
     let follows = follows_before n before.hull hull is before.is_hull at in
     record {
-      from = omega (arith, ints, next_first before is, follows, near, space);
-      low = omega (arith, ints, follows, near, space);
+      from = omega (arith, ints, next_first before is);
+      low = omega (arith, ints);
       soon = omega (arith, ints, follows.most, near.most, frames_come_first v.sizes before.hull space (before_narrow before));
     }
 
@@ -59,7 +59,8 @@ pub firm_member : {v : View} {device : DeviceId} → IsFirm v device → IsDevic
 firm_member {v} {device} (inl end) =
     (let d = device_of is_end_system (device_at v.scenario.network device) end.end in of_channel_is v v.channel device d.0 d.1 (inl d.2))
 firm_member {v} {device} (inr switch) =
-    (let d = opened (λ (x : Device). x.channel ≡ Some v.channel) (device_at v.scenario.network device) switch in of_channel_is v v.channel device d.0 d.1
+    (let d = opened (λ x. x.channel ≡ Some v.channel) (device_at v.scenario.network device) switch in
+    of_channel_is v v.channel device d.0 d.1
     (inr d.2))
 
 -- a device of a channel other than its compression master is none
@@ -67,21 +68,22 @@ pub other_than_cm : {v : View} (channel : Channel) (device cm : DeviceId) → Is
     → IsDeviceOf v.scenario.network channel device → IsCmOf v.scenario.network channel cm → (device ≡ cm → ⊥)
     → is_cm v.scenario.network device ≡ false
 other_than_cm {v} channel device cm is member one other =
-    let d = opened (λ (x : Device). (is_end_system x.role ≡ true) ⊎ (x.channel ≡ Some channel)) (device_at v.scenario.network device) member in
+    let d = opened (λ x. (is_end_system x.role ≡ true) ⊎ (x.channel ≡ Some channel))
+    (device_at v.scenario.network device) member in
     false_from_ne_true (is_cm v.scenario.network device) (λ also. elim d.2 [
       | inl end ↦ no_end_cm (device_at v.scenario.network device) also
-          (ap (λ (o : Option Device). option_map_or (λ x. is_end_system x.role) o false) d.1 ∙ end)
+          (rw d.1 end)
       | inr of_channel ↦
           let on : channel_of v.scenario.network device ≡ Some channel =
-          ap (λ (o : Option Device). option_and_then (λ x. x.channel) o) d.1 ∙ of_channel in
+          rw d.1 of_channel in
           other (one_cm channel device cm is (cm_of v device channel also on) one)
     ])
 
 -- the channel of its compression master
 pub cm_of_channel : (v : View) (channel : Channel) (cm : DeviceId) → IsCmOf v.scenario.network channel cm → channel_of v.scenario.network cm ≡ Some channel
 cm_of_channel v channel cm one =
-    (let d = opened (λ (x : Device). (x.role ≡ Cm) × (x.channel ≡ Some channel)) (device_at v.scenario.network cm)
-    one in ap (λ (o : Option Device). option_and_then (λ x. x.channel) o) d.1 ∙ d.2.1)
+    (let d = opened (λ x. (x.role ≡ Cm) × (x.channel ≡ Some channel)) (device_at v.scenario.network cm)
+    one in rw d.1 d.2.1)
 
 -- ---- what it hears
 
@@ -138,11 +140,11 @@ module _ (v : View) (channel : Channel) (n t : ℕ) (block : IsInBlock v n t) (i
     where
       by : (legs : List Leg) → IsTrip v Down first legs b.last → EndsSo v channel first b.last
       by [] trip =
-          let wrong : notes.Compressed cm e.opened e.at (suc n) members e.verdict ≡ notes.Arrived device b.permanent.link b.permanent.from b.permanent.clock =
-          sym e.is ∙ ap (λ (h : Happening). h.note.body) trip ∙ b.permanent.is in absurd (never_both _ _ _ _ _ _ _ _ _ _ wrong)
+          let wrong =
+          sym e.is ∙ ap (λ h. h.note.body) trip ∙ b.permanent.is in absurd (never_both _ _ _ _ _ _ _ _ _ _ wrong)
       by (leg ∷ legs) trip =
           ends_so channel first b.last leg legs is (λ d k gives.
-          (let g = subst (λ x. Gives v.scenario.network x d k) e.is gives in ap (channel_of v.scenario.network) g.0 ∙ cm_of_channel v channel cm one)) trip
+          (let g = rw e.is at gives in ap (channel_of v.scenario.network) g.0 ∙ cm_of_channel v channel cm one)) trip
 
   -- the frame comes to each other device that is on
   pub comes_down : BlocksGoSo → IsWholeFrom v channel (time_of first) → (device ≡ cm → ⊥) → time_of first + v.sizes.dmax + v.sizes.path ≤ t
@@ -154,30 +156,31 @@ module _ (v : View) (channel : Channel) (n t : ℕ) (block : IsInBlock v n t) (i
       let w = time_of first in
       let space = room is in
       let soon = timed.soon in
-      let instant : IsInBlock v n w = earlier_in_block _ _ _ _ block timed.from (omega (arith, le)) in
-      let opens = are_open_on goes channel instant is timed.low (omega (arith, ints, soon)) (omega (arith, le, block.in_run)) in
-      let b = frames_go_down v channel first device cm (suc n) members is intact e one member good other opens (omega (arith, le, block.in_run))
+      let instant = earlier_in_block _ _ _ _ block timed.from (omega arith) in
+      let opens = are_open_on goes channel instant is timed.low (omega (arith, ints)) (omega (arith, block.in_run)) in
+      let b = frames_go_down v channel first device cm (suc n) members is intact e one member good other opens
+      (omega (arith, block.in_run))
       on in
       let p = b.permanent in
       let q = b.q in
       let ends = brought_by_leg b in
-      let same = sym ends.is.arrives ∙ ap (λ (h : Happening). h.note.body) ends.ends ∙ p.is in
+      let same = sym ends.is.arrives ∙ ap (λ h. h.note.body) ends.ends ∙ p.is in
       let arrival = same_arrival _ _ _ _ _ _ _ _ same in
-      let receiver : ends.is.receiver ≡ device = arrival.0 in
-      let link : ends.leg.link ≡ p.link = arrival.1 in
-      let child = receiver_down network p.link device (ap (λ k. receiver_of network k Down) (sym link) ∙ ends.is.comes_to
-      ∙ ap (λ (d : DeviceId). Some d) receiver) in
+      let receiver = arrival.0 in
+      let link = arrival.1 in
+      let child = receiver_down network p.link device (rw (sym link) (ends.is.comes_to
+      ∙ ap (λ d. Some d) receiver)) in
       let parent = false_from_ne_true (is_parent_of network device p.link) (λ yes_parent. child_not_parent device p.link is child yes_parent) in
       let frame = ends.keeps.frame in
       let r : IsRipeArrival v device b.last p.link frame b.point q = record {
-        there = subst (λ h. IsIn h v.records) ends.ends ends.is.arrived;
+        there = rw ends.ends at ends.is.arrived;
         of_frame = ends.keeps.of_frame;
         waits = waits_by (is_relay network device) (is_parent_of network device p.link) parent;
         good = good;
         permanent = p;
         by_link = refl;
         later = omega (arith, ints, p.reached.from_on);
-        in_run = omega (arith, b.in_time.not_late, le, block.in_run);
+        in_run = omega (arith, b.in_time.not_late, block.in_run);
       } in
       let place = split place_of (IsDue s) v.records (place_of_ripe device b.last p.link frame b.point q) is.run.founded in
       record {
@@ -189,8 +192,10 @@ module _ (v : View) (channel : Channel) (n t : ℕ) (block : IsInBlock v n t) (i
         place = place;
         ripe = is_heard_of is (other_than_cm channel device cm is member one other) r place;
         of_channel = ap (channel_of_link network) (sym link) ∙ ends.of_channel;
-        of_cycle = ap (λ (o : Option Pcf). option_map_or (λ f. f.cycle) o 0) (sym ends.keeps.of_frame) ∙ sym ends.keeps.cycle ∙ sym shows.0;
-        of_members = ap (λ (o : Option Pcf). option_map_or (λ f. f.members.0) o 0) (sym ends.keeps.of_frame) ∙ sym ends.keeps.members ∙ sym shows.1;
+        of_cycle = ap (λ o. option_map_or (λ f. f.cycle) o 0) (sym ends.keeps.of_frame) ∙ sym ends.keeps.cycle ∙ sym
+            shows.0;
+        of_members = ap (λ o. option_map_or (λ f. f.members.0) o 0) (sym ends.keeps.of_frame) ∙ sym ends.keeps.members ∙
+            sym shows.1;
         from = omega (arith, b.in_time.not_early, space.paths);
         soon = b.in_time.not_late;
       }
@@ -211,13 +216,13 @@ module _ (v : View) (channel : Channel) (n t : ℕ) (block : IsInBlock v n t) (i
   own_frame same =
       let s = v.scenario in
       let q = time_of first in
-      let body = e.is ∙ ap (λ (d : DeviceId). notes.Compressed d e.opened e.at (suc n) members e.verdict) same in
+      let body = e.is ∙ ap (λ d. notes.Compressed d e.opened e.at (suc n) members e.verdict) same in
       let found = founded_at s v.records first is.run.founded e.there in
       let emits = subst (IsCaused s found.front first.note.time) body found.due.cause in
-      let late : pos q <ℤ first_correction v.sizes block.before.hull = (let soon = timed.soon in omega (arith, ints, soon)) in
+      let late : pos q <ℤ first_correction v.sizes block.before.hull = (let soon = timed.soon in omega (arith, ints)) in
       let hearer = hears q found.front e.at.0 (suc n) members (up_to_then (before_of is found)) timed.from
-      (sooner {v = v} {n = n} {t = t} {block = block} {device = device} q at late) in
-      let of_channel = subst (λ d. channel_of s.network d ≡ Some channel) same (cm_of_channel v channel cm one) in
+      (sooner q at late) in
+      let of_channel = rw same at (cm_of_channel v channel cm one) in
       record {
         h = first;
         point = e.at.0;
@@ -235,18 +240,20 @@ module _ (v : View) (channel : Channel) (n t : ℕ) (block : IsInBlock v n t) (i
       let s = v.scenario in
       let w = time_of first in
       let soon = timed.soon in
-      let lt : w + v.sizes.dmax + v.sizes.path < t = sooner {v = v} {n = n} {t = t} {block = block} {device = device} (w + v.sizes.dmax + v.sizes.path) at soon in
+      let lt = sooner (w + v.sizes.dmax + v.sizes.path) at soon in
       let on : (u : ℕ) → w ≤ u → u + v.sizes.path ≤ w + v.sizes.dmax → is_off (state_before s v.records device u) ≡ false = λ u ge le.
-      (let old_u : epoch_time (earlier t v.records) device <ℤ pos u = omega (arith, ints, at.old, timed.from, ge) in
-      let timed_u = time_stays v device u t is (omega (arith, le, lt)) old_u at.has.timed in
-      ap (λ (b : Bool). is_off (if b then Integrating else state_left v device u)) (not_turned_on_then device u is timed_u)
-      ∙ timed_not_off (state_left v device u) timed_u) in
-      let c = comes_down v channel n t block is device cm member at.has.good one first members e timed goes intact other (omega (arith, lt)) on in
+      (let old_u : epoch_time (earlier t v.records) device <ℤ pos u = omega (arith, ints, at.old, timed.from) in
+      let timed_u = time_stays v device u t is (omega arith) old_u at.has.timed in
+      rw (not_turned_on_then device u is timed_u)
+      (timed_not_off (state_left v device u) timed_u)) in
+      let c = comes_down v channel n t block is device cm member at.has.good one first members e timed goes intact other
+      (omega arith) on in
       let q = c.q in
       let split_at = before_place v q (3 ∷ device.0 ∷ unsigned_abs c.point ∷ c.frame.members.0 ∷ c.link.0 ∷ c.arrival.note.number ∷ []) c.place in
       let ripe = c.ripe in
       let from : block.before.next ≤ q = omega (arith, c.from, timed.from) in
-      let hearer = hears q c.place.front c.point c.frame.cycle c.frame.members (up_to_then split_at) from (omega (arith, c.soon, lt)) in
+      let hearer = hears q c.place.front c.point c.frame.cycle c.frame.members (up_to_then split_at) from
+      (omega (arith, c.soon)) in
       record {
         h = ripe.h;
         point = c.point;
@@ -256,9 +263,9 @@ module _ (v : View) (channel : Channel) (n t : ℕ) (block : IsInBlock v n t) (i
           there = ripe.there;
           how = inl (c.link, c.arrival.note.number, record { 0 = c.point }, ripe.is, c.of_channel, refl);
         };
-        members_are = ap (λ (o : Option Pcf). option_map_or (λ f. f.members.0) o 0) ripe.of_frame ∙ c.of_members;
-        from = omega (arith, ripe.time, from);
-        late = omega (arith, ints, ripe.time, c.soon, soon);
+        members_are = ap (λ o. option_map_or (λ f. f.members.0) o 0) ripe.of_frame ∙ c.of_members;
+        from = omega (arith, ripe.time);
+        late = omega (arith, ints, ripe.time, c.soon);
       }
 
   -- each old device of the channel hears the frame
@@ -266,5 +273,5 @@ module _ (v : View) (channel : Channel) (n t : ℕ) (block : IsInBlock v n t) (i
   receives goes intact =
       elim (cases_eq device.0 cm.0) [
         | inl same ↦ own_frame (same_device cm device (sym same))
-        | inr differs ↦ brought_frame goes intact (λ d. differs (ap (λ (x : DeviceId). x.0) d))
+        | inr differs ↦ brought_frame goes intact (λ d. differs (rw d))
       ]

@@ -1,6 +1,6 @@
 -- What an old device hears in a block it has heard since its last correction point.
 use Rattle.precision_law.proofs.{block.Coming.never_joined, words.Std.{option_map_or, refl, subst, sym, true, ℕ}}
-use Rattle.precision_law.proofs.{hearing.GoodFrames.IsAtPoint, words.Runs.{integration_cycle, is_integration_cycle, recorded_cycle, standing_before, time_of}}
+use Rattle.precision_law.proofs.{hearing.GoodFrames.IsAtPoint, words.Runs.{is_integration_cycle, recorded_cycle, standing_before, time_of}}
 use Rattle.precision_law.proofs.words.{Blocks.{cleared_from, had_cleared, had_time, in_part, old_number, sets_none}, Plans.{DeviceId, Hearing, IsAtIntegration}}
 use Rattle.precision_law.proofs.words.Clocks.{AreSorted, PartsAtLast, after_last_at, after_last_none, all_of, earlier_before, in_kept, in_order, made_in}
 use Rattle.precision_law.proofs.words.Clocks.{next_cycle_is_of_last, none, parts_at_last, same_cleared, same_next, settings_stay, some, sorted_parts}
@@ -22,9 +22,11 @@ in_after_last {X} p xs x i apart = by (parts_at_last p xs)
     behind front rest last whole hit (inr (inr more)) = more
 
     by : PartsAtLast p xs → IsIn x (after_last p xs)
-    by (none all) = subst (IsIn x) (sym (after_last_none p xs (all_of (λ (y : X). not (p y) ≡ true) xs (λ y j. ap not (all y j))))) i
+    by (none all) = subst (IsIn x) (sym (after_last_none p xs
+        (all_of (λ y. not (p y) ≡ true) xs (λ y j. ap not (all y j))))) i
     by (some front rest last whole hit all) =
-        let at = ap (after_last p) whole ∙ after_last_at p front last rest hit (all_of (λ (y : X). not (p y) ≡ true) rest (λ y j. ap not (all y j))) in
+        let at = ap (after_last p) whole ∙ after_last_at p front last rest hit
+        (all_of (λ y. not (p y) ≡ true) rest (λ y j. ap not (all y j))) in
         subst (IsIn x) (sym at) (behind front rest last whole hit (in_parts x front (last ∷ rest) (subst (IsIn x) whole i)))
 
 kept_by : (a b : Bool) → (a ≡ true → b ≡ true) → (not a || b) ≡ true
@@ -42,14 +44,15 @@ module _ (v : View) (n t : ℕ) (block : IsInBlock v n t) (is : IsView v) (devic
       had = had_time block.before.next is block.from at.old at.has
 
       index : (o : Option Happening) → last_setting (earlier t v.records) device ≡ o → option_map_or (λ h. cycle_set h h.note.body) o 0 ≡ n
-      index o e = ap (λ (x : Option Happening). option_map_or (λ h. cycle_set h h.note.body) x 0)
-          (sym (settings_stay v device block.before.next t is block.from at.old ∙ e)) ∙ (block.before.clocks device had).index
+      index o e = rw (sym (settings_stay v device block.before.next t is block.from at.old ∙ e))
+          (block.before.clocks device had).index
 
       number : (o : Option Happening) → last_setting (earlier t v.records) device ≡ o → next_of o ≡ n
       number o e =
-          let shown = ap (λ (b : Bool). if b then recorded_cycle (earlier t v.records) device + 1 else recorded_cycle (earlier t v.records) device) cleared in
+          let shown = ap (λ b. if b then recorded_cycle (earlier t v.records) device + 1 else recorded_cycle
+          (earlier t v.records) device) cleared in
           let own = old_number t device block.before is block.from at.has at.old in
-          omega (arith, next_cycle_is_of_last (earlier t v.records) device ∙ ap next_of e, shown, own)
+          omega (arith, next_cycle_is_of_last (earlier t v.records) device ∙ ap next_of e)
 
       by : (o : Option Happening) → last_setting (earlier t v.records) device ≡ o
           → has_cleared v.scenario v.records device block.before.next block.before.next ≡ true
@@ -57,8 +60,8 @@ module _ (v : View) (n t : ℕ) (block : IsInBlock v n t) (is : IsView v) (devic
       by (Some h) e = elim (cases_Bool (is_correction h.note.body)) [
         | inr joined ↦ had_cleared n t block.before is block.from had at.old h e joined
         | inl corrected ↦
-            let behind = ap (λ (b : Bool). if b then cycle_set h h.note.body + 1 else cycle_set h h.note.body) corrected in
-            absurd (omega (arith, index (Some h) e, number (Some h) e, behind))
+            let behind = ap (λ b. if b then cycle_set h h.note.body + 1 else cycle_set h h.note.body) corrected in
+            absurd (omega (arith, index (Some h) e, number (Some h) e))
       ]
 
   -- so it has before each instant of the block
@@ -74,20 +77,21 @@ module _ (v : View) (n t : ℕ) (block : IsInBlock v n t) (is : IsView v) (devic
     pub not_integrating : IsAtIntegration (standing_before v.scenario front device t) → ⊥
     not_integrating integrates =
         never_joined t t block.before device is block.from at.has.good at.old (omega arith)
-        (ap (λ hs. integration_cycle hs device) (sym (earlier_before split)) ∙ integrates.cycle
-        ∙ ap (λ (c : ℕ). Some c) (same_next device split ∙ old_number t device block.before is block.from at.has at.old))
+        (rw (sym (earlier_before split)) (integrates.cycle
+        ∙ ap (λ c. Some c) (same_next device split ∙ old_number t device block.before is block.from at.has at.old)))
 
     -- no setting of the device stands at or behind a record of the block
     behind_settings : (h : Happening) → block.before.next ≤ time_of h → (before rest : List Happening) (last : Happening) → front ≡ before ++ last ∷ rest
         → (nat_lt (time_of last) t && changes_adjustment device last.note.body) ≡ true → IsIn h before ⊎ (h ≡ last) → ⊥
     behind_settings h from before rest last whole hit where_is =
         let both = and_parts (nat_lt (time_of last) t) (changes_adjustment device last.note.body) hit in
-        let all = split.whole ∙ ap (λ (hs : List Happening). hs ++ split.rest) whole ∙ append_assoc before (last ∷ rest) split.rest in
+        let all = split.whole ∙ ap (λ hs. hs ++ split.rest) whole ∙ append_assoc before (last ∷ rest) split.rest in
         let parts = sorted_parts before (rest ++ split.rest) last (subst AreSorted all (in_order is)) in
         let in_all : IsIn last v.records = subst (IsIn last) (sym all) (in_right last before (last ∷ (rest ++ split.rest)) (inl refl)) in
         let up : time_of h ≤ time_of last = elim where_is as (λ _. time_of h ≤ time_of last)
-        [ inl i ↦ parts.0 h i | inr same ↦ (let e = ap time_of same in omega (arith, e)) ] in
-        both_ways (changes_adjustment device last.note.body) (sets_none device block.before.next t is block.from at.old last in_all (omega (arith, from, up))
+        [ inl i ↦ parts.0 h i | inr same ↦ (let e = ap time_of same in omega arith) ] in
+        both_ways (changes_adjustment device last.note.body)
+        (sets_none device block.before.next t is block.from at.old last in_all (omega arith)
         (ltb-true (time_of last) t both.0)) both.1
 
     -- what an old device hears by a record of the block is among what it heard since its last point

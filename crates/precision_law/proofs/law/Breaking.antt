@@ -3,7 +3,7 @@ use Rattle.precision_law.proofs.{block.Dispatched.masters_dispatch, words.Blocks
 use Rattle.precision_law.proofs.words.Blocks.{all_in_hulls, before_narrow, block_ends, block_of, earlier_in_block, follows_before, has_dispatched, hull_lies}
 use Rattle.precision_law.proofs.words.Clocks.{adjustment_stays, enough_masters, good_is_correct, instants_are_in_order, le_by, natural_of, room, state_stays}
 use Rattle.precision_law.proofs.words.{Clocks.{steady, synchronised_has_time}, Plans.{Channel, DeviceId, Masters, Units, none}, Std.{true, zero, ℕ}}
-use Rattle.precision_law.proofs.words.Laws.{BlocksCover, BlocksGoSo, HasTimeAt, Hull, IsDispatch, IsFirstMaster, IsGood, IsInBlock, IsOldAt, IsView, Stands}
+use Rattle.precision_law.proofs.words.Laws.{BlocksCover, BlocksGoSo, HasTimeAt, IsDispatch, IsFirstMaster, IsGood, IsInBlock, IsOldAt, IsView, Stands}
 use Rattle.precision_law.proofs.words.Laws.{View, adjustment_left, epoch_time, hull_of, last_dispatch, last_setting, state_left}
 use Rattle.precision_law.proofs.words.Runs.{Happening, IsIn, Scenario, adjustment_after, earlier, is_synchronised, same_some, state_after, time_of}
 use Rattle.precision_law.proofs.words.Std.{◌*◌, ◌+ℤ◌, ◌<ℤ◌, ◌<◌, ◌∙◌, ◌≡◌, ◌≤ℤ◌, ◌≤◌, List, ap, arith, by_lt_z, ints, ones_le_self, pos, refl, subst, suc, sym}
@@ -21,9 +21,9 @@ first_dispatched cover goes {v} m stands {device} is first =
     let follows = follows_before m before.hull stands.hull is before.is_hull stands.is_hull in
     let ends = block_ends v m stands.next before.hull before.is_hull stands.is_over in
     let space = room is in
-    let x = natural_of (last_dispatch v.sizes before.hull) (time_of lie.earliest) (omega (arith, ints, lie.first_is, follows)) in
-    let at = in_next before x.0 is (omega (arith, ints, x.1, follows)) (omega (arith, ints, x.1))
-    (omega (arith, ints, x.1, ends, stands.in_run)) in
+    let x = natural_of (last_dispatch v.sizes before.hull) (time_of lie.earliest) (omega (arith, ints, lie.first_is)) in
+    let at = in_next before x.0 is (omega (arith, ints, x.1)) (omega (arith, ints, x.1))
+    (omega (arith, ints, x.1, stands.in_run)) in
     let sent = masters_dispatch goes v m x.0 (halving.block_of v m before x.0 at) device is (omega (arith, ints, x.1)) first in
     (sent.0, sent.1)
 
@@ -71,8 +71,10 @@ module _ (cover : BlocksCover) (goes : BlocksGoSo) (s : Scenario) (hs : List Hap
       let e = sent.0 in
       let a = all_in_hulls cover goes two.is sent.1 in
       let b = all_in_hulls cover goes two.longer {h = e} {device = k} {cycle = suc m} (record { there = two.inside e sent.1.there; is = sent.1.is; good = first.good }) in
-      let top = ap (λ (x : Hull). x.greatest) (same_some (hull_of v (suc m)) a.hull block.before.hull a.is block.before.is_hull) in
-      let bottom = ap (λ (x : Hull). x.least) (same_some (hull_of v' (suc m)) b.hull later.before.hull b.is later.before.is_hull) in
+      let top = ap (λ x. x.greatest) (same_some (hull_of v (suc m)) a.hull block.before.hull a.is
+      block.before.is_hull) in
+      let bottom = ap (λ x. x.least) (same_some (hull_of v' (suc m)) b.hull later.before.hull b.is
+      later.before.is_hull) in
       let prior = later.before.narrow m (omega arith) in
       let ends = block_ends v' m later.before.next prior.0 prior.1 later.before.is_over in
       let space = room two.is in
@@ -84,10 +86,10 @@ module _ (cover : BlocksCover) (goes : BlocksGoSo) (s : Scenario) (hs : List Hap
   -- so it was
   set_early : (n : ℕ) (two : AreTwo s hs path n g h one other) (block : IsInBlock (first_view two) n (time_of g))
       (later : IsInBlock (second_view two) n (time_of h)) → later.before.next ≤ time_of g
-  set_early zero two block later = (let start : later.before.next ≡ 0 = later.before.is_over in omega (arith, start))
+  set_early zero two block later = (let start : later.before.next ≡ 0 = later.before.is_over in omega arith)
   set_early (suc m) two block later = le_by (λ lt.
       let enough = enough_masters (second_view two) none two.longer (λ k i first member. absurd (set_early_by m two block later k first lt)) in
-      omega (arith, enough, (two.longer.lawful.rules Masters 2).threshold_least refl, ones_le_self 0))
+      omega (arith, (two.longer.lawful.rules Masters 2).threshold_least refl, ones_le_self 0))
 
   pub set_before : (n : ℕ) (two : AreTwo s hs path n g h one other) (block : IsInBlock (first_view two) n (time_of g))
       (later : IsInBlock (second_view two) n (time_of h)) → IsSetBefore (first_view two) n (time_of h) other block.before.next
@@ -98,7 +100,7 @@ module _ (cover : BlocksCover) (goes : BlocksGoSo) (s : Scenario) (hs : List Hap
       let u = time_of h in
       let has = has_dispatched two.longer two.second in
       let old' = ((goes v' n u later two.longer).dispatches h other (suc n) two.second refl).old in
-      let set : epoch_time (earlier u two.more) other <ℤ pos w = omega (arith, ints, old', set_early n two block later) in
+      let set : epoch_time (earlier u two.more) other <ℤ pos w = omega (arith, ints, set_early n two block later) in
       let same = ap (λ es. (adjustment_after s es other).0) (two.early w (omega arith)) ∙ ap (λ (a : Units). a.0)
       (adjustment_stays other w u two.longer two.le set) in
       let synchronised = ap (λ es. is_synchronised (state_after s es other)) (two.early w (omega arith))
@@ -113,5 +115,5 @@ module _ (cover : BlocksCover) (goes : BlocksGoSo) (s : Scenario) (hs : List Hap
       (λ late.
       let new = new_shows {u = w} block (λ x from less. goes v n x (earlier_in_block _ _ _ _ block from (omega arith)) two.is) two.is
       (omega arith) timed (last_setting (earlier w two.front) other) refl late in
-      absurd (omega (arith, ints, new.ahead, (steady v two.is other).never_falls w u two.le, most))) in
+      absurd (omega (arith, ints, new.ahead, (steady v two.is other).never_falls w u two.le))) in
       record { good = good; synchronised = synchronised; old = old; least = least; most = most }

@@ -1,7 +1,7 @@
 -- What a device that joins comes to by its first correction.
 use Rattle.precision_law.proofs.words.Laws.{ClocksStayTogether, DispatchesStayNear, IsFirstCorrection, IsFixedByPoints, IsRunUpTo, JoinersComeIn}
-use Rattle.{precision_law.proofs.words.Plans.{Corrected, DeviceId, HasVerdict}, sync_state.proofs.LawLemmas.by_points}
-use Rattle.precision_law.proofs.words.{Runs.{Happening, IsCaused, Note, Scenario, happenings, standing_before, time_of}, Std.{◌-ℤ◌, List, subst, sym, ℕ, ℤ}}
+use Rattle.{precision_law.proofs.words.Plans.{DeviceId}, sync_state.proofs.LawLemmas.by_points}
+use Rattle.precision_law.proofs.words.{Runs.{Happening, IsCaused, Note, Scenario, happenings, standing_before, time_of}, Std.{List, subst, sym, ℕ}}
 use Rattle.run_law.specs.declared.note.NoteBody.TheVariants as notes
 
 -- a correction is by what was heard
@@ -17,8 +17,7 @@ fixed_by_points {s} up {device} {h} f =
       heard = point.summary;
       sums = point.heard;
       from_any =
-          λ other. subst (λ (z : ℤ). HasVerdict (record standing { adjustment = other }) point.summary (Corrected (record { 0 = z -ℤ other.0 })))
-          (sym caused.sum) (by_points standing point.summary f.by other point.comes);
+          λ other. rw (sym caused.sum) at (by_points standing point.summary f.by other point.comes);
     }
 
 pub joiners_come_in : ClocksStayTogether → DispatchesStayNear → JoinersComeIn

@@ -1,6 +1,6 @@
 -- The blocks cover the run.
 use Rattle.precision_law.proofs.{law.Together.{block_ends, follows_before}, words.Clocks.{corrections_come_first, room}}
-use Rattle.precision_law.proofs.words.Laws.{BlockIsOver, BlocksCover, Hull, IsInBlock, IsOverBefore, IsView, Stands, StandsAtStart, StandsOn, View, hull_of}
+use Rattle.precision_law.proofs.words.Laws.{BlockIsOver, BlocksCover, IsInBlock, IsOverBefore, IsView, Stands, StandsAtStart, StandsOn, View, hull_of}
 use Rattle.precision_law.proofs.words.{Laws.{last_correction, start_hull}, Runs.same_some}
 use Rattle.precision_law.proofs.words.Std.{◌+ℤ◌, ◌+◌, ◌<◌, ◌≡◌, ◌≤ℤ◌, ◌≤◌, ap, arith, cases_lt, inl, inr, ints, negsuc, pos, refl, suc, zero, ℕ, ℤ}
 
@@ -8,12 +8,11 @@ use Rattle.precision_law.proofs.words.Std.{◌+ℤ◌, ◌+◌, ◌<◌, ◌≡�
 pub later_end : {v : View} (n : ℕ) (stands : Stands v n) → IsView v
     → pos stands.next ≤ℤ last_correction v.sizes stands.hull
 later_end {v} zero stands is =
-    let same : start_hull v.sizes ≡ stands.hull = same_some (hull_of v zero) (start_hull v.sizes) stands.hull refl stands.is_hull in
-    omega (arith, ints, stands.is_over, ap (λ (w : Hull). w.greatest) same)
+    let same = same_some (hull_of v zero) (start_hull v.sizes) stands.hull refl stands.is_hull in
+    omega (arith, ints, stands.is_over, ap (λ w. w.greatest) same)
 later_end {v} (suc c) stands is =
     let one = stands.narrow c (omega arith) in
     let follows = follows_before c one.0 stands.hull is one.1 stands.is_hull in
-    let space = room is in
     omega (arith, ints, block_ends v c stands.next _ one.1 stands.is_over, corrections_come_first v.sizes one.0 stands.hull (room is) one.2 follows)
 
 -- the natural number behind an instant
@@ -22,12 +21,12 @@ pub record IsBehind (z : ℤ) (next : ℕ) : Type 0 where
 
 pub behind_of : (z : ℤ) (least : ℕ) → pos least ≤ℤ z → (next : ℕ) × IsBehind z next
 behind_of (pos n) least le = (n + 1, record { behind = omega (arith, ints) })
-behind_of (negsuc n) least le = absurd (omega (arith, ints, le))
+behind_of (negsuc n) least le = absurd (omega (arith, ints))
 
 -- from a block that is over the next ones reach each later time
 reach_from : StandsOn → {v : View} (t fuel n : ℕ) (stands : Stands v n) → IsView v → t ≤ v.until → stands.next ≤ t
     → t < stands.next + fuel → (m : ℕ) × IsInBlock v m t × (n ≤ m)
-reach_from on t zero n stands is in_run from short = absurd (omega (arith, from, short))
+reach_from on t zero n stands is in_run from short = absurd (omega arith)
 reach_from on {v} t (suc fuel) n stands is in_run from short =
     let later = later_end n stands is in
     let next = behind_of (last_correction v.sizes stands.hull) stands.next later in
@@ -35,14 +34,20 @@ reach_from on {v} t (suc fuel) n stands is in_run from short =
     elim (cases_lt t next.0) [
       | inl lt ↦ (n, record { before = stands; next = next.0; is_over = over; from = from; to = lt; in_run = in_run }, omega arith)
       | inr ge ↦
-          let done : BlockIsOver v n = record { before = stands; next = next.0; is_over = over; in_run = omega (arith, ge, in_run) } in
+          let done : BlockIsOver v n = record {
+            before = stands;
+            next = next.0;
+            is_over = over;
+            in_run =
+                omega arith;
+          } in
           let more = on v n is done in
           let same : more.next ≡ next.0 = omega (arith, ints, block_ends v n more.next stands.hull stands.is_hull more.is_over, next.1.behind) in
-          let grows : stands.next < next.0 = omega (arith, ints, later, next.1.behind) in
-          let found = reach_from on t fuel (suc n) more is in_run (omega (arith, same, ge))
-          (omega (arith, same, grows, short)) in
+          let grows : stands.next < next.0 = omega (arith, ints, next.1.behind) in
+          let found = reach_from on t fuel (suc n) more is in_run (omega arith)
+          (omega arith) in
           let above = found.2 in
-          (found.0, found.1, omega (arith, above))
+          (found.0, found.1, omega arith)
     ]
 
 -- each time behind a block lies in that of a later cycle
@@ -53,6 +58,6 @@ later_block on {n} t stands is in_run from = reach_from on t (t + 1) n stands is
 pub blocks_cover : StandsAtStart → StandsOn → BlocksCover
 blocks_cover start on v t is in_run =
     let first = start v is in
-    let zero_next : first.next ≡ 0 = first.is_over in
-    let found = reach_from on t (t + 1) 0 first is in_run (omega (arith, zero_next)) (omega (arith, zero_next)) in
+    let zero_next = first.is_over in
+    let found = reach_from on t (t + 1) 0 first is in_run (omega arith) (omega arith) in
     (found.0, found.1)

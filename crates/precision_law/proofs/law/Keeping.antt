@@ -28,11 +28,11 @@ module _ (goes : BlocksGoSo) {v : View} {n t : ℕ} (u : ℕ) (device : DeviceId
   set_for : u ≤ t + 1 → HasTimeAt v device u → (o : Option Happening) → last_setting (earlier u v.records) device ≡ o
       → pos block.before.next ≤ℤ option_map_or (λ h. pos (time_of h)) o (negsuc 0)
       → option_map_or (λ h. cycle_set h h.note.body) o 0 ≡ suc n
-  set_for most has None e late = absurd (omega (arith, ints, late))
+  set_for most has None e late = absurd (omega (arith, ints))
   set_for most has (Some h) e late =
       let at = setting_is v device u h e in
-      let from : block.before.next ≤ time_of h = omega (arith, ints, late) in
-      let here : IsInBlock v n (time_of h) = earlier_in_block _ _ _ _ block from (omega arith) in
+      let from : block.before.next ≤ time_of h = omega (arith, ints) in
+      let here = earlier_in_block _ _ _ _ block from (omega arith) in
       let so = goes v n (time_of h) here is in
       elim (is_joined_by device h.note.body) as (λ b. is_joined_by device h.note.body ≡ b → cycle_set h h.note.body
       ≡ suc n) [
@@ -60,24 +60,23 @@ module _ (goes : BlocksGoSo) {v : View} {n t : ℕ} (u : ℕ) (device : DeviceId
   shows_cycle le most has =
       let before = block.before in
       let shown = pos (v.scenario.reading device t) +ℤ adjustment_left v device u in
-      by_lt_z {P = ShowsCycle v t (epoch_cycle (earlier u v.records) device) (pos (v.scenario.reading device t) +ℤ adjustment_left v device u)}
+      by_lt_z
       (epoch_time (earlier u v.records) device) (pos before.next)
       (λ old.
-      let from : before.next ≤ u = omega (arith, block.from, le) in
+      let from : before.next ≤ u = omega (arith, block.from) in
       let set = before.clocks device
       (record { good = has.good; timed = (time_stays v device before.next u is from old has.timed) }) in
       let index : epoch_cycle (earlier u v.records) device ≡ n =
-      ap (λ (o : Option Happening). option_map_or (λ h. cycle_set h h.note.body) o 0)
-      (sym (settings_stay v device before.next u is from old)) ∙ set.index in
+      rw (sym (settings_stay v device before.next u is from old)) set.index in
       let here : ShowsCycle v t n shown = record {
         hull = before.hull;
         is_hull = before.is_hull;
         narrow = before_narrow before;
         shows = old_shows block is le has old;
       } in
-      subst (λ c. ShowsCycle v t c shown) (sym index) here)
+      rw index here)
       (λ late.
-      let set = new_shows {u = u} block (λ w from lt. goes v n w (earlier_in_block _ _ _ _ block from (omega arith))
+      let set = new_shows block (λ w from lt. goes v n w (earlier_in_block _ _ _ _ block from (omega arith))
       is) is most has
       (last_setting (earlier u v.records) device) refl late in
       let here : ShowsCycle v t (suc n) shown = record {
@@ -86,8 +85,7 @@ module _ (goes : BlocksGoSo) {v : View} {n t : ℕ} (u : ℕ) (device : DeviceId
         narrow = hulls_are_narrow goes v n before set.hull is set.is_hull;
         shows = set_shows block is set;
       } in
-      subst (λ c. ShowsCycle v t c shown) (sym
-      (set_for most has (last_setting (earlier u v.records) device) refl late)) here)
+      rw (set_for most has (last_setting (earlier u v.records) device) refl late) here)
 
 -- ---- of a run
 
@@ -107,9 +105,8 @@ pub clocks_keep_their_cycles : OneChannelIsSound → BlocksCover → BlocksGoSo 
 clocks_keep_their_cycles sound cover goes s mark ns until beta up is_beta t device le =
     let hs = happenings s.network ns in
     let same = up_to_is t hs in (
-      λ step. subst (λ gs. KeepsCycle s hs beta t (epoch_cycle gs device) (pos (s.reading device t) +ℤ (adjustment_after s gs device).0))
-          (sym same) (keeps (t + 1) (omega arith) (omega arith) step.correct
-          (subst (λ gs. state_after s gs device ≡ Synchronised) same step.synchronised)),
+      λ step. rw same (keeps (t + 1) (omega arith) (omega arith) step.correct
+          (rw same at step.synchronised)),
       λ step. keeps t (omega arith) (omega arith) step.correct
           (not_integrating (is_turned_on_at s device t) (state_after s (earlier t hs) device) step.synchronised),
     )
@@ -124,7 +121,6 @@ clocks_keep_their_cycles sound cover goes s mark ns until beta up is_beta t devi
         let v = view_of s t channel.0 beta at.cut.front in
         let block = cover v t at.is (omega arith) in
         let same = sym (at.cut.early u to) in
-        let timed = timed_of _ (subst (λ gs. state_after s gs device ≡ Synchronised) same synchronised) in
+        let timed = timed_of _ (rw same at synchronised) in
         let shows = shows_cycle goes u device block.1 at.is from to (record { good = correct; timed = timed }) in
-        subst (λ gs. KeepsCycle s hs beta t (epoch_cycle gs device) (pos (s.reading device t) +ℤ (adjustment_after s gs device).0))
-        (sym same) (keeps_by cover goes channel.0 beta at.cut at.is shows)
+        rw same (keeps_by cover goes channel.0 beta at.cut at.is shows)

@@ -27,7 +27,7 @@ corrects_by device (notes.Corrected other cycle by adjustment) sets none =
       cycle = cycle;
       by = by;
       adjustment = adjustment;
-      is = ap (λ (d : DeviceId). notes.Corrected d cycle by adjustment) (same_device device other sets);
+      is = rw (same_device device other sets);
     }
 corrects_by device body sets none = absurd (both_ways _ none sets)
 
@@ -45,7 +45,7 @@ pub corrected_late : {v : View} {n t : ℕ} (block : IsInBlock v n t) {device : 
     → BlocksGoSo → IsView v → HasTimeAt v device t → state_left v device t ≡ Synchronised
     → last_setting (earlier t v.records) device ≡ o → pos block.before.next ≤ℤ option_map_or (λ h. pos (time_of h)) o
     (negsuc 0) → (first_correction v.sizes block.before.hull +ℤ pos v.sizes.reach) <ℤ pos t
-corrected_late block None goes is has synchronised e late = absurd (omega (arith, ints, late))
+corrected_late block None goes is has synchronised e late = absurd (omega (arith, ints))
 corrected_late {v} {n} {t} block {device} (Some h) goes is has synchronised e late =
     let at = setting_is v device t h e in
     let set = last_corrects device t h is synchronised e in
@@ -57,7 +57,7 @@ corrected_late {v} {n} {t} block {device} (Some h) goes is has synchronised e la
       timed = point_timed split cause.corrected;
     } in
     let comes : ComesTo v (time_of h) device set.cycle (Corrected set.by) = record { front = found.front; split = split; point = cause.corrected } in
-    let here : IsInBlock v n (time_of h) = earlier_in_block _ _ _ _ block (omega (arith, ints, late)) (omega arith) in
+    let here = earlier_in_block _ _ _ _ block (omega (arith, ints)) (omega arith) in
     let so = goes v n (time_of h) here is in
     let old = so.old_alone device set.cycle (Corrected set.by) then_has comes (λ e. cc) in
     omega (arith, ints, (so.points device set.cycle (Corrected set.by) then_has old comes).not_early, at.early)
@@ -90,10 +90,19 @@ module _ (v : View) (is : IsView v) (n value t : ℕ) (within : IsInCycle v valu
     (most : shown ≤ℤ (pos (n * v.sizes.cycle + value) +ℤ pos (2 * v.sizes.grain))) where
   -- a clock that was set before the block reaches the value in no earlier cycle
   never_before : (k : ℕ) (block : IsInBlock v k t) → ShowsIn v.sizes shown k block.before.hull t → n < k → ⊥
-  never_before zero block shows lt = omega (arith, lt)
+  never_before zero block shows lt = omega arith
   never_before (suc j) block shows lt =
-      let more : suc n * v.sizes.cycle ≤ suc j * v.sizes.cycle = mul-le-mul_right v.sizes.cycle (omega (arith, lt)) in
-      omega (arith, ints, more, one_more n v.sizes.cycle, most, shows.least, block.from, begins_late j block.before is, within.ends, room is)
+      let more : suc n * v.sizes.cycle ≤ suc j * v.sizes.cycle = mul-le-mul_right v.sizes.cycle (omega arith) in
+      omega (
+        arith,
+        ints,
+        one_more n v.sizes.cycle,
+        shows.least,
+        block.from,
+        begins_late j block.before is,
+        within.ends,
+        room is,
+      )
 
   -- nor in a later one
   same_cycle : (k : ℕ) (block : IsInBlock v k t) → ShowsIn v.sizes shown k block.before.hull t → k ≡ n
@@ -101,22 +110,30 @@ module _ (v : View) (is : IsView v) (n value t : ℕ) (within : IsInCycle v valu
     | inl lt ↦
         let space = room is in
         let ends = block_ends v k block.next block.before.hull block.before.is_hull block.is_over in
-        let more : suc k * v.sizes.cycle ≤ n * v.sizes.cycle = mul-le-mul_right v.sizes.cycle (omega (arith, lt)) in
-        absurd (omega (arith, ints, more, one_more k v.sizes.cycle, least, shows.most, block.to, ends, before_narrow block.before, within.begins, space))
-    | inr ge ↦ elim (cases_lt n k) [ inl lt ↦ absurd (never_before k block shows lt) | inr le ↦ omega (arith, ge, le) ]
+        let more : suc k * v.sizes.cycle ≤ n * v.sizes.cycle = mul-le-mul_right v.sizes.cycle (omega arith) in
+        absurd (omega (
+          arith,
+          ints,
+          one_more k v.sizes.cycle,
+          shows.most,
+          block.to,
+          before_narrow block.before,
+          within.begins,
+        ))
+    | inr ge ↦ elim (cases_lt n k) [ inl lt ↦ absurd (never_before k block shows lt) | inr le ↦ omega arith ]
   ]
 
   old_reaches : (k : ℕ) (block : IsInBlock v k t) → ShowsIn v.sizes shown k block.before.hull t → IsReachedFrom v n value t
   old_reaches k block shows =
       let space = room is in
       let same = same_cycle k block shows in
-      let whole : n * v.sizes.cycle ≡ k * v.sizes.cycle = ap (λ m. m * v.sizes.cycle) (sym same) in
+      let whole : n * v.sizes.cycle ≡ k * v.sizes.cycle = rw (sym same) in
       record {
         hull = block.before.hull;
-        is_hull = subst (λ m. hull_of v m ≡ Some block.before.hull) same block.before.is_hull;
+        is_hull = rw same at block.before.is_hull;
         narrow = before_narrow block.before;
-        not_early = omega (arith, ints, whole, least, shows.most, space.errors.reach_is);
-        not_late = omega (arith, ints, whole, most, shows.least, space.errors.reach_is);
+        not_early = omega (arith, ints, shows.most, space.errors.reach_is);
+        not_late = omega (arith, ints, shows.least, space.errors.reach_is);
       }
 
   -- one that was set in the block reaches none there
@@ -126,14 +143,20 @@ module _ (v : View) (is : IsView v) (n value t : ℕ) (within : IsInCycle v valu
       let space = room is in
       let near = set_clocks_stay_at_correction v.sizes shown (suc k) t block.before.hull hull space (before_narrow block.before)
       (follows_before k block.before.hull hull is block.before.is_hull is_hull)
-      (omega (arith, ints, after)) (omega (arith, ints, block_ends v k block.next block.before.hull block.before.is_hull block.is_over, block.to)) shows in
+      (omega (arith, ints)) (omega (
+        arith,
+        ints,
+        block_ends v k block.next block.before.hull block.before.is_hull
+            block.is_over,
+        block.to,
+      )) shows in
       elim (cases_lt k n) [
         | inl lt ↦
-            let more : suc k * v.sizes.cycle ≤ n * v.sizes.cycle = mul-le-mul_right v.sizes.cycle (omega (arith, lt)) in
-            omega (arith, ints, more, least, near.most, within.begins, space)
+            let more : suc k * v.sizes.cycle ≤ n * v.sizes.cycle = mul-le-mul_right v.sizes.cycle (omega arith) in
+            omega (arith, ints, near.most, within.begins)
         | inr ge ↦
-            let more : n * v.sizes.cycle ≤ k * v.sizes.cycle = mul-le-mul_right v.sizes.cycle ge in
-            omega (arith, ints, more, one_more k v.sizes.cycle, most, near.least, within.ends, space)
+            let more = mul-le-mul_right v.sizes.cycle ge in
+            omega (arith, ints, one_more k v.sizes.cycle, near.least, within.ends)
       ]
 
 pub value_reached : BlocksCover → BlocksGoSo → {v : View} (n : ℕ) {value t : ℕ} {device : DeviceId} → IsView v
@@ -147,10 +170,10 @@ value_reached cover goes {v} n {value} {t} {device} is has synchronised in_run w
     let sharp = clocks_reach_sharply v device (pos (n * v.sizes.cycle + value)) t is reaches in
     let least : pos (n * v.sizes.cycle + value) ≤ℤ shown = omega (arith, ints, sharp.least) in
     let most : shown ≤ℤ (pos (n * v.sizes.cycle + value) +ℤ pos (2 * v.sizes.grain)) = omega (arith, ints, sharp.most) in
-    by_lt_z {P = IsReachedFrom v n value t} (epoch_time (earlier t v.records) device) (pos block.before.next)
+    by_lt_z (epoch_time (earlier t v.records) device) (pos block.before.next)
     (λ old. old_reaches v is n value t within shown least most k block (old_shows block is (omega arith) has old))
     (λ late.
-    let set = new_shows {u = t} block (λ w from lt. goes v k w (earlier_in_block _ _ _ _ block from (omega arith))
+    let set = new_shows block (λ w from lt. goes v k w (earlier_in_block _ _ _ _ block from (omega arith))
     is) is (omega arith) has
     (last_setting (earlier t v.records) device) refl late in
     absurd (new_reaches_none v is n value t within shown least most k block set.hull set.is_hull
@@ -165,11 +188,12 @@ values_are_reached_on_time sound cover goes s mark ns until beta up is_beta t cy
     let channel = sound s t up.lawful in
     let at = view_with t channel.0 beta up is_beta le channel.1 in
     let v = view_of s t channel.0 beta at.cut.front in
-    let same : earlier t hs ≡ earlier t at.cut.front = sym (at.cut.early t (omega arith)) in
-    let synchronised : state_left v device t ≡ Synchronised = subst (λ gs. state_after s gs device ≡ Synchronised) same
-    (not_integrating (is_turned_on_at s device t) (state_after s (earlier t hs) device) step.synchronised) in
+    let same = sym (at.cut.early t (omega arith)) in
+    let synchronised : state_left v device t ≡ Synchronised =
+    rw same at (not_integrating (is_turned_on_at s device t) (state_after s (earlier t hs) device)
+    step.synchronised) in
     let has : HasTimeAt v device t = record { good = step.correct; timed = timed_of (state_left v device t) synchronised } in
-    let from = value_reached cover goes cycle {value = value} at.is has synchronised (omega arith)
+    let from = value_reached cover goes cycle at.is has synchronised (omega arith)
     (record { begins = within.begins; ends = within.ends })
     (reaches_by at.cut.front same reaches) in
     record {

@@ -2,10 +2,10 @@
 use Rattle.{precision_law.proofs.words.Clocks.{IsCutAt, before_of, cut_at, point_timed, same_kept, within_run}, sync_state.proofs.StateFacts.up_state}
 use Rattle.precision_law.proofs.words.Laws.{BlocksCover, BlocksGoSo, ClocksAgreeInBlocks, ClocksStayTogether, ComesTo, FirmDevicesCorrect, HasTimeAt, IsClique}
 use Rattle.precision_law.proofs.words.Laws.{IsFirm, IsGood, IsRunUpTo, IsSound, IsView, OneChannelIsSound, TimeIsKept, View, has_time, sizes_of, state_left}
-use Rattle.precision_law.proofs.words.Plans.{AsyncClique, Channel, Cleared, Corrected, DeviceId, IsBeta, IsSwitchOf, State, SyncClique, Synchronised, Units}
+use Rattle.precision_law.proofs.words.Plans.{AsyncClique, Channel, Cleared, Corrected, DeviceId, IsBeta, State, SyncClique, Synchronised, Units}
 use Rattle.precision_law.proofs.words.{Plans.{Verdict, beta_at, beta_exists, rules_give_trees, shape_rules}, Std.{refl, subst, sym, true, ℕ}}
 use Rattle.precision_law.proofs.words.Runs.{AreClose, ChangesState, ComesToCorrection, Happening, IsCaused, IsIn, IsInStep, IsInStepBefore, Note, Scenario, Why}
-use Rattle.precision_law.proofs.words.Runs.{adjustment_after, earlier, founded_at, happenings, is_broken, is_end, is_turned_on_at, state_after, time_of, up_to}
+use Rattle.precision_law.proofs.words.Runs.{adjustment_after, earlier, founded_at, happenings, is_broken, is_turned_on_at, state_after, time_of, up_to}
 use Rattle.precision_law.proofs.words.Std.{◌+ℤ◌, ◌+◌, ◌≡◌, ◌≤◌, List, arith, cases_lt, false, inl, inr, le-leb, le-ltb, lt-leb, lt-ltb, nat_le, nat_lt, pos}
 use Rattle.run_law.specs.declared.judgement.Why.TheVariants as whys
 use Rattle.run_law.specs.declared.note.NoteBody.TheVariants as notes
@@ -52,10 +52,9 @@ clocks_stay_together sound cover agree s mark ns until up =
       after = λ t d e le one other.
           let same = up_to_is t hs in
           let left : (x : DeviceId) → IsInStep s hs x t → state_after s (earlier (t + 1) hs) x ≡ Synchronised = λ x step.
-          subst (λ gs. state_after s gs x ≡ Synchronised) same step.synchronised in
-          subst (λ gs. AreClose s.network (pos (s.reading d t) +ℤ (adjustment_after s gs d).0)
-          (pos (s.reading e t) +ℤ (adjustment_after s gs e).0)) (sym same)
-          (close t (t + 1) d e le (omega arith) (omega arith) one.correct other.correct (left d one) (left e other));
+          rw same at step.synchronised in
+          rw same (close t (t + 1) d e le (omega arith) (omega arith) one.correct other.correct (left d one)
+          (left e other));
       before = λ t d e le one other.
           let left : (x : DeviceId) → IsInStepBefore s hs x t → state_after s (earlier t hs) x ≡ Synchronised = λ x step.
           up_state (is_turned_on_at s x t) (state_after s (earlier t hs) x) step.synchronised in
@@ -71,12 +70,11 @@ clocks_stay_together sound cover agree s mark ns until up =
         let at = view_at t channel.0 up le channel.1 in
         let v = view_of s (happenings s.network ns) t channel.0 at in
         let block = cover v t at.is (omega arith) in
-        let same : earlier u (happenings s.network ns) ≡ earlier u at.cut.front = sym (at.cut.early u to) in
+        let same = sym (at.cut.early u to) in
         let timed : (x : DeviceId) → state_after s (earlier u (happenings s.network ns)) x ≡ Synchronised → has_time (state_left v x u) ≡ true = λ x left.
-        timed_of _ (subst (λ gs. state_after s gs x ≡ Synchronised) same left) in
-        subst (λ gs. AreClose s.network (pos (s.reading d t) +ℤ (adjustment_after s gs d).0)
-        (pos (s.reading e t) +ℤ (adjustment_after s gs e).0)) (sym same)
-        (agree v block.0 t u d e block.1 at.is from to (record { good = good; timed = timed d one }) (record { good = good'; timed = timed e other }))
+        timed_of _ (rw same at left) in
+        rw same (agree v block.0 t u d e block.1 at.is from to (record { good = good; timed = timed d one })
+        (record { good = good'; timed = timed e other }))
 
 -- ---- the time is kept
 
@@ -140,13 +138,11 @@ time_is_kept sound cover goes correct s mark ns until up h device state cause wh
       let channel = sound s (time_of h) up.lawful in
       never_lost cover goes correct h device state cause why _ up i le body clique channel.1
       (λ v same at of good. inl (record {
-        end = subst (λ (x : Scenario). is_end x.network device ≡ true) (sym same) end;
+        end = rw same end;
         good =
-            subst (λ u. is_broken v.scenario device u ≡ false) (sym at)
-            (subst (λ x. is_broken x device (time_of h) ≡ false) (sym same) good);
+            rw at (rw same good);
       })),
   λ channel switch quiet.
       never_lost cover goes correct h device state cause why channel up i le body clique quiet (λ v same at of good. inr
-      (subst (λ c. IsSwitchOf v.scenario.network c device) (sym of)
-      (subst (λ (x : Scenario). IsSwitchOf x.network channel device) (sym same) switch))),
+      (rw of (rw same switch))),
 )

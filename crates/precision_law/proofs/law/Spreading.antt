@@ -36,19 +36,20 @@ later_near {v} {n} {w} {u} {before} {device} share is at =
     let high = high_by v.sizes share.shared by.other in
     let anchored = subst (λ a. IsAnchored v.sizes (pos (reading by.set_at) +ℤ a) n low high by.set_at) same by.anchored in
     let product = one_more n v.sizes.cycle in
-    let first : by.set_at ≤ u = omega (arith, by.not_behind, at) in
+    let first : by.set_at ≤ u = omega (arith, by.not_behind) in
     let short : reading u + v.sizes.drift < reading by.set_at + 2 * v.sizes.cycle =
     (let a = anchored.least in let m = at.most in let near = share.near.most in let far = by.near.most in let begun = by.not_before in let narrow =
     before_narrow before in
-    omega (arith, ints, a, m, near, far, begun, narrow, product, room is)) in
+    omega (arith, ints, room is)) in
     let within = short_by_reading v.sizes reading by.set_at u (steady v is device) first short in
-    let shows = anchored_clocks_show v.sizes reading (adjustment_left v device w) n low high by.set_at u (steady v is device) first (omega (arith, within))
+    let shows = anchored_clocks_show v.sizes reading (adjustment_left v device w) n low high by.set_at u
+    (steady v is device) first (omega arith)
     anchored in
     record {
       other = by.other;
       near = by.near;
       reached = anchored_clocks_reach v.sizes (pos (reading u) +ℤ adjustment_left v device w) n low high v.sizes.cycle u shows
-          (omega (arith, ints, at.least, product)) (omega (arith, ints, at.most, product));
+          (omega (arith, ints, at.least)) (omega (arith, ints, at.most));
     }
 
 -- ---- two dispatches
@@ -109,7 +110,10 @@ module _ (cover : BlocksCover) (goes : BlocksGoSo) (s : Scenario) (hs : List Hap
       let x = start_at goes two.is two.first (all_in_hulls cover goes two.is two.first) block in
       let y = start_at goes two.longer two.second (all_in_hulls cover goes two.longer two.second) later in
       let a = starts_stay_together v.sizes (time_of g) (time_of h) (room two.is) x y in
-      record { one = omega (arith, ints, starts_stay_together v.sizes (time_of h) (time_of g) (room two.is) y x); other = omega (arith, ints, a) }
+      record {
+        one = omega (arith, ints, starts_stay_together v.sizes (time_of h) (time_of g) (room two.is) y x);
+        other = omega (arith, ints);
+      }
 
 -- ---- in a run
 
@@ -142,9 +146,9 @@ two_of sound {s} path n up beta {g} {h} a b le =
       first = record { there = x.cut.has g a.there (omega arith); is = a.is; good = sends_correct up a };
       second = record { there = y.cut.has h b.there (omega arith); is = b.is; good = sends_correct up b };
       le = le;
-      early = λ t within. x.cut.early t (omega (arith, within)) ∙ sym (y.cut.early t (omega (arith, within, le)));
+      early = λ t within. x.cut.early t (omega arith) ∙ sym (y.cut.early t (omega arith));
       inside = λ e i.
-          y.cut.has e (x.cut.inside e i) (omega (arith, within_run x.is e i, le));
+          y.cut.has e (x.cut.inside e i) (omega (arith, within_run x.is e i));
       of_run = x.cut.inside;
     }
 
@@ -158,7 +162,11 @@ apart_by : BlocksCover → BlocksGoSo → {s : Scenario} {hs : List Happening} {
     {one other : DeviceId} (two : AreTwo s hs path k g h one other) → time_of g ≤ until
     → IsInBlock (first_view two) k (time_of g) → IsInBlock (second_view two) k (time_of h) → AreApart s hs until k g h
 apart_by cover goes {s} {hs} {path} until zero {g} {h} {one} {other} two to block later =
-    record { near = start_two cover goes s hs path g h one other two block later; halves = λ first last begun lie. absurd (omega (arith, begun)) }
+    record {
+      near = start_two cover goes s hs path g h one other two block later;
+      halves =
+          λ first last begun lie. absurd (omega arith);
+    }
 apart_by cover goes {s} {hs} {path} until (suc m) {g} {h} {one} {other} two to block later =
     let v = first_view two in
     let half = halve_two cover goes s hs path g h one other m two block later in
@@ -166,7 +174,7 @@ apart_by cover goes {s} {hs} {path} until (suc m) {g} {h} {one} {other} two to b
     let narrow = before_narrow block.before in
     let spread_is = (room two.is).errors.spread_is in
     record {
-      near = record { one = omega (arith, ints, half.one, narrow, spread_is); other = omega (arith, ints, half.other, narrow, spread_is) };
+      near = record { one = omega (arith, ints, half.one); other = omega (arith, ints, half.other) };
       halves = λ first last begun lie.
           let ends = hull_lies cover goes two.is m hull block.before.is_hull in
           let a = ends.is_earliest in
@@ -191,23 +199,23 @@ module _ (sound : OneChannelIsSound) (cover : BlocksCover) (goes : BlocksGoSo) w
       let at : first.n ≡ k = omega (arith, first.of_cycle) in
       let too : second.n ≡ k = omega (arith, second.of_cycle) in
       apart_by cover goes until k two a.by_then
-      (subst (λ j. IsInBlock (first_view two) j (time_of g)) at first.block)
-      (subst (λ j. IsInBlock (second_view two) j (time_of h)) too second.block)
+      (rw at at first.block)
+      (rw too at second.block)
 
   pub dispatches_stay_near : DispatchesStayNear
   dispatches_stay_near s mark ns until up zero g h a b =
       let found = founded_at s (happenings s.network ns) g up.run.founded a.there in
       let begun = (subst (IsCaused s found.front g.note.time) a.is found.due.cause).begun in
-      absurd (omega (arith, begun))
+      absurd (omega arith)
   dispatches_stay_near s mark ns until up (suc k) g h a b =
       elim (cases_lt (time_of h) (time_of g)) [
-        | inr le ↦ (let near = (apart k up a b le).near.other in omega (arith, ints, near))
-        | inl lt ↦ (let near = (apart k up b a (omega (arith, lt))).near.one in omega (arith, ints, near))
+        | inr le ↦ (let near = (apart k up a b le).near.other in omega (arith, ints))
+        | inl lt ↦ (let near = (apart k up b a (omega arith)).near.one in omega (arith, ints))
       ]
 
   pub dispatches_halve : DispatchesHalve
   dispatches_halve s mark ns until up cycle first last begun lie g h a b =
       elim (cases_lt (time_of h) (time_of g)) [
         | inr le ↦ ((apart cycle up a b le).halves first last begun lie).other
-        | inl lt ↦ ((apart cycle up b a (omega (arith, lt))).halves first last begun lie).one
+        | inl lt ↦ ((apart cycle up b a (omega arith)).halves first last begun lie).one
       ]

@@ -22,14 +22,14 @@ before_narrow {v} {n} stands =
 -- a block is over behind the last correction
 pub block_ends : (v : View) (n next : ℕ) (hull : Hull) → hull_of v n ≡ Some hull → IsOverBefore v (suc n) next
     → pos next ≡ (last_correction v.sizes hull +ℤ pos 1)
-block_ends v n next hull is over = subst (λ w. pos next ≡ (last_correction v.sizes w +ℤ pos 1)) (same_some (hull_of v n) over.0 hull over.1 is) over.2
+block_ends v n next hull is over = rw (same_some (hull_of v n) over.0 hull over.1 is) at over.2
 
 -- the hull of the block's cycle follows the one before
 pub follows_before : {v : View} (n : ℕ) (before hull : Hull) → IsView v → hull_of v n ≡ Some before
     → hull_of v (suc n) ≡ Some hull → Follows v.sizes before hull
 follows_before {v} n before hull is is_before is_hull =
     let has = has_before v n hull (within_run is) is_hull in
-    subst (λ w. Follows v.sizes w hull) (same_some (hull_of v n) has.before before has.is_before is_before) has.follows
+    rw (same_some (hull_of v n) has.before before has.is_before is_before) at has.follows
 
 -- ---- what a clock shows
 
@@ -46,8 +46,8 @@ old_shows {v} {n} {t} {u} {d} block is le has old =
     let from : before.next ≤ u = omega (arith, block.from) in
     let set = before.clocks d (record { good = has.good; timed = (time_stays v d before.next u is from old has.timed) }) in
     let same : adjustment_left v d before.next ≡ adjustment_left v d u =
-    ap (λ (a : Units). a.0) (adjustment_stays d before.next u is from old) in
-    let anchored = subst (λ a. IsAnchoredIn v.sizes (v.scenario.reading d) a n before.hull set.set_at) same set.anchored in
+    ap (λ a. a.0) (adjustment_stays d before.next u is from old) in
+    let anchored = rw same at set.anchored in
     set_clocks_show v.sizes (v.scenario.reading d) (adjustment_left v d u) n before.hull set.set_at t (steady _ is d)
     (omega arith) (omega (arith, ints, block_ends v n block.next _ before.is_hull block.is_over, before_narrow before, room is)) anchored
 
@@ -68,8 +68,8 @@ earlier_in_block v n t w block from to = record {
   next = block.next;
   is_over = block.is_over;
   from = from;
-  to = omega (arith, to, block.to);
-  in_run = omega (arith, to, block.in_run);
+  to = omega (arith, block.to);
+  in_run = omega (arith, block.in_run);
 }
 
 -- what the record sets, by what it says
@@ -80,7 +80,8 @@ pub set_by : {v : View} {n t : ℕ} (d : DeviceId) (block : IsInBlock v n t) (h 
     (adjustment_with v.scenario d (cycle_in h) (adjustment_at_start (start_of v.scenario.network d)) body).0
 set_by {v} {n} {t} d block h (notes.Corrected e number by adjustment) so is good from to i body sets =
     let found = founded_at v.scenario v.records h is.run.founded i in
-    let cause = subst (λ (x : DeviceId). IsCaused v.scenario found.front h.note.time (notes.Corrected x number by adjustment)) (same_device d e sets)
+    let cause = subst (λ x. IsCaused v.scenario found.front h.note.time (notes.Corrected x number by adjustment))
+    (same_device d e sets)
     (subst (IsCaused v.scenario found.front h.note.time) body found.due.cause) in
     let split = before_of is found in
     let has : HasTimeAt v d (time_of h) = record { good = good; timed = point_timed split cause.corrected } in
@@ -97,7 +98,8 @@ set_by {v} {n} {t} d block h (notes.Corrected e number by adjustment) so is good
     let follows = follows_before n before.hull set.hull is before.is_hull set.is_hull in
     let order = instants_are_in_order v.sizes before.hull set.hull space (before_narrow before) follows in
     let shown_then = set_clocks_show v.sizes (v.scenario.reading d) (adjustment_left v d (time_of h) +ℤ by.0) (suc n) set.hull set.set_at (time_of h)
-    (steady v is d) set.not_behind (omega (arith, ints, point.not_late, order.last_not_late, set.not_before, space)) set.anchored in
+    (steady v is d) set.not_behind (omega (arith, ints, point.not_late, order.last_not_late, set.not_before))
+    set.anchored in
     let near = set_clocks_stay_at_correction v.sizes (pos (v.scenario.reading d (time_of h)) +ℤ (adjustment_left v d (time_of h) +ℤ by.0)) (suc n) (time_of h)
     before.hull set.hull space (before_narrow before) follows (omega (arith, ints)) (omega (arith, ints)) shown_then in
     record {
@@ -105,9 +107,9 @@ set_by {v} {n} {t} d block h (notes.Corrected e number by adjustment) so is good
       is_hull = set.is_hull;
       set_at = set.set_at;
       not_before = set.not_before;
-      not_behind = omega (arith, set.not_behind, to);
+      not_behind = omega (arith, set.not_behind);
       ahead = omega (arith, ints, near.least, (steady v is d).never_falls (time_of h) t to, sum, shows, space);
-      anchored = subst (λ a. IsAnchoredIn v.sizes (v.scenario.reading d) a (suc n) set.hull set.set_at) (sum ∙ sym shows) set.anchored;
+      anchored = rw (sym (sum ∙ sym shows)) set.anchored;
     }
 set_by {v} {n} {t} d block h body so is good from to i same sets =
     let at : is_joined_by d h.note.body ≡ true = ap (is_joined_by d) same ∙ sets in
@@ -122,7 +124,7 @@ set_by {v} {n} {t} d block h body so is good from to i same sets =
       not_before = join.not_early;
       not_behind = to;
       ahead = omega (arith, ints, join.ahead, ap (λ (a : Units). a.0) shows, (steady v is d).never_falls (time_of h) t to);
-      anchored = subst (λ (a : Units). IsAnchoredIn v.sizes (v.scenario.reading d) a.0 (suc n) join.hull (time_of h)) shows join.anchored;
+      anchored = rw (sym shows) join.anchored;
     }
 
 -- a clock that was set in the block
@@ -131,14 +133,14 @@ pub new_shows : {v : View} {n t u : ℕ} {d : DeviceId} (block : IsInBlock v n t
     → u ≤ t + 1 → HasTimeAt v d u → (o : Option Happening) → last_setting (earlier u v.records) d ≡ o
     → pos block.before.next ≤ℤ option_map_or (λ h. pos (time_of h)) o (negsuc 0)
     → IsSetInBlock v n t d (adjustment_left v d u)
-new_shows block goes is le has None e late = absurd (omega (arith, ints, late))
+new_shows block goes is le has None e late = absurd (omega (arith, ints))
 new_shows {v} {n} {t} {u} {d} block goes is le has (Some h) e late =
     let at = setting_is v d u h e in
-    let set = set_by d block h h.note.body (goes (time_of h) (omega (arith, ints, late)) at.early) is has.good
-    (omega (arith, ints, late))
+    let set = set_by d block h h.note.body (goes (time_of h) (omega (arith, ints)) at.early) is has.good
+    (omega (arith, ints))
     (omega (arith, at.early)) at.there refl at.sets in
     let last = adjustment_is_last v.scenario (earlier u v.records) d ∙ ap (set_adjustment v.scenario d) e in
-    subst (IsSetInBlock v n t d) (sym (ap (λ (a : Units). a.0) last)) set
+    subst (IsSetInBlock v n t d) (sym (ap (λ a. a.0) last)) set
 
 -- what it shows
 pub set_shows : {v : View} {n t : ℕ} {d : DeviceId} {adjustment : ℤ} (block : IsInBlock v n t) → IsView v
@@ -150,17 +152,24 @@ set_shows {v} {n} {t} {d} {adjustment} block is set =
     let order = instants_are_in_order v.sizes before.hull set.hull space (before_narrow before)
     (follows_before n _ _ is before.is_hull set.is_hull) in
     set_clocks_show v.sizes (v.scenario.reading d) adjustment (suc n) set.hull set.set_at t (steady v is d) set.not_behind
-    (omega (arith, ints, block_ends v n block.next _ before.is_hull block.is_over, block.to, order.last_not_late, set.not_before, space)) set.anchored
+    (omega (
+      arith,
+      ints,
+      block_ends v n block.next _ before.is_hull block.is_over,
+      block.to,
+      order.last_not_late,
+      set.not_before,
+    )) set.anchored
 
 -- each clock shows one of the two
 shows_one : {v : View} {n t u : ℕ} {d : DeviceId} (block : IsInBlock v n t) → BlocksGoSo → IsView v → t ≤ u
     → u ≤ t + 1 → HasTimeAt v d u → ShowsOneOf v n block.before.hull t
     (pos (v.scenario.reading d t) +ℤ adjustment_left v d u)
 shows_one {v} {n} {t} {u} {d} block goes is le most has =
-    by_lt_z {P = ShowsOneOf v n block.before.hull t (pos (v.scenario.reading d t) +ℤ adjustment_left v d u)} (epoch_time (earlier u v.records) d)
+    by_lt_z (epoch_time (earlier u v.records) d)
     (pos block.before.next) (λ old. inl (old_shows block is le has old)) (λ late.
-    let set = new_shows {u = u} block (λ w from lt. goes v n w
-    (earlier_in_block v n t w block from (omega (arith, lt, most))) is) is most has
+    let set = new_shows block (λ w from lt. goes v n w
+    (earlier_in_block v n t w block from (omega arith)) is) is most has
     (last_setting (earlier u v.records) d) refl late in
     inr (set.hull, set.is_hull, set_shows block is set))
 
@@ -179,9 +188,9 @@ near_each {v} {n} {t} {x} {y} before halve is (inr a) (inl b) =
     turned v (clocks_of_two_cycles v.sizes y x n before.hull a.0 t (room is) (before_narrow before)
     (follows_before n before.hull a.0 is before.is_hull a.1) b a.2)
 near_each {v} {n} {t} {x} {y} before halve is (inr a) (inr b) =
-    let same : b.0 ≡ a.0 = same_some (hull_of v (suc n)) b.0 a.0 b.1 a.1 in
+    let same = same_some (hull_of v (suc n)) b.0 a.0 b.1 a.1 in
     clocks_of_one_cycle v.sizes x y (suc n) a.0 t (room is) (halve v n before a.0 is a.1) a.2
-    (subst (λ w. ShowsIn v.sizes y (suc n) w t) same b.2)
+    (rw same at b.2)
 
 pub clocks_agree_in_blocks : BlocksGoSo → HullsAreNarrow → ClocksAgreeInBlocks
 clocks_agree_in_blocks goes halve v n t u d e block is le most one other =

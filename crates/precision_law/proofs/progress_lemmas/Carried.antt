@@ -53,14 +53,14 @@ carried_behind P {v} device g y is i lt each brings =
     let found = founded_at s v.records g is.run.founded i in
     let test = λ (h : Happening). nat_lt (time_of h) y in
     let parts = ap (earlier y) found.whole ∙ filter-append test found.front (g ∷ found.rest) ∙ ap
-    (λ (b : Bool). earlier y found.front ++ (if b then g ∷ earlier y found.rest else earlier y found.rest))
+    (λ b. earlier y found.front ++ (if b then g ∷ earlier y found.rest else earlier y found.rest))
     (lt-ltb (time_of g) y lt) in
     let step = λ (state : State) (h : Happening). state_with device state h.note.body in
-    let before : State = state_after s (earlier y found.front) device in
+    let before = state_after s (earlier y found.front) device in
     let apart = fold-append step (state_at_start (start_of s.network device)) (earlier y found.front)
     (g ∷ earlier y found.rest) in
     let same : state_left v device y ≡ fold step (step before g) (earlier y found.rest) =
-    ap (λ hs. state_after s hs device) parts ∙ apart in
+    rw parts apart in
     let order = sorted_parts found.front found.rest g (subst AreSorted found.whole (in_order is)) in
     subst P (sym same) (fold_carries P device (earlier y found.rest) (λ h j.
     let back = in_earlier y found.rest h j in
@@ -89,7 +89,7 @@ carries_by P {v} device h (notes.State other state cause why) is i body told cha
     holds_if P (device.0 == other.0) state old (λ own.
     let found = founded_at v.scenario v.records h is.run.founded i in
     let same = same_device device other own in
-    let is_own = body ∙ ap (λ (d : DeviceId). notes.State d state cause why) same in
+    let is_own = body ∙ ap (λ d. notes.State d state cause why) same in
     changed state cause why (record {
       is = is_own;
       found = found;

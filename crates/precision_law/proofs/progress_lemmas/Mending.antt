@@ -15,18 +15,18 @@ use Rattle.precision_law.proofs.hearing.{GoodFrames.IsAtPoint, Timely.of_channel
 use Rattle.precision_law.proofs.faults.Turned.{on_not_turned_on}
 use Rattle.precision_law.proofs.words.Blocks.{FramesGoSo, block_ends, later_end}
 use Rattle.precision_law.proofs.words.Clocks.{room, within_run}
-use Rattle.precision_law.proofs.words.Laws.{BlockIsOver, HasTimeAt, Hull, IsInBlock, IsView, IsWholeFrom, SendsOn}
-use Rattle.precision_law.proofs.words.Laws.{SendsSo, Stands, View, first_correction, has_time, hull_of, state_left}
+use Rattle.precision_law.proofs.words.Laws.{BlockIsOver, HasTimeAt, Hull, IsInBlock, IsView, IsWholeFrom}
+use Rattle.precision_law.proofs.words.Laws.{Stands, View, first_correction, hull_of, state_left}
 use Rattle.precision_law.proofs.words.Plans.{Channel, DeviceId, IsDeviceOf, IsSwitchOf}
 use Rattle.precision_law.proofs.words.Runs.{same_some, time_of}
 use Rattle.precision_law.proofs.words.Std.{◌+ℤ◌, ◌+◌, ◌≡◌, ◌≤ℤ◌, ◌≤◌, Some, ap, arith, cases_eq, inl, inr, ints, pos}
-use Rattle.precision_law.proofs.words.Std.{subst, suc, sym, true, ℕ, ℤ}
+use Rattle.precision_law.proofs.words.Std.{subst, suc, sym, ℕ, ℤ}
 use Rattle.precision_law.proofs.words.Blocks.{before_narrow, follows_before, up_to_is, view_of, view_with}
 use Rattle.precision_law.proofs.words.Clocks.{corrections_come_first}
 use Rattle.precision_law.proofs.words.Laws.{Follows, HaveRoom, IsNarrow, OneChannelIsSound, Sizes, last_correction}
-use Rattle.precision_law.proofs.words.Plans.{Device, Integrating, device_at, opened}
-use Rattle.precision_law.proofs.words.Runs.{happenings, is_off, state_after, up_to}
-use Rattle.precision_law.proofs.words.Std.{◌<ℤ◌, ◌<◌, ◌∙◌, if◌then◌else◌, Bool, List, by_lt_z}
+use Rattle.precision_law.proofs.words.Plans.{device_at, opened}
+use Rattle.precision_law.proofs.words.Runs.{happenings, state_after, up_to}
+use Rattle.precision_law.proofs.words.Std.{◌<ℤ◌, ◌<◌, ◌∙◌, List, by_lt_z}
 use Rattle.precision_law.proofs.block.Dispatched.{NoCliqueBefore}
 use Rattle.precision_law.proofs.records.RunViews.{IsViewWith}
 use Rattle.precision_law.proofs.words.Clocks.{switches_are_good}
@@ -41,26 +41,26 @@ use Rattle.run_law.specs.{declared.note.Note.Note, law.Safety.IsInStep}
 
 -- two ends of one block are one
 one_end : (z : ℤ) (a b t x : ℕ) → pos a ≡ (z +ℤ pos 1) → pos b ≡ (z +ℤ pos 1) → t < b → x ≤ t + 1 → x ≤ a
-one_end z a b t x one other lt le = omega (arith, ints, one, other, lt, le)
+one_end z a b t x one other lt le = omega (arith, ints)
 
 -- the dispatches of the cycle after the block's come behind the block
 behind_block : {s : Sizes} {before hull later : Hull} (next : ℕ) → HaveRoom s → IsNarrow s before
     → Follows s before hull → Follows s hull later → pos next ≡ (last_correction s before +ℤ pos 1)
     → pos next ≤ℤ later.least
 behind_block {s} {before} {hull} next space narrow follows more ends =
-    omega (arith, ints, corrections_come_first s before hull space narrow follows, more.least, ends)
+    omega (arith, ints, corrections_come_first s before hull space narrow follows, more.least)
 
 le_self : (n : ℕ) → n ≤ n
 le_self n = omega arith
 
 through : (x y : ℕ) (z : ℤ) → x ≤ y → pos y ≤ℤ z → pos x ≤ℤ z
-through x y z le at = omega (arith, ints, le, at)
+through x y z le at = omega (arith, ints)
 
 one_above : (a z : ℤ) → a ≤ℤ z → a ≤ℤ (z +ℤ pos 1)
-one_above a z le = omega (arith, ints, le)
+one_above a z le = omega (arith, ints)
 
 next_above : (t x : ℕ) (z : ℤ) → pos t <ℤ z → x ≤ t + 1 → pos x ≤ℤ z
-next_above t x z lt le = omega (arith, ints, lt, le)
+next_above t x z lt le = omega (arith, ints)
 
 -- ---- channels
 
@@ -68,8 +68,8 @@ next_above t x z lt le = omega (arith, ints, lt, le)
 later_whole : {v : View} {channel : Channel} {x : ℕ} (u : ℕ) → x ≤ u → IsWholeFrom v channel x
     → IsWholeFrom v channel u
 later_whole u le whole = record {
-  ways = λ link way t of_channel from in_run. whole.ways link way t of_channel (omega (arith, le, from)) in_run;
-  on = λ switch t of_channel from. whole.on switch t of_channel (omega (arith, le, from));
+  ways = λ link way t of_channel from in_run. whole.ways link way t of_channel (omega arith) in_run;
+  on = λ switch t of_channel from. whole.on switch t of_channel (omega arith);
 }
 
 -- in each block whose cycle's dispatches begin when the channel is whole its compression master sends
@@ -87,8 +87,8 @@ module _ (laws : FramesGoSo) (known : AreBlocksKnown) (v : View) (channel : Chan
       → (first_correction v.sizes block.before.hull +ℤ pos v.sizes.reach) ≤ℤ pos t → IsFrameSent v channel m
   sends_in k m t block first le is_first early late =
       sending m t block (λ u inside.
-      (let grows = leasts_grow (suc k) (suc m) first inside.hull is (omega (arith, le)) is_first inside.is in
-      later_whole u (omega (arith, ints, grows, early, inside.least)) whole)) late
+      (let grows = leasts_grow (suc k) (suc m) first inside.hull is (omega arith) is_first inside.is in
+      later_whole u (omega (arith, ints, inside.least)) whole)) late
 
   -- so from then on no correction point takes the common time from its devices
   keeps_from : (k : ℕ) (stands : Stands v k) (first : Hull) → hull_of v (suc k) ≡ Some first → pos x ≤ℤ first.least
@@ -103,16 +103,15 @@ module _ (laws : FramesGoSo) (known : AreBlocksKnown) (v : View) (channel : Chan
       let late = point.1.not_early in
       let sent = sends_in k m w block first found.2 is_first early late in
       let sound = known.sends v m w block is late in
-      let sound_so = subst (λ z. SendsSo v m z) (same_some (hull_of v (suc m)) sound.0 sent.0 sound.1 sent.1)
-      sound.2 in
+      let sound_so = rw (same_some (hull_of v (suc m)) sound.0 sent.0 sound.1 sent.1) at sound.2 in
       let at : IsAtPoint v m w block device = record { has = lost.point.has; old = point.0; late = late } in
       let comes = lost.point.comes in
       let so = sent.2 in
       let inside : pos x ≤ℤ pos (time_of so.first) =
       (let grows = leasts_grow (suc k) (suc m) first sent.0 is (omega (arith, found.2)) is_first sent.1 in
-      omega (arith, ints, grows, early, so.near.least, room is)) in
+      omega (arith, ints, so.near.least, room is)) in
       let corrected = corrects_on laws known.goes v m w block is device at sent.0 sent.1 sound_so channel member so
-      (later_whole (time_of so.first) (omega (arith, ints, inside)) whole) comes.front comes.split
+      (later_whole (time_of so.first) (omega (arith, ints)) whole) comes.front comes.split
       comes.point.summary comes.point.heard
       lost.verdict comes.point.comes in
       lost.not_corrected corrected.0 corrected.1
@@ -134,18 +133,17 @@ module _ (laws : FramesGoSo) (known : AreBlocksKnown) (v : View) (channel : Chan
       } in
       let ordered = hull_ordered k over.before is in
       let sent = sends_in k k last.last block first (omega arith) is_first early
-      (omega (arith, ints, last.at, ordered)) in
-      let so = subst (λ z. SendsOn v channel k z) (same_some (hull_of v (suc k)) sent.0 first sent.1 is_first)
-      sent.2 in
+      (omega (arith, ints, last.at)) in
+      let so = rw (same_some (hull_of v (suc k)) sent.0 first sent.1 is_first) at sent.2 in
       let never = keeps_from k over.before first is_first early in
-      let inside : x ≤ time_of so.first = omega (arith, ints, early, so.near.least, room is) in
+      let inside : x ≤ time_of so.first = omega (arith, ints, so.near.least, room is) in
       elim (cases_eq device.0 so.cm.0) [
         | inl same ↦
             has_time_itself v device is over.before.next never channel k over y first from is_first so
             (same_device so.cm device (sym same)) on soon
         | inr differs ↦
             has_time_on v device is over.before.next never known.goes channel k over y first from good member
-            is_first so (λ d. differs (ap (λ (e : DeviceId). e.0) d))
+            is_first so (λ d. differs (ap (λ e. e.0) d))
             (later_whole (time_of so.first) inside whole) on soon
       ]
 
@@ -161,23 +159,23 @@ module _ (laws : FramesGoSo) (known : AreBlocksKnown) (v : View) (channel : Chan
       let one = block_ends v k over.next hull over.before.is_hull over.is_over in
       let other = block_ends v k next.before.next hull over.before.is_hull next.before.is_over in
       let later = later_end k over.before is in
-      let same : over.next ≡ next.before.next = omega (arith, ints, one, other) in
+      let same : over.next ≡ next.before.next = omega (arith, ints) in
       let z = over.before.next in
       let never = keeps_from k over.before first next.before.is_hull early in
-      let behind : z ≤ next.before.next = omega (arith, ints, later, one, same) in
+      let behind : z ≤ next.before.next = omega (arith, ints) in
       let has : HasTimeAt v device next.before.next =
-      record { good = good; timed = subst (λ w. has_time (state_left v device w) ≡ true) same timed } in
+      record { good = good; timed = rw same at timed } in
       let ends = block_ends v (suc k) next.next first next.before.is_hull next.is_over in
       let over_later = later_end (suc k) next.before is in
       stays_synchronised v device is z never next.next (v.until + 1)
-      (omega (arith, ints, ends, over_later, behind)) next.in_run
+      (omega (arith, ints)) next.in_run
       (synchronised_by v device is z never known.come (suc k) next behind has)
 
   -- so a switch that is on comes in
   comes : (t : ℕ) → t < x → x ≤ t + 1 → IsOn (state_left v device x) → t + coming v.sizes ≤ v.until
       → IsSynchronised (state_left v device (v.until + 1))
   comes t lt le on long =
-      let found = known.cover v t is (omega (arith, long)) in
+      let found = known.cover v t is (omega arith) in
       let n = found.0 in
       let block = found.1 in
       let before = block.before in
@@ -188,17 +186,17 @@ module _ (laws : FramesGoSo) (known : AreBlocksKnown) (v : View) (channel : Chan
         before = before;
         next = block.next;
         is_over = block.is_over;
-        in_run = omega (arith, ints, ends, begun, block.from, long);
+        in_run = omega (arith, ints, block.from);
       } in
       let stands = known.on v n is over in
       let follows = follows_before n before.hull stands.hull is before.is_hull stands.is_hull in
       let short : last_correction v.sizes stands.hull ≤ℤ pos v.until =
-      omega (arith, ints, follows.most, begun, block.from, long) in
+      omega (arith, ints, follows.most, block.from) in
       let next = next_over known v is n over short in
-      by_lt_z {P = IsSynchronised (state_left v device (v.until + 1))} (pos t) stands.hull.least
+      by_lt_z (pos t) stands.hull.least
       (λ early.
       let high = next_above t x stands.hull.least early le in
-      in_two n x over next high (omega (arith, block.from, lt)) (one_above (pos x) stands.hull.least high) on)
+      in_two n x over next high (omega (arith, block.from)) (one_above (pos x) stands.hull.least high) on)
       (λ late.
       let later = known.on v (suc n) is next in
       let follows_next = follows_before (suc n) stands.hull later.hull is stands.is_hull later.is_hull in
@@ -229,18 +227,18 @@ mended laws known {s} {ns} {beta} up is_beta {channel} switch {t} {u} of_channel
     let v = view_of s u sure beta at.cut.front in
     let good = switches_are_good v channel switch is of_channel in
     let left : (d : DeviceId) (w : ℕ) → w ≤ u → state_after s (up_to w hs) d ≡ state_left v d (w + 1) = λ d w to.
-    ap (λ gs. state_after s gs d) (up_to_is w hs ∙ sym (at.cut.early (w + 1) (omega (arith, to)))) in
+    rw (up_to_is w hs ∙ sym (at.cut.early (w + 1) (omega arith))) in
     let on : (d : DeviceId) → IsSwitchOf s.network channel d → IsOn (state_left v d (t + 1)) = λ d has.
-    subst IsOn (left d t (omega (arith, long))) (mends.on d has) in
+    subst IsOn (left d t (omega arith)) (mends.on d has) in
     let whole : IsWholeFrom v channel (t + 1) = record {
-      ways = λ link way w has from to. mends.ways link way w has (omega (arith, from)) to;
+      ways = λ link way w has from to. mends.ways link way w has (omega arith) to;
       on = λ d w has from.
           (let on_w = stays_on v d is (t + 1) w from (on d has) in
-          ap (λ (b : Bool). is_off (if b then Integrating else state_left v d w)) (on_not_turned_on d w is on_w)
-          ∙ on_w);
+          rw (on_not_turned_on d w is on_w)
+          on_w);
     } in
-    let d = opened (λ (x : Device). x.channel ≡ Some channel) (device_at s.network switch) of_channel in
-    let member : IsDeviceOf s.network channel switch = of_channel_is v channel switch d.0 d.1 (inr d.2) in
+    let d = opened (λ x. x.channel ≡ Some channel) (device_at s.network switch) of_channel in
+    let member = of_channel_is v channel switch d.0 d.1 (inr d.2) in
     record {
       correct = good;
       synchronised = left switch u (omega arith)
@@ -252,8 +250,7 @@ pub mended_channels_come_in : OneChannelIsSound → FramesGoSo → AreBlocksKnow
 mended_channels_come_in sound laws known s mark ns until beta up is_beta channel switch t u of_channel mends all long le =
     let sure = sound s u up.lawful in
     let at = view_with u sure.0 beta up is_beta le sure.1 in
-    let v = view_of s u sure.0 beta at.cut.front in
-    mended laws known {beta = beta} up is_beta switch of_channel mends at
+    mended laws known up is_beta switch of_channel mends at
     (λ m w block whole late. whole_master_sends known.goes channel block at.is all whole late) long
 
 pub mended_relays_come_in : OneChannelIsSound → FramesGoSo → AreBlocksKnown → MendedRelaysComeIn
@@ -262,7 +259,7 @@ mended_relays_come_in sound laws known s mark ns until beta up is_beta channel c
     let at = view_with u sure.0 beta up is_beta le sure.1 in
     let v = view_of s u sure.0 beta at.cut.front in
     let kept : (next : ℕ) → next ≤ u + 1 → NoCliqueBefore v cm next = λ next to h state cause why i early body clique.
-    keeps.kept h state cause why (at.cut.inside h i) (omega (arith, early, to)) body clique in
-    mended laws known {beta = beta} up is_beta switch of_channel mends at
+    keeps.kept h state cause why (at.cut.inside h i) (omega arith) body clique in
+    mended laws known up is_beta switch of_channel mends at
     (λ m w block whole late. calm_master_sends known.goes channel block cm at.is of_cm keeps.on
     (kept block.before.next block.before.in_run) whole late) long

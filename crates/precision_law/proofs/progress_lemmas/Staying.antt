@@ -79,7 +79,7 @@ module _ (v : View) (device : DeviceId) (is : IsView v) where
       let t = time_of h in
       let found = founded_at s v.records h is.run.founded i in
       let same = earlier_before (before_of is found) in
-      let left = subst (λ hs. has_time (state_after s hs device) ≡ true) (sym same) timed in
+      let left = rw (sym same) at timed in
       let off = on_not_turned_on device t is (timed_not_off (state_left v device t) timed) in
       false_from_ne_true (is_joined_by device h.note.body) (λ joined.
       apart (is_turned_on_at s device t) (state_after s (earlier t found.front) device) off left
@@ -107,7 +107,7 @@ module _ (v : View) (device : DeviceId) (is : IsView v) where
     timed_carry x y late on h i from to =
         let off = on_not_turned_on device (time_of h) is (stays_on x (time_of h) from on) in
         carries IsTimed device h is i (λ told. refl) (λ state cause why c. changes_timed h state cause why i
-        (omega (arith, late, from)) c off)
+        (omega arith) c off)
 
     -- the common time stays
     pub time_stays_on : (x y : ℕ) → z ≤ x → x ≤ y → IsTimed (state_left v device x) → IsTimed (state_left v device y)
@@ -120,7 +120,7 @@ module _ (v : View) (device : DeviceId) (is : IsView v) where
         → IsOn (state_left v device x) → x ≤ time_of g → time_of g < y → IsTimed (state_left v device y)
     told_has_time g x y late i joined on from to =
         let on_then = stays_on x (time_of g) from on in
-        carried_behind IsTimed device g y is i to (timed_carry (time_of g) y (omega (arith, late, from)) on_then)
+        carried_behind IsTimed device g y is i to (timed_carry (time_of g) y (omega arith) on_then)
         (λ old. joins_timed device old g.note.body joined)
 
     -- ---- synchronised
@@ -137,7 +137,7 @@ module _ (v : View) (device : DeviceId) (is : IsView v) where
         let there : IsIn g v.records =
         subst (IsIn g) (sym c.found.whole) (in_left g c.found.front (h ∷ c.found.rest)
         (numbered_in c.found.front cause g told.1.there)) in
-        let same = subst (λ t. IsTimed (state_left v device t)) (sym told.1.same_time) timed in
+        let same = rw (sym told.1.same_time) at timed in
         absurd (both_ways _ (not_told g there same) told.2)
     changes_synchronised h state cause whys.Correction i from c timed = c.changes.0
     changes_synchronised h state cause whys.SyncClique i from c timed =
@@ -150,7 +150,7 @@ module _ (v : View) (device : DeviceId) (is : IsView v) where
     synchronised_carry x y late timed h i from to =
         let then_timed = time_stays_on x (time_of h) late from timed in
         carries IsSynchronised device h is i (λ told. absurd (both_ways _ (not_told h i then_timed) told))
-        (λ state cause why c. changes_synchronised h state cause why i (omega (arith, late, from)) c then_timed)
+        (λ state cause why c. changes_synchronised h state cause why i (omega arith) c then_timed)
 
     -- a synchronised device stays so
     pub stays_synchronised : (x y : ℕ) → z ≤ x → x ≤ y → IsSynchronised (state_left v device x)

@@ -12,13 +12,13 @@ use Rattle.precision_law.proofs.words.Clocks.{within_run}
 use Rattle.precision_law.proofs.words.Laws.{BlockIsOver, BlocksGoSo, Hull, IsGood, IsGoodEnd, IsEmission, IsInBlock}
 use Rattle.precision_law.proofs.words.Laws.{IsView, IsWholeFrom, SendsOn, SoundMasterSends, View, has_time, hull_of}
 use Rattle.precision_law.proofs.words.Laws.{state_left}
-use Rattle.precision_law.proofs.words.Plans.{Channel, DeviceId, Integrating, IsDeviceOf, Joining, Members, Off, State}
+use Rattle.precision_law.proofs.words.Plans.{Channel, DeviceId, Integrating, IsDeviceOf, Members, Off, State}
 use Rattle.precision_law.proofs.words.Plans.{SyncPlan, count_of, device_at}
-use Rattle.precision_law.proofs.words.Runs.{Happening, Integrates, IsCaused, IsIn, founded_at, Judgement, earlier}
-use Rattle.precision_law.proofs.words.Runs.{has_joined_at, heard_as, in_left, is_cm, is_joined_by, is_off, last_cycle}
+use Rattle.precision_law.proofs.words.Runs.{Happening, Integrates, IsCaused, IsIn, founded_at, earlier}
+use Rattle.precision_law.proofs.words.Runs.{has_joined_at, heard_as, in_left, is_joined_by, is_off, last_cycle}
 use Rattle.precision_law.proofs.words.Runs.{observation_window, plan_of, state_after, state_at_hearing, state_before}
 use Rattle.precision_law.proofs.words.Runs.{time_of}
-use Rattle.precision_law.proofs.words.Std.{if◌then◌else◌, ◌&&◌, ◌+ℤ◌, ◌+◌, ◌<◌, ◌==◌, ◌∙◌, ◌∷◌, ◌≡◌, ◌≤ℤ◌, ◌≤◌, Bool}
+use Rattle.precision_law.proofs.words.Std.{if◌then◌else◌, ◌&&◌, ◌+ℤ◌, ◌+◌, ◌<◌, ◌==◌, ◌∙◌, ◌∷◌, ◌≡◌, ◌≤ℤ◌, ◌≤◌}
 use Rattle.precision_law.proofs.words.Std.{List, Some, and_parts, ap, arith, eq-eqb, eqb-true, false, inl, ints, le-leb}
 use Rattle.precision_law.proofs.words.Std.{pos, refl, subst, suc, sym, true, ℕ, ℤ}
 use Rattle.run_law.specs.declared.note.NoteBody.TheVariants as notes
@@ -55,22 +55,22 @@ module _ (v : View) (device : DeviceId) (is : IsView v) (z : ℕ) (never : Keeps
       → state_at_hearing v.scenario front device q ≡ Integrating
   looks_then q front before none on looks =
       let s = v.scenario in
-      ap (λ (b : Bool). if b then Joining else state_before s front device q) none
-      ∙ ap (λ (b : Bool). if b then Integrating else state_after s (earlier q front) device)
+      rw none
+      (ap (λ b. if b then Integrating else state_after s (earlier q front) device)
       (on_not_turned_on device q is on)
       ∙ ap (λ hs. state_after s hs device) before
-      ∙ looks
+      ∙ looks)
 
   module _ (x q y : ℕ) (late : z ≤ x) (on : IsOn (state_left v device x)) (from : x ≤ q) (to : q < y)
       (f : TellsAt v device q) where
     -- where a frame has told it the time by then, it has it from then on
     told_before : has_joined_at f.front device q ≡ true → IsTimed (state_left v device y)
     told_before joined =
-        let g = any_in (λ (h : Happening). time_of h == q && is_joined_by device h.note.body) f.front joined in
+        let g = any_in (λ h. time_of h == q && is_joined_by device h.note.body) f.front joined in
         let both = and_parts (time_of g.0 == q) (is_joined_by device g.0.note.body) g.2 in
         let at = eqb-true (time_of g.0) q both.0 in
-        told_has_time v device is z never g.0 x y late (f.inside g.0 g.1) both.1 on (omega (arith, at, from))
-        (omega (arith, at, to))
+        told_has_time v device is z never g.0 x y late (f.inside g.0 g.1) both.1 on (omega arith)
+        (omega arith)
 
     -- and else the frame does
     told_now : has_joined_at f.front device q ≡ false → IsOn (state_left v device q)
@@ -78,7 +78,7 @@ module _ (v : View) (device : DeviceId) (is : IsView v) (z : ℕ) (never : Keeps
     told_now none on_then looks =
         told_has_time v device is z never f.h x y late f.there (f.tells
         (looks_then q f.front f.before none on_then looks)) on
-        (omega (arith, f.at, from)) (omega (arith, f.at, to))
+        (omega (arith, f.at)) (omega (arith, f.at))
 
     -- a device that is on when it hears such a frame has the common time behind it
     pub told_by : IsTimed (state_left v device y)
@@ -86,7 +86,7 @@ module _ (v : View) (device : DeviceId) (is : IsView v) (z : ℕ) (never : Keeps
         let on_then = stays_on v device is x q from on in
         elim (has_time (state_left v device q)) as (λ b. has_time (state_left v device q) ≡ b → IsTimed
         (state_left v device y)) [
-          | true ↦ λ timed. time_stays_on v device is z never q y (omega (arith, late, from)) (omega (arith, to)) timed
+          | true ↦ λ timed. time_stays_on v device is z never q y (omega arith) (omega arith) timed
           | false ↦ λ untimed.
               let looks = looks_by (state_left v device q) on_then untimed in
               elim (has_joined_at f.front device q) as
@@ -103,8 +103,8 @@ module _ (v : View) (device : DeviceId) (is : IsView v) (z : ℕ) (never : Keeps
   comes_tells channel n first members c enough few =
       let s = v.scenario in
       let enough_then : s.network.sync_threshold ≤ count_of c.frame.members =
-      subst (λ (m : ℕ). s.network.sync_threshold ≤ count_of (record { 0 = m })) (sym c.of_members) enough in
-      let few_then : c.frame.cycle ≤ last_cycle = subst (λ k. k ≤ last_cycle) (sym c.of_cycle) few in
+      rw c.of_members enough in
+      let few_then : c.frame.cycle ≤ last_cycle = rw c.of_cycle few in
       record {
         front = c.place.front;
         before = earlier_before (before_place v c.q _ c.place);
@@ -117,7 +117,7 @@ module _ (v : View) (device : DeviceId) (is : IsView v) (z : ℕ) (never : Keeps
             (state_at_hearing s c.place.front device c.q) _ c.point c.frame.cycle c.frame.members state enough_then
             few_then in
             let body = c.ripe.is
-            ∙ ap (λ (j : Judgement). notes.Permanent device c.link c.arrival.note.number (record { 0 = c.point }) j)
+            ∙ ap (λ j. notes.Permanent device c.link c.arrival.note.number (record { 0 = c.point }) j)
             judged in
             ap (is_joined_by device) body ∙ eq-eqb device.0 device.0 refl);
       }
@@ -140,7 +140,7 @@ module _ (v : View) (device : DeviceId) (is : IsView v) (z : ℕ) (never : Keeps
             (let judged = integrates_by (plan_of s.network device) (observation_window s.network)
             (state_at_hearing s found.front device (time_of first)) _ e.at.0 (suc n) members state enough few in
             let body = e.is
-            ∙ ap (λ (j : Judgement). notes.Compressed device e.opened e.at (suc n) members j) (emits.heard ∙ judged) in
+            ∙ ap (λ j. notes.Compressed device e.opened e.at (suc n) members j) (emits.heard ∙ judged) in
             ap (is_joined_by device) body ∙ eq-eqb device.0 device.0 refl);
       }
 
@@ -165,19 +165,19 @@ module _ (v : View) (device : DeviceId) (is : IsView v) (z : ℕ) (never : Keeps
       let ordered = hull_ordered n over.before is in
       let w = time_of so.first in
       let space = room is in
-      let timed = sent_in_time over.before {hull = hull} so.first is at so.near in
+      let timed = sent_in_time over.before so.first is at so.near in
       let soon = timed.soon in
-      let le : w + v.sizes.dmax + v.sizes.path ≤ t = omega (arith, ints, soon, last.at, ordered) in
-      let from : x ≤ w = omega (arith, ints, early, so.near.least, space) in
+      let le : w + v.sizes.dmax + v.sizes.path ≤ t = omega (arith, ints, last.at) in
+      let from : x ≤ w = omega (arith, ints, so.near.least) in
       let on_then : (u : ℕ) → w ≤ u → u + v.sizes.path ≤ w + v.sizes.dmax
       → is_off (state_before s v.records device u) ≡ false = λ u ge short.
-      (let on_u = stays_on v device is x u (omega (arith, from, ge)) on in
-      ap (λ (b : Bool). is_off (if b then Integrating else state_left v device u)) (on_not_turned_on device u is on_u)
-      ∙ on_u) in
+      (let on_u = stays_on v device is x u (omega arith) on in
+      rw (on_not_turned_on device u is on_u)
+      on_u) in
       let few = few_cycles (suc n) hull is at (has_before v n hull (within_run is) at).begun in
       let c = comes_down v channel n t block is device so.cm member good so.is_cm so.first so.members so.emission
       timed goes intact other le on_then in
-      told_by x c.q over.next late on (omega (arith, from, c.from)) (omega (arith, c.soon, le, last.is_last))
+      told_by x c.q over.next late on (omega (arith, c.from)) (omega (arith, c.soon, last.is_last))
       (comes_tells channel n so.first so.members c so.enough few)
 
   -- so it has where it is that compression master
@@ -188,13 +188,13 @@ module _ (v : View) (device : DeviceId) (is : IsView v) (z : ℕ) (never : Keeps
       let last = last_of over is in
       let w = time_of so.first in
       let space = room is in
-      let timed = sent_in_time over.before {hull = hull} so.first is at so.near in
+      let timed = sent_in_time over.before so.first is at so.near in
       let soon = timed.soon in
       let ordered = hull_ordered n over.before is in
-      let from : x ≤ w = omega (arith, ints, early, so.near.least, space) in
+      let from : x ≤ w = omega (arith, ints, so.near.least) in
       let few = few_cycles (suc n) hull is at (has_before v n hull (within_run is) at).begun in
-      let e = subst (λ d. IsEmission v so.first d (suc n) so.members) same so.emission in
-      told_by x w over.next late on from (omega (arith, ints, soon, last.at, ordered, last.is_last))
+      let e = rw same at so.emission in
+      told_by x w over.next late on from (omega (arith, ints, last.at, last.is_last))
       (sent_tells n so.first so.members e so.enough few)
 
   -- so it has on the sound channel, where it is an end system
@@ -215,10 +215,10 @@ module _ (v : View) (device : DeviceId) (is : IsView v) (z : ℕ) (never : Keeps
         in_run = omega (arith, last.is_last, over.in_run);
       } in
       let ordered = hull_ordered n over.before is in
-      let sent = sends v n last.last block is (omega (arith, ints, last.at, ordered)) in
+      let sent = sends v n last.last block is (omega (arith, ints, last.at)) in
       let so = sent.2 in
       let other : device ≡ so.cm → ⊥ = λ same.
       no_end_cm (device_at s.network device)
-      (subst (λ d. is_cm s.network d ≡ true) (sym same) (cm_is v v.channel so.cm so.is_cm).one) end.end in
-      has_time_on goes v.channel n over x sent.0 late end.good (firm_member {v = v} {device = device} (inl end)) sent.1 so other
+      (rw same (cm_is v v.channel so.cm so.is_cm).one) end.end in
+      has_time_on goes v.channel n over x sent.0 late end.good (firm_member (inl end)) sent.1 so other
       (sound_is_whole (time_of so.first) is) on (early sent.0 sent.1)

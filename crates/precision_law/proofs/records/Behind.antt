@@ -15,24 +15,24 @@ module _ {X : Type 0} (p : X → Bool) where
       let shown = λ (l : List X) (k : ℕ). not (p (get_or l k y)) in
       let first : length xs + 1 - 1 ≡ length xs = omega arith in
       let none : length xs - length xs ≡ 0 = omega arith in
-      let suffix = suffix_len_is (λ x. not (p x)) whole (length xs + 1) y (omega (arith, long)) (λ k from to. ap (λ l. shown l k) moved
-      ∙ ap (λ (x : X). not (p x)) (get_or-append_right (xs ++ y ∷ []) ys (length xs + 1) k y (length_push xs y) from)
-      ∙ All-get_or (λ x. not (p x) ≡ true) ys (k - (length xs + 1)) y (omega (arith, to, long, from)) h) (λ some. ap (shown whole) first
-      ∙ ap (λ (x : X). not (p x)) (get_or-append_right xs (y ∷ ys) (length xs) (length xs) y refl (omega arith))
+      let suffix = suffix_len_is (λ x. not (p x)) whole (length xs + 1) y (omega arith) (λ k from to. rw moved
+      (ap (λ x. not (p x)) (get_or-append_right (xs ++ y ∷ []) ys (length xs + 1) k y (length_push xs y) from)
+      ∙ All-get_or (λ x. not (p x) ≡ true) ys (k - (length xs + 1)) y (omega arith) h)) (λ some. ap (shown whole) first
+      ∙ ap (λ x. not (p x)) (get_or-append_right xs (y ∷ ys) (length xs) (length xs) y refl (omega arith))
       ∙ ap (shown (y ∷ ys)) none ∙ not_from_true _ here) in
       let n = length whole - suffix_len (λ x. not (p x)) whole in
-      ap (drop n) moved ∙ drop_at (xs ++ y ∷ []) ys n (omega (arith, suffix, long, length_push xs y))
+      ap (drop n) moved ∙ drop_at (xs ++ y ∷ []) ys n (omega (arith, length_push xs y))
 
   pub after_last_none : (xs : List X) → All (λ x. not (p x) ≡ true) xs → after_last p xs ≡ xs
   after_last_none [] h = refl
   after_last_none (x ∷ xs) h =
       let suffix = suffix_len_is (λ x. not (p x)) (x ∷ xs) 0 x (omega arith) (λ k from to. All-get_or (λ x. not (p x) ≡ true) (x ∷ xs) k x to h)
-      (λ some. absurd (omega (arith, some))) in
-      let none : length (x ∷ xs) - suffix_len (λ x. not (p x)) (x ∷ xs) ≡ 0 = omega (arith, suffix) in
-      ap (λ n. drop n (x ∷ xs)) none
+      (λ some. absurd (omega arith)) in
+      let none : length (x ∷ xs) - suffix_len (λ x. not (p x)) (x ∷ xs) ≡ 0 = omega arith in
+      rw none
 
 pub not_each : {X : Type 0} (p : X → Bool) (xs : List X) → ((x : X) → IsIn x xs → p x ≡ false) → All (λ x. not (p x) ≡ true) xs
-not_each {X} p xs each = all_of (λ (x : X). not (p x) ≡ true) xs (λ x i. ap not (each x i))
+not_each {X} p xs each = all_of (λ x. not (p x) ≡ true) xs (λ x i. ap not (each x i))
 
 -- a list in which none is of the kind, or that parts at the last
 pub data PartsAtLast {X : Type 0} (p : X → Bool) (xs : List X) : Type 0 where
@@ -42,7 +42,7 @@ pub data PartsAtLast {X : Type 0} (p : X → Bool) (xs : List X) : Type 0 where
 parts_by : {X : Type 0} {p : X → Bool} (x : X) {xs : List X} (b : Bool) → p x ≡ b → PartsAtLast p xs
     → PartsAtLast p (x ∷ xs)
 parts_by {X} x b e (some front rest last whole is all) =
-    some (x ∷ front) rest last (ap (λ (t : List X). x ∷ t) whole) is all
+    some (x ∷ front) rest last (rw whole) is all
 parts_by x {xs} true e (none all) = some [] xs x refl e all
 parts_by {p} x false e (none all) = none (λ y i. elim i [ inl same ↦ ap p same ∙ e | inr more ↦ all y more ])
 
@@ -55,11 +55,11 @@ pub after_more : {X : Type 0} {p : X → Bool} {xs : List X} (ys : List X) → (
     → PartsAtLast p xs → after_last p (xs ++ ys) ≡ after_last p xs ++ ys
 after_more {X} {p} {xs} ys quiet (none all) =
     after_last_none p (xs ++ ys) (not_each p (xs ++ ys) (λ x i. elim (in_parts x xs ys i) [ inl l ↦ all x l | inr r ↦ quiet x r ]))
-    ∙ ap (λ (zs : List X). zs ++ ys) (sym (after_last_none p xs (not_each p xs all)))
+    ∙ ap (λ zs. zs ++ ys) (sym (after_last_none p xs (not_each p xs all)))
 after_more {X} {p} ys quiet (some front rest last whole hit all) =
-    ap (λ (zs : List X). after_last p (zs ++ ys)) whole ∙ ap (after_last p) (append_assoc front (last ∷ rest) ys)
+    ap (λ zs. after_last p (zs ++ ys)) whole ∙ ap (after_last p) (append_assoc front (last ∷ rest) ys)
     ∙ after_last_at p front last (rest ++ ys) hit (not_each p (rest ++ ys) (λ x i. elim (in_parts x rest ys i) [ inl l ↦ all x l | inr r ↦ quiet x r ]))
-    ∙ ap (λ (zs : List X). zs ++ ys) (sym (ap (after_last p) whole ∙ after_last_at p front last rest hit (not_each p rest all)))
+    ∙ ap (λ zs. zs ++ ys) (sym (ap (after_last p) whole ∙ after_last_at p front last rest hit (not_each p rest all)))
 
 -- what stands behind the last is a rest of the list, and none of it is of the kind
 pub record IsBehindLast {X : Type 0} (p : X → Bool) (xs : List X) : Type 0 where
@@ -76,7 +76,7 @@ behind_by {X} {p} {xs} (some front rest last whole is all) =
     let same : after_last p xs ≡ rest = ap (after_last p) whole ∙ at in
     record {
       front = front ++ last ∷ [];
-      whole = whole ∙ sym (append_assoc front (last ∷ []) rest) ∙ ap (λ (t : List X). (front ++ last ∷ []) ++ t) (sym same);
+      whole = whole ∙ sym (append_assoc front (last ∷ []) rest) ∙ ap (λ t. (front ++ last ∷ []) ++ t) (sym same);
       others = λ x i. all x (subst (IsIn x) same i);
     }
 

@@ -1,6 +1,6 @@
 -- A run up to an earlier time.
 use Rattle.precision_law.proofs.{Plain.le_by, records.Times.earlier_front, words.{Laws.Covers, Runs.{in_front_of, in_left, in_parts, place_of, split, time_of}}}
-use Rattle.precision_law.proofs.words.Runs.{Happening, IsBefore, IsDue, IsFounded, IsIn, IsRun, IsSplit, Scenario, chain, earlier, earlier_time, front_founded}
+use Rattle.precision_law.proofs.words.Runs.{Happening, IsBefore, IsDue, IsFounded, IsIn, IsRun, IsSplit, Scenario, chain, earlier, front_founded}
 use Rattle.precision_law.proofs.words.Std.{◌++◌, ◌+◌, ◌<◌, ◌∙◌, ◌∷◌, ◌≡◌, ◌≤◌, List, [], ap, append_assoc, arith, cases_lt, inl, inr, lt-ltb, nat_lt, subst}
 use Rattle.{precision_law.proofs.words.Std.{sym, ℕ}, run_law.proofs.records.{Happenings.soon, Order.all_kept}}
 
@@ -11,12 +11,12 @@ pub cut_run : {N : Type 0} {place : N → List ℕ} (IsDue : List N → N → Ty
 cut_run {N} {place} IsDue {p} {ns} at up run = record {
   founded = front_founded place IsDue at.front at.rest (subst (IsFounded place IsDue) at.whole run.founded);
   full = λ ps qs x e before none due here.
-      let whole : ns ≡ ps ++ (qs ++ at.rest) = at.whole ∙ ap (λ (t : List N). t ++ at.rest) e ∙ append_assoc ps qs at.rest in
+      let whole = at.whole ∙ ap (λ t. t ++ at.rest) e ∙ append_assoc ps qs at.rest in
       let found = run.full ps (qs ++ at.rest) x whole before (λ n i lt. elim (in_parts n qs at.rest i) [
         | inl l ↦ none n l lt
         | inr r ↦ at.none n r (chain (place n) (place x) p lt here)
       ]) due (up (place x) here) in
-      (found.0, in_front_of at found.0 found.1 (subst (λ q. IsBefore q p) (sym found.2) here), found.2);
+      (found.0, in_front_of at found.0 found.1 (rw found.2 here), found.2);
   within = at.before;
 }
 
@@ -28,10 +28,9 @@ before_cover mark until t [] covers le before = some_mark mark (covers [])
     some_mark [] b = b
     some_mark (x ∷ xs) b = tt
 before_cover mark until t (x ∷ xs) covers le before =
-    let early = earlier_time x (t + 1) xs before in
     elim (cases_lt x until) [
       | inl lt ↦ chain (x ∷ xs) (until ∷ []) mark (inl lt) (covers [])
-      | inr ge ↦ (let same : until ≡ x = omega arith in subst (λ (n : ℕ). IsBefore (n ∷ xs) mark) same (covers xs))
+      | inr ge ↦ (let same : until ≡ x = omega arith in rw same at (covers xs))
     ]
 
 -- the records up to a time
@@ -52,15 +51,16 @@ pub cut_at : (s : Scenario) {mark : List ℕ} {hs : List Happening} (until t : �
 cut_at s {mark} {hs} until t run covers le =
     let at = split place_of (IsDue s) hs ((t + 1) ∷ []) run.founded in
     let keeps : (u : ℕ) → u ≤ t + 1 → earlier u at.front ≡ earlier u hs = λ u within.
-    earlier_front u at.front at.rest (λ h i. le_by (λ lt. at.none h i (sooner h (t + 1) (omega (arith, lt, within))))) ∙ ap (earlier u) (sym at.whole) in
+    earlier_front u at.front at.rest (λ h i. le_by (λ lt. at.none h i (sooner h (t + 1) (omega arith)))) ∙ ap
+    (earlier u) (sym at.whole) in
     let all = all_kept (λ h. nat_lt (time_of h) (t + 1)) at.front (λ h i. lt-ltb (time_of h) (t + 1) (soon h (t + 1) (at.before h i))) in
     record {
       front = at.front;
-      run = cut_run {place = place_of} (IsDue s) {mark = mark} at (λ q b. before_cover
+      run = cut_run (IsDue s) at (λ q b. before_cover
           mark until t q covers le b) run;
       same = sym (keeps (t + 1) (omega arith)) ∙ all;
       inside = λ h i. subst (IsIn h) (sym at.whole) (in_left h at.front at.rest i);
-      has = λ h i early. in_front_of {place = place_of} {ns = hs} {p = (t + 1) ∷ []} at h i
-          (sooner h (t + 1) (omega (arith, early)));
+      has = λ h i early. in_front_of at h i
+          (sooner h (t + 1) (omega arith));
       early = keeps;
     }

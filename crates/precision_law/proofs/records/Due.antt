@@ -1,12 +1,12 @@
 -- What is due is recorded: the frames of clusters, and what is permanent.
 use Rattle.{precision_law.proofs.{faults.Masters.good_is_correct, words.Plans.{point_of, role, units_of}}, tte_units.proofs.general_lemmas.Bools.match_false}
-use Rattle.precision_law.proofs.{records.Judged.all_judge, words.Std.{ints, option_and_then, option_map_or, pos, refl, subst, sym, true, unsigned_abs, ℕ, ℤ}}
-use Rattle.precision_law.proofs.words.{Laws.{IsEmission, IsGood, IsPermanentAt, IsView, Sizes, View}, Runs.{state_at_hearing, time_of, waits_for}}
+use Rattle.precision_law.proofs.{records.Judged.all_judge, words.Std.{ints, pos, refl, subst, sym, true, unsigned_abs, ℕ, ℤ}}
+use Rattle.precision_law.proofs.words.{Laws.{IsEmission, IsGood, IsPermanentAt, IsView, View}, Runs.{state_at_hearing, time_of, waits_for}}
 use Rattle.precision_law.proofs.words.Plans.{AreClusters, Cluster, DeviceId, IsReach, LinkId, Pcf, Taken, amount, emission, one_list_of_clusters, point_at}
-use Rattle.precision_law.proofs.words.Runs.{AllBefore, BecomesPermanent, Emits, Happening, IsBefore, IsCaused, IsCollectedOrDropped, IsCollectionOutcome, IsDue}
-use Rattle.precision_law.proofs.words.Runs.{IsFounded, IsIn, IsJudgedBy, IsPermanenceOutcome, IsPermanent, IsSplit, Judgement, NoneBefore, NoteBody, Reason}
+use Rattle.precision_law.proofs.words.Runs.{AllBefore, BecomesPermanent, Emits, Happening, IsCaused, IsCollectedOrDropped, IsCollectionOutcome, IsDue}
+use Rattle.precision_law.proofs.words.Runs.{IsFounded, IsIn, IsPermanenceOutcome, IsPermanent, IsSplit, Judgement, NoneBefore, NoteBody, Reason}
 use Rattle.precision_law.proofs.words.Runs.{adjustment_at_hearing, by_number, due_is_there, front_founded, happening, heard_as, in_front_of, is_cm, key}
-use Rattle.precision_law.proofs.words.Runs.{master_of, members_in, numbered, observation_window, place_of, plan_of, point_fault, points_of, rank, ripe_as, sign}
+use Rattle.precision_law.proofs.words.Runs.{master_of, members_in, observation_window, place_of, plan_of, point_fault, points_of, rank, ripe_as, sign}
 use Rattle.precision_law.proofs.words.Std.{◌∙◌, ◌∷◌, ◌≡◌, ◌≤◌, ◌⊎◌, Bool, Contains, List, MatchBool, None, Option, Some, [], ap, arith, false, inl, inr}
 use Rattle.run_law.proofs.{law.FirstSent.{next_due, next_note}, records.Order.ahead}
 use Rattle.compression.specs.declared.taken.Taken.TheVariants as taken
@@ -27,7 +27,7 @@ due_there {v} t body at is within same cause =
       whole = at.whole;
       before = subst (AllBefore place_of at.front) (sym same) at.before;
       none = subst (NoneBefore place_of at.rest) (sym same) at.none;
-    }) is.run (next_due v.scenario at.front t body cause) (inl (omega (arith, within)))
+    }) is.run (next_due v.scenario at.front t body cause) (inl (omega arith))
 
 -- the emission reading of a cluster
 abbrev pub sent_at : View → Cluster → ℤ
@@ -56,7 +56,8 @@ is_sent {v} cm t c clusters is one good within at are there reached =
     let n = s.network in
     let verdict = heard_as (plan_of n cm) (observation_window n) (state_at_hearing s at.front cm t) (adjustment_at_hearing s at.front cm t).0 (sent_at v c)
     c.cycle (record { 0 = c.members }) in
-    let body : NoteBody = notes.Compressed cm (record { 0 = c.opened }) (record { 0 = sent_at v c }) c.cycle (record { 0 = c.members }) verdict in
+    let body = notes.Compressed cm (record { 0 = c.opened }) (record { 0 = sent_at v c }) c.cycle
+    (record { 0 = c.members }) verdict in
     let emits : Emits s at.front cm t
     (record { opened = record { 0 = c.opened }; at = record { 0 = sent_at v c }; cycle = c.cycle; members = record { 0 = c.members } }) verdict =
     record {
@@ -70,11 +71,11 @@ is_sent {v} cm t c clusters is one good within at are there reached =
       reached = reached;
       heard = refl;
     } in
-    let h : Happening = happening n at.front (next_note at.front t body) in
+    let h = happening n at.front (next_note at.front t body) in
     record {
       h = h;
       emission = record {
-        there = due_there {v = v} t body at is within refl emits;
+        there = due_there t body at is within refl emits;
         opened = record { 0 = c.opened };
         at = record { 0 = sent_at v c };
         verdict = verdict;
@@ -121,31 +122,30 @@ pub is_recorded : {v : View} {device : DeviceId} {arrival : Happening} {link : L
 is_recorded {v} {device} {arrival} {link} {frame} {point} {q} verdict is r at becomes =
     let s = v.scenario in
     let n = s.network in
-    let number : ℕ = arrival.note.number in
-    let body : NoteBody = notes.Permanent device link number (record { 0 = point }) verdict in
+    let number = arrival.note.number in
+    let body = notes.Permanent device link number (record { 0 = point }) verdict in
     let p = r.permanent in
-    let arrives : arrival.note.body ≡ notes.Arrived device link p.from p.clock = p.is ∙ ap (λ (l : LinkId). notes.Arrived device l p.from p.clock) r.by_link in
-    let sooner : IsBefore (place_of arrival) (place_of_ripe device arrival link frame point q) = ahead (time_of arrival) q (rank arrival.note.body) 3
+    let arrives = p.is ∙ ap (λ l. notes.Arrived device l p.from p.clock) r.by_link in
+    let sooner = ahead (time_of arrival) q (rank arrival.note.body) 3
     (key (members_in arrival) arrival.note.body) (device.0 ∷ unsigned_abs point ∷ frame.members.0 ∷ link.0 ∷ number ∷ []) r.later
-    (let two : rank arrival.note.body ≡ 2 = ap rank arrives in omega (arith, two)) in
+    (let two : rank arrival.note.body ≡ 2 = ap rank arrives in omega arith) in
     let front = front_founded place_of (IsDue s) at.front at.rest (subst (IsFounded place_of (IsDue s)) at.whole is.run.founded) in
-    let found : numbered at.front number ≡ Some arrival =
+    let found =
     by_number s at.front arrival front (in_front_of at arrival r.there sooner) in
-    let dmax_is : n.dmax.0 ≡ pos v.sizes.dmax = (let least = is.lawful.range.dmax.least in let size : v.sizes.dmax ≡ amount n.dmax = ap (λ (x : Sizes). x.dmax)
-    is.sizes in omega (arith, ints, least, size)) in
+    let dmax_is : n.dmax.0 ≡ pos v.sizes.dmax = (let least = is.lawful.range.dmax.least in
+    let size : v.sizes.dmax ≡ amount n.dmax = rw is.sizes in omega (arith, ints)) in
     let permanent : IsPermanent s at.front device q link number frame (record { 0 = point }) =
-    grind (arith, found, p.from, p.clock, arrives, p.at_point, point_of, s.reading, time_of, dmax_is, p.reached, good_is_correct) in
-    let judged = subst (λ (hs : List Happening). IsJudgedBy s hs device q frame (record { 0 = point }) (ripe_as verdict))
-    (sym (all_judge at.front q device link number frame (record { 0 = point }) at.before)) becomes in
+    grind (arith, p.from, p.clock, p.at_point, point_of, s.reading, time_of, p.reached, good_is_correct) in
+    let judged = rw (sym (all_judge at.front q device link number frame (record { 0 = point }) at.before)) at becomes in
     let ripens : BecomesPermanent s at.front device q link number (record { 0 = point }) (ripe_as verdict) =
     record { frame = frame; permanent = permanent; becomes = judged } in
-    let h : Happening = happening n at.front (next_note at.front q body) in
-    let framed : h.frame ≡ Some frame = ap (λ (o : Option Happening). option_and_then (λ x. x.frame) o) found ∙ r.of_frame in
-    let members : members_in h ≡ frame.members.0 = ap (λ (o : Option Pcf). option_map_or (λ f. f.members.0) o 0) framed in
-    let place = ap (λ (m : ℕ). q ∷ 3 ∷ device.0 ∷ unsigned_abs point ∷ m ∷ link.0 ∷ number ∷ []) members in
+    let h = happening n at.front (next_note at.front q body) in
+    let framed : h.frame ≡ Some frame = rw found r.of_frame in
+    let members : members_in h ≡ frame.members.0 = rw framed in
+    let place = ap (λ m. q ∷ 3 ∷ device.0 ∷ unsigned_abs point ∷ m ∷ link.0 ∷ number ∷ []) members in
     record {
       h = h;
-      there = due_there {v = v} q body at is r.in_run place
+      there = due_there q body at is r.in_run place
           ripens;
       is = refl;
       time = refl;

@@ -3,7 +3,7 @@ use Rattle.run_law.proofs.{device.States.reaches_by, records.{Happenings.{from_e
 use Rattle.precision_law.proofs.{records.Times.{AreSorted, earlier_front}, words.Laws.{AreBeforeCorrections, IsView, View, has_time, last_setting, state_left}}
 use Rattle.precision_law.proofs.{records.Views.in_order, words.Runs.{members_in, place_of, rank, state_after, state_before, time_of}}
 use Rattle.precision_law.proofs.words.Plans.{DeviceId, Integrating, Off, State, Verdict, point_in}
-use Rattle.precision_law.proofs.words.Runs.{ComesToCorrection, Happening, IsDue, IsFounded, IsFoundedAt, IsIn, IsSplit, Reaches, adjustment_after}
+use Rattle.precision_law.proofs.words.Runs.{ComesToCorrection, Happening, IsDue, IsFounded, IsFoundedAt, IsIn, IsSplit, Reaches}
 use Rattle.precision_law.proofs.words.Runs.{adjustment_before, changes_adjustment, earlier, front_founded, in_filter, in_right, is_turned_on_at, key}
 use Rattle.precision_law.proofs.words.Std.{◌++◌, ◌+◌, ◌<◌, ◌∙◌, ◌∷◌, ◌≡◌, ◌≤◌, ◌⊎◌, Bool, List, None, Option, Some, [], ap, arith, cases_lt, false, filter}
 use Rattle.precision_law.proofs.words.Std.{if◌then◌else◌, inl, inr, last_or, refl, subst, sym, true, ℕ, ℤ}
@@ -12,7 +12,7 @@ use Rattle.precision_law.proofs.words.Std.{if◌then◌else◌, inl, inr, last_o
 
 -- each record of a view is of a time up to its end
 pub within_run : {v : View} → IsView v → (h : Happening) → IsIn h v.records → time_of h ≤ v.until
-within_run {v} is h i = let lt = soon h (v.until + 1) (is.run.within h i) in omega (arith, lt)
+within_run {v} is h i = let lt = soon h (v.until + 1) (is.run.within h i) in omega arith
 
 -- of sorted records those before one are not later, and those behind it not earlier
 pub sorted_parts : (ps qs : List Happening) (x : Happening) → AreSorted (ps ++ x ∷ qs) → ((y : Happening) → IsIn y ps → time_of y ≤ time_of x)
@@ -69,14 +69,14 @@ pub point_timed : {v : View} {t : ℕ} {device : DeviceId} {cycle : ℕ} {verdic
 point_timed {v} {t} {device} {cycle} {front} split point =
     let now = point_has_time (state_before v.scenario front device t) _ cycle point.next in
     let here = not_turned_on (is_turned_on_at v.scenario device t) (state_after v.scenario (earlier t front) device) now in
-    subst (λ hs. has_time (state_after v.scenario hs device) ≡ true) (earlier_before split) here
+    rw (earlier_before split) at here
 
 -- the adjustment is that which the earlier records leave
 pub same_adjustment : {v : View} (device : DeviceId) {t : ℕ} {front : List Happening}
     → AreBeforeCorrections v t front → adjustment_before v.scenario front device t
     ≡ adjustment_before v.scenario v.records device t
 same_adjustment {v} device split =
-    ap (λ hs. adjustment_after v.scenario hs device) (earlier_before split)
+    rw (earlier_before split)
 
 -- ---- the last setting
 
@@ -108,7 +108,7 @@ pub reaches_whole : {v : View} {device : DeviceId} {value : ℤ} {t : ℕ} {fron
     → AreBeforeCorrections v t front → Reaches v.scenario front device value t
     → Reaches v.scenario v.records device value t
 reaches_whole {v} {device} {value} {t} {front} split =
-    reaches_by {s = v.scenario} {gs = front} v.records {device = device} {v = value} {t = t} (earlier_before split)
+    reaches_by v.records (earlier_before split)
 
 -- ---- the records before a place of a time
 
@@ -121,5 +121,5 @@ pub reaches_front : {v : View} {device : DeviceId} {value : ℤ} {t : ℕ} {fron
     → AreBeforeCorrections v t front → Reaches v.scenario v.records device value t
     → Reaches v.scenario front device value t
 reaches_front {v} {device} {value} {t} {front} before =
-    reaches_by {s = v.scenario} {gs = v.records} front {device = device} {v = value} {t = t} (sym
+    reaches_by front (sym
     (earlier_before before))

@@ -1,15 +1,15 @@
 -- The correction points of good devices are recorded.
 use Rattle.run_law.proofs.{control.Summaries.{summary_of, verdict_of}, records.Order.makes_none}
-use Rattle.precision_law.proofs.words.Clocks.{after_more, before_place, cleared_by, due_there, earlier_before, good_is_correct, next_note, parts_at_last}
+use Rattle.precision_law.proofs.words.Clocks.{after_more, before_place, due_there, earlier_before, good_is_correct, next_note, parts_at_last}
 use Rattle.precision_law.proofs.words.Clocks.{reaches_front, same_cleared, same_kept, same_next}
 use Rattle.precision_law.proofs.words.Laws.{AreBeforeCorrections, HasTimeAt, IsPointRecord, IsView, NoneTurnsOn, PointsAreRecorded, View, has_time}
-use Rattle.precision_law.proofs.words.Plans.{AsyncClique, Corrected, DeviceId, HasVerdict, Hearing, Integrating, IsAtIntegration, Off, Standing, State}
+use Rattle.precision_law.proofs.words.Plans.{AsyncClique, Corrected, DeviceId, HasVerdict, Integrating, IsAtIntegration, Off, State}
 use Rattle.precision_law.proofs.words.{Plans.{Summarizes, Summary, SyncClique, Units, Verdict, point_in}, Std.{not, refl, subst, sym, true, ℕ}}
 use Rattle.precision_law.proofs.words.Runs.{ChangesState, ComesToCorrection, Happening, IsBefore, IsDue, IsFounded, IsIn, IsSplit, NoteBody, Reaches, Why}
-use Rattle.precision_law.proofs.words.Runs.{adjustment_after, adjustment_before, chain, changes_adjustment, correction_value, earlier, front_founded, happening}
+use Rattle.precision_law.proofs.words.Runs.{adjustment_before, chain, changes_adjustment, correction_value, earlier, front_founded, happening}
 use Rattle.precision_law.proofs.words.Runs.{has_cleared, heard_since, hearing_by, in_filter, in_parts, in_right, integration_cycle, is_turned_on_at, next_cycle}
-use Rattle.precision_law.proofs.words.Runs.{place_of, plan_of, rank, recorded_cycle, split, standing_before, state_after, time_of}
-use Rattle.precision_law.proofs.words.Std.{◌&&◌, ◌++◌, ◌+ℤ◌, ◌+◌, ◌<◌, ◌||◌, ◌∙◌, ◌∷◌, ◌≡◌, ◌≤◌, Bool, List, None, Some, [], after_last, ap, append-nil}
+use Rattle.precision_law.proofs.words.Runs.{place_of, rank, split, standing_before, state_after, time_of}
+use Rattle.precision_law.proofs.words.Std.{◌&&◌, ◌++◌, ◌+ℤ◌, ◌<◌, ◌||◌, ◌∙◌, ◌∷◌, ◌≡◌, ◌≤◌, List, None, Some, [], after_last, ap, append-nil}
 use Rattle.precision_law.proofs.words.Std.{append_assoc, arith, filter, filter-append, filter_map, filter_map-append, if◌then◌else◌, inl, inr, le-ltb, nat_lt}
 use Rattle.run_law.specs.declared.judgement.Why.TheVariants as whys
 use Rattle.run_law.specs.declared.note.NoteBody.TheVariants as notes
@@ -33,15 +33,16 @@ heard_more v device u front mid cleared cleared_at at high =
     let f = λ (h : Happening). hearing_by s.network device h h.note.body in
     let late = λ (h : Happening). not (has_cleared s front device u u) || has_cleared s front device u (time_of h) in
     let late_more = λ (h : Happening). not (has_cleared s (front ++ mid) device u u) || has_cleared s (front ++ mid) device u (time_of h) in
-    let since = after_more {p = set} mid
-    (λ m i. ap (λ (b : Bool). b && changes_adjustment device m.note.body) (le-ltb (time_of m) u (let e = at m i in omega (arith, e))))
+    let since = after_more mid
+    (λ m i. rw (le-ltb (time_of m) u (let e = at m i in omega arith)))
     (parts_at_last set front) in
     let quiet = makes_none f (filter late mid) (λ m i. (let back = in_filter late mid m i in high_quiet v device u m m.note.body (at m back) (high m back))) in
-    ap (λ hs. filter_map f (filter late_more hs)) since ∙ ap (filter_map f)
-    (same_kept late_more late (after_last set front ++ mid) (λ h i. ap (λ (b : Bool). not b || has_cleared s (front ++ mid) device u (time_of h)) cleared
-    ∙ ap (λ (b : Bool). not (has_cleared s front device u u) || b) (cleared_at (time_of h))))
+    rw since (ap (filter_map f)
+    (same_kept late_more late (after_last set front ++ mid) (λ h i. rw cleared
+    (ap (λ b. not (has_cleared s front device u u) || b) (cleared_at (time_of h)))))
     ∙ ap (filter_map f) (filter-append late (after_last set front) mid) ∙ filter_map-append f (filter late (after_last set front)) (filter late mid)
-    ∙ ap (λ (t : List Hearing). filter_map f (filter late (after_last set front)) ++ t) quiet ∙ append-nil (filter_map f (filter late (after_last set front)))
+    ∙ ap (λ t. filter_map f (filter late (after_last set front)) ++ t) quiet ∙ append-nil
+    (filter_map f (filter late (after_last set front))))
 
 -- ---- the point
 
@@ -60,12 +61,13 @@ comes_given : {v : View} {device : DeviceId} {u : ℕ} {front : List Happening} 
     → ComesToCorrection v.scenario front device u (next_cycle v.scenario v.records device u) verdict
 comes_given {v} {device} {u} {front} {summary} verdict is steady_on le timed before reaches heard has =
     let s = v.scenario in
-    let state = ap (λ (b : Bool). has_time (if b then Integrating else state_after s (earlier u front) device)) (steady_on v device u is timed) ∙ ap
+    let state = ap (λ b. has_time (if b then Integrating else state_after s (earlier u front) device))
+    (steady_on v device u is timed) ∙ ap
     (λ hs. has_time (state_after s hs device)) (earlier_before before) ∙ timed.timed in
     record {
       next =
           point_of_timed (if is_turned_on_at s device u then Integrating else state_after s (earlier u front) device) (next_cycle s front device u) state
-          ∙ ap (λ (n : ℕ). Some n) (same_next device before);
+          ∙ ap (λ n. Some n) (same_next device before);
       reached = reaches_front before reaches;
       correct = good_is_correct v device u timed.good le;
       summary = summary;
@@ -84,13 +86,7 @@ module _ {v : View} (device : DeviceId) {u : ℕ} {front : List Happening}
   same_standing : standing_before v.scenario front device u ≡ standing_before v.scenario v.records device u
   same_standing =
       let s = v.scenario in
-      ap (λ (es : List Happening). let st : Standing = record {
-        plan = plan_of s.network device;
-        state = if is_turned_on_at s device u then Integrating else state_after s es device;
-        adjustment = adjustment_after s es device;
-        number = if cleared_by s device u es then recorded_cycle es device + 1 else recorded_cycle es device;
-        integrated = integration_cycle es device;
-      } in st) (earlier_before before)
+      rw (earlier_before before)
 
 -- what lies between the places of a correction and of the loss of the time
 between_is : (h : Happening) (u d : ℕ) → IsBefore (place_of h) (u ∷ 7 ∷ d ∷ 0 ∷ []) → (IsBefore (place_of h) (u ∷ 6 ∷ d ∷ []) → ⊥) → (time_of h ≡ u)
@@ -115,7 +111,7 @@ parts_of {v} device u is =
       six = record {
         front = six.front;
         rest = six.rest ++ seven.rest;
-        whole = seven.whole ∙ ap (λ (t : List Happening). t ++ seven.rest) six.whole ∙ append_assoc six.front six.rest seven.rest;
+        whole = seven.whole ∙ ap (λ t. t ++ seven.rest) six.whole ∙ append_assoc six.front six.rest seven.rest;
         before = six.before;
         none = λ n i lt. elim (in_parts n six.rest seven.rest i) [
           | inl l ↦ six.none n l lt
@@ -135,10 +131,10 @@ corrected_there : {v : View} {device : DeviceId} {u cycle : ℕ} (by : Units)
     → (h : Happening) × IsPointRecord v device u h
 corrected_there {v} {device} {u} {cycle} by at is le comes =
     let adjustment : Units = record { 0 = (adjustment_before v.scenario at.front device u).0 +ℤ by.0 } in
-    let body : NoteBody = notes.Corrected device cycle by adjustment in (
+    let body = notes.Corrected device cycle by adjustment in (
       happening v.scenario.network at.front (next_note at.front u body),
       record {
-        there = due_there {v = v} u body at is
+        there = due_there u body at is
             le refl (record { corrected = comes; sum = refl });
         at = refl;
         says = inl (cycle, by, adjustment, refl);
@@ -150,9 +146,9 @@ lost_there : {v : View} (device : DeviceId) (u : ℕ) (why : Why)
     (at : IsSplit place_of v.records (u ∷ 7 ∷ device.0 ∷ 0 ∷ [])) → IsView v → u ≤ v.until
     → ChangesState v.scenario at.front device u Integrating 0 why → (h : Happening) × IsPointRecord v device u h
 lost_there {v} device u why at is le changes =
-    let body : NoteBody = notes.State device Integrating 0 why in (
+    let body = notes.State device Integrating 0 why in (
       happening v.scenario.network at.front (next_note at.front u body),
-      record { there = due_there {v = v} u body at is le refl changes; at = refl; says = inr (0, why, refl) },
+      record { there = due_there u body at is le refl changes; at = refl; says = inr (0, why, refl) },
     )
 
 pub points_are_recorded : NoneTurnsOn → PointsAreRecorded
@@ -163,11 +159,10 @@ points_are_recorded steady_on v device u is le timed reaches never =
     let seven = before_place v u (7 ∷ device.0 ∷ 0 ∷ []) p.seven in
     let standing = same_standing device seven ∙ sym (same_standing device six) in
     let cleared : (x : ℕ) → has_cleared s (p.six.front ++ p.mid) device u x ≡ has_cleared s p.six.front device u x = λ x.
-    subst (λ hs. has_cleared s hs device u x ≡ has_cleared s p.six.front device u x) p.whole
-    (same_cleared device x seven
+    rw p.whole at (same_cleared device x seven
     ∙ sym (same_cleared device x six)) in
-    let heard : heard_since s p.seven.front device u ≡ heard_since s p.six.front device u = ap (λ hs. heard_since s hs device u) p.whole
-    ∙ heard_more v device u p.six.front p.mid (cleared u) cleared (λ m i. (p.at m i).0) (λ m i. (p.at m i).1) in
+    let heard : heard_since s p.seven.front device u ≡ heard_since s p.six.front device u = rw p.whole
+    (heard_more v device u p.six.front p.mid (cleared u) cleared (λ m i. (p.at m i).0) (λ m i. (p.at m i).1)) in
     let summary = summary_of (heard_since s p.seven.front device u) in
     let comes = λ (verdict : Verdict) (has : HasVerdict (standing_before s p.seven.front device u) summary.0 verdict).
     comes_given verdict is steady_on le timed seven reaches summary.1 has in

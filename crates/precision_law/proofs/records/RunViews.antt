@@ -2,9 +2,9 @@
 use Rattle.precision_law.proofs.block.{Goings.known_dispatch, Halving.ends_of}
 use Rattle.precision_law.proofs.{law.Together.earlier_in_block, words.Clocks.{IsCutAt, cut_at, has_before, never_some, passes, sizes_are, tested, within_run}}
 use Rattle.precision_law.proofs.words.Laws.{AreFromTo, BlocksCover, BlocksGoSo, Hull, IsDispatch, IsDispatchedBy, IsInBlock, IsInHull, IsRunUpTo, IsSound}
-use Rattle.precision_law.proofs.words.{Laws.{IsView, LieFromTo, View, hull_of, hull_over, is_dispatch, sizes_of, start_hull}, Plans.{Channel, DeviceId, IsBeta}}
-use Rattle.precision_law.proofs.words.{Runs.{Happening, IsIn, Note, Scenario, happenings, in_filter, same_some, time_of}, Std.{subst, suc, sym, zero, ℕ, ℤ}}
-use Rattle.precision_law.proofs.words.Std.{◌+◌, ◌-ℤ◌, ◌∙◌, ◌≡◌, ◌≤ℤ◌, ◌≤◌, List, None, Option, Some, ap, arith, filter, inl, inr, option_and_then, pos, refl}
+use Rattle.precision_law.proofs.words.{Laws.{IsView, LieFromTo, View, hull_of, is_dispatch, sizes_of, start_hull}, Plans.{Channel, DeviceId, IsBeta}}
+use Rattle.precision_law.proofs.words.{Runs.{Happening, IsIn, Note, Scenario, happenings, in_filter, same_some, time_of}, Std.{suc, sym, zero, ℕ, ℤ}}
+use Rattle.precision_law.proofs.words.Std.{◌+◌, ◌-ℤ◌, ◌≡◌, ◌≤◌, List, None, Some, ap, arith, filter, inl, inr, pos, refl}
 
 -- ---- views
 
@@ -21,7 +21,18 @@ pub view_with : {s : Scenario} {mark : List ℕ} {ns : List Note} {until : ℕ} 
     → IsViewWith s (happenings s.network ns) t channel path
 view_with {s} {until} t channel path up beta le sound =
     let cut = cut_at s until t up.run up.covers le in
-    record { cut = cut; is = record { lawful = up.lawful; run = cut.run; short = omega (arith, up.short, le); beta = beta; sizes = refl; sound = sound } }
+    record {
+      cut = cut;
+      is = record {
+        lawful = up.lawful;
+        run = cut.run;
+        short = omega (arith, up.short);
+        beta =
+            beta;
+        sizes = refl;
+        sound = sound;
+      };
+    }
 
 -- ---- dispatches
 
@@ -33,7 +44,7 @@ module _ (cover : BlocksCover) (goes : BlocksGoSo) {v : View} (is : IsView v) wh
       let found = cover v v.until is (omega arith) in
       (known_dispatch v found.0 (v.until + 1) found.1.before
       (λ u from lt. goes v found.0 u (earlier_in_block _ _ _ _ found.1 from (omega arith)) is) h device cycle dispatch
-      (let in_run = within_run is h dispatch.there in omega (arith, in_run))).1
+      (let in_run = within_run is h dispatch.there in omega arith)).1
 
   -- the hull of a cycle is from its first to its last dispatch
   pub hull_lies : (cycle : ℕ) (hull : Hull) → hull_of v (suc cycle) ≡ Some hull
@@ -41,9 +52,7 @@ module _ (cover : BlocksCover) (goes : BlocksGoSo) {v : View} (is : IsView v) wh
   hull_lies cycle hull at =
       let has = has_before v cycle hull (within_run is) at in
       let test = λ (g : Happening). is_dispatch v has.before (suc cycle) g g.note.body in
-      let over_is = subst (λ (o : Option Hull). option_and_then
-      (λ w. hull_over (filter (λ h. is_dispatch v w (suc cycle) h h.note.body) v.records)) o
-      ≡ Some hull) has.is_before at in
+      let over_is = rw has.is_before at at in
       let ends = ends_of None (filter test v.records) hull over_is in
       let dispatched : (h : Happening) → IsIn h (filter test v.records) → IsDispatchedBy v.scenario v.records v.until
       (suc cycle) h = λ h i.
@@ -62,9 +71,9 @@ module _ (cover : BlocksCover) (goes : BlocksGoSo) {v : View} (is : IsView v) wh
             is_latest = dispatched top.0 top.1;
             last_is = sym top.2;
             each = λ h d.
-                (let inside = all_in_hulls {h = h} {device = d.master} {cycle = suc cycle} (record { there = d.there; is = d.is; good = d.correct }) in
-                let same : inside.hull ≡ hull = same_some (hull_of v (suc cycle)) inside.hull hull inside.is at in
-                (subst (λ (w : Hull). w.least ≤ℤ pos (time_of h)) same inside.least, subst (λ (w : Hull). pos (time_of h) ≤ℤ w.greatest) same inside.most));
+                (let inside = all_in_hulls (record { there = d.there; is = d.is; good = d.correct }) in
+                let same = same_some (hull_of v (suc cycle)) inside.hull hull inside.is at in
+                (rw same at inside.least, rw same at inside.most));
           }
         ]
       ]
@@ -73,8 +82,8 @@ module _ (cover : BlocksCover) (goes : BlocksGoSo) {v : View} (is : IsView v) wh
   pub hull_is_from_to : (cycle : ℕ) (hull : Hull) → hull_of v cycle ≡ Some hull
       → AreFromTo v.scenario v.records v.until cycle hull.least hull.greatest
   hull_is_from_to zero hull at =
-      let same : start_hull v.sizes ≡ hull = same_some (hull_of v zero) (start_hull v.sizes) hull refl at in
-      (ap (λ (w : Hull). w.least) (sym same) ∙ ap (λ x. pos 0 -ℤ pos x) (sizes_are is).settled, ap (λ (w : Hull). w.greatest) (sym same))
+      let same = same_some (hull_of v zero) (start_hull v.sizes) hull refl at in
+      (rw (sym same) (ap (λ x. pos 0 -ℤ pos x) (sizes_are is).settled), rw (sym same))
   hull_is_from_to (suc c) hull at = hull_lies c hull at
 
 -- ---- the records up to a time

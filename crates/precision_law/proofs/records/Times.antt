@@ -2,7 +2,7 @@
 use Rattle.run_law.proofs.records.{Happenings.{from_earlier, is_earlier}, Members.in_kept, Order.{all_kept, has_passed, time_before}}
 use Rattle.precision_law.proofs.Plain.{le_by}
 use Rattle.precision_law.proofs.words.Runs.{Happening, IsDue, IsFounded, IsIn, Scenario, behind_first, earlier, in_filter, key, members_in, none_kept, place_of}
-use Rattle.precision_law.proofs.words.{Runs.{rank, time_of}, Std.{filter-append, inl, inr, last_or, le-ltb, lt-ltb, nat_lt, not, refl, subst, sym, true, ℕ}}
+use Rattle.precision_law.proofs.words.{Runs.{rank, time_of}, Std.{filter-append, inl, inr, last_or, le-ltb, lt-ltb, nat_lt, not, refl, subst, sym, ℕ}}
 use Rattle.precision_law.proofs.words.Std.{◌++◌, ◌<◌, ◌∙◌, ◌∷◌, ◌≡◌, ◌≤◌, List, Option, Some, [], ap, append-nil, append_assoc, arith, cases_lt, false, filter}
 
 -- ---- order
@@ -40,7 +40,7 @@ in_between u t hs h i =
     let back = from_earlier t hs h (in_filter (λ x. not (nat_lt (time_of x) u)) (earlier t hs) h i) in
     let late = has_passed (λ x. not (nat_lt (time_of x) u)) (earlier t hs) h i in (
       back.0,
-      le_by (λ lt. (let e = lt-ltb (time_of h) u lt in let wrong : not true ≡ true = rw e at late in absurd cc)),
+      le_by (λ lt. (let e = lt-ltb (time_of h) u lt in absurd cc)),
       back.1,
     )
 
@@ -56,15 +56,16 @@ pub earlier_parts : (u t : ℕ) (hs : List Happening) → AreSorted hs → u ≤
 earlier_parts u t [] order le = refl
 earlier_parts u t (h ∷ hs) order le =
     elim (cases_lt (time_of h) u) [
-      | inl lt ↦ rw (lt-ltb (time_of h) t (omega arith), lt-ltb (time_of h) u lt) (ap (λ (gs : List Happening). h ∷ gs) (earlier_parts u t hs order.1 le))
+      | inl lt ↦ rw (lt-ltb (time_of h) t (omega arith), lt-ltb (time_of h) u lt)
+          (ap (λ gs. h ∷ gs) (earlier_parts u t hs order.1 le))
       | inr ge ↦
           let none = none_earlier u h hs order ge in
-          let all : between u t (h ∷ hs) ≡ earlier t (h ∷ hs) = all_kept (λ x. not (nat_lt (time_of x) u)) (earlier t (h ∷ hs)) (λ x i.
+          let all = all_kept (λ x. not (nat_lt (time_of x) u)) (earlier t (h ∷ hs)) (λ x i.
           let late : nat_lt (time_of x) u ≡ false = elim (from_earlier t (h ∷ hs) x i).0 [
             | inl same ↦ rw same (le-ltb (time_of h) u ge)
-            | inr more ↦ (let up = order.0 x more in le-ltb (time_of x) u (omega arith))
+            | inr more ↦ (le-ltb (time_of x) u (omega arith))
           ] in rw late refl) in
-          sym all ∙ ap (λ (gs : List Happening). gs ++ between u t (h ∷ hs)) (sym none)
+          sym all ∙ ap (λ gs. gs ++ between u t (h ∷ hs)) (sym none)
     ]
 
 -- ---- the last of a list

@@ -21,7 +21,7 @@ room_of {n} keeps margins =
       compression_least = margins.precision.compression_least;
       compression_most = margins.precision.compression_most;
       corrections = margins.cycle.correction;
-      cycles = omega (arith, last);
+      cycles = omega arith;
       many_errors = margins.cycle.many_errors;
       many_starts = margins.cycle.eighteen_starts;
       settling = margins.settled.errors;
@@ -39,7 +39,7 @@ room {v} is =
 
 -- its clocks are steady
 pub steady : (v : View) → IsView v → (device : DeviceId) → IsSteady v.sizes (v.scenario.reading device)
-steady v is device = subst (λ n. IsSteady n (v.scenario.reading device)) (sym is.sizes) (clocks_are_steady v.scenario v.sizes.path device is.lawful)
+steady v is device = rw is.sizes (clocks_are_steady v.scenario v.sizes.path device is.lawful)
 
 -- its records are sorted
 pub in_order : {v : View} → IsView v → AreSorted v.records

@@ -6,8 +6,8 @@ use Rattle.precision_law.proofs.{faults.Masters.bad_is_master, words.{Laws.{Fram
 use Rattle.precision_law.proofs.{records.Points.within_run, words.Runs.{same_some, signal_of, standpoint, time_of, timed, way_from, way_to}}
 use Rattle.precision_law.proofs.trips.Legs.{HasLeg, IsPutAs, child_channel, child_not_parent, child_ways, gives_down, has_leg, parent_channel, parent_ways}
 use Rattle.precision_law.proofs.trips.{Legs.{receiver_way, same_cycle, trip_more}, Paths.{TakesWith, clocked, frame_is, taken_as, taken_sound}}
-use Rattle.precision_law.proofs.words.Plans.{Device, DeviceId, Down, Event, IsDeviceInRange, Link, LinkId, Members, Network, Pcf, Up, Way, all_at, amount}
-use Rattle.{precision_law.proofs.words.Plans.{device_at, field, is_end_system, is_master, link_at, opened}, schedule_tables.specs.declared.entry.Entry.Entry}
+use Rattle.precision_law.proofs.words.Plans.{DeviceId, Down, Event, IsDeviceInRange, Link, LinkId, Members, Network, Pcf, Up, Way, all_at, amount}
+use Rattle.{precision_law.proofs.words.Plans.{device_at, field, is_master, link_at, opened}, schedule_tables.specs.declared.entry.Entry.Entry}
 use Rattle.precision_law.proofs.words.Runs.{AreWithinHypothesis, Arrival, ArrivesAs, Breaks, Gives, Happening, IsCaused, IsIn, Launch, NotBroken, NoteBody}
 use Rattle.precision_law.proofs.words.Runs.{Order, Reason, Signal, Standpoint, are_others, arrival_of, breaks_at, channel_of, channel_of_link, control}
 use Rattle.precision_law.proofs.words.Runs.{cycle_in, events_up_to, founded_at, frame_in, has_role, in_at, in_left, is_broken, is_cut, is_end}
@@ -27,17 +27,17 @@ pub master_member : {v : View} (device : DeviceId) → IsView v → has_role v.s
     → (m : ℕ) × (member_of v.scenario.network device ≡ Some m)
 master_member {v} device is role =
     let d = device_of is_master (device_at v.scenario.network device) role in
-    let known : IsDeviceInRange d.0 = all_at IsDeviceInRange v.scenario.network.device device.0 d.0 is.lawful.range.devices d.1 in
+    let known = all_at IsDeviceInRange v.scenario.network.device device.0 d.0 is.lawful.range.devices d.1 in
     let m = some_of d.0.member (known.masters ∙ d.2) in
-    (m.0, ap (λ (o : Option Device). option_and_then (λ x. x.member) o) d.1 ∙ m.1)
+    (m.0, ap (λ o. option_and_then (λ x. x.member) o) d.1 ∙ m.1)
 
 -- a broken device is a master
 pub bad_role : {v : View} (device : DeviceId) → IsView v → IsBad v device
     → has_role v.scenario.network is_master device ≡ true
 bad_role {v} device is bad =
     true_from_ne_false (has_role v.scenario.network is_master device) (λ other. bad_is_master device is bad (λ master.
-    let d = opened (λ (x : Device). is_master x.role ≡ true) (device_at v.scenario.network device) master in
-    both_ways (has_role v.scenario.network is_master device) other (ap (λ (o : Option Device). option_map_or (λ x. is_master x.role) o false) d.1 ∙ d.2)))
+    let d = opened (λ x. is_master x.role ≡ true) (device_at v.scenario.network device) master in
+    both_ways (has_role v.scenario.network is_master device) other (rw d.1 d.2)))
 
 -- ---- events in order
 
@@ -45,7 +45,7 @@ module _ (n : Network) (all : List Event) (within : AreWithinHypothesis n all) w
   -- of events within the hypothesis none is earlier than the one before it
   next_turn : (pre behind : List Event) (e event : Event) → all ≡ pre ++ e ∷ event ∷ behind → e.time.0 ≤ℤ event.time.0
   next_turn pre behind e event whole =
-      by_lt_z {P = e.time.0 ≤ℤ event.time.0} event.time.0 e.time.0
+      by_lt_z event.time.0 e.time.0
       (λ later. absurd (within (pre ++ e ∷ []) behind event
       (whole ∙ sym (append_assoc pre (e ∷ []) (event ∷ behind))) Order
       (record { front = pre; last = e; order = refl; later = later }))) (λ kept. kept)
@@ -56,13 +56,19 @@ module _ (n : Network) (all : List Event) (within : AreWithinHypothesis n all) w
   in_turn [] pre behind e event whole = next_turn pre behind e event whole
   in_turn (m ∷ mid) pre behind e event whole =
       let one = next_turn pre (mid ++ event ∷ behind) e m whole in
-      omega (arith, ints, one, in_turn mid (pre ++ e ∷ []) behind m event (whole ∙ sym (append_assoc pre (e ∷ []) (m ∷ (mid ++ event ∷ behind)))))
+      omega (
+        arith,
+        ints,
+        in_turn mid (pre ++ e ∷ []) behind m event
+            (whole ∙ sym (append_assoc pre (e ∷ []) (m ∷ (mid ++ event ∷ behind)))),
+      )
 
 pub no_earlier : (n : Network) (all before behind : List Event) (e event : Event) → AreWithinHypothesis n all → all ≡ before ++ event ∷ behind → IsIn e before
     → e.time.0 ≤ℤ event.time.0
 no_earlier n all before behind e event within whole i =
     let at = parted e before i in
-    in_turn n all within at.1 at.0 behind e event (whole ∙ ap (λ (t : List Event). t ++ event ∷ behind) at.2 ∙ append_assoc at.0 (e ∷ at.1) (event ∷ behind))
+    in_turn n all within at.1 at.0 behind e event (whole ∙ ap (λ t. t ++ event ∷ behind) at.2 ∙ append_assoc at.0
+    (e ∷ at.1) (event ∷ behind))
 
 -- what sends by an event is broken
 sender_broken : {v : View} (e : Event) (link : LinkId) (l : Link) (octets : List ℕ) → IsView v
@@ -77,15 +83,15 @@ sender_broken {v} e link l octets is i what there early =
       octets = octets;
       what = what;
       unbroken = λ some.
-          let k = opened (λ (x : Link). Any (Breaks x.child) split.0) (link_at s.network link) some in
-          let found = any_is (Breaks l.child) split.0 (subst (λ (x : Link). Any (Breaks x.child) split.0) (same_some _ _ l k.1 there) k.2) in
+          let k = opened (λ x. Any (Breaks x.child) split.0) (link_at s.network link) some in
+          let found = any_is (Breaks l.child) split.0 (rw (same_some _ _ l k.1 there) at k.2) in
           let order = no_earlier s.network s.events split.0 split.1 found.0 e is.lawful.within split.2 found.1 in
           let in_all : IsIn found.0 s.events = subst (IsIn found.0) (sym split.2) (in_left found.0 split.0 (e ∷ split.1) found.1) in
-          let place = parted found.0 s.events in_all in
           let kept = in_kept (λ x. nat_le (amount x.time) v.until) s.events found.0 in_all
-          (le-leb (amount found.0.time) v.until (omega (arith, ints, order, (given s found.0 is.lawful in_all).range.time, early))) in
+          (le-leb (amount found.0.time) v.until (omega (arith, ints, (given s found.0 is.lawful in_all).range.time))) in
           let breaks : breaks_at l.child.0 found.0.what ≡ true = ap (breaks_at l.child.0) found.2 ∙ eq-eqb l.child.0 l.child.0 refl in
-          both_ways (is_broken s l.child v.until) at (in_any (λ (x : Event). breaks_at l.child.0 x.what) (events_up_to s v.until) found.0 kept breaks);
+          both_ways (is_broken s l.child v.until) at (in_any (λ x. breaks_at l.child.0 x.what) (events_up_to s v.until)
+          found.0 kept breaks);
     }))
 
 -- ---- what was put on a wire
@@ -146,14 +152,14 @@ put_on : {v : View} {ps : List Happening} {t : ℕ} {device : DeviceId} {link : 
     ⊎ ((way ≡ Up) × IsSentUp v ps device link cause)) × (receiver_of v.scenario.network link way ≡ Some device)
 put_on {v} {ps} {t} {device} {link} {cause} taken way is comes takes on =
     let put = comes.arrives in
-    let same : put.way ≡ way = sym (receiver_way link device put.way is put.receiver) ∙ on in (
-      by comes.putting.note.body refl put.put same (subst (λ x. TakesWith x taken) comes.becomes takes),
-      subst (λ w. receiver_of v.scenario.network link w ≡ Some device) same put.receiver,
+    let same = sym (receiver_way link device put.way is put.receiver) ∙ on in (
+      by comes.putting.note.body refl put.put same (rw comes.becomes at takes),
+      rw same at put.receiver,
     )
   where
     never : (signal : Signal) → signal ≡ timed comes.putting.octets → TakesWith (arrival_of v.scenario ps device t link cause signal) taken → ⊥
     never signal e c = never_timed v ps t device link cause comes.putting.octets taken
-        (subst (λ x. TakesWith (arrival_of v.scenario ps device t link cause x) taken) e c)
+        (rw e at c)
 
     sent : (cut : Bool) (out : LinkId) (signal : Signal) (l : Launch) → (if cut then None else Some (record { link = out; way = Up; signal = signal })) ≡ Some l
         → (record { link = out; way = Up; signal = signal }) ≡ l
@@ -165,33 +171,37 @@ put_on {v} {ps} {t} {device} {link} {cause} taken way is comes takes on =
         → TakesWith (arrival_of v.scenario ps device t link cause comes.signal) taken
         → IsPutAs v ps device link cause way ⊎ ((way ≡ Up) × IsSentUp v ps device link cause)
     by (notes.Left sender out given clock) same put along c =
-        let l = (mapped (λ (f : Pcf). let x : Launch = record { link = out; way = way_from v.scenario.network sender out; signal = control (Ok f) } in x)
+        let l = (mapped (λ f. let x : Launch = record {
+          link = out;
+          way =
+              way_from v.scenario.network sender out;
+          signal = control (Ok f);
+        } in x)
         comes.putting.frame _ put).2 in
-        let link_is : out ≡ link = ap (λ (x : Launch). x.link) l in
+        let link_is : out ≡ link = ap (λ x. x.link) l in
         inl (record {
           putting = comes.putting;
           there = comes.there;
           sender = sender;
           given = given;
           clock = clock;
-          left = same ∙ ap (λ (x : LinkId). notes.Left sender x given clock) link_is;
-          from_way = ap (way_from v.scenario.network sender) (sym link_is) ∙ ap (λ (x : Launch). x.way) l ∙ along;
+          left = same ∙ ap (λ x. notes.Left sender x given clock) link_is;
+          from_way = ap (way_from v.scenario.network sender) (sym link_is) ∙ ap (λ x. x.way) l ∙ along;
         })
     by (notes.TtSent sender out from vl cycle) same put along c =
         let l = same_some _ (record { link = out; way = way_from v.scenario.network sender out; signal = timed comes.putting.octets }) _ refl put in
-        absurd (never comes.signal (ap (λ (x : Launch). x.signal) (sym l)) c)
+        absurd (never comes.signal (ap (λ x. x.signal) (sym l)) c)
     by (notes.Event line (events.Send out octets)) same put along c =
         let l = sent (is_cut v.scenario out Up (time_of comes.putting)) out (signal_of octets) _ put in
-        let d = decoded_as v ps t device link cause octets taken (subst (λ x. TakesWith (arrival_of v.scenario ps device t link cause x) taken)
-        (ap (λ (x : Launch). x.signal) (sym l)) c) in
+        let d = decoded_as v ps t device link cause octets taken (rw (ap (λ (x : Launch). x.signal) (sym l)) at c) in
         inr (
-          sym along ∙ ap (λ (x : Launch). x.way) (sym l),
+          sym along ∙ ap (λ x. x.way) (sym l),
           record {
             putting = comes.putting;
             there = comes.there;
             line = line;
             octets = octets;
-            sends = same ∙ ap (λ (x : LinkId). notes.Event line (events.Send x octets)) (ap (λ (x : Launch). x.link) l);
+            sends = same ∙ ap (λ (x : LinkId). notes.Event line (events.Send x octets)) (ap (λ x. x.link) l);
             frame = d.0;
             decodes = d.1;
             mine = d.2;
@@ -211,29 +221,29 @@ sent_by_bad {v} h {device} {link} {cause} clock is i body to put =
     let n = s.network in
     let at = founded_at s v.records h is.run.founded i in
     let putting = put.putting in
-    let in_front : IsIn putting at.front = numbered_in at.front cause putting put.there in
+    let in_front = numbered_in at.front cause putting put.there in
     let in_all : IsIn putting v.records = subst (IsIn putting) (sym at.whole) (in_left putting at.front (h ∷ at.rest) in_front) in
     let at_e = founded_at s v.records putting is.run.founded in_all in
     let event = subst (IsCaused s at_e.front putting.note.time) put.sends at_e.due.cause in
-    let in_events : IsIn event.event s.events = in_at s.events event.before event.event event.is in
+    let in_events = in_at s.events event.before event.event event.is in
     let time : amount event.event.time ≡ time_of putting = ap amount (sym event.at) in
-    let l = mapped (λ (x : Link). x.parent) (link_at n link) device to in
+    let l = mapped (λ x. x.parent) (link_at n link) device to in
     let bad = sender_broken event.event link l.0 put.octets is in_events (sym event.same) l.1
-    (omega (arith, within_run is putting in_all, time)) in
+    (omega (arith, within_run is putting in_all)) in
     let framed = frame_is at_e _ put.sends ∙ ap frame_in put.decodes in
     let frame_h = frame_is at _ body ∙ clocked clock _ putting put.frame put.there framed in
-    let mine = sym (ap (λ (o : Option Link). option_map_or (λ k. k.parent.0 == device.0 && is_end n k.child && are_others
+    let mine = sym (ap (λ o. option_map_or (λ k. k.parent.0 == device.0 && is_end n k.child && are_others
     (member_of n k.child) put.frame.members) o false) l.1) ∙ put.mine in
     let d = device_of is_master (device_at n l.0.child) (bad_role l.0.child is bad) in
     let is_mine = mine_is (l.0.parent.0 == device.0) (is_end n l.0.child) (member_of n l.0.child) put.frame.members mine
-    (eq-eqb l.0.parent.0 device.0 (ap (λ (d : DeviceId). d.0) l.2))
-    (ap (λ (o : Option Device). option_map_or (λ x. is_end_system x.role) o false) d.1 ∙ master_ends d.0.role d.2) in
+    (eq-eqb l.0.parent.0 device.0 (rw l.2))
+    (rw d.1 (master_ends d.0.role d.2)) in
     record {
       master = l.0.child;
       bad = bad;
       member = is_mine.0;
       is_member = is_mine.1;
-      members = ap (λ (o : Option Pcf). option_map_or (λ f. f.members.0) o 0) frame_h ∙ is_mine.2;
+      members = ap (λ o. option_map_or (λ f. f.members.0) o 0) frame_h ∙ is_mine.2;
     }
 
 -- a record that gives a frame to a way, and is no arrival
@@ -261,7 +271,7 @@ pub record ComesSo (v : View) (way : Way) (h : Happening) (link : LinkId) : Type
 pub comes : (v : View) (n : ℕ) (way : Way) (h : Happening) (device : DeviceId) (link : LinkId) (cause clock : ℕ) → IsView v → IsIn h v.records
     → h.note.number < n → h.note.body ≡ notes.Arrived device link cause clock → way_to v.scenario.network device link ≡ way
     → ComesSo v way h link ⊎ ((way ≡ Up) × IsOfBad v h)
-comes v zero way h device link cause clock is i small body on = absurd (omega (arith, small))
+comes v zero way h device link cause clock is i small body on = absurd (omega arith)
 comes v (suc n) way h device link cause clock is i small body on =
     let at = founded_at v.scenario v.records h is.run.founded i in
     let a = subst (IsCaused v.scenario at.front h.note.time) body at.due.cause in
@@ -270,19 +280,19 @@ comes v (suc n) way h device link cause clock is i small body on =
     elim put.0 [
       | inr sent ↦ inr (
         sent.0,
-        sent_by_bad h clock is i body (subst (λ w. receiver_of v.scenario.network link w ≡ Some device)
-            sent.0 put.1) sent.1,
+        sent_by_bad h clock is i body (rw sent.0 at put.1) sent.1,
       )
       | inl left ↦
           let l = has_leg h clock is i body on put.1 left in
-          given_by l (λ g d k c t j less at to. comes v n way g d k c t is j (omega (arith, less, l.sooner, small)) at to) l.giving.note.body refl l.leg.gives
+          given_by l (λ g d k c t j less at to. comes v n way g d k c t is j (omega (arith, l.sooner)) at to)
+          l.giving.note.body refl l.leg.gives
     ]
   where
     on_way : (sender relay : DeviceId) (by : LinkId) → Passes v.scenario.network sender by link → sender ≡ relay → way_from v.scenario.network sender link ≡ way
         → way_to v.scenario.network relay by ≡ way
     on_way sender relay by passes same from =
         let n = v.scenario.network in
-        subst (λ d. way_to n d by ≡ way) same (elim passes.on [
+        rw (sym same) (elim passes.on [
           | inl up ↦ (parent_ways n sender by up.0).0 ∙ sym (child_ways sender link is up.1).1 ∙ from
           | inr down ↦ (child_ways sender by is down.0).0 ∙ sym (parent_ways n sender link down.1).1 ∙ from
         ])
@@ -327,7 +337,7 @@ comes v (suc n) way h device link cause clock is i small body on =
             by = link;
             gives = l.leg.gives;
             from_way = l.leg.from_way;
-            no_arrival = λ d k c t e. (let wrong : body ≡ notes.Arrived d k c t = sym same ∙ e in absurd cc);
+            no_arrival = λ d k c t e. (let wrong = sym same ∙ e in absurd cc);
           };
           legs = record { link = link; giving = l.giving; leaving = l.leaving; arriving = h } ∷ [];
           trip = (refl, l.leg, refl);
@@ -347,8 +357,8 @@ pub dispatch_shows : {v : View} (g : Happening) (master : DeviceId) (cycle m : �
 dispatch_shows {v} g master cycle m is i body member =
     let found = founded_at v.scenario v.records g is.run.founded i in
     let framed = frame_is found _ body in (
-      ap (λ (o : Option Pcf). option_map_or (λ f. f.cycle) o 0) (sym framed),
-      ap (λ (o : Option Pcf). option_map_or (λ f. f.members.0) o 0) framed ∙ ap (λ (o : Option ℕ). 2 ^ unwrap_or o 0) member,
+      ap (λ o. option_map_or (λ f. f.cycle) o 0) (sym framed),
+      rw framed (ap (λ o. 2 ^ unwrap_or o 0) member),
     )
 
 pub frames_up_are_of_masters : FramesUpAreOfMasters
@@ -380,6 +390,7 @@ frames_up_are_of_masters v h switch link cause clock is i body up =
           })
         ] refl
     of_master c (notes.Compressed cm opened at cycle members verdict) same gives =
-        (let wrong : Down ≡ Up = sym (parent_ways v.scenario.network c.start.sender c.start.by gives.1).1 ∙ c.start.from_way in absurd cc)
+        (let wrong = sym (parent_ways v.scenario.network c.start.sender c.start.by gives.1).1 ∙ c.start.from_way in
+        absurd cc)
     of_master c (notes.Arrived relay by from t) same gives = absurd (c.start.no_arrival relay by from t same)
     of_master c body same gives = absurd gives

@@ -5,7 +5,7 @@ use Rattle.precision_law.proofs.words.{Blocks.{before_narrow, block_ends, old_sh
 use Rattle.precision_law.proofs.words.Clocks.{frames_come_first, natural, natural_of, one_more, room, sizes_are, switches_are_good}
 use Rattle.precision_law.proofs.words.Laws.{AreOpenFrom, AreOpenOn, BlocksGoSo, IsGood, HasTimeAt, HaveRoom, Hull, IsInBlock, IsNarrow, IsOpen, IsView, ShowsIn}
 use Rattle.precision_law.proofs.words.Laws.{Sizes, View, first_correction, first_dispatch, has_time, last_dispatch, state_left}
-use Rattle.precision_law.proofs.words.Std.{◌%◌, ◌&&◌, ◌*◌, ◌+ℤ◌, ◌+◌, ◌-◌, ◌<◌, ◌∙◌, ◌≡◌, ◌≤ℤ◌, ◌≤◌, Bool, and_right, ap, arith, cases_Bool, false, if◌then◌else◌, inl, inr, int_lt, refl, true}
+use Rattle.precision_law.proofs.words.Std.{◌&&◌, ◌*◌, ◌+ℤ◌, ◌+◌, ◌-◌, ◌<◌, ◌∙◌, ◌≡◌, ◌≤ℤ◌, ◌≤◌, Bool, and_right, ap, arith, cases_Bool, false, if◌then◌else◌, inl, inr, int_lt, refl, true}
 
 -- ---- a value's place in its cycle
 
@@ -13,8 +13,8 @@ use Rattle.precision_law.proofs.words.Std.{◌%◌, ◌&&◌, ◌*◌, ◌+ℤ�
 placed : (n : Network) (c r m : ℕ) (z : ℤ) → 0 < amount n.cycle → pos 0 ≤ℤ n.cycle.0 → r < amount n.cycle → m ≡ c * amount n.cycle + r → z ≡ pos m
     → offset_in_cycle n z ≡ pos r
 placed n c r m z some begun small is same =
-    int_rem_euclid_is z n.cycle.0 (amount n.cycle) 0 m some (natural n.cycle.0 begun) (omega (arith, ints, same))
-    ∙ ap pos (ap (λ (x : ℕ). x % amount n.cycle) is ∙ mod-mul-add c (amount n.cycle) r small)
+    int_rem_euclid_is z n.cycle.0 (amount n.cycle) 0 m some (natural n.cycle.0 begun) (omega (arith, ints))
+    ∙ ap pos (rw is (mod-mul-add c (amount n.cycle) r small))
 
 -- what a clock shows from shortly before the beginning of a cycle to its correction point
 record IsInWindow (n : Sizes) (cycle : ℕ) (shown : ℤ) : Type 0 where
@@ -25,7 +25,7 @@ in_window : {s : Sizes} {shown : ℤ} {n u : ℕ} {hull : Hull} → HaveRoom s �
     → first_dispatch s hull ≤ℤ pos u → pos u ≤ℤ first_correction s hull → IsInWindow s (suc n) shown
 in_window {s} {n} space narrow shows low high =
     let more = one_more n s.cycle in
-    record { least = omega (arith, ints, more, narrow, shows.least, low, space); most = omega (arith, ints, more, shows.most, high, space.errors.reach_is) }
+    record { least = omega (arith, ints, shows.least); most = omega (arith, ints, shows.most, space.errors.reach_is) }
 
 -- ---- gates
 
@@ -38,15 +38,15 @@ open_by {v} {cycle} {shown} is window =
     let precision = (sizes_are is).precision in
     let correction = (sizes_are is).correction in
     let length = (sizes_are is).cycle in
-    let product : cycle * v.sizes.cycle ≡ cycle * amount n.cycle = ap (λ (x : ℕ). cycle * x) length in
+    let product : cycle * v.sizes.cycle ≡ cycle * amount n.cycle = rw length in
     let z = shown +ℤ pos (2 * amount n.precision) in
-    let from : pos (cycle * amount n.cycle) ≤ℤ z = omega (arith, ints, product, precision, window.least) in
+    let from : pos (cycle * amount n.cycle) ≤ℤ z = omega (arith, ints, window.least) in
     let m = natural_of z (cycle * amount n.cycle) from in
-    let rest : ℕ = m.0 - cycle * amount n.cycle in
-    let is_rest : m.0 ≡ cycle * amount n.cycle + rest = omega (arith, ints, from, m.1) in
-    let top : rest ≤ amount n.correction + 2 * amount n.precision = omega (arith, ints, product, precision, correction, window.most, m.1, is_rest) in
-    let small : rest < amount n.cycle = omega (arith, top, precision, correction, length, room is) in
-    let some : 0 < amount n.cycle = omega (arith, small) in
+    let rest = m.0 - cycle * amount n.cycle in
+    let is_rest : m.0 ≡ cycle * amount n.cycle + rest = omega (arith, ints, m.1) in
+    let top : rest ≤ amount n.correction + 2 * amount n.precision = omega (arith, ints, window.most, m.1) in
+    let small : rest < amount n.cycle = omega (arith, room is) in
+    let some : 0 < amount n.cycle = omega arith in
     let place = placed n cycle rest m.0 z some (omega (arith, ints, is.lawful.range.cycle.least)) small is_rest m.1 in
     ap (int_lt (pos (amount n.correction + 2 * amount n.precision))) place ∙ le-ltb (amount n.correction + 2 * amount n.precision) rest top
 
@@ -78,7 +78,7 @@ gate_is_open goes {v} {n} {u} block switch is good low high =
       | inl so ↦
           let left = synchronised_left (is_turned_on_at s switch u) (state_left v switch u) so in
           let has : HasTimeAt v switch u = record { good = good; timed = has_it (state_left v switch u) left } in
-          let old = old_early goes v n u block switch u u is (omega (arith, ints, high, room is), omega arith) good
+          let old = old_early goes v n u block switch u u is (omega (arith, ints, room is), omega arith) good
           (omega arith) left in
           let window = in_window (room is)
           (before_narrow block.before) (old_shows block is (omega arith) has old) low high in
@@ -91,18 +91,22 @@ pub are_open_on : BlocksGoSo → {v : View} (channel : Channel) {n w : ℕ} (blo
     → pos (w + v.sizes.dmax) ≤ℤ first_correction v.sizes block.before.hull
     → w + v.sizes.dmax ≤ v.until + v.sizes.path → AreOpenOn v channel w
 are_open_on goes {v} channel {n} block is low high in_run switch u of_channel from to =
-    let space = room is in
-    let narrow = before_narrow block.before in
     let at : IsInBlock v n u = record {
       before = block.before;
       next = block.next;
       is_over = block.is_over;
-      from = omega (arith, block.from, from);
-      to = omega (arith, ints, block_ends v n block.next _ block.before.is_hull block.is_over, high, to, hull_ordered n block.before is);
-      in_run = omega (arith, to, in_run);
+      from = omega (arith, block.from);
+      to = omega (
+        arith,
+        ints,
+        block_ends v n block.next _ block.before.is_hull block.is_over,
+        hull_ordered n
+            block.before is,
+      );
+      in_run = omega arith;
     } in
     gate_is_open goes at switch is (switches_are_good v channel switch is of_channel)
-    (omega (arith, ints, low, from)) (omega (arith, ints, high, to))
+    (omega (arith, ints)) (omega (arith, ints))
 
 pub are_open_from : BlocksGoSo → {v : View} {n w : ℕ} (block : IsInBlock v n w) → IsView v
     → first_dispatch v.sizes block.before.hull ≤ℤ pos w
@@ -116,4 +120,4 @@ pub dispatches_pass : BlocksGoSo → {v : View} (channel : Channel) {n w : ℕ} 
     → w + v.sizes.dmax ≤ v.until + v.sizes.path → AreOpenOn v channel w
 dispatches_pass goes {v} channel block is low high in_run =
     let first = frames_come_first v.sizes block.before.hull (room is) (before_narrow block.before) in
-    are_open_on goes channel block is low (omega (arith, ints, high, first)) in_run
+    are_open_on goes channel block is low (omega (arith, ints)) in_run

@@ -7,7 +7,7 @@ use Rattle.precision_law.proofs.words.Plans.{Network, Pcf, Relay, Role, Up, Way,
 use Rattle.precision_law.proofs.words.{Plans.shape_rules, Runs.{numbered_within, rank, receiver_of, same_some, time_of, way_from, way_to, with_clock}}
 use Rattle.precision_law.proofs.words.Runs.{Happening, IsCaused, IsIn, IsParentOf, cause_of, channel_of, channel_of_link, cycle_in, founded_at}
 use Rattle.precision_law.proofs.words.Runs.{in_left, is_end, is_parent_of, is_relay, is_relay_role, members_in, number_is, numbered, numbered_in}
-use Rattle.precision_law.proofs.words.Std.{◌++◌, ◌<◌, ◌∙◌, ◌∷◌, ◌≡◌, ◌⊎◌, Bool, List, Option, Some, [], ap, arith, false, false_from_ne_true, if◌then◌else◌}
+use Rattle.precision_law.proofs.words.Std.{◌++◌, ◌<◌, ◌∙◌, ◌∷◌, ◌≡◌, ◌⊎◌, List, Some, [], ap, arith, false, false_from_ne_true}
 use Rattle.run_law.specs.declared.note.NoteBody.TheVariants as notes
 
 -- ---- no link leads from a device to itself
@@ -18,12 +18,13 @@ no_loop_on : {n : Network} (channel : Channel) (device : DeviceId) (link : LinkI
     → IsPath n channel device links → ⊥
 no_loop_on channel device link l tree at up parent [] path = tree.root channel device link path up
 no_loop_on {n} channel device link l tree at up parent (first ∷ links) path =
-    let m = opened (λ (k : Link). (k.child ≡ device) × IsSwitchOf n channel k.parent × IsPath n channel k.parent links) (link_at n first) path in
-    let one : first ≡ link = tree.one_uplink channel device first link
-    (closed (λ (k : Link). (k.child ≡ device) × IsSwitchOf n channel k.parent) (link_at n first) m.0 m.1 (m.2.0, m.2.1)) up in
-    let same : m.0 ≡ l = same_some (link_at n link) m.0 l (subst (λ x. link_at n x ≡ Some m.0) one m.1) at in
+    let m = opened (λ k. (k.child ≡ device) × IsSwitchOf n channel k.parent × IsPath n channel k.parent links)
+    (link_at n first) path in
+    let one = tree.one_uplink channel device first link
+    (closed (λ k. (k.child ≡ device) × IsSwitchOf n channel k.parent) (link_at n first) m.0 m.1 (m.2.0, m.2.1)) up in
+    let same : m.0 ≡ l = same_some (link_at n link) m.0 l (rw (sym one) m.1) at in
     no_loop_on channel device link l tree at up parent links
-    (subst (λ d. IsPath n channel d links) (ap (λ (k : Link). k.parent) same ∙ parent) m.2.2)
+    (rw (ap (λ (k : Link). k.parent) same ∙ parent) at m.2.2)
 
 -- so no link's child is its parent
 no_loop : {v : View} (link : LinkId) (l : Link) → IsView v → link_at v.scenario.network link ≡ Some l
@@ -32,10 +33,11 @@ no_loop {v} link l is at same =
     let n = v.scenario.network in
     let tree = rules_give_trees n (shape_rules n is.lawful.rules) in
     let joint = is.lawful.rules Joints link.0 l at in
-    let p = opened (λ (d : Device). d.channel ≡ Some joint.0) (device_at n l.parent) joint.1 in
-    let member = closed (λ (d : Device). (is_end_system d.role ≡ true) ⊎ (d.channel ≡ Some joint.0)) (device_at n l.parent) p.0 p.1 (inr p.2) in
+    let p = opened (λ d. d.channel ≡ Some joint.0) (device_at n l.parent) joint.1 in
+    let member = closed (λ d. (is_end_system d.role ≡ true) ⊎ (d.channel ≡ Some joint.0)) (device_at n l.parent) p.0 p.1
+    (inr p.2) in
     let path = tree.reach joint.0 l.parent member in
-    let up = closed (λ (k : Link). (k.child ≡ l.parent) × IsSwitchOf n joint.0 k.parent) (link_at n link) l at (same, joint.1) in
+    let up = closed (λ k. (k.child ≡ l.parent) × IsSwitchOf n joint.0 k.parent) (link_at n link) l at (same, joint.1) in
     no_loop_on joint.0 l.parent link l tree at up refl path.0 path.2
 
 -- ---- parents and children
@@ -45,15 +47,15 @@ pub child_not_parent : {v : View} (device : DeviceId) (link : LinkId) → IsView
     → IsChildOf v.scenario.network device link → is_parent_of v.scenario.network device link ≡ true → ⊥
 child_not_parent {v} device link is child shown =
     let n = v.scenario.network in
-    let l = opened (λ (k : Link). k.child ≡ device) (link_at n link) child in
-    let p = opened (λ (k : Link). k.parent ≡ device) (link_at n link) (parent_shown n device link shown) in
-    no_loop link l.0 is l.1 (l.2 ∙ sym (ap (λ (k : Link). k.parent) (same_some _ _ _ l.1 p.1) ∙ p.2))
+    let l = opened (λ k. k.child ≡ device) (link_at n link) child in
+    let p = opened (λ k. k.parent ≡ device) (link_at n link) (parent_shown n device link shown) in
+    no_loop link l.0 is l.1 (l.2 ∙ sym (rw (same_some _ _ _ l.1 p.1) p.2))
 
 -- the parent of a link receives on its way up, and gives on its way down
 pub parent_ways : (n : Network) (device : DeviceId) (link : LinkId) → IsParentOf n device link → (way_to n device link ≡ Up) × (way_from n device link ≡ Down)
 parent_ways n device link parent =
     let shown = shown_parent n device link parent in
-    (ap (λ (b : Bool). if b then Up else Down) shown, ap (λ (b : Bool). if b then Down else Up) shown)
+    (rw shown, rw shown)
 
 -- its child receives on its way down, and gives on its way up
 pub child_ways : {v : View} (device : DeviceId) (link : LinkId) → IsView v → IsChildOf v.scenario.network device link
@@ -61,7 +63,7 @@ pub child_ways : {v : View} (device : DeviceId) (link : LinkId) → IsView v →
 child_ways {v} device link is child =
     let hidden =
     false_from_ne_true (is_parent_of v.scenario.network device link) (child_not_parent device link is child) in
-    (ap (λ (b : Bool). if b then Up else Down) hidden, ap (λ (b : Bool). if b then Down else Up) hidden)
+    (rw hidden, rw hidden)
 
 -- who gives on a way down is the parent
 pub gives_down : (n : Network) (device : DeviceId) (link : LinkId) → way_from n device link ≡ Down → IsParentOf n device link
@@ -70,12 +72,14 @@ gives_down n device link way = grind (arith, parent_shown, is_parent_of)
 -- what a device receives on a way up it receives as the parent
 pub receiver_up : (n : Network) (link : LinkId) (device : DeviceId) → receiver_of n link Up ≡ Some device → IsParentOf n device link
 receiver_up n link device e =
-    (let l = mapped (λ (l : Link). l.parent) (link_at n link) device e in closed (λ (k : Link). k.parent ≡ device) (link_at n link) l.0 l.1 l.2)
+    (let l = mapped (λ l. l.parent) (link_at n link) device e in
+    closed (λ k. k.parent ≡ device) (link_at n link) l.0 l.1 l.2)
 
 -- and on a way down as the child
 pub receiver_down : (n : Network) (link : LinkId) (device : DeviceId) → receiver_of n link Down ≡ Some device → IsChildOf n device link
 receiver_down n link device e =
-    (let l = mapped (λ (l : Link). l.child) (link_at n link) device e in closed (λ (k : Link). k.child ≡ device) (link_at n link) l.0 l.1 l.2)
+    (let l = mapped (λ l. l.child) (link_at n link) device e in
+    closed (λ k. k.child ≡ device) (link_at n link) l.0 l.1 l.2)
 
 -- it receives it on the way that it was given to
 pub receiver_way : {v : View} (link : LinkId) (device : DeviceId) (way : Way) → IsView v
@@ -90,8 +94,8 @@ receiver_way {v} link device Down is e = (child_ways device link is (receiver_do
 pub parent_channel : (v : View) (device : DeviceId) (link : LinkId) → IsParentOf v.scenario.network device link
     → channel_of_link v.scenario.network link ≡ channel_of v.scenario.network device
 parent_channel v device link parent =
-    let l = opened (λ (k : Link). k.parent ≡ device) (link_at v.scenario.network link) parent in
-    ap (λ (o : Option Link). option_and_then (λ k. channel_of v.scenario.network k.parent) o) l.1 ∙ ap (channel_of v.scenario.network) l.2
+    let l = opened (λ k. k.parent ≡ device) (link_at v.scenario.network link) parent in
+    rw l.1 (ap (channel_of v.scenario.network) l.2)
 
 pub relay_not_end : (role : Role) → is_relay_role role ≡ true → is_end_system role ≡ true → ⊥
 relay_not_end Master e end = absurd cc
@@ -103,17 +107,17 @@ pub child_kind : {v : View} (device : DeviceId) (link : LinkId) → IsView v →
     × (x.role ≡ Relay) × (x.channel ≡ channel_of_link v.scenario.network link))
 child_kind {v} device link is child =
     let n = v.scenario.network in
-    let l = opened (λ (k : Link). k.child ≡ device) (link_at n link) child in
+    let l = opened (λ k. k.child ≡ device) (link_at n link) child in
     let joint = is.lawful.rules Joints link.0 l.0 l.1 in
-    let p = opened (λ (d : Device). d.channel ≡ Some joint.0) (device_at n l.0.parent) joint.1 in
-    let of_link : channel_of_link n link ≡ Some joint.0 = ap (λ (o : Option Link). option_and_then (λ k. channel_of n k.parent) o) l.1
-    ∙ ap (λ (o : Option Device). option_and_then (λ d. d.channel) o) p.1 ∙ p.2 in
+    let p = opened (λ d. d.channel ≡ Some joint.0) (device_at n l.0.parent) joint.1 in
+    let of_link : channel_of_link n link ≡ Some joint.0 = ap (λ o. option_and_then (λ k. channel_of n k.parent) o) l.1
+    ∙ ap (λ o. option_and_then (λ d. d.channel) o) p.1 ∙ p.2 in
     elim joint.2 [
       | inl end ↦
-          let e = opened (λ (d : Device). is_end_system d.role ≡ true) (device_at n l.0.child) end in
-          inl (ap (is_end n) (sym l.2) ∙ ap (λ (o : Option Device). option_map_or (λ d. is_end_system d.role) o false) e.1 ∙ e.2)
+          let e = opened (λ d. is_end_system d.role ≡ true) (device_at n l.0.child) end in
+          inl (ap (is_end n) (sym l.2) ∙ ap (λ o. option_map_or (λ d. is_end_system d.role) o false) e.1 ∙ e.2)
       | inr role ↦
-          let e = opened (λ (d : Device). (d.role ≡ Relay) × (d.channel ≡ Some joint.0)) (device_at n l.0.child) role in
+          let e = opened (λ d. (d.role ≡ Relay) × (d.channel ≡ Some joint.0)) (device_at n l.0.child) role in
           inr (e.0, ap (device_at n) (sym l.2) ∙ e.1, e.2.0, e.2.1 ∙ sym of_link)
     ]
 
@@ -122,10 +126,10 @@ pub child_channel : {v : View} (device : DeviceId) (link : LinkId) → IsView v
     → is_relay v.scenario.network device ≡ true → IsChildOf v.scenario.network device link
     → channel_of v.scenario.network device ≡ channel_of_link v.scenario.network link
 child_channel {v} device link is relay child = elim (child_kind device link is child) [
-  | inr x ↦ ap (λ (o : Option Device). option_and_then (λ d. d.channel) o) x.1 ∙ x.3
+  | inr x ↦ rw x.1 x.3
   | inl end ↦
       let r = device_of is_relay_role (device_at v.scenario.network device) relay in
-      absurd (relay_not_end r.0.role r.2 (sym (ap (λ (o : Option Device). option_map_or (λ d. is_end_system d.role) o false) r.1) ∙ end))
+      absurd (relay_not_end r.0.role r.2 (sym (ap (λ o. option_map_or (λ d. is_end_system d.role) o false) r.1) ∙ end))
 ]
 
 -- ---- trips
@@ -178,7 +182,7 @@ has_leg {v} h {device} {link} {cause} clock is i body on to put =
     let s = v.scenario in
     let at = founded_at s v.records h is.run.founded i in
     let putting = put.putting in
-    let in_front : IsIn putting at.front = numbered_in at.front cause putting put.there in
+    let in_front = numbered_in at.front cause putting put.there in
     let in_all : IsIn putting v.records = subst (IsIn putting) (sym at.whole) (in_left putting at.front (h ∷ at.rest) in_front) in
     let at_l = founded_at s v.records putting is.run.founded in_all in
     let departs = subst (IsCaused s at_l.front putting.note.time) put.left at_l.due.cause in
@@ -200,18 +204,18 @@ has_leg {v} h {device} {link} {cause} clock is i body on to put =
         gives = departs.gives;
         left = in_all;
         left_clock = put.clock;
-        leaves = put.left ∙ ap (λ (n : ℕ). notes.Left put.sender link n put.clock) (sym number_g);
+        leaves = put.left ∙ ap (λ n. notes.Left put.sender link n put.clock) (sym number_g);
         arrived = i;
         arrived_clock = clock;
-        arrives = body ∙ ap (λ (n : ℕ). notes.Arrived device link n clock) (sym number_l);
+        arrives = body ∙ ap (λ n. notes.Arrived device link n clock) (sym number_l);
         from_way = put.from_way;
         on_way = on;
         comes_to = to;
       };
-      left = ap (λ b. numbered v.records (cause_of b)) body ∙ numbered_all at cause putting put.there;
+      left = rw body (numbered_all at cause putting put.there);
       given = ap (λ b. numbered v.records (cause_of b)) put.left ∙ numbered_all at_l put.given giving departs.there;
       sooner = omega (arith, numbered_within at.front cause _ put.there, numbered_within at_l.front put.given _ departs.there);
-      in_time = omega (arith, departs.held, later);
+      in_time = omega (arith, departs.held);
       of_frame = departs.frame;
       frame = departs.of_frame;
       clock = clock;

@@ -1,11 +1,11 @@
 -- A leg of a frame, by its records: a hop, and what arrives is what was given but for its clock.
 use Rattle.precision_law.proofs.words.{Laws.{IsLeg, IsTrip, IsView, Leg, View, clock_in}, Plans.{amount, closed, delay_by, delay_of, link_at}, Std.{true, ℕ}}
-use Rattle.precision_law.proofs.words.Plans.{DeviceId, Down, Event, Hop, IsHop, IsLinkInRange, Link, LinkId, Measures, Network, Pcf, Units, Up, Way, all_at}
+use Rattle.precision_law.proofs.words.Plans.{DeviceId, Down, Event, Hop, IsHop, IsLinkInRange, Link, LinkId, Network, Pcf, Units, Up, Way, all_at}
 use Rattle.precision_law.proofs.words.Runs.{Arrival, ArrivesAs, ColdStart, Domain, Gate, Happening, IsArrivedRecord, IsCaused, IsFoundedAt, IsIn, Launch}
 use Rattle.precision_law.proofs.words.Runs.{Member, NoteBody, Old, Reason, Scenario, Standpoint, Wire, arrival_of, by_number, clock_at_leaving}
 use Rattle.precision_law.proofs.words.Runs.{clock_on_arrival, control, control_arrival, delay_at, first_reason, founded_at, frame_by, frame_fault}
 use Rattle.precision_law.proofs.words.Runs.{frame_or_fault, hold_at, hold_most, is_cold_start, is_cut, is_gate_shut, is_of_other_domain, is_of_other_member}
-use Rattle.precision_law.proofs.words.Runs.{is_parent_of, is_relay, last_is, launched, leaves, numbered, numbered_front, on_cut_way, point_on_arrival}
+use Rattle.precision_law.proofs.words.Runs.{is_parent_of, is_relay, last_is, leaves, numbered, numbered_front, on_cut_way, point_on_arrival}
 use Rattle.precision_law.proofs.words.Runs.{same_some, standpoint, time_of, time_on_port, too_old, way_from, wire_of, wire_set, with_clock}
 use Rattle.precision_law.proofs.words.Std.{◌+ℤ◌, ◌+◌, ◌-◌, ◌<ℤ◌, ◌∙◌, ◌∷◌, ◌≡◌, ◌≤◌, ◌⊎◌, Bool, List, None, Ok, Option, Some, [], ap, arith, by_lt_z, false}
 use Rattle.precision_law.proofs.words.Std.{if◌then◌else◌, inl, inr, ints, ltb-false, nat_lt, not, option_and_then, option_map, option_map_or, refl, subst, sym}
@@ -18,18 +18,18 @@ use Rattle.run_law.specs.declared.steps.Arrival.TheVariants as arrivals
 -- the frame of a record is that of its body
 pub frame_is : {s : Scenario} {hs : List Happening} {h : Happening} (at : IsFoundedAt s hs h) (body : NoteBody) → h.note.body ≡ body
     → h.frame ≡ frame_by s.network at.front body
-frame_is {s} at body same = ap (λ (x : Happening). x.frame) at.due.same ∙ ap (frame_by s.network at.front) same
+frame_is {s} at body same = rw at.due.same (ap (frame_by s.network at.front) same)
 
 -- a frame with a new clock
 pub clocked : (clock : ℕ) (o : Option Happening) (g : Happening) (frame : Pcf) → o ≡ Some g → g.frame ≡ Some frame
     → option_map (with_clock clock) (option_and_then (λ x. x.frame) o) ≡ Some (with_clock clock frame)
 clocked clock o g frame there framed =
-    ap (λ (x : Option Happening). option_map (with_clock clock) (option_and_then (λ h. h.frame) x)) there ∙ ap (option_map (with_clock clock)) framed
+    rw there (ap (option_map (with_clock clock)) framed)
 
 -- the record of a number before another one is that of all
 pub numbered_all : {s : Scenario} {hs : List Happening} {h : Happening} (at : IsFoundedAt s hs h) (n : ℕ) (g : Happening) → numbered at.front n ≡ Some g
     → numbered hs n ≡ Some g
-numbered_all {h = h} at n g there = subst (λ hs. numbered hs n ≡ Some g) (sym at.whole) (numbered_front at.front (h ∷ at.rest) n g there)
+numbered_all {h = h} at n g there = rw (sym at.whole) at (numbered_front at.front (h ∷ at.rest) n g there)
 
 -- the leg of a frame, as a hop: what it is held and what of this is measured, the wire and the delay
 pub record HasHop (v : View) (leg : Leg) : Type 0 where
@@ -52,25 +52,26 @@ set_delay : {v : View} (link : LinkId) (l : Link) (way : Way) → IsView v → l
 set_delay {v} link l way is there e i d set =
     let n = v.scenario.network in
     let w = sets_wire link way e.what d set in
-    let range : IsLinkInRange n l = all_at (IsLinkInRange n) n.link link.0 l is.lawful.range.links there in
+    let range = all_at (IsLinkInRange n) n.link link.0 l is.lawful.range.links there in
     let never = λ (other : (w.delay.0 <ℤ l.wire.0) ⊎ ((l.wire.0 +ℤ l.jitter.0) <ℤ w.delay.0)). (given v.scenario e is.lawful i).within Wire (record {
       link = link;
       way = w.way;
       delay = w.delay;
       what = w.is;
-      other = closed (λ (k : Link). (w.delay.0 <ℤ k.wire.0) ⊎ ((k.wire.0 +ℤ k.jitter.0) <ℤ w.delay.0)) (link_at n link) l there other;
+      other = closed (λ k. (w.delay.0 <ℤ k.wire.0) ⊎ ((k.wire.0 +ℤ k.jitter.0) <ℤ w.delay.0)) (link_at n link) l there
+          other;
     }) in
-    by_lt_z {P = IsDelay l d} w.delay.0 l.wire.0 (λ short. absurd (never (inl short))) (λ enough.
-    by_lt_z {P = IsDelay l d} (l.wire.0 +ℤ l.jitter.0) w.delay.0 (λ long. absurd (never (inr long))) (λ small.
+    by_lt_z w.delay.0 l.wire.0 (λ short. absurd (never (inl short))) (λ enough.
+    by_lt_z (l.wire.0 +ℤ l.jitter.0) w.delay.0 (λ long. absurd (never (inr long))) (λ small.
     let a = range.wire.least in
     let b = range.jitter.least in
     let c = w.sets in
-    (omega (arith, ints, enough, a, b, c), omega (arith, ints, small, enough, a, b, c))))
+    (omega (arith, ints), omega (arith, ints))))
 
 pub delay_is : {v : View} (link : LinkId) (l : Link) (way : Way) (t : ℕ) → IsView v
     → link_at v.scenario.network link ≡ Some l → IsDelay l (delay_at v.scenario link way t)
 delay_is {v} link l way t is there =
-    let nominal : wire_of v.scenario.network link ≡ amount l.wire = ap (λ (o : Option Link). option_map_or (λ k. amount k.wire) o 0) there in
+    let nominal : wire_of v.scenario.network link ≡ amount l.wire = rw there in
     last_is (IsDelay l) v.scenario (wire_set link way) (wire_of v.scenario.network link) t (omega arith, omega arith)
     (set_delay link l way is there)
 
@@ -120,7 +121,7 @@ taken_sound n device link at frame taken takes = by (frame_fault n device link a
         (nat_lt (amount n.dmax) (clock_on_arrival n link frame)) (is_gate_shut n device at) Off ColdStart Domain Member Old Gate e in
         let same = taken_frame (is_relay n device) (is_parent_of n device link) (with_clock (clock_on_arrival n link frame) frame) taken
         (point_on_arrival n at (clock_on_arrival n link frame)) t in
-        (none.0, ltb-false (amount n.dmax) (clock_on_arrival n link frame) none.1, ap (λ (f : Pcf). f.clock) (sym same))
+        (none.0, ltb-false (amount n.dmax) (clock_on_arrival n link frame) none.1, rw (sym same))
 
 -- ---- legs
 
@@ -146,20 +147,21 @@ leaving_is {v} {leg} is l =
     let at = founded_at s v.records leg.leaving is.run.founded l.left in
     let departs = subst (IsCaused s at.front leg.leaving.note.time) l.leaves at.due.cause in
     let in_all = numbered_all at leg.giving.note.number departs.giving departs.there in
-    let same : departs.giving ≡ leg.giving = same_some _ _ _ in_all (by_number s v.records leg.giving is.run.founded l.given) in
+    let same = same_some _ _ _ in_all (by_number s v.records leg.giving is.run.founded l.given) in
     let given : time_of departs.giving ≡ time_of leg.giving = ap time_of same in
     let clock = left_with (nat_lt (amount s.network.dmax) (clock_at_leaving s l.sender departs.frame (time_of departs.giving) (time_of leg.leaving)))
     (is_cut s leg.link (way_from s.network l.sender leg.link) (time_of leg.leaving))
     (clock_at_leaving s l.sender departs.frame (time_of departs.giving) (time_of leg.leaving)) l.left_clock departs.becomes in
     record {
       frame = departs.frame;
-      of_frame = ap (λ (h : Happening). h.frame) (sym same) ∙ departs.of_frame;
+      of_frame = ap (λ h. h.frame) (sym same) ∙ departs.of_frame;
       hold = hold_at s leg.link (way_from s.network l.sender leg.link) (time_of departs.giving);
       held = omega (arith, departs.held, given);
       most =
           λ k at_k. hold_most s leg.link k (way_from s.network l.sender leg.link) (time_of departs.giving) is.lawful at_k
           (all_at (IsLinkInRange s.network) s.network.link leg.link.0 k is.lawful.range.links at_k).hold.least;
-      clock = clock ∙ ap (λ (t : ℕ). departs.frame.clock + (s.reading l.sender (time_of leg.leaving) - s.reading l.sender t)) given;
+      clock = clock ∙ ap (λ t. departs.frame.clock + (s.reading l.sender (time_of leg.leaving) - s.reading l.sender t))
+          given;
       left_frame = frame_is at _ l.leaves ∙ clocked l.left_clock _ departs.giving departs.frame departs.there departs.of_frame;
     }
 
@@ -180,26 +182,37 @@ arriving_is {v} {way} {leg} is l frame framed =
     let a = subst (IsCaused s at.front leg.arriving.note.time) l.arrives at.due.cause in
     let x = taken_as a in
     let comes = x.1 in
-    let same : comes.putting ≡ leg.leaving = same_some (numbered v.records leg.leaving.note.number) comes.putting leg.leaving
+    let same = same_some (numbered v.records leg.leaving.note.number) comes.putting leg.leaving
     (numbered_all at leg.leaving.note.number comes.putting comes.there) (by_number s v.records leg.leaving is.run.founded l.left) in
     let launch : Launch = record { link = leg.link; way = comes.arrives.way; signal = comes.signal } in
-    let put = subst (λ (h : Happening). launched s h (time_of h) h.note.body ≡ Some launch) same comes.arrives.put in
-    let put_left = subst (λ b. launched s leg.leaving (time_of leg.leaving) b ≡ Some launch) l.leaves put in
-    let on_wire = mapped (λ (f : Pcf). let x : Launch = record { link = leg.link; way = way_from s.network l.sender leg.link; signal = control (Ok f) } in x)
+    let put = rw same at comes.arrives.put in
+    let put_left = rw l.leaves at put in
+    let on_wire = mapped (λ f. let x : Launch = record {
+      link = leg.link;
+      way =
+          way_from s.network l.sender leg.link;
+      signal = control (Ok f);
+    } in x)
     leg.leaving.frame launch put_left in
     let signal : comes.signal ≡ control (Ok frame) =
-    ap (λ (x : Launch). x.signal) (sym on_wire.2) ∙ ap (λ (f : Pcf). control (Ok f)) (same_some _ _ _ on_wire.1 framed) in
+    ap (λ x. x.signal) (sym on_wire.2) ∙ ap (λ (f : Pcf). control (Ok f)) (same_some _ _ _ on_wire.1 framed) in
     let arrival = comes.becomes ∙ ap (arrival_of s at.front l.receiver (time_of leg.arriving) leg.link leg.leaving.note.number) signal in
     let young = taken_sound s.network l.receiver leg.link (standpoint s at.front l.receiver (time_of leg.arriving)) frame a.frame
-    (subst (λ y. TakesWith y a.frame) arrival x.2) in
+    (rw arrival at x.2) in
     let put_time : time_of comes.putting ≡ time_of leg.leaving = ap time_of same in
     record {
       delay = delay_at s leg.link comes.arrives.way (time_of leg.leaving);
       way = comes.arrives.way;
       is_delay = refl;
-      at = omega (arith, comes.arrives.at, ap (time_on_port s.network leg.link) signal, put_time, ap (delay_at s leg.link comes.arrives.way) put_time);
+      at = omega (
+        arith,
+        comes.arrives.at,
+        ap (time_on_port s.network leg.link) signal,
+        ap
+            (delay_at s leg.link comes.arrives.way) put_time,
+      );
       clock = a.shows ∙ young.2;
-      young = omega (arith, young, a.shows);
+      young = omega (arith, a.shows);
     }
 
 -- the frame that arrived
@@ -212,7 +225,7 @@ arrived_frame {v} {leg} frame is l framed =
     let put = (taken_as a).1 in
     let in_all = numbered_all at leg.leaving.note.number put.putting put.there in
     let same = same_some _ _ _ in_all (by_number s v.records leg.leaving is.run.founded l.left) in
-    frame_is at _ l.arrives ∙ clocked l.arrived_clock _ put.putting frame put.there (ap (λ (h : Happening). h.frame) same ∙ framed)
+    frame_is at _ l.arrives ∙ clocked l.arrived_clock _ put.putting frame put.there (rw same framed)
 
 -- what a leg brings is what was given, but for its clock
 pub leg_frame : {v : View} {way : Way} {leg : Leg} (frame : Pcf) → IsView v → IsLeg v way leg
@@ -228,16 +241,16 @@ leg_hop {v} {leg} link is l there =
     let n = v.scenario.network in
     let d = leaving_is is l in
     let a = arriving_is is l (with_clock l.left_clock d.frame) d.left_frame in
-    let clock = ap (λ (o : Option Pcf). option_map_or (λ f. f.clock) o 0)
+    let clock = ap (λ o. option_map_or (λ f. f.clock) o 0)
     (arrived_frame (with_clock l.left_clock d.frame) is l d.left_frame) in
-    let given : clock_in leg.giving ≡ d.frame.clock = ap (λ (o : Option Pcf). option_map_or (λ f. f.clock) o 0) d.of_frame in
+    let given : clock_in leg.giving ≡ d.frame.clock = ap (λ o. option_map_or (λ f. f.clock) o 0) d.of_frame in
     let reading = v.scenario.reading l.sender in
     let drifts = (is.lawful.clocks l.sender).drifts (time_of leg.giving) (time_of leg.leaving) (omega (arith, d.held)) in
     let hold : time_of leg.leaving - time_of leg.giving ≡ d.hold = omega (arith, d.held) in
     let within : IsDelay link a.delay =
     subst (IsDelay link) (sym a.is_delay) (delay_is leg.link link a.way (time_of leg.leaving) is there) in
-    let wire : wire_of n leg.link ≡ amount link.wire = ap (λ (o : Option Link). option_map_or (λ k. amount k.wire) o 0) there in
-    let jitter = ap (λ (o : Option Link). option_map_or (λ k. amount k.jitter) o 0) there in
+    let wire : wire_of n leg.link ≡ amount link.wire = rw there in
+    let jitter = ap (λ o. option_map_or (λ k. amount k.jitter) o 0) there in
     record {
       hop = record {
         hold = d.hold;
@@ -247,16 +260,16 @@ leg_hop {v} {leg} link is l there =
         delay = a.delay;
       };
       is = record {
-        measures = subst (λ x. Measures n.rho (amount n.grain) x (reading (time_of leg.leaving) - reading (time_of leg.giving))) hold drifts;
-        least = omega (arith, within.0, wire);
-        most = omega (arith, within.1, wire, jitter);
+        measures = rw hold at drifts;
+        least = omega (arith, within.0);
+        most = omega (arith, within.1);
       };
       travels = omega (arith, d.held, a.at);
-      grows = omega (arith, clock, given, d.clock, a.clock);
-      young = omega (arith, clock, a.young);
+      grows = omega (arith, given, d.clock, a.clock);
+      young = omega (arith, a.young);
       fits =
           (let h = d.most link there in let all : delay_of n leg.link ≡ delay_by link = ap (λ (o : Option Link). option_map_or delay_by o 0) there in omega
-          (arith, h, within.1, all));
+          (arith, within.1));
       jitter = refl;
     }
 
@@ -274,11 +287,11 @@ pub trip_says : {v : View} (way : Way) (first last : Happening) (legs : List Leg
     → IsTrip v way first legs last → first.frame ≡ Some frame → SaysSo last frame
 trip_says way first last [] frame is trip framed = record {
   carried = frame;
-  is = ap (λ (h : Happening). h.frame) (sym trip) ∙ framed;
+  is = rw (sym trip) framed;
   of_cycle = refl;
   of_members = refl;
 }
 trip_says way first last (leg ∷ legs) frame is trip framed =
-    let one = leg_frame frame is trip.1 (ap (λ (h : Happening). h.frame) trip.0 ∙ framed) in
+    let one = leg_frame frame is trip.1 (rw trip.0 framed) in
     let more = trip_says way leg.arriving last legs (with_clock one.0 frame) is trip.2 one.1 in
     record { carried = more.carried; is = more.is; of_cycle = more.of_cycle; of_members = more.of_members }

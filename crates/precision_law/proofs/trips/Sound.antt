@@ -6,7 +6,7 @@ use Rattle.{precision_law.proofs.records.Views.{room, steady}, tte_units.specs.d
 use Rattle.precision_law.proofs.words.Plans.{DeviceId, Integrating, IsReach, LinkId, Network, Pcf, State, amount, device_at, point_of, state_at_start}
 use Rattle.precision_law.proofs.words.Runs.{BeginsOn, ChangesState, Happening, IsCaused, IsIn, NoteBody, Reason, Why, earlier, first_reason, founded_at}
 use Rattle.precision_law.proofs.words.Runs.{frame_fault, in_filter, is_cold_start, is_joined_by, is_of_other_member, is_off, is_turned_on_at, standpoint}
-use Rattle.precision_law.proofs.words.Std.{◌&&◌, ◌+◌, ◌==◌, ◌∙◌, ◌∷◌, ◌≡◌, ◌≤◌, Bool, List, None, [], ap, arith, by_lt_z, eq-eqb, false, fold, if◌then◌else◌}
+use Rattle.precision_law.proofs.words.Std.{◌&&◌, ◌+◌, ◌==◌, ◌∷◌, ◌≡◌, ◌≤◌, Bool, List, None, [], ap, arith, by_lt_z, eq-eqb, false, fold, if◌then◌else◌}
 use Rattle.run_law.proofs.device.States.{joined_or}
 use Rattle.run_law.specs.declared.judgement.Why.TheVariants as whys
 use Rattle.run_law.specs.declared.note.NoteBody.TheVariants as notes
@@ -68,7 +68,7 @@ taking_part false false a b = refl
 taking_part off broken a b = absurd cc
 
 same_domain : (a b c d : ℕ) → a ≡ b → c ≡ d → not (a == b && c == d) ≡ false
-same_domain a b c d one other = ap (λ (x : Bool). not (x && c == d)) (eq-eqb a b one) ∙ ap (λ (x : Bool). not x) (eq-eqb c d other)
+same_domain a b c d one other = rw (eq-eqb a b one) (ap (λ x. not x) (eq-eqb c d other))
 
 -- the device is on, and its gate is open, while a trip that begins at the time may last
 abbrev pub IsReady : View → DeviceId → ℕ → Type 0
@@ -99,8 +99,8 @@ pub will_be_permanent : {v : View} (last : Happening) (device : DeviceId) (link 
     → WillBePermanent v last device clock
 will_be_permanent {v} last device link cause clock is body small =
     let reading = v.scenario.reading device in
-    let a : ℕ = time_of last in
-    let point : ℤ = point_of (pos (reading a)) clock (pos v.sizes.dmax) in
+    let a = time_of last in
+    let point = point_of (pos (reading a)) clock (pos v.sizes.dmax) in
     let space = room is in
     let of_reach : (q : ℕ) → IsReach reading (pos a) point (pos q) → WillBePermanent v last device clock = λ q reach.
     record {
@@ -109,12 +109,13 @@ will_be_permanent {v} last device link cause clock is body small =
       permanent = record { link = link; from = cause; clock = clock; is = body; at_point = refl; reached = reach };
       same = refl;
     } in
-    by_lt_z {P = WillBePermanent v last device clock} (pos (reading a)) point
+    by_lt_z (pos (reading a)) point
     (λ below.
     let cycles = space.cycles in
     let errors = space.eight_errors in
     let reach_is = space.errors.reach_is in
-    let there = reach_is_there v.sizes reading a a point (a + v.sizes.cycle) (steady v is device) (omega arith) (omega (arith, cycles, errors, reach_is)) below
-    (omega (arith, ints, (steady v is device).slow a (a + v.sizes.cycle) (omega arith) (omega arith), cycles, errors, reach_is)) in
+    let there = reach_is_there v.sizes reading a a point (a + v.sizes.cycle) (steady v is device) (omega arith)
+    (omega arith) below
+    (omega (arith, ints, (steady v is device).slow a (a + v.sizes.cycle) (omega arith) (omega arith))) in
     of_reach there.0 there.3)
     (λ enough. of_reach a (record { from_on = omega (arith, ints); reached = enough; not_before = λ y from_y y_before. absurd (omega (arith, ints)) }))

@@ -44,7 +44,7 @@ go_down [] {v} {channel} {first} {cm} device {cycle} {members} is intact e one p
       trip = refl;
       there = e.there;
       frame = integration_frame v.scenario.network cm cycle members;
-      of_frame = ap (λ (x : Happening). x.frame) at.due.same ∙ ap (frame_by v.scenario.network at.front) e.is;
+      of_frame = ap (λ x. x.frame) at.due.same ∙ ap (frame_by v.scenario.network at.front) e.is;
       clean = record { kind = refl; priority = refl; domain = refl };
       gives = λ link parent switch. subst (λ b. Gives v.scenario.network b device link) (sym e.is) (sym same, parent);
       clock = omega arith;
@@ -64,13 +64,14 @@ go_down (link ∷ rest) {v} {channel} {first} device is intact e one path good r
     let r = above.last in
     let child : IsChildOf n device link = closed (λ (x : Link). x.child ≡ device) (link_at n link) l.0 l.1 l.2.0 in
     let parent : IsParentOf n sender link = closed (λ (x : Link). x.parent ≡ sender) (link_at n link) l.0 l.1 refl in
-    let to : receiver_of n link Down ≡ Some device = ap (λ (o : Option Link). option_map (target_by Down) o) l.1 ∙ ap (λ (x : DeviceId). Some x) l.2.0 in
+    let to : receiver_of n link Down ≡ Some device = ap (λ o. option_map (target_by Down) o) l.1 ∙ ap
+    (λ (x : DeviceId). Some x) l.2.0 in
     let delay = delay_more n link l.0 rest l.1 in
     let whole = path_fits channel device (link ∷ rest) is (path_member v channel device (link ∷ rest) is path) path in
     let hidden = sym (ap (λ (o : Option Link). option_map_or (λ k. k.parent.0 == device.0) o false) l.1)
     ∙ false_from_ne_true (is_parent_of n device link) (child_not_parent device link is child) in
     let come = comes_over {way = Down} {r = r} {frame = above.frame} {sender = sender} {receiver = device} {link = link} {l = l.0} {d = delay_on n rest} {k = length rest} is intact (record {
-      given = grind (arith, above.there, above.of_frame, above.gives, parent, switch, l.1, parent_ways, n, sender, child_ways, child, to);
+      given = grind (arith, above.there, above.of_frame, above.gives, l.1, parent_ways, child_ways);
       switch = switch;
       clean = above.clean;
       good = of_sender;
@@ -82,9 +83,9 @@ go_down (link ∷ rest) {v} {channel} {first} device is intact e one path good r
       clock = above.clock;
       time = above.time;
       after = above.after;
-    }) (omega (arith, whole.0, delay)) (omega (arith, whole.1)) in_run in
+    }) (omega (arith, whole.0)) (omega (arith, whole.1)) in_run in
     let gone = come.gone in
-    let sum : delay_on n rest + delay_by l.0 ≡ delay_on n (link ∷ rest) = omega (arith, delay) in
+    let sum : delay_on n rest + delay_by l.0 ≡ delay_on n (link ∷ rest) = omega arith in
     record {
       legs = above.legs ++ record { link = link; giving = r; leaving = gone.leaving; arriving = gone.arriving } ∷ [];
       last = gone.arriving;
@@ -98,7 +99,7 @@ go_down (link ∷ rest) {v} {channel} {first} device is intact e one path good r
           (refl, record { relay = child_relays device channel link l.0 is l.1 l.2.0 of_channel; on = inr (child, parent_of) });
       clock = subst (λ x. HasGrown v gone.clock x (length (link ∷ rest))) sum come.clock;
       small = come.small;
-      time = omega (arith, come.time, sum);
+      time = omega (arith, come.time);
       after = come.after;
       how = inr (link, gone.cause, gone.body);
     }
@@ -124,7 +125,7 @@ frames_go_down v channel h device cm cycle members is intact e one member good o
           let gives = emission_gives e is in
           let path = path_down h goes.last goes.legs cm [] is gives.1 goes.trip device arrived.0 arrived.1
           goes.frame.clock arrived.2 in
-          let clock_is : clock_in goes.last ≡ goes.frame.clock = ap (λ (o : Option Pcf). option_map_or (λ f. f.clock) o 0) goes.of_frame in
+          let clock_is : clock_in goes.last ≡ goes.frame.clock = rw goes.of_frame in
           record {
             legs = goes.legs;
             last = goes.last;

@@ -3,12 +3,12 @@ use Rattle.precision_law.proofs.{compression.Made.dispatch_clock, trips.Upward.{
 use Rattle.precision_law.proofs.{trips.SoundLinks.{HasCome, HasGrown, comes_over, delay_more}, words.Clocks.{switches_are_good, will_be_permanent}}
 use Rattle.precision_law.proofs.words.Clocks.{IsClean, child_kind, child_ways, device_of, master_ends, master_member, receiver_way, sizes_are, sound_switch_on, sound_ways_are_whole}
 use Rattle.precision_law.proofs.words.Laws.{AreOpenOn, FramesGoUp, IsBrought, IsGood, IsTrip, IsView, IsWholeFrom, Leg, SoundFramesGoUp, View, clock_in}
-use Rattle.precision_law.proofs.words.Plans.{A, B, Channel, Cm, CompressionMasters, Device, DeviceId, IsChildOf, IsCmOf, IsDeviceInRange, IsDeviceOf, IsPath}
+use Rattle.precision_law.proofs.words.Plans.{A, B, Channel, Cm, CompressionMasters, DeviceId, IsCmOf, IsDeviceInRange, IsDeviceOf, IsPath}
 use Rattle.precision_law.proofs.words.Plans.{IsSwitchOf, Link, LinkId, Master, Pcf, Role, Up, all_at, amount, closed, delay_by, delay_on, device_at}
 use Rattle.precision_law.proofs.words.Plans.{is_end_system, is_master, link_at, margins, opened, rules_give_trees, shape_rules, target_by}
-use Rattle.precision_law.proofs.words.Runs.{Gives, Happening, IsCaused, IsIn, IsParentOf, are_others, dispatched_frame, founded_at, frame_by, is_end}
+use Rattle.precision_law.proofs.words.Runs.{Gives, Happening, IsCaused, IsIn, are_others, dispatched_frame, founded_at, frame_by, is_end}
 use Rattle.precision_law.proofs.words.Runs.{is_of_other_member, is_relay, is_relay_role, member_of, receiver_of, same_some, time_of, with_clock}
-use Rattle.precision_law.proofs.words.Std.{◌&&◌, ◌+◌, ◌^◌, ◌∙◌, ◌∷◌, ◌≡◌, ◌≤◌, ◌⊎◌, Bool, List, Option, Some, [], ap, arith, both_ways, eq-eqb, false, inl, inr}
+use Rattle.precision_law.proofs.words.Std.{◌&&◌, ◌+◌, ◌^◌, ◌∙◌, ◌∷◌, ◌≡◌, ◌≤◌, ◌⊎◌, Bool, List, Some, [], ap, arith, both_ways, eq-eqb, false, inl, inr}
 use Rattle.precision_law.proofs.words.Std.{is_some, length, not, not-true, option_map, option_map_or, refl, subst, suc, sym, true, ℕ}
 use Rattle.run_law.specs.declared.note.NoteBody.TheVariants as notes
 
@@ -18,20 +18,20 @@ use Rattle.run_law.specs.declared.note.NoteBody.TheVariants as notes
 pub switch_ends : {v : View} (device : DeviceId) (channel : Channel) → IsView v
     → IsSwitchOf v.scenario.network channel device → is_end v.scenario.network device ≡ false
 switch_ends {v} device channel is switch =
-    let d = opened (λ (x : Device). x.channel ≡ Some channel) (device_at v.scenario.network device) switch in
-    let known : IsDeviceInRange d.0 = all_at IsDeviceInRange v.scenario.network.device device.0 d.0 is.lawful.range.devices d.1 in
-    ap (λ (o : Option Device). option_map_or (λ x. is_end_system x.role) o false) d.1
-    ∙ not-true (is_end_system d.0.role) (sym (ap (λ (c : Option Channel). is_some c) (sym d.2) ∙ known.switches))
+    let d = opened (λ x. x.channel ≡ Some channel) (device_at v.scenario.network device) switch in
+    let known = all_at IsDeviceInRange v.scenario.network.device device.0 d.0 is.lawful.range.devices d.1 in
+    ap (λ o. option_map_or (λ x. is_end_system x.role) o false) d.1
+    ∙ not-true (is_end_system d.0.role) (sym (ap (λ c. is_some c) (sym d.2) ∙ known.switches))
 
 -- one that is a link's child is a relay
 pub child_relays : {v : View} (device : DeviceId) (channel : Channel) (link : LinkId) (l : Link) → IsView v
     → link_at v.scenario.network link ≡ Some l → l.child ≡ device → IsSwitchOf v.scenario.network channel device
     → is_relay v.scenario.network device ≡ true
 child_relays {v} device channel link l is at child switch =
-    elim (child_kind device link is (closed (λ (k : Link). k.child ≡ device) (link_at v.scenario.network link)
+    elim (child_kind device link is (closed (λ k. k.child ≡ device) (link_at v.scenario.network link)
     l at child)) [
       | inl end ↦ absurd (both_ways (is_end v.scenario.network device) (switch_ends device channel is switch) end)
-      | inr x ↦ ap (λ (o : Option Device). option_map_or (λ d. is_relay_role d.role) o false) x.1 ∙ ap is_relay_role x.2
+      | inr x ↦ rw x.1 (ap is_relay_role x.2)
     ]
 
 last_false : (a b c : Bool) → (b ≡ true → c ≡ false) → (a && b && c) ≡ false
@@ -75,18 +75,31 @@ step_up : {v : View} {channel : Channel} {t0 : ℕ} {link : LinkId} {rest : List
     → t0 + v.sizes.dmax + v.sizes.path ≤ v.until → Stepped v channel t0 link rest r frame d k
 step_up {v} {channel} {link} {rest} {r} {frame} {sender} {d} {k} is intact c opens in_run =
     let n = v.scenario.network in
-    let l = opened (λ (x : Link). (x.child ≡ sender) × IsSwitchOf n channel x.parent × IsPath n channel x.parent rest) (link_at n link) c.path in
-    let receiver : DeviceId = l.0.parent in
-    let child : IsChildOf n sender link = closed (λ (x : Link). x.child ≡ sender) (link_at n link) l.0 l.1 l.2.0 in
-    let to : receiver_of n link Up ≡ Some receiver = ap (λ (o : Option Link). option_map (target_by Up) o) l.1 in
+    let l = opened (λ x. (x.child ≡ sender) × IsSwitchOf n channel x.parent × IsPath n channel x.parent rest)
+    (link_at n link) c.path in
+    let receiver = l.0.parent in
+    let child = closed (λ x. x.child ≡ sender) (link_at n link) l.0 l.1 l.2.0 in
+    let to : receiver_of n link Up ≡ Some receiver = ap (λ o. option_map (target_by Up) o) l.1 in
     let member : is_of_other_member n receiver link frame.members ≡ false =
-    grind (arith, option_map_or, receiver.0, is_end, n, are_others, member_of, l.1, last_false, l.0.parent.0, l.0.child, l.2.0) in
+    grind (
+      arith,
+      option_map_or,
+      receiver.0,
+      is_end,
+      are_others,
+      member_of,
+      l.1,
+      last_false,
+      l.0.parent.0,
+      l.0.child,
+      l.2.0,
+    ) in
     record {
       l = l.0;
       at = l.1;
       switch = l.2.1;
       path = l.2.2;
-      come = comes_over {way = Up} {r = r} {frame = frame} {sender = sender} {receiver = receiver} {link = link} {l = l.0} {d = d} {k = k} is intact (record {
+      come = comes_over is intact (record {
         given = record {
           given = c.there;
           of_frame = c.of_frame;
@@ -145,7 +158,7 @@ go_up link [] r frame sender d k is intact c opens in_run =
         cause = gone.cause;
         clock = gone.clock;
         body = gone.body;
-        clock_is = ap (λ (o : Option Pcf). option_map_or (λ f. f.clock) o 0) gone.of_frame;
+        clock_is = rw gone.of_frame;
         small = p.come.small;
       };
     }
@@ -153,18 +166,19 @@ go_up {v} {channel} link (next ∷ rest) r frame sender d k is intact c opens in
     let n = v.scenario.network in
     let p = step_up is intact c opens in_run in
     let gone = p.come.gone in
-    let device : DeviceId = p.l.parent in
-    let m = opened (λ (x : Link). (x.child ≡ device) × IsSwitchOf n channel x.parent × IsPath n channel x.parent rest) (link_at n next) p.path in
+    let device = p.l.parent in
+    let m = opened (λ x. (x.child ≡ device) × IsSwitchOf n channel x.parent × IsPath n channel x.parent rest)
+    (link_at n next) p.path in
     let relay = child_relays device channel next m.0 is m.1 m.2.0 p.switch in
-    let parent : IsParentOf n device link = closed (λ (x : Link). x.parent ≡ device) (link_at n link) p.l p.at refl in
-    let child : IsChildOf n device next = closed (λ (x : Link). x.child ≡ device) (link_at n next) m.0 m.1 m.2.0 in
+    let parent = closed (λ x. x.parent ≡ device) (link_at n link) p.l p.at refl in
+    let child = closed (λ x. x.child ≡ device) (link_at n next) m.0 m.1 m.2.0 in
     let more = go_up next rest gone.arriving (with_clock gone.clock frame) device (d + delay_by p.l) (suc k) is
     intact (record {
       path = p.path;
       there = gone.is.arrived;
       of_frame = gone.of_frame;
       clean = record { kind = c.clean.kind; priority = c.clean.priority; domain = c.clean.domain };
-      gives = subst (λ b. Gives n b device next) (sym gone.body) (refl, record { relay = relay; on = inl (parent, child) });
+      gives = rw gone.body (refl, record { relay = relay; on = inl (parent, child) });
       good = switches_are_good v channel device is p.switch;
       member = λ ends. absurd (both_ways (is_end n device) (switch_ends device channel is p.switch) ends);
       clock = p.come.clock;
@@ -191,8 +205,11 @@ pub path_fits : {v : View} (channel : Channel) (device : DeviceId) (links : List
     → IsDeviceOf v.scenario.network channel device → IsPath v.scenario.network channel device links
     → (v.sizes.path + delay_on v.scenario.network links ≤ v.sizes.dmax) × (length links ≤ is.beta.links)
 path_fits {v} channel device links is member path =
-    let fits = (margins rules_give_trees v.scenario.network v.sizes.path is.lawful.range is.lawful.rules is.beta).dmax.paths channel device links member path in
-    (omega (arith, fits, (sizes_are is).dmax), is.beta.links_greatest.most (length links) (channel, (device, (links, member, path, refl))))
+    let fits = (margins rules_give_trees v.scenario.network v.sizes.path is.lawful.range is.lawful.rules is.beta).dmax.paths channel device links member path in (
+      omega (arith, (sizes_are is).dmax),
+      is.beta.links_greatest.most (length links)
+          (channel, (device, (links, member, path, refl))),
+    )
 
 pub frames_go_up : FramesGoUp
 frames_go_up v channel h master cm cycle is intact d one opens in_run =
@@ -200,23 +217,24 @@ frames_go_up v channel h master cm cycle is intact d one opens in_run =
     let at = founded_at v.scenario v.records h is.run.founded d.there in
     let sends : IsCaused v.scenario at.front h.note.time (notes.Sent master cycle) = subst (IsCaused v.scenario at.front h.note.time) d.is at.due.cause in
     let role = device_of is_master (device_at n master) sends.master in
-    let of_channel : IsDeviceOf n channel master = closed (λ (x : Device). (is_end_system x.role ≡ true) ⊎ (x.channel ≡ Some channel)) (device_at n master)
+    let of_channel = closed (λ x. (is_end_system x.role ≡ true) ⊎ (x.channel ≡ Some channel)) (device_at n master)
     role.0 role.1 (inl (master_ends role.0.role role.2)) in
     let reach = (rules_give_trees n (shape_rules n is.lawful.rules)).reach channel master of_channel in
-    let framed : h.frame ≡ Some (dispatched_frame n master cycle) = ap (λ (x : Happening). x.frame) at.due.same ∙ ap (frame_by n at.front) d.is in
+    let framed : h.frame ≡ Some (dispatched_frame n master cycle) = rw at.due.same (ap (frame_by n at.front) d.is) in
     let m = master_member master is sends.master in
     elim reach.0 as (λ links. IsPath n channel master links → IsBrought v Up h cm) [
-      | [] ↦ grind (arith, opened, device_at, n, role.0, same_some, role.1, master_no_cm, role.0.role, role.2)
+      | [] ↦ grind (arith, opened, device_at, role.0, same_some, role.1, master_no_cm, role.0.role, role.2)
       | link ∷ rest ↦ λ path.
-          let l = opened (λ (x : Link). (x.child ≡ master) × IsSwitchOf n channel x.parent × IsPath n channel x.parent rest) (link_at n link) path in
-          let child : IsChildOf n master link = closed (λ (x : Link). x.child ≡ master) (link_at n link) l.0 l.1 l.2.0 in
+          let l = opened (λ x. (x.child ≡ master) × IsSwitchOf n channel x.parent × IsPath n channel x.parent rest)
+          (link_at n link) path in
+          let child = closed (λ x. x.child ≡ master) (link_at n link) l.0 l.1 l.2.0 in
           let fits = path_fits channel master (link ∷ rest) is of_channel path in
           let goes = go_up link rest h (dispatched_frame n master cycle) master 0 0 is intact (record {
             path = path;
             there = d.there;
             of_frame = framed;
             clean = record { kind = refl; priority = refl; domain = refl };
-            gives = subst (λ b. Gives n b master link) (sym d.is) (refl, child);
+            gives = rw d.is (refl, child);
             good = d.good;
             member = λ ends. rw m.1 (ap not (eq-eqb (2 ^ m.0) (2 ^ m.0) refl));
             clock = omega arith;
@@ -226,7 +244,7 @@ frames_go_up v channel h master cm cycle is intact d one opens in_run =
             few = omega (arith, fits.1);
           }) opens in_run in
           let come = goes.come in
-          let body = come.body ∙ ap (λ (x : DeviceId). notes.Arrived x come.link come.cause come.clock)
+          let body = come.body ∙ ap (λ x. notes.Arrived x come.link come.cause come.clock)
           (one_cm channel come.cm cm is come.is_cm one) in
           let will = will_be_permanent goes.last cm come.link come.cause come.clock is body
           (omega (arith, come.small, sizes_are is)) in

@@ -2,10 +2,10 @@
 use Rattle.precision_law.proofs.{hearing.Timely.trip_in_time, trips.Travels.{jitter_back, jitter_of_legs, last_young, leg_link, many_back, switch_of}}
 use Rattle.{precision_law.proofs.words.{Clocks.{child_channel, parent_ways, sizes_are}, Laws.links_of}, std.proofs.lemmas.List.length-map}
 use Rattle.precision_law.proofs.words.Laws.{IsInTime, IsLeg, IsPermanentAt, IsTrip, IsView, Leg, TripsDownTakeDmax, TripsUpTakeDmax, View, clock_in, links_back}
-use Rattle.precision_law.proofs.words.Plans.{Channel, Device, DeviceId, Down, IsChildOf, IsCmOf, IsPath, IsReach, IsSwitchOf, Link, LinkId, Network, Up}
+use Rattle.precision_law.proofs.words.Plans.{Channel, DeviceId, Down, IsChildOf, IsCmOf, IsPath, IsSwitchOf, LinkId, Network, Up}
 use Rattle.precision_law.proofs.words.Plans.{Way, amount, closed, device_at, jitter_of, jitter_on, link_at, opened, point_of, target_by, waits_for_point}
-use Rattle.precision_law.proofs.words.{Runs.{Gives, Happening, channel_of, is_relay, same_some, time_of}, Std.{sum_by-cons, sym, true, ℕ, ℤ}}
-use Rattle.precision_law.proofs.words.Std.{◌∙◌, ◌∷◌, ◌≡◌, List, Option, Some, [], ap, arith, inl, inr, length, option_and_then, option_map, pos, refl, subst}
+use Rattle.precision_law.proofs.words.{Runs.{Happening, channel_of, is_relay, same_some, time_of}, Std.{sum_by-cons, sym, true, ℕ, ℤ}}
+use Rattle.precision_law.proofs.words.Std.{◌∙◌, ◌∷◌, ◌≡◌, List, Some, [], ap, arith, inl, inr, length, option_and_then, option_map, pos, refl, subst}
 use Rattle.run_law.specs.declared.note.NoteBody.TheVariants as notes
 
 -- ---- sums
@@ -13,7 +13,13 @@ use Rattle.run_law.specs.declared.note.NoteBody.TheVariants as notes
 pub jitter_up : (n : Network) (legs : List Leg) → jitter_on n (links_of legs) ≡ jitter_of_legs n legs
 jitter_up n [] = refl
 jitter_up n (leg ∷ legs) =
-    omega (arith, jitter_up n legs, sum_by-cons (jitter_of n) leg.link (links_of legs), sum_by-cons (λ (x : Leg). jitter_of n x.link) leg legs)
+    omega (
+      arith,
+      jitter_up n legs,
+      sum_by-cons (jitter_of n) leg.link (links_of legs),
+      sum_by-cons
+          (λ x. jitter_of n x.link) leg legs,
+    )
 
 -- ---- the path up
 
@@ -24,8 +30,8 @@ record LeadsUp (v : View) (channel : Channel) (device : DeviceId) (links : List 
 
 channel_is : (n : Network) (channel : Channel) (device : DeviceId) → IsSwitchOf n channel device → channel_of n device ≡ Some channel
 channel_is n channel device switch =
-    let d = opened (λ (x : Device). x.channel ≡ Some channel) (device_at n device) switch in
-    ap (λ (o : Option Device). option_and_then (λ x. x.channel) o) d.1 ∙ d.2
+    let d = opened (λ x. x.channel ≡ Some channel) (device_at n device) switch in
+    rw d.1 d.2
 
 -- one leg more
 leg_up : {v : View} {channel : Channel} {leg : Leg} {links : List LinkId} → IsView v → (l : IsLeg v Up leg)
@@ -44,21 +50,20 @@ path_from {v} channel g last (leg ∷ legs) cm relay by to c d t u is one trip e
     let l = trip.1 in
     let up = path_from channel leg.arriving last legs cm l.receiver leg.link to leg.leaving.note.number d
     l.arrived_clock u is one trip.2 ends l.arrives in
-    let gives = subst (λ b. Gives n b l.sender leg.link) (ap (λ (h : Happening). h.note.body) trip.0 ∙ body) l.gives in
+    let gives = rw (ap (λ (h : Happening). h.note.body) trip.0 ∙ body) at l.gives in
     let child : IsChildOf n l.sender leg.link = elim gives.1.on [
       | inl up ↦ up.1
-      | inr down ↦ (let wrong : Down ≡ Up = sym (parent_ways n l.sender leg.link down.1).1 ∙ l.from_way in absurd cc)
+      | inr down ↦ (let wrong = sym (parent_ways n l.sender leg.link down.1).1 ∙ l.from_way in absurd cc)
     ] in
     let path = leg_up is l child up in
     let link = leg_link is l in
-    let recv : Some link.0.parent ≡ Some l.receiver = ap (λ (o : Option Link). option_map (target_by Up) o) (sym link.1) ∙ l.comes_to in
     let parent : link.0.parent ≡ l.receiver = cc in
     let own = child_channel l.sender leg.link is (subst (λ x. is_relay n x ≡ true) refl gives.1.relay)
     child in
-    let of_link : channel_of n l.sender ≡ Some channel = own ∙ ap (λ (o : Option Link). option_and_then (λ x. channel_of n x.parent) o) link.1
+    let of_link = own ∙ ap (λ o. option_and_then (λ x. channel_of n x.parent) o) link.1
     ∙ ap (channel_of n) parent ∙ channel_is n channel l.receiver up.switch in
     record {
-      path = subst (λ x. IsPath n channel x (leg.link ∷ links_of legs)) gives.0 path;
+      path = rw gives.0 at path;
       switch = subst (IsSwitchOf n channel) gives.0 (switch_of n channel l.sender of_link);
     }
 
@@ -68,14 +73,14 @@ pub path_up : {v : View} (channel : Channel) (first last : Happening) (legs : Li
     → IsTrip v Up first legs last → last.note.body ≡ notes.Arrived cm to d u
     → first.note.body ≡ notes.Sent master cycle → IsPath v.scenario.network channel master (links_of legs)
 path_up channel first last [] master cm cycle to d u is one trip ends body =
-    (let wrong : notes.Sent master cycle ≡ notes.Arrived cm to d u = sym body ∙ ap (λ (h : Happening). h.note.body) trip ∙ ends in absurd cc)
+    (let wrong = sym body ∙ ap (λ h. h.note.body) trip ∙ ends in absurd cc)
 path_up {v} channel first last (leg ∷ legs) master cm cycle to d u is one trip ends body =
     let l = trip.1 in
     let up = path_from channel leg.arriving last legs cm l.receiver leg.link to leg.leaving.note.number d
     l.arrived_clock u is one trip.2 ends l.arrives in
-    let gives = subst (λ b. Gives v.scenario.network b l.sender leg.link) (ap (λ (h : Happening). h.note.body) trip.0 ∙ body) l.gives in
+    let gives = rw (ap (λ (h : Happening). h.note.body) trip.0 ∙ body) at l.gives in
     let path = leg_up is l gives.1 up in
-    subst (λ x. IsPath v.scenario.network channel x (leg.link ∷ links_of legs)) gives.0 path
+    rw gives.0 at path
 
 -- ---- the time of a trip
 
@@ -91,7 +96,7 @@ trip_takes_dmax {v} way first last legs links channel device at point q is jitte
     let at_point = p.at_point ∙ ap (λ c. point_of (pos (reading (time_of last))) c (pos v.sizes.dmax)) (sym p_clock) ∙ ap
     (λ x. point_of (pos (reading (time_of last))) (clock_in last) (pos x)) (sizes_are is).dmax in
     let waits = waits_for_point n.rho (amount n.grain) (amount n.dmax) (clock_in last) (time_of last) q reading is.lawful.range.rho (is.lawful.clocks at) young
-    (subst (λ z. IsReach reading (pos (time_of last)) z (pos q)) at_point p.reached) in
+    (rw at_point at p.reached) in
     let in_time =
     trip_in_time way first last legs links channel device q is jitters many path trip fresh waits.0 waits.1 in
     record { not_early = in_time.0; not_late = in_time.1 }
@@ -99,7 +104,7 @@ trip_takes_dmax {v} way first last legs links channel device at point q is jitte
 pub trips_up_take_dmax : TripsUpTakeDmax
 trips_up_take_dmax v first last legs channel device cm point q is member path fresh trip p clock =
     trip_takes_dmax Up first last legs (links_of legs) channel device cm point q is (jitter_up v.scenario.network legs)
-    (length-map legs (λ (leg : Leg). leg.link)) path fresh trip p clock
+    (length-map legs (λ leg. leg.link)) path fresh trip p clock
 
 pub trips_down_take_dmax : TripsDownTakeDmax
 trips_down_take_dmax v first last legs channel device point q is member path fresh trip p clock =

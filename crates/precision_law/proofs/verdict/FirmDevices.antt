@@ -5,10 +5,10 @@ use Rattle.precision_law.proofs.{hearing.Received.{IsSentInTime, cm_of_channel, 
 use Rattle.precision_law.proofs.words.Laws.{AreBeforeCorrections, BlocksGoSo, FirmDevicesCorrect, HearsBy, Hull, IsFirm, IsGoodEnd, IsInBlock}
 use Rattle.precision_law.proofs.words.Laws.{IsSharedCorrection, IsView, IsWholeFrom, SendsOn, SendsSo, SoundMasterSends, View, base_of, hull_of}
 use Rattle.precision_law.proofs.words.Plans.{A, AsyncClique, B, Channel, Cleared, Corrected, DeviceId, HasVerdict, HeardFrame, Hearing, IsBehind, IsBestOf, IsDeviceOf}
-use Rattle.precision_law.proofs.words.Plans.{IsLevel, IsWithinOn, Masters, Members, SomeQualifies, Standing, Summarizes, Summary, SyncClique, Units, Verdict}
+use Rattle.precision_law.proofs.words.Plans.{IsLevel, IsWithinOn, Masters, SomeQualifies, Standing, Summarizes, Summary, SyncClique, Units, Verdict}
 use Rattle.precision_law.proofs.words.Plans.{best_on, correction_of, count_of, deviation_by, deviation_on, within_on}
 use Rattle.precision_law.proofs.words.Runs.{Happening, IsIn, Within, heard_by, heard_since, in_parts, same_some, standing_before, time_of}
-use Rattle.precision_law.proofs.words.Std.{◌+◌, ◌<◌, ◌∙◌, ◌∷◌, ◌≡◌, ◌≤◌, ◌⊎◌, All, All-head, All-tail, Bool, IfSome, List, None, Option, Some, [], ap, arith}
+use Rattle.precision_law.proofs.words.Std.{◌+◌, ◌<◌, ◌∙◌, ◌∷◌, ◌≡◌, ◌≤◌, ◌⊎◌, All, All-head, All-tail, List, None, Option, Some, [], ap, arith}
 use Rattle.precision_law.proofs.words.Std.{if◌then◌else◌, inl, inr, le-leb, nat_le, option_and_then, refl, subst, suc, sym, true, ℕ}
 
 -- ---- the best frame
@@ -19,7 +19,7 @@ all_is {X} P (y ∷ xs) x all (inl same) = subst P (sym same) (All-head P y xs a
 all_is {X} P (y ∷ xs) x all (inr more) = all_is P xs x (All-tail P y xs all) more
 
 not_more : (frame other : HeardFrame) → IsBehind frame other ⊎ IsLevel frame other → count_of frame.members ≤ count_of other.members
-not_more frame other (inl (inl lt)) = omega (arith, lt)
+not_more frame other (inl (inl lt)) = omega arith
 not_more frame other (inl (inr both)) = omega (arith, both.0)
 not_more frame other (inr level) = omega (arith, level.0)
 
@@ -39,7 +39,7 @@ best_has heard channel frame (Some best) is i =
     by (inl before) =
         not_more frame best (all_is (λ h. IsWithinOn channel h → IsBehind h.frame best ⊎ IsLevel h.frame best) is.before (within_on channel frame) is.earlier
         before own)
-    by (inr (inl same)) = (let counts = ap (λ (h : Hearing). count_of h.frame.members) same in omega (arith, counts))
+    by (inr (inl same)) = (let counts = ap (λ h. count_of h.frame.members) same in omega arith)
     by (inr (inr after)) =
         not_more frame best
         (inl (all_is (λ h. IsWithinOn channel h → IsBehind h.frame best) is.after (within_on channel frame) is.later after own))
@@ -55,8 +55,8 @@ pub record HasBest (standing : Standing) (summary : Summary) (channel : Channel)
 
 some_qualifies : {standing : Standing} {summary : Summary} (channel : Channel) → HasBest standing summary channel
     → SomeQualifies standing summary
-some_qualifies A b = inl (let e = b.is in rw e b.enough)
-some_qualifies B b = inr (let e = b.is in rw e b.enough)
+some_qualifies A b = inl (rw b.is b.enough)
+some_qualifies B b = inr (rw b.is b.enough)
 
 module _ (laws : FramesGoSo) (goes : BlocksGoSo) (v : View) (n t : ℕ) (block : IsInBlock v n t) (is : IsView v) (device : DeviceId)
     (at : IsAtPoint v n t block device) (hull : Hull) (is_hull : hull_of v (suc n) ≡ Some hull) (sound_sends : SendsSo v n hull) (channel : Channel)
@@ -67,7 +67,7 @@ module _ (laws : FramesGoSo) (goes : BlocksGoSo) (v : View) (n t : ℕ) (block :
   on_standing = standing_before v.scenario front device t
 
   many_of : (c : Channel) (s : SendsOn v c n hull) → 3 ≤ count_of s.members
-  many_of c s = (let enough = s.enough in omega (arith, (is.lawful.rules Masters 2).threshold_least refl, enough))
+  many_of c s = (let enough = s.enough in omega (arith, (is.lawful.rules Masters 2).threshold_least refl))
 
   in_time : (c : Channel) (s : SendsOn v c n hull) → IsSentInTime v n block.before s.first
   in_time c s = sent_in_time block.before s.first is is_hull s.near
@@ -81,7 +81,7 @@ module _ (laws : FramesGoSo) (goes : BlocksGoSo) (v : View) (n t : ℕ) (block :
       good = laws.three v sound_sends.first sound_sends.cm (suc n) sound_sends.members is sound_sends.emission (many_of v.channel sound_sends);
     };
     before = (let soon = (in_time v.channel sound_sends).soon in
-        let lt = sooner {v = v} {n = n} {t = t} {block = block} {device = device} (time_of sound_sends.first + v.sizes.dmax + v.sizes.path) at soon in omega (arith, lt));
+        let lt = sooner (time_of sound_sends.first + v.sizes.dmax + v.sizes.path) at soon in omega arith);
     three = many_of v.channel sound_sends;
   }
 
@@ -91,16 +91,21 @@ module _ (laws : FramesGoSo) (goes : BlocksGoSo) (v : View) (n t : ℕ) (block :
   heard_on =
       let r = receives v channel n t block is device sends.cm member at sends.is_cm sends.first sends.members sends.emission (in_time channel sends) goes intact in
       let h = r.h in
-      let same : count_of (members_by h) ≡ count_of sends.members = ap (λ (x : ℕ). let m : Members = record { 0 = x } in count_of m) r.members_are in
-      let many : 3 ≤ count_of (members_by h) = omega (arith, same, many_of channel sends) in
-      let lt = sooner {v = v} {n = n} {t = t} {block = block} {device = device} (time_of h) at r.late in
-      let g = good_hearing laws v n t block.before is (went_so goes v n t block is) device channel r.point h (omega (arith, lt)) r.judgement r.hearer r.hears
+      let same : count_of (members_by h) ≡ count_of sends.members = rw r.members_are in
+      let many : 3 ≤ count_of (members_by h) = omega (arith, many_of channel sends) in
+      let lt = sooner (time_of h) at r.late in
+      let g = good_hearing laws v n t block.before is (went_so goes v n t block is) device channel r.point h
+      (omega arith) r.judgement r.hearer r.hears
       (late_from n (time_of h) block.before is r.from) (λ e cm f. laws.three v e cm _ (members_by h) is f many) in
       let within = heard_within goes v n t block is laws device channel r.point r.judgement h at lt r.hearer r.hears g (inl many) in
-      let hears : HearsBy v device channel r.point Within h = subst (λ j. HearsBy v device channel r.point j h) within r.hears in
+      let hears : HearsBy v device channel r.point Within h = rw within at r.hears in
       let shown = heard_within_by hears in
-      let hearing : Hearing = heard_by channel h shown.0 true in
-      (hearing.frame, is_since v n t block is device at front split h hearing hears.there r.from lt shown.1, omega (arith, same))
+      let hearing = heard_by channel h shown.0 true in (
+        hearing.frame,
+        is_since v n t block is device at front split h hearing hears.there r.from lt shown.1,
+        omega
+            arith,
+      )
 
   -- so the channel has a best frame of enough members, and more than were heard outside
   pub best_is_enough : HasBest (standing_before v.scenario front device t) summary channel
@@ -111,7 +116,7 @@ module _ (laws : FramesGoSo) (goes : BlocksGoSo) (v : View) (n t : ℕ) (block :
         best = b.0;
         is = b.1;
         enough = omega (arith, sends.enough, heard_on.2, b.2);
-        more = omega (arith, few, many_of channel sends, heard_on.2, b.2);
+        more = omega (arith, many_of channel sends, heard_on.2, b.2);
       }
 
   -- and the point is not one of the cliques
@@ -120,8 +125,8 @@ module _ (laws : FramesGoSo) (goes : BlocksGoSo) (v : View) (n t : ℕ) (block :
   corrects_on SyncClique has = absurd (has.1 (some_qualifies channel best_is_enough))
   corrects_on AsyncClique has =
       let best = best_is_enough in
-      let few = subst (λ (o : Option HeardFrame). IfSome o (λ frame. count_of frame.members ≤ count_of summary.outside)) best.is (has.2 channel) in
-      absurd (omega (arith, few, best.more))
+      let few = rw best.is at (has.2 channel) in
+      absurd (omega (arith, best.more))
   corrects_on (Corrected by) has = (by, refl)
 
 module _ (laws : FramesGoSo) (goes : BlocksGoSo) (v : View) (n t : ℕ) (block : IsInBlock v n t) (is : IsView v) (device : DeviceId) (firm : IsFirm v device)
@@ -150,19 +155,19 @@ module _ (laws : FramesGoSo) (goes : BlocksGoSo) (v : View) (n t : ℕ) (block :
   shared : (by : Units) → correction_of (deviation A) (deviation B) ≡ Some by → IsSharedCorrection v n t hull (base_of v.sizes (time_of sends.first)) device by
   shared by e =
       let dev = deviation_by standing has_best.best in
-      let is_dev = ap (λ (o : Option HeardFrame). option_and_then (λ frame. if nat_le standing.plan.threshold (count_of frame.members)
+      let is_dev = ap (λ o. option_and_then (λ frame. if nat_le standing.plan.threshold (count_of frame.members)
       then Some (deviation_by standing frame) else None) o) has_best.is
-      ∙ ap (λ (t : Bool). if t then Some dev else None) (le-leb standing.plan.threshold (count_of has_best.best.members) has_best.enough) in
+      ∙ ap (λ t. if t then Some dev else None) (le-leb standing.plan.threshold (count_of has_best.best.members)
+      has_best.enough) in
       let f = by_frame v.channel dev is_dev in
       let o = opposite v.channel in
       let in_order = f.heard.in_order in
-      let lt = sooner {v = v} {n = n} {t = t} {block = block} {device = device} (time_of f.h) at f.heard.not_late in
+      let lt = sooner (time_of f.h) at f.heard.not_late in
       let same = same_sent goes v n t block is v.channel f.heard.emission sends.first (members_by f.h) sends.members f.heard.sent sound.sent
-      (omega (arith, in_order, lt)) sound.before in
-      subst (λ w. IsSharedCorrection v n t w (base_of v.sizes (time_of sends.first)) device by) (same_some _ _ _ f.heard.is_hull is_hull)
-      (subst (λ h. IsSharedCorrection v n t f.heard.hull (base_of v.sizes (time_of h)) device by) same.0
-      (shared_by v n t block.before is device v.channel o.0 dev by (deviation o.0) f (by_frame o.0)
-      (ap (λ x. correction_of x (deviation o.0)) (sym is_dev) ∙ o.1)))
+      (omega arith) sound.before in
+      rw (same_some _ _ _ f.heard.is_hull is_hull) at (rw same.0 at (shared_by v n t block.before is device v.channel
+      o.0 dev by (deviation o.0) f (by_frame o.0)
+      (rw (sym is_dev) o.1)))
     where
       opposite : (channel : Channel) → (other : Channel) × (correction_of (deviation channel) (deviation other) ≡ Some by)
       opposite A = (B, e)

@@ -30,16 +30,16 @@ good_or_bad {v} {h} {cm} is e =
     let at = founded_at v.scenario v.records h is.run.founded e.there in
     let points = m.first ∷ m.more in
     elim (one_or_all (IsBadPoint v) (IsGoodPoint v cm (time_of h)) points (λ q i.
-    elim (point_is {h = h} cm q is at m.is_cm_one (m.each q i).there) [ inl good ↦ inr good | inr bad ↦ inl bad ])) [
+    elim (point_is cm q is at m.is_cm_one (m.each q i).there) [ inl good ↦ inr good | inr bad ↦ inl bad ])) [
       | inl bad ↦ inl (
         bad.0.master,
-        ap (λ (x : ℕ). bit_at x bad.0.master) m.members_are ∙ member_of_point points bad.0 bad.1,
+        rw m.members_are (member_of_point points bad.0 bad.1),
         (bad.2.master, bad.2.is_member, bad.2.bad),
       )
       | inr all ↦ inr (λ i set.
-          let p = point_of_member points i (ap (λ (x : ℕ). bit_at x i) (sym m.members_are) ∙ set) in
+          let p = point_of_member points i (rw (sym m.members_are) set) in
           let g = all p.0 p.1 in
-          (g.master, g.is_member ∙ ap (λ (x : ℕ). Some x) p.2, g.dispatch.good))
+          (g.master, g.is_member ∙ ap (λ x. Some x) p.2, g.dispatch.good))
     ]
 
 -- the other channel
@@ -123,24 +123,28 @@ module _ (laws : FramesGoSo) (goes : BlocksGoSo) (v : View) (n t : ℕ) (block :
       let own = members_by hears.h in
       let g = hears.good good in
       let this = hears.this in
-      let lt = sooner {v = v} {n = n} {t = t} {block = block} {device = device} (time_of hears.h) at g.not_late in
+      let lt = sooner (time_of hears.h) at g.not_late in
       let never : (3 ≤ count_of own) ⊎ AreGood v own → ⊥ = λ enough.
       this.judges.outside outside (heard_within goes v n t block is laws device hearing.channel hearing.frame.point.0 this.judgement hears.h at lt
       this.judges.hearer this.hears g enough) in
-      let two : count_of own ≤ 2 = elim (cases_lt 2 (count_of own)) [ inl many ↦ absurd (never (inl (omega (arith, many)))) | inr few ↦ few ] in
-      let before : time_of g.emission < t = omega (arith, g.in_order, lt) in
+      let two : count_of own ≤ 2 = elim (cases_lt 2 (count_of own)) [
+        | inl many ↦
+            absurd (never (inl (omega arith)))
+        | inr few ↦ few
+      ] in
+      let before : time_of g.emission < t = omega (arith, g.in_order) in
       let other : hearing.channel ≡ other_channel v.channel = elim (either_channel v.channel hearing.channel) [
         | inr yes_other ↦ yes_other
         | inl same ↦
             let both = same_sent goes v n t block is _ _ _ _ own sound.sent
-            (subst (λ c. IsSentOn v n c own g.emission) same g.sent) sound.before before in
-            absurd (omega (arith, ap (λ m. count_of m) both.1, sound.three, two))
+            (rw same at g.sent) sound.before before in
+            absurd (omega (arith, ap (λ m. count_of m) both.1, sound.three))
       ] in
       elim (good_or_bad is hears.is_emission) [
         | inr all ↦ absurd (never (inr all))
         | inl bad ↦ record {
           emission = g.emission;
-          sent = subst (λ c. IsSentOn v n c own g.emission) other g.sent;
+          sent = rw other at g.sent;
           before = before;
           two = two;
           member = bad.0;
@@ -158,12 +162,13 @@ module _ (laws : FramesGoSo) (goes : BlocksGoSo) (v : View) (n t : ℕ) (block :
       by false out =
           let hears = hears_so hearing i in
           let own = members_by hears.h in
-          let same : own ≡ hearing.frame.members = ap (λ (x : ℕ). let m : Members = record { 0 = x } in m) hears.this.members in
+          let same : own ≡ hearing.frame.members = rw hears.this.members in
           elim (members_are_masters v hears.emission hears.cm (cycle_in hears.h) own is hears.is_emission).1 [
             | inl good ↦ inl (out, subst (IsPair v n t) same (is_pair hearing hears good out))
             | inr bad ↦
                 let m = made_of is hears.is_emission in
-                let first_is = ap (λ (x : ℕ). bit_at x m.first.master) m.members_are ∙ member_of_point (m.first ∷ m.more) m.first (inl refl) in
+                let first_is = ap (λ x. bit_at x m.first.master) m.members_are ∙ member_of_point (m.first ∷ m.more)
+                m.first (inl refl) in
                 inr (inl (out, subst (IsLone v) same (record { bad = bad.0; one = bad.1; member = m.first.master; is_member = first_is })))
           ]
 
@@ -177,7 +182,7 @@ module _ (laws : FramesGoSo) (goes : BlocksGoSo) (v : View) (n t : ℕ) (block :
               let l = lone.2.1 in
               let few = within lone.0.frame.members (λ h j out i set.
               alike l.member i lone.0.frame.members l.is_member (l.bad l.member l.is_member) (lone_bad h i out set (rest h j))) in
-              omega (arith, few, l.one)
+              omega (arith, l.one)
           | inr all ↦ omega (arith, within none (λ h j out i set. absurd (all h j out)), ones_le_self 0)
         ]
       ]
@@ -193,8 +198,8 @@ module _ (laws : FramesGoSo) (goes : BlocksGoSo) (v : View) (n t : ℕ) (block :
 
       alike : (i j : ℕ) (members : Members) → IsMember i members → IsBadMember v i → IsBadMember v j → IsMember j members
       alike i j members set a b =
-          subst (λ k. IsMember k members)
-          (same_some (Some j) i j (sym b.1 ∙ ap (member_of v.scenario.network) (one_bad v a.0 b.0 is a.2 b.2) ∙ a.1) refl) set
+          rw (same_some (Some j) i j (sym b.1 ∙ ap (member_of v.scenario.network) (one_bad v a.0 b.0 is a.2 b.2) ∙ a.1)
+          refl) at set
 
       lone_bad : (h : Hearing) (i : ℕ) → IsOutside h → IsMember i h.frame.members → IsLoneIfOutside v h → IsBadMember v i
       lone_bad h i out set (inl lone) = lone.1.bad i set

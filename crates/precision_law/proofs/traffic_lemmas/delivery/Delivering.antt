@@ -2,14 +2,14 @@
 use Rattle.{net_plan.specs.{Bounds.IsGreatest, Places.IsEndSystem}, run_law.specs.{declared.note.Note.Note, records.Causes.IsChain}, std.proofs.Common.max}
 use Rattle.{net_plan.specs.Ranges.{IsInRange, IsVlInRange}, precision_law.specs.traffic.Delivered.IsSentIn, run_law.specs.device.LocalClocks.local_before}
 use Rattle.precision_law.{proofs.law.Precision.{up_to_is, view_at, view_of}, specs.traffic.{Ports.{IsRunTo, OwedFramesCome}, Spans.IsReachedInSpan}}
-use Rattle.precision_law.proofs.traffic_lemmas.Words.{◌*◌, ◌+ℤ◌, ◌+◌, ◌-◌, ◌<ℤ◌, ◌<◌, ◌∙◌, ◌∷◌, ◌≡◌, ◌≤ℤ◌, ◌≤◌, DeviceId, Entry, FieldsFit, Happening}
+use Rattle.precision_law.proofs.traffic_lemmas.Words.{◌*◌, ◌+ℤ◌, ◌+◌, ◌-◌, ◌<ℤ◌, ◌<◌, ◌∙◌, ◌∷◌, ◌≡◌, ◌≤◌, DeviceId, Entry, FieldsFit, Happening}
 use Rattle.precision_law.proofs.traffic_lemmas.Words.{HasGoodSources, IsDue, IsEntry, IsFounded, IsGood, IsIn, IsInSchedule, IsInSpan, IsOnChannel, IsTimedAt}
-use Rattle.precision_law.proofs.traffic_lemmas.Words.{IsView, Joints, LinkId, List, Network, Reaches, Scenario, Some, Synchronised, Units, View, VirtualLink}
+use Rattle.precision_law.proofs.traffic_lemmas.Words.{IsView, Joints, LinkId, List, Network, Reaches, Scenario, Some, Synchronised, View, VirtualLink}
 use Rattle.precision_law.proofs.traffic_lemmas.Words.{VlId, [], adjustment_after, adjustment_left, adjustment_stays, amount, ap, arith, arrives_at, begins_late}
-use Rattle.precision_law.proofs.traffic_lemmas.Words.{cases_lt, cause_of, clocks_reach_sharply, earlier, epoch_time, false, in_all, inl, inr, ints, is_broken}
-use Rattle.precision_law.proofs.traffic_lemmas.Words.{is_turned_on_at, numbered, numbered_in, offset_in_cycle, place_of, pos, reaches_by, refl, room, same_some}
-use Rattle.precision_law.proofs.traffic_lemmas.Words.{shown_at, slice_get, source_of, state_after, state_left, steady, subst, suc, sym, target_of, time_of}
-use Rattle.precision_law.proofs.traffic_lemmas.{Words.{tt_frame_by, window_of, within_run, zero, ℕ}, delivery.Sent.{Brings, arrives_in_time, rows_are_sent}}
+use Rattle.precision_law.proofs.traffic_lemmas.Words.{cases_lt, cause_of, clocks_reach_sharply, earlier, epoch_time, in_all, inl, inr, ints}
+use Rattle.precision_law.proofs.traffic_lemmas.Words.{is_turned_on_at, numbered, numbered_in, place_of, pos, reaches_by, refl, room, same_some}
+use Rattle.precision_law.proofs.traffic_lemmas.Words.{shown_at, slice_get, source_of, state_after, state_left, steady, suc, sym, target_of, time_of}
+use Rattle.precision_law.proofs.traffic_lemmas.{Words.{tt_frame_by, within_run, zero, ℕ}, delivery.Sent.{Brings, arrives_in_time, rows_are_sent}}
 use Rattle.precision_law.proofs.traffic_lemmas.{delivery.Arriving.frames_arrive_in_spans, ports.{Cycles.same_next, Dispatched.{cycle_is, offset_in_schedule}}}
 use Rattle.precision_law.proofs.traffic_lemmas.delivery.{Coming.{dispatches_begin, takings_begin}, Receiving.{arrivals_are_taken, state_is}}
 use Rattle.precision_law.proofs.traffic_lemmas.{delivery.{Once.delivered_once, Since.synchronised_before, Taken.takings_are_so}, schedule.Rows.rows_are_in_time}
@@ -59,15 +59,15 @@ comes_in_time brings {v} {vl} {of_vl} {cycle} {device} {last} is fit sources owe
     let link = entry.row.link in
     let good = sources owed.place entry owed.row owed.own in
     let begun = dispatches_begin brings.blocks brings.senders v h source link went.cause vl of_vl cycle is fit good sources owed.sent.there d in
-    let vls : d.entry.vl ≡ of_vl = same_some (slice_get n.vl vl.0) d.entry.vl of_vl
-    (subst (λ (x : VlId). slice_get n.vl x.0 ≡ Some d.entry.vl) d.of_vl d.row.vl) owed.sent.there in
-    let whole : h.octets ≡ tt_frame_by n d.entry.vl cycle = begun.whole ∙ ap (λ x. tt_frame_by n x cycle) (sym vls) in
-    let window : window_end n d.entry ≤ last = subst (λ e. window_end n e ≤ last) (sym went.same) owed.ends in
+    let vls = same_some (slice_get n.vl vl.0) d.entry.vl of_vl
+    (rw d.of_vl at d.row.vl) owed.sent.there in
+    let whole = begun.whole ∙ ap (λ x. tt_frame_by n x cycle) (sym vls) in
+    let window : window_end n d.entry ≤ last = rw went.same owed.ends in
     let in_time = arrives_in_time brings is owed.sent good d window in
     let t = arrives_at v h link d.entry.row.way d.entry in
     let arrives = frames_arrive_in_spans brings.blocks v h source link went.cause vl cycle d.entry.row.way is good d in_time in
     let next = same_next arrives.span.block.before owed.span.block.before in
-    let timed = owed.timed t (omega (arith, next, arrives.span.block.from)) in_time in
+    let timed = owed.timed t (omega (arith, arrives.span.block.from)) in_time in
     let off = brings.not_on v device t is (has_time_at timed).timed in
     let taken = arrivals_are_taken brings.blocks brings.channels v h source device link went.cause vl cycle is fit good owed.good d whole
     (ap target_of went.same ∙ owed.enters) in_time timed off in
@@ -86,15 +86,15 @@ comes_in_time brings {v} {vl} {of_vl} {cycle} {device} {last} is fit sources owe
 begins_before : Brings → {v : View} (n : ℕ) {t : ℕ} (span : IsInSpan v n (t + 1)) {device : DeviceId} → IsView v
     → 1 ≤ n → IsTimedAt v device (t + 1) → Reaches v.scenario v.records device (pos (n * v.sizes.cycle)) t
     → t < span.block.before.next
-begins_before brings zero span is begun timed reached = absurd (omega (arith, begun))
+begins_before brings zero span is begun timed reached = absurd (omega arith)
 begins_before brings {v} (suc c) {t} span {device} is begun timed reached =
     elim (cases_lt t span.block.before.next) [
       | inl lt ↦ lt
       | inr ge ↦
           let keep = synchronised_keep_time brings.blocks v (suc c) (t + 1) span device is timed in
           let late = begins_late c span.block.before is in
-          let early : epoch_time (earlier (t + 1) v.records) device <ℤ pos t = omega (arith, ints, keep.old, ge) in
-          let same : adjustment_left v device t ≡ adjustment_left v device (t + 1) = ap (λ (a : Units). a.0)
+          let early : epoch_time (earlier (t + 1) v.records) device <ℤ pos t = omega (arith, ints, keep.old) in
+          let same : adjustment_left v device t ≡ adjustment_left v device (t + 1) = ap (λ a. a.0)
           (adjustment_stays device t (t + 1) is (omega arith) early) in
           let sharp = clocks_reach_sharply v device (pos (suc c * v.sizes.cycle)) t is reached in
           let step = (steady v is device).steps t in
@@ -102,12 +102,8 @@ begins_before brings {v} (suc c) {t} span {device} is begun timed reached =
           absurd (omega (
             arith,
             ints,
-            same,
             sharp.most,
-            step,
             keep.shows.least,
-            late,
-            ge,
             space.corrections,
             space.eight_errors,
             space.errors.reach_is,
@@ -122,7 +118,7 @@ numbered_more : (s : Scenario) (gs hs : List Happening) → IsFounded place_of (
     → ((h : Happening) → IsIn h gs → IsIn h hs) → (n : ℕ) (h : Happening) → numbered gs n ≡ Some h → numbered hs n ≡ Some h
 numbered_more s gs hs one two inside n h e =
     let there = by_number s hs h two (inside h (numbered_in gs n h e)) in
-    subst (λ k. numbered hs k ≡ Some h) (number_is s gs n h one e) there
+    rw (sym (number_is s gs n h one e)) there
 
 -- a chain of causes in a front is one in the whole
 chain_more : (gs hs : List Happening) → ((n : ℕ) (h : Happening) → numbered gs n ≡ Some h → numbered hs n ≡ Some h) → (h : Happening) (causes : List Happening)
@@ -142,8 +138,6 @@ last_in_schedule {v} {into} is enters greatest =
     elim greatest.reached [
       | inl none ↦ absurd (omega (
         arith,
-        none,
-        most,
         times.begins,
         times.tolerates,
         (room is).eight_errors,
@@ -152,7 +146,7 @@ last_in_schedule {v} {into} is enters greatest =
       ))
       | inr end ↦
           let at = rows_are_in_time v end.1.place end.0 is end.1.is in
-          record { begins = omega (arith, most, times.begins, times.tolerates); ends = omega (arith, end.2, at.ends) }
+          record { begins = omega (arith, times.begins, times.tolerates); ends = omega (arith, end.2, at.ends) }
     ]
 
 -- the row into the device on a channel
@@ -160,7 +154,6 @@ pub row_on : {v : View} {vl : VlId} (channel : Channel) {device : DeviceId} {int
     → IsEndSystem v.scenario.network device → IsRowInto v.scenario.network vl device into
     → EntersOn v.scenario.network vl channel device
 row_on {v} {vl} channel {device} {into} is end enters =
-    let n = v.scenario.network in
     let joint = is.lawful.rules Joints into.row.link.0 into.link enters.is.link in
     (is.lawful.rules BothChannels vl.0).same device joint.0 channel end (record {
       place = enters.place;
@@ -182,15 +175,14 @@ pub timed_behind : {v : View} {hs : List Happening} (device : DeviceId) (from t 
     → IsGood v device → ((x : ℕ) → from ≤ x → x ≤ v.until → IsInStep v.scenario hs device x) → from < t → t ≤ v.until
     → IsTimedAt v device t
 timed_behind {v} {hs} device from t front good receiver lt le =
-    let next : t - 1 + 1 ≡ t = omega (arith, lt) in
-    let step = (receiver (t - 1) (omega (arith, lt)) (omega (arith, le))).synchronised in
-    let moved : state_after v.scenario (earlier (t - 1 + 1) hs) device ≡ Synchronised = subst
-    (λ xs. state_after v.scenario xs device ≡ Synchronised) (up_to_is (t - 1) hs) step in
-    let here : state_after v.scenario (earlier t hs) device ≡ Synchronised = subst (λ u. state_after v.scenario (earlier u hs) device ≡ Synchronised) next
-    moved in
+    let next : t - 1 + 1 ≡ t = omega arith in
+    let step = (receiver (t - 1) (omega arith) (omega arith)).synchronised in
+    let moved : state_after v.scenario (earlier (t - 1 + 1) hs) device ≡ Synchronised =
+    rw (up_to_is (t - 1) hs) at step in
+    let here : state_after v.scenario (earlier t hs) device ≡ Synchronised = rw next at moved in
     record {
       good = good;
-      synchronised = subst (λ xs. state_after v.scenario xs device ≡ Synchronised) (front.early t (omega (arith, le))) here;
+      synchronised = rw (front.early t (omega (arith, le))) at here;
     }
 
 -- a clock that reaches a place of the cycle does so in the view
@@ -198,8 +190,7 @@ pub reaches_in : {v : View} {hs : List Happening} {device : DeviceId} (cycle pla
     → IsFrontOf v hs → t ≤ v.until → ReachesPlace v.scenario hs device cycle place t
     → Reaches v.scenario v.records device (pos (cycle * v.sizes.cycle + place)) t
 reaches_in {v} {hs} {device} cycle place {t} is front le reaches =
-    subst (λ (n : ℕ). Reaches v.scenario v.records device (pos (cycle * n + place)) t) (sym (cycle_is is))
-    (reaches_by {gs = hs} v.records {t = t} (front.early t (omega (arith, le))) reaches)
+    rw (cycle_is is) (reaches_by v.records (front.early t (omega arith)) reaches)
 
 -- the frame is sent in the view
 sent_in : Brings → {v : View} {hs : List Happening} {until : ℕ} {vl : VlId} {of_vl : VirtualLink} {cycle : ℕ}
@@ -208,20 +199,19 @@ sent_in : Brings → {v : View} {hs : List Happening} {until : ℕ} {vl : VlId} 
 sent_in brings {v} {hs} {of_vl} {cycle} {device} is front owed end reached = record {
   there = owed.there;
   occurs = owed.occurs;
-  sender = subst (λ t. is_broken v.scenario of_vl.sender t ≡ false) end owed.sender;
+  sender = rw (sym end) owed.sender;
   before = reached.span.block.before;
   in_run = reached.not_early;
   rows = λ place entry row own source.
       let r = owed.rows place entry row own source in
       let sender = of_vl.sender in
-      let le : r.0 ≤ v.until = omega (arith, r.1, end) in
+      let le : r.0 ≤ v.until = omega (arith, r.1) in
       let reaches = reaches_in cycle (amount entry.row.offset) is front le r.2 in
-      let left : state_after v.scenario (earlier (r.0 + 1) hs) sender ≡ Synchronised = subst
-      (λ xs. state_after v.scenario xs sender ≡ Synchronised) (up_to_is r.0 hs) r.3 in
-      let behind : state_left v sender (r.0 + 1) ≡ Synchronised = subst (λ xs. state_after v.scenario xs sender ≡ Synchronised)
-      (front.early (r.0 + 1) (omega (arith, le))) left in
+      let left : state_after v.scenario (earlier (r.0 + 1) hs) sender ≡ Synchronised = rw (sym (up_to_is r.0 hs)) r.3 in
+      let behind : state_left v sender (r.0 + 1) ≡ Synchronised =
+      rw (sym (front.early (r.0 + 1) (omega (arith, le)))) left in
       let timed = synchronised_before cycle is (offset_in_schedule is row) reaches behind in
-      let good : IsGood v sender = subst (λ t. is_broken v.scenario sender t ≡ false) end owed.sender in
+      let good : IsGood v sender = rw (sym end) owed.sender in
       let has = has_time_at {v = v} {device = sender} {t = r.0} (record { good = good; synchronised = timed }) in (
         r.0,
         le,
@@ -244,15 +234,15 @@ from_before brings {v} {cycle} {from} {device} is span begun lt reaches timed =
               before = span.block.before;
               next = span.block.next;
               is_over = span.block.is_over;
-              from = omega (arith, ge);
-              to = omega (arith, lt, span.block.to);
-              in_run = omega (arith, lt);
+              from = omega arith;
+              to = omega (arith, span.block.to);
+              in_run = omega arith;
             };
-            early = omega (arith, ints, lt, span.early);
+            early = omega (arith, ints, span.early);
           } in
           let whole : cycle * v.sizes.cycle + 0 ≡ cycle * v.sizes.cycle = omega arith in
           begins_before brings cycle next_span is begun timed
-          (subst (λ n. Reaches v.scenario v.records device (pos n) from) whole reaches)
+          (rw whole at reaches)
     ]
 
 -- the frame is owed in the view
@@ -260,21 +250,22 @@ owed_in : Brings → {v : View} {hs : List Happening} {until : ℕ} {vl : VlId} 
     {device : DeviceId} → IsView v → IsFrontOf v hs → (owed : IsOwed v.scenario hs until vl of_vl cycle device)
     → owed.to ≡ v.until → IsOwedIn v vl of_vl cycle device owed.from owed.last
 owed_in brings {v} {hs} {of_vl} {cycle} {device} is front owed end =
-    let lt : owed.from < v.until = omega (arith, owed.in_order, end) in
-    let receiver : (x : ℕ) → owed.from ≤ x → x ≤ v.until → IsInStep v.scenario hs device x = λ x from le. owed.receiver x from (omega (arith, le, end)) in
-    let good : IsGood v device = (receiver v.until (omega (arith, lt)) (omega arith)).correct in
+    let lt : owed.from < v.until = omega (arith, owed.in_order) in
+    let receiver : (x : ℕ) → owed.from ≤ x → x ≤ v.until → IsInStep v.scenario hs device x =
+    λ x from le. owed.receiver x from (omega arith) in
+    let good : IsGood v device = (receiver v.until (omega arith) (omega arith)).correct in
     let timed_at : (t : ℕ) → owed.from < t → t ≤ v.until → IsTimedAt v device t =
     λ t less le. timed_behind device owed.from t front good receiver less le
     in
     let within = last_in_schedule is owed.enters owed.greatest in
-    let ends : ReachesPlace v.scenario hs device cycle owed.last v.until = subst (λ t. ReachesPlace v.scenario hs device cycle owed.last t) end owed.ends
+    let ends : ReachesPlace v.scenario hs device cycle owed.last v.until = rw end at owed.ends
     in
     let reached = values_are_reached_in_spans brings.blocks v cycle owed.last v.until device is (timed_at v.until lt (omega arith)) (omega arith)
     owed.occurs.begun within (reaches_in cycle owed.last is front (omega arith) ends) in
     let row = row_on v.channel is owed.end_system owed.enters in
-    let begins = reaches_in cycle 0 is front (omega (arith, lt)) owed.begins in
+    let begins = reaches_in cycle 0 is front (omega arith) owed.begins in
     let before_span = from_before brings is reached.span owed.occurs.begun lt begins
-    (timed_at (owed.from + 1) (omega arith) (omega (arith, lt))) in
+    (timed_at (owed.from + 1) (omega arith) (omega arith)) in
     record {
       end_system = owed.end_system;
       good = good;
@@ -289,7 +280,7 @@ owed_in brings {v} {hs} {of_vl} {cycle} {device} is front owed end =
       ends =
           owed.greatest.most (window_end v.scenario.network row.entry)
           (row.entry, record { place = row.place; is = row.is; of_vl = row.same_vl; enters = row.target }, refl);
-      timed = λ t from le. timed_at t (omega (arith, before_span, from)) le;
+      timed = λ t from le. timed_at t (omega arith) le;
     }
 
 -- a delivery in the view is one of the whole
@@ -302,12 +293,12 @@ delivered_in : Brings → {v : View} {hs : List Happening} {vl : VlId} (of_vl : 
 delivered_in brings {v} {hs} {vl} of_vl {cycle} {device} is fit good sources there front come once =
     let h = come.delivery in
     let t = time_of h in
-    let early : t ≤ v.until = within_run is h come.there in
+    let early = within_run is h come.there in
     let taking = takings_are_so v h device come.link come.cause vl cycle is come.there (inr come.is) in
     let begun = takings_begin brings.blocks brings.senders v h device come.link come.cause vl of_vl cycle is fit good sources there taking in
     let shown : shown_at v device t ≡ local_before v.scenario hs device t =
     ap (λ xs. pos (v.scenario.reading device t) +ℤ (adjustment_after v.scenario xs device).0)
-    (sym (front.early t (omega (arith, early)))) in
+    (sym (front.early t (omega arith))) in
     record {
       delivery = h;
       there = front.inside h come.there;
@@ -320,8 +311,8 @@ delivered_in brings {v} {hs} {vl} of_vl {cycle} {device} is fit good sources the
         row = record { place = taking.by_row.place; is = taking.by_row.row; of_vl = taking.by_row.of_vl; enters = taking.by_row.enters };
         by = taking.by_row.by;
         not_before =
-            subst (λ z. (window_of v.scenario.network taking.by_row.entry).from.0 ≤ℤ offset_in_cycle v.scenario.network z) shown taking.not_before;
-        not_behind = subst (λ z. offset_in_cycle v.scenario.network z ≤ℤ (window_of v.scenario.network taking.by_row.entry).to.0) shown taking.not_behind;
+            rw shown at taking.not_before;
+        not_behind = rw shown at taking.not_behind;
       };
       first = begun.first;
       back = record {
@@ -342,8 +333,8 @@ one_in brings {v} h g device link other cause second vl cycle is fit i j end one
     let first = takings_are_so v h device link cause vl cycle is i (inr one) in
     let last = takings_are_so v g device other second vl cycle is j (inr two) in
     let good : IsGood v device = elim (cases_lt (time_of h) (time_of g)) [
-      | inl lt ↦ (let at : time_of g ≡ v.until = omega (arith, lt, end) in subst (λ t. is_broken v.scenario device t ≡ false) at last.correct)
-      | inr ge ↦ (let at : time_of h ≡ v.until = omega (arith, ge, end) in subst (λ t. is_broken v.scenario device t ≡ false) at first.correct)
+      | inl lt ↦ (let at : time_of g ≡ v.until = omega arith in rw at at last.correct)
+      | inr ge ↦ (let at : time_of h ≡ v.until = omega arith in rw at at first.correct)
     ] in
     delivered_once brings h g device link other cause second vl cycle is fit good i j one two
 
@@ -354,7 +345,6 @@ delivered_once_in : Brings → {s : Scenario} {mark : List ℕ} {ns : List Note}
     → h.note.body ≡ notes.Delivered device link cause vl cycle
     → g.note.body ≡ notes.Delivered device other second vl cycle → h ≡ g
 delivered_once_in brings {s} {ns} run fit h g device link other cause second vl cycle i j one two =
-    let hs = happenings s.network ns in
     let w = max (time_of h) (time_of g) in
     let sound = brings.channels.sound s w run.up.lawful in
     let at = view_at w sound.0 run.up (omega (arith, run.within h i, run.within g j)) sound.1 in

@@ -30,5 +30,5 @@ dispatch_shows {v} {h} {device} {link} {cause} {vl} {cycle} is fit d =
       | inr passed ↦
           let taking = takings_are_so v passed.taken device passed.link passed.from vl cycle is passed.there (inl passed.is) in
           let vls = same_vl taking.by_row.row d.row (taking.by_row.of_vl ∙ sym d.of_vl) in
-          ap (field 4 2) passed.frame ∙ sym taking.by_row.id_is ∙ ap (λ (x : VirtualLink). x.id) vls
+          ap (field 4 2) passed.frame ∙ sym taking.by_row.id_is ∙ ap (λ x. x.id) vls
     ]

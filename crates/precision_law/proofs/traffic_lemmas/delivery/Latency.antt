@@ -9,7 +9,7 @@ use Rattle.precision_law.proofs.traffic_lemmas.Words.{◌*◌, ◌+ℤ◌, ◌+�
 use Rattle.precision_law.proofs.traffic_lemmas.Words.{Happening, Hull, IsGood, IsIn, IsView, Sizes, Some}
 use Rattle.precision_law.proofs.traffic_lemmas.Words.{Stands, View, VlId, amount, ap, arith, before_narrow, has_before}
 use Rattle.precision_law.proofs.traffic_lemmas.Words.{hull_of, in_range, inr, ints, link_at, pos, port_time, room}
-use Rattle.precision_law.proofs.traffic_lemmas.Words.{same_some, source_of, subst, suc, sym, time_of, within_run, zero}
+use Rattle.precision_law.proofs.traffic_lemmas.Words.{same_some, source_of, suc, sym, time_of, within_run, zero}
 use Rattle.precision_law.proofs.traffic_lemmas.Words.{ℕ}
 use Rattle.precision_law.specs.{Sizes.HaveRoom}
 use Rattle.precision_law.specs.traffic.Latency.{DeliveriesKeepPace, DeliveriesTakeTheirTime, HasCorrectSender}
@@ -36,11 +36,11 @@ dispatched_in_hull brings {v} {vl} {cycle} {f} {device} {first} is there good d 
     let same = (rows_go_once n d.row.place sent.place first sent.entry is.lawful.rules d.row.is sent.row
     (d.row.of_vl ∙ sym sent.of_vl) (d.row.by ∙ sym sent.by)).1 in
     let offset : amount first.row.offset ≡ amount sent.entry.row.offset =
-    ap (λ (e : Entry). amount e.row.offset) same in
+    rw same in
     record {
       before = span.span.block.before;
-      least = omega (arith, ints, span.not_early, offset);
-      most = omega (arith, ints, span.not_late, offset);
+      least = omega (arith, ints, span.not_early);
+      most = omega (arith, ints, span.not_late);
     }
 
 -- what left by a row comes by the row's port time and its wire's delay later
@@ -51,7 +51,7 @@ comes_in_hull : (s : Sizes) (hull : Hull) (offset port wire jitter delay sent ca
     → ((hull.least +ℤ pos (offset + port + wire)) ≤ℤ (pos came +ℤ pos s.reach))
     × (pos came ≤ℤ ((hull.greatest +ℤ pos (offset + port + wire + jitter)) +ℤ pos s.reach))
 comes_in_hull s hull offset port wire jitter delay sent came least most at short long =
-    (omega (arith, ints, least, at, short), omega (arith, ints, most, at, long))
+    (omega (arith, ints), omega (arith, ints))
 
 -- a delivery goes so
 delivered_in_hull : Brings → {v : View} {vl : VlId} {cycle : ℕ} {z : Happening} {receiver : DeviceId} {last : Entry}
@@ -75,21 +75,21 @@ delivered_in_hull brings {v} {vl} {cycle} {z} {receiver} {last} is there good se
     (d.row.of_vl ∙ sym row.of_vl) (d.row.by ∙ sym row.by)).1 in
     let port = on_port v d.link z.octets row.row row.by taking.whole in
     let linked : link_at n d.link ≡ Some row.entry.link =
-    subst (λ x. link_at n x ≡ Some row.entry.link) row.by row.row.link in
+    rw row.by at row.row.link in
     let range = in_range n row.place row.entry is.lawful.range row.row in
     let delay = delay_lies d.link row.entry.link taking.way (time_of put) is.lawful linked range.link.wire.least
     range.link.jitter.least in
     let offsets : amount comes.dispatch.entry.row.offset ≡ amount row.entry.row.offset =
-    ap (λ (e : Entry). amount e.row.offset) comes.same in
+    rw comes.same in
     let before = span.span.block.before in
     let at : time_of z ≡ time_of put + port_time row.entry + delay_at s d.link taking.way (time_of put) =
-    omega (arith, taking.at, port) in
+    omega (arith, taking.at) in
     let c = comes_in_hull v.sizes before.hull (amount row.entry.row.offset) (port_time row.entry)
     (amount row.entry.link.wire) (amount row.entry.link.jitter) _ (time_of put) (time_of z)
-    (omega (arith, ints, span.not_early, offsets)) (omega (arith, ints, span.not_late, offsets)) at delay.0 delay.1 in
+    (omega (arith, ints, span.not_early)) (omega (arith, ints, span.not_late)) at delay.0 delay.1 in
     let goes : GoesInHull v cycle (arrival_of row.entry) (amount row.entry.link.jitter) (time_of z) =
     record { before = before; least = c.0; most = c.1 } in
-    subst (λ (e : Entry). GoesInHull v cycle (arrival_of e) (amount e.link.jitter) (time_of z)) (sym same) goes
+    rw same goes
 
 -- ---- latency
 
@@ -107,8 +107,8 @@ one_hull_apart {v} {cycle} place at one two =
     let bottom = ap (λ (w : Hull). w.least) same in
     let top = ap (λ (w : Hull). w.greatest) same in
     record {
-      least = omega (arith, ints, narrow, bottom, one.most, two.least);
-      most = omega (arith, ints, narrow, top, one.least, two.most);
+      least = omega (arith, ints, one.most, two.least);
+      most = omega (arith, ints, one.least, two.most);
     }
 
 -- the error is less than the precision
@@ -117,7 +117,6 @@ small_error space = omega (arith, space.eight_errors, space.errors.reach_is, spa
 
 pub deliveries_take_their_time : Brings → DeliveriesTakeTheirTime
 deliveries_take_their_time brings s mark ns to beta up path vl cycle f z device end first last i j lt le d e good has =
-    let n = s.network in
     let w = time_of z in
     let channel = brings.channels.sound s w up.lawful in
     let at = view_with w channel.0 beta up path le channel.1 in
@@ -140,14 +139,14 @@ cycles_apart : {v : View} (cycle cycles : ℕ) (hull later : Hull) → IsView v 
     → hull_of v (cycle + cycles) ≡ Some later → AreCyclesApart v.sizes cycles hull later
 cycles_apart {v} cycle zero hull later is one two =
     let here : cycle + 0 ≡ cycle = omega arith in
-    let same = same_some (hull_of v cycle) hull later one (subst (λ n. hull_of v n ≡ Some later) here two) in
+    let same = same_some (hull_of v cycle) hull later one (rw here at two) in
     let bottom = ap (λ (w : Hull). w.least) same in
     let top = ap (λ (w : Hull). w.greatest) same in
-    record { least = omega (arith, ints, bottom); most = omega (arith, ints, top) }
+    record { least = omega (arith, ints); most = omega (arith, ints) }
 cycles_apart {v} cycle (suc cycles) hull later is one two =
     let next : cycle + suc cycles ≡ suc (cycle + cycles) = omega arith in
     let has = has_before v (cycle + cycles) later (within_run is)
-    (subst (λ n. hull_of v n ≡ Some later) next two) in
+    (rw next at two) in
     let apart = cycles_apart cycle cycles hull has.before is one has.is_before in
     record {
       least = omega (arith, ints, apart.least, has.follows.least);
@@ -167,8 +166,8 @@ in_pace cycle cycles at is one two =
     let later = before_narrow two.before in
     let apart = cycles_apart cycle cycles one.before.hull two.before.hull is one.before.is_hull two.before.is_hull in
     record {
-      least = omega (arith, ints, narrow, later, apart.least, one.most, two.least);
-      most = omega (arith, ints, narrow, later, apart.most, one.least, two.most);
+      least = omega (arith, ints, apart.least, one.most, two.least);
+      most = omega (arith, ints, apart.most, one.least, two.most);
     }
 
 pub deliveries_keep_pace : Brings → DeliveriesKeepPace

@@ -2,8 +2,8 @@
 use Rattle.precision_law.proofs.traffic_lemmas.Words.{◌&&◌, ◌==◌, ◌||◌, ◌∙◌, ◌∷◌, ◌≡◌, DeviceId, Down, Entry, FieldsFit, Happening, IsBefore, IsDue, IsEntry}
 use Rattle.precision_law.proofs.traffic_lemmas.Words.{IsFounded, IsGood, IsIn, IsInSpan, IsTaking, IsView, Joints, LinkId, None, NoteBody, Option}
 use Rattle.precision_law.proofs.traffic_lemmas.Words.{SaysTaken, Some, Up, View, VlId, Way, [], ap, arith, behind_first, both_ways, cases_lt, eq-eqb, filter}
-use Rattle.precision_law.proofs.traffic_lemmas.Words.{in_left, in_parts, inl, inr, is_end, is_taken_in, key, last_or, last_taken, lt-ltb, members_in, nat_lt}
-use Rattle.precision_law.proofs.traffic_lemmas.Words.{option_and_then, place_of, rank, refl, source_by, source_of, subst, sym, target_by, target_of, time_of}
+use Rattle.precision_law.proofs.traffic_lemmas.Words.{in_left, in_parts, inl, inr, is_end, is_taken_in, last_or, last_taken, lt-ltb, nat_lt}
+use Rattle.precision_law.proofs.traffic_lemmas.Words.{option_and_then, place_of, refl, source_by, source_of, subst, sym, target_by, target_of, time_of}
 use Rattle.precision_law.proofs.traffic_lemmas.{Words.{true, ℕ}, delivery.Receiving.says_so, faults.Channels.switch_no_end}
 use Rattle.precision_law.proofs.traffic_lemmas.delivery.{Coming.{spans_are_apart, takings_come_by_rows}, Sent.{Brings, last_passes, no_later, none_last}}
 use Rattle.{precision_law.proofs.traffic_lemmas.delivery.Taken.takings_are_so, run_law.specs.timed.Receptions.{comes_before, is_taken_before, taken_cycle}}
@@ -22,12 +22,12 @@ comes_from_switch brings {v} {entry} is row end = by entry.row.way refl end
     by : (w : Way) → entry.row.way ≡ w → is_end v.scenario.network (target_by entry.row.way entry.link) ≡ true → IsGood v (source_by entry.row.way entry.link)
     by Up e end =
         let joint = is.lawful.rules Joints entry.row.link.0 entry.link row.link in
-        let parent : is_end v.scenario.network entry.link.parent ≡ true = subst (λ w. is_end v.scenario.network (target_by w entry.link) ≡ true) e end
+        let parent : is_end v.scenario.network entry.link.parent ≡ true = rw e at end
         in
         absurd (both_ways _ (switch_no_end joint.0 entry.link.parent is.lawful.range joint.1) parent)
     by Down e end =
         let joint = is.lawful.rules Joints entry.row.link.0 entry.link row.link in
-        subst (λ w. IsGood v (source_by w entry.link)) (sym e) (brings.channels.switches v joint.0 entry.link.parent is joint.1)
+        rw e (brings.channels.switches v joint.0 entry.link.parent is joint.1)
 
 -- when an end system takes a frame of a cycle, it is in the cycle's span
 span_of : Brings → {v : View} (h : Happening) (device : DeviceId) (link : LinkId) (cause : ℕ) (vl : VlId) (cycle : ℕ)
@@ -36,7 +36,7 @@ span_of : Brings → {v : View} (h : Happening) (device : DeviceId) (link : Link
 span_of brings {v} h device link cause vl cycle is fit good end i says =
     let taking = takings_are_so v h device link cause vl cycle is i says in
     let from_switch = comes_from_switch brings is taking.by_row.row
-    (subst (λ d. is_end v.scenario.network d ≡ true) (sym taking.by_row.enters) end) in
+    (rw taking.by_row.enters end) in
     (takings_come_by_rows brings.blocks brings.senders v h device link cause vl cycle is fit good taking from_switch).in_span.span
 
 -- ---- two deliveries
@@ -44,7 +44,7 @@ span_of brings {v} h device link cause vl cycle is fit good end i says =
 -- the place of a delivery
 delivered_place : (h : Happening) (device : DeviceId) (link : LinkId) (cause : ℕ) (vl : VlId) (cycle : ℕ) → h.note.body ≡ notes.Delivered device link cause vl
     cycle → place_of h ≡ time_of h ∷ 12 ∷ device.0 ∷ link.0 ∷ cause ∷ []
-delivered_place h device link cause vl cycle is = ap (λ b. time_of h ∷ rank b ∷ key (members_in h) b) is
+delivered_place h device link cause vl cycle is = rw is
 
 -- what is before a delivery is so by its time, or by its link and cause
 before_by : (t u d : ℕ) (link other : LinkId) (cause second : ℕ) → IsBefore (t ∷ 12 ∷ d ∷ link.0 ∷ cause ∷ []) (u ∷ 12 ∷ d ∷ other.0 ∷ second ∷ [])
@@ -77,7 +77,7 @@ none_before brings {v} h g device link other cause second vl cycle is fit good i
     let p = λ (x : Happening). is_taken_before device vl t other second (time_of x) x.note.body in
     let in_front : IsIn h taking.front = elim (in_parts h taking.front (g ∷ taking.rest) (subst (IsIn h) taking.split i)) [
       | inl l ↦ l
-      | inr (inl same) ↦ absurd (never_self (place_of g) (subst (λ x. IsBefore (place_of x) (place_of g)) same order))
+      | inr (inl same) ↦ absurd (never_self (place_of g) (rw same at order))
       | inr (inr later) ↦
           absurd (never_self (place_of h)
           (chain (place_of h) (place_of g) (place_of h) order
@@ -108,9 +108,11 @@ none_before brings {v} h g device link other cause second vl cycle is fit good i
         let span_r = span_of brings r device says.link says.cause vl number.0 is fit good end in_all says.says in
         let span_g = span_of brings g device other second vl cycle is fit good end j (inr two) in
         elim (cases_lt number.0 cycle) [
-          | inl lt ↦ (let wrong = spans_are_apart v number.0 cycle (time_of r) (time_of h) is lt span_r span_h in omega (arith, wrong, behind))
+          | inl lt ↦ (let wrong = spans_are_apart v number.0 cycle (time_of r) (time_of h) is lt span_r span_h in
+              omega arith)
           | inr ge ↦ elim (cases_lt cycle number.0) [
-            | inl lt ↦ (let wrong = spans_are_apart v cycle number.0 (time_of g) (time_of r) is lt span_g span_r in omega (arith, wrong, says.by_then))
+            | inl lt ↦ (let wrong = spans_are_apart v cycle number.0 (time_of g) (time_of r) is lt span_g span_r in
+                omega (arith, says.by_then))
             | inr le ↦
                 grind (arith, number.0, is_taken_in, last_taken, taking.front, time_of, option_and_then, number.1, eq-eqb, both_ways, taking.anew)
           ]

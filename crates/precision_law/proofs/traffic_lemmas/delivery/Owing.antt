@@ -12,9 +12,9 @@ use Rattle.precision_law.proofs.traffic_lemmas.schedule.Rows.{rows_are_in_time, 
 use Rattle.precision_law.proofs.traffic_lemmas.spans.{Reaching.values_are_reached, Spans.values_are_reached_in_spans}
 use Rattle.precision_law.proofs.traffic_lemmas.Words.{◌*◌, ◌+ℤ◌, ◌+◌, ◌<◌, ◌∙◌, ◌≡◌, ◌≤ℤ◌, ◌≤◌, Entry, Happening, Hull}
 use Rattle.precision_law.proofs.traffic_lemmas.Words.{IsEntry, IsGood, Sizes, IsInSpan, IsOnChannel, IsSwitchOf}
-use Rattle.precision_law.proofs.traffic_lemmas.Words.{IsTimedAt, IsView, Joints, Link, List, Reaches, Some, Stands}
+use Rattle.precision_law.proofs.traffic_lemmas.Words.{IsTimedAt, IsView, Joints, List, Reaches, Stands}
 use Rattle.precision_law.proofs.traffic_lemmas.Words.{View, VirtualLink, amount, ap, arith, before_narrow, both_ways}
-use Rattle.precision_law.proofs.traffic_lemmas.Words.{closed, false, inl, inr, ints, is_broken, is_end, link_at, pos}
+use Rattle.precision_law.proofs.traffic_lemmas.Words.{closed, false, inl, inr, ints, is_end, link_at, pos}
 use Rattle.precision_law.proofs.traffic_lemmas.Words.{reaches_by, refl, room, same_some, slice_get, source_by}
 use Rattle.precision_law.proofs.traffic_lemmas.Words.{source_of, state_after, subst, suc, sym, true, zero, ℕ}
 use Rattle.precision_law.specs.{Hulls.IsNarrow, Progress.EndSystemsComeIn, Sizes.HaveRoom}
@@ -44,9 +44,8 @@ record IsFirstRow (network : Network) (vl : VlId) (channel : Channel) (offset : 
 first_row : (bound : ℕ) {v : View} (vl : VlId) (channel : Channel) → IsView v → (place : ℕ) (entry : Entry)
     → IsEntry v.scenario.network place entry → entry.row.vl ≡ vl → IsOnChannel v.scenario.network channel entry
     → amount entry.row.offset < bound → IsFirstRow v.scenario.network vl channel (amount entry.row.offset)
-first_row zero vl channel is place entry row own on below = absurd (omega (arith, below))
+first_row zero vl channel is place entry row own on below = absurd (omega arith)
 first_row (suc bound) {v} vl channel is place entry row own on below =
-    let n = v.scenario.network in
     let device = source_of entry in
     elim (same_or_other device entry.vl.sender) [
       | inl sender ↦ record {
@@ -68,12 +67,12 @@ first_row (suc bound) {v} vl channel is place entry row own on below =
             let no_end = switch_no_end of_channel.0 device is.lawful.range of_channel.1 in
             let firm = source_on channel is.lawful.range is.lawful.rules row no_end on in
             let on_channel = target_on channel is.lawful.range is.lawful.rules enters.is
-            (subst (IsSwitchOf n channel) (sym enters.target) firm) in
+            (subst (IsSwitchOf v.scenario.network channel) (sym enters.target) firm) in
             let behind = (is.lawful.rules Forwarding place).from_switch k entering entry enters.is row
             (sym enters.same_vl) other enters.target in
             let times = rows_are_in_time v k entering is enters.is in
             let first = first_row bound vl channel is k entering enters.is (enters.same_vl ∙ own) on_channel
-            (omega (arith, behind, times.tolerates, below)) in
+            (omega (arith, times.tolerates)) in
             record {
               place = first.place;
               entry = first.entry;
@@ -81,7 +80,7 @@ first_row (suc bound) {v} vl channel is place entry row own on below =
               own = first.own;
               on = first.on;
               source = first.source;
-              early = omega (arith, first.early, behind, times.tolerates);
+              early = omega (arith, first.early, times.tolerates);
             }
       ]
     ]
@@ -95,7 +94,7 @@ by_uplink {v} channel {entry} device is row on end source = by entry.row.way sou
   where
     by : (way : Way) → source_by way entry.link ≡ device → IsUplink v.scenario.network channel device entry.row.link
     by Up e =
-        closed (λ (l : Link). (l.child ≡ device) × IsSwitchOf v.scenario.network channel l.parent)
+        closed (λ l. (l.child ≡ device) × IsSwitchOf v.scenario.network channel l.parent)
         (link_at v.scenario.network entry.row.link) entry.link
         row.link (e, on)
     by Down e =
@@ -126,9 +125,9 @@ leaves_early {v} {vl} {of_vl} is due {place} {entry} row own source =
     let into = row_on joint.0 is due.end_system due.enters in
     let first = first_row (amount into.entry.row.offset + 1) vl joint.0 is into.place into.entry into.is into.same_vl
     into.on_channel (omega arith) in
-    let vls : first.entry.vl ≡ of_vl = same_some (slice_get n.vl vl.0) first.entry.vl of_vl
-    (subst (λ (x : VlId). slice_get n.vl x.0 ≡ Some first.entry.vl) first.own first.row.vl) due.there in
-    let from = first.source ∙ ap (λ (x : VirtualLink). x.sender) vls in
+    let vls = same_some (slice_get n.vl vl.0) first.entry.vl of_vl
+    (rw first.own at first.row.vl) due.there in
+    let from = first.source ∙ ap (λ x. x.sender) vls in
     let end = end_test n of_vl.sender (is.lawful.rules Senders vl.0 of_vl due.there) in
     let same = one_row vl joint.0 of_vl.sender is end row first.row own first.own joint.1 first.on source from in
     let offset : amount entry.row.offset ≡ amount first.entry.row.offset =
@@ -136,7 +135,7 @@ leaves_early {v} {vl} {of_vl} is due {place} {entry} row own source =
     let times = rows_are_in_time v into.place into.entry is into.is in
     let ends = due.greatest.most (window_end n into.entry)
     (into.entry, record { place = into.place; is = into.is; of_vl = into.same_vl; enters = into.target }, refl) in
-    omega (arith, offset, first.early, times.tolerates, ends)
+    omega (arith, first.early, times.tolerates)
 
 -- ---- the law
 
@@ -145,14 +144,13 @@ reaches_out : {v : View} {hs : List Happening} {device : DeviceId} (cycle place 
     → IsFrontOf v hs → t ≤ v.until → Reaches v.scenario v.records device (pos (cycle * v.sizes.cycle + place)) t
     → ReachesPlace v.scenario hs device cycle place t
 reaches_out {v} {hs} {device} cycle place {t} is front le reaches =
-    let value = pos (cycle * amount v.scenario.network.cycle + place) in
-    reaches_by {gs = v.records} hs {t = t} (sym (front.early t (omega (arith, le))))
-    (subst (λ (n : ℕ). Reaches v.scenario v.records device (pos (cycle * n + place)) t) (cycle_is is) reaches)
+    reaches_by hs (sym (front.early t (omega arith)))
+    (rw (cycle_is is) at reaches)
 
 -- what comes in the span of a cycle comes behind what lies before the span
 behind_by : {v : View} {n : ℕ} (from : ℕ) {t : ℕ} (before : Stands v n) (span : IsInSpan v n t) → from < before.next
     → from ≤ t
-behind_by from before span lt = omega (arith, same_next span.block.before before, span.block.from, lt)
+behind_by from before span lt = omega (arith, same_next span.block.before before, span.block.from)
 
 -- and a value that lies a precision before the end of a window is reached before that end may be
 reached_sooner : {s : Sizes} (hull own : Hull) (offset last at until : ℕ) → HaveRoom s → IsNarrow s hull → own ≡ hull
@@ -163,10 +161,6 @@ reached_sooner hull own offset last at until space narrow same early low high =
       arith,
       ints,
       ap (λ (w : Hull). w.greatest) same,
-      narrow,
-      early,
-      low,
-      high,
       space.eight_errors,
       space.errors.reach_is,
       space.errors.clock_is,
@@ -181,9 +175,9 @@ owed_in_view : Brings → {v : View} {hs : List Happening} {until : ℕ} {vl : V
 owed_in_view brings {v} {hs} {vl} {of_vl} {cycle} {device} is front due end steps =
     let n = v.scenario.network in
     let sender = of_vl.sender in
-    let lt : due.from < v.until = omega (arith, due.in_order, end) in
-    let fine : IsGood v device = subst (λ t. is_broken v.scenario device t ≡ false) end due.receiver in
-    let fine_sender : IsGood v sender = subst (λ t. is_broken v.scenario sender t ≡ false) end due.sender in
+    let lt : due.from < v.until = omega (arith, due.in_order) in
+    let fine : IsGood v device = rw end at due.receiver in
+    let fine_sender : IsGood v sender = rw end at due.sender in
     let receiver : (t : ℕ) → due.from ≤ t → t ≤ v.until → IsInStep v.scenario hs device t =
     λ t from le. steps device t (end_test n device due.end_system) due.device_on fine from le in
     let sends : (t : ℕ) → due.from ≤ t → t ≤ v.until → IsInStep v.scenario hs sender t =
@@ -192,15 +186,15 @@ owed_in_view brings {v} {hs} {vl} {of_vl} {cycle} {device} is front due end step
     let timed : (t : ℕ) → due.from < t → t ≤ v.until → IsTimedAt v device t =
     λ t less le. timed_behind device due.from t front fine receiver less le in
     let within = last_in_schedule is due.enters due.greatest in
-    let ends = subst (λ t. ReachesPlace v.scenario hs device cycle due.last t) end due.ends in
+    let ends = rw end at due.ends in
     let reached = values_are_reached_in_spans brings.blocks v cycle due.last v.until device is
     (timed v.until lt (omega arith)) (omega arith) due.occurs.begun
     within (reaches_in cycle due.last is front (omega arith) ends) in
-    let begins = reaches_in cycle 0 is front (omega (arith, lt)) due.begins in
+    let begins = reaches_in cycle 0 is front (omega arith) due.begins in
     let block = reached.span.block in
     let before = block.before in
     let behind = from_before brings is reached.span due.occurs.begun lt begins
-    (timed (due.from + 1) (omega arith) (omega (arith, lt))) in
+    (timed (due.from + 1) (omega arith) (omega arith)) in
     let begun = timed_behind sender due.from before.next front fine_sender sends behind block.from in
     record {
       there = due.there;
@@ -216,14 +210,14 @@ owed_in_view brings {v} {hs} {vl} {of_vl} {cycle} {device} is front due end step
       ends = due.ends;
       in_order = due.in_order;
       in_run = due.in_run;
-      receiver = λ t from le. receiver t from (omega (arith, le, end));
+      receiver = λ t from le. receiver t from (omega arith);
       rows = λ place entry row own source.
           let early = leaves_early is due row own source in
           let narrow = before_narrow before in
           let space = room is in
           let offset = amount entry.row.offset in
           let last : ((before.hull.greatest +ℤ pos offset) +ℤ pos v.sizes.reach) ≤ℤ pos v.until =
-          omega (arith, ints, early, narrow, reached.not_early, space.eight_errors) in
+          omega (arith, ints, reached.not_early, space.eight_errors) in
           let r = values_are_reached brings.blocks brings.not_on v cycle offset before sender is begun due.occurs.begun
           (offset_in_schedule is row) last in
           let less = reached_sooner before.hull r.in_span.span.block.before.hull offset due.last r.at v.until
@@ -231,9 +225,9 @@ owed_in_view brings {v} {hs} {vl} {of_vl} {cycle} {device} is front due end step
           (same_hull v cycle r.in_span.span.block.before before) early reached.not_early r.in_span.not_late in
           let later = behind_by due.from before r.in_span.span behind in (
             r.at,
-            omega (arith, less, end),
-            reaches_out cycle offset is front (omega (arith, less)) r.reached,
-            (sends r.at later (omega (arith, less))).synchronised,
+            omega arith,
+            reaches_out cycle offset is front (omega arith) r.reached,
+            (sends r.at later (omega arith)).synchronised,
           );
       sender = due.sender;
     }
@@ -250,5 +244,5 @@ due_frames_are_owed brings come s mark ns until up vl of_vl cycle device due =
       founded = up.run.founded;
     } in
     owed_in_view brings at.is front due refl (λ x t end on good from le.
-    come s mark ns until up x due.on_at t end on (omega (arith, due.long, from)) (omega (arith, le, due.in_run))
+    come s mark ns until up x due.on_at t end on (omega (arith, due.long)) (omega (arith, due.in_run))
     (brings.channels.correct v x t good le))

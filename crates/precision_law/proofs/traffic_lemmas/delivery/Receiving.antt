@@ -1,15 +1,15 @@
 -- A dispatched frame that comes to a synchronised device is taken, or one was taken before.
 use Rattle.{net_plan.specs.Bounds.gamma_of, run_law.specs.{control.Wires.Arrives, device.States.is_off, timed.Arrivals.taken_by}}
-use Rattle.precision_law.proofs.traffic_lemmas.Words.{◌&&◌, ◌++◌, ◌+ℤ◌, ◌+◌, ◌<◌, ◌==◌, ◌||◌, ◌∙◌, ◌∷◌, ◌≡◌, ◌≢◌, ◌≤◌, Arrival, Bool, BringsBlocks}
+use Rattle.precision_law.proofs.traffic_lemmas.Words.{◌&&◌, ◌++◌, ◌<◌, ◌==◌, ◌||◌, ◌∙◌, ◌∷◌, ◌≡◌, ◌≢◌, ◌≤◌, Arrival, Bool, BringsBlocks}
 use Rattle.precision_law.proofs.traffic_lemmas.Words.{BringsChannels, DeviceId, Down, Entry, FieldsFit, Happening, Integrating, IsDue, IsGood, IsIn}
 use Rattle.precision_law.proofs.traffic_lemmas.Words.{IsRowDispatch, IsTimedAt, IsView, KeepsRules, Link, LinkId, List, Network, None, NoteBody, OccursIn}
-use Rattle.precision_law.proofs.traffic_lemmas.Words.{Option, SaysTaken, Sizes, Some, Standpoint, State, Synchronised, Up, View, VlId, Way, []}
-use Rattle.precision_law.proofs.traffic_lemmas.Words.{adjustment_after, amount, and_parts, ap, arith, arrives_at, clock_of, cycle_at, earlier, entry_arrival}
+use Rattle.precision_law.proofs.traffic_lemmas.Words.{Option, SaysTaken, Some, Standpoint, State, Synchronised, Up, View, VlId, Way, []}
+use Rattle.precision_law.proofs.traffic_lemmas.Words.{amount, and_parts, ap, arith, arrives_at, clock_of, cycle_at, earlier, entry_arrival}
 use Rattle.precision_law.proofs.traffic_lemmas.Words.{entry_entering, eq-eqb, eqb-true, false, field, filter, if◌then◌else◌, in_filter, in_left, in_range, inl}
 use Rattle.precision_law.proofs.traffic_lemmas.Words.{inr, ints, is_broken, is_end, is_synchronised, is_taken_in, is_turned_on_at, last_in, last_or, last_taken}
 use Rattle.precision_law.proofs.traffic_lemmas.Words.{launched, length, link_at, nat_lt, not, numbered, octets_fault, octets_or_fault, offset_in_cycle}
-use Rattle.precision_law.proofs.traffic_lemmas.Words.{one_device, option_and_then, option_map, option_map_or, place_of, pos, refl, room, row_fault, shown_at}
-use Rattle.precision_law.proofs.traffic_lemmas.Words.{source_by, split, standpoint, state_after, subst, sym, taken_or_fault, target_by, target_of, time_of}
+use Rattle.precision_law.proofs.traffic_lemmas.Words.{one_device, option_and_then, option_map_or, place_of, refl, room, row_fault, shown_at}
+use Rattle.precision_law.proofs.traffic_lemmas.Words.{source_by, split, standpoint, state_after, subst, sym, taken_or_fault, target_of, time_of}
 use Rattle.precision_law.proofs.traffic_lemmas.{Words.{timed, timed_arrival, true, tt_frame_by, way_from, ℕ}, schedule.Rows.rows_are_in_time}
 use Rattle.precision_law.proofs.traffic_lemmas.delivery.{Arriving.{arrivals_are_in_windows, delay_lies, frames_arrive_in_spans}, Whole.dispatches_are_whole}
 use Rattle.{precision_law.proofs.traffic_lemmas.{delivery.Coming.on_port, ports.Ends.ends_differ}, run_law.proofs.law.FirstPlaces.{due_is_there, same_earlier}}
@@ -48,7 +48,7 @@ sooner at t more e = grind (arith, or_cases, nat_lt, ltb-true, eqb-true, and_par
 
 -- the id of a virtual link
 pub one_vl : (d e : VlId) → (d.0 == e.0) ≡ true → e ≡ d
-one_vl d e same = ap (λ (n : ℕ). let x : VlId = record { 0 = n } in x) (sym (eqb-true d.0 e.0 same))
+one_vl d e same = rw (sym (eqb-true d.0 e.0 same))
 
 -- what passes the test is such a record
 pub says_so : (device : DeviceId) (vl : VlId) (cycle t : ℕ) (link : LinkId) (cause : ℕ) (g : Happening) (body : NoteBody) → g.note.body ≡ body
@@ -61,21 +61,22 @@ says_so device vl cycle t link cause g (notes.Accepted other by from of_vl numbe
       link = by;
       cause = from;
       says =
-          inl (same ∙ ap (λ (d : DeviceId). notes.Accepted d by from of_vl number) (one_device device other inner.0)
-          ∙ ap (λ (x : VlId). notes.Accepted device by from x number) (one_vl vl of_vl inner.1) ∙ ap (λ (c : ℕ). notes.Accepted device by from vl c) number_is);
+          inl (same ∙ ap (λ d. notes.Accepted d by from of_vl number) (one_device device other inner.0)
+          ∙ ap (λ x. notes.Accepted device by from x number) (one_vl vl of_vl inner.1) ∙ ap
+          (λ c. notes.Accepted device by from vl c) number_is);
       by_then = sooner (time_of g) t (comes_before by from link cause) outer.1;
     }
 says_so device vl cycle t link cause g (notes.Delivered other by from of_vl number) same test cycles =
     let outer = and_parts (device.0 == other.0 && vl.0 == of_vl.0) (nat_lt (time_of g) t || (time_of g == t && comes_before by from link cause)) test in
     let inner = and_parts (device.0 == other.0) (vl.0 == of_vl.0) outer.0 in
-    let number_is : number ≡ cycle = cc in
     record {
       link = by;
       cause = from;
       says =
-          inr (same ∙ ap (λ (d : DeviceId). notes.Delivered d by from of_vl number) (one_device device other inner.0)
-          ∙ ap (λ (x : VlId). notes.Delivered device by from x number) (one_vl vl of_vl inner.1) ∙ ap (λ (c : ℕ). notes.Delivered device by from vl c)
-          number_is);
+          inr (same ∙ ap (λ d. notes.Delivered d by from of_vl number) (one_device device other inner.0)
+          ∙ ap (λ x. notes.Delivered device by from x number) (one_vl vl of_vl inner.1) ∙ ap
+          (λ c. notes.Delivered device by from vl c)
+          cc);
       by_then = sooner (time_of g) t (comes_before by from link cause) outer.1;
     }
 says_so device vl cycle t link cause g body same test cycles = absurd cc
@@ -88,7 +89,7 @@ taken_before hs device t link cause vl cycle e =
   where
     in_cycle : (o : Option ℕ) → is_taken_in cycle o ≡ true → o ≡ Some cycle
     in_cycle None e = absurd cc
-    in_cycle (Some c) e = ap (λ (n : ℕ). Some n) (eqb-true c cycle e)
+    in_cycle (Some c) e = rw (eqb-true c cycle e)
 
     by : (o : Option Happening) → last_or None (filter (λ h. is_taken_before device vl t link cause (time_of h) h.note.body) hs) ≡ o
         → is_taken_in cycle (option_and_then (λ h. taken_cycle h.note.body) o) ≡ true → (g : Happening) × IsIn g hs × SaysSo device vl cycle t g
@@ -97,7 +98,7 @@ taken_before hs device t link cause vl cycle e =
         elim (last_in None (filter (λ h. is_taken_before device vl t link cause (time_of h) h.note.body) hs) g last) [
           | inl none ↦ absurd cc
           | inr i ↦
-              let test = has_passed (λ (h : Happening). is_taken_before device vl t link cause (time_of h) h.note.body) hs g i in (
+              let test = has_passed (λ h. is_taken_before device vl t link cause (time_of h) h.note.body) hs g i in (
                 g,
                 in_filter (λ h. is_taken_before device vl t link cause (time_of h) h.note.body) hs g i,
                 says_so device vl cycle t link cause g g.note.body
@@ -135,14 +136,14 @@ comes_to : {v : View} {h : Happening} {device : DeviceId} (receiver : DeviceId) 
 comes_to {v} {h} {device} receiver {link} {cause} {vl} {cycle} is d enters =
     let s = v.scenario in
     let n = s.network in
-    let at : link_at n link ≡ Some d.entry.link = subst (λ x. link_at n x ≡ Some d.entry.link) d.by d.row.link in
-    let way : way_from n device link ≡ d.entry.row.way = sends_on n link d.entry.link d.entry.row.way device is.lawful.rules at d.leaves in
+    let at : link_at n link ≡ Some d.entry.link = rw d.by at d.row.link in
+    let way = sends_on n link d.entry.link d.entry.row.way device is.lawful.rules at d.leaves in
     let port = on_port v link h.octets d.row d.by (dispatches_are_whole v h device link cause vl cycle is d) in
     record {
       way = d.entry.row.way;
       put = ap (launched s h (time_of h)) d.is ∙ ap (λ w. Some (put_on link w (timed h.octets))) way;
-      receiver = ap (λ (o : Option Link). option_map (target_by d.entry.row.way) o) at ∙ ap (λ (x : DeviceId). Some x) enters;
-      at = omega (arith, port);
+      receiver = rw at (ap (λ x. Some x) enters);
+      at = omega arith;
     }
 
 -- what becomes of it, by records that have those of earlier times
@@ -165,19 +166,20 @@ taken_so brings channels {v} {h} {device} {receiver} {link} {cause} {vl} {cycle}
     let entry = d.entry in
     let t = arrives_at v h link entry.row.way entry in
     let at = standpoint s ps receiver t in
-    let left : state_after s (earlier t ps) receiver ≡ Synchronised = ap (λ xs. state_after s xs receiver) same ∙ up.synchronised in
-    let state : at.state ≡ Synchronised = state_is (is_turned_on_at s receiver t) (state_after s (earlier t ps) receiver) off left in
-    let part : at.takes_part ≡ true = takes_part at.state (is_broken s receiver t) state (channels.correct v receiver t fine in_run) in
-    let shown : clock_of at ≡ shown_at v receiver t = ap (λ xs. pos (s.reading receiver t) +ℤ (adjustment_after s xs receiver).0) same in
+    let left : state_after s (earlier t ps) receiver ≡ Synchronised = rw same up.synchronised in
+    let state = state_is (is_turned_on_at s receiver t) (state_after s (earlier t ps) receiver) off left in
+    let part = takes_part at.state (is_broken s receiver t) state (channels.correct v receiver t fine in_run) in
+    let shown : clock_of at ≡ shown_at v receiver t = rw same in
     let shows = frame_shows n entry.vl cycle fit.marker (fit.ids entry.row.vl.0 entry.vl d.row.vl) (fit.types entry.row.vl.0 entry.vl d.row.vl) in
     let range = in_range n d.place entry is.lawful.range d.row in
     let type_is : field 12 2 h.octets ≡ entry.vl.ethertype = ap (field 12 2) whole ∙ shows.ethertype in
     let marker_is : field 0 4 h.octets ≡ n.marker = ap (field 0 4) whole ∙ shows.marker in
     let id_is : field 4 2 h.octets ≡ entry.vl.id = ap (field 4 2) whole ∙ shows.id in
-    let sound = octets_sound n at h.octets part (omega (arith, type_is, range.vl.ethertype_least)) (synchronised_test at.state state) marker_is in
-    let link_there : link_at n link ≡ Some entry.link = subst (λ x. link_at n x ≡ Some entry.link) d.by d.row.link in
-    let receives : receiver_of n link entry.row.way ≡ Some receiver = ap (λ (o : Option Link). option_map (target_by entry.row.way) o) link_there
-    ∙ ap (λ (x : DeviceId). Some x) enters in
+    let sound = octets_sound n at h.octets part (omega (arith, range.vl.ethertype_least))
+    (synchronised_test at.state state) marker_is in
+    let link_there : link_at n link ≡ Some entry.link = rw d.by at d.row.link in
+    let receives : receiver_of n link entry.row.way ≡ Some receiver = rw link_there
+    (ap (λ x. Some x) enters) in
     let found : entry_entering n receiver link (field 4 2 h.octets) ≡ Some entry =
     ap (entry_entering n receiver link) id_is ∙ enters_by receiver link is.lawful.rules d.row d.by
     (way_is n link entry.row.way receiver is.lawful.rules receives) in
@@ -186,14 +188,14 @@ taken_so brings channels {v} {h} {device} {receiver} {link} {cause} {vl} {cycle}
     let cycle_at_t : cycle_at n (clock_of at) ≡ cycle = ap (cycle_at n) shown ∙ window.in_cycle in
     let place_at_t : offset_in_cycle n (clock_of at) ≡ offset_in_cycle n (shown_at v receiver t) = ap (offset_in_cycle n) shown in
     let times = rows_are_in_time v d.place entry is d.row in
-    let precision : v.sizes.precision ≡ amount n.precision = ap (λ (x : Sizes). x.precision) is.sizes in
-    let gamma : v.sizes.gamma ≡ gamma_of n = ap (λ (x : Sizes). x.gamma) is.sizes in
+    let precision : v.sizes.precision ≡ amount n.precision = rw is.sizes in
+    let gamma : v.sizes.gamma ≡ gamma_of n = rw is.sizes in
     let space = room is in
     let fits = row_sound n at entry (length h.octets) (last entry.row.vl) (dispatches_are_whole v h device link cause vl cycle is d)
     (subst (OccursIn entry.vl) (sym cycle_at_t) d.occurs)
-    (omega (arith, ints, place_at_t, window.not_before, precision, gamma, space.eight_errors))
-    (omega (arith, ints, place_at_t, window.not_behind, times.tolerates, space.eight_errors))
-    (ap (λ c. is_taken_in c (last entry.row.vl)) cycle_at_t ∙ ap (λ (x : VlId). is_taken_in cycle (last x)) d.of_vl ∙ anew) in
+    (omega (arith, ints, window.not_before, space.eight_errors))
+    (omega (arith, ints, window.not_behind, times.tolerates, space.eight_errors))
+    (rw cycle_at_t (ap (λ x. is_taken_in cycle (last x)) d.of_vl ∙ anew)) in
     judged n receiver link at h.octets last entry sound found fits
     ∙ ap (λ x. taken_by n receiver x (cycle_at n (clock_of at))) d.of_vl
     ∙ ap (taken_by n receiver vl) cycle_at_t
@@ -205,7 +207,7 @@ later_than : {v : View} {h : Happening} {device : DeviceId} {link : LinkId} {cau
 later_than {v} {h} {link} is d =
     let n = v.scenario.network in
     let range = in_range n d.place d.entry is.lawful.range d.row in
-    let at : link_at n link ≡ Some d.entry.link = subst (λ x. link_at n x ≡ Some d.entry.link) d.by d.row.link in
+    let at : link_at n link ≡ Some d.entry.link = rw d.by at d.row.link in
     let delay = delay_lies link d.entry.link d.entry.row.way (time_of h) is.lawful at range.link.wire.least
     range.link.jitter.least in
     omega (arith, ints, delay.0, range.link.wire.least)
@@ -245,7 +247,7 @@ arrivals_are_taken brings channels v h device receiver link cause vl cycle is fi
         let s = v.scenario in
         let t = arrives_at v h link d.entry.row.way d.entry in
         let at = split place_of (IsDue s) v.records (t ∷ 11 ∷ receiver.0 ∷ link.0 ∷ h.note.number ∷ []) is.run.founded in
-        let found = found_before s {hs = v.records} t _ at h is.run.founded d.there
+        let found = found_before s t _ at h is.run.founded d.there
         (later_than is d) in
         elim (is_taken_in cycle (last_taken at.front receiver t link h.note.number vl)) as
         (λ b. is_taken_in cycle (last_taken at.front receiver t link h.note.number vl) ≡ b → HasTaken v receiver vl cycle t) [
@@ -253,15 +255,15 @@ arrivals_are_taken brings channels v h device receiver link cause vl cycle is fi
           | false ↦ λ anew.
               let judgement = taken_so brings channels is fit good fine d whole enters in_run up off at.front
               (same_earlier t _ at) (last_taken at.front receiver t link h.note.number) anew in
-              let kind : taken_by s.network receiver vl cycle ≡ arrivals.Accepted vl cycle = ap (λ (x : Bool). if x then arrivals.Delivered vl cycle
-              else arrivals.Accepted vl cycle) end in
+              let kind : taken_by s.network receiver vl cycle ≡ arrivals.Accepted vl cycle = rw end in
               let body = notes.Accepted receiver link h.note.number vl cycle in
               let taking = happening s.network at.front (next_note at.front t body) in
               record {
                 taking = taking;
                 there =
-                    due_is_there {s = s} {mark = (v.until + 1) ∷ []} {x = taking} at is.run
-                    (next_due s at.front t body (arrives_as at.front (arrivals.Accepted vl cycle) found (judgement ∙ kind))) (inl (omega (arith, in_run)));
+                    due_is_there at is.run
+                    (next_due s at.front t body (arrives_as at.front (arrivals.Accepted vl cycle) found
+                    (judgement ∙ kind))) (inl (omega arith));
                 by_then = omega arith;
                 link = link;
                 cause = h.note.number;
@@ -272,7 +274,7 @@ arrivals_are_taken brings channels v h device receiver link cause vl cycle is fi
         let s = v.scenario in
         let t = arrives_at v h link d.entry.row.way d.entry in
         let at = split place_of (IsDue s) v.records (t ∷ 12 ∷ receiver.0 ∷ link.0 ∷ h.note.number ∷ []) is.run.founded in
-        let found = found_before s {hs = v.records} t _ at h is.run.founded d.there
+        let found = found_before s t _ at h is.run.founded d.there
         (later_than is d) in
         elim (is_taken_in cycle (last_taken at.front receiver t link h.note.number vl)) as
         (λ b. is_taken_in cycle (last_taken at.front receiver t link h.note.number vl) ≡ b → HasTaken v receiver vl cycle t) [
@@ -280,15 +282,15 @@ arrivals_are_taken brings channels v h device receiver link cause vl cycle is fi
           | false ↦ λ anew.
               let judgement = taken_so brings channels is fit good fine d whole enters in_run up off at.front
               (same_earlier t _ at) (last_taken at.front receiver t link h.note.number) anew in
-              let kind : taken_by s.network receiver vl cycle ≡ arrivals.Delivered vl cycle = ap (λ (x : Bool). if x then arrivals.Delivered vl cycle
-              else arrivals.Accepted vl cycle) end in
+              let kind : taken_by s.network receiver vl cycle ≡ arrivals.Delivered vl cycle = rw end in
               let body = notes.Delivered receiver link h.note.number vl cycle in
               let taking = happening s.network at.front (next_note at.front t body) in
               record {
                 taking = taking;
                 there =
-                    due_is_there {s = s} {mark = (v.until + 1) ∷ []} {x = taking} at is.run
-                    (next_due s at.front t body (arrives_as at.front (arrivals.Delivered vl cycle) found (judgement ∙ kind))) (inl (omega (arith, in_run)));
+                    due_is_there at is.run
+                    (next_due s at.front t body (arrives_as at.front (arrivals.Delivered vl cycle) found
+                    (judgement ∙ kind))) (inl (omega arith));
                 by_then = omega arith;
                 link = link;
                 cause = h.note.number;

@@ -1,13 +1,13 @@
 -- On the sound channel each row of a virtual link dispatches its frame.
 use Rattle.{precision_law.proofs.records.Times.last_some, run_law.proofs.law.{FirstPlaces.{due_is_there, same_earlier}, FirstSent.{next_due, next_note}}}
 use Rattle.precision_law.proofs.traffic_lemmas.Words.{◌*◌, ◌+◌, ◌<◌, ◌==◌, ◌∙◌, ◌∷◌, ◌≡◌, ◌≢◌, ◌≤◌, ◌⊎◌, Bool, BringsBlocks, BringsChannels, DeviceId, Entry}
-use Rattle.precision_law.proofs.traffic_lemmas.Words.{FieldsFit, Happening, HasGoodSources, Hull, Integrating, IsBefore, IsDue, IsEntry, IsGood, IsIn, IsInSpan}
-use Rattle.precision_law.proofs.traffic_lemmas.Words.{IsOnChannel, IsRowDispatch, IsSwitchOf, IsTimedAt, IsView, Link, LinkId, List, None, NoteBody, OccursIn}
+use Rattle.precision_law.proofs.traffic_lemmas.Words.{FieldsFit, Happening, HasGoodSources, IsBefore, IsDue, IsEntry, IsGood, IsIn, IsInSpan}
+use Rattle.precision_law.proofs.traffic_lemmas.Words.{IsOnChannel, IsRowDispatch, IsSwitchOf, IsTimedAt, IsView, LinkId, List, None, NoteBody, OccursIn}
 use Rattle.precision_law.proofs.traffic_lemmas.Words.{Option, Reaches, SendersAreBroken, Some, Synchronised, TimedAreNotTurnedOn, View, VirtualLink, VlId, []}
 use Rattle.precision_law.proofs.traffic_lemmas.Words.{amount, and_parts, ap, arith, arrives_at, before_narrow, cases_lt, clocks_reach_sharply, closed, earlier}
-use Rattle.precision_law.proofs.traffic_lemmas.Words.{eq-eqb, filter, if◌then◌else◌, in_filter, in_range, inl, inr, ints, is_accepted, is_turned_on_at}
+use Rattle.precision_law.proofs.traffic_lemmas.Words.{eq-eqb, filter, in_filter, in_range, inl, inr, ints, is_accepted, is_turned_on_at}
 use Rattle.precision_law.proofs.traffic_lemmas.Words.{last_accepted, last_in, last_or, last_setting, link_at, one_device, place_of, pos, reaches_by, refl, room}
-use Rattle.precision_law.proofs.traffic_lemmas.Words.{same_some, slice_get, source_of, split, state_after, state_before, state_left, steady, subst, suc, sym}
+use Rattle.precision_law.proofs.traffic_lemmas.Words.{same_some, slice_get, source_of, split, state_before, state_left, steady, subst, suc, sym}
 use Rattle.precision_law.proofs.traffic_lemmas.{Words.{target_of, time_of, true, tt_frame_by, way_from, zero, ℕ}, delivery.Taken.takings_are_so}
 use Rattle.precision_law.proofs.traffic_lemmas.delivery.{Arriving.{delay_lies, frames_arrive_in_spans}, Receiving.{arrivals_are_taken, one_vl, state_is}}
 use Rattle.precision_law.proofs.traffic_lemmas.{delivery.Coming.{dispatches_begin, spans_are_apart, takings_come_by_rows}, spans.Forward.synchronised_stay_so}
@@ -18,7 +18,7 @@ use Rattle.precision_law.proofs.traffic_lemmas.spans.{Corrected.{earlier_founded
 use Rattle.precision_law.specs.{Views.IsSoundSwitch, traffic.{Delivered.{IsRowSent, IsSentIn, RowsAreSent, SoundSwitchesKeepTime}, Spans.ReachesInSpan}}
 use Rattle.{run_law.proofs.records.Happenings.{from_earlier, is_earlier}, schedule_tables.specs.declared.rule.Rule.TheVariants.{Forwarding, Sources}}
 use Rattle.{run_law.{proofs.records.{Members.in_kept, Order.has_passed}, specs.timed.Dispatching.HasAtHand}, schedule_tables.specs.Windows.window_end}
-use Rattle.{run_law.specs.{control.Losses.IsDispatchedOn, records.Happenings.happening, scenario.Faults.IsLinkOf}, schedule_tables.proofs.Entries.same_or_other}
+use Rattle.{run_law.specs.{control.Losses.IsDispatchedOn, records.Happenings.happening}, schedule_tables.proofs.Entries.same_or_other}
 use Rattle.run_law.specs.declared.note.NoteBody.TheVariants as notes
 
 -- all of these at once
@@ -55,9 +55,8 @@ dispatched channels {v} {place} {entry} {cause} {cycle} {t} is can =
     let same = same_earlier t _ at in
     let body = notes.TtSent device link cause vl cycle in
     let sent = happening n at.front (next_note at.front t body) in
-    let reached = subst (λ (m : ℕ). Reaches s v.records device (pos (cycle * m + amount entry.row.offset)) t)
-    (cycle_is is) can.reached in
-    let on_link : IsLinkOf n v.channel link = closed (λ (l : Link). IsSwitchOf n v.channel l.parent) (link_at n link) entry.link can.row.link can.whole in
+    let reached = rw (cycle_is is) at can.reached in
+    let on_link = closed (λ l. IsSwitchOf n v.channel l.parent) (link_at n link) entry.link can.row.link can.whole in
     let caused : IsDispatchedOn s at.front device t link cause vl cycle = record {
       dispatches = record {
         place = place;
@@ -68,8 +67,8 @@ dispatched channels {v} {place} {entry} {cause} {cycle} {t} is can =
         leaves = refl;
         occurs = can.occurs;
         up = record {
-          synchronised = ap (λ xs. if is_turned_on_at s device t then Integrating else state_after s xs device) same
-              ∙ can.state;
+          synchronised = rw same
+              can.state;
           correct = channels.correct v device t can.good can.in_run;
         };
         reached = reaches_by at.front (sym same) reached;
@@ -77,7 +76,7 @@ dispatched channels {v} {place} {entry} {cause} {cycle} {t} is can =
       };
       whole = channels.whole v link (way_from n device link) t is on_link can.in_run;
     } in
-    let there = due_is_there {s = s} {mark = (v.until + 1) ∷ []} {x = sent} at is.run
+    let there = due_is_there at is.run
     (next_due s at.front t body caused) (inl (omega (arith, can.in_run))) in
     let d = dispatches_are_of_rows v sent device link cause vl cycle is there refl in
     record { record_of = sent; cause = cause; dispatch = d; same = (rows_go_once n d.place place d.entry entry is.lawful.rules d.row can.row d.of_vl d.by).1 }
@@ -92,14 +91,14 @@ module _ (brings : Brings) {v : View} {vl : VlId} {of_vl : VirtualLink} {cycle l
       → IsRowSent v vl cycle entry
   sender_sends {place} {entry} row own on source =
       let n = v.scenario.network in
-      let vls : entry.vl ≡ of_vl = same_some (slice_get n.vl vl.0) entry.vl of_vl
-      (subst (λ (x : VlId). slice_get n.vl x.0 ≡ Some entry.vl) own row.vl) sent.there
+      let vls = same_some (slice_get n.vl vl.0) entry.vl of_vl
+      (rw own at row.vl) sent.there
       in
-      let sender : of_vl.sender ≡ source_of entry = sym (source ∙ ap (λ (x : VirtualLink). x.sender) vls) in
+      let sender = sym (source ∙ ap (λ x. x.sender) vls) in
       let at = sent.rows place entry row own (sym sender) in
       let can : CanDispatch v place entry 0 cycle at.0 = record {
         row = row;
-        occurs = subst (λ x. OccursIn x cycle) (sym vls) sent.occurs;
+        occurs = rw vls sent.occurs;
         in_run = at.1;
         good = subst (IsGood v) sender sent.sender;
         whole = on;
@@ -108,7 +107,7 @@ module _ (brings : Brings) {v : View} {vl : VlId} {of_vl : VirtualLink} {cycle l
             (pos (cycle * v.sizes.cycle + amount entry.row.offset)) at.0) sender at.2;
         at_hand = λ front same. inl (sym source, refl);
       } in
-      subst (λ x. IsRowSent v x cycle entry) own (dispatched brings.channels is can)
+      rw (sym own) (dispatched brings.channels is can)
 
   -- ---- from switch to switch
 
@@ -120,16 +119,16 @@ module _ (brings : Brings) {v : View} {vl : VlId} {of_vl : VirtualLink} {cycle l
       let n = v.scenario.network in
       let here = dispatches_are_in_spans brings.blocks v h device link cause vl cycle is good d in
       let hull = same_hull v cycle here.span.block.before sent.before in
-      let least = ap (λ (w : Hull). w.least) hull in
+      let least = ap (λ w. w.least) hull in
       let narrow = before_narrow here.span.block.before in
       let range = in_range n d.place d.entry is.lawful.range d.row in
       let at : link_at n link ≡ Some d.entry.link =
-      subst (λ x. link_at n x ≡ Some d.entry.link) d.by d.row.link in
+      rw d.by at d.row.link in
       let delay = delay_lies link d.entry.link d.entry.row.way (time_of h) is.lawful at range.link.wire.least
       range.link.jitter.least in
       let times = rows_are_in_time v d.place d.entry is d.row in
       let space = room is in
-      omega (arith, ints, least, narrow, here.not_late, delay.1, times.tolerates, ends, sent.in_run, space.eight_errors)
+      omega (arith, ints, here.not_late, delay.1, times.tolerates, sent.in_run, space.eight_errors)
 
 -- a switch of the sound channel that stays so up to a time of the span
 firm_at : Brings → {v : View} {n t : ℕ} (span : IsInSpan v n t) (device : DeviceId) → IsView v
@@ -164,10 +163,10 @@ taken_there brings {v} {vl} {of_vl} {cycle} {last} is fit sources sent {k} {entr
     let good = sources k entry row own in
     let fine = brings.channels.switches v v.channel receiver is switch in
     let begun = dispatches_begin brings.blocks brings.senders v h device link went.cause vl of_vl cycle is fit good sources sent.there d in
-    let vls : d.entry.vl ≡ of_vl = same_some (slice_get n.vl vl.0) d.entry.vl of_vl
-    (subst (λ (x : VlId). slice_get n.vl x.0 ≡ Some d.entry.vl) d.of_vl d.row.vl) sent.there in
-    let whole : h.octets ≡ tt_frame_by n d.entry.vl cycle = begun.whole ∙ ap (λ x. tt_frame_by n x cycle) (sym vls) in
-    let window : window_end n d.entry ≤ last = subst (λ e. window_end n e ≤ last) (sym went.same) ends in
+    let vls = same_some (slice_get n.vl vl.0) d.entry.vl of_vl
+    (rw d.of_vl at d.row.vl) sent.there in
+    let whole = begun.whole ∙ ap (λ x. tt_frame_by n x cycle) (sym vls) in
+    let window : window_end n d.entry ≤ last = rw went.same ends in
     let in_time = arrives_in_time brings is sent good d window in
     let arrives = frames_arrive_in_spans brings.blocks v h device link went.cause vl cycle d.entry.row.way is good d in_time in
     let timed = firm_at brings arrives.span receiver is switch in
@@ -199,15 +198,15 @@ accepted_so device vl (notes.Accepted other link from of_vl cycle) e =
       link,
       from,
       cycle,
-      ap (λ (d : DeviceId). notes.Accepted d link from of_vl cycle) (one_device device other parts.0)
-          ∙ ap (λ (x : VlId). notes.Accepted device link from x cycle) (one_vl vl of_vl parts.1),
+      rw (one_device device other parts.0)
+          (ap (λ x. notes.Accepted device link from x cycle) (one_vl vl of_vl parts.1)),
     )
 accepted_so device vl body e = absurd cc
 
 -- a record that is not behind another is of no later time
 pub no_later : (g h : Happening) → (g ≡ h) ⊎ IsBefore (place_of g) (place_of h) → time_of g ≤ time_of h
 no_later g h (inl same) = omega (arith, ap time_of same)
-no_later g h (inr (inl lt)) = omega (arith, lt)
+no_later g h (inr (inl lt)) = omega arith
 no_later g h (inr (inr both)) = omega (arith, both.0)
 
 -- the last of what passes a test passes it
@@ -220,7 +219,7 @@ none_last p hs g e i hit = by (filter p hs) (in_kept p hs g i hit) e
   where
     by : (xs : List Happening) → IsIn g xs → last_or None xs ≡ None → ⊥
     by [] i e = i
-    by (x ∷ xs) i e = (let some = last_some None x xs in let wrong = some.1 in cc)
+    by (x ∷ xs) i e = (let some = last_some None x xs in cc)
 
 -- a switch that took a frame of the cycle has one at hand in the cycle's span
 at_hand_then : Brings → {v : View} {device : DeviceId} {vl : VlId} {cycle t : ℕ} → IsView v
@@ -251,10 +250,11 @@ at_hand_then brings {v} {device} {vl} {cycle} {t} is fit good sources span g ear
         (sources two.by_row.place two.by_row.entry two.by_row.row two.by_row.of_vl) in
         let cycles : says.2 ≡ cycle = elim (cases_lt says.2 cycle) [
           | inl lt ↦ (let wrong = spans_are_apart v says.2 cycle (time_of r) (time_of g.taking) is lt second.in_span.span
-              first.in_span.span in absurd (omega (arith, wrong, order)))
+              first.in_span.span in absurd (omega arith))
           | inr ge ↦ elim (cases_lt cycle says.2) [
-            | inl lt ↦ (let wrong = spans_are_apart v cycle says.2 t (time_of r) is lt span second.in_span.span in absurd (omega (arith, wrong, there.1)))
-            | inr le ↦ omega (arith, ge, le)
+            | inl lt ↦ (let wrong = spans_are_apart v cycle says.2 t (time_of r) is lt span second.in_span.span in
+                absurd (omega (arith, there.1)))
+            | inr le ↦ omega arith
           ]
         ] in
         record {
@@ -262,7 +262,7 @@ at_hand_then brings {v} {device} {vl} {cycle} {t} is fit good sources span g ear
           last = e;
           link = says.0;
           from = says.1;
-          is = says.3 ∙ ap (λ (c : ℕ). notes.Accepted device says.0 says.1 vl c) cycles;
+          is = says.3 ∙ ap (λ c. notes.Accepted device says.0 says.1 vl c) cycles;
         }
 
 -- the frame was taken before the clock reaches the row's offset
@@ -272,7 +272,6 @@ taken_before_offset : Brings → {v : View} {vl : VlId} {cycle place : ℕ} {ent
     → (g : IsTakenBy v (source_of entry) vl cycle)
     (r : ReachesInSpan v cycle (amount entry.row.offset) (source_of entry)) → time_of g.taking < r.at
 taken_before_offset brings {v} {vl} {cycle} {place} {entry} is fit sources row own other good g r =
-    let n = v.scenario.network in
     let device = source_of entry in
     let taking = takings_are_so v g.taking device g.link g.from vl cycle is g.there (inl g.is) in
     let comes = takings_come_by_rows brings.blocks brings.senders v g.taking device g.link g.from vl cycle is fit good taking
@@ -289,7 +288,7 @@ taken_before_offset brings {v} {vl} {cycle} {place} {entry} is fit sources row o
           let clock = one_clock brings.blocks r.in_span.span comes.in_span.span is timed ge in
           let sharp = clocks_reach_sharply v device (pos (cycle * v.sizes.cycle + amount entry.row.offset)) r.at is r.reached in
           let up = (steady v is device).never_falls r.at (time_of g.taking) ge in
-          absurd (omega (arith, ints, clock.adjustment, sharp.least, up, shows, times.tolerates, behind, space.eight_errors))
+          absurd (omega (arith, ints, clock.adjustment, sharp.least, times.tolerates, space.eight_errors))
     ]
 
 -- by the offset
@@ -298,7 +297,7 @@ sent_below : Brings → (bound : ℕ) {v : View} {vl : VlId} {of_vl : VirtualLin
     → (place : ℕ) (entry : Entry) → IsEntry v.scenario.network place entry → entry.row.vl ≡ vl
     → IsOnChannel v.scenario.network v.channel entry → window_end v.scenario.network entry ≤ last
     → amount entry.row.offset < bound → IsRowSent v vl cycle entry
-sent_below brings zero is fit sources sent place entry row own on ends below = absurd (omega (arith, below))
+sent_below brings zero is fit sources sent place entry row own on ends below = absurd (omega arith)
 sent_below brings (suc bound) {v} {vl} {of_vl} {cycle} {last} is fit sources sent place entry row own on ends below =
     let n = v.scenario.network in
     let device = source_of entry in
@@ -320,10 +319,10 @@ sent_below brings (suc bound) {v} {vl} {of_vl} {cycle} {last} is fit sources sen
             let times = rows_are_in_time v place entry is row in
             let entering_times = rows_are_in_time v k entering is enters.is in
             let first = sent_below brings bound is fit sources sent k entering enters.is entering_own on_channel
-            (omega (arith, behind, times.tolerates, ends)) (omega (arith, behind, entering_times.tolerates, below)) in
-            let taken : IsTakenBy v device vl cycle = subst (λ (d : DeviceId). IsTakenBy v d vl cycle) enters.target
+            (omega (arith, times.tolerates)) (omega (arith, entering_times.tolerates)) in
+            let taken : IsTakenBy v device vl cycle = rw (sym enters.target)
             (taken_there brings is fit sources sent enters.is entering_own
-            (omega (arith, behind, times.tolerates, ends)) there
+            (omega (arith, times.tolerates)) there
             first) in
             let good = sources place entry row own in
             let before = sent.before in
@@ -332,15 +331,15 @@ sent_below brings (suc bound) {v} {vl} {of_vl} {cycle} {last} is fit sources sen
             let timed = brings.switches v cycle before device is firm in
             let r = values_are_reached brings.blocks brings.not_on v cycle (amount entry.row.offset) before device is timed sent.occurs.begun
             (offset_in_schedule is row)
-            (omega (arith, ints, narrow, times.tolerates, ends, sent.in_run, space.eight_errors)) in
+            (omega (arith, ints, times.tolerates, sent.in_run, space.eight_errors)) in
             let early = taken_before_offset brings is fit sources row own other good taken r in
             let hand = at_hand_then brings is fit good sources r.in_span.span taken early in
             let off = brings.not_on v device r.at is (has_time_at r.timed).timed in
-            let vls : entry.vl ≡ of_vl = same_some (slice_get n.vl vl.0) entry.vl of_vl (subst (λ (x : VlId). slice_get n.vl x.0 ≡ Some entry.vl) own row.vl)
+            let vls : entry.vl ≡ of_vl = same_some (slice_get n.vl vl.0) entry.vl of_vl (rw (sym own) row.vl)
             sent.there in
             let can : CanDispatch v place entry hand.taken.note.number cycle r.at = record {
               row = row;
-              occurs = subst (λ x. OccursIn x cycle) (sym vls) sent.occurs;
+              occurs = rw (sym vls) at sent.occurs;
               in_run = r.in_span.span.block.in_run;
               good = good;
               whole = on;
@@ -351,7 +350,7 @@ sent_below brings (suc bound) {v} {vl} {of_vl} {cycle} {last} is fit sources sen
                 record {
                   taken = hand.taken;
                   last =
-                      ap (λ (xs : List Happening). last_or None (filter (λ h. is_accepted device entry.row.vl h.note.body) xs)) same
+                      ap (λ xs. last_or None (filter (λ h. is_accepted device entry.row.vl h.note.body) xs)) same
                       ∙ ap (λ x. last_accepted v.records device x r.at) own ∙ hand.last;
                   number = refl;
                   link = hand.link;

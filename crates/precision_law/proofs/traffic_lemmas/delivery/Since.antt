@@ -1,6 +1,6 @@
 -- A device that is synchronised right after its clock reaches its schedule was so before.
 use Rattle.precision_law.proofs.traffic_lemmas.Words.{◌*◌, ◌++◌, ◌+◌, ◌==◌, ◌∙◌, ◌∷◌, ◌≡◌, ◌≤◌, DeviceId, Happening, IsCaused, IsFoundedAt, IsIn, IsInSchedule}
-use Rattle.precision_law.proofs.traffic_lemmas.Words.{IsView, Joining, NoteBody, Reaches, Sizes, State, Synchronised, Units, View, amount, ap, arith}
+use Rattle.precision_law.proofs.traffic_lemmas.Words.{IsView, Joining, NoteBody, Reaches, Synchronised, Units, View, ap, arith}
 use Rattle.precision_law.proofs.traffic_lemmas.Words.{before_of, between, cases_lt, clocks_reach_sharply, earlier, earlier_before, earlier_parts, fold-append}
 use Rattle.precision_law.proofs.traffic_lemmas.Words.{founded_at, in_between, in_left, in_order, inl, inr, ints, numbered_in, one_device, pos, reaches_by, room}
 use Rattle.precision_law.proofs.traffic_lemmas.Words.{start_of, state_after, state_at_start, state_left, state_with, subst, suc, sym, time_of, ℕ}
@@ -22,17 +22,45 @@ apart {v} {device} n {value} m {t} is within reaches point =
     let space = room is in
     elim (cases_lt m n) [
       | inl lt ↦
-          let more : suc m * v.sizes.cycle ≤ n * v.sizes.cycle = mul-le-mul_right v.sizes.cycle (omega (arith, lt)) in
+          let more : suc m * v.sizes.cycle ≤ n * v.sizes.cycle = mul-le-mul_right v.sizes.cycle (omega arith) in
           let one = suc-mul m v.sizes.cycle in
-          omega (arith, ints, more, one, a.least, b.most, within.begins, space.eight_errors, space.errors.reach_is, space.errors.clock_is, space.cycles)
+          omega (
+            arith,
+            ints,
+            a.least,
+            b.most,
+            within.begins,
+            space.eight_errors,
+            space.errors.reach_is,
+            space.errors.clock_is,
+            space.cycles,
+          )
       | inr ge ↦ elim (cases_lt n m) [
         | inl lt ↦
-            let more : suc n * v.sizes.cycle ≤ m * v.sizes.cycle = mul-le-mul_right v.sizes.cycle (omega (arith, lt)) in
+            let more : suc n * v.sizes.cycle ≤ m * v.sizes.cycle = mul-le-mul_right v.sizes.cycle (omega arith) in
             let one = suc-mul n v.sizes.cycle in
-            omega (arith, ints, more, one, a.most, b.least, within.ends, space.eight_errors, space.errors.reach_is, space.errors.clock_is)
+            omega (
+              arith,
+              ints,
+              a.most,
+              b.least,
+              within.ends,
+              space.eight_errors,
+              space.errors.reach_is,
+              space.errors.clock_is,
+            )
         | inr le ↦
-            let whole : m * v.sizes.cycle ≡ n * v.sizes.cycle = ap (λ k. k * v.sizes.cycle) (let same : m ≡ n = omega (arith, ge, le) in same) in
-            omega (arith, ints, whole, a.least, b.most, within.begins, space.eight_errors, space.errors.reach_is, space.errors.clock_is)
+            let whole : m * v.sizes.cycle ≡ n * v.sizes.cycle = rw (let same : m ≡ n = omega arith in same) in
+            omega (
+              arith,
+              ints,
+              a.least,
+              b.most,
+              within.begins,
+              space.eight_errors,
+              space.errors.reach_is,
+              space.errors.clock_is,
+            )
       ]
     ]
 
@@ -52,32 +80,32 @@ none_there {v} {device} n {t} is within reaches g cycle by adjustment there same
     let cause : IsCaused s found.front g.note.time (notes.Corrected device cycle by adjustment) =
     subst (IsCaused s found.front g.note.time) body found.due.cause in
     let value_is : correction_value s.network cycle ≡ pos (cycle * v.sizes.cycle + v.sizes.correction) =
-    ap (λ (k : ℕ). pos (cycle * k + amount s.network.correction)) (sym (cycle_is is))
-    ∙ ap (λ k. pos (cycle * v.sizes.cycle + k)) (sym (ap (λ (x : Sizes). x.correction) is.sizes)) in
-    let reached : Reaches s v.records device (correction_value s.network cycle) (time_of g) =
+    rw (sym (cycle_is is))
+    (ap (λ k. pos (cycle * v.sizes.cycle + k)) (sym (rw is.sizes))) in
+    let reached =
     reaches_by v.records (earlier_before (before_of is found)) cause.corrected.reached in
     let at : Reaches s v.records device (correction_value s.network cycle) t =
     subst (Reaches s v.records device (correction_value s.network cycle)) same reached in
-    apart n cycle is within reaches (subst (λ x. Reaches s v.records device x t) value_is at)
+    apart n cycle is within reaches (rw value_is at at)
 
 -- without one no record of the time makes it synchronised
 keeps_then : (v : View) (device : DeviceId) {h : Happening} (found : IsFoundedAt v.scenario v.records h)
     (body : NoteBody) → HasNoCorrection v device (time_of h) → IsCaused v.scenario found.front h.note.time body
     → Keeps device body
 keeps_then v device found (notes.State other state cause whys.On) none c old timed =
-    kept_if (device.0 == other.0) state old (λ same is. (let made = c.0 in cc)) timed
+    kept_if (device.0 == other.0) state old (λ same is. (cc)) timed
 keeps_then v device found (notes.State other state cause whys.Frame) none c old timed =
-    kept_if (device.0 == other.0) state old (λ same is. (let made = c.0 in cc)) timed
+    kept_if (device.0 == other.0) state old (λ same is. (cc)) timed
 keeps_then v device found (notes.State other state cause whys.SyncClique) none c old timed =
-    kept_if (device.0 == other.0) state old (λ same is. (let made = c.0 in cc)) timed
+    kept_if (device.0 == other.0) state old (λ same is. (cc)) timed
 keeps_then v device found (notes.State other state cause whys.AsyncClique) none c old timed =
-    kept_if (device.0 == other.0) state old (λ same is. (let made = c.0 in cc)) timed
+    kept_if (device.0 == other.0) state old (λ same is. (cc)) timed
 keeps_then v device {h} found (notes.State other state cause whys.Correction) none c old timed =
     kept_if (device.0 == other.0) state old (λ same is.
     let made = c.2 in
     let g = made.3 in
     let there : IsIn g v.records = subst (IsIn g) (sym found.whole) (in_left g found.front (h ∷ found.rest) (numbered_in found.front cause g made.4.there)) in
-    let body = made.5 ∙ ap (λ (d : DeviceId). notes.Corrected d made.0 made.1 made.2) (one_device device other same) in
+    let body = made.5 ∙ ap (λ d. notes.Corrected d made.0 made.1 made.2) (one_device device other same) in
     none g made.0 made.1 made.2 there made.4.same_time body) timed
 keeps_then v device found (notes.Permanent other link cause point judgements.Integrates) none c old timed =
     kept_if (device.0 == other.0) Joining old (λ same is. cc) timed
@@ -92,15 +120,16 @@ pub synchronised_before : {v : View} {device : DeviceId} (n : ℕ) {value t : �
 synchronised_before {v} {device} n {t} is within reaches timed =
     let none = none_there n is within reaches in
     let parts = earlier_parts t (t + 1) v.records (in_order is) (omega arith) in
-    let whole : state_after v.scenario (earlier t v.records ++ between t (t + 1) v.records) device ≡ Synchronised = subst
-    (λ hs. state_after v.scenario hs device ≡ Synchronised) parts timed in
-    let split = fold-append (λ (state : State) (h : Happening). state_with device state h.note.body) (state_at_start (start_of v.scenario.network device))
+    let whole : state_after v.scenario (earlier t v.records ++ between t (t + 1) v.records) device ≡ Synchronised =
+    rw parts at timed in
+    let split = fold-append (λ state h. state_with device state h.note.body)
+    (state_at_start (start_of v.scenario.network device))
     (earlier t v.records) (between t (t + 1) v.records) in
     kept_by_all device (between t (t + 1) v.records) (λ h i.
     let there = in_between t (t + 1) v.records h i in
     let found = founded_at v.scenario v.records h is.run.founded there.0 in
     let late = there.1 in
     let early = there.2 in
-    let here : t ≡ time_of h = omega (arith, late, early) in
+    let here : t ≡ time_of h = omega arith in
     keeps_then v device found h.note.body (subst (HasNoCorrection v device) here none) found.due.cause)
-    (state_after v.scenario (earlier t v.records) device) (subst (λ (x : State). x ≡ Synchronised) split whole)
+    (state_after v.scenario (earlier t v.records) device) (rw split at whole)

@@ -3,16 +3,16 @@ use Rattle.{net_plan.specs.declared.event.What.TheVariants.Send, run_law.specs.t
 use Rattle.{pcf_codec.specs.Decoding.decoded, run_law.specs.device.States.is_off, std.{proofs.Common.arith, specs.Prelude.{Err, Ok, Result}}}
 use Rattle.{pcf_codec.specs.{EtherType.pcf_type, declared.refusal.PcfRefusal.PcfRefusal}, run_law.specs.records.Happenings.{octets_by, octets_from}}
 use Rattle.{precision_law.{proofs.records.Points.same_adjustment, specs.traffic.Taken.TakingsAreSo}, run_law.proofs.law.FirstPlaces.numbered_front}
-use Rattle.precision_law.proofs.traffic_lemmas.Words.{◌&&◌, ◌+ℤ◌, ◌+◌, ◌==◌, ◌∙◌, ◌∷◌, ◌≡◌, ◌≢◌, ◌≤ℤ◌, Arrival, Bool, DeviceId, Down, Happening, IsCaused}
-use Rattle.precision_law.proofs.traffic_lemmas.Words.{IsFoundedAt, IsIn, IsTaking, IsView, KeepsRules, Link, LinkId, List, Network, None, NoteBody, OccursIn}
-use Rattle.precision_law.proofs.traffic_lemmas.Words.{Option, Pcf, Reason, Scenario, Signal, Some, Standpoint, Synchronised, Units, Up, View, VlId, Way, [], ap}
+use Rattle.precision_law.proofs.traffic_lemmas.Words.{◌&&◌, ◌==◌, ◌∙◌, ◌∷◌, ◌≡◌, ◌≢◌, Arrival, Bool, DeviceId, Down, Happening, IsCaused}
+use Rattle.precision_law.proofs.traffic_lemmas.Words.{IsFoundedAt, IsIn, IsTaking, IsView, KeepsRules, Link, LinkId, List, Network, None, NoteBody}
+use Rattle.precision_law.proofs.traffic_lemmas.Words.{Option, Pcf, Reason, Scenario, Signal, Some, Standpoint, Units, Up, View, VlId, Way, ap}
 use Rattle.precision_law.proofs.traffic_lemmas.Words.{before_of, cause_of, clock_of, control, cycle_at, earlier, earlier_before, eq-eqb, eqb-true, false, field}
 use Rattle.precision_law.proofs.traffic_lemmas.Words.{founded_at, if◌then◌else◌, in_left, inl, inr, is_broken, is_relay, is_taken_in, is_turned_on_at}
-use Rattle.precision_law.proofs.traffic_lemmas.Words.{last_taken, launched, length, link_at, not, numbered, numbered_in, offset_in_cycle, option_map}
-use Rattle.precision_law.proofs.traffic_lemmas.Words.{option_map_or, pos, refl, same_some, shown_at, standpoint, state_after, state_before, subst, sym}
-use Rattle.precision_law.proofs.traffic_lemmas.{Words.{target_by, time_of, timed, true, way_to, window_of, ℕ}, delivery.Faultless.{TakesIn, finds_none}}
-use Rattle.{precision_law.proofs.traffic_lemmas.ports.Ends.ends_differ, run_law.specs.scenario.{Devices.is_parent_of, Ways.{delay_at, is_cut, receiver_of}}}
-use Rattle.run_law.specs.control.{Arrivals.{control_arrival, frame_fault, frame_or_fault}, Wires.{Arrives, Launch, signal_of, time_on_port}}
+use Rattle.precision_law.proofs.traffic_lemmas.Words.{last_taken, launched, link_at, not, numbered, numbered_in, option_map}
+use Rattle.precision_law.proofs.traffic_lemmas.Words.{option_map_or, refl, same_some, shown_at, standpoint, state_after, state_before, subst, sym}
+use Rattle.precision_law.proofs.traffic_lemmas.{Words.{target_by, time_of, timed, true, way_to, ℕ}, delivery.Faultless.{TakesIn, finds_none}}
+use Rattle.{precision_law.proofs.traffic_lemmas.ports.Ends.ends_differ, run_law.specs.scenario.{Devices.is_parent_of, Ways.{is_cut, receiver_of}}}
+use Rattle.run_law.specs.control.{Arrivals.{control_arrival, frame_fault, frame_or_fault}, Wires.{Arrives, Launch, signal_of}}
 use Rattle.run_law.specs.declared.note.NoteBody.TheVariants as notes
 use Rattle.run_law.specs.declared.steps.Arrival.TheVariants as arrivals
 
@@ -24,12 +24,11 @@ way_by : (o : Option Link) (way : Way) (device : DeviceId) → ((l : Link) → o
 way_by None way device differ e = absurd cc
 way_by (Some l) Up device differ e = grind (arith, eq-eqb)
 way_by (Some l) Down device differ e =
-    let same : l.child ≡ device = cc in
-    by (l.parent.0 == device.0) refl same
+    by (l.parent.0 == device.0) refl cc
   where
     by : (b : Bool) → (l.parent.0 == device.0) ≡ b → l.child ≡ device → (if b then Up else Down) ≡ Down
     by true test same =
-        let parent : l.parent ≡ device = ap (λ (n : ℕ). let d : DeviceId = record { 0 = n } in d) (eqb-true l.parent.0 device.0 test) in
+        let parent : l.parent ≡ device = rw (eqb-true l.parent.0 device.0 test) in
         absurd (differ l refl (same ∙ sym parent))
     by false test same = refl
 
@@ -82,7 +81,8 @@ put_on link way signal = record { link = link; way = way; signal = signal }
 
 -- the signal of what is put
 pub same_signal : (a b : LinkId) (way turned : Way) (one two : Signal) → Some (put_on a way one) ≡ Some (put_on b turned two) → one ≡ two
-same_signal a b way turned one two e = ap (λ (l : Launch). l.signal) (same_some (Some (put_on a way one)) (put_on a way one) (put_on b turned two) refl e)
+same_signal a b way turned one two e = ap (λ l. l.signal)
+    (same_some (Some (put_on a way one)) (put_on a way one) (put_on b turned two) refl e)
 
 -- what a record puts on a wire as octets are its own
 pub left_control : (o : Option Pcf) (link : LinkId) (way : Way) (by : LinkId) (turned : Way) (octets : List ℕ)
@@ -113,7 +113,7 @@ own_octets s pre h t other by turned octets own e = absurd cc
 
 -- the octets that a record has from its cause
 pub from_cause : (hs : List Happening) (cause : ℕ) (h : Happening) → numbered hs cause ≡ Some h → octets_from hs cause ≡ h.octets
-from_cause hs cause h e = ap (λ (o : Option Happening). option_map_or (λ x. x.octets) o []) e
+from_cause hs cause h e = rw e
 
 -- ---- takings
 
@@ -134,17 +134,18 @@ of_octets {v} {h} {device} {link} cause vl cycle is i found comes_of own {puttin
     let in_all : IsIn putting v.records = subst (IsIn putting) (sym found.whole)
     (in_left putting found.front (h ∷ found.rest) (numbered_in found.front cause putting there)) in
     let pre = founded_at s v.records putting is.run.founded in_all in
-    let put_octets : putting.octets ≡ octets_by n pre.front putting.note.body = ap (λ (x : Happening). x.octets) pre.due.same in
-    let same : octets ≡ putting.octets = own_octets s pre.front putting (time_of putting) putting.note.body link arrives.way octets put_octets arrives.put in
-    let mine : h.octets ≡ putting.octets = own ∙ from_cause found.front cause putting there in
-    let here : octets ≡ h.octets = same ∙ sym mine in
+    let put_octets : putting.octets ≡ octets_by n pre.front putting.note.body = ap (λ x. x.octets) pre.due.same in
+    let same = own_octets s pre.front putting (time_of putting) putting.note.body link arrives.way octets put_octets
+    arrives.put in
+    let mine = own ∙ from_cause found.front cause putting there in
+    let here = same ∙ sym mine in
     let way = way_is n link arrives.way device is.lawful.rules arrives.receiver in
     let shown : clock_of at ≡ shown_at v device t =
-    ap (λ (a : Units). pos (s.reading device t) +ℤ a.0) (same_adjustment device split) in
-    let state : state_after s (earlier t found.front) device ≡ Synchronised = up_state (is_turned_on_at s device t)
+    rw (same_adjustment device split) in
+    let state = up_state (is_turned_on_at s device t)
     (state_after s (earlier t found.front) device) finds.sound.synchronised in
     let entry = finds.entry in
-    let number : numbered v.records cause ≡ Some putting = subst (λ hs. numbered hs cause ≡ Some putting) (sym found.whole)
+    let number : numbered v.records cause ≡ Some putting = rw found.whole
     (numbered_front found.front (h ∷ found.rest) cause putting there) in
     record {
       there = i;
@@ -154,8 +155,8 @@ of_octets {v} {h} {device} {link} cause vl cycle is i found comes_of own {puttin
       is_cause = ap (numbered v.records) comes_of ∙ number;
       octets = mine;
       way = arrives.way;
-      put = subst (λ (o : List ℕ). launched s putting (time_of putting) putting.note.body ≡ Some (put_on link arrives.way (timed o))) here arrives.put;
-      at = subst (λ (o : List ℕ). t ≡ time_of putting + time_on_port n link (timed o) + delay_at s link arrives.way (time_of putting)) here arrives.at;
+      put = rw here at arrives.put;
+      at = rw here at arrives.at;
       by_row = record {
         place = finds.enters.place;
         entry = entry;
@@ -165,23 +166,24 @@ of_octets {v} {h} {device} {link} cause vl cycle is i found comes_of own {puttin
         of_vl = finds.of_vl;
         id_is = finds.enters.id_is ∙ ap (λ o. field 4 2 o) here;
         enters =
-            ap (λ w. target_by w entry.link) (finds.enters.on_way ∙ way) ∙ target_is (link_at n link) arrives.way device entry.link
-            (subst (λ l. link_at n l ≡ Some entry.link) finds.enters.by finds.enters.row.link) arrives.receiver;
+            rw (finds.enters.on_way ∙ way) (target_is (link_at n link) arrives.way device entry.link
+            (rw finds.enters.by at finds.enters.row.link) arrives.receiver);
       };
-      whole = ap (λ o. length o) (sym here) ∙ finds.fits.whole;
-      occurs = subst (λ c. OccursIn entry.vl c) finds.in_cycle finds.fits.occurs;
+      whole = rw (sym here) finds.fits.whole;
+      occurs = rw finds.in_cycle at finds.fits.occurs;
       in_cycle = sym finds.in_cycle ∙ ap (cycle_at n) shown;
-      not_before = subst (λ z. (window_of n entry).from.0 ≤ℤ offset_in_cycle n z) shown finds.fits.not_before;
-      not_behind = subst (λ z. offset_in_cycle n z ≤ℤ (window_of n entry).to.0) shown finds.fits.not_behind;
+      not_before = rw shown at finds.fits.not_before;
+      not_behind = rw shown at finds.fits.not_behind;
       synchronised =
-          subst (λ xs. state_after s xs device ≡ Synchronised) (earlier_before split) state;
+          rw (earlier_before split) at state;
       correct = not_broken (not (is_off (state_before s found.front device t))) (is_broken s device t) finds.sound.takes_part;
       front = found.front;
       rest = found.rest;
       split = found.whole;
       anew =
-          ap (λ x. is_taken_in cycle (last_taken found.front device t link cause x)) (sym finds.of_vl)
-          ∙ ap (λ c. is_taken_in c (last_taken found.front device t link cause entry.row.vl)) (sym finds.in_cycle) ∙ finds.fits.anew;
+          rw (sym finds.of_vl)
+          (ap (λ c. is_taken_in c (last_taken found.front device t link cause entry.row.vl)) (sym finds.in_cycle) ∙
+          finds.fits.anew);
     }
   where
     not_broken : (a b : Bool) → (a && not b) ≡ true → b ≡ false
@@ -195,7 +197,7 @@ of_arrival : {v : View} {h : Happening} {device : DeviceId} {link : LinkId} {cau
     → cause_of h.note.body ≡ cause → h.octets ≡ octets_from found.front cause → TakesIn a vl cycle
     → ArrivesAs v.scenario found.front device (time_of h) link cause a → IsTaking v h device link cause vl cycle
 of_arrival {v} {h} {device} {link} {cause} vl cycle is i found comes_of own takes comes =
-    by comes.signal comes.arrives (subst (λ x. TakesIn x vl cycle) comes.becomes takes)
+    by comes.signal comes.arrives (rw comes.becomes at takes)
   where
     by : (signal : Signal) → Arrives v.scenario comes.putting device link (time_of h) signal
         → TakesIn (arrival_of v.scenario found.front device (time_of h) link cause signal) vl cycle → IsTaking v h device link cause vl cycle
@@ -205,7 +207,7 @@ of_arrival {v} {h} {device} {link} {cause} vl cycle is i found comes_of own take
 pub takings_are_so : TakingsAreSo
 takings_are_so v h device link cause vl cycle is i says =
     let found = founded_at v.scenario v.records h is.run.founded i in
-    let own : h.octets ≡ octets_by v.scenario.network found.front h.note.body = ap (λ (x : Happening). x.octets) found.due.same in
+    let own : h.octets ≡ octets_by v.scenario.network found.front h.note.body = ap (λ x. x.octets) found.due.same in
     elim says [
       | inl body ↦
           let caused : IsCaused v.scenario found.front h.note.time (notes.Accepted device link cause vl cycle) = subst

@@ -1,6 +1,6 @@
 -- There is a run up to each time.
 use Rattle.{net_plan.specs.Ranges.IsInRange, tte_units.specs.Amount.amount}
-use Rattle.precision_law.{proofs.traffic_lemmas.existence_lemmas.Sweep.IsSized, specs.traffic.existence.Laws.{RunsExist, RunsExistToEachMark}}
+use Rattle.precision_law.{specs.traffic.existence.Laws.{RunsExist, RunsExistToEachMark}}
 use Rattle.precision_law.proofs.traffic_lemmas.existence_lemmas.{Times.{IsBoundedBy, IsShaped, never_before_none, run_to_time}, bounds.Weights.{bound, size_of}}
 use Rattle.precision_law.proofs.traffic_lemmas.existence_lemmas.{bounds.Ranks.fits, decisions.{Places.place_parts, Ranks.{is_rank, place_decided}}}
 use Rattle.run_law.proofs.{law.FirstPlaces.{IsSplit, front_founded, split}, records.Told.{notes_of, told_from}, runs.Places.{before_next_time, chain, in_parts}}
@@ -25,8 +25,7 @@ bounded s some t r ms = record {
       (let under = recent x i in let p = place_parts (time_of x) (rank x.note.body) t r (key (members_in x) x.note.body) under.0 under.1 in
       let both : (time_of x ≡ t) × (rank x.note.body ≡ r) = (p.0, p.1.0) in both) in
       let it = fits s t r ms more all y.note.time y.note.body (members_in y) some parts.0 parts.1.0 (ap members_in due.same) due.cause in
-      subst (λ us. IsSized (size_of r) (bound s t ms) us) parts.1.1
-      (subst (λ n. IsSized (size_of n) (bound s t ms) (key (members_in y) y.note.body)) parts.1.0 it);
+      rw parts.1.1 at (rw parts.1.0 at it);
 }
 
 -- ---- up to an earlier mark
@@ -43,14 +42,14 @@ front_run {N} {place} IsDue mark {ns} sooner run =
   where
     full : (at : IsSplit place ns mark) → IsFull place IsDue mark at.front
     full at ps qs x e before none due here =
-        let whole = at.whole ∙ ap (λ (l : List N). l ++ at.rest) e ∙ append_assoc ps qs at.rest in
+        let whole = at.whole ∙ ap (λ l. l ++ at.rest) e ∙ append_assoc ps qs at.rest in
         let found = run.full ps (qs ++ at.rest) x whole before (λ n i lt. elim (in_parts n qs at.rest i) [
           | inl l ↦ none n l lt
           | inr r ↦ at.none n r (chain (place n) (place x) mark lt here)
         ]) due (sooner (place x) here) in
         elim (in_parts found.0 at.front at.rest (subst (IsIn found.0) at.whole found.1)) [
           | inl l ↦ (found.0, l, found.2)
-          | inr r ↦ absurd (at.none found.0 r (subst (λ p. IsBefore p mark) (sym found.2) here))
+          | inr r ↦ absurd (at.none found.0 r (rw found.2 here))
         ]
 
 -- ---- the laws
@@ -58,7 +57,7 @@ front_run {N} {place} IsDue mark {ns} sooner run =
 run_to : (s : Scenario) (t : ℕ) → IsInRange s.network → (hs : List Happening) × IsRun place_of (IsDue s) (t ∷ []) hs
 run_to s t range =
     let least = range.cycle.least in
-    let some : 1 ≤ amount s.network.cycle = omega (arith, ints, least) in
+    let some : 1 ≤ amount s.network.cycle = omega (arith, ints) in
     run_to_time place_of (IsDue s) (place_decided s some) 15 shaped (bounded s some) t
 
 noted : (s : Scenario) {mark : List ℕ} → (hs : List Happening) × IsRun place_of (IsDue s) mark hs

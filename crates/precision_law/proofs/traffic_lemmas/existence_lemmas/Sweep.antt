@@ -1,5 +1,5 @@
 -- How a run goes on from place to place, where at each place it is decided whether a record is due.
-use Rattle.std.proofs.Common.{◌++◌, ◌<◌, ◌∙◌, ◌∷◌, ◌≡◌, ◌⊎◌, List, [], ap, append_assoc, arith, inl, inr, refl, subst, suc, sym, zero, ℕ}
+use Rattle.std.proofs.Common.{◌++◌, ◌<◌, ◌∙◌, ◌∷◌, ◌≡◌, ◌⊎◌, List, [], append_assoc, arith, inl, inr, refl, subst, suc, sym, zero, ℕ}
 use Rattle.std.proofs.lemmas.{Bool.cases_order, List.append-nil}
 use Rattle.run_law.{proofs.{runs.Grow.{grow, move_mark}, scenario.Decisions.IsDecided}, specs.{records.Order.{IsBefore, IsIn}, runs.Runs.IsRun}}
 use Rattle.run_law.proofs.runs.Places.{before_behind, before_later, before_or_not, behind, chain, either_way, in_right, nothing_between}
@@ -27,9 +27,9 @@ next_down : (p : List ℕ) (i : ℕ) (q : List ℕ) → IsBefore q (p ++ suc i �
 next_down [] i [] b = inl tt
 next_down [] i (x ∷ xs) (inl lt) =
     elim (cases_order x i) [
-      | inl e ↦ inr (xs, ap (λ (n : ℕ). n ∷ xs) e)
+      | inl e ↦ inr (xs, rw e)
       | inr (inl less) ↦ inl (inl less)
-      | inr (inr gt) ↦ absurd (omega (arith, lt, gt))
+      | inr (inr gt) ↦ absurd (omega arith)
     ]
 next_down [] i (x ∷ xs) (inr h) = absurd h.1
 next_down (y ∷ p) i [] b = inl tt
@@ -76,17 +76,17 @@ module _ {N : Type 0} (place : N → List ℕ) (IsDue : List N → N → Type 0)
   pub move_on : (m next : List ℕ) (ns : List N) → IsRun place IsDue m ns → ((q : List ℕ) → IsBefore q m → IsBefore q next)
       → ((y : N) → IsDue ns y → IsBefore (place y) next → IsBefore (place y) m) → IsRun place IsDue next ns
   move_on m next ns run up none =
-      move_mark IsDue {later = next} run (λ x i. up (place x) (run.within x i))
+      move_mark IsDue run (λ x i. up (place x) (run.within x i))
       (record { gap = λ ps qs y e before rest due here. gap ps qs y e rest due here })
     where
       gap : (ps qs : List N) (y : N) → ns ≡ ps ++ qs → ((n : N) → IsIn n qs → IsBefore (place n) (place y) → ⊥) → IsDue ps y → IsBefore (place y) next
           → IsBefore (place y) m
-      gap ps [] y e rest due here = none y (subst (λ t. IsDue t y) (sym (e ∙ append-nil ps)) due) here
+      gap ps [] y e rest due here = none y (rw (e ∙ append-nil ps) due) here
       gap ps (q ∷ qs) y e rest due here =
           elim (before_or_not (place y) m) [
             | inl b ↦ b
             | inr not ↦ absurd (rest q (inl refl) (before_later (place q) (place y) m
-                (run.within q (subst (λ t. IsIn q t) (sym e) (in_right q ps (q ∷ qs) (inl refl)))) not))
+                (run.within q (rw e (in_right q ps (q ∷ qs) (inl refl)))) not))
           ]
 
   -- a record is due at the place
@@ -117,23 +117,23 @@ module _ {N : Type 0} (place : N → List ℕ) (IsDue : List N → N → Type 0)
         by : IsDecided (HasDue r.ms p) → IsReached next
         by (inl has) =
             let x = has.0 in
-            let ms : List N = r.ms ++ x ∷ [] in
+            let ms = r.ms ++ x ∷ [] in
             let kept = grows r.ms x r.kept (subst (IsUnder under) (sym has.2) here) in
             let run = grow IsDue x r.run (λ n i. subst (IsBefore (place n)) (sym has.2) (r.run.within n i)) has.1
             (record { gap = λ ps qs y e before rest due lt. subst (IsBefore (place y)) has.2 lt }) in
-            let there = subst (λ q. IsRun place IsDue (behind q) ms) has.2 run in
+            let there = rw has.2 at run in
             record {
               ms = ms;
               run =
                   move_on (behind p) next ms there
                   (λ q b. elim (either_way q p) [
                     | inl lt ↦ at.up q lt
-                    | inr (inl e) ↦ subst (λ t. IsBefore t next) (sym e) first
+                    | inr (inl e) ↦ rw e first
                     | inr (inr gt) ↦ absurd (nothing_between p q gt b)
                   ])
                   (λ y due lt. elim (at.down (place y) lt) [
                     | inl b ↦ chain (place y) p (behind p) b (before_behind p)
-                    | inr u ↦ subst (λ t. IsBefore t (behind p)) (sym (only_place p bound ms y u.0 sized kept due u.1)) (before_behind p)
+                    | inr u ↦ rw (only_place p bound ms y u.0 sized kept due u.1) (before_behind p)
                   ]);
               kept = kept;
             }
@@ -170,7 +170,7 @@ module _ {N : Type 0} (place : N → List ℕ) (IsDue : List N → N → Type 0)
           kept = r.kept;
         } in
         let end = loop p bound (λ i at_i. sweep size bound (p ++ i ∷ []) (p ++ suc i ∷ []) (next_of p i) (under_before p i (suc i) [] (omega arith))
-        (λ n q b. inside_next p i n q b) (here.0 ++ i ∷ [], ap (λ (t : List ℕ). t ++ i ∷ []) here.1 ∙ append_assoc under here.0 (i ∷ []))
+        (λ n q b. inside_next p i n q b) (here.0 ++ i ∷ [], rw here.1 (append_assoc under here.0 (i ∷ [])))
         (λ ms y key kept due e. (sized ms y (i ∷ key) kept due (e ∙ append_assoc p (i ∷ []) key)).1) at_i) start in
         record {
           ms = end.ms;
@@ -182,4 +182,4 @@ module _ {N : Type 0} (place : N → List ℕ) (IsDue : List N → N → Type 0)
         below y ms kept due (inl b) = before_under p bound (place y) b
         below y ms kept due (inr ([], e)) = absurd (sized ms y [] kept due e)
         below y ms kept due (inr (k ∷ ks, e)) =
-            subst (λ t. IsBefore t (p ++ bound ∷ [])) (sym e) (under_before p k bound ks (sized ms y (k ∷ ks) kept due e).0)
+            rw e (under_before p k bound ks (sized ms y (k ∷ ks) kept due e).0)

@@ -1,5 +1,5 @@
 -- Where the places of what is due at each time and rank are bounded, there is a run up to each time.
-use Rattle.std.proofs.{Common.{◌++◌, ◌<◌, ◌∙◌, ◌∷◌, ◌≡◌, List, [], ap, append_assoc, arith, inl, inr, refl, subst, suc, sym, zero, ℕ}, lemmas.Bool.cases_order}
+use Rattle.std.proofs.{Common.{◌++◌, ◌<◌, ◌∷◌, ◌≡◌, List, [], append_assoc, arith, inl, inr, refl, suc, sym, zero, ℕ}, lemmas.Bool.cases_order}
 use Rattle.std.proofs.lemmas.List.{append-nil}
 use Rattle.run_law.{proofs.{runs.{Grow.empty_run, Places.in_parts}, scenario.Decisions.IsDecided}, specs.{records.Order.{IsBefore, IsIn}, runs.Runs.IsRun}}
 use Rattle.precision_law.proofs.traffic_lemmas.existence_lemmas.Sweep.{HasDue, IsSized, IsUnder, inside_next, move_on, next_of, sweep, under_before}
@@ -41,17 +41,17 @@ module _ {N : Type 0} (place : N → List ℕ) (IsDue : List N → N → Type 0)
         let b = bounded t r from.0 in
         let end = sweep place IsDue decide (t ∷ r ∷ []) (IsRecent t r from.0) grows b.size b.bound (t ∷ r ∷ []) (t ∷ suc r ∷ []) (next_of (t ∷ []) r)
         (under_before (t ∷ []) r (suc r) [] (omega arith)) (λ n q i. inside_next (t ∷ []) r n q i) ([], refl)
-        (λ ms y key kept due e. b.sized kept.0 y key kept.2 (subst (λ l. IsDue l y) kept.1 due) e)
+        (λ ms y key kept due e. b.sized kept.0 y key kept.2 (rw kept.1 at due) e)
         (record { ms = from.0; run = from.1; kept = ([], sym (append-nil from.0), λ x i. absurd i) }) in
         (end.ms, end.run)
       where
         grows : (ms : List N) (x : N) → IsRecent t r from.0 ms → IsUnder (t ∷ r ∷ []) (place x) → IsRecent t r from.0 (ms ++ x ∷ [])
         grows ms x kept u = (
           kept.0 ++ x ∷ [],
-          ap (λ (l : List N). l ++ x ∷ []) kept.1 ∙ append_assoc from.0 kept.0 (x ∷ []),
+          rw kept.1 (append_assoc from.0 kept.0 (x ∷ [])),
           λ z i. elim (in_parts z kept.0 (x ∷ []) i) [
             | inl l ↦ kept.2 z l
-            | inr (inl e) ↦ subst (λ (n : N). IsUnder (t ∷ r ∷ []) (place n)) (sym e) u
+            | inr (inl e) ↦ rw e u
             | inr (inr none) ↦ absurd none
           ],
         )
@@ -62,23 +62,23 @@ module _ {N : Type 0} (place : N → List ℕ) (IsDue : List N → N → Type 0)
 
     -- nothing is due at a time before its ranks
     no_rank : (t : ℕ) (p : List ℕ) → IsShaped ranks p → IsBefore p (t ∷ zero ∷ []) → IsBefore p (t ∷ [])
-    no_rank t p at b = by (subst (λ q. IsBefore q (t ∷ zero ∷ [])) at.is b)
+    no_rank t p at b = by (rw at.is at b)
       where
         by : IsBefore (at.time ∷ at.rank ∷ at.key) (t ∷ zero ∷ []) → IsBefore p (t ∷ [])
-        by (inl lt) = subst (λ q. IsBefore q (t ∷ [])) (sym at.is) (inl lt)
-        by (inr (e, inl lt)) = absurd (omega (arith, lt))
+        by (inl lt) = rw at.is (inl lt)
+        by (inr (e, inl lt)) = absurd (omega arith)
         by (inr (e, inr h)) = absurd (never_before_none at.key h.1)
 
     -- nor behind them
     all_ranks : (t : ℕ) (p : List ℕ) → IsShaped ranks p → IsBefore p (suc t ∷ []) → IsBefore p (t ∷ ranks ∷ [])
-    all_ranks t p at b = by (subst (λ q. IsBefore q (suc t ∷ [])) at.is b)
+    all_ranks t p at b = by (rw at.is at b)
       where
         by : IsBefore (at.time ∷ at.rank ∷ at.key) (suc t ∷ []) → IsBefore p (t ∷ ranks ∷ [])
         by (inl lt) =
             elim (cases_order at.time t) [
-              | inl e ↦ subst (λ q. IsBefore q (t ∷ ranks ∷ [])) (sym at.is) (inr (e, inl at.below))
-              | inr (inl less) ↦ subst (λ q. IsBefore q (t ∷ ranks ∷ [])) (sym at.is) (inl less)
-              | inr (inr gt) ↦ absurd (omega (arith, lt, gt))
+              | inl e ↦ rw at.is (inr (e, inl at.below))
+              | inr (inl less) ↦ rw at.is (inl less)
+              | inr (inr gt) ↦ absurd (omega arith)
             ]
         by (inr h) = absurd h.1
 
@@ -104,10 +104,10 @@ module _ {N : Type 0} (place : N → List ℕ) (IsDue : List N → N → Type 0)
     at_start = ([], empty_run place IsDue (zero ∷ []) (λ y due b. none (place y) (shape y) b))
       where
         none : (p : List ℕ) → IsShaped ranks p → IsBefore p (zero ∷ []) → ⊥
-        none p at b = by (subst (λ q. IsBefore q (zero ∷ [])) at.is b)
+        none p at b = by (rw at.is at b)
           where
             by : IsBefore (at.time ∷ at.rank ∷ at.key) (zero ∷ []) → ⊥
-            by (inl lt) = omega (arith, lt)
+            by (inl lt) = omega arith
             by (inr h) = h.1
 
     pub run_to_time : (t : ℕ) → IsRunTo (t ∷ [])

@@ -2,7 +2,7 @@
 use Rattle.{net_plan.specs.{Ranges.{IsDeviceInRange, IsInRange}, declared.tables.Role.TheVariants.Relay}, run_law.proofs.scenario.Devices.end_test}
 use Rattle.precision_law.proofs.traffic_lemmas.Words.{◌∙◌, ◌≡◌, Bool, BringsChannels, Device, DeviceId, Entry, HasGoodSources, IsEntry, IsGood, IsOnChannel}
 use Rattle.precision_law.proofs.traffic_lemmas.Words.{IsSwitchOf, IsView, Joints, KeepsRules, Network, None, Option, Some, View, VirtualLink, VlId, ap}
-use Rattle.precision_law.proofs.traffic_lemmas.Words.{both_ways, closed, device_at, false, in_all, inl, inr, is_end, is_end_system, not, opened, option_map_or}
+use Rattle.precision_law.proofs.traffic_lemmas.Words.{both_ways, closed, device_at, false, in_all, inl, inr, is_end, is_end_system, not, opened}
 use Rattle.precision_law.proofs.traffic_lemmas.Words.{refl, same_some, slice_get, source_by, source_of, subst, sym, target_by, target_of, true, ℕ}
 use Rattle.{schedule_tables.specs.{Schedule.IsSwitch, declared.rule.Rule.TheVariants.Sources}, tte_units.specs.declared.frames.channel.Channel.Channel}
 use Rattle.std.proofs.Common.{arith, is_some}
@@ -13,7 +13,7 @@ use Rattle.std.proofs.Common.{arith, is_some}
 pub switch_channel : {network : Network} (device : DeviceId) → IsInRange network → IsSwitch network device
     → (channel : Channel) × IsSwitchOf network channel device
 switch_channel {network} device range switch =
-    let d = opened (λ (x : Device). is_end_system x.role ≡ false) (device_at network device) switch in
+    let d = opened (λ x. is_end_system x.role ≡ false) (device_at network device) switch in
     let known = in_all IsDeviceInRange network.device device.0 d.0 range.devices d.1 in
     by d.0.channel refl d.0 d.1 (known.switches ∙ ap not d.2)
   where
@@ -23,16 +23,17 @@ switch_channel {network} device range switch =
       where
         by_channel : (p : Option Channel) → x.channel ≡ p → is_some p ≡ true → (channel : Channel) × IsSwitchOf network channel device
         by_channel None is some = absurd cc
-        by_channel (Some channel) is some = (channel, closed (λ (y : Device). y.channel ≡ Some channel) (device_at network device) x at is)
+        by_channel (Some channel) is some =
+            (channel, closed (λ y. y.channel ≡ Some channel) (device_at network device) x at is)
 
 -- it is no end system
 pub switch_no_end : {network : Network} (channel : Channel) (device : DeviceId) → IsInRange network
     → IsSwitchOf network channel device → is_end network device ≡ false
 switch_no_end {network} channel device range switch =
-    let d = opened (λ (x : Device). x.channel ≡ Some channel) (device_at network device) switch in
+    let d = opened (λ x. x.channel ≡ Some channel) (device_at network device) switch in
     let known = in_all IsDeviceInRange network.device device.0 d.0 range.devices d.1 in
     let some : is_some d.0.channel ≡ true = ap is_some d.2 in
-    ap (λ (o : Option Device). option_map_or (λ x. is_end_system x.role) o false) d.1 ∙ back (is_end_system d.0.role) (sym known.switches ∙ some)
+    rw d.1 (back (is_end_system d.0.role) (sym known.switches ∙ some))
   where
     back : (b : Bool) → not b ≡ true → b ≡ false
     back true e = absurd cc
@@ -54,11 +55,12 @@ ends_of_one {network} {entry} channel range keeps row no_end =
     let child : IsSwitchOf network joint.0 entry.link.child = elim joint.2 [
       | inl end ↦ absurd (both_ways _ no_end (end_test network entry.link.child end))
       | inr relay ↦
-          let d = opened (λ (x : Device). (x.role ≡ Relay) × (x.channel ≡ Some joint.0)) (device_at network entry.link.child) relay in
-          closed (λ (x : Device). x.channel ≡ Some joint.0) (device_at network entry.link.child) d.0 d.1 d.2.1
+          let d = opened (λ x. (x.role ≡ Relay) × (x.channel ≡ Some joint.0)) (device_at network entry.link.child)
+          relay in
+          closed (λ x. x.channel ≡ Some joint.0) (device_at network entry.link.child) d.0 d.1 d.2.1
     ] in (
-      λ parent. subst (λ c. IsSwitchOf network c entry.link.child) (one_channel network joint.0 channel entry.link.parent joint.1 parent) child,
-      λ own. subst (λ c. IsSwitchOf network c entry.link.parent) (one_channel network joint.0 channel entry.link.child child own) joint.1,
+      λ parent. rw (one_channel network joint.0 channel entry.link.parent joint.1 parent) at child,
+      λ own. rw (one_channel network joint.0 channel entry.link.child child own) at joint.1,
     )
 
 module _ {network : Network} {place : ℕ} {entry : Entry} (channel : Channel) (range : IsInRange network)
@@ -79,9 +81,9 @@ pub good_sources : BringsChannels → {v : View} (vl : VlId) (of_vl : VirtualLin
     → slice_get v.scenario.network.vl vl.0 ≡ Some of_vl → IsGood v of_vl.sender → HasGoodSources v vl
 good_sources channels {v} vl of_vl is there good place entry row own =
     let n = v.scenario.network in
-    let same : entry.vl ≡ of_vl = same_some (slice_get n.vl vl.0) entry.vl of_vl (subst (λ (x : VlId). slice_get n.vl x.0 ≡ Some entry.vl) own row.vl) there in
+    let same = same_some (slice_get n.vl vl.0) entry.vl of_vl (rw own at row.vl) there in
     elim (is.lawful.rules Sources place entry row) [
-      | inl sender ↦ subst (IsGood v) (sym (sender ∙ ap (λ (x : VirtualLink). x.sender) same)) good
+      | inl sender ↦ subst (IsGood v) (sym (sender ∙ ap (λ x. x.sender) same)) good
       | inr other ↦ (let switch = switch_channel (source_of entry) is.lawful.range other.0 in channels.switches v
           switch.0 (source_of entry) is switch.1)
     ]

@@ -5,7 +5,7 @@ use Rattle.precision_law.proofs.traffic_lemmas.Words.{Integrates, IsCaused, IsFo
 use Rattle.precision_law.proofs.traffic_lemmas.Words.{TimedAreNotTurnedOn, View, Why, [], ap, arith, between, both_ways, device_at, earlier, earlier_parts}
 use Rattle.precision_law.proofs.traffic_lemmas.Words.{false, fold, fold-append, founded_at, has_time, if◌then◌else◌, in_between, in_left, in_order, inl, inr}
 use Rattle.precision_law.proofs.traffic_lemmas.Words.{is_joined_by, is_turned_on_at, le-ltb, nat_lt, none_kept, numbered_in, one_device, option_and_then, refl}
-use Rattle.precision_law.proofs.traffic_lemmas.Words.{start_of, state_after, state_at_start, state_left, state_with, subst, suc, sym, time_of, true, zero, ℕ}
+use Rattle.precision_law.proofs.traffic_lemmas.Words.{start_of, state_at_start, state_left, state_with, subst, suc, sym, time_of, true, zero, ℕ}
 use Rattle.precision_law.{proofs.traffic_lemmas.spans.Forward.{no_joining, turned_on_by}, specs.{Blocks.NoneLost, traffic.Delivered.SoundSwitchesKeepTime}}
 use Rattle.run_law.specs.declared.judgement.Why.TheVariants as whys
 use Rattle.run_law.specs.declared.note.NoteBody.TheVariants as notes
@@ -48,8 +48,8 @@ module _ (v : View) (device : DeviceId) (next : ℕ) (h : Happening) where
       by : (b : Bool) → (device.0 == other.0) ≡ b → (if b then state else Synchronised) ≡ Synchronised
       by false e = refl
       by true e =
-          let own : h.note.body ≡ notes.State device state cause why =
-          body ∙ ap (λ (d : DeviceId). notes.State d state cause why) (one_device device other e) in
+          let own =
+          body ∙ ap (λ d. notes.State d state cause why) (one_device device other e) in
           let found = founded_at v.scenario v.records h is.run.founded i in
           let caused : ChangesState v.scenario found.front device (time_of h) state cause why =
           subst (IsCaused v.scenario found.front h.note.time) own
@@ -66,30 +66,31 @@ fold_leaves : (device : DeviceId) (hs : List Happening) → ((h : Happening) →
     → (old : State) → old ≡ Synchronised → fold (λ state h. state_with device state h.note.body) old hs ≡ Synchronised
 fold_leaves device [] each old e = e
 fold_leaves device (h ∷ hs) each old e =
-    fold_leaves device hs (λ g i. each g (inr i)) (state_with device old h.note.body) (ap (λ x. state_with device x h.note.body) e
-    ∙ each h (inl refl))
+    fold_leaves device hs (λ g i. each g (inr i)) (state_with device old h.note.body) (rw e
+    (each h (inl refl)))
 
 -- a firm device that begins on is synchronised until it loses the time
 firm_up_to : TimedAreNotTurnedOn → {v : View} {device : DeviceId} (next t : ℕ) → IsView v → NoneLost v next
     → IsFirm v device → BeginsOn v.scenario.network device → t ≤ next → state_left v device t ≡ Synchronised
 firm_up_to never {v} {device} next zero is kept firm on le =
-    let none : earlier 0 v.records ≡ [] = none_kept (λ h. nat_lt (time_of h) 0) v.records (λ h i. le-ltb (time_of h) 0 (omega arith)) in
-    ap (λ xs. state_after v.scenario xs device) none ∙ starts_synchronised v.scenario.network device on
+    let none = none_kept (λ h. nat_lt (time_of h) 0) v.records (λ h i. le-ltb (time_of h) 0 (omega arith)) in
+    rw none (starts_synchronised v.scenario.network device on)
 firm_up_to never {v} {device} next (suc t) is kept firm on le =
-    let timed = firm_up_to never next t is kept firm on (omega (arith, le)) in
+    let timed = firm_up_to never next t is kept firm on (omega arith) in
     let not_on = never v device t is (ap has_time timed) in
     let hs = between t (suc t) v.records in
     let parts = earlier_parts t (suc t) v.records (in_order is) (omega arith) in
     let each : (h : Happening) → IsIn h hs → state_with device Synchronised h.note.body ≡ Synchronised = λ h i.
     let there = in_between t (suc t) v.records h i in
     let same : time_of h ≡ t = omega (arith, there.1, there.2) in
-    let timed_h = subst (λ u. state_left v device u ≡ Synchronised) (sym same) timed in
-    let not_h = subst (λ u. is_turned_on_at v.scenario device u ≡ false) (sym same) not_on in
-    leaves_by v device next h h.note.body is kept firm there.0 (omega (arith, same, le)) timed_h
+    let timed_h = rw (sym same) at timed in
+    let not_h = rw (sym same) at not_on in
+    leaves_by v device next h h.note.body is kept firm there.0 (omega arith) timed_h
     not_h refl (no_joining device h is there.0 timed_h not_h) in
-    let apart = fold-append (λ (state : State) (h : Happening). state_with device state h.note.body) (state_at_start (start_of v.scenario.network device))
+    let apart = fold-append (λ state h. state_with device state h.note.body)
+    (state_at_start (start_of v.scenario.network device))
     (earlier t v.records) hs in
-    ap (λ xs. state_after v.scenario xs device) parts ∙ apart ∙ fold_leaves device hs each (state_left v device t) timed
+    rw parts (apart ∙ fold_leaves device hs each (state_left v device t) timed)
 
 pub sound_switches_keep_time : BringsChannels → TimedAreNotTurnedOn → SoundSwitchesKeepTime
 sound_switches_keep_time channels never v n before device is switch = grind (arith, firm_up_to)

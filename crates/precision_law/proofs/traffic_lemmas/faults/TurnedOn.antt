@@ -47,13 +47,12 @@ module _ (s : Scenario) (device : DeviceId) where
       let at = parted one.event s.events one.there in
       elim (in_parts two.event at.0 (one.event ∷ at.1) (subst (IsIn two.event) at.2 two.there)) [
         | inl l ↦ on_again at.0 at.1 two.event one.event lawful at.2 l two.what one.what
-        | inr (inl same) ↦ (let times : amount two.event.time ≡ amount one.event.time = ap
-            (λ (x : Event). amount x.time) same in omega
-            (arith, times, one.at, two.at, lt))
+        | inr (inl same) ↦ (let times : amount two.event.time ≡ amount one.event.time = rw same in omega
+            (arith, one.at, two.at))
         | inr (inr later) ↦
             let more = parted two.event at.1 later in
-            let whole : s.events ≡ (at.0 ++ one.event ∷ more.0) ++ two.event ∷ more.1 =
-            at.2 ∙ ap (λ (xs : List Event). at.0 ++ one.event ∷ xs) more.2
+            let whole =
+            at.2 ∙ ap (λ xs. at.0 ++ one.event ∷ xs) more.2
             ∙ sym (append_assoc at.0 (one.event ∷ more.0) (two.event ∷ more.1)) in
             on_again (at.0 ++ one.event ∷ more.0) more.1 one.event two.event lawful whole
             (in_right one.event at.0 (one.event ∷ more.0) (inl refl))
@@ -85,7 +84,7 @@ no_joining_off {v} device h is i off not_on =
     let s = v.scenario in
     let found = founded_at s v.records h is.run.founded i in
     let same = earlier_before (before_of is found) in
-    let left : state_after s (earlier (time_of h) found.front) device ≡ Off = ap (λ xs. state_after s xs device) same ∙ off in
+    let left : state_after s (earlier (time_of h) found.front) device ≡ Off = rw same off in
     false_from_ne_true (is_joined_by device h.note.body) (λ joined.
     let was = looking_by s found.front h.note.time device h.note.body joined found.due.cause in
     let is_off = off_before (is_turned_on_at s device (time_of h)) (state_after s (earlier (time_of h) found.front) device) not_on left in
@@ -127,10 +126,10 @@ stays_off_by {v} device h (notes.State other state cause why) is i off not_on bo
         let s = v.scenario in
         let found = founded_at s v.records h is.run.founded i in
         let same = earlier_before (before_of is found) in
-        let left : state_after s (earlier (time_of h) found.front) device ≡ Off = ap (λ xs. state_after s xs device) same ∙ off in
+        let left : state_after s (earlier (time_of h) found.front) device ≡ Off = rw same off in
         let before = off_before (is_turned_on_at s device (time_of h)) (state_after s (earlier (time_of h) found.front) device) not_on left in
         let caused : ChangesState s found.front other (time_of h) state cause why = subst (IsCaused s found.front h.note.time) body found.due.cause in
-        let own = subst (λ d. ChangesState s found.front d (time_of h) state cause why) (one_device device other e) caused in
+        let own = rw (one_device device other e) at caused in
         absurd (no_change_off device state cause why is i off not_on found before own)
 stays_off_by device h (notes.Permanent other link cause point Integrates) is i off not_on body joined = rw joined refl
 stays_off_by device h (notes.Compressed other opened at cycle members Integrates) is i off not_on body joined =
@@ -142,28 +141,29 @@ fold_off : (device : DeviceId) (hs : List Happening) → ((h : Happening) → Is
     → fold (λ state h. state_with device state h.note.body) old hs ≡ Off
 fold_off device [] each old e = e
 fold_off device (h ∷ hs) each old e =
-    fold_off device hs (λ g i. each g (inr i)) (state_with device old h.note.body) (ap (λ x. state_with device x h.note.body) e ∙ each h (inl refl))
+    fold_off device hs (λ g i. each g (inr i)) (state_with device old h.note.body) (rw e (each h (inl refl)))
 
 -- up to its being turned on a device that began off is off
 off_up_to : {v : View} (device : DeviceId) (t : ℕ) → IsView v → (BeginsOn v.scenario.network device → ⊥)
     → ((x : ℕ) → x < t → is_turned_on_at v.scenario device x ≡ false) → state_left v device t ≡ Off
 off_up_to {v} device zero is began not_on =
-    let none : earlier 0 v.records ≡ [] = none_kept (λ h. nat_lt (time_of h) 0) v.records (λ h i. le-ltb (time_of h) 0 (omega arith)) in
-    ap (λ xs. state_after v.scenario xs device) none ∙ starts_off v.scenario.network device began
+    let none = none_kept (λ h. nat_lt (time_of h) 0) v.records (λ h i. le-ltb (time_of h) 0 (omega arith)) in
+    rw none (starts_off v.scenario.network device began)
 off_up_to {v} device (suc t) is began not_on =
-    let off = off_up_to device t is began (λ x lt. not_on x (omega (arith, lt))) in
+    let off = off_up_to device t is began (λ x lt. not_on x (omega arith)) in
     let here = not_on t (omega arith) in
     let hs = between t (suc t) v.records in
     let parts = earlier_parts t (suc t) v.records (in_order is) (omega arith) in
     let each : (h : Happening) → IsIn h hs → state_with device Off h.note.body ≡ Off = λ h i.
     let there = in_between t (suc t) v.records h i in
     let same : time_of h ≡ t = omega (arith, there.1, there.2) in
-    let off_h = subst (λ u. state_left v device u ≡ Off) (sym same) off in
-    let not_h = subst (λ u. is_turned_on_at v.scenario device u ≡ false) (sym same) here in
+    let off_h = rw (sym same) at off in
+    let not_h = rw (sym same) at here in
     stays_off_by device h h.note.body is there.0 off_h not_h refl (no_joining_off device h is there.0 off_h not_h) in
-    let apart = fold-append (λ (state : State) (h : Happening). state_with device state h.note.body) (state_at_start (start_of v.scenario.network device))
+    let apart = fold-append (λ state h. state_with device state h.note.body)
+    (state_at_start (start_of v.scenario.network device))
     (earlier t v.records) hs in
-    ap (λ xs. state_after v.scenario xs device) parts ∙ apart ∙ fold_off device hs each (state_left v device t) off
+    rw parts (apart ∙ fold_off device hs each (state_left v device t) off)
 
 -- ---- the law
 

@@ -1,8 +1,8 @@
 -- No frame meets a frame of the schedule on a port.
 use Rattle.precision_law.{proofs.law.Precision.{view_at, view_of}, specs.traffic.Ports.{IsLeaving, PortsStayApart}}
-use Rattle.precision_law.proofs.traffic_lemmas.Words.{◌*◌, ◌+◌, ◌<◌, ◌∙◌, ◌≡◌, ◌≢◌, ◌≤◌, BringsBlocks, BringsChannels, DeviceId, GivingsKeepAway, Happening}
-use Rattle.precision_law.proofs.traffic_lemmas.Words.{IsGood, IsIn, IsRowDispatch, IsView, Link, LinkId, NoteBody, Option, Scenario, Some, View, VlId, ap}
-use Rattle.precision_law.proofs.traffic_lemmas.Words.{arith, inl, inr, length, link_at, octet_time, option_map_or, port_time, refl, subst, time_of, ℕ}
+use Rattle.precision_law.proofs.traffic_lemmas.Words.{◌*◌, ◌+◌, ◌<◌, ◌≡◌, ◌≢◌, ◌≤◌, BringsBlocks, BringsChannels, DeviceId, GivingsKeepAway, Happening}
+use Rattle.precision_law.proofs.traffic_lemmas.Words.{IsGood, IsRowDispatch, IsView, LinkId, NoteBody, Scenario, View, VlId, ap}
+use Rattle.precision_law.proofs.traffic_lemmas.Words.{arith, inl, inr, length, octet_time, port_time, refl, time_of, ℕ}
 use Rattle.{precision_law.proofs.traffic_lemmas.delivery.Whole.dispatches_are_whole, run_law.specs.law.Safety.{IsControlOnPort, IsTtOnPort, time_of_octets}}
 use Rattle.precision_law.proofs.traffic_lemmas.ports.{Dispatched.dispatches_are_of_rows, Leavings.leavings_stand_apart, TwoDispatches.dispatches_stand_apart}
 use Rattle.{run_law.specs.records.Happenings.happenings, std.proofs.Common.max}
@@ -44,15 +44,14 @@ row_time : {v : View} {h : Happening} {device : DeviceId} {link : LinkId} {cause
     → IsView v → (d : IsRowDispatch v h device link cause vl cycle)
     → time_of_octets v.scenario.network link (length h.octets) ≡ port_time d.entry
 row_time {v} {h} {device} {link} {cause} {vl} {cycle} is d =
-    ap (λ (o : Option Link). option_map_or (λ l. (length h.octets + 24) * octet_time l.speed) o 0)
-    (subst (λ x. link_at v.scenario.network x ≡ Some d.entry.link) d.by d.row.link)
-    ∙ ap (λ n. (n + 24) * octet_time d.entry.link.speed) (dispatches_are_whole v h device link cause vl cycle is d)
+    rw (rw d.by at d.row.link)
+    (ap (λ n. (n + 24) * octet_time d.entry.link.speed) (dispatches_are_whole v h device link cause vl cycle is d))
 
 -- ---- ports
 
 -- a record of one number is one
 not_same : (h g : Happening) → h.note.number ≢ g.note.number → h ≡ g → ⊥
-not_same h g differ same = differ (ap (λ (x : Happening). x.note.number) same)
+not_same h g differ same = differ (rw same)
 
 pub ports_stay_apart : BringsBlocks → BringsChannels → GivingsKeepAway → PortsStayApart
 ports_stay_apart brings channels away s mark ns until run h g device link t i j differ correct on other =
@@ -62,8 +61,8 @@ ports_stay_apart brings channels away s mark ns until run h g device link t i j 
     let channel = channels.sound s u run.up.lawful in
     let at = view_at u channel.0 run.up in_run channel.1 in
     let v = view_of s hs u channel.0 at in
-    let here : IsIn h v.records = at.cut.has h i (omega arith) in
-    let there : IsIn g v.records = at.cut.has g j (omega arith) in
+    let here = at.cut.has h i (omega arith) in
+    let there = at.cut.has g j (omega arith) in
     let first = tt_then s h device link t h.note.body refl on in
     let d = dispatches_are_of_rows v h device link first.cause first.vl first.cycle at.is here first.is in
     let size = row_time at.is d in
@@ -76,15 +75,15 @@ ports_stay_apart brings channels away s mark ns until run h g device link t i j 
           let length_is = row_time at.is e in
           elim (dispatches_stand_apart brings v h g device link first.cause second.cause first.vl second.vl first.cycle second.cycle at.is
           (good_at (omega (arith, first.from, second.from))) (not_same h g differ) d e) [
-            | inl before ↦ omega (arith, before, size, first.to, second.from)
-            | inr behind ↦ omega (arith, behind, length_is, second.to, first.from)
+            | inl before ↦ omega (arith, first.to, second.from)
+            | inr behind ↦ omega (arith, second.to, first.from)
           ]
       | inr two ↦
           let second = control_then s g device link t g.note.body refl two in
           let leaving : IsLeaving v g device link second.cause second.clock = record { there = there; is = second.is } in
           elim (leavings_stand_apart brings away v h g device link first.cause second.cause second.clock first.vl first.cycle at.is
           (good_at (omega (arith, first.from, second.from))) d leaving) [
-            | inl before ↦ omega (arith, before, size, first.to, second.from)
-            | inr behind ↦ omega (arith, behind, second.to, first.from)
+            | inl before ↦ omega (arith, first.to, second.from)
+            | inr behind ↦ omega (arith, second.to, first.from)
           ]
     ]

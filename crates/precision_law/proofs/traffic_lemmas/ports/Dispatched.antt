@@ -1,9 +1,9 @@
 -- The records of dispatches by the schedule.
 use Rattle.precision_law.{proofs.clocks.Epochs.settings_stay, specs.traffic.Dispatched.{DispatchesAreInSpans, DispatchesAreOfRows}}
-use Rattle.precision_law.proofs.traffic_lemmas.Words.{◌*◌, ◌+◌, ◌<ℤ◌, ◌∙◌, ◌≡◌, ◌≤◌, BringsBlocks, DeviceId, Entry, Happening, IsCaused, IsEntry, IsInSchedule}
-use Rattle.precision_law.proofs.traffic_lemmas.Words.{IsInSpan, IsTimedAt, IsView, List, None, Option, Reaches, Sizes, Synchronised, Units, View}
+use Rattle.precision_law.proofs.traffic_lemmas.Words.{◌<ℤ◌, ◌≡◌, ◌≤◌, BringsBlocks, DeviceId, Entry, IsCaused, IsEntry, IsInSchedule}
+use Rattle.precision_law.proofs.traffic_lemmas.Words.{IsInSpan, IsTimedAt, IsView, View}
 use Rattle.precision_law.proofs.traffic_lemmas.Words.{adjustment_left, adjustment_stays, amount, ap, arith, before_of, changed_at, earlier, earlier_before}
-use Rattle.precision_law.proofs.traffic_lemmas.Words.{epoch_time, filter, founded_at, inl, inr, ints, is_accepted, is_turned_on_at, last_or, option_map_or, pos}
+use Rattle.precision_law.proofs.traffic_lemmas.Words.{epoch_time, founded_at, inl, inr, ints, is_turned_on_at, pos}
 use Rattle.precision_law.proofs.traffic_lemmas.{Words.{reaches_by, state_after, subst, sym, time_of, within_run, ℕ}, schedule.Rows.rows_are_in_time}
 use Rattle.precision_law.proofs.traffic_lemmas.{ports.Cycles.same_next, spans.Spans.{synchronised_keep_time, values_are_reached_in_spans}}
 use Rattle.sync_state.proofs.StateFacts.{up_state}
@@ -13,7 +13,7 @@ use Rattle.run_law.specs.declared.note.NoteBody.TheVariants as notes
 
 -- the length of a cycle
 pub cycle_is : {v : View} → IsView v → v.sizes.cycle ≡ amount v.scenario.network.cycle
-cycle_is is = ap (λ (s : Sizes). s.cycle) is.sizes
+cycle_is is = rw is.sizes
 
 pub dispatches_are_of_rows : DispatchesAreOfRows
 dispatches_are_of_rows v h device link cause vl cycle is i body =
@@ -24,7 +24,7 @@ dispatches_are_of_rows v h device link cause vl cycle is i body =
     in
     let d = caused.dispatches in
     let same = earlier_before (before_of is found) in
-    let left : state_after s (earlier t found.front) device ≡ Synchronised = up_state (is_turned_on_at s device t)
+    let left = up_state (is_turned_on_at s device t)
     (state_after s (earlier t found.front) device) d.up.synchronised in
     record {
       there = i;
@@ -36,19 +36,17 @@ dispatches_are_of_rows v h device link cause vl cycle is i body =
       of_vl = d.of_vl;
       leaves = d.leaves;
       occurs = d.occurs;
-      synchronised = subst (λ xs. state_after s xs device ≡ Synchronised) same left;
+      synchronised = rw same at left;
       correct = d.up.correct;
       reached =
-          subst (λ (n : ℕ). Reaches s v.records device (pos (cycle * n + amount d.entry.row.offset)) t)
-          (sym (cycle_is is))
-          (reaches_by v.records same d.reached);
+          rw (cycle_is is) (reaches_by v.records same d.reached);
       at_hand = elim d.at_hand [
         | inl own ↦ inl own
         | inr taken ↦ inr (
           taken.0,
           record {
             taken = taken.1.taken;
-            last = ap (λ (xs : List Happening). last_or None (filter (λ h. is_accepted device d.entry.row.vl h.note.body) xs)) (sym same) ∙ taken.1.last;
+            last = rw (sym same) taken.1.last;
             number = taken.1.number;
             link = taken.1.link;
             from = taken.1.from;
@@ -83,8 +81,8 @@ pub one_clock : BringsBlocks → {v : View} {n t u : ℕ} (one : IsInSpan v n t)
 one_clock brings {v} {n} {t} {u} one two {device} is timed le =
     let old = (synchronised_keep_time brings v n u two device is timed).old in
     let next = same_next one.block.before two.block.before in
-    let early : epoch_time (earlier u v.records) device <ℤ pos t = omega (arith, ints, old, next, one.block.from) in
+    let early : epoch_time (earlier u v.records) device <ℤ pos t = omega (arith, ints, one.block.from) in
     record {
-      adjustment = ap (λ (a : Units). a.0) (adjustment_stays device t u is le early);
-      since = ap (λ (o : Option Happening). option_map_or time_of o 0) (settings_stay v device t u is le early);
+      adjustment = ap (λ a. a.0) (adjustment_stays device t u is le early);
+      since = rw (settings_stay v device t u is le early);
     }

@@ -1,6 +1,6 @@
 -- The two ends of a link, and the ways on which a device sends by it.
-use Rattle.net_plan.{proofs.{Shape.rules_give_trees, TableFacts.no_path}, specs.{Paths.IsUplink, Places.IsDeviceOf}}
-use Rattle.precision_law.proofs.traffic_lemmas.Words.{◌≡◌, ◌≢◌, ◌⊎◌, Device, Down, Entry, IsEntry, IsSwitchOf, Joints, KeepsRules, Link, LinkId, Network, Some}
+use Rattle.net_plan.{proofs.{Shape.rules_give_trees, TableFacts.no_path}}
+use Rattle.precision_law.proofs.traffic_lemmas.Words.{◌≡◌, ◌≢◌, ◌⊎◌, Down, Entry, IsEntry, IsSwitchOf, Joints, KeepsRules, Link, LinkId, Network, Some}
 use Rattle.precision_law.proofs.traffic_lemmas.Words.{Up, Way, closed, device_at, inr, is_end_system, link_at, opened, refl, same_some, source_by}
 use Rattle.{precision_law.proofs.traffic_lemmas.Words.{source_of, sym, true, ℕ}, schedule_tables.proofs.Margins.shape_rules, std.proofs.Common.arith}
 
@@ -11,10 +11,10 @@ pub ends_differ : (network : Network) (link : LinkId) (l : Link) → KeepsRules 
 ends_differ network link l keeps at same =
     let joint = keeps Joints link.0 l at in
     let tree = rules_give_trees network (shape_rules network keeps) in
-    let up : IsUplink network joint.0 l.parent link = closed (λ (x : Link). (x.child ≡ l.parent) × IsSwitchOf network joint.0 x.parent) (link_at network link) l
+    let up = closed (λ x. (x.child ≡ l.parent) × IsSwitchOf network joint.0 x.parent) (link_at network link) l
     at (same, joint.1) in
-    let switch = opened (λ (d : Device). d.channel ≡ Some joint.0) (device_at network l.parent) joint.1 in
-    let member : IsDeviceOf network joint.0 l.parent = closed (λ (d : Device). (is_end_system d.role ≡ true) ⊎ (d.channel ≡ Some joint.0))
+    let switch = opened (λ d. d.channel ≡ Some joint.0) (device_at network l.parent) joint.1 in
+    let member = closed (λ d. (is_end_system d.role ≡ true) ⊎ (d.channel ≡ Some joint.0))
     (device_at network l.parent) switch.0 switch.1 (inr switch.2) in
     let path = tree.reach joint.0 l.parent member in
     no_path joint.0 l.parent link l tree at refl up path.0 path.2

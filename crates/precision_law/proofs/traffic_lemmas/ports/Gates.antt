@@ -1,15 +1,15 @@
 -- What a synchronised compression master sends was opened by a frame that passed its gate.
-use Rattle.{compression.specs.Clusters.{Point, point_at}, run_law.specs.device.States.{adjustment_at_hearing, cycle_in, has_joined_at, state_at_hearing}}
+use Rattle.{compression.specs.Clusters.{Point, point_at}, run_law.specs.device.States.{adjustment_at_hearing, cycle_in, state_at_hearing}}
 use Rattle.{compression.specs.Emission.emission, run_law.{proofs.runs.Places.in_right, specs.{control.Emissions.Emits, scenario.Devices.is_cm}}}
 use Rattle.{compression.specs.declared.compressed.Compressed.Compressed, precision_law.proofs.{records.Judged.all_judge, traffic_lemmas.delivery.Sent.no_later}}
 use Rattle.{drift_clock.specs.Reach.IsReach, std.{proofs.Common.MatchBool, specs.List.after_last}}
 use Rattle.{precision_law.proofs.{clocks.Readings.permanence_is_sharp, records.Behind.behind_last}, tte_units.specs.declared.frames.members.Members.Members}
 use Rattle.precision_law.proofs.traffic_lemmas.Words.{◌&&◌, ◌*◌, ◌++◌, ◌+ℤ◌, ◌+◌, ◌-ℤ◌, ◌<◌, ◌==◌, ◌||◌, ◌∙◌, ◌∷◌, ◌≡◌, ◌≤ℤ◌, ◌≤◌, Bool, DeviceId, Happening}
 use Rattle.precision_law.proofs.traffic_lemmas.Words.{IsBefore, IsCaused, IsDue, IsFounded, IsFoundedAt, IsIn, IsView, Joining, Judgement, LinkId, List}
-use Rattle.precision_law.proofs.traffic_lemmas.Words.{Network, None, NoteBody, Option, Pcf, Reason, Scenario, Sizes, Some, State, Synchronised}
-use Rattle.precision_law.proofs.traffic_lemmas.Words.{TimedAreNotTurnedOn, Units, View, [], adjustment_after, adjustment_left, amount, ap, append_assoc, arith}
+use Rattle.precision_law.proofs.traffic_lemmas.Words.{Network, None, NoteBody, Option, Reason, Scenario, Sizes, Some, State, Synchronised}
+use Rattle.precision_law.proofs.traffic_lemmas.Words.{TimedAreNotTurnedOn, Units, View, [], adjustment_left, amount, ap, append_assoc, arith}
 use Rattle.precision_law.proofs.traffic_lemmas.Words.{before_of, behind_first, between, both_ways, cases_lt, earlier, earlier_before, earlier_parts, eqb-true}
-use Rattle.precision_law.proofs.traffic_lemmas.Words.{false, false_from_ne_true, filter, fold-append, founded_at, has_time, if◌then◌else◌, in_between, in_left}
+use Rattle.precision_law.proofs.traffic_lemmas.Words.{false, false_from_ne_true, fold-append, founded_at, has_time, if◌then◌else◌, in_between, in_left}
 use Rattle.precision_law.proofs.traffic_lemmas.Words.{in_order, in_parts, inl, inr, int_lt, ints, is_joined_by, is_synchronised, is_turned_on_at, key, le-ltb}
 use Rattle.precision_law.proofs.traffic_lemmas.Words.{lt-ltb, members_in, nat_lt, none_first, not_less, numbered_in, offset_in_cycle, one_device}
 use Rattle.precision_law.proofs.traffic_lemmas.Words.{option_and_then, option_map_or, parted, place_of, pos, rank, refl, start_of, state_after, state_at_start}
@@ -49,8 +49,8 @@ permanent_record device h (notes.Permanent other link cause point verdict) o sam
       cause = cause;
       point = point;
       verdict = verdict;
-      is = same ∙ ap (λ (d : DeviceId). notes.Permanent d link cause point verdict) (one_device device other made.0);
-      reads = ap (λ (x : Point). x.reading) (sym made.1);
+      is = same ∙ ap (λ d. notes.Permanent d link cause point verdict) (one_device device other made.0);
+      reads = rw (sym made.1);
     }
 permanent_record device h body o same e = absurd cc
 
@@ -58,9 +58,9 @@ permanent_record device h body o same e = absurd cc
 
 -- a record of a later place than another, of its time at the earliest, and of a higher rank
 lower_rank : (t u a b : ℕ) (xs ys : List ℕ) → u ≤ t → b < a → IsBefore (t ∷ a ∷ xs) (u ∷ b ∷ ys) → ⊥
-lower_rank t u a b xs ys le less (inl lt) = absurd (omega (arith, le, lt))
-lower_rank t u a b xs ys le less (inr (e, inl lt)) = absurd (omega (arith, less, lt))
-lower_rank t u a b xs ys le less (inr (e, inr more)) = absurd (omega (arith, less, more.0))
+lower_rank t u a b xs ys le less (inl lt) = absurd (omega arith)
+lower_rank t u a b xs ys le less (inr (e, inl lt)) = absurd (omega arith)
+lower_rank t u a b xs ys le less (inr (e, inr more)) = absurd (omega (arith, more.0))
 
 -- does the record itself change the device's state, other than by turning it on?
 abbrev changes_state : DeviceId → NoteBody → Bool
@@ -83,7 +83,7 @@ ending_rank device body e = absurd cc
 keeps_stretch : (s : Scenario) (ps : List Happening) (time : Units) (device : DeviceId) (body : NoteBody) → changes_state device body ≡ false
     → IsCaused s ps time body → Keeps device body
 keeps_stretch s ps time device (notes.State other state cause whys.On) e c old timed =
-    kept_if (device.0 == other.0) state old (λ same is. (let made = c.0 in cc)) timed
+    kept_if (device.0 == other.0) state old (λ same is. (cc)) timed
 keeps_stretch s ps time device (notes.State other state cause why) e c old timed = kept_if (device.0 == other.0) state old (λ same is. both_ways _ e same) timed
 keeps_stretch s ps time device (notes.Permanent other link cause point judgements.Integrates) e c old timed =
     kept_if (device.0 == other.0) Joining old (λ same is. cc) timed
@@ -97,15 +97,16 @@ stretch_back : {v : View} (device : DeviceId) (q t : ℕ) → IsView v → q ≤
     → state_left v device t ≡ Synchronised → state_left v device q ≡ Synchronised
 stretch_back {v} device q t is le none timed =
     let parts = earlier_parts q t v.records (in_order is) le in
-    let whole : state_after v.scenario (earlier q v.records ++ between q t v.records) device ≡ Synchronised = subst
-    (λ hs. state_after v.scenario hs device ≡ Synchronised) parts timed in
-    let apart = fold-append (λ (state : State) (h : Happening). state_with device state h.note.body) (state_at_start (start_of v.scenario.network device))
+    let whole : state_after v.scenario (earlier q v.records ++ between q t v.records) device ≡ Synchronised =
+    rw parts at timed in
+    let apart = fold-append (λ state h. state_with device state h.note.body)
+    (state_at_start (start_of v.scenario.network device))
     (earlier q v.records) (between q t v.records) in
     kept_by_all device (between q t v.records) (λ h i.
     let there = in_between q t v.records h i in
     let at = founded_at v.scenario v.records h is.run.founded there.0 in
     keeps_stretch v.scenario at.front h.note.time device h.note.body (none h there.0 there.1 there.2) at.due.cause)
-    (state_after v.scenario (earlier q v.records) device) (subst (λ (x : State). x ≡ Synchronised) apart whole)
+    (state_after v.scenario (earlier q v.records) device) (rw apart at whole)
 
 -- ---- the gate
 
@@ -144,22 +145,22 @@ module _ {v : View} (device : DeviceId) {h : Happening} (is : IsView v) (found :
   none_joined : (x : Happening) → IsIn x found.front → time_of x ≡ time_of h → is_joined_by device x.note.body ≡ false
   none_joined x i same =
       no_joining device x is (subst (IsIn x) (sym found.whole) (in_left x found.front (h ∷ found.rest) i))
-      (subst (λ t. state_left v device t ≡ Synchronised) (sym same) timed)
-      (subst (λ t. is_turned_on_at v.scenario device t ≡ false) (sym same) off)
+      (rw same timed)
+      (rw same off)
 
   -- it hears it synchronised
   heard_state : state_at_hearing v.scenario found.front device (time_of h) ≡ Synchronised
   heard_state =
       let s = v.scenario in
       let t = time_of h in
-      let none : has_joined_at found.front device t ≡ false =
-      none_any (λ (x : Happening). time_of x == t && is_joined_by device x.note.body) found.front (λ x i.
+      let none =
+      none_any (λ x. time_of x == t && is_joined_by device x.note.body) found.front (λ x i.
       false_from_ne_true (time_of x == t && is_joined_by device x.note.body) (λ both.
       let parts = both_parts (time_of x == t) (is_joined_by device x.note.body) both in
       both_ways _ (none_joined x i (eqb-true (time_of x) t parts.0)) parts.1)) in
       let same = earlier_before (before_of is found) in
       let left : state_after s (earlier t found.front) device ≡ Synchronised =
-      ap (λ xs. state_after s xs device) same ∙ timed in
+      rw same timed in
       rw (none, off) left
     where
       both_parts : (x y : Bool) → (x && y) ≡ true → (x ≡ true) × (y ≡ true)
@@ -173,19 +174,18 @@ module _ {v : View} (device : DeviceId) {h : Happening} (is : IsView v) (found :
       let s = v.scenario in
       let t = time_of h in
       let split = before_of is found in
-      let kept : filter (λ x. nat_lt (time_of x) t || is_joined_by device x.note.body) found.front ≡ earlier t
-      found.front =
+      let kept =
       same_kept (λ x. nat_lt (time_of x) t || is_joined_by device x.note.body) (λ x. nat_lt (time_of x) t)
       found.front (λ x i.
       elim (cases_lt (time_of x) t) [
         | inl lt ↦ (let less = lt-ltb (time_of x) t lt in rw less refl)
         | inr ge ↦
             let most = split.only x i in
-            let none = none_joined x i (omega (arith, ge, most)) in
+            let none = none_joined x i (omega arith) in
             let more = le-ltb (time_of x) t ge in
             rw (more, none) refl
       ]) in
-      ap (λ xs. (adjustment_after s xs device).0) (kept ∙ earlier_before split)
+      rw (kept ∙ earlier_before split)
 
 -- ---- the opener of what is sent
 
@@ -220,20 +220,21 @@ opened_then {v} {device} {r} emitted t never is cm i record_is le stretch late =
     (in_left p.arrival found.front (r ∷ found.rest) (numbered_in found.front record_is.cause p.arrival p.there)) in
     let sound = arrived_sound device record_is.link p.from p.clock is
     (founded_at s v.records p.arrival is.run.founded arrival_there) p.arrived in
-    let dmax : n.dmax.0 ≡ pos (amount n.dmax) = not_negative n.dmax.0 (omega (arith, ints, is.lawful.range.dmax.least)) in
+    let dmax = not_negative n.dmax.0 (omega (arith, ints, is.lawful.range.dmax.least)) in
     let ripe_at = permanence_is_sharp v.sizes (s.reading device) (time_of p.arrival) record_is.point.0 q (steady v is device)
-    (omega (arith, ints, p.at_point, sound.young, dmax)) p.reached in
+    (omega (arith, ints, p.at_point, sound.young)) p.reached in
     let of_frame : r.frame ≡ Some caused.frame =
-    ap (λ (x : Happening). x.frame) found.due.same ∙ ap (frame_by n found.front) record_is.is ∙ ap (λ (o : Option Happening). option_and_then (λ x. x.frame) o)
+    ap (λ x. x.frame) found.due.same ∙ ap (frame_by n found.front) record_is.is ∙ ap
+    (λ (o : Option Happening). option_and_then (λ x. x.frame) o)
     p.there ∙ p.of_frame in
-    let members : members_in r ≡ caused.frame.members.0 = ap (λ (o : Option Pcf). option_map_or (λ f. f.members.0) o 0) of_frame in
+    let members : members_in r ≡ caused.frame.members.0 = ap (λ o. option_map_or (λ f. f.members.0) o 0) of_frame in
     let place : place_of r ≡ q ∷ 3 ∷ device.0 ∷ amount record_is.point ∷ caused.frame.members.0 ∷ record_is.link.0 ∷ record_is.cause ∷ [] =
     ap (λ b. q ∷ rank b ∷ key (members_in r) b) record_is.is
-    ∙ ap (λ (m : ℕ). q ∷ 3 ∷ device.0 ∷ amount record_is.point ∷ m ∷ record_is.link.0 ∷ record_is.cause ∷ []) members in
+    ∙ ap (λ m. q ∷ 3 ∷ device.0 ∷ amount record_is.point ∷ m ∷ record_is.link.0 ∷ record_is.cause ∷ []) members in
     let judged = all_judge found.front q device record_is.link record_is.cause caused.frame record_is.point
     (λ h j. subst (IsBefore (place_of h)) place ((is.run.founded found.front found.rest r found.whole).0 h j)) in
     let becomes : IsJudgedBy s found.front device q caused.frame record_is.point (ripe_as record_is.verdict) =
-    subst (λ hs. IsJudgedBy s hs device q caused.frame record_is.point (ripe_as record_is.verdict)) judged caused.becomes in
+    rw judged at caused.becomes in
     let collected = by_cm (is_cm n device) _ _ cm becomes in
     let state = heard_state device is found timed off in
     let adjustment = heard_adjustment device is found timed off in
@@ -246,10 +247,10 @@ opened_then {v} {device} {r} emitted t never is cm i record_is le stretch late =
       before = le;
       point = record_is.point.0;
       stretch = stretch;
-      late = omega (arith, ints, late, record_is.reads);
+      late = omega (arith, ints, record_is.reads);
       least = ripe_at.least;
       most = ripe_at.most;
-      gate = subst (λ a. PassesGate n (record_is.point.0 +ℤ a)) adjustment gate;
+      gate = rw adjustment at gate;
     }
 
 -- behind the opener no record before the sending changes the state
@@ -266,12 +267,12 @@ ends_none {device} {r} g h front between_them rest is whole record_is late early
       | inl before ↦
           let order = (is.run.founded front (between_them ++ g ∷ rest) r whole).0 h before in
           lower_rank (time_of h) (time_of r) (rank h.note.body) (rank r.note.body) (key (members_in h) h.note.body) (key (members_in r) r.note.body) late
-          (omega (arith, high, low)) order
-      | inr (inl same) ↦ (let equal : rank h.note.body ≡ rank r.note.body = ap (λ (x : Happening). rank x.note.body) same in omega (arith, equal, high, low))
+          (omega arith) order
+      | inr (inl same) ↦ (let equal : rank h.note.body ≡ rank r.note.body = rw same in omega arith)
       | inr (inr more) ↦ elim (in_parts h between_them (g ∷ rest) more) [
         | inl between ↦ both_ways _ (none h between) (change_ends device h.note.body e)
-        | inr (inl same) ↦ (let equal : time_of h ≡ time_of g = ap time_of same in omega (arith, equal, early))
-        | inr (inr behind) ↦ (let up = later h behind in omega (arith, up, early))
+        | inr (inl same) ↦ (let equal : time_of h ≡ time_of g = ap time_of same in omega arith)
+        | inr (inr behind) ↦ (let up = later h behind in omega arith)
       ]
     ]
 
@@ -291,16 +292,17 @@ emission_opened never {v} device g opened at cycle members verdict is i body tim
     let opener = opened_by (observation_window n) (points_of found.front device) caused.clusters caused.cluster (omega (arith, ints)) caused.are caused.there in
     let ends = λ (h : Happening). ends_stretch device h.note.body in
     let kept = after_last ends found.front in
-    let made = given_of (λ (h : Happening). point_by device h h.note.body) kept opener.opener
+    let made = given_of (λ h. point_by device h h.note.body) kept opener.opener
     (contained (points_of found.front device) opener.opener opener.there) in
     let r = made.0 in
     let record_is = permanent_record device r r.note.body opener.opener refl made.2 in
     let behind = behind_last ends found.front in
     let parts = parted r kept made.1 in
-    let front_is : found.front ≡ behind.front ++ (parts.0 ++ r ∷ parts.1) = behind.whole ∙ ap (λ (xs : List Happening). behind.front ++ xs) parts.2 in
-    let whole : v.records ≡ (behind.front ++ parts.0) ++ r ∷ (parts.1 ++ g ∷ found.rest) =
-    found.whole ∙ ap (λ (xs : List Happening). xs ++ g ∷ found.rest) front_is ∙ append_assoc behind.front (parts.0 ++ r ∷ parts.1) (g ∷ found.rest)
-    ∙ ap (λ (xs : List Happening). behind.front ++ xs) (append_assoc parts.0 (r ∷ parts.1) (g ∷ found.rest))
+    let front_is = behind.whole ∙ ap (λ xs. behind.front ++ xs) parts.2 in
+    let whole =
+    found.whole ∙ ap (λ xs. xs ++ g ∷ found.rest) front_is ∙ append_assoc behind.front (parts.0 ++ r ∷ parts.1)
+    (g ∷ found.rest)
+    ∙ ap (λ xs. behind.front ++ xs) (append_assoc parts.0 (r ∷ parts.1) (g ∷ found.rest))
     ∙ sym (append_assoc behind.front parts.0 (r ∷ (parts.1 ++ g ∷ found.rest))) in
     let in_kept_rest : (x : Happening) → IsIn x parts.1
     → ends x ≡ false = λ x j. behind.others x (subst (IsIn x) (sym parts.2) (in_right x parts.0 (r ∷ parts.1) (inr j))) in
@@ -315,12 +317,12 @@ emission_opened never {v} device g opened at cycle members verdict is i body tim
     (λ x k. no_later g x
     (inr (behind_first place_of (IsDue s) found.front found.rest g x (subst (IsFounded place_of (IsDue s)) found.whole is.run.founded) k))) j) in
     let stretch : (u : ℕ) → time_of r ≤ u → u ≤ t → state_left v device u ≡ Synchronised = λ u from to.
-    stretch_back device u t is to (λ h j late early. none h j (omega (arith, from, late)) early) timed in
+    stretch_back device u t is to (λ h j late early. none h j (omega arith) early) timed in
     let is_at : at.0 ≡ emission (observation_window n) (pos (amount n.calc)) caused.cluster = ap (λ (c : Compressed). c.at.0) caused.is in
     let precision : v.sizes.precision ≡ amount n.precision = ap (λ (x : Sizes). x.precision) is.sizes in
     let compression : v.sizes.compression ≡ compression_time n = ap (λ (x : Sizes). x.compression) is.sizes in
     let late : at.0 ≤ℤ (opener.opener.reading +ℤ pos (2 * v.sizes.precision + v.sizes.compression)) = omega
-    (arith, ints, is_at, opener.opens, opener.middle, precision, compression) in (
+    (arith, ints, opener.opens, opener.middle) in (
       opened_then at.0 t (λ d u up. never v d u is (ap has_time up)) is caused.cm r_in record_is r_early stretch late,
       caused.reached,
     )

@@ -2,8 +2,8 @@
 use Rattle.precision_law.proofs.{law.Together.{new_shows, old_shows, set_shows}, records.Points.point_timed, sizes.Instants.set_clocks_stay_at_correction}
 use Rattle.precision_law.proofs.traffic_lemmas.Words.{◌&&◌, ◌*◌, ◌+ℤ◌, ◌+◌, ◌-ℤ◌, ◌<ℤ◌, ◌<◌, ◌∙◌, ◌≡◌, ◌≤ℤ◌, ◌≤◌, Bool, BringsBlocks, ComesTo, Corrected}
 use Rattle.precision_law.proofs.traffic_lemmas.Words.{DeviceId, GivingsKeepAway, Happening, IsCaused, IsGood, IsIn, IsInBlock, IsInSpan, IsOldAt, IsTimedAt}
-use Rattle.precision_law.proofs.traffic_lemmas.Words.{IsView, Judgement, LinkId, None, NoteBody, Option, Sizes, Some, Stands, Synchronised}
-use Rattle.precision_law.proofs.traffic_lemmas.Words.{TimedAreNotTurnedOn, Units, View, [], adjustment_after, adjustment_left, adjustment_stays, amount, ap}
+use Rattle.precision_law.proofs.traffic_lemmas.Words.{IsView, Judgement, LinkId, None, NoteBody, Option, Some, Stands, Synchronised}
+use Rattle.precision_law.proofs.traffic_lemmas.Words.{TimedAreNotTurnedOn, Units, View, [], adjustment_left, adjustment_stays, amount, ap}
 use Rattle.precision_law.proofs.traffic_lemmas.Words.{arith, before_narrow, before_of, begins_late, block_ends, both_ways, by_lt_z, cases_lt}
 use Rattle.precision_law.proofs.traffic_lemmas.Words.{changes_adjustment, clock_of, clocks_reach_sharply, earlier, earlier_before, epoch_time, false}
 use Rattle.precision_law.proofs.traffic_lemmas.Words.{follows_before, founded_at, has_time, inl, inr, int_lt, ints, is_end, is_relay, is_synchronised}
@@ -28,12 +28,12 @@ off_gate : {v : View} (cycle : ℕ) (value : ℤ) → IsView v → PassesGate v.
     → value <ℤ (pos (cycle * v.sizes.cycle + v.sizes.cycle + v.sizes.dmax) -ℤ pos (2 * v.sizes.precision)) → ⊥
 off_gate {v} cycle value is gate low high =
     let n = v.scenario.network in
-    let dmax : v.sizes.dmax ≡ amount n.dmax = ap (λ (x : Sizes). x.dmax) is.sizes in
-    let precision : v.sizes.precision ≡ amount n.precision = ap (λ (x : Sizes). x.precision) is.sizes in
+    let dmax : v.sizes.dmax ≡ amount n.dmax = rw is.sizes in
+    let precision : v.sizes.precision ≡ amount n.precision = rw is.sizes in
     let z : ℤ = (value -ℤ pos (amount n.dmax)) +ℤ pos (2 * amount n.precision) in
-    let far = so_far z (cycle * v.sizes.cycle) v.sizes.cycle (omega (arith, ints, low, dmax, precision)) (omega (arith, ints, high, dmax, precision)) in
+    let far = so_far z (cycle * v.sizes.cycle) v.sizes.cycle (omega (arith, ints)) (omega (arith, ints)) in
     let is_far = so_far_in n v.sizes.cycle z cycle far.0 (cycle_whole is) far.1 far.2 in
-    omega (arith, ints, gate, is_far.place_is, far.1, low, dmax, precision)
+    omega (arith, ints, is_far.place_is, far.1)
 
 -- ---- the device in the span
 
@@ -45,10 +45,11 @@ timed_in_span brings never {v} {n} {t} {u} {device} one two is timed =
     let same = same_next one.block.before two.block.before in
     elim (cases_lt t u) [
       | inl lt ↦
-          let old : IsOldAt v two.block.before.next device t = subst (λ x. epoch_time (earlier t v.records) device <ℤ pos x) same keep.old in
-          (synchronised_stay_so brings never v n t u two device is (omega (arith, same, one.block.from)) (omega (arith, lt)) timed old).0
+          let old : IsOldAt v two.block.before.next device t = rw same at keep.old in
+          (synchronised_stay_so brings never v n t u two device is (omega (arith, one.block.from)) (omega arith) timed
+          old).0
       | inr ge ↦
-          let old : epoch_time (earlier t v.records) device <ℤ pos u = omega (arith, ints, keep.old, same, two.block.from) in
+          let old : epoch_time (earlier t v.records) device <ℤ pos u = omega (arith, ints, keep.old, two.block.from) in
           record { good = timed.good; synchronised = synchronised_stays device u t is ge old timed.synchronised }
     ]
 
@@ -66,8 +67,8 @@ shows_there brings {v} c {t} {device} span is timed early =
     let late = begins_late c span.block.before is in
     let space = room is in
     record {
-      least = omega (arith, ints, keep.shows.least, late, span.block.from, space.errors.reach_is);
-      most = omega (arith, ints, keep.shows.most, early, space.errors.reach_is, space.errors.clock_is, space.eight_errors);
+      least = omega (arith, ints, keep.shows.least, span.block.from, space.errors.reach_is);
+      most = omega (arith, ints, keep.shows.most, space.errors.reach_is, space.errors.clock_is, space.eight_errors);
     }
 
 -- ---- relays
@@ -89,41 +90,41 @@ relay_shut never {v} {n} g {device} by cause clock is i body relay timed shows =
     let found = founded_at s v.records g is.run.founded i in
     let sound = arrived_sound device by cause clock is found body in
     let same = earlier_before (before_of is found) in
-    let left : state_after s (earlier t found.front) device ≡ Synchronised = ap (λ xs. state_after s xs device) same ∙ timed in
+    let left : state_after s (earlier t found.front) device ≡ Synchronised = rw same timed in
     let at = standpoint s found.front device t in
-    let state : at.state ≡ Synchronised = state_is (is_turned_on_at s device t) (state_after s (earlier t found.front) device)
+    let state = state_is (is_turned_on_at s device t) (state_after s (earlier t found.front) device)
     (never v device t is (ap has_time timed)) left in
-    let shown : clock_of at ≡ shown_at v device t = ap (λ xs. pos (s.reading device t) +ℤ (adjustment_after s xs device).0) same in
+    let shown : clock_of at ≡ shown_at v device t = rw same in
     let not_beyond = last_false (is_relay s.network device) (is_synchronised at.state)
     (int_lt (pos (amount s.network.correction + 2 * amount s.network.precision))
     (offset_in_cycle s.network (clock_of at +ℤ pos (2 * amount s.network.precision)))) relay (ap is_synchronised state) sound.unshut in
     let most = not_less (pos (amount s.network.correction + 2 * amount s.network.precision))
     (offset_in_cycle s.network (clock_of at +ℤ pos (2 * amount s.network.precision))) not_beyond in
-    let correction : v.sizes.correction ≡ amount s.network.correction = ap (λ (x : Sizes). x.correction) is.sizes in
-    let precision : v.sizes.precision ≡ amount s.network.precision = ap (λ (x : Sizes). x.precision) is.sizes in
-    let z : ℤ = clock_of at +ℤ pos (2 * amount s.network.precision) in
-    let far = so_far z (n * v.sizes.cycle) v.sizes.cycle (omega (arith, ints, shown, shows.least, precision))
-    (omega (arith, ints, shown, shows.most, precision)) in
+    let correction : v.sizes.correction ≡ amount s.network.correction = rw is.sizes in
+    let precision : v.sizes.precision ≡ amount s.network.precision = rw is.sizes in
+    let z = clock_of at +ℤ pos (2 * amount s.network.precision) in
+    let far = so_far z (n * v.sizes.cycle) v.sizes.cycle (omega (arith, ints, shows.least))
+    (omega (arith, ints, shows.most)) in
     let is_far = so_far_in s.network v.sizes.cycle z n far.0 (cycle_whole is) far.1 far.2 in
-    omega (arith, ints, most, is_far.place_is, far.1, shown, shows.least, correction, precision)
+    omega (arith, ints, is_far.place_is, far.1, shows.least)
 
 -- ---- compression masters
 
 -- the block of an earlier cycle ends before the span begins
 over_before : {v : View} (k n x : ℕ) (stands : Stands v n) → IsView v → suc k ≤ n → IsOverBefore v (suc k) x
     → x ≤ stands.next
-over_before k zero x stands is le over = absurd (omega (arith, le))
+over_before k zero x stands is le over = absurd (omega arith)
 over_before {v} k (suc m) x stands is le over =
     let last = stands.is_over in
     elim (cases_lt k m) [
       | inl lt ↦
           let follow =
-          hulls_follow k m over.0 last.0 is lt (λ c le. stands.narrow c (omega (arith, le))) over.1 last.1 in
+          hulls_follow k m over.0 last.0 is lt (λ c le. stands.narrow c (omega arith)) over.1 last.1 in
           let proper = hull_proper m last.0 is last.1 in
-          omega (arith, ints, over.2, last.2, follow, proper)
+          omega (arith, ints, over.2, last.2)
       | inr ge ↦
-          let same : k ≡ m = omega (arith, le, ge) in
-          omega (arith, same_end v (suc m) x stands.next (subst (λ j. IsOverBefore v (suc j) x) same over) last)
+          let same : k ≡ m = omega arith in
+          omega (arith, same_end v (suc m) x stands.next (rw same at over) last)
     ]
 
 -- a setting before a time is not behind the last
@@ -137,7 +138,7 @@ setting_bound {v} device q h is i lt sets = by (last_setting (earlier q v.record
         let order = no_later h r (last_of (λ g. changes_adjustment device g.note.body) None (earlier q v.records) r h
         (in_places v.scenario [] (earlier q v.records) (earlier_founded q is)) e (is_earlier q v.records h i lt)
         sets) in
-        omega (arith, ints, order)
+        omega (arith, ints)
 
 -- the correction of a device that was old before it, at its point of the block
 record IsPointReached (v : View) (j w : ℕ) (device : DeviceId) (q : ℕ) : Type 0 where
@@ -151,13 +152,13 @@ point_reached : BringsBlocks → {v : View} {j q : ℕ} (block : IsInBlock v j q
     → (w : ℕ) × (w < block.next) × IsPointReached v j w device q
 point_reached brings {v} {j} {q} block device is good timed old in_run after =
     let over : BlockIsOver v j = record { before = block.before; next = block.next; is_over = block.is_over; in_run = in_run } in
-    let later : HasTimeAt v device block.next =
-    has_time_at {v = v} {device = device} {t = block.next} (record { good = good; synchronised = after }) in
+    let later =
+    has_time_at (record { good = good; synchronised = after }) in
     by (last_setting (earlier block.next v.records) device) refl (brings.come v j over device is later)
   where
     by : (o : Option Happening) → last_setting (earlier block.next v.records) device ≡ o → pos block.before.next ≤ℤ option_map_or (λ h. pos (time_of h)) o
         (negsuc 0) → (w : ℕ) × (w < block.next) × IsPointReached v j w device q
-    by None e new = absurd (omega (arith, ints, new))
+    by None e new = absurd (omega (arith, ints))
     by (Some h) e new =
         let s = v.scenario in
         let at = setting_is v device block.next h e in
@@ -174,7 +175,7 @@ point_reached brings {v} {j} {q} block device is good timed old in_run after =
           before = block.before;
           next = block.next;
           is_over = block.is_over;
-          from = omega (arith, ints, new);
+          from = omega (arith, ints);
           to = at.early;
           in_run = within_run is h at.there;
         } in
@@ -183,21 +184,21 @@ point_reached brings {v} {j} {q} block device is good timed old in_run after =
         let point = so.points device set.cycle (Corrected set.by) has was_old comes in
         let not_before : q ≤ w = elim (cases_lt w q) [
           | inl lt ↦ (let bound = setting_bound device q h is at.there lt at.sets in
-              absurd (omega (arith, ints, bound, old, new)))
+              absurd (omega (arith, ints)))
           | inr ge ↦ ge
         ] in
-        let early : epoch_time (earlier w v.records) device <ℤ pos q = omega (arith, ints, was_old, block.from) in
+        let early : epoch_time (earlier w v.records) device <ℤ pos q = omega (arith, ints, block.from) in
         let same : adjustment_left v device q ≡ adjustment_left v device w =
-        ap (λ (a : Units). a.0) (adjustment_stays device q w is not_before early) in
+        ap (λ a. a.0) (adjustment_stays device q w is not_before early) in
         let reached = reaches_by v.records (earlier_before split)
         cause.corrected.reached in
         let sharp = clocks_reach_sharply v device (correction_value s.network set.cycle) w is reached in
-        let cycle : v.sizes.cycle ≡ amount s.network.cycle = cycle_is is in
-        let correction : v.sizes.correction ≡ amount s.network.correction = ap (λ (x : Sizes). x.correction) is.sizes in
+        let cycle = cycle_is is in
+        let correction : v.sizes.correction ≡ amount s.network.correction = rw is.sizes in
         let value : set.cycle * amount s.network.cycle + amount s.network.correction ≡ suc j * v.sizes.cycle + v.sizes.correction =
-        ap (λ c. c * amount s.network.cycle + amount s.network.correction) point.of_cycle ∙ ap (λ x. suc j * x + amount s.network.correction)
-        (sym cycle) ∙ ap (λ x. suc j * v.sizes.cycle + x) (sym correction) in
-        (w, at.early, record { not_before = not_before; reads = omega (arith, ints, sharp.least, same, value) })
+        rw point.of_cycle (ap (λ x. suc j * x + amount s.network.correction)
+        (sym cycle) ∙ ap (λ x. suc j * v.sizes.cycle + x) (sym correction)) in
+        (w, at.early, record { not_before = not_before; reads = omega (arith, ints, sharp.least) })
 
 -- what an opener before the span leads to: the emission reading is below that of a correction point
 opener_far : BringsBlocks → {v : View} {j q : ℕ} (block : IsInBlock v j q) {device : DeviceId} (point : ℤ) → IsView v
@@ -212,16 +213,15 @@ opener_far brings {v} {j} {q} block {device} point is timed least most gate =
     let narrow = before_narrow block.before in
     let one : suc j * v.sizes.cycle ≡ j * v.sizes.cycle + v.sizes.cycle = omega arith in
     let value = point +ℤ adjustment_left v device q in
-    by_lt_z {P = IsOldAt v block.before.next device q
-    × ((point +ℤ adjustment_left v device q) ≤ℤ pos (suc j * v.sizes.cycle + v.sizes.dmax + 2 * v.sizes.precision))}
+    by_lt_z
     (epoch_time (earlier q v.records) device) (pos block.before.next)
     (λ old.
     let shows = old_shows block is (omega arith) has old in (
       old,
-      by_lt_z {P = (point +ℤ adjustment_left v device q) ≤ℤ pos (suc j * v.sizes.cycle + v.sizes.dmax + 2 * v.sizes.precision)}
+      by_lt_z
           (pos (suc j * v.sizes.cycle + v.sizes.dmax + 2 * v.sizes.precision)) (point +ℤ adjustment_left v device q)
-          (λ far. absurd (off_gate (suc j) value is gate (omega (arith, ints, far))
-          (omega (arith, ints, one, least, shows.most, ends, narrow, block.to, space.cycles, space.eight_errors, space.errors.reach_is))))
+          (λ far. absurd (off_gate (suc j) value is gate (omega (arith, ints))
+          (omega (arith, ints, shows.most, block.to, space.cycles, space.eight_errors, space.errors.reach_is))))
           (λ near. near),
     ))
     (λ late.
@@ -230,18 +230,26 @@ opener_far brings {v} {j} {q} block {device} point is timed least most gate =
       next = block.next;
       is_over = block.is_over;
       from = from;
-      to = omega (arith, less, block.to);
-      in_run = omega (arith, less, block.in_run);
+      to = omega (arith, block.to);
+      in_run = omega (arith, block.in_run);
     }) is in
     let set = new_shows block each is (omega arith) has (last_setting (earlier q v.records) device) refl late in
     let shows = set_shows block is set in
     let after = corrected_late block (last_setting (earlier q v.records) device) brings.goes is timed refl late in
     let near = set_clocks_stay_at_correction v.sizes (shown_at v device q) (suc j) q block.before.hull set.hull space narrow
     (follows_before j block.before.hull set.hull is block.before.is_hull set.is_hull)
-    (omega (arith, ints, after)) (omega (arith, ints, ends, block.to)) shows in
+    (omega (arith, ints)) (omega (arith, ints, block.to)) shows in
     absurd (off_gate (suc j) value is gate
-    (omega (arith, ints, most, near.least, space.corrections, space.compression_least, space.eight_errors, space.errors.reach_is))
-    (omega (arith, ints, least, near.most, space.cycles, space.eight_errors, space.errors.reach_is, space.errors.clock_is))))
+    (omega (
+      arith,
+      ints,
+      near.least,
+      space.corrections,
+      space.compression_least,
+      space.eight_errors,
+      space.errors.reach_is,
+    ))
+    (omega (arith, ints, near.most, space.cycles, space.eight_errors, space.errors.reach_is, space.errors.clock_is))))
 
 -- a compression master sends nothing there
 cm_silent : BringsBlocks → TimedAreNotTurnedOn → {v : View} (c : ℕ) (g : Happening) {device : DeviceId}
@@ -250,8 +258,7 @@ cm_silent : BringsBlocks → TimedAreNotTurnedOn → {v : View} (c : ℕ) (g : H
     → IsTimedAt v device (time_of g) → (pos (time_of g) +ℤ pos (3 * v.sizes.precision)) <ℤ
     (span.block.before.hull.least +ℤ pos v.sizes.cycle) → ⊥
 cm_silent brings never {v} c g {device} opened at cycle members verdict span is i body timed early =
-    let t = time_of g in
-    let sent = emission_opened never {v = v} device g opened at cycle members verdict is i body timed.synchronised in
+    let sent = emission_opened never device g opened at cycle members verdict is i body timed.synchronised in
     let o = sent.0 in
     let q = o.q in
     let space = room is in
@@ -270,7 +277,7 @@ cm_silent brings never {v} c g {device} opened at cycle members verdict span is 
             };
             early = omega (arith, ints, o.before, span.early);
           } in
-          let shows = shows_there brings c span_q is timed_q (omega (arith, ints, early, o.before)) in
+          let shows = shows_there brings c span_q is timed_q (omega (arith, ints, o.before)) in
           off_gate (suc c) (o.point +ℤ adjustment_left v device q) is o.gate
           (omega (arith, ints, shows.least, o.most, space.corrections, space.compression_least))
           (omega (arith, ints, shows.most, o.least))
@@ -279,22 +286,21 @@ cm_silent brings never {v} c g {device} opened at cycle members verdict span is 
           let j = covered.0 in
           let block = covered.1 in
           let earlier_block : suc j ≤ suc c = elim (cases_lt c j) [
-            | inl more ↦ (let late = over_before c j before.next block.before is (omega (arith, more))
-                before.is_over in absurd (omega (arith, late, block.from, lt)))
-            | inr le ↦ omega (arith, le)
+            | inl more ↦ (let late = over_before c j before.next block.before is (omega arith)
+                before.is_over in absurd (omega (arith, block.from)))
+            | inr le ↦ omega arith
           ] in
           let ends = over_before j (suc c) block.next before is earlier_block block.is_over in
           let far = opener_far brings block o.point is timed_q o.least o.most o.gate in
-          let after = o.stretch block.next (omega (arith, block.to)) (omega (arith, ends, span.block.from)) in
+          let after = o.stretch block.next (omega (arith, block.to)) (omega (arith, span.block.from)) in
           let point = point_reached brings block device is timed.good timed_q.synchronised far.0
-          (omega (arith, ends, span.block.from, span.block.in_run))
+          (omega (arith, span.block.from, span.block.in_run))
           after in
           let w = point.0 in
-          let less = sent.1.not_before w (omega (arith, ints)) (omega (arith, ints, point.1, ends, span.block.from)) in
+          let less = sent.1.not_before w (omega (arith, ints)) (omega (arith, ints, point.1, span.block.from)) in
           omega (
             arith,
             ints,
-            less,
             point.2.reads,
             far.1,
             o.late,
@@ -321,10 +327,10 @@ no_giving brings never {v} c g by (notes.Sent master cycle) span is i same switc
     both_ways _ switch (ap (is_end v.scenario.network) gives.0 ∙ master_end v.scenario.network master caused.master)
 no_giving brings never {v} c g {device} by (notes.Compressed cm opened at cycle members verdict) span is i same
     switch gives timed early =
-    cm_silent brings never {v = v} c g {device = device} opened at cycle members verdict span is i
-    (same ∙ ap (λ (d : DeviceId). notes.Compressed d opened at cycle members verdict) (sym gives.0)) timed early
+    cm_silent brings never c g opened at cycle members verdict span is i
+    (same ∙ ap (λ d. notes.Compressed d opened at cycle members verdict) (sym gives.0)) timed early
 no_giving brings never c g by (notes.Arrived relay from cause clock) span is i same switch gives timed early =
-    relay_shut never g from cause clock is i (same ∙ ap (λ (d : DeviceId). notes.Arrived d from cause clock)
+    relay_shut never g from cause clock is i (same ∙ ap (λ d. notes.Arrived d from cause clock)
     (sym gives.0)) gives.1.relay
     timed.synchronised (shows_there brings c span is timed early)
 no_giving brings never c g by body span is i same switch gives timed early = gives
@@ -336,19 +342,19 @@ span_at : {v : View} (c t : ℕ) (before : Stands v (suc c)) → IsView v → be
 span_at {v} c t before is from in_run early =
     let space = room is in
     let behind = hull_behind c before is in
-    let end : ℤ = last_correction v.sizes before.hull +ℤ pos 1 in
+    let end = last_correction v.sizes before.hull +ℤ pos 1 in
     let next = unsigned_abs end in
-    let next_is : end ≡ pos next = whole end (omega (arith, ints, behind.0, behind.1)) in (
+    let next_is = whole end (omega (arith, ints, behind.0, behind.1)) in (
       record {
         block = record {
           before = before;
           next = next;
           is_over = (before.hull, before.is_hull, sym next_is);
           from = from;
-          to = omega (arith, ints, next_is, early, behind.1);
+          to = omega (arith, ints, behind.1);
           in_run = in_run;
         };
-        early = omega (arith, ints, early, space.corrections, space.compression_least, space.eight_errors);
+        early = omega (arith, ints, space.corrections, space.compression_least, space.eight_errors);
       },
       refl,
     )
@@ -356,13 +362,13 @@ span_at {v} c t before is from in_run early =
 pub givings_keep_away : BringsBlocks → TimedAreNotTurnedOn → GivingsKeepAway
 givings_keep_away brings never v h g device link by cause vl zero is good switch d gives before from = absurd (omega (arith, d.occurs.begun))
 givings_keep_away brings never v h g device link by cause vl (suc c) is good switch d gives before from =
-    by_lt_z {P = (before.hull.least +ℤ pos v.sizes.cycle) ≤ℤ (pos (time_of g) +ℤ pos (3 * v.sizes.precision))} (pos (time_of g) +ℤ pos (3 * v.sizes.precision))
+    by_lt_z (pos (time_of g) +ℤ pos (3 * v.sizes.precision))
     (before.hull.least +ℤ pos v.sizes.cycle)
     (λ early.
     let at = span_at c (time_of g) before is from (within_run is g gives.there) early in
     let here = dispatches_are_in_spans brings v h device link cause vl (suc c) is good d in
-    let timed = timed_in_span brings never {device = device} here.span at.0 is
+    let timed = timed_in_span brings never here.span at.0 is
     (record { good = good; synchronised = d.synchronised }) in
     absurd (no_giving brings never c g by g.note.body at.0 is gives.there refl switch gives.gives timed
-    (subst (λ (x : Stands v (suc c)). (pos (time_of g) +ℤ pos (3 * v.sizes.precision)) <ℤ (x.hull.least +ℤ pos v.sizes.cycle)) (sym at.1) early)))
+    (rw at.1 early)))
     (λ late. late)

@@ -15,7 +15,7 @@ AreMost high (x ∷ xs) = (x ≤ℤ high) × AreMost high xs
 
 -- the mean of two small numbers
 mean_most : (a b high : ℤ) → a ≤ℤ high → b ≤ℤ high → mean_of a b ≤ℤ high
-mean_most a b high one two = let mean = mean_of-floor a b in omega (arith, ints, mean.least, mean.most, one, two)
+mean_most a b high one two = let mean = mean_of-floor a b in omega (arith, ints, mean.least, mean.most)
 
 -- the last but one of small numbers
 last_most : (p q : ℤ) (xs : List ℤ) (high : ℤ) → p ≤ℤ high → q ≤ℤ high → AreMost high xs → last_but_one p q xs ≤ℤ high
@@ -61,7 +61,8 @@ firsts_low high acc [] some all = some
 firsts_low high acc (q ∷ qs) some all = firsts_low high (with_first acc q) qs (first_low high acc q (has_master acc q.master) some all.0) all.1
 
 -- relative to a reading the points are at most so far
-relative_most : (base width : ℤ) (ps : List Point) → AreLow (base +ℤ width) ps → AreMost width (map (λ x. x -ℤ base) (map (λ (q : Point). q.reading) ps))
+relative_most : (base width : ℤ) (ps : List Point) → AreLow (base +ℤ width) ps → AreMost width
+    (map (λ x. x -ℤ base) (map (λ q. q.reading) ps))
 relative_most base width [] all = tt
 relative_most base width (q ∷ qs) all = (omega (arith, ints, all.0), relative_most base width qs all.1)
 
@@ -71,20 +72,19 @@ cluster_middle ow o ps up =
     let end = end_of ow o (o ∷ ps) in
     let least = end_of-least ow o (o ∷ ps) up in
     let most = end_of-most ow o (o ∷ ps) up in
-    let start = held-start o end ps (omega (arith, ints, least, up)) in
+    let start = held-start o end ps (omega (arith, ints)) in
     let first = firsts-start o (of_cycle_within o.cycle o.reading end ps) in
     let counted : firsts (of_cycle_within o.cycle o.reading end (o ∷ ps)) ≡ o ∷ first.0 = ap firsts start ∙ first.1 in
-    let low : AreLow end (firsts (of_cycle_within o.cycle o.reading end (o ∷ ps))) = firsts_low end [] (of_cycle_within o.cycle o.reading end (o ∷ ps)) tt
+    let low = firsts_low end [] (of_cycle_within o.cycle o.reading end (o ∷ ps)) tt
     (held_low o.cycle o.reading end (o ∷ ps)) in
     let here : AreLow end (o ∷ first.0) = subst (AreLow end) counted low in
-    let wide = widen end (o.reading +ℤ (pos 2 *ℤ ow)) (o ∷ first.0) (omega (arith, ints, most)) here in
-    let all : AreMost (pos 2 *ℤ ow) (relative (map (λ (q : Point). q.reading) (o ∷ first.0))) = relative_most o.reading (pos 2 *ℤ ow) (o ∷ first.0) wide in
-    subst (λ (qs : List Point). middle_of (relative (map (λ (q : Point). q.reading) qs)) ≤ℤ (pos 2 *ℤ ow)) (sym counted)
-    (middle_most (relative (map (λ (q : Point). q.reading) (o ∷ first.0))) (pos 2 *ℤ ow) (omega (arith, ints, up)) all)
+    let wide = widen end (o.reading +ℤ (pos 2 *ℤ ow)) (o ∷ first.0) (omega (arith, ints)) here in
+    let all = relative_most o.reading (pos 2 *ℤ ow) (o ∷ first.0) wide in
+    rw counted (middle_most (relative (map (λ q. q.reading) (o ∷ first.0))) (pos 2 *ℤ ow) (omega (arith, ints)) all)
   where
     widen : (low high : ℤ) (qs : List Point) → low ≤ℤ high → AreLow low qs → AreLow high qs
     widen low high [] le all = tt
-    widen low high (q ∷ qs) le all = (omega (arith, ints, le, all.0), widen low high qs le all.1)
+    widen low high (q ∷ qs) le all = (omega (arith, ints, all.0), widen low high qs le all.1)
 
 -- ---- the opener
 
@@ -103,12 +103,12 @@ opened_by ow (o ∷ ps) [] c up are i = absurd are
 opened_by ow (o ∷ ps) (d ∷ cs) c up are i =
     elim (in_cases d c cs i) [
       | inl same ↦
-          let is : c ≡ cluster_of ow o (o ∷ ps) = sym same ∙ are.0 in
+          let is = sym same ∙ are.0 in
           record {
             opener = o;
             there = in_head o ps;
-            opens = ap (λ (x : Cluster). x.opened) is;
-            middle = subst (λ (x : Cluster). middle_of (relative x.points) ≤ℤ (pos 2 *ℤ ow)) (sym is) (cluster_middle ow o ps up);
+            opens = rw is;
+            middle = rw is (cluster_middle ow o ps up);
           }
       | inr more ↦
           let rest = opened_by ow (beyond d.end ps) cs c up are.1 more in

@@ -1,7 +1,7 @@
 -- Two frames of the schedule do not meet on a port.
 use Rattle.net_plan.specs.Bounds.{gamma_of}
-use Rattle.precision_law.proofs.traffic_lemmas.Words.{◌*◌, ◌+◌, ◌<◌, ◌∙◌, ◌≡◌, ◌≤◌, ◌⊎◌, BringsBlocks, DeviceId, Entry, Happening, Hull, IsEntry, IsGood}
-use Rattle.precision_law.proofs.traffic_lemmas.Words.{IsRowDispatch, IsView, LinkId, Sizes, View, VlId, amount, ap, arith, before_narrow, cases_lt}
+use Rattle.precision_law.proofs.traffic_lemmas.Words.{◌*◌, ◌+◌, ◌<◌, ◌∙◌, ◌≡◌, ◌≤◌, ◌⊎◌, BringsBlocks, DeviceId, Happening, Hull, IsGood}
+use Rattle.precision_law.proofs.traffic_lemmas.Words.{IsRowDispatch, IsView, LinkId, View, VlId, amount, ap, arith, before_narrow, cases_lt}
 use Rattle.precision_law.proofs.traffic_lemmas.Words.{clocks_reach_sharply, inl, inr, ints, port_time, pos, room, steady, subst, sym, time_of, ℕ}
 use Rattle.precision_law.proofs.traffic_lemmas.ports.{Cycles.{hulls_grow, same_hull}, Ends.same_way, OneDispatch.dispatches_are_one}
 use Rattle.precision_law.proofs.traffic_lemmas.{ports.Dispatched.{dispatches_are_in_spans, one_clock}, schedule.Rows.{rows_are_in_time, rows_stand_apart}}
@@ -22,7 +22,7 @@ module _ (brings : BringsBlocks) (v : View) (h g : Happening) (device : DeviceId
       let narrow = before_narrow before in
       let first = rows_are_in_time v one.place one.entry is one.row in
       let space = room is in
-      omega (arith, ints, grow, narrow, here.not_late, there.not_early, first.tolerates, first.ends, space.eight_errors)
+      omega (arith, ints, here.not_late, there.not_early, first.tolerates, first.ends, space.eight_errors)
 
   -- in one cycle the frame of a row that stands before another has left the port
   rows_apart : IsView v → IsGood v device → (one : IsRowDispatch v h device link cause vl cycle)
@@ -33,7 +33,7 @@ module _ (brings : BringsBlocks) (v : View) (h g : Happening) (device : DeviceId
       let there = dispatches_are_in_spans brings v g device link other second cycle is good two in
       let t = time_of h in
       let u = time_of g in
-      let gamma : v.sizes.gamma ≡ gamma_of v.scenario.network = ap (λ (s : Sizes). s.gamma) is.sizes in
+      let gamma : v.sizes.gamma ≡ gamma_of v.scenario.network = rw is.sizes in
       let space = room is in
       let clocks = steady v is device in
       let sharp = clocks_reach_sharply v device (pos (cycle * v.sizes.cycle + amount one.entry.row.offset)) t is
@@ -42,10 +42,10 @@ module _ (brings : BringsBlocks) (v : View) (h g : Happening) (device : DeviceId
       clocks_reach_sharply v device (pos (cycle * v.sizes.cycle + amount two.entry.row.offset)) u is two.reached in
       elim (cases_lt t u) [
         | inl lt ↦
-            let clock = one_clock brings here.span there.span {device = device} is
-            (record { good = good; synchronised = two.synchronised }) (omega (arith, lt))
+            let clock = one_clock brings here.span there.span is
+            (record { good = good; synchronised = two.synchronised }) (omega arith)
             in
-            let same : here.span.block.before.hull ≡ there.span.block.before.hull =
+            let same =
             same_hull v cycle here.span.block.before there.span.block.before in
             let least : here.span.block.before.hull.least ≡ there.span.block.before.hull.least =
             ap (λ (w : Hull). w.least) same in
@@ -53,25 +53,24 @@ module _ (brings : BringsBlocks) (v : View) (h g : Happening) (device : DeviceId
             ap (λ (w : Hull). w.greatest) same in
             let narrow = before_narrow here.span.block.before in
             let last = rows_are_in_time v two.place two.entry is two.row in
-            let short : u ≤ t + 2 * v.sizes.cycle = omega (
-              arith,
-              ints,
-              least,
-              greatest,
-              narrow,
-              here.not_early,
-              there.not_late,
-              last.tolerates,
-              last.ends,
-              space.eight_errors,
-            ) in
-            let fast = clocks.fast t u (omega (arith, lt)) short in
-            omega (arith, ints, clear, gamma, fast, clock.adjustment, sharp.most, second.least, space.two_drifts, space.two_readings)
+            let short : u ≤ t + 2 * v.sizes.cycle = omega
+            (arith, ints, here.not_early, there.not_late, last.tolerates, last.ends, space.eight_errors) in
+            let fast = clocks.fast t u (omega arith) short in
+            omega (arith, ints, clock.adjustment, sharp.most, second.least, space.two_drifts, space.two_readings)
         | inr ge ↦
-            let clock = one_clock brings there.span here.span {device = device} is
+            let clock = one_clock brings there.span here.span is
             (record { good = good; synchronised = one.synchronised }) ge in
             let up = clocks.never_falls u t ge in
-            absurd (omega (arith, ints, clear, gamma, up, clock.adjustment, sharp.most, second.least, space.two_drifts, space.two_readings, space.grain))
+            absurd (omega (
+              arith,
+              ints,
+              clock.adjustment,
+              sharp.most,
+              second.least,
+              space.two_drifts,
+              space.two_readings,
+              space.grain,
+            ))
       ]
 
 -- in one cycle
@@ -85,11 +84,11 @@ cycle_apart brings {v} {h} {g} {device} {link} {cause} {other} {vl} {second} {cy
     let ways = same_way is.lawful.rules one.row two.row links (one.leaves ∙ sym two.leaves) in
     elim (rows_stand_apart network one.place two.place one.entry two.entry cycle is.lawful.rules one.row two.row links ways one.occurs two.occurs) [
       | inl same ↦
-          let entries : one.entry ≡ two.entry = one_entry network one.place one.entry two.entry one.row
-          (subst (λ k. IsEntry network k two.entry) (sym same) two.row) in
-          let vls : vl ≡ second = sym one.of_vl ∙ ap (λ (e : Entry). e.row.vl) entries ∙ two.of_vl in
+          let entries = one_entry network one.place one.entry two.entry one.row
+          (rw same two.row) in
+          let vls = sym one.of_vl ∙ ap (λ e. e.row.vl) entries ∙ two.of_vl in
           absurd (differ (dispatches_are_one brings v h g device link cause other vl cycle is good one
-          (subst (λ x. IsRowDispatch v g device link other x cycle) (sym vls) two)))
+          (rw vls two)))
       | inr (inl clear) ↦ inl (rows_apart brings v h g device link cause other vl second cycle is good one two clear)
       | inr (inr clear) ↦ inr (rows_apart brings v g h device link other cause second vl cycle is good two one clear)
     ]
@@ -101,7 +100,7 @@ dispatches_stand_apart brings v h g device link cause other vl second cycle numb
       | inr ge ↦ elim (cases_lt number cycle) [
         | inl lt ↦ inr (cycles_apart brings v g h device link other cause second vl number is good lt two one)
         | inr le ↦
-            let same : cycle ≡ number = omega (arith, ge, le) in
+            let same : cycle ≡ number = omega arith in
             subst (λ m. (last : IsRowDispatch v g device link other second m) → (time_of h + port_time one.entry ≤ time_of g)
             ⊎ (time_of g + port_time last.entry ≤ time_of h)) same
             (λ last. cycle_apart brings is good differ one last) two

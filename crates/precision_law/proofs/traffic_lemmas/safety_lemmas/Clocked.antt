@@ -22,7 +22,7 @@ module _ {C : Type 0} (fresh : ℕ → C) (after_step : C → ℕ → ℤ → C)
         parts = parted.parts;
         run = parted.run;
         well = goes_well_before parted.front time (lawful fresh after_step reading laws zero_first under)
-            (omega (arith, short)) parted.run;
+            (omega arith) parted.run;
         only_events = parted.only_events;
       }
 

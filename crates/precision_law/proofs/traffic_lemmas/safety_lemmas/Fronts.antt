@@ -13,7 +13,7 @@ use Rattle.run_law.specs.declared.note.NoteBody.TheVariants as notes
 -- a record of the lowest rank is that of an event
 lowest : (body : NoteBody) → rank body < 2 → (line : ℕ) × (what : What) × (body ≡ notes.Event line what)
 lowest (notes.Event line what) lt = (line, what, refl)
-lowest other lt = absurd (omega (arith, lt))
+lowest other lt = absurd (omega arith)
 
 -- a place that is not before a time, but before the place behind its events, is of this time and of the lowest rank
 between : (at kind time : ℕ) (rest : List ℕ) → (IsBefore (at ∷ kind ∷ rest) (time ∷ []) → ⊥) → IsBefore (at ∷ kind ∷ rest) (time ∷ 2 ∷ [])
@@ -39,10 +39,10 @@ pub goes_well_before : {s : Scenario} (ns : List Note) (time : ℕ) → IsLawful
     → time ≤ 2 ^ 20 * amount s.network.cycle + 1 → IsScenarioRun s (time ∷ []) ns → (until : ℕ) → until < time
     → GoesWell s (happenings s.network ns) until
 goes_well_before {s} ns time lawful short run until early =
-    let next : time ≡ (time - 1) + 1 = omega (arith, early) in
-    let well = goes_well ns (time - 1) lawful (omega (arith, short))
-    (subst (λ (n : ℕ). IsScenarioRun s (n ∷ []) ns) next run) in
-    well_earlier until (omega (arith, early)) well
+    let next : time ≡ (time - 1) + 1 = omega arith in
+    let well = goes_well ns (time - 1) lawful (omega arith)
+    (rw next at run) in
+    well_earlier until (omega arith) well
 
 -- the records before the time, and those behind
 pub record IsParted (s : Scenario) (time : ℕ) (ns : List Note) : Type 0 where
@@ -56,14 +56,14 @@ pub part : (s : Scenario) (time : ℕ) (ns : List Note) → IsScenarioRun s (tim
 part s time ns run =
     let hs = happenings s.network ns in
     let at = split place_of (IsDue s) hs (time ∷ []) run.founded in
-    let cut = cut_run {place = place_of} (IsDue
-    s) {mark = time ∷ 2 ∷ []} at (λ q before. before_of_time q time (2 ∷ []) before)
+    let cut = cut_run (IsDue
+    s) at (λ q before. before_of_time q time (2 ∷ []) before)
     run in
     record {
       front = notes_of at.front;
       rest = notes_of at.rest;
-      parts = sym (same_notes s.network ns) ∙ ap notes_of at.whole ∙ map-append (λ (h : Happening). h.note) at.front at.rest;
+      parts = sym (same_notes s.network ns) ∙ ap notes_of at.whole ∙ map-append (λ h. h.note) at.front at.rest;
       run = subst (IsRun place_of (IsDue s) (time ∷ [])) (sym (told s at.front cut.founded)) cut;
       only_events = λ note i. let it = note_in at.rest note i in subst (IsEventOf time) (sym it.2)
-          (event_of s {hs = hs} time at run it.0 it.1);
+          (event_of s time at run it.0 it.1);
     }

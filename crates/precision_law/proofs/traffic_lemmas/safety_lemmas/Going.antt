@@ -33,10 +33,12 @@ safe_earlier : {s : Scenario} {hs : List Happening} (u : ℕ) {t : ℕ} → u �
 safe_earlier u le safe = grind (arith, agree_earlier, owed_later)
 
 stays_earlier : (s : Scenario) (hs : List Happening) (u t : ℕ) → u ≤ t → TimeStays s hs t → TimeStays s hs u
-stays_earlier s hs u t le stays h device state cause why there early is clique = stays h device state cause why there (omega (arith, early, le)) is clique
+stays_earlier s hs u t le stays h device state cause why there early is clique =
+    stays h device state cause why there (omega arith) is clique
 
 comes_earlier : (wait : ℕ) (s : Scenario) (hs : List Happening) (u t : ℕ) → u ≤ t → ComesIn wait s hs t → ComesIn wait s hs u
-comes_earlier wait s hs u t le comes device from x end on long early good = comes device from x end on long (omega (arith, early, le)) good
+comes_earlier wait s hs u t le comes device from x end on long early good =
+    comes device from x end on long (omega arith) good
 
 pub well_earlier : {s : Scenario} {hs : List Happening} (u : ℕ) {t : ℕ} → u ≤ t → GoesWell s hs t → GoesWell s hs u
 well_earlier {s} {hs} u {t} le well = record {

@@ -59,7 +59,7 @@ no_steps rho least =
     record { sorted = λ i j d le lt. absurd (omega arith); later = All-nil (λ s. least ≤ s.at); slow = All-nil (λ s. unsigned_abs s.rate ≤ rho) }
 
 later_all : (least more : ℕ) (steps : List RateStep) → least ≤ more → All (λ s. more ≤ s.at) steps → All (λ s. least ≤ s.at) steps
-later_all least more steps le all k d lt = let here = all k d lt in omega (arith, here)
+later_all least more steps le all k d lt = let here = all k d lt in omega arith
 
 more_steps : (rho least time : ℕ) (o : Option RateStep) (steps : List RateStep) → least ≤ time → Holds o (IsStepAt rho time) → IsHistoryFrom rho time steps
     → IsHistoryFrom rho least (cons_option o steps)

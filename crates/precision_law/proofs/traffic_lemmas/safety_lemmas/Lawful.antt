@@ -17,7 +17,8 @@ begun network events under event i = (each_in IsEventInRange events under.times 
 -- a cut names a link of the network
 names_link : (network : Network) (events : List Event) → All (λ e. IsOfNetwork network e.what) events → (event : Event) (link : LinkId)
     → IsIn event events → Cuts link event → link.0 < length network.link
-names_link network events all event link i cuts = subst (IsOfNetwork network) cuts.1 (each_in (λ (e : Event). IsOfNetwork network e.what) events all event i)
+names_link network events all event link i cuts = subst (IsOfNetwork network) cuts.1
+    (each_in (λ e. IsOfNetwork network e.what) events all event i)
 
 pub lawful : {C : Type 0} (fresh : ℕ → C) (after_step : C → ℕ → ℤ → C) (reading : C → ℕ → ℕ)
     → AlwaysKeepsClockLaws fresh after_step reading → AlwaysBeginsAtZero fresh after_step reading
@@ -25,7 +26,7 @@ pub lawful : {C : Type 0} (fresh : ℕ → C) (after_step : C → ℕ → ℤ �
     → IsLawful (scenario_of fresh after_step reading network events)
 lawful fresh after_step reading laws zero_first {network} {events} under =
     let least = under.range.grain.least in
-    let some : 1 ≤ amount network.grain = omega (arith, ints, least) in
+    let some : 1 ≤ amount network.grain = omega (arith, ints) in
     record {
       range = under.range;
       rules = under.rules;

@@ -1,6 +1,6 @@
 -- The room that the schedule leaves its rows.
-use Rattle.precision_law.proofs.traffic_lemmas.Words.{◌*◌, ◌+◌, ◌<◌, ◌≡◌, ◌≤◌, ◌⊎◌, Entry, IsEntry, KeepsRules, Link, Network, OccursIn, Sizes, amount, ap}
-use Rattle.precision_law.proofs.traffic_lemmas.Words.{arith, cases_lt, in_all, inl, inr, subst, sym, ℕ}
+use Rattle.precision_law.proofs.traffic_lemmas.Words.{◌*◌, ◌+◌, ◌<◌, ◌≡◌, ◌≤◌, ◌⊎◌, Entry, IsEntry, KeepsRules, Network, OccursIn, Sizes, amount, ap}
+use Rattle.precision_law.proofs.traffic_lemmas.Words.{arith, cases_lt, in_all, inl, inr, sym, ℕ}
 use Rattle.precision_law.specs.traffic.Rows.{RowsAreInTime, RowsComeInSchedule, RowsGoOnce, RowsStandApart}
 use Rattle.schedule_tables.{proofs.{Entries.{begun_below, occur_together}, EntryLemmas.one_entry}, specs.Delays.pcf_port_time}
 use Rattle.schedule_tables.specs.{Schedule.IsClearBefore, declared.rule.Rule.TheVariants.{LinksOnce, Periods, ScheduleStart, Spacing, WindowEnds}}
@@ -18,18 +18,19 @@ rows_are_in_time v place entry is row =
     let n = v.scenario.network in
     let keeps = is.lawful.rules in
     let begun = rows_come_in_schedule n place entry keeps row in
-    let start = in_all (λ (l : Link). amount n.correction + amount n.dmax + 4 * amount n.precision + pcf_port_time l ≤ amount n.tt_start) n.link
+    let start = in_all (λ l. amount n.correction + amount n.dmax + 4 * amount n.precision + pcf_port_time l ≤ amount
+    n.tt_start) n.link
     entry.row.link.0 entry.link (keeps ScheduleStart 0).begins row.link in
     let ends = keeps WindowEnds place entry row in
     let correction : v.sizes.correction ≡ amount n.correction = ap (λ (s : Sizes). s.correction) is.sizes in
     let dmax : v.sizes.dmax ≡ amount n.dmax = ap (λ (s : Sizes). s.dmax) is.sizes in
-    let precision : v.sizes.precision ≡ amount n.precision = ap (λ (s : Sizes). s.precision) is.sizes in
+    let precision : v.sizes.precision ≡ amount n.precision = rw is.sizes in
     let gamma = ap (λ (s : Sizes). s.gamma) is.sizes in
     let cycle : v.sizes.cycle ≡ amount n.cycle = ap (λ (s : Sizes). s.cycle) is.sizes in
     record {
-      begins = omega (arith, begun, start, correction, dmax, precision);
-      tolerates = omega (arith, precision, gamma);
-      ends = omega (arith, ends, precision, cycle);
+      begins = omega arith;
+      tolerates = omega arith;
+      ends = omega arith;
     }
 
 -- ---- rows of one link
@@ -51,7 +52,7 @@ rows_stand_apart network place other entry second cycle keeps one two link way h
 same_place : {network : Network} {place other : ℕ} {entry second : Entry} → place ≡ other
     → IsEntry network place entry → IsEntry network other second → entry ≡ second
 same_place {network} {place} {entry} {second} same one two =
-    one_entry network place entry second one (subst (λ k. IsEntry network k second) (sym same) two)
+    one_entry network place entry second one (rw same two)
 
 pub rows_go_once : RowsGoOnce
 rows_go_once network place other entry second keeps one two vl link =
@@ -60,7 +61,7 @@ rows_go_once network place other entry second keeps one two vl link =
       | inr ge ↦ elim (cases_lt other place) [
         | inl lt ↦ absurd (keeps LinksOnce place other second.row entry.row lt two.row one.row vl link)
         | inr le ↦
-            let same : place ≡ other = omega (arith, ge, le) in
+            let same : place ≡ other = omega arith in
             (same, same_place same one two)
       ]
     ]

@@ -6,8 +6,7 @@ use Rattle.{precision_law.proofs.traffic_lemmas.ports.Dispatched.cycle_is, std.p
 -- the cycle of a network is not negative
 pub cycle_whole : {v : View} → IsView v → v.scenario.network.cycle.0 ≡ pos v.sizes.cycle
 cycle_whole {v} is =
-    let range = is.lawful.range.cycle in
-    not_negative v.scenario.network.cycle.0 (omega (arith, ints, range.least)) ∙ ap (λ n. pos n)
+    not_negative v.scenario.network.cycle.0 (omega (arith, ints, is.lawful.range.cycle.least)) ∙ ap (λ n. pos n)
     (sym (cycle_is is))
 
 -- a value so far in a cycle
@@ -22,5 +21,5 @@ so_far_in network length z cycle place whole is less = grind (arith, cycle_is, d
 
 -- a value between the ends of a cycle is so far in it
 pub so_far : (z : ℤ) (from length : ℕ) → pos from ≤ℤ z → z <ℤ pos (from + length) → (place : ℕ) × (z ≡ pos (from + place)) × (place < length)
-so_far (pos m) from length least most = (m - from, ap (λ n. pos n) (omega (arith, ints, least)), omega (arith, ints, least, most))
-so_far (negsuc m) from length least most = absurd (omega (arith, ints, least))
+so_far (pos m) from length least most = (m - from, ap (λ n. pos n) (omega (arith, ints)), omega (arith, ints))
+so_far (negsuc m) from length least most = absurd (omega (arith, ints))

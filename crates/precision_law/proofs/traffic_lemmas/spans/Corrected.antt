@@ -14,12 +14,12 @@ use Rattle.run_law.specs.declared.note.NoteBody.TheVariants as notes
 pub earlier_founded : {v : View} (t : ℕ) → IsView v → IsFounded place_of (IsDue v.scenario) (earlier t v.records)
 earlier_founded {v} t is =
     let at = split place_of (IsDue v.scenario) v.records (t ∷ []) is.run.founded in
-    let none : earlier t at.rest ≡ [] = none_kept (λ h. nat_lt (time_of h) t) at.rest (λ h i. elim (cases_lt (time_of h) t) [
+    let none = none_kept (λ h. nat_lt (time_of h) t) at.rest (λ h i. elim (cases_lt (time_of h) t) [
       | inl lt ↦ absurd (at.none h i (inl lt))
       | inr ge ↦ le-ltb (time_of h) t ge
     ]) in
-    let all : earlier t at.front ≡ at.front = all_kept (λ h. nat_lt (time_of h) t) at.front (λ h i. lt-ltb (time_of h) t (soon h t (at.before h i))) in
-    let same : at.front ≡ earlier t v.records = sym all ∙ sym (append-nil (earlier t at.front)) ∙ ap (λ (gs : List Happening). earlier t at.front ++ gs)
+    let all = all_kept (λ h. nat_lt (time_of h) t) at.front (λ h i. lt-ltb (time_of h) t (soon h t (at.before h i))) in
+    let same = sym all ∙ sym (append-nil (earlier t at.front)) ∙ ap (λ gs. earlier t at.front ++ gs)
     (sym none) ∙ sym (filter-append (λ h. nat_lt (time_of h) t) at.front at.rest) ∙ ap (earlier t) (sym at.whole) in
     let founded = front_founded place_of (IsDue v.scenario) at.front at.rest (subst (IsFounded place_of (IsDue v.scenario)) at.whole is.run.founded) in
     subst (IsFounded place_of (IsDue v.scenario)) same founded
@@ -47,8 +47,8 @@ last_of p o (x ∷ xs) h g order e i hit =
     elim (p x) as (λ b. p x ≡ b → last_or o (if b then x ∷ filter p xs else filter p xs) ≡ Some h → (g ≡ h) ⊎ IsBefore (place_of g) (place_of h)) [
       | true ↦ λ at is. elim i [
         | inl same ↦ elim (last_in (Some x) (filter p xs) h is) [
-          | inl one ↦ (let here : x ≡ h = cc in inl (same ∙ here))
-          | inr more ↦ inr (subst (λ y. IsBefore (place_of y) (place_of h)) (sym same) (order.0 h (in_filter p xs h more)))
+          | inl one ↦ (inl (same ∙ cc))
+          | inr more ↦ inr (rw same (order.0 h (in_filter p xs h more)))
         ]
         | inr more ↦ last_of p (Some x) xs h g order.1 is more hit
       ]
@@ -79,7 +79,7 @@ pub record IsCorrection (device : DeviceId) (body : NoteBody) : Type 0 where
 is_correction_by : (device : DeviceId) (body : NoteBody) → changes_adjustment device body ≡ true → is_joined_by device body ≡ false → IsCorrection device body
 is_correction_by device (notes.Corrected d cycle by adjustment) sets not =
     let same = one_device device d sets in
-    record { cycle = cycle; by = by; adjustment = adjustment; is = ap (λ (x : DeviceId). notes.Corrected x cycle by adjustment) same }
+    record { cycle = cycle; by = by; adjustment = adjustment; is = rw same }
 is_correction_by device body sets not = absurd (both_ways _ not sets)
 
 pub last_is_correction : {v : View} (device : DeviceId) (t : ℕ) (h : Happening) → IsView v

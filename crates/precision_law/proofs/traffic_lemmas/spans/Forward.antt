@@ -1,12 +1,12 @@
 -- A synchronised device stays so in the span of a cycle.
 use Rattle.{net_plan.specs.declared.event.What.TheVariants.On, precision_law.proofs.traffic_lemmas.Words.ℕ, sync_state.specs.declared.answers.Verdict.Verdict}
-use Rattle.precision_law.proofs.traffic_lemmas.Words.{◌++◌, ◌+◌, ◌-◌, ◌<ℤ◌, ◌==◌, ◌∙◌, ◌∷◌, ◌≡◌, ◌≤◌, Bool, BringsBlocks, ChangesState, ComesTo, Corrected}
+use Rattle.precision_law.proofs.traffic_lemmas.Words.{◌++◌, ◌+◌, ◌-◌, ◌==◌, ◌∙◌, ◌∷◌, ◌≡◌, ◌≤◌, Bool, BringsBlocks, ChangesState, ComesTo, Corrected}
 use Rattle.precision_law.proofs.traffic_lemmas.Words.{DeviceId, Happening, Integrates, Integrating, IsCaused, IsFoundedAt, IsIn, IsInBlock, IsInSpan}
-use Rattle.precision_law.proofs.traffic_lemmas.Words.{IsOldAt, IsTimedAt, IsView, Judgement, List, None, NoteBody, Option, Scenario, State, Synchronised}
+use Rattle.precision_law.proofs.traffic_lemmas.Words.{IsOldAt, IsTimedAt, IsView, Judgement, List, None, NoteBody, Scenario, State, Synchronised}
 use Rattle.precision_law.proofs.traffic_lemmas.Words.{TimedAreNotTurnedOn, Units, View, Why, [], amount, ap, arith, before_of, between, both_ways}
 use Rattle.precision_law.proofs.traffic_lemmas.Words.{changes_adjustment, earlier, earlier_before, earlier_parts, eq-eqb, false, false_from_ne_true, filter}
 use Rattle.precision_law.proofs.traffic_lemmas.Words.{fold, fold-append, founded_at, if◌then◌else◌, in_between, in_left, in_order, inl, inr, ints, is_joined_by}
-use Rattle.precision_law.proofs.traffic_lemmas.Words.{is_turned_on_at, last_or, last_setting, negsuc, none_kept, numbered_in, one_device, option_map_or, pos}
+use Rattle.precision_law.proofs.traffic_lemmas.Words.{is_turned_on_at, last_or, last_setting, none_kept, numbered_in, one_device}
 use Rattle.precision_law.proofs.traffic_lemmas.Words.{refl, start_of, state_after, state_at_start, state_left, state_with, subst, suc, sym, time_of, true, zero}
 use Rattle.{precision_law.proofs.traffic_lemmas.spans.Spans.has_time_at, sync_state.specs.declared.answers.Verdict.TheVariants.{AsyncClique, SyncClique}}
 use Rattle.{precision_law.specs.{BlockLaws.AreBeforeCorrections, traffic.Spans.SynchronisedStaySo}, run_law.specs.control.Corrections.ComesToCorrection}
@@ -58,8 +58,7 @@ no_joining {v} device h is i timed not_on =
     let same = earlier_before (before_of is found) in
     false_from_ne_true (is_joined_by device h.note.body) (λ joined.
     let was = looking_by s found.front h.note.time device h.note.body joined found.due.cause in
-    let left : state_after s (earlier (time_of h) found.front) device ≡ Synchronised = subst (λ xs. state_after s xs device ≡ Synchronised)
-    (sym same) timed in
+    let left : state_after s (earlier (time_of h) found.front) device ≡ Synchronised = rw same timed in
     apart (is_turned_on_at s device (time_of h)) (state_after s (earlier (time_of h) found.front) device) not_on left was)
   where
     apart : (b : Bool) (state : State) → b ≡ false → state ≡ Synchronised → (if b then Integrating else state) ≡ Integrating → ⊥
@@ -95,9 +94,8 @@ no_change {v} device {h} state cause whys.Frame is i timed not_on none found c =
     let j = numbered_in found.front cause g c.1.1.there in
     let in_all : IsIn g v.records = subst (IsIn g) (sym found.whole) (in_left g found.front (h ∷ found.rest) j) in
     let same = c.1.1.same_time in
-    both_ways _ (no_joining device g is in_all (subst (λ t. state_left v device t ≡ Synchronised) (sym same)
-    timed)
-    (subst (λ t. is_turned_on_at v.scenario device t ≡ false) (sym same) not_on)) c.1.2
+    both_ways _ (no_joining device g is in_all (rw same timed)
+    (rw same not_on)) c.1.2
 no_change {v} device {h} state cause whys.Correction is i timed not_on none found c =
     let g = c.2.3 in
     let j = numbered_in found.front cause g c.2.4.there in
@@ -121,13 +119,13 @@ leaves_by {v} device h (notes.State other state cause why) is i timed not_on non
         let found = founded_at v.scenario v.records h is.run.founded i in
         let caused : ChangesState v.scenario found.front other (time_of h) state cause why = subst (IsCaused v.scenario found.front h.note.time) body
         found.due.cause in
-        let own = subst (λ d. ChangesState v.scenario found.front d (time_of h) state cause why) (one_device device other e) caused in
+        let own = rw (one_device device other e) at caused in
         absurd (no_change device state cause why is i timed not_on none found own)
 leaves_by device h (notes.Corrected other cycle by adjustment) is i timed not_on none body joined =
     record {
       clock = false_from_ne_true (device.0 == other.0)
           (λ e. no_correction device h cycle by adjustment is i none
-          (body ∙ ap (λ (d : DeviceId). notes.Corrected d cycle by adjustment) (one_device device other e)));
+          (body ∙ ap (λ d. notes.Corrected d cycle by adjustment) (one_device device other e)));
       state = refl;
     }
 leaves_by device h (notes.Permanent other link cause point Integrates) is i timed not_on none body joined =
@@ -143,8 +141,8 @@ fold_leaves : (device : DeviceId) (hs : List Happening) → ((h : Happening) →
     → fold (λ state h. state_with device state h.note.body) old hs ≡ Synchronised
 fold_leaves device [] each old e = e
 fold_leaves device (h ∷ hs) each old e =
-    fold_leaves device hs (λ g i. each g (inr i)) (state_with device old h.note.body) (ap (λ x. state_with device x h.note.body) e
-    ∙ (each h (inl refl)).state)
+    fold_leaves device hs (λ g i. each g (inr i)) (state_with device old h.note.body) (rw e
+    (each h (inl refl)).state)
 
 -- the device stands as before at the next instant
 pub stands_on : {v : View} (device : DeviceId) (t : ℕ) → IsView v → state_left v device t ≡ Synchronised
@@ -158,16 +156,18 @@ stands_on {v} device t is timed not_on none =
     let each : (h : Happening) → IsIn h hs → Leaves device h.note.body = λ h i.
     let there = in_between t (t + 1) v.records h i in
     let same : time_of h ≡ t = omega (arith, there.1, there.2) in
-    let here = subst (λ u. state_left v device u ≡ Synchronised) (sym same) timed in
-    let off = subst (λ u. is_turned_on_at v.scenario device u ≡ false) (sym same) not_on in
+    let here = rw (sym same) at timed in
+    let off = rw (sym same) at not_on in
     let no_point = subst (HasNoPoint v device) (sym same) none in
     leaves_by device h h.note.body is there.0 here off no_point refl (no_joining device h is there.0 here off) in
-    let none_sets : filter sets hs ≡ [] = none_kept sets hs (λ h i. (each h i).clock) in
-    let apart = fold-append (λ (state : State) (h : Happening). state_with device state h.note.body) (state_at_start (start_of v.scenario.network device))
+    let none_sets = none_kept sets hs (λ h i. (each h i).clock) in
+    let apart = fold-append (λ state h. state_with device state h.note.body)
+    (state_at_start (start_of v.scenario.network device))
     (earlier t v.records) hs in (
-      ap (λ xs. state_after v.scenario xs device) parts ∙ apart ∙ fold_leaves device hs each (state_left v device t) timed,
+      rw parts (apart ∙ fold_leaves device hs each (state_left v device t) timed),
       ap (last_or None) (ap (filter sets) parts ∙ filter-append sets (earlier t v.records) hs
-          ∙ ap (λ (xs : List Happening). filter sets (earlier t v.records) ++ xs) none_sets ∙ append-nil (filter sets (earlier t v.records))),
+          ∙ ap (λ xs. filter sets (earlier t v.records) ++ xs) none_sets ∙ append-nil
+          (filter sets (earlier t v.records))),
     )
 
 -- ---- in a span
@@ -182,28 +182,28 @@ stays_for brings never {v} {u} zero span {device} is from le timed old =
     (subst (IsTimedAt v device) same timed, subst (IsOldAt v span.block.before.next device) same old)
 stays_for brings never {v} {n} {u} (suc more) span {device} is from le timed old =
     let x = u + more in
-    let here = stays_for brings never more span is from (omega (arith, le)) timed old in
+    let here = stays_for brings never more span is from (omega arith) timed old in
     let block : IsInBlock v n x = record {
       before = span.block.before;
       next = span.block.next;
       is_over = span.block.is_over;
-      from = omega (arith, from);
-      to = omega (arith, le, span.block.to);
-      in_run = omega (arith, le, span.block.in_run);
+      from = omega arith;
+      to = omega (arith, span.block.to);
+      in_run = omega (arith, span.block.in_run);
     } in
     let none : HasNoPoint v device x = λ front cycle verdict split point.
     let comes : ComesTo v x device cycle verdict = record { front = front; split = split; point = point } in
     let at = (brings.goes v n x block is).points device cycle verdict (has_time_at here.0) here.1 comes in
-    absurd (omega (arith, ints, at.not_early, span.early, le)) in
+    absurd (omega (arith, ints, at.not_early, span.early)) in
     let next = stands_on device x is here.0.synchronised (never v device x is (has_time_at here.0).timed) none in
     let same : x + 1 ≡ u + suc more = omega arith in (
       subst (IsTimedAt v device) same (record { good = timed.good; synchronised = next.0 }),
       subst (IsOldAt v span.block.before.next device) same
-          (subst (λ (o : Option Happening). option_map_or (λ h. pos (time_of h)) o (negsuc 0) <ℤ pos span.block.before.next) (sym next.1) here.1),
+          (rw next.1 here.1),
     )
 
 pub synchronised_stay_so : BringsBlocks → TimedAreNotTurnedOn → SynchronisedStaySo
 synchronised_stay_so brings never v n u t span device is from le timed old =
-    let same : u + (t - u) ≡ t = omega (arith, le) in
-    let there = stays_for brings never (t - u) span is from (omega (arith, same)) timed old in
+    let same : u + (t - u) ≡ t = omega arith in
+    let there = stays_for brings never (t - u) span is from (omega arith) timed old in
     (subst (IsTimedAt v device) same there.0, subst (IsOldAt v span.block.before.next device) same there.1)

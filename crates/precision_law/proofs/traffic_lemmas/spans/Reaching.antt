@@ -2,8 +2,8 @@
 use Rattle.precision_law.proofs.{block.Coming.{set_before as changed_before}, sizes.Instants.instants_are_in_order, traffic_lemmas.ports.Cycles.hulls_grow}
 use Rattle.{precision_law.{proofs.clocks.Epochs.clocks_have_reached, specs.Hulls.{IsNarrow, start_hull}}, tte_units.proofs.general_lemmas.Integers.whole}
 use Rattle.precision_law.proofs.traffic_lemmas.Words.{◌*◌, ◌+ℤ◌, ◌+◌, ◌<ℤ◌, ◌<◌, ◌≡◌, ◌≤ℤ◌, ◌≤◌, BringsBlocks, DeviceId, Happening, IsInSchedule, IsInSpan}
-use Rattle.precision_law.proofs.traffic_lemmas.Words.{IsOldAt, IsTimedAt, IsView, None, Option, Some, Stands, TimedAreNotTurnedOn, Units, View, adjustment_left}
-use Rattle.precision_law.proofs.traffic_lemmas.Words.{adjustment_stays, ap, arith, before_narrow, changed_at, earlier, follows_before, has_before, hull_of}
+use Rattle.precision_law.proofs.traffic_lemmas.Words.{IsOldAt, IsTimedAt, IsView, None, Option, Some, Stands, TimedAreNotTurnedOn, View, adjustment_left}
+use Rattle.precision_law.proofs.traffic_lemmas.Words.{adjustment_stays, ap, arith, before_narrow, earlier, follows_before, has_before, hull_of}
 use Rattle.precision_law.proofs.traffic_lemmas.Words.{ints, last_correction, last_setting, negsuc, option_map_or, pos, refl, room, setting_is, subst, suc, sym}
 use Rattle.precision_law.proofs.traffic_lemmas.{Words.{time_of, within_run, zero, ℕ, ℤ}, spans.Spans.{synchronised_keep_time, values_are_reached_in_spans}}
 use Rattle.precision_law.{proofs.traffic_lemmas.spans.Forward.synchronised_stay_so, specs.traffic.Spans.{ReachesInSpan, ValuesAreReached}}
@@ -17,7 +17,7 @@ pub begins_soon : {v : View} (n : ℕ) (stands : Stands v (suc n)) → IsView v
 begins_soon {v} n stands is =
     let over = stands.is_over in
     let there = stands.narrow n (omega arith) in
-    let same : there.0 ≡ over.0 = one (hull_of v n) there.0 over.0 there.1 over.1 in
+    let same = one (hull_of v n) there.0 over.0 there.1 over.1 in
     let narrow : IsNarrow v.sizes over.0 = subst (IsNarrow v.sizes) same there.2 in
     let order = instants_are_in_order v.sizes over.0 stands.hull (room is) narrow
     (follows_before n over.0 stands.hull is over.1 stands.is_hull) in
@@ -29,8 +29,10 @@ pub hull_behind : {v : View} (n : ℕ) (stands : Stands v (suc n)) → IsView v
 hull_behind {v} n stands is =
     let grow = hulls_grow 0 (suc n) (start_hull v.sizes) stands.hull is (omega arith) refl stands.is_hull in
     let space = room is in
-    let has = has_before v n stands.hull (within_run is) stands.is_hull in
-    (omega (arith, ints, grow, space.many_errors, space.many_starts, space.errors.reach_is, space.errors.clock_is), has.follows.ordered)
+    let has = has_before v n stands.hull (within_run is) stands.is_hull in (
+      omega (arith, ints, space.many_errors, space.many_starts, space.errors.reach_is, space.errors.clock_is),
+      has.follows.ordered,
+    )
 
 -- all that the records before a time have set was set before it
 pub set_before : (v : View) (device : DeviceId) (t : ℕ) (o : Option Happening) → last_setting (earlier t v.records) device ≡ o
@@ -58,14 +60,14 @@ reached_by brings never {v} c {value} t next before {device} is timed begun with
         next = next;
         is_over = (before.hull, before.is_hull, sym next_is);
         from = from;
-        to = omega (arith, ints, to, t_is, next_is, within.ends, space.eight_errors);
-        in_run = omega (arith, ints, to, t_is, in_run);
+        to = omega (arith, ints, within.ends, space.eight_errors);
+        in_run = omega (arith, ints);
       };
-      early = omega (arith, ints, to, t_is, narrow, within.ends, space.eight_errors);
+      early = omega (arith, ints, within.ends, space.eight_errors);
     } in
-    let later : before.next ≤ t = omega (arith, ints, soon, behind.1, t_is, within.begins, space.eight_errors) in
-    let in_time : t ≤ v.until = omega (arith, ints, t_is, in_run) in
-    let old : IsOldAt v before.next device before.next = set_before v device before.next (last_setting (earlier before.next v.records) device) refl in
+    let later : before.next ≤ t = omega (arith, ints, behind.1, within.begins, space.eight_errors) in
+    let in_time : t ≤ v.until = omega (arith, ints) in
+    let old = set_before v device before.next (last_setting (earlier before.next v.records) device) refl in
     let stays : (x : ℕ) (from : before.next ≤ x) (to : x ≤ t) → IsTimedAt v device x × IsOldAt v before.next device x = λ x from to.
     synchronised_stay_so brings never v n before.next x (span_at x from to) device is (omega arith) from timed old in
     let first = span_at before.next (omega arith) later in
@@ -73,29 +75,30 @@ reached_by brings never {v} c {value} t next before {device} is timed begun with
     let final = span_at t later (omega arith) in
     let there = stays t later (omega arith) in
     let at_end = synchronised_keep_time brings v n t final device is there.0 in
-    let same : adjustment_left v device before.next ≡ adjustment_left v device t = ap (λ (a : Units). a.0)
+    let same : adjustment_left v device before.next ≡ adjustment_left v device t = ap (λ a. a.0)
     (adjustment_stays device before.next t is later there.1) in
-    let changed : changed_at v.records device t ≤ before.next = changed_before (last_setting (earlier t v.records) device) before.next there.1 in
-    let lt : before.next < t = omega (arith, ints, soon, behind.1, t_is, within.begins, space.eight_errors) in
+    let changed = changed_before (last_setting (earlier t v.records) device) before.next there.1 in
+    let lt : before.next < t = omega (arith, ints, behind.1, within.begins, space.eight_errors) in
     let below : (pos (v.scenario.reading device before.next) +ℤ adjustment_left v device t) <ℤ pos (n * v.sizes.cycle + value) =
-    omega (arith, ints, same, begin.shows.most, soon, within.begins, space.eight_errors, space.errors.reach_is) in
+    omega (arith, ints, begin.shows.most, within.begins, space.eight_errors, space.errors.reach_is) in
     let above : pos (n * v.sizes.cycle + value) ≤ℤ (pos (v.scenario.reading device t) +ℤ adjustment_left v device t) =
-    omega (arith, ints, at_end.shows.least, t_is, space.errors.reach_is) in
+    omega (arith, ints, at_end.shows.least, space.errors.reach_is) in
     let found = clocks_have_reached v device (pos (n * v.sizes.cycle + value)) before.next t is changed lt below above in
     let u = found.0 in
     let here = stays u (omega (arith, found.1)) found.2 in
     record {
       at = u;
-      in_span = values_are_reached_in_spans brings v n value u device is here.0 (omega (arith, found.2, in_time)) begun within found.3;
+      in_span = values_are_reached_in_spans brings v n value u device is here.0 (omega (arith, found.2)) begun within
+          found.3;
       timed = here.0;
       reached = found.3;
     }
 
 pub values_are_reached : BringsBlocks → TimedAreNotTurnedOn → ValuesAreReached
-values_are_reached brings never v zero value before device is timed begun within in_run = absurd (omega (arith, begun))
+values_are_reached brings never v zero value before device is timed begun within in_run = absurd (omega arith)
 values_are_reached brings never v (suc c) value before device is timed begun within in_run =
     let behind = hull_behind c before is in
     let last : ℤ = (before.hull.greatest +ℤ pos value) +ℤ pos v.sizes.reach in
-    let end : ℤ = last_correction v.sizes before.hull +ℤ pos 1 in
+    let end = last_correction v.sizes before.hull +ℤ pos 1 in
     reached_by brings never c (unsigned_abs last) (unsigned_abs end) before is timed begun within in_run
     (whole last (omega (arith, ints, behind.0, behind.1))) (whole end (omega (arith, ints, behind.0, behind.1)))

@@ -2,8 +2,8 @@
 use Rattle.precision_law.proofs.{law.Together.{new_shows, old_shows, set_shows}, records.Points.point_timed, traffic_lemmas.spans.Corrected.last_is_correction}
 use Rattle.precision_law.{proofs.{sizes.Instants.set_clocks_stay_at_correction, traffic_lemmas.Words.{time_of, zero, ℕ, ℤ}}, specs.Standings.ShowsIn}
 use Rattle.precision_law.proofs.traffic_lemmas.Words.{◌*◌, ◌+ℤ◌, ◌+◌, ◌<ℤ◌, ◌<◌, ◌≡◌, ◌≤ℤ◌, ◌≤◌, BringsBlocks, ComesTo, Corrected, DeviceId, Happening}
-use Rattle.precision_law.proofs.traffic_lemmas.Words.{IsCaused, IsInBlock, IsInSchedule, IsOldAt, IsTimedAt, IsView, None, Option, Some, View}
-use Rattle.precision_law.proofs.traffic_lemmas.Words.{ap, arith, before_narrow, before_of, begins_late, block_ends, by_lt_z, cases_lt}
+use Rattle.precision_law.proofs.traffic_lemmas.Words.{IsCaused, IsInBlock, IsInSchedule, IsTimedAt, IsView, None, Option, Some, View}
+use Rattle.precision_law.proofs.traffic_lemmas.Words.{arith, before_narrow, before_of, begins_late, block_ends, by_lt_z, cases_lt}
 use Rattle.precision_law.proofs.traffic_lemmas.Words.{clocks_reach_sharply, earlier, epoch_time, follows_before, founded_at, has_time, inl, inr, ints}
 use Rattle.precision_law.proofs.traffic_lemmas.Words.{last_setting, negsuc, option_map_or, pos, refl, room, setting_is, shown_at, state_left, subst, suc, sym}
 use Rattle.precision_law.specs.{BlockLaws.BlocksGoSo, Hulls.first_correction, traffic.Spans.{IsReachedInSpan, SynchronisedKeepTime, ValuesAreReachedInSpans}}
@@ -21,7 +21,7 @@ pub corrected_late : {v : View} {n t : ℕ} (block : IsInBlock v n t) {device : 
     → BlocksGoSo → IsView v → IsTimedAt v device t → last_setting (earlier t v.records) device ≡ o
     → pos block.before.next ≤ℤ option_map_or (λ h. pos (time_of h)) o (negsuc 0)
     → (first_correction v.sizes block.before.hull +ℤ pos v.sizes.reach) <ℤ pos t
-corrected_late block None goes is timed e late = absurd (omega (arith, ints, late))
+corrected_late block None goes is timed e late = absurd (omega (arith, ints))
 corrected_late {v} {n} {t} block {device} (Some h) goes is timed e late =
     let at = setting_is v device t h e in
     let set = last_is_correction device t h is timed.synchronised e in
@@ -38,7 +38,7 @@ corrected_late {v} {n} {t} block {device} (Some h) goes is timed e late =
       before = block.before;
       next = block.next;
       is_over = block.is_over;
-      from = omega (arith, ints, late);
+      from = omega (arith, ints);
       to = omega (arith, at.early, block.to);
       in_run = omega (arith, at.early, block.in_run);
     } in
@@ -49,12 +49,12 @@ corrected_late {v} {n} {t} block {device} (Some h) goes is timed e late =
 
 pub synchronised_keep_time : BringsBlocks → SynchronisedKeepTime
 synchronised_keep_time brings v n t span device is timed =
-    let old : IsOldAt v span.block.before.next device t =
-    by_lt_z {P = IsOldAt v span.block.before.next device t} (epoch_time (earlier t v.records) device) (pos span.block.before.next)
+    let old =
+    by_lt_z (epoch_time (earlier t v.records) device) (pos span.block.before.next)
     (λ lt. lt)
     (λ late. (let after = corrected_late span.block (last_setting (earlier t v.records) device) brings.goes is
     timed refl
-    late in absurd (omega (arith, ints, after, span.early)))) in
+    late in absurd (omega (arith, ints, span.early)))) in
     record { old = old; shows = old_shows span.block is (omega arith) (has_time_at timed) old }
 
 -- ---- reaching
@@ -70,23 +70,23 @@ same_cycle {v} n {k} {t} block {shown} is begun within shows least most =
     let narrow = before_narrow block.before in
     elim (cases_lt k n) [
       | inl lt ↦
-          let more : suc k * v.sizes.cycle ≤ n * v.sizes.cycle = mul-le-mul_right v.sizes.cycle (omega (arith, lt)) in
+          let more : suc k * v.sizes.cycle ≤ n * v.sizes.cycle = mul-le-mul_right v.sizes.cycle (omega arith) in
           let one = suc-mul k v.sizes.cycle in
-          absurd (omega (arith, ints, more, one, least, shows.most, block.to, ends, narrow, within.begins, space.eight_errors, space.errors.reach_is))
+          absurd (omega (arith, ints, shows.most, block.to, within.begins, space.eight_errors, space.errors.reach_is))
       | inr ge ↦ elim (cases_lt n k) [
         | inl lt ↦ absurd (by k block shows lt)
-        | inr le ↦ omega (arith, ge, le)
+        | inr le ↦ omega arith
       ]
     ]
   where
     by : (k : ℕ) (block : IsInBlock v k t) → ShowsIn v.sizes shown k block.before.hull t → n < k → ⊥
-    by zero block shows lt = absurd (omega (arith, lt))
+    by zero block shows lt = absurd (omega arith)
     by (suc j) block shows lt =
         let space = room is in
         let late = begins_late j block.before is in
-        let more : suc n * v.sizes.cycle ≤ suc j * v.sizes.cycle = mul-le-mul_right v.sizes.cycle (omega (arith, lt)) in
+        let more : suc n * v.sizes.cycle ≤ suc j * v.sizes.cycle = mul-le-mul_right v.sizes.cycle (omega arith) in
         let one = suc-mul n v.sizes.cycle in
-        absurd (omega (arith, ints, more, one, most, shows.least, block.from, late, within.ends, space.eight_errors, space.errors.reach_is))
+        absurd (omega (arith, ints, shows.least, block.from, within.ends, space.eight_errors, space.errors.reach_is))
 
 pub values_are_reached_in_spans : BringsBlocks → ValuesAreReachedInSpans
 values_are_reached_in_spans brings v n value t device is timed in_run begun within reaches =
@@ -100,38 +100,54 @@ values_are_reached_in_spans brings v n value t device is timed in_run begun with
     let has = has_time_at timed in
     let ends = block_ends v k block.next block.before.hull block.before.is_hull block.is_over in
     let narrow = before_narrow block.before in
-    by_lt_z {P = IsReachedInSpan v n value t} (epoch_time (earlier t v.records) device) (pos block.before.next)
+    by_lt_z (epoch_time (earlier t v.records) device) (pos block.before.next)
     (λ old.
     let shows = old_shows block is (omega arith) has old in
     let same = same_cycle n block is begun within shows least most in
-    let whole : n * v.sizes.cycle ≡ k * v.sizes.cycle = ap (λ m. m * v.sizes.cycle) (sym same) in
+    let whole : n * v.sizes.cycle ≡ k * v.sizes.cycle = rw (sym same) in
     let not_late : pos t ≤ℤ ((block.before.hull.greatest +ℤ pos value) +ℤ pos v.sizes.reach) = omega
-    (arith, ints, whole, most, shows.least, space.errors.reach_is) in
+    (arith, ints, shows.least, space.errors.reach_is) in
     let here : IsReachedInSpan v k value t = record {
-      span = record { block = block; early = omega (arith, ints, not_late, narrow, within.ends, space.eight_errors) };
-      not_early = omega (arith, ints, whole, least, shows.most, space.errors.reach_is);
+      span = record { block = block; early = omega (arith, ints, within.ends, space.eight_errors) };
+      not_early = omega (arith, ints, shows.most, space.errors.reach_is);
       not_late = not_late;
     } in
-    subst (λ m. IsReachedInSpan v m value t) same here)
+    rw same at here)
     (λ late.
     let each = λ (w : ℕ) (from : block.before.next ≤ w) (less : w < t). brings.goes v k w (record {
       before = block.before;
       next = block.next;
       is_over = block.is_over;
       from = from;
-      to = omega (arith, less, block.to);
-      in_run = omega (arith, less, block.in_run);
+      to = omega (arith, block.to);
+      in_run = omega (arith, block.in_run);
     }) is in
     let set = new_shows block each is (omega arith) has (last_setting (earlier t v.records) device) refl late in
     let shows = set_shows block is set in
     let after = corrected_late block (last_setting (earlier t v.records) device) brings.goes is timed refl late in
     let near = set_clocks_stay_at_correction v.sizes (shown_at v device t) (suc k) t block.before.hull set.hull space narrow
     (follows_before k block.before.hull set.hull is block.before.is_hull set.is_hull)
-    (omega (arith, ints, after)) (omega (arith, ints, ends, block.to)) shows in
+    (omega (arith, ints)) (omega (arith, ints, block.to)) shows in
     absurd (elim (cases_lt k n) [
-      | inl lt ↦ (let more : suc k * v.sizes.cycle ≤ n * v.sizes.cycle = mul-le-mul_right v.sizes.cycle (omega (arith, lt)) in
-          omega (arith, ints, more, least, near.most, within.begins, space.eight_errors, space.errors.reach_is, space.errors.clock_is))
-      | inr ge ↦ (let more : n * v.sizes.cycle ≤ k * v.sizes.cycle = mul-le-mul_right v.sizes.cycle ge in
+      | inl lt ↦ (let more : suc k * v.sizes.cycle ≤ n * v.sizes.cycle = mul-le-mul_right v.sizes.cycle (omega arith) in
+          omega (
+            arith,
+            ints,
+            near.most,
+            within.begins,
+            space.eight_errors,
+            space.errors.reach_is,
+            space.errors.clock_is,
+          ))
+      | inr ge ↦ (let more = mul-le-mul_right v.sizes.cycle ge in
           let one = suc-mul k v.sizes.cycle in
-          omega (arith, ints, more, one, most, near.least, within.ends, space.eight_errors, space.errors.reach_is, space.errors.clock_is))
+          omega (
+            arith,
+            ints,
+            near.least,
+            within.ends,
+            space.eight_errors,
+            space.errors.reach_is,
+            space.errors.clock_is,
+          ))
     ]))

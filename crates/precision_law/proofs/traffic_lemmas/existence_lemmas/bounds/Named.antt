@@ -24,8 +24,8 @@ pub record IsOnLink (network : Network) (device : DeviceId) (link : LinkId) : Ty
 
 end_of : (way : Way) (link : Link) (device : DeviceId) → target_by way link ≡ device → device.0 ≤ ends link
 unfolding ends
-end_of Up link device e = omega (arith, ap (λ (d : DeviceId). d.0) e)
-end_of Down link device e = omega (arith, ap (λ (d : DeviceId). d.0) e)
+end_of Up link device e = omega (arith, ap (λ d. d.0) e)
+end_of Down link device e = omega (arith, ap (λ d. d.0) e)
 
 pub received : (network : Network) (link : LinkId) (way : Way) (device : DeviceId) → receiver_of network link way ≡ Some device → IsOnLink network device link
 received network link way device e = by (link_at network link) refl e
@@ -48,9 +48,9 @@ pub record IsGiver (network : Network) (body : NoteBody) (device : DeviceId) (li
 
 pub giver : (network : Network) (body : NoteBody) (device : DeviceId) (link : LinkId) → Gives network body device link → IsGiver network body device link
 giver network (notes.Sent master cycle) device link g =
-    record { device_is = ap (λ (d : DeviceId). d.0) g.0; link_in = link_within network link _ g.1; early = omega arith }
+    record { device_is = rw g.0; link_in = link_within network link _ g.1; early = omega arith }
 giver network (notes.Compressed cm opened at cycle members verdict) device link g =
-    record { device_is = ap (λ (d : DeviceId). d.0) g.0; link_in = link_within network link _ g.1; early = omega arith }
+    record { device_is = rw g.0; link_in = link_within network link _ g.1; early = omega arith }
 giver network (notes.Arrived relay by cause clock) device link g = grind (arith, link_within)
 giver network other device link g = absurd g
 
@@ -102,12 +102,12 @@ joined_rank device other e = absurd cc
 
 pub source_end : (way : Way) (link : Link) (device : DeviceId) → source_by way link ≡ device → device.0 ≤ ends link
 unfolding ends
-source_end Up link device e = omega (arith, ap (λ (d : DeviceId). d.0) e)
-source_end Down link device e = omega (arith, ap (λ (d : DeviceId). d.0) e)
+source_end Up link device e = omega (arith, ap (λ d. d.0) e)
+source_end Down link device e = omega (arith, ap (λ d. d.0) e)
 
 -- a compressed frame's own record gives no point
 pub no_point : (device : DeviceId) (h : Happening) (body : NoteBody) → rank body ≡ 4 → point_by device h body ≡ None
-no_point device h (notes.Permanent other link cause point verdict) e = absurd (omega (arith, e))
+no_point device h (notes.Permanent other link cause point verdict) e = absurd (omega arith)
 no_point device h other e = refl
 
 pub signs : (z : ℤ) → sign z < 2

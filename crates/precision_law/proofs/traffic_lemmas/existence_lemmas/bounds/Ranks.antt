@@ -1,8 +1,8 @@
 -- How great the numbers in the place of a record may be that is due at a time and rank.
 use Rattle.{compression.proofs.Times.one_list_of_clusters, run_law.specs.{device.StateChanges.ChangesState, timed.Dispatching.{Dispatches, Sends}}}
-use Rattle.{compression.specs.Clusters.{AreClusters, Cluster, Point}, run_law.specs.declared.judgement.{Judgement.Judgement, Reason.Reason, Why.Why}}
+use Rattle.{compression.specs.Clusters.{Cluster}, run_law.specs.declared.judgement.{Judgement.Judgement, Reason.Reason, Why.Why}}
 use Rattle.{compression.specs.Emission.compressed, run_law.specs.{declared.steps.Ripe.Ripe, device.LocalClocks.Reaches, timed.Receptions.ArrivesAs}}
-use Rattle.{compression.specs.declared.compressed.Compressed.Compressed, sync_state.specs.declared.{answers.Verdict.TheVariants.Corrected, state.State.State}}
+use Rattle.{compression.specs.declared.compressed.Compressed.Compressed, sync_state.specs.declared.{state.State.State}}
 use Rattle.{net_plan.specs.Places.is_master, run_law.proofs.runs.Places.in_right, std.{proofs.Math.Nat.mul-le-mul_left, specs.Option.option_map_or}}
 use Rattle.{net_plan.specs.declared.{ids.{DeviceId.DeviceId, LinkId.LinkId}, tables.Way.TheVariants.Up}, run_law.proofs.records.Order.{contained, makes_none}}
 use Rattle.{net_plan.specs.declared.ids.VlId.VlId, run_law.specs.{control.Emissions.Emits, records.Order.IsIn}, std.specs.List.{after_last, filter_map}}
@@ -14,18 +14,17 @@ use Rattle.precision_law.proofs.traffic_lemmas.existence_lemmas.bounds.Weights.{
 use Rattle.precision_law.proofs.traffic_lemmas.existence_lemmas.bounds.{Named.{never_off, no_point, received, signs, source_end, touched}, Weights.weight}
 use Rattle.run_law.{proofs.control.Points.no_cluster, specs.{declared.{note.NoteBody.NoteBody, steps.Arrival.Arrival}, records.Ranks.{key, rank, sign}}}
 use Rattle.run_law.{proofs.law.FirstPlaces.{in_at, in_filter, none_kept}, specs.runs.DueRecords.{IsArrivedRecord, IsCaused, IsClockRecord, IsEventRecord}}
-use Rattle.run_law.specs.control.{Collections.{ends_stretch, observation_window, point_by, points_of}, Corrections.{ComesToCorrection, standing_before}}
-use Rattle.{run_law.specs.control.Leaving.{Departs, Departure, leaves}, tte_units.specs.declared.{frames.members.Members.Members, units.Units.Units}}
-use Rattle.run_law.specs.{control.Losses.{IsDispatchedOn, IsDropped, IsLost}, records.Happenings.{Happening, earlier, frame_by, frame_from, numbered, time_of}}
-use Rattle.run_law.specs.{control.Permanence.{BecomesPermanent, ripe_as}, scenario.{Devices.{is_cm_role, start_of}, Scenarios.{Scenario, is_turned_on_at}}}
-use Rattle.std.proofs.Common.{◌*◌, ◌++◌, ◌+ℤ◌, ◌+◌, ◌<◌, ◌∙◌, ◌∷◌, ◌≡◌, ◌≤◌, ◌⊎◌, List, None, Option, Some, [], ap, append-nil, append_assoc, arith, filter}
+use Rattle.run_law.specs.control.{Collections.{ends_stretch, observation_window, point_by, points_of}, Corrections.{standing_before}}
+use Rattle.{run_law.specs.control.Leaving.{Departs, Departure}, tte_units.specs.declared.{frames.members.Members.Members, units.Units.Units}}
+use Rattle.run_law.specs.{control.Losses.{IsDropped, IsLost}, records.Happenings.{Happening, earlier, frame_by, frame_from, numbered, time_of}}
+use Rattle.run_law.specs.{control.Permanence.{BecomesPermanent}, scenario.{Devices.{is_cm_role, start_of}, Scenarios.{Scenario, is_turned_on_at}}}
+use Rattle.std.proofs.Common.{◌*◌, ◌++◌, ◌+ℤ◌, ◌+◌, ◌<◌, ◌∙◌, ◌∷◌, ◌≡◌, ◌≤◌, ◌⊎◌, List, None, Some, [], ap, append-nil, append_assoc, arith, filter}
 use Rattle.std.proofs.{Common.{inl, inr, le-ltb, length, nat_lt, option_and_then, pos, subst, sym, unsigned_abs, ℕ}, lemmas.Option.slice_get_within}
 use Rattle.{std.proofs.lemmas.List.Elements.{filter-append, filter_map-append}, sync_state.specs.Standing.{point_in as point_by_state, state_at_start}}
 use Rattle.tte_units.specs.Amount.{amount}
 use Rattle.precision_law.proofs.records.Behind as parts
 use Rattle.run_law.specs.declared.judgement.Why.TheVariants as whys
 use Rattle.run_law.specs.declared.note.NoteBody.TheVariants as notes
-use Rattle.run_law.specs.declared.steps.Arrival.TheVariants as arrivals
 
 -- ---- the ranks
 
@@ -56,9 +55,9 @@ module _ (s : Scenario) (t r : ℕ) (ms more : List Happening) (recent : (x : Ha
   unfolding bound
   left device link cause is late d =
       let by = giver s.network d.giving.note.body device link d.gives in
-      let old = old_cause cause d.giving d.there (λ e. omega (arith, e, by.early, late)) in
+      let old = old_cause cause d.giving d.there (λ e. omega (arith, by.early)) in
       let heavy = in_total (weight s) ms d.giving old.0 in
-      (omega (arith, heavy, by.device_is), (omega (arith, by.link_in), (omega (arith, old.1), tt)))
+      (omega (arith, by.device_is), (omega (arith, by.link_in), (omega (arith, old.1), tt)))
 
   arrives : (device : DeviceId) (link : LinkId) (cause : ℕ) (is : Arrival) → (r ≡ 1 → ⊥) → (r ≡ 8 → ⊥) → (r ≡ 10 → ⊥)
       → ArrivesAs s (ms ++ more) device t link cause is → IsSized 3 limit (device.0 ∷ link.0 ∷ cause ∷ [])
@@ -76,9 +75,9 @@ module _ (s : Scenario) (t r : ℕ) (ms more : List Happening) (recent : (x : Ha
   -- the records of the rank are none of an earlier time
   earlier_kept : earlier t (ms ++ more) ≡ earlier t ms
   earlier_kept =
-      filter-append (λ (h : Happening). nat_lt (time_of h) t) ms more
-      ∙ ap (λ (hs : List Happening). earlier t ms ++ hs) (none_kept (λ (h : Happening). nat_lt (time_of h) t) more (λ x i.
-      let at = (recent x i).0 in le-ltb (time_of x) t (omega (arith, at))))
+      filter-append (λ h. nat_lt (time_of h) t) ms more
+      ∙ ap (λ hs. earlier t ms ++ hs) (none_kept (λ h. nat_lt (time_of h) t) more (λ x i.
+      let at = (recent x i).0 in le-ltb (time_of x) t (omega arith)))
       ∙ append-nil (earlier t ms)
 
   cycle_below : (device : DeviceId) (cycle value : ℕ) → 1 ≤ amount s.network.cycle → device.0 < devices_below s.network
@@ -86,20 +85,20 @@ module _ (s : Scenario) (t r : ℕ) (ms more : List Happening) (recent : (x : Ha
   unfolding bound
   cycle_below device cycle value some lt reaches =
       let adj = (adjustment_before s (ms ++ more) device t).0 in
-      let product : cycle * 1 ≤ cycle * amount s.network.cycle = mul-le-mul_left cycle some in
-      let same : adj ≡ (adjustment_after s (earlier t ms) device).0 = ap (λ hs. (adjustment_after s hs device).0) earlier_kept in
+      let product = mul-le-mul_left cycle some in
+      let same : adj ≡ (adjustment_after s (earlier t ms) device).0 = rw earlier_kept in
       let within = in_sum (clock_at s ms t) (devices_below s.network) device.0 lt in
       let most = reach_most (cycle * amount s.network.cycle + value) (s.reading device t) adj reaches.reach.reached in
       let at = at_clock s ms t device.0 in
-      omega (arith, product, within, most, at, ap (λ z. unsigned_abs (pos (s.reading device t) +ℤ z)) same)
+      omega (arith, ap (λ z. unsigned_abs (pos (s.reading device t) +ℤ z)) same)
 
   sent : (device : DeviceId) (cycle : ℕ) → 1 ≤ amount s.network.cycle → Sends s (ms ++ more) device t cycle → IsSized 2 limit (device.0 ∷ cycle ∷ [])
   unfolding bound
   sent device cycle some c =
       let there = device_there s.network is_master device c.master in
       let value : cycle * amount s.network.cycle + 0 ≡ cycle * amount s.network.cycle = omega arith in
-      let reached = subst (λ n. Reaches s (ms ++ more) device (pos n) t) (sym value) c.reached in
-      (omega (arith, there), (cycle_below device cycle 0 some (omega (arith, there)) reached, tt))
+      let reached = rw (sym value) at c.reached in
+      (omega arith, (cycle_below device cycle 0 some (omega arith) reached, tt))
 
   -- a device with a correction point is one of the network, or one that a record names
   device_known : (device : DeviceId) (cycle : ℕ)
@@ -109,10 +108,10 @@ module _ (s : Scenario) (t r : ℕ) (ms more : List Happening) (recent : (x : Ha
       let same = ap (λ hs. state_after s hs device) earlier_kept in
       let on = never_off (is_turned_on_at s device t) (state_after s (earlier t (ms ++ more)) device) _ cycle next in
       elim (touched device (earlier t ms) (state_at_start (start_of s.network device))) [
-        | inl e ↦ (let there = begins s.network device (λ off. on (same ∙ e ∙ off)) in omega (arith, there))
+        | inl e ↦ (let there = begins s.network device (λ off. on (same ∙ e ∙ off)) in omega arith)
         | inr h ↦
-            (let i = in_filter (λ (g : Happening). nat_lt (time_of g) t) ms h.0 h.1 in
-            let heavy = in_total (weight s) ms h.0 i in omega (arith, heavy, h.2))
+            (let i = in_filter (λ g. nat_lt (time_of g) t) ms h.0 h.1 in
+            let heavy = in_total (weight s) ms h.0 i in omega (arith, h.2))
       ]
 
   record IsBoundedDispatch (device : DeviceId) (link : LinkId) (cause : ℕ) (vl : VlId) (cycle : ℕ) : Type 0 where
@@ -131,8 +130,8 @@ module _ (s : Scenario) (t r : ℕ) (ms more : List Happening) (recent : (x : Ha
       let in_ends = in_total ends s.network.link d.entry.link (in_at s.network.link d.entry.row.link.0 d.entry.link d.row.link) in
       let of_vl = slice_get_within s.network.vl d.entry.row.vl.0 d.entry.vl d.row.vl in
       record {
-        device_below = omega (arith, at_end, in_ends);
-        link_below = omega (arith, there, ap (λ (l : LinkId). l.0) d.by);
+        device_below = omega arith;
+        link_below = omega (arith, ap (λ (l : LinkId). l.0) d.by);
         cause_below =
             elim d.at_hand [
               | inl own ↦ omega (arith, own.1)
@@ -141,26 +140,27 @@ module _ (s : Scenario) (t r : ℕ) (ms more : List Happening) (recent : (x : Ha
                     | inl none ↦ absurd cc
                     | inr i ↦
                         (let here = subst (IsIn has.1.taken) earlier_kept (in_filter _ (earlier t (ms ++ more)) has.1.taken i) in
-                        let heavy = in_total (weight s) ms has.1.taken (in_filter (λ (g : Happening). nat_lt (time_of g) t) ms has.1.taken here) in
-                        omega (arith, heavy, has.1.number))
+                        let heavy = in_total (weight s) ms has.1.taken
+                        (in_filter (λ g. nat_lt (time_of g) t) ms has.1.taken here) in
+                        omega (arith, has.1.number))
                   ]
             ];
-        vl_below = omega (arith, of_vl, ap (λ (v : VlId). v.0) d.of_vl);
-        cycle_below = cycle_below device cycle (amount d.entry.row.offset) some (omega (arith, at_end, in_ends)) d.reached;
+        vl_below = omega (arith, ap (λ (v : VlId). v.0) d.of_vl);
+        cycle_below = cycle_below device cycle (amount d.entry.row.offset) some (omega arith) d.reached;
       }
 
   lost : (device : DeviceId) (link : LinkId) (cause : ℕ) → r ≡ 9 → 1 ≤ amount s.network.cycle → IsLost s (ms ++ more) device t link cause
       → IsSized 3 limit (device.0 ∷ link.0 ∷ cause ∷ [])
   unfolding bound
-  lost device link cause nine some (inl d) = left device link cause _ (omega (arith, nine)) d
+  lost device link cause nine some (inl d) = left device link cause _ (omega arith) d
   lost device link cause nine some (inr (inl d)) =
       let x = dispatched device link cause d.0 d.1 some d.2 in (x.device_below, (x.link_below, (x.cause_below, tt)))
   lost device link cause nine some (inr (inr c)) =
-      let old = old_cause cause c.event c.is.there (λ e. let one = ap rank c.sends in omega (arith, e, nine, one)) in
+      let old = old_cause cause c.event c.is.there (λ e. let one = ap rank c.sends in omega arith) in
       let there = slice_get_within s.network.link link.0 c.way c.there in
       let in_ends = in_total ends s.network.link c.way (in_at s.network.link link.0 c.way c.there) in
       let at_end = source_end Up c.way device (sym c.by) in
-      (omega (arith, at_end, in_ends), (omega (arith, there), (omega (arith, old.1), tt)))
+      (omega arith, (omega arith, (omega (arith, old.1), tt)))
 
   permanent : (device : DeviceId) (link : LinkId) (cause : ℕ) (point : Units) (is : Ripe) → (r ≡ 2 → ⊥)
       → BecomesPermanent s (ms ++ more) device t link cause point is
@@ -174,59 +174,60 @@ module _ (s : Scenario) (t r : ℕ) (ms more : List Happening) (recent : (x : Ha
       let of_link = ap link_in p.arrived in
       let of_point = ap (point_in s p.arrival) p.arrived in
       let at = ap unsigned_abs p.at_point in
-      let frame = ap (λ (o : Option Happening). option_map_or (λ f. f.members.0) (option_and_then (λ h. h.frame) o) 0) p.there in (
-        omega (arith, heavy, of_device),
-        (omega (arith, heavy, of_point, at), (omega (arith, heavy, frame), (omega (arith, heavy, of_link), (omega (arith, old.1), tt)))),
+      let frame = ap (λ o. option_map_or (λ f. f.members.0) (option_and_then (λ h. h.frame) o) 0) p.there in (
+        omega arith,
+        (omega arith, (omega arith, (omega arith, (omega (arith, old.1), tt)))),
       )
 
   dropped : (device : DeviceId) (link : LinkId) (cause : ℕ) (reason : Reason) → r ≡ 13 → IsDropped s (ms ++ more) device t link cause reason
       → IsSized 3 limit (device.0 ∷ link.0 ∷ cause ∷ [])
   dropped device link cause reason at (inl a) =
-      arrives device link cause _ (λ e. omega (arith, e, at)) (λ e. omega (arith, e, at)) (λ e. omega (arith, e, at)) a
+      arrives device link cause _ (λ e. omega arith) (λ e. omega arith) (λ e. omega arith) a
   dropped device link cause reason at (inr (inl p)) =
-      let x = permanent device link cause p.0 _ (λ e. omega (arith, e, at)) p.1 in (x.0, (x.1.1.1.0, (x.1.1.1.1.0, tt)))
-  dropped device link cause reason at (inr (inr d)) = left device link cause _ (omega (arith, at)) d.0
+      let x = permanent device link cause p.0 _ (λ e. omega arith) p.1 in (x.0, (x.1.1.1.0, (x.1.1.1.1.0, tt)))
+  dropped device link cause reason at (inr (inr d)) = left device link cause _ (omega arith) d.0
 
   state : (device : DeviceId) (now : State) (cause : ℕ) (why : Why) → r ≡ 7 → ChangesState s (ms ++ more) device t now cause why
       → IsSized 2 limit (device.0 ∷ cause ∷ [])
   unfolding bound
   state device now cause whys.On at c =
-      let old = old_cause cause c.2.1 c.2.2.there (λ e. let one = ap rank c.2.3 in omega (arith, e, at, one)) in
+      let old = old_cause cause c.2.1 c.2.2.there (λ e. let one = ap rank c.2.3 in omega arith) in
       let heavy = in_total (weight s) ms c.2.1 old.0 in
       let of_device = ap device_in c.2.3 in
-      (omega (arith, heavy, of_device), (omega (arith, old.1), tt))
+      (omega arith, (omega (arith, old.1), tt))
   state device now cause whys.Frame at c =
       let early = joined_rank device c.1.0.note.body c.1.2 in
-      let old = old_cause cause c.1.0 c.1.1.there (λ e. omega (arith, e, at, early)) in
+      let old = old_cause cause c.1.0 c.1.1.there (λ e. omega arith) in
       let heavy = in_total (weight s) ms c.1.0 old.0 in
       let of_device = joined_device device c.1.0.note.body c.1.2 in
-      (omega (arith, heavy, of_device), (omega (arith, old.1), tt))
+      (omega arith, (omega (arith, old.1), tt))
   state device now cause whys.Correction at c =
-      let old = old_cause cause c.2.3 c.2.4.there (λ e. let six = ap rank c.2.5 in omega (arith, e, at, six)) in
+      let old = old_cause cause c.2.3 c.2.4.there (λ e. let six = ap rank c.2.5 in omega arith) in
       let heavy = in_total (weight s) ms c.2.3 old.0 in
       let of_device = ap device_in c.2.5 in
-      (omega (arith, heavy, of_device), (omega (arith, old.1), tt))
+      (omega arith, (omega (arith, old.1), tt))
   state device now cause whys.SyncClique at c = (device_known device c.2.0 c.2.1.next, (omega (arith, c.1), tt))
   state device now cause whys.AsyncClique at c = (device_known device c.2.0 c.2.1.next, (omega (arith, c.1), tt))
 
   -- the points that the records of the rank leave are those of the earlier records, or none
   same_points : r ≡ 4 → (device : DeviceId) → (points_of (ms ++ more) device ≡ points_of ms device) ⊎ (points_of (ms ++ more) device ≡ [])
-  same_points at device = by (parts_at_last (λ (h : Happening). ends_stretch device h.note.body) more)
+  same_points at device = by (parts_at_last (λ h. ends_stretch device h.note.body) more)
     where
       made : (hs : List Happening) → ((h : Happening) → IsIn h hs → IsIn h more) → filter_map (λ h. point_by device h h.note.body) hs ≡ []
-      made hs inside = makes_none (λ (h : Happening). point_by device h h.note.body) hs (λ h i. no_point device h h.note.body ((recent h (inside h i)).1 ∙ at))
+      made hs inside = makes_none (λ h. point_by device h h.note.body) hs
+          (λ h i. no_point device h h.note.body ((recent h (inside h i)).1 ∙ at))
 
-      by : PartsAtLast (λ (h : Happening). ends_stretch device h.note.body) more
+      by : PartsAtLast (λ h. ends_stretch device h.note.body) more
           → (points_of (ms ++ more) device ≡ points_of ms device) ⊎ (points_of (ms ++ more) device ≡ [])
       by (parts.none all) =
           let p = λ (h : Happening). ends_stretch device h.note.body in
           let f = λ (h : Happening). point_by device h h.note.body in
           inl (ap (filter_map f) (after_more more all (parts_at_last p ms)) ∙ filter_map-append f (after_last p ms) more
-          ∙ ap (λ (ps : List Point). points_of ms device ++ ps) (made more (λ h i. i)) ∙ append-nil (points_of ms device))
+          ∙ ap (λ ps. points_of ms device ++ ps) (made more (λ h i. i)) ∙ append-nil (points_of ms device))
       by (parts.some front rest last whole hit all) =
           let p = λ (h : Happening). ends_stretch device h.note.body in
           let f = λ (h : Happening). point_by device h h.note.body in
-          inr (ap (filter_map f) (ap (λ (hs : List Happening). after_last p (ms ++ hs)) whole
+          inr (ap (filter_map f) (ap (λ hs. after_last p (ms ++ hs)) whole
           ∙ ap (after_last p) (sym (append_assoc ms front (last ∷ rest)))
           ∙ after_last_at p (ms ++ front) last rest hit (not_each p rest all))
           ∙ made rest (λ h i. subst (IsIn h) (sym whole) (in_right h front (last ∷ rest) (inr i))))
@@ -238,15 +239,15 @@ module _ (s : Scenario) (t r : ℕ) (ms more : List Happening) (recent : (x : Ha
       let there = device_there s.network is_cm_role device c.cm in
       let all = one_list_of_clusters (observation_window s.network) (points_of ms device) in
       let w = λ (x : Cluster). sent_in (compressed (observation_window s.network) (pos (amount s.network.calc)) x) in (
-        omega (arith, there),
+        omega arith,
         elim (same_points at device) [
           | inr none ↦ absurd (no_cluster (observation_window s.network) c.clusters c.cluster
-              (subst (λ ps. AreClusters (observation_window s.network) ps c.clusters) none c.are) c.there)
+              (rw none at c.are) c.there)
           | inl same ↦
-              (let one = all.2 c.clusters (subst (λ ps. AreClusters (observation_window s.network) ps c.clusters) same c.are) in
+              (let one = all.2 c.clusters (rw same at c.are) in
               let heavy = in_total w all.0 c.cluster (subst (IsIn c.cluster) one (contained c.clusters c.cluster c.there)) in
-              let within = in_sum (clusters_at s ms) (devices_below s.network) device.0 (omega (arith, there)) in
-              omega (arith, heavy, within, ap sent_in c.is))
+              let within = in_sum (clusters_at s ms) (devices_below s.network) device.0 (omega arith) in
+              omega (arith, ap sent_in c.is))
         ],
       )
 
@@ -259,15 +260,15 @@ module _ (s : Scenario) (t r : ℕ) (ms more : List Happening) (recent : (x : Ha
       let heavy = x.1 in
       let a = signs opened.0 in
       let b = signs at.0 in
-      (x.0, (omega (arith, heavy), (omega (arith, heavy), (omega (arith, heavy), (omega (arith, heavy), (omega (arith, a), (omega (arith, b), tt)))))))
+      (x.0, (omega arith, (omega arith, (omega arith, (omega arith, (omega arith, (omega arith, tt)))))))
 
   arrived : (device : DeviceId) (link : LinkId) (cause clock : ℕ) → r ≡ 2 → IsArrivedRecord s (ms ++ more) device t link cause clock
       → IsSized 3 limit (device.0 ∷ link.0 ∷ cause ∷ [])
   arrived device link cause clock at c =
       elim c.taken [
-        | inl x ↦ arrives device link cause _ (λ e. omega (arith, e, at)) (λ e. omega (arith, e, at)) (λ e. omega (arith, e, at)) x
-        | inr (inl x) ↦ arrives device link cause _ (λ e. omega (arith, e, at)) (λ e. omega (arith, e, at)) (λ e. omega (arith, e, at)) x
-        | inr (inr x) ↦ arrives device link cause _ (λ e. omega (arith, e, at)) (λ e. omega (arith, e, at)) (λ e. omega (arith, e, at)) x
+        | inl x ↦ arrives device link cause _ (λ e. omega arith) (λ e. omega arith) (λ e. omega arith) x
+        | inr (inl x) ↦ arrives device link cause _ (λ e. omega arith) (λ e. omega arith) (λ e. omega arith) x
+        | inr (inr x) ↦ arrives device link cause _ (λ e. omega arith) (λ e. omega arith) (λ e. omega arith) x
       ]
 
   -- each record that is due
@@ -276,34 +277,34 @@ module _ (s : Scenario) (t r : ℕ) (ms more : List Happening) (recent : (x : Ha
       → IsCaused s (ms ++ more) time body → IsSized (size_of (rank body)) limit (key members body)
   fits time (notes.Event line what) members some at of shows c = (event time line what c, tt)
   fits time (notes.Arrived device link cause clock) members some at of shows c =
-      arrived device link cause clock (sym of) (subst (λ u. IsArrivedRecord s (ms ++ more) device u link cause clock) at c)
+      arrived device link cause clock (sym of) (rw at at c)
   fits time (notes.Permanent device link cause point verdict) members some at of shows c =
-      let there = subst (λ u. BecomesPermanent s (ms ++ more) device u link cause point (ripe_as verdict)) at c in
-      let x = permanent device link cause point _ (λ e. omega (arith, e, of)) there in
-      (x.0, (x.1.0, (subst (λ n. n < limit) (sym shows) x.1.1.0, x.1.1.1)))
+      let there = rw at at c in
+      let x = permanent device link cause point _ (λ e. omega arith) there in
+      (x.0, (x.1.0, (rw shows x.1.1.0, x.1.1.1)))
   fits time (notes.Compressed device opened emitted cycle members_of verdict) members some at of shows c =
       compressed_sized device opened emitted cycle members_of verdict (sym of)
-      (subst (λ (u : ℕ). Emits s (ms ++ more) device u (record { opened = opened; at = emitted; cycle = cycle; members = members_of }) verdict) at c)
-  fits time (notes.Sent device cycle) members some at of shows c = sent device cycle some (subst (λ u. Sends s (ms ++ more) device u cycle) at c)
+      (rw at at c)
+  fits time (notes.Sent device cycle) members some at of shows c = sent device cycle some (rw at at c)
   fits time (notes.Corrected device cycle by adjustment) members some at of shows c =
-      (device_known device cycle (subst (λ u. ComesToCorrection s (ms ++ more) device u cycle (Corrected by)) at c.corrected).next, tt)
+      (device_known device cycle (rw at at c.corrected).next, tt)
   fits time (notes.State device now cause why) members some at of shows c =
-      state device now cause why (sym of) (subst (λ u. ChangesState s (ms ++ more) device u now cause why) at c)
+      state device now cause why (sym of) (rw at at c)
   fits time (notes.Left device link cause clock) members some at of shows c =
-      left device link cause _ (omega (arith, of)) (subst (λ u. Departs s (ms ++ more) device u link cause (leaves clock)) at c)
+      left device link cause _ (omega arith) (rw at at c)
   fits time (notes.Lost device link cause) members some at of shows c =
-      lost device link cause (sym of) some (subst (λ u. IsLost s (ms ++ more) device u link cause) at c)
+      lost device link cause (sym of) some (rw at at c)
   fits time (notes.TtSent device link cause vl cycle) members some at of shows c =
-      let x = dispatched device link cause vl cycle some (subst (λ u. IsDispatchedOn s (ms ++ more) device u link cause vl cycle) at c).dispatches in
+      let x = dispatched device link cause vl cycle some (rw at at c).dispatches in
       (x.device_below, (x.link_below, (x.cause_below, (x.vl_below, (x.cycle_below, tt)))))
   fits time (notes.Accepted device link cause vl cycle) members some at of shows c =
-      arrives device link cause _ (λ e. omega (arith, e, of)) (λ e. omega (arith, e, of)) (λ e. omega (arith, e, of))
-      (subst (λ u. ArrivesAs s (ms ++ more) device u link cause (arrivals.Accepted vl cycle)) at c)
+      arrives device link cause _ (λ e. omega arith) (λ e. omega arith) (λ e. omega arith)
+      (rw at at c)
   fits time (notes.Delivered device link cause vl cycle) members some at of shows c =
-      arrives device link cause _ (λ e. omega (arith, e, of)) (λ e. omega (arith, e, of)) (λ e. omega (arith, e, of))
-      (subst (λ u. ArrivesAs s (ms ++ more) device u link cause (arrivals.Delivered vl cycle)) at c)
+      arrives device link cause _ (λ e. omega arith) (λ e. omega arith) (λ e. omega arith)
+      (rw at at c)
   fits time (notes.Dropped device link cause reason) members some at of shows c =
-      dropped device link cause reason (sym of) (subst (λ u. IsDropped s (ms ++ more) device u link cause reason) at c)
+      dropped device link cause reason (sym of) (rw at at c)
   fits time (notes.Clock device reading adjustment now) members some at of shows c = (clock time device reading adjustment now c, tt)
 
 -- the cycle of a frame that is dispatched is below the bound of the records
@@ -312,4 +313,4 @@ pub cycle_of_dispatch : {s : Scenario} {t : ℕ} {hs : List Happening} {device :
     → cycle < bound s t hs
 cycle_of_dispatch {s} {t} {hs} {device} {link} {cause} {vl} {cycle} some d =
     (dispatched s t 0 hs [] (λ x i. absurd i) device link cause vl cycle some
-    (subst (λ gs. Dispatches s gs device t link cause vl cycle) (sym (append-nil hs)) d)).cycle_below
+    (rw (append-nil hs) d)).cycle_below

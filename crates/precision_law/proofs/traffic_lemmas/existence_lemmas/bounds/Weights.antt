@@ -27,24 +27,24 @@ sum_to f (suc n) = f n + sum_to f n
 
 pub in_sum : (f : ℕ → ℕ) (n i : ℕ) → i < n → f i ≤ sum_to f n
 unfolding sum_to
-in_sum f zero i lt = absurd (omega (arith, lt))
+in_sum f zero i lt = absurd (omega arith)
 in_sum f (suc n) i lt =
     elim (cases i n) [
       | inl e ↦ omega (arith, ap f e)
-      | inr ne ↦ omega (arith, in_sum f n i (omega (arith, lt, ne)))
+      | inr ne ↦ omega (arith, in_sum f n i (omega arith))
     ]
   where
     cases : (a b : ℕ) → (a ≡ b) ⊎ (a < b ⊎ (b < a))
     cases a b = grind arith
 
 pub reach_most : (n m : ℕ) (a : ℤ) → (pos n -ℤ a) ≤ℤ pos m → n ≤ unsigned_abs (pos m +ℤ a)
-reach_most n m a le = amount_least n (pos m +ℤ a) (omega (arith, ints, le))
+reach_most n m a le = amount_least n (pos m +ℤ a) (omega (arith, ints))
 
 -- ---- causes
 
 part : {X : Type 0} (ms more : List X) (n : ℕ) (x : X) → slice_get (ms ++ more) n ≡ Some x → (IsIn x ms × (n < length ms)) ⊎ IsIn x more
 part [] more n x e = inr (in_at more n x e)
-part (m ∷ ms) more zero x e = (let same : x ≡ m = cc in inl (inl same, omega arith))
+part (m ∷ ms) more zero x e = (inl (inl cc, omega arith))
 part (m ∷ ms) more (suc n) x e = grind (arith, (part ms more n x e))
 
 pub numbered_part : (ms more : List Happening) (n : ℕ) (h : Happening) → numbered (ms ++ more) n ≡ Some h → (IsIn h ms × (n < length ms + 1)) ⊎ IsIn h more

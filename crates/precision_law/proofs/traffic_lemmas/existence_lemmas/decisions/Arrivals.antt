@@ -6,7 +6,7 @@ use Rattle.precision_law.proofs.traffic_lemmas.existence_lemmas.decisions.Places
 use Rattle.{run_law.{proofs.runs.SameSteps.same_arrival, specs.{records.Ranks.{key, rank}, scenario.Scenarios.Scenario}}, tte_units.specs.Amount.units_of}
 use Rattle.run_law.{proofs.scenario.Decisions.{IsDecided, decided_and, decided_by, decided_same}, specs.control.Wires.{Arrives, Launch, launched, time_on_port}}
 use Rattle.run_law.specs.{records.Happenings.{Happening, numbered, time_of}, runs.DueRecords.{IsArrivedRecord, IsCaused}, scenario.Ways.{delay_at, receiver_of}}
-use Rattle.{std.proofs.Common.{◌+◌, ◌∙◌, ◌≡◌, List, Some, ap, arith, inl, inr, refl, subst, sym, ℕ}, tte_units.proofs.general_lemmas.Options.{one as same_some}}
+use Rattle.{std.proofs.Common.{◌+◌, ◌∙◌, ◌≡◌, List, Some, ap, arith, inl, inr, refl, sym, ℕ}, tte_units.proofs.general_lemmas.Options.{one as same_some}}
 use Rattle.run_law.specs.declared.note.NoteBody.TheVariants as notes
 use Rattle.run_law.specs.declared.steps.Arrival.TheVariants as arrivals
 
@@ -33,7 +33,7 @@ module _ (s : Scenario) (hs : List Happening) (device : DeviceId) (t : ℕ) (lin
       signal = l.signal;
       arrives = record {
         way = l.way;
-        put = put ∙ ap (λ (x : LinkId). Some (let y : Launch = record { link = x; way = l.way; signal = l.signal } in y)) h.0;
+        put = put ∙ ap (λ x. Some (let y : Launch = record { link = x; way = l.way; signal = l.signal } in y)) h.0;
         receiver = h.1.0;
         at = h.1.1;
       };
@@ -42,17 +42,17 @@ module _ (s : Scenario) (hs : List Happening) (device : DeviceId) (t : ℕ) (lin
   )
 
   put_by : (g : Happening) → numbered hs cause ≡ Some g → (h : HasArrival s hs device t link cause) → Arrives s g device link t h.1.signal
-  put_by g e h = subst (λ x. Arrives s x device link t h.1.signal) (same_some (numbered hs cause) h.1.putting g h.1.there e) h.1.arrives
+  put_by g e h = rw (same_some (numbered hs cause) h.1.putting g h.1.there e) at h.1.arrives
 
   there_launch : (g : Happening) → numbered hs cause ≡ Some g → (l : Launch) → launched s g (time_of g) g.note.body ≡ Some l
       → HasArrival s hs device t link cause → GoesThere s g device t link l
   there_launch g e l put h =
       let a = put_by g e h in
       let same = same_some (launched s g (time_of g) g.note.body) (record { link = link; way = a.way; signal = h.1.signal }) l a.put put in (
-        sym (ap (λ (x : Launch). x.link) same),
+        sym (ap (λ x. x.link) same),
         (
-          subst (λ (x : Launch). receiver_of s.network link x.way ≡ Some device) same a.receiver,
-          subst (λ (x : Launch). t ≡ time_of g + time_on_port s.network link x.signal + delay_at s link x.way (time_of g)) same a.at,
+          rw (sym same) a.receiver,
+          rw (sym same) a.at,
         ),
       )
 
@@ -105,7 +105,7 @@ arrived_decided s hs t ks =
   where
     says : (body : NoteBody) → IsCaused s hs (units_of t) body → rank body ≡ 2 → OfThree (HasArrived s hs t) (key (members_by s hs body) body)
     says (notes.Arrived device link cause clock) is ranked = (clock, is)
-    says other is ranked = absurd (omega (arith, ranked))
+    says other is ranked = absurd (omega arith)
 
 -- ---- a switch takes a time-triggered frame
 
@@ -127,7 +127,7 @@ accepted_decided s hs t ks =
   where
     says : (body : NoteBody) → IsCaused s hs (units_of t) body → rank body ≡ 11 → OfThree (HasAccepted s hs t) (key (members_by s hs body) body)
     says (notes.Accepted device link cause vl cycle) is ranked = (vl, cycle, is)
-    says other is ranked = absurd (omega (arith, ranked))
+    says other is ranked = absurd (omega arith)
 
 -- ---- an end system takes one
 
@@ -149,4 +149,4 @@ delivered_decided s hs t ks =
   where
     says : (body : NoteBody) → IsCaused s hs (units_of t) body → rank body ≡ 12 → OfThree (HasDelivered s hs t) (key (members_by s hs body) body)
     says (notes.Delivered device link cause vl cycle) is ranked = (vl, cycle, is)
-    says other is ranked = absurd (omega (arith, ranked))
+    says other is ranked = absurd (omega arith)

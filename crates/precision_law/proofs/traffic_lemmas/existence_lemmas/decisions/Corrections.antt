@@ -7,7 +7,7 @@ use Rattle.{run_law.proofs.scenario.Decisions.{IsDecided, decided_and, decided_b
 use Rattle.run_law.specs.{control.Corrections.{ComesToCorrection, correction_value, heard_since, standing_before}, scenario.Scenarios.{Scenario, is_broken}}
 use Rattle.{run_law.specs.{device.LocalClocks.Reaches, records.Ranks.{key, rank}}, sync_state.{proofs.LawLemmas.one_verdict, specs.Verdicts.HasVerdict}}
 use Rattle.{run_law.specs.records.Happenings.Happening, sync_state.specs.membership.Summary.Summary, tte_units.specs.declared.units.Units.Units}
-use Rattle.{run_law.specs.runs.DueRecords.{IsCaused, IsCorrectedRecord}, std.proofs.Common.{◌+ℤ◌, ◌≡◌, List, Some, arith, false, inl, inr, refl, subst, ℕ}}
+use Rattle.{run_law.specs.runs.DueRecords.{IsCaused, IsCorrectedRecord}, std.proofs.Common.{◌+ℤ◌, ◌≡◌, List, Some, arith, false, inl, inr, refl, ℕ}}
 use Rattle.sync_state.specs.{Standing.{Standing, next_point}, declared.answers.Verdict.{TheVariants.{AsyncClique, Cleared, Corrected, SyncClique}, Verdict}}
 use Rattle.run_law.specs.declared.note.NoteBody.TheVariants as notes
 
@@ -47,7 +47,7 @@ module _ (s : Scenario) (hs : List Happening) (device : DeviceId) (t : ℕ) wher
   back cycle e h =
       let c = h.2 in
       let one = same_some (next_point (standing_before s hs device t)) h.0 cycle c.next e in
-      (subst (λ n. Reaches s hs device (correction_value s.network n) t) one c.reached, c.correct)
+      (rw one at c.reached, c.correct)
 
   pub point_decided : IsDecided (HasPoint s hs device t)
   point_decided =
@@ -60,7 +60,7 @@ module _ (s : Scenario) (hs : List Happening) (device : DeviceId) (t : ℕ) wher
   one_outcome n m v w a b =
       let heard = one_summary (heard_since s hs device t) b.summary a.summary b.heard a.heard in
       one_verdict (standing_before s hs device t) a.summary v w a.comes
-      (subst (λ u. HasVerdict (standing_before s hs device t) u w) heard b.comes)
+      (rw heard at b.comes)
 
 -- ---- a correction
 
@@ -82,4 +82,4 @@ corrected_decided s hs t ks =
   where
     says : (body : NoteBody) → IsCaused s hs (units_of t) body → rank body ≡ 6 → OfOne (HasCorrection s hs t) (key (members_by s hs body) body)
     says (notes.Corrected device cycle by adjustment) is ranked = (cycle, by, adjustment, is)
-    says other is ranked = absurd (omega (arith, ranked))
+    says other is ranked = absurd (omega arith)

@@ -3,8 +3,8 @@ use Rattle.{net_plan.specs.{Places.link_at, Rules.IsChildOf}, run_law.specs.runs
 use Rattle.{net_plan.specs.declared.ids.{DeviceId.DeviceId, LinkId.LinkId}, run_law.specs.{declared.note.NoteBody.NoteBody, scenario.Ways.{hold_at, way_from}}}
 use Rattle.{net_plan.specs.declared.network.Network.Network, precision_law.proofs.traffic_lemmas.existence_lemmas.decisions.Values.{decided_in, decided_within}}
 use Rattle.precision_law.proofs.traffic_lemmas.existence_lemmas.decisions.Places.{HasCaused, OfThree, by_three, caused, members_by}
-use Rattle.{run_law.{proofs.runs.SameSteps.same_departure, specs.scenario.Devices.IsParentOf}, tte_units.specs.{Amount.units_of, declared.frames.pcf.Pcf.Pcf}}
-use Rattle.{run_law.proofs.scenario.Conditions.same_device, std.proofs.Common.{◌+◌, ◌∙◌, ◌≡◌, List, Some, ap, arith, false, inl, inr, refl, subst, sym, ℕ}}
+use Rattle.{run_law.{specs.scenario.Devices.IsParentOf}, tte_units.specs.{Amount.units_of, declared.frames.pcf.Pcf.Pcf}}
+use Rattle.{run_law.proofs.scenario.Conditions.same_device, std.proofs.Common.{◌+◌, ◌≡◌, List, Some, arith, false, inl, inr, refl, sym, ℕ}}
 use Rattle.run_law.proofs.scenario.Decisions.{IsDecided, decided_and, decided_by, decided_false, decided_or, decided_same, decided_some, decided_true}
 use Rattle.run_law.specs.{control.Leaving.{Departs, Departure, Gives, Passes, departure, leaves, on_cut_way, too_old}, scenario.Scenarios.{Scenario, is_broken}}
 use Rattle.{run_law.specs.records.{Happenings.{Happening, numbered, time_of}, Ranks.{key, rank}}, tte_units.proofs.general_lemmas.Options.{one as same_some}}
@@ -59,11 +59,10 @@ module _ (s : Scenario) (hs : List Happening) (device : DeviceId) (t : ℕ) (lin
 
   back : (g : Happening) → numbered hs cause ≡ Some g → HasDeparture s hs device t link cause → LeavesThen s g device t link
   back g e h =
-      subst (λ x. LeavesThen s x device t link) (same_some (numbered hs cause) h.1.giving g h.1.there e)
-      (h.1.gives, (h.1.held, h.1.correct))
+      rw (sym (same_some (numbered hs cause) h.1.giving g h.1.there e)) (h.1.gives, (h.1.held, h.1.correct))
 
   framed : (g : Happening) → numbered hs cause ≡ Some g → HasDeparture s hs device t link cause → (frame : Pcf) × (g.frame ≡ Some frame)
-  framed g e h = (h.1.frame, ap (λ (x : Happening). x.frame) (sym (same_some (numbered hs cause) h.1.giving g h.1.there e)) ∙ h.1.of_frame)
+  framed g e h = (h.1.frame, rw (sym (same_some (numbered hs cause) h.1.giving g h.1.there e)) h.1.of_frame)
 
   pub departs : IsDecided (HasDeparture s hs device t link cause)
   departs =
@@ -81,7 +80,7 @@ left_by : {s : Scenario} {hs : List Happening} {t : ℕ} (d l : ℕ) {cause : �
     → Departs s hs (record { 0 = d }) t (record { 0 = l }) cause is → IsDecided (HasLeft s hs t d l cause)
 left_by d l (leaves clock) a = inl (clock, a)
 left_by {s} {hs} {t} d l {cause} other a =
-    inr (λ h. let one = same_departure s hs t (record { 0 = d }) (record { 0 = l }) cause a h.1 in cc)
+    inr (λ h. cc)
 
 pub left_decided : (s : Scenario) (hs : List Happening) (t : ℕ) (ks : List ℕ) → IsDecided (HasCaused s hs t 8 ks)
 left_decided s hs t ks =
@@ -92,7 +91,7 @@ left_decided s hs t ks =
   where
     says : (body : NoteBody) → IsCaused s hs (units_of t) body → rank body ≡ 8 → OfThree (HasLeft s hs t) (key (members_by s hs body) body)
     says (notes.Left device link cause clock) is ranked = (clock, is)
-    says other is ranked = absurd (omega (arith, ranked))
+    says other is ranked = absurd (omega arith)
 
 -- ---- a frame ends at its leaving
 
@@ -103,8 +102,8 @@ module _ (s : Scenario) (hs : List Happening) (device : DeviceId) (t : ℕ) (lin
     where
       by : (is : Departure) → Departs s hs device t link cause is → IsDecided (Departs s hs device t link cause too_old)
       by too_old a = inl a
-      by (leaves clock) a = inr (λ d. let one = same_departure s hs t device link cause a d in cc)
-      by on_cut_way a = inr (λ d. let one = same_departure s hs t device link cause a d in cc)
+      by (leaves clock) a = inr (λ d. cc)
+      by on_cut_way a = inr (λ d. cc)
 
   pub cut_decided : IsDecided (Departs s hs device t link cause on_cut_way)
   cut_decided =
@@ -113,5 +112,5 @@ module _ (s : Scenario) (hs : List Happening) (device : DeviceId) (t : ℕ) (lin
       by : (is : Departure) → Departs s hs device t link cause is → IsDecided
           (Departs s hs device t link cause on_cut_way)
       by on_cut_way a = inl a
-      by (leaves clock) a = inr (λ d. let one = same_departure s hs t device link cause a d in cc)
-      by too_old a = inr (λ d. let one = same_departure s hs t device link cause a d in cc)
+      by (leaves clock) a = inr (λ d. cc)
+      by too_old a = inr (λ d. cc)

@@ -33,7 +33,7 @@ sent_decided s hs t ks =
   where
     says : (body : NoteBody) → IsCaused s hs (units_of t) body → rank body ≡ 5 → OfTwo (HasSent s hs t) (key (members_by s hs body) body)
     says (notes.Sent device cycle) is ranked = is
-    says other is ranked = absurd (omega (arith, ranked))
+    says other is ranked = absurd (omega arith)
 
 -- ---- what a device has at hand
 
@@ -41,22 +41,23 @@ accepts : (device : DeviceId) (vl : VlId) (cycle : ℕ) (body : NoteBody)
     → IsDecided ((link : LinkId) × (from : ℕ) × (body ≡ notes.Accepted device link from vl cycle))
 accepts device vl cycle (notes.Accepted other link from of_vl number) =
     decided_by
-    (λ (h : (other ≡ device) × ((of_vl ≡ vl) × (number ≡ cycle))). (
+    (λ h. (
       link,
       from,
-      ap (λ (d : DeviceId). notes.Accepted d link from of_vl number) h.0
-          ∙ ap (λ (v : VlId). notes.Accepted device link from v number) h.1.0
-          ∙ ap (λ (n : ℕ). notes.Accepted device link from vl n) h.1.1,
+      rw h.0
+          (ap (λ v. notes.Accepted device link from v number) h.1.0
+          ∙ ap (λ n. notes.Accepted device link from vl n) h.1.1),
     ))
-    (λ h. let is = h.2 in (cc, (cc, cc))) (decided_and (same_device other device) (decided_and (same_vl of_vl vl) (decided_same number cycle)))
-accepts device vl cycle other = inr (λ h. let is = h.2 in cc)
+    (λ h. (cc, (cc, cc))) (decided_and (same_device other device)
+    (decided_and (same_vl of_vl vl) (decided_same number cycle)))
+accepts device vl cycle other = inr (λ h. cc)
 
 has_accepted : (hs : List Happening) (device : DeviceId) (vl : VlId) (t cause cycle : ℕ) → IsDecided (HasAccepted hs device vl t cause cycle)
 has_accepted hs device vl t cause cycle =
     decided_in (last_accepted hs device vl t) (λ taken e. decided_by
     (λ h. record { taken = taken; last = e; number = h.0; link = h.1.0; from = h.1.1; is = h.1.2 })
     (λ r. let one = same_some (last_accepted hs device vl t) r.taken taken r.last e in
-    (r.number ∙ ap (λ (h : Happening). h.note.number) one, (r.link, r.from, ap (λ (h : Happening). h.note.body) (sym one) ∙ r.is)))
+    (r.number ∙ ap (λ h. h.note.number) one, (r.link, r.from, rw (sym one) r.is)))
     (decided_and (decided_same cause taken.note.number) (accepts device vl cycle taken.note.body))) (λ r. (r.taken, r.last))
 
 at_hand : (s : Scenario) (hs : List Happening) (device : DeviceId) (entry : Entry) (t cause cycle : ℕ)
@@ -99,8 +100,8 @@ module _ (s : Scenario) (hs : List Happening) (device : DeviceId) (t : ℕ) (lin
       (λ row e. decided_in (slice_get s.network.vl row.vl.0)
       (λ v f. decided_in (slice_get s.network.link row.link.0)
       (λ l g. of_entry row e v f l g)
-      (λ h. (h.0.link, subst (λ (x : Row). slice_get s.network.link x.link.0 ≡ Some h.0.link) (row_is place row e h) h.1.link)))
-      (λ h. (h.0.vl, subst (λ (x : Row). slice_get s.network.vl x.vl.0 ≡ Some h.0.vl) (row_is place row e h) h.1.vl)))
+      (λ h. (h.0.link, rw (row_is place row e h) at h.1.link)))
+      (λ h. (h.0.vl, rw (row_is place row e h) at h.1.vl)))
       (λ h. (h.0.row, h.1.row))
     where
       of_entry : (row : Row) → slice_get s.network.row place ≡ Some row → (v : VirtualLink) → slice_get s.network.vl row.vl.0 ≡ Some v
@@ -108,7 +109,8 @@ module _ (s : Scenario) (hs : List Happening) (device : DeviceId) (t : ℕ) (lin
       of_entry row e v f l g =
           let entry : Entry = record { row = row; vl = v; link = l } in
           let is : IsEntry s.network place entry = record { row = e; vl = f; link = g } in
-          decided_by (λ (c : IsDispatched entry). (entry, is, c)) (λ h. subst IsDispatched (one_entry s.network place h.0 entry h.1 is) h.2) (dispatched entry)
+          decided_by (λ c. (entry, is, c)) (λ h. subst IsDispatched (one_entry s.network place h.0 entry h.1 is) h.2)
+          (dispatched entry)
 
   pub dispatches_decided : IsDecided (Dispatches s hs device t link cause vl cycle)
   dispatches_decided = decided_by there back (decided_below IsRowAt row_at (length s.network.row))
@@ -153,4 +155,4 @@ tt_sent_decided s hs t ks =
   where
     says : (body : NoteBody) → IsCaused s hs (units_of t) body → rank body ≡ 10 → OfFive (HasTtSent s hs t) (key (members_by s hs body) body)
     says (notes.TtSent device link cause vl cycle) is ranked = is
-    says other is ranked = absurd (omega (arith, ranked))
+    says other is ranked = absurd (omega arith)

@@ -68,7 +68,7 @@ emission s hs t device ks =
           e.cluster,
           at.1,
           at.2,
-          (subst (λ (c : Compressed). IsReach (s.reading device) (pos 0) c.at.0 (pos t)) e.is e.reached, ap numbers_of (sym e.is) ∙ h.3),
+          (rw e.is at e.reached, ap numbers_of (sym e.is) ∙ h.3),
         ) in
         let one = (one_list_of_clusters (observation_window s.network) (points_of hs device)).2 e.clusters e.are in
         (e.cm, (e.correct, subst (Any (IsOfCluster s t device ks)) one here))
@@ -85,13 +85,13 @@ compressed_decided s hs t = by_keys s hs t 4 (HasCompressed s hs t) made says de
     made [] h = absurd h
     made (d ∷ ks) h = (
       notes.Compressed (record { 0 = d }) h.0.opened h.0.at h.0.cycle h.0.members h.1,
-      record { caused = h.2; ranked = refl; keyed = ap (λ (l : List ℕ). d ∷ l) h.3 },
+      record { caused = h.2; ranked = refl; keyed = rw h.3 },
     )
 
     says : (body : NoteBody) → IsCaused s hs (units_of t) body → rank body ≡ 4 → HasCompressed s hs t (key (members_by s hs body) body)
     says (notes.Compressed device opened at cycle members verdict) is ranked =
         (record { opened = opened; at = at; cycle = cycle; members = members }, verdict, is, refl)
-    says other is ranked = absurd (omega (arith, ranked))
+    says other is ranked = absurd (omega arith)
 
     decide : (ks : List ℕ) → IsDecided (HasCompressed s hs t ks)
     decide [] = inr (λ h. h)

@@ -10,7 +10,7 @@ use Rattle.run_law.{proofs.runs.SameSteps.same_arrival, specs.{declared.{note.No
 use Rattle.run_law.{proofs.scenario.Decisions.{IsDecided, decided_and, decided_by, decided_or, decided_true}, specs.declared.judgement.Reason.TheVariants.Old}
 use Rattle.{run_law.specs.control.Losses.{IsDropped, IsLost, IsSendLost}, tte_units.proofs.general_lemmas.Options.{one as same_some}}
 use Rattle.{run_law.specs.{records.Ranks.{key, rank}, runs.DueRecords.IsCaused, timed.Receptions.ArrivesAs}, tte_units.specs.Amount.{amount, units_of}}
-use Rattle.std.proofs.{Common.{◌<◌, ◌≡◌, ◌≤◌, ◌⊎◌, List, Some, ap, arith, inl, inr, length, refl, slice_get, subst, true, ℕ}, lemmas.Option.slice_get_within}
+use Rattle.std.proofs.{Common.{◌<◌, ◌≡◌, ◌≤◌, ◌⊎◌, List, Some, arith, inl, inr, length, refl, slice_get, true, ℕ}, lemmas.Option.slice_get_within}
 use Rattle.run_law.specs.declared.note.NoteBody.TheVariants as notes
 use Rattle.run_law.specs.declared.steps.Arrival.TheVariants as arrivals
 
@@ -22,8 +22,8 @@ SendsOn link body = (line : ℕ) × (octets : List ℕ) × (body ≡ notes.Event
 
 sends_on : (link : LinkId) (body : NoteBody) → IsDecided (SendsOn link body)
 sends_on link (notes.Event line (Send other octets)) =
-    decided_by (λ (e : other ≡ link). (line, octets, ap (λ (l : LinkId). notes.Event line (Send l octets)) e)) (λ h. let is = h.2 in cc) (same_link other link)
-sends_on link other = inr (λ h. let is = h.2 in cc)
+    decided_by (λ e. (line, octets, rw e)) (λ h. cc) (same_link other link)
+sends_on link other = inr (λ h. cc)
 
 module _ (s : Scenario) (hs : List Happening) (device : DeviceId) (t : ℕ) (link : LinkId) (cause : ℕ) where
   -- the device is the child of the link, whose way up is cut
@@ -32,8 +32,8 @@ module _ (s : Scenario) (hs : List Happening) (device : DeviceId) (t : ℕ) (lin
 
   cut_below : IsDecided IsCutBelow
   cut_below =
-      decided_in (slice_get s.network.link link.0) (λ way e. decided_by (λ (h : (device ≡ way.child) × (is_cut s link Up t ≡ true)). (way, e, h))
-      (λ h. subst (λ (x : Link). (device ≡ x.child) × (is_cut s link Up t ≡ true)) (same_some (slice_get s.network.link link.0) h.0 way h.1 e) h.2)
+      decided_in (slice_get s.network.link link.0) (λ way e. decided_by (λ h. (way, e, h))
+      (λ h. rw (same_some (slice_get s.network.link link.0) h.0 way h.1 e) at h.2)
       (decided_and (same_device device way.child) (decided_true (is_cut s link Up t)))) (λ h. (h.0, h.1))
 
   send_lost : IsDecided (IsSendLost s hs device t link cause)
@@ -62,7 +62,7 @@ module _ (s : Scenario) (hs : List Happening) (device : DeviceId) (t : ℕ) (lin
   IsDispatchedFor v = (cycle : ℕ) × (cycle < bound s t hs) × Dispatches s hs device t link cause (record { 0 = v }) cycle
 
   vl_within : (vl : VlId) (cycle : ℕ) → Dispatches s hs device t link cause vl cycle → vl.0 < length s.network.vl
-  vl_within vl cycle d = subst (λ (v : VlId). v.0 < length s.network.vl) d.of_vl (slice_get_within s.network.vl d.entry.row.vl.0 d.entry.vl d.row.vl)
+  vl_within vl cycle d = rw d.of_vl at (slice_get_within s.network.vl d.entry.row.vl.0 d.entry.vl d.row.vl)
 
   dispatched_for : (v : ℕ) → IsDecided (IsDispatchedFor v)
   dispatched_for v =
@@ -71,7 +71,7 @@ module _ (s : Scenario) (hs : List Happening) (device : DeviceId) (t : ℕ) (lin
 
   dispatch_decided : 1 ≤ amount s.network.cycle → IsDecided HasDispatch
   dispatch_decided some =
-      decided_by (λ (h : (v : ℕ) × (v < length s.network.vl) × IsDispatchedFor v). (record { 0 = h.0 }, h.2.0, h.2.2))
+      decided_by (λ h. (record { 0 = h.0 }, h.2.0, h.2.2))
       (λ h. (h.0.0, vl_within h.0 h.1 h.2, (h.1, cycle_of_dispatch some h.2, h.2)))
       (decided_below IsDispatchedFor dispatched_for (length s.network.vl))
 
@@ -94,7 +94,7 @@ lost_decided s some hs t ks =
   where
     says : (body : NoteBody) → IsCaused s hs (units_of t) body → rank body ≡ 9 → OfThree (HasLost s hs t) (key (members_by s hs body) body)
     says (notes.Lost device link cause) is ranked = is
-    says other is ranked = absurd (omega (arith, ranked))
+    says other is ranked = absurd (omega arith)
 
 -- ---- a frame is dropped
 
@@ -142,4 +142,4 @@ drop_decided s hs t ks =
   where
     says : (body : NoteBody) → IsCaused s hs (units_of t) body → rank body ≡ 13 → OfThree (HasDrop s hs t) (key (members_by s hs body) body)
     says (notes.Dropped device link cause reason) is ranked = (reason, is)
-    says other is ranked = absurd (omega (arith, ranked))
+    says other is ranked = absurd (omega arith)

@@ -1,5 +1,5 @@
 -- Decisions: whether the record of a frame that is permanent is due, and what becomes of the frame.
-use Rattle.{drift_clock.specs.Reach.IsReach, std.proofs.Common.{◌∙◌, ◌∷◌, ◌≡◌, List, Some, [], ap, arith, false, inl, inr, pos, refl, subst, sym, true, ℕ}}
+use Rattle.{drift_clock.specs.Reach.IsReach, std.proofs.Common.{◌∙◌, ◌∷◌, ◌≡◌, List, Some, [], ap, arith, false, inl, inr, pos, refl, sym, true, ℕ}}
 use Rattle.{drift_clock.specs.transparent.Points.point_of, net_plan.specs.declared.ids.DeviceId.DeviceId, run_law.specs.control.Collections.points_of}
 use Rattle.{net_plan.specs.declared.ids.LinkId.LinkId, tte_units.specs.{Amount.{amount, units_of}, declared.{frames.pcf.Pcf.Pcf, units.Units.Units}}}
 use Rattle.precision_law.proofs.traffic_lemmas.existence_lemmas.decisions.{Clocks.reach_decided, Places.{HasCaused, OfFive, by_five, members_by}}
@@ -29,13 +29,13 @@ record IsArrivalAt (device : DeviceId) (link : LinkId) (body : NoteBody) : Type 
 arrival_at : (device : DeviceId) (link : LinkId) (body : NoteBody) → IsDecided (IsArrivalAt device link body)
 arrival_at device link (notes.Arrived other by from clock) =
     decided_by
-    (λ (h : (other ≡ device) × (by ≡ link)). record {
+    (λ h. record {
       from = from;
       clock = clock;
-      is = ap (λ (d : DeviceId). notes.Arrived d by from clock) h.0 ∙ ap (λ (l : LinkId). notes.Arrived device l from clock) h.1;
+      is = rw h.0 (ap (λ l. notes.Arrived device l from clock) h.1);
     })
-    (λ r. let is = r.is in (cc, cc)) (decided_and (same_device other device) (same_link by link))
-arrival_at device link other = inr (λ r. let is = r.is in cc)
+    (λ r. (cc, cc)) (decided_and (same_device other device) (same_link by link))
+arrival_at device link other = inr (λ r. cc)
 
 point_from : Scenario → Happening → DeviceId → ℕ → Units
 point_from s g device clock = record { 0 = point_of (pos (s.reading device (time_of g))) clock s.network.dmax.0 }
@@ -81,10 +81,10 @@ module _ (s : Scenario) (hs : List Happening) (device : DeviceId) (t : ℕ) (lin
   arrives_there : (g : Happening) → numbered hs cause ≡ Some g → HasOutcome s hs device t link cause → IsArrivalAt device link g.note.body
   arrives_there g e h =
       let p = h.2.permanent in
-      record { from = p.from; clock = p.clock; is = ap (λ (x : Happening). x.note.body) (sym (found g e h)) ∙ p.arrived }
+      record { from = p.from; clock = p.clock; is = rw (sym (found g e h)) p.arrived }
 
   framed : (g : Happening) → numbered hs cause ≡ Some g → HasOutcome s hs device t link cause → (frame : Pcf) × (g.frame ≡ Some frame)
-  framed g e h = (h.2.frame, ap (λ (x : Happening). x.frame) (sym (found g e h)) ∙ h.2.permanent.of_frame)
+  framed g e h = (h.2.frame, rw (sym (found g e h)) h.2.permanent.of_frame)
 
   back : (g : Happening) → numbered hs cause ≡ Some g → (a : IsArrivalAt device link g.note.body) → HasOutcome s hs device t link cause
       → IsReady s g device t link a.clock
@@ -92,13 +92,13 @@ module _ (s : Scenario) (hs : List Happening) (device : DeviceId) (t : ℕ) (lin
   back g e a h =
       let p = h.2.permanent in
       let one = found g e h in
-      let bodies : notes.Arrived device link p.from p.clock ≡ notes.Arrived device link a.from a.clock =
-      sym p.arrived ∙ ap (λ (x : Happening). x.note.body) one ∙ a.is in
+      let bodies =
+      sym p.arrived ∙ ap (λ x. x.note.body) one ∙ a.is in
       let clocks : p.clock ≡ a.clock = cc in
-      let value : h.0.0 ≡ (point_from s g device a.clock).0 =
-      p.at_point ∙ ap (λ (x : Happening). (point_from s x device p.clock).0) one ∙ ap (λ (c : ℕ). (point_from s g device c).0) clocks in
-      let from = subst (λ x. IsReach (s.reading device) (pos (time_of x)) h.0.0 (pos t)) one p.reached in
-      (p.waits, (subst (λ v. IsReach (s.reading device) (pos (time_of g)) v (pos t)) value from, p.correct))
+      let value =
+      p.at_point ∙ ap (λ x. (point_from s x device p.clock).0) one ∙ ap (λ c. (point_from s g device c).0) clocks in
+      let from = rw one at p.reached in
+      (p.waits, (rw value at from, p.correct))
 
   is_ready : (g : Happening) (clock : ℕ) → IsDecided (IsReady s g device t link clock)
   is_ready g clock =
@@ -141,7 +141,7 @@ module _ (s : Scenario) (hs : List Happening) (t d p members l cause : ℕ) (r :
   AreShown = (amount r.0 ≡ p) × (members_from hs cause ≡ members)
 
   shown : (verdict : Judgement) → r.1 ≡ ripe_as verdict → AreShown → HasJudged s hs t d p members l cause
-  shown verdict is e = (r.0, verdict, subst (λ (x : Ripe). BecomesPermanent s hs (record { 0 = d }) t (record { 0 = l }) cause r.0 x) is r.2, e)
+  shown verdict is e = (r.0, verdict, rw is at r.2, e)
 
   are_shown : HasJudged s hs t d p members l cause → AreShown
   are_shown h =
@@ -165,13 +165,13 @@ permanent_decided s hs t ks =
       record {
         caused = h.2;
         ranked = refl;
-        keyed = ap (λ (n : ℕ). d ∷ n ∷ members_from hs cause ∷ l ∷ cause ∷ []) h.3.0 ∙ ap (λ (n : ℕ). d ∷ p ∷ n ∷ l ∷ cause ∷ []) h.3.1;
+        keyed = rw h.3.0 (ap (λ n. d ∷ p ∷ n ∷ l ∷ cause ∷ []) h.3.1);
       },
     )
 
     says : (body : NoteBody) → IsCaused s hs (units_of t) body → rank body ≡ 3 → OfFive (HasJudged s hs t) (key (members_by s hs body) body)
     says (notes.Permanent device link cause point verdict) is ranked = (point, verdict, is, (refl, refl))
-    says other is ranked = absurd (omega (arith, ranked))
+    says other is ranked = absurd (omega arith)
 
 -- ---- a frame is dropped when it is permanent
 

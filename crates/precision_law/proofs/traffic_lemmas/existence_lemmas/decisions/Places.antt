@@ -3,7 +3,7 @@ use Rattle.{precision_law.proofs.traffic_lemmas.existence_lemmas.{Sweep.HasDue, 
 use Rattle.run_law.{proofs.scenario.Decisions.{IsDecided, decided_and, decided_by, decided_same}, specs.declared.note.{Note.Note, NoteBody.NoteBody}}
 use Rattle.run_law.specs.records.{Causes.IsOfThisTime, Happenings.{Happening, frame_by, happening, numbered, time_of}, Ranks.{key, members_in, place_of, rank}}
 use Rattle.{run_law.specs.scenario.Scenarios.Scenario, tte_units.{proofs.Amounts.units_are, specs.Amount.units_of}}
-use Rattle.{std.proofs.Common.{◌+◌, ◌∙◌, ◌∷◌, ◌≡◌, List, Some, [], ap, arith, inr, length, refl, subst, sym, ℕ}, tte_units.proofs.general_lemmas.Options.one}
+use Rattle.{std.proofs.Common.{◌+◌, ◌∷◌, ◌≡◌, List, Some, [], ap, arith, inr, length, refl, subst, sym, ℕ}, tte_units.proofs.general_lemmas.Options.one}
 use Rattle.std.{proofs.lemmas.Int.ints, specs.Option.option_map_or}
 
 -- the members of the frame that a record of this body has, as a number
@@ -34,7 +34,7 @@ due_there {s} {hs} {t} {r} has =
     let note : Note = record { number = length hs + 1; time = units_of t; body = body } in (
       happening s.network hs note,
       record { number = refl; same = refl; begun = omega (arith, ints); cause = has.1.caused },
-      ap (λ (n : ℕ). t ∷ n ∷ key (members_by s hs body) body) has.1.ranked ∙ ap (λ (l : List ℕ). t ∷ r ∷ l) has.1.keyed,
+      rw has.1.ranked (ap (λ l. t ∷ r ∷ l) has.1.keyed),
     )
 
 pub place_parts : (a b x y : ℕ) (us vs : List ℕ) → a ∷ b ∷ us ≡ x ∷ y ∷ vs → (a ≡ x) × ((b ≡ y) × (us ≡ vs))
@@ -47,9 +47,9 @@ caused_there s hs t r ks has =
     let shows : members_in x ≡ members_by s hs x.note.body = ap members_in has.1.same in (
       x.note.body,
       record {
-        caused = subst (λ u. IsCaused s hs u x.note.body) (units_are x.note.time t has.1.begun at.0) has.1.cause;
+        caused = rw (units_are x.note.time t has.1.begun at.0) at has.1.cause;
         ranked = at.1.0;
-        keyed = ap (λ n. key n x.note.body) (sym shows) ∙ at.1.1;
+        keyed = rw (sym shows) at.1.1;
       },
     )
 
@@ -57,7 +57,7 @@ caused_there s hs t r ks has =
 pub due_decided : (s : Scenario) (hs : List Happening) (t r : ℕ) (ks : List ℕ) → IsDecided (HasCaused s hs t r ks)
     → IsDecided (HasDue place_of (IsDue s) hs (t ∷ r ∷ ks))
 due_decided s hs t r ks is =
-    decided_by (due_there {s = s} {hs = hs} {t = t} {r = r} {ks = ks}) (caused_there s hs t r ks) is
+    decided_by (due_there) (caused_there s hs t r ks) is
 
 -- ---- a rank, by what the keys of its records say
 
@@ -146,4 +146,4 @@ cause_decided hs t cause Q each =
     there g e h = (g, record { there = e; same_time = h.0 }, h.1)
 
     back : (g : Happening) → numbered hs cause ≡ Some g → (h : Happening) × IsOfThisTime hs t cause h × Q h → (time_of g ≡ t) × Q g
-    back g e h = subst (λ x. (time_of x ≡ t) × Q x) (one (numbered hs cause) h.0 g h.1.there e) (h.1.same_time, h.2)
+    back g e h = rw (sym (one (numbered hs cause) h.0 g h.1.there e)) (h.1.same_time, h.2)

@@ -27,7 +27,7 @@ module _ (s : Scenario) (hs : List Happening) (t : ℕ) (ks : List ℕ) where
   at_rank r k here from above =
       elim (cases_eq r k) [
         | inl same ↦ subst AtRank (sym same) here
-        | inr other ↦ above (omega (arith, from, other))
+        | inr other ↦ above (omega arith)
       ]
 
   no_rank : (r : ℕ) → (IsRank r → ⊥) → AtRank r
@@ -36,26 +36,26 @@ module _ (s : Scenario) (hs : List Happening) (t : ℕ) (ks : List ℕ) where
   by_rank : 1 ≤ amount s.network.cycle → (r : ℕ) → AtRank r
   by_rank some r =
       elim (cases_eq r 0) [
-        | inl zeroth ↦ no_rank r (λ is. let least = is.least in omega (arith, least, zeroth))
+        | inl zeroth ↦ no_rank r (λ is. let least = is.least in omega arith)
         | inr other ↦
-            at_rank r 1 (event_decided s hs t ks) (omega (arith, other))
-            (λ a. at_rank r 2 (arrived_decided s hs t ks) (omega (arith, a))
-            (λ b. at_rank r 3 (permanent_decided s hs t ks) (omega (arith, b))
-            (λ c. at_rank r 4 (compressed_decided s hs t ks) (omega (arith, c))
-            (λ d. at_rank r 5 (sent_decided s hs t ks) (omega (arith, d))
-            (λ e. at_rank r 6 (corrected_decided s hs t ks) (omega (arith, e))
-            (λ f. at_rank r 7 (state_decided s hs t ks) (omega (arith, f))
-            (λ g. at_rank r 8 (left_decided s hs t ks) (omega (arith, g))
-            (λ h. at_rank r 9 (lost_decided s some hs t ks) (omega (arith, h))
-            (λ i. at_rank r 10 (tt_sent_decided s hs t ks) (omega (arith, i))
-            (λ j. at_rank r 11 (accepted_decided s hs t ks) (omega (arith, j))
-            (λ k. at_rank r 12 (delivered_decided s hs t ks) (omega (arith, k))
-            (λ l. at_rank r 13 (drop_decided s hs t ks) (omega (arith, l))
-            (λ m. at_rank r 14 (clock_decided s hs t ks) (omega (arith, m))
-            (λ n. no_rank r (λ is. let below = is.below in omega (arith, below, n))))))))))))))))
+            at_rank r 1 (event_decided s hs t ks) (omega arith)
+            (λ a. at_rank r 2 (arrived_decided s hs t ks) (omega arith)
+            (λ b. at_rank r 3 (permanent_decided s hs t ks) (omega arith)
+            (λ c. at_rank r 4 (compressed_decided s hs t ks) (omega arith)
+            (λ d. at_rank r 5 (sent_decided s hs t ks) (omega arith)
+            (λ e. at_rank r 6 (corrected_decided s hs t ks) (omega arith)
+            (λ f. at_rank r 7 (state_decided s hs t ks) (omega arith)
+            (λ g. at_rank r 8 (left_decided s hs t ks) (omega arith)
+            (λ h. at_rank r 9 (lost_decided s some hs t ks) (omega arith)
+            (λ i. at_rank r 10 (tt_sent_decided s hs t ks) (omega arith)
+            (λ j. at_rank r 11 (accepted_decided s hs t ks) (omega arith)
+            (λ k. at_rank r 12 (delivered_decided s hs t ks) (omega arith)
+            (λ l. at_rank r 13 (drop_decided s hs t ks) (omega arith)
+            (λ m. at_rank r 14 (clock_decided s hs t ks) (omega arith)
+            (λ n. no_rank r (λ is. let below = is.below in omega arith)))))))))))))))
       ]
 
 pub place_decided : (s : Scenario) → 1 ≤ amount s.network.cycle → (hs : List Happening) (p : List ℕ) → IsDecided (HasDue place_of (IsDue s) hs p)
-place_decided s some hs [] = inr (λ has. let is = has.2 in cc)
-place_decided s some hs (t ∷ []) = inr (λ has. let is = has.2 in cc)
+place_decided s some hs [] = inr (λ has. cc)
+place_decided s some hs (t ∷ []) = inr (λ has. cc)
 place_decided s some hs (t ∷ r ∷ ks) = due_decided s hs t r ks (by_rank s hs t ks some r)

@@ -6,7 +6,7 @@ use Rattle.precision_law.proofs.traffic_lemmas.existence_lemmas.decisions.{Corre
 use Rattle.{run_law.{proofs.scenario.Conditions.same_device, specs.device.StateChanges.ChangesState}, sync_state.specs.declared.answers.Verdict.Verdict}
 use Rattle.run_law.proofs.scenario.Decisions.{IsDecided, decided_and, decided_by, decided_false, decided_or, decided_same, decided_true}
 use Rattle.{run_law.specs.{declared.judgement.Why.Why, records.{Causes.IsOfThisTime, Happenings.Happening}}, tte_units.specs.declared.units.Units.Units}
-use Rattle.{run_law.specs.device.States.{is_joined_by, state_before}, std.proofs.Common.{◌≡◌, ◌⊎◌, List, ap, arith, false, inl, inr, refl, true, ℕ}}
+use Rattle.{run_law.specs.device.States.{is_joined_by, state_before}, std.proofs.Common.{◌≡◌, ◌⊎◌, List, arith, false, inl, inr, refl, true, ℕ}}
 use Rattle.{run_law.specs.{records.Ranks.{key, rank}, runs.DueRecords.IsCaused}, tte_units.specs.Amount.units_of}
 use Rattle.sync_state.specs.declared.{answers.Verdict.TheVariants.{AsyncClique, SyncClique}, state.State.TheVariants.{Integrating, Joining, Synchronised}}
 use Rattle.run_law.specs.declared.judgement.Why.TheVariants as whys
@@ -20,8 +20,8 @@ TurnsOn device h = (line : ℕ) × (h.note.body ≡ notes.Event line (On device)
 
 turns_on : (device : DeviceId) (body : NoteBody) → IsDecided ((line : ℕ) × (body ≡ notes.Event line (On device)))
 turns_on device (notes.Event line (On other)) =
-    decided_by (λ (e : other ≡ device). (line, ap (λ (d : DeviceId). notes.Event line (On d)) e)) (λ h. let is = h.1 in cc) (same_device other device)
-turns_on device other = inr (λ h. let is = h.1 in cc)
+    decided_by (λ e. (line, rw e)) (λ h. cc) (same_device other device)
+turns_on device other = inr (λ h. cc)
 
 -- the record corrects the device's clock
 abbrev Corrects : DeviceId → Happening → Type 0
@@ -30,9 +30,9 @@ Corrects device h = (cycle : ℕ) × (by : Units) × (adjustment : Units) × (h.
 corrects : (device : DeviceId) (body : NoteBody)
     → IsDecided ((cycle : ℕ) × (by : Units) × (adjustment : Units) × (body ≡ notes.Corrected device cycle by adjustment))
 corrects device (notes.Corrected other cycle by adjustment) =
-    decided_by (λ (e : other ≡ device). (cycle, by, adjustment, ap (λ (d : DeviceId). notes.Corrected d cycle by adjustment) e))
-    (λ h. let is = h.3 in cc) (same_device other device)
-corrects device other = inr (λ h. let is = h.3 in cc)
+    decided_by (λ e. (cycle, by, adjustment, rw e))
+    (λ h. cc) (same_device other device)
+corrects device other = inr (λ h. cc)
 
 -- ---- the ways to a new state
 
@@ -101,4 +101,4 @@ state_decided s hs t ks =
   where
     says : (body : NoteBody) → IsCaused s hs (units_of t) body → rank body ≡ 7 → OfTwo (HasState s hs t) (key (members_by s hs body) body)
     says (notes.State device state cause why) is ranked = (state, why, is)
-    says other is ranked = absurd (omega (arith, ranked))
+    says other is ranked = absurd (omega arith)

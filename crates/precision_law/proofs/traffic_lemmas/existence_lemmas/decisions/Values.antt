@@ -20,15 +20,15 @@ same_list [] [] = inl refl
 same_list [] (y ∷ ys) = inr (λ e. cc)
 same_list (x ∷ xs) [] = inr (λ e. cc)
 same_list (x ∷ xs) (y ∷ ys) =
-    decided_by (λ (h : (x ≡ y) × (xs ≡ ys)). ap (λ (n : ℕ). n ∷ xs) h.0 ∙ ap (λ (l : List ℕ). y ∷ l) h.1) (parts x y xs ys)
+    decided_by (λ h. rw h.0 (ap (λ l. y ∷ l) h.1)) (parts x y xs ys)
     (decided_and (decided_same x y) (same_list xs ys))
 
 pub same_link : (a b : LinkId) → IsDecided (a ≡ b)
 same_link a b =
-    decided_by (λ (e : a.0 ≡ b.0). ap (λ (n : ℕ). let x : LinkId = record { 0 = n } in x) e) (λ e. ap (λ (l : LinkId). l.0) e) (decided_same a.0 b.0)
+    decided_by (λ e. rw e) (λ e. rw e) (decided_same a.0 b.0)
 
 pub same_vl : (a b : VlId) → IsDecided (a ≡ b)
-same_vl a b = decided_by (λ (e : a.0 ≡ b.0). ap (λ (n : ℕ). let x : VlId = record { 0 = n } in x) e) (λ e. ap (λ (v : VlId). v.0) e) (decided_same a.0 b.0)
+same_vl a b = decided_by (λ e. rw e) (λ e. rw e) (decided_same a.0 b.0)
 
 -- the option has a value that equals this one
 pub same_some_by : {X : Type 0} (o : Option X) (y : X) → ((x : X) → IsDecided (x ≡ y)) → IsDecided (o ≡ Some y)
@@ -69,16 +69,16 @@ decided_in {X} {Q} o each has = by o refl
 
 -- some number below the bound is so
 pub decided_below : (P : ℕ → Type 0) → ((n : ℕ) → IsDecided (P n)) → (bound : ℕ) → IsDecided ((n : ℕ) × (n < bound) × P n)
-decided_below P each zero = inr (λ h. let lt = h.1 in absurd (omega (arith, lt)))
+decided_below P each zero = inr (λ h. let lt = h.1 in absurd (omega arith))
 decided_below P each (suc bound) =
     elim (each bound) [
       | inl p ↦ inl (bound, omega arith, p)
       | inr fails ↦
           elim (decided_below P each bound) [
-            | inl h ↦ (let lt = h.1 in inl (h.0, omega (arith, lt), h.2))
+            | inl h ↦ (let lt = h.1 in inl (h.0, omega arith, h.2))
             | inr none ↦ inr (λ h. let lt = h.1 in elim (cases_eq h.0 bound) [
               | inl e ↦ fails (subst P e h.2)
-              | inr ne ↦ none (h.0, omega (arith, lt, ne), h.2)
+              | inr ne ↦ none (h.0, omega arith, h.2)
             ])
           ]
     ]

@@ -22,7 +22,7 @@ link_in child parent name few_child few_parent = grind (arith, leb-true, within)
 row_in : (link : ℕ) (way : Way) (offset : ℕ) → nat_le (link + 1) 12 ≡ true → nat_le offset (2 ^ 40) ≡ true → IsRowInRange worked (row_of link way offset)
 row_in link way offset few low =
     let l = leb-true (link + 1) 12 few in
-    record { vl = leb-true 1 1 refl; link = omega (arith, l); offset = within 0 (2 ^ 40) offset (leb-zero offset) low }
+    record { vl = leb-true 1 1 refl; link = omega arith; offset = within 0 (2 ^ 40) offset (leb-zero offset) low }
 
 pub worked_in_range : IsInRange worked
 worked_in_range = record {
@@ -116,7 +116,7 @@ worked_in_range = record {
       length_most = leb-true 60 1514 refl;
       ethertype_least = leb-true 1536 2048 refl;
       ethertype_most = leb-true 2049 (2 ^ 16) refl;
-      ethertype_other = λ e. absurd (omega (arith, e));
+      ethertype_other = λ e. absurd (omega arith);
       sender = leb-true 1 9 refl;
       period_least = leb-true 1 1 refl;
       period_most = leb-true 1 64 refl;

@@ -1,5 +1,5 @@
 -- What holds of each entry of a list that is written out.
-use Rattle.std.proofs.Common.{if◌then◌else◌, ◌<◌, ◌∷◌, ◌≡◌, IsSomeAnd, List, None, Some, [], arith, slice_get, subst, suc, zero, ℕ}
+use Rattle.std.proofs.Common.{if◌then◌else◌, ◌<◌, ◌∷◌, ◌≡◌, IsSomeAnd, List, Some, [], arith, slice_get, subst, suc, zero, ℕ}
 use Rattle.std.{proofs.lemmas.{List.Elements.{All-cons, All-nil}, Option.same_Some}, specs.{List.All, Str.bytes_eq}}
 
 -- this holds of each entry and its place
@@ -8,7 +8,7 @@ AllAt {X} P [] = Unit {0}
 AllAt {X} P (x ∷ xs) = P 0 x × AllAt (λ k. P (suc k)) xs
 
 pub at_place : {X : Type 0} (P : ℕ → X → Type 0) (xs : List X) → AllAt P xs → (k : ℕ) (x : X) → slice_get xs k ≡ Some x → P k x
-at_place {X} P [] all k x e = absurd (let bad : None ≡ Some x = e in cc)
+at_place {X} P [] all k x e = absurd (let bad = e in cc)
 at_place {X} P (y ∷ xs) all zero x e = subst (P 0) (same_Some y x e) all.0
 at_place {X} P (y ∷ xs) all (suc k) x e = at_place (λ n. P (suc n)) xs all.1 k x e
 

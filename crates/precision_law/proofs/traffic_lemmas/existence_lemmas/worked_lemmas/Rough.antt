@@ -1,8 +1,8 @@
 -- The rough day of the worked network is one of which the laws on runs speak.
 use Rattle.{drift_clock.proofs.ExactSegments.exact_steps, net_plan.specs.declared.ids.DeviceId.DeviceId, precision_law.specs.traffic.safety.Under.IsUnder}
 use Rattle.drift_clock.{proofs.Readings.{begins_at_zero, keeps_clock_laws}, specs.Segment.{fresh_segment, segment_count, segment_reading, stepped_segment}}
-use Rattle.{net_plan.proofs.TableFacts.none_told, std.proofs.Common.{◌*◌, ◌++◌, ◌-◌, ◌<◌, ◌^◌, ◌∷◌, ◌≡◌, List, [], arith, inl, inr, pos, refl, ℕ}}
-use Rattle.{net_plan.specs.Belonging.IsOfNetwork, std.{proofs.lemmas.{Bool.leb-true, Int.ints}, specs.Prelude.◌<ℤ◌}, tte_units.specs.Amount.units_of}
+use Rattle.{net_plan.proofs.TableFacts.none_told, std.proofs.Common.{◌*◌, ◌++◌, ◌-◌, ◌∷◌, ◌≡◌, List, [], arith, inl, inr, refl, ℕ}}
+use Rattle.{net_plan.specs.Belonging.IsOfNetwork, std.{proofs.lemmas.{Bool.leb-true, Int.ints}}, tte_units.specs.Amount.units_of}
 use Rattle.{net_plan.specs.declared.{event.{Event.Event, What.What}, ids.LinkId.LinkId, tables.Way.Way}, tte_units.specs.declared.units.Units.Units}
 use Rattle.{net_plan.specs.declared.tables.Way.TheVariants.Up, run_law.specs.{law.FirstLaws.{IsEventInRange, IsLawful}, scenario.Faults.{IsBroken, IsFaulty}}}
 use Rattle.precision_law.proofs.traffic_lemmas.existence_lemmas.worked_lemmas.{Accepted.worked_keeps_rules, InRange.worked_in_range, Shape.no_off_switch}
@@ -24,30 +24,30 @@ the_end = record { time = units_of (20 * 131072000000 - 1); what = events.End }
 -- ---- lists of one and two events
 
 last_of_one : (x : Event) (front behind : List Event) (last : Event) → x ∷ [] ≡ front ++ last ∷ behind → x ≡ last
-last_of_one x [] behind last same = let it : x ∷ [] ≡ last ∷ behind = same in cc
+last_of_one x [] behind last same = let it = same in cc
 last_of_one x (f ∷ front) behind last same = grind (arith, none_told)
 
 last_of_two : (x y : Event) (front : List Event) (last : Event) → x ∷ y ∷ [] ≡ front ++ last ∷ [] → y ≡ last
-last_of_two x y [] last same = let it : x ∷ y ∷ [] ≡ last ∷ [] = same in absurd cc
+last_of_two x y [] last same = let it = same in absurd cc
 last_of_two x y (f ∷ front) last same = grind (arith, last_of_one)
 
 -- ---- each event is within the hypothesis, given those before it
 
 none_broken : (device : DeviceId) → IsBroken [] device → ⊥
-none_broken device broken = let lt = broken.2 in omega (arith, lt)
+none_broken device broken = let lt = broken.2 in omega arith
 
 break_within : IsWithinHypothesis worked [] the_break
 break_within Order v = none_told v.front [] v.last v.order
-break_within Late v = let late : pos (2 ^ 20 * 131072000000) <ℤ pos 131072000000 = v in omega (arith, ints, late)
-break_within Rate v = absurd (let bad : events.Break (record { 0 = 3 }) ≡ events.Rate v.device v.rate = v.what in cc)
-break_within Wire v = absurd (let bad : events.Break (record { 0 = 3 }) ≡ events.Wire v.link v.way v.delay = v.what in cc)
-break_within Hold v = absurd (let bad : events.Break (record { 0 = 3 }) ≡ events.Hold v.link v.way v.delay = v.what in cc)
-break_within OtherChannel v = absurd (let bad : events.Break (record { 0 = 3 }) ≡ events.Cut v.link v.way = v.what in cc)
+break_within Late v = let late = v in omega (arith, ints)
+break_within Rate v = absurd (let bad = v.what in cc)
+break_within Wire v = absurd (let bad = v.what in cc)
+break_within Hold v = absurd (let bad = v.what in cc)
+break_within OtherChannel v = absurd (let bad = v.what in cc)
 break_within NotMaster v = grind arith
 break_within SecondBreak v = none_broken v.broken v.is_broken
-break_within TooFewMasters v = let few : 3 < 3 = v.few in omega (arith, few)
-break_within NotBroken v = absurd (let bad : events.Break (record { 0 = 3 }) ≡ events.Send v.link v.octets = v.what in cc)
-break_within NotOff v = absurd (let bad : events.Break (record { 0 = 3 }) ≡ events.On v.device = v.what in cc)
+break_within TooFewMasters v = let few = v.few in omega arith
+break_within NotBroken v = absurd (let bad = v.what in cc)
+break_within NotOff v = absurd (let bad = v.what in cc)
 
 -- before the cut no channel is the faulty one
 none_faulty : {channel : Channel} → IsFaulty worked (the_break ∷ []) channel → ⊥
@@ -56,29 +56,29 @@ none_faulty (inr it) = grind (arith, last_of_one)
 
 cut_within : IsWithinHypothesis worked (the_break ∷ []) the_cut
 cut_within Order v = grind (arith, last_of_one, ints)
-cut_within Late v = let late : pos (2 ^ 20 * 131072000000) <ℤ pos 200000000000 = v in omega (arith, ints, late)
-cut_within Rate v = absurd (let bad : events.Cut (record { 0 = 11 }) Up ≡ events.Rate v.device v.rate = v.what in cc)
-cut_within Wire v = absurd (let bad : events.Cut (record { 0 = 11 }) Up ≡ events.Wire v.link v.way v.delay = v.what in cc)
-cut_within Hold v = absurd (let bad : events.Cut (record { 0 = 11 }) Up ≡ events.Hold v.link v.way v.delay = v.what in cc)
+cut_within Late v = let late = v in omega (arith, ints)
+cut_within Rate v = absurd (let bad = v.what in cc)
+cut_within Wire v = absurd (let bad = v.what in cc)
+cut_within Hold v = absurd (let bad = v.what in cc)
 cut_within OtherChannel v = none_faulty v.is_faulty
-cut_within NotMaster v = absurd (let bad : events.Cut (record { 0 = 11 }) Up ≡ events.Break v.device = v.breaks in cc)
-cut_within SecondBreak v = absurd (let bad : events.Cut (record { 0 = 11 }) Up ≡ events.Break v.device = v.breaks in cc)
-cut_within TooFewMasters v = absurd (let bad : events.Cut (record { 0 = 11 }) Up ≡ events.Break v.device = v.breaks in cc)
-cut_within NotBroken v = absurd (let bad : events.Cut (record { 0 = 11 }) Up ≡ events.Send v.link v.octets = v.what in cc)
-cut_within NotOff v = absurd (let bad : events.Cut (record { 0 = 11 }) Up ≡ events.On v.device = v.what in cc)
+cut_within NotMaster v = absurd (let bad = v.breaks in cc)
+cut_within SecondBreak v = absurd (let bad = v.breaks in cc)
+cut_within TooFewMasters v = absurd (let bad = v.breaks in cc)
+cut_within NotBroken v = absurd (let bad = v.what in cc)
+cut_within NotOff v = absurd (let bad = v.what in cc)
 
 end_within : IsWithinHypothesis worked (the_break ∷ the_cut ∷ []) the_end
 end_within Order v = grind (arith, last_of_two, ints)
-end_within Late v = let late : pos (2 ^ 20 * 131072000000) <ℤ pos (20 * 131072000000 - 1) = v in omega (arith, ints, late)
-end_within Rate v = absurd (let bad : events.End ≡ events.Rate v.device v.rate = v.what in cc)
-end_within Wire v = absurd (let bad : events.End ≡ events.Wire v.link v.way v.delay = v.what in cc)
-end_within Hold v = absurd (let bad : events.End ≡ events.Hold v.link v.way v.delay = v.what in cc)
-end_within OtherChannel v = absurd (let bad : events.End ≡ events.Cut v.link v.way = v.what in cc)
-end_within NotMaster v = absurd (let bad : events.End ≡ events.Break v.device = v.breaks in cc)
-end_within SecondBreak v = absurd (let bad : events.End ≡ events.Break v.device = v.breaks in cc)
-end_within TooFewMasters v = absurd (let bad : events.End ≡ events.Break v.device = v.breaks in cc)
-end_within NotBroken v = absurd (let bad : events.End ≡ events.Send v.link v.octets = v.what in cc)
-end_within NotOff v = absurd (let bad : events.End ≡ events.On v.device = v.what in cc)
+end_within Late v = let late = v in omega (arith, ints)
+end_within Rate v = absurd (let bad = v.what in cc)
+end_within Wire v = absurd (let bad = v.what in cc)
+end_within Hold v = absurd (let bad = v.what in cc)
+end_within OtherChannel v = absurd (let bad = v.what in cc)
+end_within NotMaster v = absurd (let bad = v.breaks in cc)
+end_within SecondBreak v = absurd (let bad = v.breaks in cc)
+end_within TooFewMasters v = absurd (let bad = v.breaks in cc)
+end_within NotBroken v = absurd (let bad = v.what in cc)
+end_within NotOff v = absurd (let bad = v.what in cc)
 
 all_within : AreWithinHypothesis worked rough_events
 all_within [] behind e same = grind (arith, break_within)

@@ -1,13 +1,13 @@
 -- The worked network keeps the rules of its schedule.
 use Rattle.{net_plan.specs.Places.IsEndSystem, schedule_tables.specs.Windows.window_end, std.proofs.lemmas.Option.same_Some}
 use Rattle.{net_plan.specs.declared.{ids.DeviceId.DeviceId, tables.{Row.Row, VirtualLink.VirtualLink}}, tte_units.specs.declared.frames.channel.Channel.Channel}
-use Rattle.{net_plan.specs.declared.ids.LinkId.LinkId, schedule_tables.specs.declared.entry.Entry.Entry, std.proofs.lemmas.List.Sums.count_by-le-length}
+use Rattle.{schedule_tables.specs.declared.entry.Entry.Entry, std.proofs.lemmas.List.Sums.count_by-le-length}
 use Rattle.{net_plan.specs.declared.tables.{Link.Link, Way.TheVariants.{Down, Up}}, schedule_tables.specs.Entries.{IsEntry, IsOnChannel, source_of, target_of}}
 use Rattle.{precision_law.proofs.traffic_lemmas.existence_lemmas.worked_lemmas.Lists.{AllAt, at_place, numbered_apart}, std.specs.List.{Contains, count_by}}
 use Rattle.{precision_law.specs.traffic.existence.worked.Worked.{link_of, row_of, worked}, tte_units.specs.declared.frames.channel.Channel.TheVariants.{A, B}}
 use Rattle.schedule_tables.specs.Schedule.{ComesInTime, EndsInCycle, EntersAnew, EntersOn, GoesByBothChannels, GoesOnceByLink, HasEndSystemAsSender}
 use Rattle.schedule_tables.specs.Schedule.{HasFewRows, HasPeriod, HasSource, IsSwitch, LeavesOn, StandsApart, VlIdIsNew, VlNameIsNew, leaves}
-use Rattle.std.proofs.Common.{◌<◌, ◌==◌, ◌∙◌, ◌∷◌, ◌≡◌, ◌≢◌, ◌≤◌, List, Some, [], ap, arith, if◌then◌else◌, refl, slice_get, subst, suc, sym, zero, ℕ}
+use Rattle.std.proofs.Common.{◌<◌, ◌==◌, ◌∙◌, ◌∷◌, ◌≡◌, ◌≢◌, ◌≤◌, List, Some, [], arith, if◌then◌else◌, refl, slice_get, subst, suc, sym, zero, ℕ}
 use Rattle.{std.{proofs.lemmas.Bool.leb-true, specs.Prelude.codes}, tte_units.specs.Amount.amount}
 
 -- ---- the virtual link
@@ -27,7 +27,7 @@ only_vl : (P : ℕ → VirtualLink → Type 0) → P 0 the_vl → (place : ℕ) 
 only_vl P own place vl at = at_place P worked.vl (own, tt) place vl at
 
 one_vl : (k place : ℕ) (earlier vl : VirtualLink) → k < place → slice_get worked.vl place ≡ Some vl → ⊥
-one_vl k place earlier vl lt at = only_vl (λ n v. k < n → ⊥) (λ lt. omega (arith, lt)) place vl at lt
+one_vl k place earlier vl lt at = only_vl (λ n v. k < n → ⊥) (λ lt. omega arith) place vl at lt
 
 pub vl_names_differ : (place : ℕ) → VlNameIsNew worked place
 vl_names_differ place k earlier vl lt at_k at = absurd (one_vl k place earlier vl lt at)
@@ -99,7 +99,7 @@ rows_apart : (k place : ℕ) (earlier row : Row) → k < place → slice_get wor
     → row.link ≡ earlier.link → ⊥
 rows_apart k place earlier row lt at_k at same =
     numbered_apart (λ r. place_of_link r.link.0) worked.row (refl, (refl, (refl, (refl, tt)))) k place earlier row lt at_k at
-    (ap (λ (l : LinkId). place_of_link l.0) same)
+    (rw same)
 
 pub links_once : (place : ℕ) → GoesOnceByLink worked place
 links_once place k earlier row lt at_k at same_vl same = rows_apart k place earlier row lt at_k at same
@@ -121,13 +121,13 @@ target_is : {place : ℕ} {entry : Entry} → IsEntry worked place entry → (ta
 target_is is = entry_case (λ k e. (target_of e).0 ≡ targets k) (refl, (refl, (refl, (refl, tt)))) is
 
 not_seven : (k : ℕ) → k < 1 → 7 ≡ targets k → ⊥
-not_seven zero lt e = let bad : ◌≡◌ {A = ℕ} 7 5 = e in cc
-not_seven (suc k) lt e = omega (arith, lt)
+not_seven zero lt e = let bad = e in cc
+not_seven (suc k) lt e = omega arith
 
 not_four : (k : ℕ) → k < 2 → 4 ≡ targets k → ⊥
-not_four zero lt e = let bad : ◌≡◌ {A = ℕ} 4 5 = e in cc
-not_four (suc zero) lt e = let bad : ◌≡◌ {A = ℕ} 4 7 = e in cc
-not_four (suc (suc k)) lt e = omega (arith, lt)
+not_four zero lt e = let bad = e in cc
+not_four (suc zero) lt e = let bad = e in cc
+not_four (suc (suc k)) lt e = omega arith
 
 also_b : (channel : Channel) → Some A ≡ Some channel → Some B ≡ Some channel → Some A ≡ Some B
 also_b channel a b = a ∙ sym b
@@ -179,7 +179,7 @@ both_channels place = record {
       let is = end_entered device it.is it.target ends in
       let vl = sym (entry_row it.is) ∙ it.same_vl in
       subst (λ v. EntersOn worked v other device) vl
-      (subst (λ (d : DeviceId). EntersOn worked (record { 0 = 0 }) other d) (sym is) (client_entered other));
+      (subst (λ d. EntersOn worked (record { 0 = 0 }) other d) (sym is) (client_entered other));
 }
 
 -- ---- in time, and few
@@ -198,7 +198,7 @@ pub comes_in_time : (place : ℕ) → ComesInTime worked place
 comes_in_time place = grind (arith, entry_case, leb-true, window_before)
 
 few_of : (n : ℕ) → n ≤ 4 → n ≤ 256
-few_of n few = omega (arith, few)
+few_of n few = omega arith
 
 pub few_rows : (place : ℕ) → HasFewRows worked place
 few_rows place =

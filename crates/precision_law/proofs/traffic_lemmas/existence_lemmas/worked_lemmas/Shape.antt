@@ -5,7 +5,7 @@ use Rattle.net_plan.specs.Rules.{DeviceIsNew, ExactlyOne, HasOffSwitch, HasOneCm
 use Rattle.{net_plan.specs.declared.{ids.DeviceId.DeviceId, tables.Role.TheVariants.{Relay}}, std.specs.Prelude.{◌-◌, ◌≤ℤ◌, IsNone, codes, if◌then◌else◌}}
 use Rattle.precision_law.proofs.traffic_lemmas.existence_lemmas.worked_lemmas.Lists.{all_each, at_place, numbered_apart, place_in, some_place}
 use Rattle.{precision_law.specs.traffic.existence.worked.Worked.worked, tte_units.specs.declared.frames.channel.Channel.{Channel, TheVariants.{A, B}}}
-use Rattle.std.proofs.{Common.{◌+◌, ◌==◌, ◌∷◌, ◌≡◌, ◌⊎◌, List, Some, [], ap, arith, false, inl, inr, pos, refl, subst, sym, true, ℕ}, lemmas.Bool.leb-true}
+use Rattle.std.proofs.{Common.{◌+◌, ◌==◌, ◌∷◌, ◌≡◌, ◌⊎◌, List, Some, [], ap, arith, inl, inr, pos, refl, true, ℕ}, lemmas.Bool.leb-true}
 use Rattle.std.proofs.lemmas.Int.{ints}
 
 -- ---- limits and names
@@ -59,7 +59,7 @@ cm_is A n it = grind (arith, some_place)
 cm_is B n it = grind (arith, some_place)
 
 device_is : (device : DeviceId) (n : ℕ) → device.0 ≡ n → device ≡ record { 0 = n }
-device_is device n e = ap (λ (k : ℕ). record { 0 = k }) e
+device_is device n e = rw e
 
 cm_there : (c : Channel) → IsCmOf worked c (record { 0 = cm_of c })
 cm_there A = (refl, refl)
@@ -111,13 +111,13 @@ ends_lead n it =
             (
               λ h. both (λ c. IsUplink worked c (record { 0 = 4 }) (record { 0 = up c 4 })) (refl, refl) (refl, refl),
               (
-                λ h. absurd (let bad : false ≡ true = h in cc),
+                λ h. absurd (let bad = h in cc),
                 (
-                  λ h. absurd (let bad : false ≡ true = h in cc),
+                  λ h. absurd (let bad = h in cc),
                   (
-                    λ h. absurd (let bad : false ≡ true = h in cc),
+                    λ h. absurd (let bad = h in cc),
                     (
-                      λ h. absurd (let bad : false ≡ true = h in cc),
+                      λ h. absurd (let bad = h in cc),
                       tt,
                     ),
                   ),
@@ -142,8 +142,12 @@ relay_child A = refl
 relay_child B = refl
 
 one_child : (c : Channel) (n : ℕ) → n ≡ relay_of c → ExactlyOne (IsChildOf worked (record { 0 = n }))
-one_child c n e = subst (λ (k : ℕ). ExactlyOne (IsChildOf worked (record { 0 = k }))) (sym e)
-    (record { 0 = up c (relay_of c) }, relay_child c, λ y has. link_is y (up c (relay_of c)) (child_is c y.0 has))
+one_child c n e = rw e (
+  record { 0 = up c (relay_of c) },
+  relay_child c,
+  λ y has. link_is y (up c (relay_of c))
+      (child_is c y.0 has),
+)
 
 cm_leads : (c : Channel) → LeadsToCm worked c (record { 0 = cm_of c })
 cm_leads c = ([], leb-true 0 8 refl, cm_there c)
@@ -178,9 +182,9 @@ leads A n it = some_place (λ k. LeadsToCm worked A (record { 0 = k })) (λ d. (
             (
               λ h. cm_leads A,
               (
-                λ h. absurd (elim h [ inl e ↦ (let bad : false ≡ true = e in cc) | inr e ↦ (let bad : Some B ≡ Some A = e in cc) ]),
+                λ h. absurd (elim h [ inl e ↦ (let bad = e in cc) | inr e ↦ (let bad = e in cc) ]),
                 (
-                  λ h. absurd (elim h [ inl e ↦ (let bad : false ≡ true = e in cc) | inr e ↦ (let bad : Some B ≡ Some A = e in cc) ]),
+                  λ h. absurd (elim h [ inl e ↦ (let bad = e in cc) | inr e ↦ (let bad = e in cc) ]),
                   tt,
                 ),
               ),
@@ -202,9 +206,9 @@ leads B n it = some_place (λ k. LeadsToCm worked B (record { 0 = k })) (λ d. (
         (
           λ h. leads_by B 4 (first_uplink B 4 (refl, refl), relay_path B),
           (
-            λ h. absurd (elim h [ inl e ↦ (let bad : false ≡ true = e in cc) | inr e ↦ (let bad : Some A ≡ Some B = e in cc) ]),
+            λ h. absurd (elim h [ inl e ↦ (let bad = e in cc) | inr e ↦ (let bad = e in cc) ]),
             (
-              λ h. absurd (elim h [ inl e ↦ (let bad : false ≡ true = e in cc) | inr e ↦ (let bad : Some A ≡ Some B = e in cc) ]),
+              λ h. absurd (elim h [ inl e ↦ (let bad = e in cc) | inr e ↦ (let bad = e in cc) ]),
               (
                 λ h. relay_leads B,
                 (

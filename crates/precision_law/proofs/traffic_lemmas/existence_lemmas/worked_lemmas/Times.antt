@@ -7,16 +7,16 @@ pub delays_fit : (place : ℕ) → DelaysFit worked place
 delays_fit place beta channel links is_beta of path =
     let low = low_beta beta is_beta in
     let delay = delays_at_most channel (record { 0 = place }) links path in
-    omega (arith, low, delay)
+    omega arith
 
 settles : (beta : ℕ) → beta ≤ 3276832 → 8 * beta + 12 * 26214404 + 40 * 1 ≤ 345000000
-settles beta low = omega (arith, low)
+settles beta low = omega arith
 
 pub errors_settle : ErrorsSettle worked
 errors_settle beta is = settles beta (low_beta beta is)
 
 precise : (beta : ℕ) → beta ≤ 3276832 → 345000000 + 16 * beta + 24 * 26214404 + 80 * 1 ≤ 1048576000
-precise beta low = omega (arith, low)
+precise beta low = omega arith
 
 pub precision_fits : PrecisionFits worked
 precision_fits = record { errors = λ beta is. precise beta (low_beta beta is); calc = leb-true 65536000 1048576000 refl }

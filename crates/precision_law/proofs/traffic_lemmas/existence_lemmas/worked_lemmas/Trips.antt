@@ -39,7 +39,7 @@ few_links c device (link ∷ links) path =
     let on = goes_on c device links link.0 path in
     let rest = few_links c on.parent links on.path in
     let nearer = on.nearer in
-    omega (arith, rest, nearer)
+    omega arith
 
 pub at_most_two : (c : Channel) (device : DeviceId) (links : List LinkId) → IsPath worked c device links → length links ≤ 2
 at_most_two c device links path = grind (arith, few_links, low_height)
@@ -53,9 +53,9 @@ each_at_most f b (x ∷ xs) all (suc n) = each_at_most f b xs all.1 n
 
 sum_at_most : (f : LinkId → ℕ) (b : ℕ) → ((link : LinkId) → f link ≤ b) → (links : List LinkId) → length links ≤ 2 → sum_by f links ≤ 2 * b
 sum_at_most f b low [] few = leb_zero (2 * b)
-sum_at_most f b low (a ∷ []) few = let one = low a in omega (arith, one)
-sum_at_most f b low (a ∷ c ∷ []) few = let one = low a in let two = low c in omega (arith, one, two)
-sum_at_most f b low (a ∷ c ∷ d ∷ links) few = absurd (omega (arith, few))
+sum_at_most f b low (a ∷ []) few = let one = low a in omega arith
+sum_at_most f b low (a ∷ c ∷ []) few = let one = low a in let two = low c in omega arith
+sum_at_most f b low (a ∷ c ∷ d ∷ links) few = absurd (omega arith)
 
 low_jitter : (link : LinkId) → jitter_of worked link ≤ 1310720
 low_jitter link = grind (arith, each_at_most, jitter_low)
